@@ -1,0 +1,59 @@
+-- A constraint problem: the points have numbers, and each execution allows some tuples at its points.
+use Rattle.std.specs.Prelude.{◌≡◌, ◌<◌, ◌⊎◌, ℕ, suc, true, List, [], ◌∷◌, map, length, All, Contains, slice_index, if◌then◌else◌}
+use Rattle.wf_model.specs.Lists.{IsBelow}
+use Rattle.wf_model.specs.Simplex.{is_ascending}
+use Rattle.wf_model.specs.Task.{Task, Tuple, values}
+use Rattle.wf_model.specs.View.{View, same_view, process_of}
+use Rattle.wf_model.specs.Execution.{Execution, executions, last_views}
+use Rattle.wf_model.specs.Points.{points, class}
+
+-- an execution: its processes, each with its point, and the tuples that are allowed there
+pub record Constraint : Type 0 where
+  pub scope : List (ℕ × ℕ)
+  pub tuples : List Tuple
+
+pub record Problem : Type 0 where
+  pub points : ℕ
+  pub values : List ℕ
+  pub constraints : List Constraint
+
+-- the number of a view among the points: its place in the list
+abbrev pub number_of : List View → View → ℕ
+number_of [] v = 0
+number_of (w ∷ ws) v = if same_view v w then 0 else suc (number_of ws v)
+
+abbrev pub constraint_of : Task → List View → Execution → Constraint
+constraint_of t ps e = record { scope = map (λ v. (process_of v, number_of ps (class t v))) (last_views e); tuples = e.rule.tuples }
+
+-- the problem of a task and a number of rounds
+abbrev pub problem_of : Task → ℕ → Problem
+problem_of t r =
+    let ps = points t r in
+    record { points = length ps; values = values t; constraints = map (constraint_of t ps) (executions t r) }
+
+-- the values of a map at the points of an execution
+abbrev pub values_at : List ℕ → List (ℕ × ℕ) → List ℕ
+values_at m scope = map (λ at. slice_index m at.1) scope
+
+abbrev pub Satisfies : List ℕ → Constraint → Type 0
+Satisfies m k = Contains k.tuples (values_at m k.scope)
+
+-- a decision map, by the numbers of the points
+pub record IsSolution (p : Problem) (m : List ℕ) : Type 0 where
+  pub long : length m ≡ p.points
+  pub satisfies : All (Satisfies m) p.constraints
+
+pub record IsLeastSolution (p : Problem) (m : List ℕ) : Type 0 where
+  pub solves : IsSolution p m
+  pub least : (other : List ℕ) → IsSolution p other → (m ≡ other) ⊎ IsBelow m other
+
+-- the points of the executions are points of the problem
+abbrev pub InRange : Problem → Type 0
+InRange p = All (λ k. All (λ at. at.1 < p.points) k.scope) p.constraints
+
+-- what the problem of a task has: ascending values, and executions with a place at least, whose processes ascend and whose points are the problem's
+pub record IsWellFormed (p : Problem) : Type 0 where
+  pub in_range : InRange p
+  pub has_places : All (λ k. 0 < length k.scope) p.constraints
+  pub ascending_processes : All (λ k. is_ascending (map (λ at. at.0) k.scope) ≡ true) p.constraints
+  pub ascending_values : is_ascending p.values ≡ true
