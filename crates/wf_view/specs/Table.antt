@@ -1,0 +1,65 @@
+-- The entries of a table, and the views that they stand for.
+use Rattle.std.specs.Prelude.{◌≡◌, ◌<◌, ◌≤◌, ◌⊎◌, ◌==◌, ◌&&◌, ℕ, zero, suc, Bool, true, false, List, [], ◌∷◌, ◌++◌, length, take, get_or, All, Option, Some, None, option_map}
+use Rattle.std.specs.Cmp.Lexicographic.{pointwise}
+use Rattle.std.specs.HashMap.{HashMap, get}
+use Rattle.wf_model.specs.View.{View, base, seen}
+use Rattle.wf_view.specs.declared.node.Node.{Node}
+use Rattle.wf_view.specs.Views.{view_at, view_seen}
+
+abbrev pub same_node : Node → Node → Bool
+same_node x y = (x.process == y.process) && ((x.count == y.count) && pointwise (λ a b. a == b) x.ids y.ids)
+
+abbrev pub base_node : ℕ → ℕ → Node
+base_node p x = record { process = p; count = 0; ids = x ∷ 0 ∷ 0 ∷ 0 ∷ [] }
+
+-- at most four numbers, and then zeros
+abbrev pub padded : List ℕ → List ℕ
+padded [] = 0 ∷ 0 ∷ 0 ∷ 0 ∷ []
+padded (a ∷ []) = a ∷ 0 ∷ 0 ∷ 0 ∷ []
+padded (a ∷ b ∷ []) = a ∷ b ∷ 0 ∷ 0 ∷ []
+padded (a ∷ b ∷ c ∷ []) = a ∷ b ∷ c ∷ 0 ∷ []
+padded (a ∷ b ∷ c ∷ d ∷ more) = a ∷ b ∷ c ∷ d ∷ []
+
+abbrev pub seen_node : ℕ → List ℕ → Node
+seen_node p ids = record { process = p; count = length ids; ids = padded ids }
+
+-- the view of an entry, by the views before it
+abbrev pub view_by_count : ℕ → List View → Node → View
+view_by_count zero vs node = base node.process (get_or node.ids 0 0)
+view_by_count (suc n) vs node = view_seen vs node.process (take (suc n) node.ids)
+
+abbrev pub node_view : List View → Node → View
+node_view vs node = view_by_count node.count vs node
+
+-- the views of entries that come after these
+abbrev pub shown_after : List View → List Node → List View
+shown_after vs [] = vs
+shown_after vs (node ∷ nodes) = shown_after (vs ++ node_view vs node ∷ []) nodes
+
+abbrev pub shown : List Node → List View
+shown nodes = shown_after [] nodes
+
+-- an entry is an input, or has one to four views that stand before place n
+pub data IsEntry (n : ℕ) : Node → Type 0 where
+  is_base : (p x : ℕ) → p ≤ 3 → IsEntry n (base_node p x)
+  is_seen : (p : ℕ) (ids : List ℕ) → p ≤ 3 → 0 < length ids → length ids ≤ 4 → All (λ k. k < n) ids → IsEntry n (seen_node p ids)
+
+abbrev pub AreEntriesFrom : ℕ → List Node → Type 0
+AreEntriesFrom n [] = Unit {0}
+AreEntriesFrom n (node ∷ nodes) = IsEntry n node × AreEntriesFrom (suc n) nodes
+
+abbrev pub placed : Bool → Option ℕ → Option ℕ
+placed true later = Some 0
+placed false later = option_map suc later
+
+-- the first place of an entry
+abbrev pub place_in : List Node → Node → Option ℕ
+place_in [] k = None
+place_in (node ∷ nodes) k = placed (same_node k node) (place_in nodes k)
+
+-- what the table keeps: an entry for each number, none twice, and the number of each
+pub record IsTable {S : Type 0} (nodes : List Node) (numbers : HashMap Node ℕ S) : Type 0 where
+  pub entries : AreEntriesFrom 0 nodes
+  pub once : (n : ℕ) (node : Node) → n < length nodes → place_in nodes (get_or nodes n node) ≡ Some n
+  pub numbered : (k : Node) → get same_node numbers k ≡ place_in nodes k
+  pub few : length nodes < 4294967296

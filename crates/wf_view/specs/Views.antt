@@ -1,0 +1,25 @@
+-- What contracts say of a table of views. A table is seen as the list of its views in the order of their numbers.
+use Rattle.std.specs.Prelude.{ℕ, List, [], ◌∷◌, ◌++◌, map, get_or, if◌then◌else◌}
+use Rattle.std.specs.List.{list_any}
+use Rattle.wf_model.specs.View.{View, base, seen, Views, no_views, view, views_of, same_view}
+
+-- the view of this number
+abbrev pub view_at : List View → ℕ → View
+view_at vs n = get_or vs n (base 0 0)
+
+-- the view of a process that saw these, by their numbers
+abbrev pub view_seen : List View → ℕ → List ℕ → View
+view_seen vs p ids = seen p (views_of (map (view_at vs) ids))
+
+-- the table with this view: as it was where the view stands in it, else with the view at its end
+abbrev pub with_view : List View → View → List View
+with_view vs v = if list_any (same_view v) vs then vs else vs ++ v ∷ []
+
+abbrev pub list_of : Views → List View
+list_of no_views = []
+list_of (view v vs) = v ∷ list_of vs
+
+-- what a view saw: nothing, where it is an input
+abbrev pub inner_views : View → List View
+inner_views (base p x) = []
+inner_views (seen p vs) = list_of vs
