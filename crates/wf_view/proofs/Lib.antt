@@ -1,3 +1,4 @@
 pub mod Shown
 pub mod Once
 pub mod Steps
+pub mod Entries

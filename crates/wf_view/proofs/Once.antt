@@ -1,12 +1,12 @@
 -- One number, one view: entries that differ stand for views that differ.
-use Rattle.std.proofs.Common.{◌≡◌, ◌<◌, ◌≤◌, ℕ, zero, suc, ◌+◌, ◌==◌, ◌&&◌, ◌||◌, Bool, true, false, List, [], ◌∷◌, ◌++◌, map, length, get_or, cond, Option, Some, None, option_map, sym, refl, ap, ◌∙◌, subst, inl, inr, arith, eqb-true, eq-eqb, length-append}
+use Rattle.std.proofs.Common.{◌≡◌, ◌<◌, ◌≤◌, ℕ, zero, suc, ◌==◌, ◌&&◌, Bool, true, false, List, [], ◌∷◌, ◌++◌, map, length, get_or, cond, Option, Some, None, option_map, sym, refl, ap, ◌∙◌, subst, inl, inr, arith, eqb-true, eq-eqb, length-append}
 use Rattle.std.specs.List.{AllByRecursion, list_any}
 use Rattle.std.specs.Cmp.Lexicographic.{pointwise}
 use Rattle.std.proofs.Math.ListN.{get_or-append}
 use Rattle.std.proofs.lemmas.List.{get_or_push}
 use Rattle.std.proofs.lemmas.List.Elements.{recursion_from_All, All-from_recursion}
 use Rattle.std.proofs.lemmas.Bool.{cases_Bool, or_cases, or_left, or_right, and_parts, and_from, false≢true, both_ways, false_from_ne_true}
-use Rattle.wf_model.specs.View.{View, base, seen, Views, no_views, view, views_of, same_view}
+use Rattle.wf_model.specs.View.{View, base, views_of, same_view}
 use Rattle.wf_model.specs.Problem.{number_of}
 use Rattle.wf_model.proofs.Bridge.{Among, same_is, same_itself, number_below, weaker}
 use Rattle.wf_view.specs.declared.node.Node.{Node}

@@ -1,13 +1,13 @@
 -- The views that a table's entries stand for.
-use Rattle.std.proofs.Common.{◌≡◌, ◌<◌, ◌≤◌, ℕ, zero, suc, ◌+◌, List, [], ◌∷◌, ◌++◌, map, length, take, get_or, All, sym, refl, ap, ◌∙◌, subst, arith, append_assoc, append-nil, length-append}
+use Rattle.std.proofs.Common.{◌≡◌, ◌<◌, ◌≤◌, ℕ, zero, suc, ◌+◌, List, [], ◌∷◌, ◌++◌, map, length, get_or, sym, refl, ap, ◌∙◌, subst, arith, append_assoc, append-nil, length-append}
 use Rattle.std.specs.List.{AllByRecursion}
 use Rattle.std.proofs.Math.ListN.{get_or-append}
-use Rattle.std.proofs.lemmas.List.{get_or_push, get_or-append-add}
-use Rattle.std.proofs.lemmas.List.Elements.{recursion_from_All, All-from_recursion}
-use Rattle.wf_model.specs.View.{View, base, seen, Views, no_views, view, views_of}
+use Rattle.std.proofs.lemmas.List.{get_or_push}
+use Rattle.std.proofs.lemmas.List.Elements.{recursion_from_All}
+use Rattle.wf_model.specs.View.{View, base, seen, views_of}
 use Rattle.wf_view.specs.declared.node.Node.{Node}
 use Rattle.wf_view.specs.Views.{view_at, view_seen}
-use Rattle.wf_view.specs.Table.{base_node, seen_node, padded, view_by_count, node_view, shown_after, shown, IsEntry, is_base, is_seen, AreEntriesFrom}
+use Rattle.wf_view.specs.Table.{seen_node, node_view, shown_after, shown, IsEntry, is_base, is_seen, AreEntriesFrom}
 
 -- the views that entries add to these
 abbrev pub later : List View → List Node → List View

@@ -1,10 +1,10 @@
 -- The entries of a table, and the views that they stand for.
-use Rattle.std.specs.Prelude.{◌≡◌, ◌<◌, ◌≤◌, ◌⊎◌, ◌==◌, ◌&&◌, ℕ, zero, suc, Bool, true, false, List, [], ◌∷◌, ◌++◌, length, take, get_or, All, Option, Some, None, option_map}
+use Rattle.std.specs.Prelude.{◌≡◌, ◌<◌, ◌≤◌, ◌==◌, ◌&&◌, ℕ, zero, suc, Bool, true, false, List, [], ◌∷◌, ◌++◌, length, map, take, get_or, bit_or, All, Option, Some, None, option_map}
 use Rattle.std.specs.Cmp.Lexicographic.{pointwise}
 use Rattle.std.specs.HashMap.{HashMap, get}
-use Rattle.wf_model.specs.View.{View, base, seen}
+use Rattle.wf_model.specs.View.{View, base}
 use Rattle.wf_view.specs.declared.node.Node.{Node}
-use Rattle.wf_view.specs.Views.{view_at, view_seen}
+use Rattle.wf_view.specs.Views.{view_seen, colours_of}
 
 abbrev pub same_node : Node → Node → Bool
 same_node x y = (x.process == y.process) && ((x.count == y.count) && pointwise (λ a b. a == b) x.ids y.ids)
@@ -57,9 +57,15 @@ abbrev pub place_in : List Node → Node → Option ℕ
 place_in [] k = None
 place_in (node ∷ nodes) k = placed (same_node k node) (place_in nodes k)
 
--- what the table keeps: an entry for each number, none twice, and the number of each
-pub record IsTable {S : Type 0} (nodes : List Node) (numbers : HashMap Node ℕ S) : Type 0 where
+-- what the table keeps: an entry for each number, none twice, the processes in each, and its number
+pub record IsTable {S : Type 0} (nodes : List Node) (colours : List ℕ) (numbers : HashMap Node ℕ S) : Type 0 where
   pub entries : AreEntriesFrom 0 nodes
   pub once : (n : ℕ) (node : Node) → n < length nodes → place_in nodes (get_or nodes n node) ≡ Some n
+  pub coloured : colours ≡ map colours_of (shown nodes)
   pub numbered : (k : Node) → get same_node numbers k ≡ place_in nodes k
   pub few : length nodes < 4294967296
+
+-- the processes of these views together
+abbrev pub colours_at : List ℕ → List ℕ → ℕ
+colours_at colours [] = 0
+colours_at colours (id ∷ ids) = bit_or (get_or colours id 0) (colours_at colours ids)

@@ -1,5 +1,5 @@
 -- What contracts say of a table of views. A table is seen as the list of its views in the order of their numbers.
-use Rattle.std.specs.Prelude.{ℕ, List, [], ◌∷◌, ◌++◌, map, get_or, if◌then◌else◌}
+use Rattle.std.specs.Prelude.{ℕ, ◌^◌, List, [], ◌∷◌, ◌++◌, map, get_or, bit_or, if◌then◌else◌}
 use Rattle.std.specs.List.{list_any}
 use Rattle.wf_model.specs.View.{View, base, seen, Views, no_views, view, views_of, same_view}
 
@@ -23,3 +23,13 @@ list_of (view v vs) = v ∷ list_of vs
 abbrev pub inner_views : View → List View
 inner_views (base p x) = []
 inner_views (seen p vs) = list_of vs
+
+-- the processes that occur in a view, at any depth: bit p is set where process p does
+abbrev mutual
+  pub colours_of : View → ℕ
+  colours_of (base p x) = 2 ^ p
+  colours_of (seen p vs) = bit_or (2 ^ p) (colours_of_each vs)
+
+  pub colours_of_each : Views → ℕ
+  colours_of_each no_views = 0
+  colours_of_each (view v vs) = bit_or (colours_of v) (colours_of_each vs)

@@ -1,13 +1,13 @@
 //! The table of views.
 
-ghost use Rattle.std.specs.Prelude.{◌≡◌, ◌<◌, ◌≤◌, ℕ, true, List, [], length, All, map, is_ok, IfOk, Some, slice_get, if◌then◌else◌};
+ghost use Rattle.std.specs.Prelude.{◌≡◌, ◌<◌, ◌≤◌, ◌^◌, bit_or, ℕ, true, List, [], length, All, map, is_ok, IfOk, Some, slice_get, if◌then◌else◌};
 ghost use Rattle.wf_model.specs.Lists.{has};
 ghost use Rattle.wf_model.specs.Simplex.{is_ascending};
 ghost use Rattle.wf_model.specs.View.{View, base, process_of};
 ghost use Rattle.wf_model.specs.Problem.{number_of};
-ghost use Rattle.wf_view.specs.Views.{view_at, view_seen, with_view, inner_views};
+ghost use Rattle.wf_view.specs.Views.{view_at, view_seen, with_view, inner_views, colours_of};
 ghost use Rattle.std.specs.HashMap.{get};
-ghost use Rattle.wf_view.specs.Table.{same_node};
+ghost use Rattle.wf_view.specs.Table.{same_node, colours_at};
 
 use crate::node::{Node, input, snapshot};
 use std::alloc::{AllocError, Global};
@@ -18,6 +18,7 @@ use std::marker::Model;
 #[derive(Drop)]
 pub struct Views {
     nodes: Vec<Node>,
+    colours: Vec<u8>,
     numbers: HashMap<Node, u32>,
 }
 
@@ -33,7 +34,7 @@ impl Model for Views {
 
     ghost view = { λ t. shown t.nodes.items };
 
-    ghost invariant = { λ t. IsTable t.nodes.items t.numbers };
+    ghost invariant = { λ t. IsTable t.nodes.items t.colours.items t.numbers };
 }
 
 impl Views {
@@ -45,6 +46,7 @@ impl Views {
     {
         Views {
             nodes: Vec::new(alloc),
+            colours: Vec::new(alloc),
             numbers: HashMap::new(alloc),
         }
     }
@@ -56,10 +58,70 @@ impl Views {
         self.nodes.len() as u32
     }
 
+    /// The number of the view of a process before the first round, when it knows its input alone.
+    ///
+    /// Where the view is new it gets the next number. Refused for want of memory, which leaves the table as it was.
+    pub fn base(&mut self, colour: u8, value: u8) -> Result<u32, AllocError>
+        requires colour { colour ≤ 3 }
+        requires room { length self.old < 4294967295 }
+        ensures table { self.new
+            ≡ (if is_ok result then with_view self.old (base colour value) else self.old) }
+        ensures number { IfOk result (λ n. n ≡ number_of self.new (base colour value)) }
+        ensures stands { IfOk result (λ n. slice_get self.new n ≡ Some (base colour value)) }
+    {
+        self.number(input(colour, value), 1 << colour)
+    }
+
+    /// The number of the view of a process that saw these views, named by their numbers in the order of their
+    /// processes, its own among them.
+    ///
+    /// Where the view is new it gets the next number. Refused for want of memory, which leaves the table as it was.
+    pub fn seen(&mut self, colour: u8, parts: &[u32]) -> Result<u32, AllocError>
+        requires colour { colour ≤ 3 }
+        requires numbers { All (λ k. k < length self.old) parts.now }
+        requires ascending { is_ascending (map (λ k. process_of (view_at self.old k)) parts.now) ≡ true }
+        requires own { has (map (λ k. process_of (view_at self.old k)) parts.now) colour ≡ true }
+        requires room { length self.old < 4294967295 }
+        ensures table { self.new
+            ≡ (if is_ok result then with_view self.old (view_seen self.old colour parts.now) else self.old) }
+        ensures number { IfOk result (λ n. n ≡ number_of self.new (view_seen self.old colour parts.now)) }
+        ensures stands { IfOk result (λ n. slice_get self.new n ≡ Some (view_seen self.old colour parts.now)) }
+    {
+        let colours = colours_seen(&self.colours, colour, parts);
+        self.number(snapshot(colour, parts), colours)
+    }
+
+    /// The process of a view.
+    pub fn colour(&self, id: u32) -> u8
+        requires { id < length self.now }
+        ensures process { result ≡ process_of (view_at self.now id) }
+    {
+        self.nodes[id as usize].process
+    }
+
+    /// The processes that occur in a view, at any depth: bit p is set where process p does.
+    pub fn colours_in(&self, id: u32) -> u8
+        requires { id < length self.now }
+        ensures colours { result ≡ colours_of (view_at self.now id) }
+    {
+        self.colours[id as usize]
+    }
+
+    /// The numbers of the views that a view saw, in the order of their processes. An input saw none.
+    pub fn parts(&self, id: u32) -> &[u32]
+        requires { id < length self.now }
+        ensures views { map (view_at self.now) result.now ≡ inner_views (view_at self.now id) }
+        ensures earlier { All (λ k. k < id) result.now }
+    {
+        let node = &self.nodes[id as usize];
+        &node.ids[..node.count as usize]
+    }
+
     /// The number of an entry's view. A new view gets the next number.
-    fn number(&mut self, node: Node) -> Result<u32, AllocError>
+    fn number(&mut self, node: Node, colours: u8) -> Result<u32, AllocError>
         requires room { length self.old < 4294967295 }
         requires entry { IsEntry (length self.old) node }
+        requires colours { colours ≡ colours_of (node_view self.old node) }
         ensures table { self.new
             ≡ (if is_ok result then with_view self.old (node_view self.old node) else self.old) }
         ensures number { IfOk result (λ n. n ≡ number_of self.new (node_view self.old node)) }
@@ -70,8 +132,10 @@ impl Views {
         }
         let number = self.nodes.len() as u32;
         self.nodes.reserve(1)?;
+        self.colours.reserve(1)?;
         self.numbers.insert(node, number)?;
         self.nodes.push_reserved(node);
+        self.colours.push_reserved(colours);
         Ok(number)
     }
 }
@@ -81,4 +145,17 @@ fn known_number(numbers: &HashMap<Node, u32>, node: Node) -> Option<u32>
     ensures { result ≡ get same_node numbers.now node }
 {
     numbers.get(&node).copied()
+}
+
+/// The processes that occur in the view of one that saw these.
+fn colours_seen(colours: &[u8], process: u8, ids: &[u32]) -> u8
+    requires process { process ≤ 3 }
+    requires numbers { All (λ k. k < length colours.now) ids.now }
+    ensures { result ≡ bit_or (2 ^ process) (colours_at colours.now ids.now) }
+{
+    let mut all = 1u8 << process;
+    for id in ids {
+        all |= colours[*id as usize];
+    }
+    all
 }

@@ -1,0 +1,153 @@
+-- What the entries of a table say of its views.
+use Rattle.std.proofs.Common.{◌≡◌, ◌<◌, ◌≤◌, ◌^◌, ℕ, zero, suc, ◌+◌, true, List, [], ◌∷◌, map, length, take, get_or, All, nat_lt, sym, refl, ap, ◌∙◌, subst, arith, ltb-true}
+use Rattle.std.specs.Int.Bits.{bit_or}
+use Rattle.std.specs.List.{AllByRecursion}
+use Rattle.std.proofs.lemmas.Bool.{and_parts, false≢true}
+use Rattle.std.proofs.lemmas.Nat.Bits.{bit_at_or, bit_at-zero, same_from_bits}
+use Rattle.std.proofs.lemmas.List.Elements.{recursion_from_All, All-from_recursion}
+use Rattle.wf_model.specs.Lists.{has}
+use Rattle.wf_model.specs.Simplex.{is_ascending}
+use Rattle.wf_model.specs.View.{View, views_of, process_of}
+use Rattle.wf_view.specs.declared.node.Node.{Node}
+use Rattle.wf_view.specs.Views.{view_at, view_seen, list_of, inner_views, colours_of, colours_of_each}
+use Rattle.wf_view.specs.Table.{base_node, seen_node, padded, node_view, shown, IsEntry, is_base, is_seen, AreEntriesFrom, colours_at}
+use Rattle.wf_view.proofs.Shown.{node_view-seen, view_at-shown, entry_at, length-shown}
+
+-- ---- one entry
+
+entry_process : (n : ℕ) (vs : List View) (node : Node) → IsEntry n node → process_of (node_view vs node) ≡ node.process
+entry_process n vs node (is_base p x low) = refl
+entry_process n vs node (is_seen p ids low some few earlier) = ap process_of (node_view-seen vs p ids some few)
+
+entry_low : (n : ℕ) (node : Node) → IsEntry n node → node.process ≤ 3
+entry_low n node (is_base p x low) = low
+entry_low n node (is_seen p ids low some few earlier) = low
+
+entry_count : (n : ℕ) (node : Node) → IsEntry n node → node.count ≤ 4
+entry_count n node (is_base p x low) = omega arith
+entry_count n node (is_seen p ids low some few earlier) = few
+
+list_of-views_of : (vs : List View) → list_of (views_of vs) ≡ vs
+list_of-views_of [] = refl
+list_of-views_of (v ∷ vs) = ap (λ ws. v ∷ ws) (list_of-views_of vs)
+
+take-padded : (ids : List ℕ) → length ids ≤ 4 → take (length ids) (padded ids) ≡ ids
+take-padded [] h = refl
+take-padded (a ∷ []) h = refl
+take-padded (a ∷ b ∷ []) h = refl
+take-padded (a ∷ b ∷ c ∷ []) h = refl
+take-padded (a ∷ b ∷ c ∷ d ∷ []) h = refl
+take-padded (a ∷ b ∷ c ∷ d ∷ e ∷ more) h = absurd (let none : ⊥ = omega (arith, h) in none)
+
+entry_parts : (n : ℕ) (vs : List View) (node : Node) → IsEntry n node → map (view_at vs) (take node.count node.ids) ≡ inner_views (node_view vs node)
+entry_parts n vs node (is_base p x low) = refl
+entry_parts n vs node (is_seen p ids low some few earlier) =
+    ap (map (view_at vs)) (take-padded ids few) ∙ sym (list_of-views_of (map (view_at vs) ids)) ∙ sym (ap inner_views (node_view-seen vs p ids some few))
+
+entry_earlier : (n : ℕ) (node : Node) → IsEntry n node → All (λ k. k < n) (take node.count node.ids)
+entry_earlier n node (is_base p x low) = All-from_recursion (λ k. k < n) [] tt
+entry_earlier n node (is_seen p ids low some few earlier) = subst (All (λ k. k < n)) (sym (take-padded ids few)) earlier
+
+-- ---- the entries of a table
+
+process_at : (xs : List Node) → AreEntriesFrom 0 xs → (n : ℕ) (d : Node) → n < length xs → process_of (view_at (shown xs) n) ≡ (get_or xs n d).process
+process_at xs entries n d within = ap process_of (view_at-shown xs entries n d within) ∙ entry_process n (shown xs) (get_or xs n d) (entry_at xs entries n d within)
+
+process_low : (xs : List Node) → AreEntriesFrom 0 xs → (n : ℕ) (d : Node) → n < length xs → process_of (view_at (shown xs) n) ≤ 3
+process_low xs entries n d within = subst (λ p. p ≤ 3) (sym (process_at xs entries n d within)) (entry_low n (get_or xs n d) (entry_at xs entries n d within))
+
+-- ascending processes up to 3 are at most four
+ascending_short : (p : ℕ) (ps : List ℕ) → is_ascending (p ∷ ps) ≡ true → AllByRecursion (λ q. q ≤ 3) (p ∷ ps) → length (p ∷ ps) + p ≤ 4
+ascending_short p [] h low = omega (arith, low.0)
+ascending_short p (q ∷ ps) h low =
+    let parts = and_parts (nat_lt p q) (is_ascending (q ∷ ps)) h in
+    omega (arith, ascending_short q ps parts.1 low.1, ltb-true p q parts.0)
+
+each_low : (xs : List Node) → AreEntriesFrom 0 xs → (ids : List ℕ) → AllByRecursion (λ k. k < length (shown xs)) ids → AllByRecursion (λ p. p ≤ 3) (map (λ k. process_of (view_at (shown xs) k)) ids)
+each_low xs entries [] h = tt
+each_low xs entries (k ∷ ids) h = (process_low xs entries k (base_node 0 0) (subst (λ n. k < n) (length-shown xs) h.0), each_low xs entries ids h.1)
+
+pub length-map : {X Y : Type 0} (f : X → Y) (xs : List X) → length (map f xs) ≡ length xs
+length-map f [] = refl
+length-map f (x ∷ xs) = ap suc (length-map f xs)
+
+short : (ps : List ℕ) → is_ascending ps ≡ true → AllByRecursion (λ q. q ≤ 3) ps → length ps ≤ 4
+short [] h low = omega arith
+short (p ∷ ps) h low = omega (arith, ascending_short p ps h low)
+
+few_parts : (xs : List Node) → AreEntriesFrom 0 xs → (ids : List ℕ) → All (λ k. k < length (shown xs)) ids → is_ascending (map (λ k. process_of (view_at (shown xs) k)) ids) ≡ true → length ids ≤ 4
+few_parts xs entries ids within h =
+    subst (λ n. n ≤ 4) (length-map (λ k. process_of (view_at (shown xs) k)) ids) (short (map (λ k. process_of (view_at (shown xs) k)) ids) h (each_low xs entries ids (recursion_from_All _ ids within)))
+
+some_parts : (f : ℕ → ℕ) (ids : List ℕ) (p : ℕ) → has (map f ids) p ≡ true → 0 < length ids
+some_parts f [] p h = absurd (false≢true h)
+some_parts f (k ∷ ids) p h = omega arith
+
+-- ---- processes
+
+pub or_assoc : (a b c : ℕ) → bit_or (bit_or a b) c ≡ bit_or a (bit_or b c)
+or_assoc a b c = same_from_bits _ _ (λ i. omega (arith, bit_at_or (bit_or a b) c i, bit_at_or a b i, bit_at_or a (bit_or b c) i, bit_at_or b c i))
+
+pub or_zero : (a : ℕ) → bit_or a 0 ≡ a
+or_zero a = same_from_bits _ _ (λ i. omega (arith, bit_at_or a 0 i, bit_at-zero i))
+
+pub get_or-map : (vs : List View) (n : ℕ) → n < length vs → get_or (map colours_of vs) n 0 ≡ colours_of (view_at vs n)
+get_or-map [] n h = absurd (let none : ⊥ = omega (arith, h) in none)
+get_or-map (v ∷ vs) zero h = refl
+get_or-map (v ∷ vs) (suc n) h = get_or-map vs n (omega (arith, h))
+
+colours_at-views : (vs : List View) (ids : List ℕ) → AllByRecursion (λ k. k < length vs) ids → colours_at (map colours_of vs) ids ≡ colours_of_each (views_of (map (view_at vs) ids))
+colours_at-views vs [] h = refl
+colours_at-views vs (k ∷ ids) h = λ i. bit_or (get_or-map vs k h.0 i) (colours_at-views vs ids h.1 i)
+
+-- the processes in the view of one that saw these
+colours_of-seen : (vs : List View) (p : ℕ) (ids : List ℕ) → All (λ k. k < length vs) ids → 0 < length ids → length ids ≤ 4 → bit_or (2 ^ p) (colours_at (map colours_of vs) ids) ≡ colours_of (node_view vs (seen_node p ids))
+colours_of-seen vs p ids within some few = ap (bit_or (2 ^ p)) (colours_at-views vs ids (recursion_from_All _ ids within)) ∙ sym (ap colours_of (node_view-seen vs p ids some few))
+
+-- ---- an entry that was read
+
+module _ (xs : List Node) (entries : AreEntriesFrom 0 xs) (vs : List View) (is : shown xs ≡ vs) (n : ℕ) (node : Node) (within : n < length vs) (read : node ≡ get_or xs n node) where
+  in_nodes : n < length xs
+  in_nodes = omega (arith, within, ap length is, length-shown xs)
+
+  entry_read : IsEntry n node
+  entry_read = subst (IsEntry n) (sym read) (entry_at xs entries n node in_nodes)
+
+  pub count_read : node.count ≤ 4
+  count_read = entry_count n node entry_read
+
+  pub earlier_read : All (λ k. k < n) (take node.count node.ids)
+  earlier_read = entry_earlier n node entry_read
+
+  view_read : node_view vs node ≡ view_at vs n
+  view_read = subst (λ ws. node_view ws node ≡ view_at ws n) is (ap (node_view (shown xs)) read ∙ sym (view_at-shown xs entries n node in_nodes))
+
+  pub parts_read : map (view_at vs) (take node.count node.ids) ≡ inner_views (view_at vs n)
+  parts_read = entry_parts n vs node entry_read ∙ ap inner_views view_read
+
+  pub process_read : node.process ≡ process_of (view_at vs n)
+  process_read = sym (entry_process n vs node entry_read) ∙ ap process_of view_read
+
+-- ---- an entry of one that saw these
+
+module _ (xs : List Node) (entries : AreEntriesFrom 0 xs) (vs : List View) (is : shown xs ≡ vs) (p : ℕ) (ids : List ℕ) (within : All (λ k. k < length vs) ids)
+    (ascending : is_ascending (map (λ k. process_of (view_at vs k)) ids) ≡ true) (own : has (map (λ k. process_of (view_at vs k)) ids) p ≡ true) where
+  pub few : length ids ≤ 4
+  few =
+      few_parts xs entries ids (subst (λ ws. All (λ k. k < length ws) ids) (sym is) within)
+      (subst (λ ws. is_ascending (map (λ k. process_of (view_at ws k)) ids) ≡ true) (sym is) ascending)
+
+  some : 0 < length ids
+  some = some_parts (λ k. process_of (view_at vs k)) ids p own
+
+  pub seen_view : (node : Node) → node ≡ seen_node p ids → node_view vs node ≡ view_seen vs p ids
+  seen_view node e = ap (node_view vs) e ∙ node_view-seen vs p ids some few
+
+  pub seen_entry : (node : Node) → node ≡ seen_node p ids → p ≤ 3 → IsEntry (length vs) node
+  seen_entry node e low = subst (IsEntry (length vs)) (sym e) (is_seen p ids low some few within)
+
+  pub seen_colours : (node : Node) → node ≡ seen_node p ids → (colours : List ℕ) → colours ≡ map colours_of (shown xs) → bit_or (2 ^ p) (colours_at colours ids) ≡ colours_of (node_view vs node)
+  seen_colours node e colours stored =
+      ap (λ cs. bit_or (2 ^ p) (colours_at cs ids)) (stored ∙ ap (map colours_of) is)
+      ∙ colours_of-seen vs p ids within some few
+      ∙ ap (λ n. colours_of (node_view vs n)) (sym e)

@@ -1,0 +1,19 @@
+use Rattle.std.proofs.Common.{◌+◌, get_or, drop, arith, sym, ap, ◌∙◌}
+use Rattle.std.proofs.lemmas.List.{drop_all, drop_more}
+use Rattle.std.specs.Int.Bits.{bit_or}
+use Rattle.wf_view.specs.Table.{colours_at}
+use Rattle.wf_view.proofs.Entries.{or_assoc, or_zero}
+use Rattle.wf_view.proofs.views.colours_seen.Goals as goal
+
+pub loop-id-preserved : goal.loop-id-preserved
+loop-id-preserved c =
+    let id = get_or c.args.ids.now c.loop-id.id-index 0 in
+    or_assoc c.loop-id.all (get_or c.args.colours.now id 0) (colours_at c.args.colours.now (drop (c.loop-id.id-index + 1) c.args.ids.now))
+    ∙ ap (λ ids. bit_or c.loop-id.all (colours_at c.args.colours.now ids)) (sym (drop_more c.args.ids.now c.loop-id.id-index 0 c.loop-id-test.true))
+    ∙ c.loop-id.invariant
+
+pub returns : goal.returns
+returns c =
+    sym (or_zero c.loop-id.all)
+    ∙ ap (λ ids. bit_or c.loop-id.all (colours_at c.args.colours.now ids)) (sym (drop_all c.loop-id.id-index c.args.ids.now (omega arith)))
+    ∙ c.loop-id.invariant
