@@ -1,13 +1,10 @@
-// A library with one function.
+//! Reports: what is written about a task and a number of rounds.
+//!
+//! This crate stands on tasks and protocol complexes alone: what it accepts rests on nothing of the search.
 #![tactic(auto)]
 
-ghost use Rattle.std.specs.Prelude.{◌≡◌};
-ghost use Rattle.wf_cert.specs.Echo.{echo_of};
+mod report;
+mod writing;
 
-// The `ensures` clause is the contract: what `echo` returns is `echo_of` of its argument, a definition
-// in `specs/Echo.antt`, which a caller's clause can cite too.
-pub fn echo(x: usize) -> usize
-    ensures { result ≡ echo_of x }
-{
-    x
-}
+pub use report::{Body, Report};
+pub use writing::write_report;

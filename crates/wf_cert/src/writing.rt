@@ -1,0 +1,90 @@
+//! The text of a report.
+
+ghost use Rattle.std.specs.Prelude.{◌≡◌, ◌∷◌, [], ◌++◌, IfOk, OnOk, string_bytes, flat_map};
+ghost use Rattle.wf_model.specs.Report.{line, value_line, line_text, answer_line, body_text, report_text};
+ghost use Rattle.wf_complex.specs.Lines.{line_of};
+ghost use Rattle.wf_cert.specs.Reports.{body_of, report_seen};
+
+use crate::report::{Body, Report};
+use std::alloc::{AllocError, Global};
+use std::fmt::Write;
+use wf_complex::{Line, Lines};
+
+/// The text of a report: a header, the values of a map or the lines of a refutation, and `end`. Every line ends in one
+/// line feed, and numbers are decimal. Refused for want of memory alone.
+pub fn write_report(alloc: Global, report: &Report) -> Result<Vec<u8>, AllocError>
+    ensures text { IfOk result (λ text. text.items ≡ report_text (report_seen report.now)) }
+{
+    let mut text = String::new(alloc);
+    put_words(&mut text, "wfcheck report 1")?;
+    put_number(&mut text, "processes", report.processes as u32)?;
+    put_number(&mut text, "rounds", report.rounds)?;
+    put_number(&mut text, "points", report.points)?;
+    put_number(&mut text, "executions", report.executions)?;
+    put_body(&mut text, &report.body)?;
+    put_words(&mut text, "end")?;
+    Ok(text.into_bytes())
+}
+
+fn put_words(text: &mut String, words: &str) -> Result<(), AllocError>
+    ensures { OnOk result (string_bytes text.new ≡ string_bytes text.old ++ line words.now []) }
+{
+    writeln!(text, "{words}")?;
+    Ok(())
+}
+
+fn put_number(text: &mut String, name: &str, number: u32) -> Result<(), AllocError>
+    ensures { OnOk result (string_bytes text.new ≡ string_bytes text.old ++ line name.now (number ∷ [])) }
+{
+    writeln!(text, "{name} {number}")?;
+    Ok(())
+}
+
+fn put_body(text: &mut String, body: &Body) -> Result<(), AllocError>
+    ensures { OnOk result (string_bytes text.new
+        ≡ string_bytes text.old ++ (answer_line (body_of body.now) ++ body_text (body_of body.now))) }
+{
+    match body {
+        Body::Map(values) => {
+            writeln!(text, "answer map")?;
+            put_values(text, values)
+        }
+        Body::Nothing(lines) => {
+            writeln!(text, "answer none")?;
+            put_lines(text, lines)
+        }
+    }
+}
+
+fn put_values(text: &mut String, values: &[u8]) -> Result<(), AllocError>
+    ensures { OnOk result (string_bytes text.new ≡ string_bytes text.old ++ flat_map value_line values.now) }
+{
+    for value in values {
+        writeln!(text, "m {value}")?;
+    }
+    Ok(())
+}
+
+fn put_lines(text: &mut String, lines: &Lines) -> Result<(), AllocError>
+    ensures { OnOk result (string_bytes text.new ≡ string_bytes text.old ++ flat_map line_text lines.now) }
+{
+    for place in 0..lines.len() {
+        put_line(text, lines.get(place))?;
+    }
+    Ok(())
+}
+
+fn put_line(text: &mut String, line: Line) -> Result<(), AllocError>
+    ensures { OnOk result (string_bytes text.new ≡ string_bytes text.old ++ line_text (line_of line)) }
+{
+    match line {
+        Line::P {
+            execution,
+            process,
+            value,
+        } => writeln!(text, "p {execution} {process} {value}")?,
+        Line::Z { point } => writeln!(text, "z {point}")?,
+        Line::B { point } => writeln!(text, "b {point}")?,
+    }
+    Ok(())
+}
