@@ -6,3 +6,7 @@ pub mod Fuel
 pub mod Canonical
 pub mod Checked
 pub mod Stable
+pub mod Ascending
+pub mod WellFormed
+pub mod Numbers
+pub mod Accepting

@@ -1,47 +1,25 @@
-//! Definitions of tasks, protocol complexes, decision maps and refutations, and a plain, slow program beside them.
+//! Definitions of tasks, protocol complexes, decision maps and refutations, and their laws.
 #![tactic(auto)]
 
-ghost use Rattle.std.specs.Prelude.{◌≡◌, ℕ, List, [], ◌∷◌, ◌++◌, None, IfOk, OnOk, map, flat_map, slice_index, vec_items};
+ghost use Rattle.std.specs.Prelude.{◌≡◌, [], ◌∷◌, ◌++◌, IfOk, OnOk, map, flat_map, vec_items};
 ghost use Rattle.std.specs.List.{list_all};
 ghost use Rattle.wf_model.specs.Lists.{below, lists_of, has};
 ghost use Rattle.wf_model.specs.Word.{is_word, is_allowed, words};
-ghost use Rattle.wf_model.specs.View.{View};
-ghost use Rattle.wf_model.specs.Task.{Task, HasListedValues};
-ghost use Rattle.wf_model.specs.Points.{points};
-ghost use Rattle.wf_model.specs.DecisionMap.{IsDecisionMap, listed};
-ghost use Rattle.wf_model.specs.Problem.{Problem, problem_of, IsSolution, number_of};
-ghost use Rattle.wf_model.specs.Box.{Box, root};
-ghost use Rattle.wf_model.specs.Refutation.{Line, Tree, lines, Refutes};
-ghost use Rattle.wf_model.specs.Closing.{canonical, closing, searched, branching};
-ghost use Rattle.wf_model.specs.Check.{first_fault};
 
+mod maps;
+mod refutations;
+mod search;
+
+pub use maps::{
+    a_least_solution_is_a_least_map, first_appearances_are_the_points, maps_are_solutions,
+    maps_lie_in_the_root, problems_of_tasks_are_well_formed, tasks_have_listed_values,
+};
+pub use refutations::{
+    a_refutation_leaves_no_map, accepted_lines_refute, no_tree_refutes_a_solution,
+    refuting_lines_are_accepted,
+};
+pub use search::{the_canonical_search_by_steps, the_canonical_search_refutes};
 use std::alloc::{AllocError, Global};
-
-/// Where a tree refutes the root, no function on the views is a decision map.
-pub fn a_refutation_leaves_no_map()
-    ensures { (t : Task) (r : ℕ) (refutation : Tree) → HasListedValues t → Refutes (problem_of t r) refutation (root (problem_of t r)) → (m : View → ℕ) → IsDecisionMap t r m → ⊥ }
-{}
-
-/// Lines that the checker finds no fault in are those of a tree that refutes the root.
-pub fn accepted_lines_refute()
-    ensures { (p : Problem) (k : ℕ) (ls : List Line) → first_fault p k ls (root p ∷ []) ≡ None → (t : Tree) × (lines t ≡ ls) × Refutes p t (root p) }
-{}
-
-/// Where the canonical search finds no map, its lines are those of a tree that refutes the box.
-pub fn the_canonical_search_refutes()
-    ensures { (p : Problem) (box : Box) → (canonical p box).map ≡ None → (t : Tree) × (lines t ≡ (canonical p box).lines) × Refutes p t box }
-{}
-
-/// The canonical search closes the box, and then goes on in the branches of what is left.
-pub fn the_canonical_search_by_steps()
-    ensures { (p : Problem) (box : Box) → canonical p box ≡ searched (closing p box).lines (closing p box).left (branching (canonical p)) }
-{}
-
-/// Decision maps over the views are the solutions over the numbers of the points.
-pub fn maps_are_solutions()
-    ensures listed { (t : Task) (r : ℕ) (m : View → ℕ) → IsDecisionMap t r m → IsSolution (problem_of t r) (listed t r m) }
-    ensures by_number { (t : Task) (r : ℕ) (values : List ℕ) → IsSolution (problem_of t r) values → IsDecisionMap t r (λ v. slice_index values (number_of (points t r) v)) }
-{}
 
 /// The lists of n numbers below k, in order.
 pub fn all_lists(alloc: Global, k: u8, n: u8) -> Result<Vec<Vec<u8>>, AllocError>
