@@ -10,3 +10,7 @@ pub mod Ascending
 pub mod WellFormed
 pub mod Numbers
 pub mod Accepting
+pub mod Order
+pub mod Kept
+pub mod Solved
+pub mod Least

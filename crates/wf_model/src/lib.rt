@@ -12,13 +12,17 @@ mod search;
 
 pub use maps::{
     a_least_solution_is_a_least_map, first_appearances_are_the_points, maps_are_solutions,
-    maps_lie_in_the_root, problems_of_tasks_are_well_formed, tasks_have_listed_values,
+    maps_lie_in_the_root, problems_of_tasks_are_well_formed, solutions_lie_in_the_root,
+    tasks_have_listed_values,
 };
 pub use refutations::{
     a_refutation_leaves_no_map, accepted_lines_refute, no_tree_refutes_a_solution,
     refuting_lines_are_accepted,
 };
-pub use search::{the_canonical_search_by_steps, the_canonical_search_refutes};
+pub use search::{
+    the_canonical_answer, the_canonical_map_is_the_least_solution, the_canonical_search_by_steps,
+    the_canonical_search_refutes,
+};
 use std::alloc::{AllocError, Global};
 
 /// The lists of n numbers below k, in order.

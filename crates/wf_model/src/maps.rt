@@ -36,6 +36,11 @@ pub fn maps_lie_in_the_root()
     ensures { (t : Task) (r : ℕ) (m : View → ℕ) → HasListedValues t → IsDecisionMap t r m → LiesIn (listed t r m) (root (problem_of t r)) }
 {}
 
+/// Every solution of a task's problem lies in the root.
+pub fn solutions_lie_in_the_root()
+    ensures { (t : Task) (r : ℕ) (values : List ℕ) → IsTask t → IsSolution (problem_of t r) values → LiesIn values (root (problem_of t r)) }
+{}
+
 /// The least solution, read by the numbers of the points, is the least decision map.
 pub fn a_least_solution_is_a_least_map()
     ensures { (t : Task) (r : ℕ) (values : List ℕ) → IsLeastSolution (problem_of t r) values → IsLeast t r (λ v. slice_index values (number_of (points t r) v)) }
