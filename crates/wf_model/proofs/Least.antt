@@ -39,7 +39,7 @@ module _ (p : Problem) where
     pub none : t.map ≡ None → (m : List ℕ) → IsSolution p m → LiesIn m box → ⊥
 
   -- the least solution in these boxes
-  record IsLeastAmong (boxes : List Box) (m : List ℕ) : Type 0 where
+  pub record IsLeastAmong (boxes : List Box) (m : List ℕ) : Type 0 where
     solves : IsSolution p m
     lies : OneOf (LiesIn m) boxes
     least : (other : List ℕ) → IsSolution p other → OneOf (LiesIn other) boxes → (m ≡ other) ⊎ IsBelow m other
@@ -72,18 +72,22 @@ module _ (p : Problem) where
 
 -- ---- the search
 
-each_decided : (p : Problem) (box : Box) (v : ℕ) (values : List ℕ) → length box ≡ p.points → Ascending box → AllByRecursion (λ b. (length b ≡ p.points) × Ascending b) (map (decided box v) values)
+pub each_decided : (p : Problem) (box : Box) (v : ℕ) (values : List ℕ) → length box ≡ p.points → Ascending box → AllByRecursion (λ b. (length b ≡ p.points) × Ascending b) (map (decided box v) values)
 each_decided p box v [] long up = tt
 each_decided p box v (a ∷ values) long up = ((length-set box v (a ∷ []) ∙ long, ascending_after box v (a ∷ []) (tt, tt) up), each_decided p box v values long up)
 
-whole_each : (m : List ℕ) (box : Box) (v : ℕ) (values : List ℕ) → AllByRecursion (λ a. has (candidates box v) a ≡ true) values → AllByRecursion (λ b. LiesIn m b → LiesIn m box) (map (decided box v) values)
-whole_each m box v [] h = tt
-whole_each m box v (a ∷ values) h = (λ lies. in_whole m box v a h.0 lies, whole_each m box v values h.1)
+whole_each : (box : Box) (v : ℕ) (values : List ℕ) → AllByRecursion (λ a. has (candidates box v) a ≡ true) values → AllByRecursion (λ b. (m : List ℕ) → LiesIn m b → LiesIn m box) (map (decided box v) values)
+whole_each box v [] h = tt
+whole_each box v (a ∷ values) h = (λ m lies. in_whole m box v a h.0 lies, whole_each box v values h.1)
+
+-- the maps of the branches lie in the box
+pub branches_within : (box : Box) (v : ℕ) → AllByRecursion (λ b. (m : List ℕ) → LiesIn m b → LiesIn m box) (branches_at box v)
+branches_within box v = whole_each box v (candidates box v) (each_has (candidates box v))
 
 -- a map of one of the branches lies in the box
-pub from_branches : (m : List ℕ) (box : Box) (v : ℕ) → OneOf (LiesIn m) (branches_at box v) → LiesIn m box
+from_branches : (m : List ℕ) (box : Box) (v : ℕ) → OneOf (LiesIn m) (branches_at box v) → LiesIn m box
 from_branches m box v one =
-    one_with (LiesIn m) (λ b. LiesIn m b → LiesIn m box) (LiesIn m box) (branches_at box v) (whole_each m box v (candidates box v) (each_has (candidates box v))) one (λ b lies up. up lies)
+    one_with (LiesIn m) (λ b. (n : List ℕ) → LiesIn n b → LiesIn n box) (LiesIn m box) (branches_at box v) (branches_within box v) one (λ b lies up. up m lies)
 
 -- a map of the box lies in one of the branches at an open point
 pub to_branches : (m : List ℕ) (box : Box) (v : ℕ) → first_open box ≡ Some v → LiesIn m box → OneOf (LiesIn m) (branches_at box v)
@@ -123,16 +127,16 @@ module _ (p : Problem) (well : IsWellFormed p) where
           }
 
   -- what closing leaves
-  record IsClosed (box b : Box) : Type 0 where
-    inside : IsInside box b
-    stable : (sweep p b).lines ≡ []
-    fewer : count b ≤ count box
+  pub record IsClosed (box b : Box) : Type 0 where
+    pub inside : IsInside box b
+    pub stable : (sweep p b).lines ≡ []
+    pub fewer : count b ≤ count box
 
   leaves_both : (P Q R : Box → Type 0) → ((b : Box) → P b → Q b → R b) → (o : Option Box) → Leaves P o → Leaves Q o → Leaves R o
   leaves_both P Q R f None h k = tt
   leaves_both P Q R f (Some b) h k = f b h k
 
-  leaves_closed : (box : Box) → Leaves (IsClosed box) (closing p box).left
+  pub leaves_closed : (box : Box) → Leaves (IsClosed box) (closing p box).left
   leaves_closed box =
       leaves_both (IsInside box) (λ b. ((sweep p b).lines ≡ []) × (count b ≤ count box)) (IsClosed box) (λ b in' h. record { inside = in'; stable = h.0; fewer = h.1 }) (closing p box).left
       (closing_inside p box)

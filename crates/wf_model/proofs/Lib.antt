@@ -14,3 +14,4 @@ pub mod Order
 pub mod Kept
 pub mod Solved
 pub mod Least
+pub mod Covering

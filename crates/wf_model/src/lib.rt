@@ -6,10 +6,14 @@ ghost use Rattle.std.specs.List.{list_all};
 ghost use Rattle.wf_model.specs.Lists.{below, lists_of, has};
 ghost use Rattle.wf_model.specs.Word.{is_word, is_allowed, words};
 
+mod covers;
 mod maps;
 mod refutations;
 mod search;
 
+pub use covers::{
+    boxes_of_a_cover_are_in_order, split_covers_in_order, the_first_map_of_a_cover_is_the_least,
+};
 pub use maps::{
     a_least_solution_is_a_least_map, first_appearances_are_the_points, maps_are_solutions,
     maps_lie_in_the_root, problems_of_tasks_are_well_formed, solutions_lie_in_the_root,
