@@ -1,4 +1,3 @@
-pub mod Ranges
 pub mod Sound
 pub mod Bridge
 pub mod Headline

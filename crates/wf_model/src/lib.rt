@@ -1,10 +1,22 @@
-//! Definitions of tasks, protocol complexes, decision maps and refutations, and their laws.
+//! What the tool means: tasks, executions, points, decision maps and refutations, and their laws.
+//!
+//! This crate has no program of its own. Its definitions stand in `specs/`, on two levels.
+//!
+//! - The terms of the field (Herlihy and Shavit 1999, Borowsky and Gafni 1997): `Simplex`, `Task`,
+//!   `Word`, `View`, `Execution`, `Points`, and `DecisionMap`, in which a decision map is a function
+//!   on the views. Read these first.
+//! - The same by numbers: `Problem`, where the points have numbers and each execution is a
+//!   constraint; `Box`, `Refutation`, `Closing` and `Split`, which say what a refutation is, in which
+//!   order the search goes and how it is cut into branches; and `Check`, what a checker answers.
+//!   `problem_of` leads from the first level to the second.
+//!
+//! `Report` and `ViewsText` are the texts, `Presets` the tasks that have names, and the files of
+//! examples hold by computation.
+//!
+//! The public functions below are laws: a body is empty, and the clauses are what is proved. The
+//! main one is [`the_canonical_answer`]. A crate above cites a law's lemma, or calls the law, which
+//! puts its clauses among the facts that are known there.
 #![tactic(auto)]
-
-ghost use Rattle.std.specs.Prelude.{◌≡◌, [], ◌∷◌, ◌++◌, IfOk, OnOk, map, flat_map, vec_items};
-ghost use Rattle.std.specs.List.{list_all};
-ghost use Rattle.wf_model.specs.Lists.{below, lists_of, has};
-ghost use Rattle.wf_model.specs.Word.{is_word, is_allowed, words};
 
 mod covers;
 mod maps;
@@ -27,126 +39,3 @@ pub use search::{
     the_canonical_answer, the_canonical_map_is_the_least_solution, the_canonical_search_by_steps,
     the_canonical_search_refutes,
 };
-use std::alloc::{AllocError, Global};
-
-/// The lists of n numbers below k, in order.
-pub fn all_lists(alloc: Global, k: u8, n: u8) -> Result<Vec<Vec<u8>>, AllocError>
-    ensures { IfOk result (λ v. map vec_items v.items ≡ lists_of (below k) n) }
-{
-    if n == 0 {
-        let mut one = Vec::new(alloc);
-        one.push(Vec::new(alloc))?;
-        return Ok(one);
-    }
-    let shorter = all_lists(alloc, k, n - 1)?;
-    let longer = all_longer(alloc, k, &shorter)?;
-    Ok(longer)
-}
-
-/// Each of these lists with each number below k in front.
-fn all_longer(alloc: Global, k: u8, shorter: &[Vec<u8>]) -> Result<Vec<Vec<u8>>, AllocError>
-    ensures { IfOk result (λ v. map vec_items v.items ≡ flat_map (λ x. map (λ rest. x ∷ rest) (map vec_items shorter.now)) (below k)) }
-{
-    let mut lists = Vec::new(alloc);
-    for first in 0..k {
-        push_longer(alloc, &mut lists, first, shorter)?;
-    }
-    Ok(lists)
-}
-
-/// Adds each of these lists with this number in front.
-fn push_longer(
-    alloc: Global,
-    lists: &mut Vec<Vec<u8>>,
-    first: u8,
-    shorter: &[Vec<u8>],
-) -> Result<(), AllocError>
-    ensures { OnOk result (map vec_items lists.new.items ≡ map vec_items lists.old.items ++ map (λ rest. first ∷ rest) (map vec_items shorter.now)) }
-{
-    for rest in shorter {
-        lists.push(with_front(alloc, first, rest)?)?;
-    }
-    Ok(())
-}
-
-/// A list with one more number in front.
-fn with_front(alloc: Global, first: u8, rest: &[u8]) -> Result<Vec<u8>, AllocError>
-    ensures { IfOk result (λ v. v.items ≡ first ∷ rest.now) }
-{
-    let mut list = Vec::new(alloc);
-    list.push(first)?;
-    list.extend_from_slice(rest)?;
-    Ok(list)
-}
-
-/// Whether the number is in the list.
-fn has(xs: &[u8], x: u8) -> bool
-    ensures { result ≡ has xs.now x }
-{
-    xs.iter().any(|y| *y == x)
-}
-
-/// Whether each number below the block is a block too.
-fn has_each_below(word: &[u8], block: u8) -> bool
-    ensures { result ≡ list_all (has word.now) (below block) }
-{
-    for smaller in 0..block {
-        if !has(word, smaller) {
-            return false;
-        }
-    }
-    true
-}
-
-/// Whether a list of block numbers is a word.
-pub fn is_word(word: &[u8]) -> bool
-    ensures { result ≡ is_word word.now }
-{
-    word.iter().all(|block| has_each_below(word, *block))
-}
-
-/// Whether the first block has m participants at least, or all where they are fewer.
-pub fn is_allowed(m: u8, word: &[u8]) -> bool
-    ensures { result ≡ is_allowed m word.now }
-{
-    let first = word.iter().filter(|block| **block == 0).count();
-    usize::from(m).min(word.len()) <= first
-}
-
-/// A copy of a word.
-fn copied(alloc: Global, word: &[u8]) -> Result<Vec<u8>, AllocError>
-    ensures { IfOk result (λ v. v.items ≡ word.now) }
-{
-    let mut copy = Vec::new(alloc);
-    copy.extend_from_slice(word)?;
-    Ok(copy)
-}
-
-/// The words of n participants whose first block has m at least, in order.
-pub fn all_words(alloc: Global, m: u8, n: u8) -> Result<Vec<Vec<u8>>, AllocError>
-    ensures { IfOk result (λ v. map vec_items v.items ≡ words m n) }
-{
-    let lists = all_lists(alloc, n, n)?;
-    let mut words = Vec::new(alloc);
-    for list in &lists {
-        if is_word(list) && is_allowed(m, list) {
-            words.push(copied(alloc, list)?)?;
-        }
-    }
-    Ok(words)
-}
-
-#[cfg(test)]
-mod tests {
-    use super::all_words;
-
-    #[test]
-    fn words_of_three(rt: HostRuntime) {
-        let three = all_words(rt.alloc(), 1, 3).map_or(0, |words| words.len());
-        assert_eq!(rt; three, 13);
-        let four = all_words(rt.alloc(), 1, 4).map_or(0, |words| words.len());
-        assert_eq!(rt; four, 75);
-        let restricted = all_words(rt.alloc(), 2, 2).map_or(0, |words| words.len());
-        assert_eq!(rt; restricted, 1);
-    }
-}
