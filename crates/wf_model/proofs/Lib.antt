@@ -1,4 +1,3 @@
-pub mod Ranges
 pub mod Sound
 pub mod Bridge
 pub mod Headline
@@ -6,3 +5,12 @@ pub mod Fuel
 pub mod Canonical
 pub mod Checked
 pub mod Stable
+pub mod Ascending
+pub mod WellFormed
+pub mod Numbers
+pub mod Accepting
+pub mod Order
+pub mod Kept
+pub mod Solved
+pub mod Least
+pub mod Covering

@@ -11,6 +11,7 @@ pub mod Box
 pub mod Refutation
 pub mod Closing
 pub mod Split
+pub mod Laws
 pub mod LeastTree
 pub mod Report
 pub mod ViewsText

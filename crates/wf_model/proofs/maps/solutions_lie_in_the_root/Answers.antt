@@ -1,0 +1,5 @@
+use Rattle.wf_model.proofs.Least.{solution_in_root}
+use Rattle.wf_model.proofs.maps.solutions_lie_in_the_root.Goals as goal
+
+pub returns : goal.returns
+returns c = solution_in_root

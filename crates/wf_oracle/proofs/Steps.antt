@@ -1,0 +1,20 @@
+-- One more element of a list, at a step of a loop.
+use Rattle.std.proofs.Common.{◌≡◌, ℕ, ◌+◌, ◌<◌, List, [], ◌∷◌, ◌++◌, map, flat_map, take, length, get_or, sym, refl, ap, ◌∙◌, subst}
+use Rattle.std.proofs.lemmas.List.{take_more, map-append, append-nil}
+use Rattle.std.proofs.lemmas.List.Concat.{flat_map-append}
+
+pub take_next : {X : Type 0} (xs : List X) (i : ℕ) (x : X) → i < length xs → x ≡ get_or xs i x → take (i + 1) xs ≡ take i xs ++ x ∷ []
+take_next xs i x within is = take_more xs i x within ∙ ap (λ y. take i xs ++ y ∷ []) (sym is)
+
+pub flat_map_next : {X Y : Type 0} (f : X → List Y) (xs : List X) (i : ℕ) (x : X) → i < length xs → x ≡ get_or xs i x → flat_map f (take (i + 1) xs) ≡ flat_map f (take i xs) ++ f x
+flat_map_next f xs i x within is = ap (flat_map f) (take_next xs i x within is) ∙ flat_map-append f (take i xs) (x ∷ []) ∙ ap (λ ys. flat_map f (take i xs) ++ ys) (append-nil (f x))
+
+pub map_next : {X Y : Type 0} (f : X → Y) (xs : List X) (i : ℕ) (x : X) → i < length xs → x ≡ get_or xs i x → map f (take (i + 1) xs) ≡ map f (take i xs) ++ f x ∷ []
+map_next f xs i x within is = ap (map f) (take_next xs i x within is) ∙ map-append f (take i xs) (x ∷ [])
+
+-- what a step adds to what the steps before it made
+pub flat_map_grows : {X Y : Type 0} (f : X → List Y) (xs : List X) (i : ℕ) (x : X) (before after : List Y) → i < length xs → x ≡ get_or xs i x → before ≡ flat_map f (take i xs) → after ≡ before ++ f x → after ≡ flat_map f (take (i + 1) xs)
+flat_map_grows f xs i x before after within is so step = step ∙ ap (λ ys. ys ++ f x) so ∙ sym (flat_map_next f xs i x within is)
+
+pub map_grows : {X Y : Type 0} (f : X → Y) (xs : List X) (i : ℕ) (x : X) (before after : List Y) → i < length xs → x ≡ get_or xs i x → before ≡ map f (take i xs) → after ≡ before ++ f x ∷ [] → after ≡ map f (take (i + 1) xs)
+map_grows f xs i x before after within is so step = step ∙ ap (λ ys. ys ++ f x ∷ []) so ∙ sym (map_next f xs i x within is)

@@ -1,0 +1,12 @@
+//! The slow program beside the definitions: words, executions, points and all decision maps.
+//!
+//! Each function's contract is the definition of `wf_model` itself, and its body follows that
+//! definition step by step. It is made to be compared with, on small tasks: what a fast program
+//! answers has to be what this one answers. Nothing else should call it.
+#![tactic(auto)]
+
+mod lists;
+mod word;
+
+pub use lists::lists_of;
+pub use word::{is_allowed, is_word, words};
