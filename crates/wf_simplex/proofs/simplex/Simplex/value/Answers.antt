@@ -1,0 +1,12 @@
+use Rattle.std.proofs.Common.{◌≡◌, None, slice_index_or, sym, ap, ◌∙◌, arith}
+use Rattle.wf_simplex.specs.Entries.{value_at}
+use Rattle.wf_simplex.proofs.Tables.{value_of_entry, past_end}
+use Rattle.wf_simplex.proofs.simplex.Simplex.value.Goals as goal
+
+pub returns-then-colour-lt4 : goal.returns-then-colour-lt4
+returns-then-colour-lt4 c = value_of_entry c.self.inside.values c.args.colour ∙ ap (λ s. value_at s c.args.colour) c.self.view_is
+
+pub returns-else-colour-lt4 : goal.returns-else-colour-lt4
+returns-else-colour-lt4 c =
+    sym (past_end c.self.inside.values c.args.colour (omega (arith, c.self.invariant.0)))
+    ∙ value_of_entry c.self.inside.values c.args.colour ∙ ap (λ s. value_at s c.args.colour) c.self.view_is

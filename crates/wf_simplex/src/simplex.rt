@@ -1,0 +1,221 @@
+ghost use Rattle.std.specs.Prelude.{◌≡◌, ℕ, ◌<◌, ◌≤◌, ◌&&◌, Bool, List, [], ◌∷◌, length, None, Some, MatchResult, slice_index, map};
+ghost use Rattle.std.specs.Ordering.{ordering_then};
+ghost use Rattle.wf_model.specs.Simplex.{processes_of, is_face, simplex_cmp};
+ghost use Rattle.wf_model.specs.Task.{IsSimplexWithin};
+ghost use Rattle.wf_simplex.specs.Entries.{value_at, entry_cmp, is_within, ascends_from};
+ghost use Rattle.wf_simplex.specs.Reading.{has_large, read_fault};
+
+use std::cmp::Ordering;
+use std::fmt;
+use std::marker::Model;
+
+/// Why a list of pairs is no simplex.
+#[derive(Clone, Copy, Debug, PartialEq, Eq)]
+pub enum SimplexFault {
+    /// There is no pair.
+    Empty,
+    /// The processes do not strictly ascend, or one is above 3.
+    Colour,
+    /// A value is above 63.
+    Value,
+}
+
+impl fmt::Display for SimplexFault {
+    fn fmt<W: fmt::Write>(&self, f: &mut fmt::Formatter<W>) -> fmt::Result {
+        f.write_str(match self {
+            SimplexFault::Empty => "Empty",
+            SimplexFault::Colour => "Colour",
+            SimplexFault::Value => "Value",
+        })
+    }
+}
+
+/// A simplex: some of the processes 0 to 3, at least one, each with a value of at most 63.
+///
+/// A clause sees it as the list of its vertices, the pairs of a process and its value, by ascending process.
+/// Simplices are ordered by size, and then as these lists.
+#[derive(Clone, Copy, Debug)]
+pub struct Simplex {
+    // the value of each process that takes part
+    values: [Option<u8>; 4],
+}
+
+impl Model for Simplex {
+    ghost use Rattle.std.specs.Prelude.{◌≡◌, ℕ, List, length};
+    ghost use Rattle.wf_simplex.specs.Entries.{vertices_from, entries_of, entries_of-four};
+    ghost use Rattle.wf_model.specs.Task.{IsSimplexWithin};
+    ghost use Rattle.std.proofs.Common.{ap};
+
+    ghost Value = { List (ℕ × ℕ) };
+
+    ghost view = { λ s. vertices_from 0 s.values };
+
+    ghost invariant = { λ s. (length s.values ≡ 4) × IsSimplexWithin 4 63 (vertices_from 0 s.values) };
+
+    ghost inverse = { λ s. record { values = entries_of s } };
+
+    ghost inverse_ok = { λ s h. ap (λ es. record { values = es }) (entries_of-four s.values h.0) };
+}
+
+impl Simplex {
+    /// The simplex of these pairs of a process and its value, or the first reason why they are none.
+    pub fn read(pairs: &[(u8, u8)]) -> Result<Simplex, SimplexFault>
+        ensures { MatchResult result
+            (λ s. (read_fault pairs.now ≡ None) × (s ≡ pairs.now))
+            (λ e. read_fault pairs.now ≡ Some e) }
+    {
+        if pairs.is_empty() {
+            return Err(SimplexFault::Empty);
+        }
+        let mut values = [None; 4];
+        let mut least = 0;
+        for (process, value) in pairs {
+            if *process < least || *process > 3 {
+                return Err(SimplexFault::Colour);
+            }
+            values[*process as usize] = Some(*value);
+            least = *process + 1;
+        }
+        if has_large(pairs) {
+            return Err(SimplexFault::Value);
+        }
+        Ok(Simplex { values })
+    }
+
+    /// How many processes take part.
+    pub fn colours(&self) -> u8
+        ensures count { result ≡ length self.now }
+        ensures simplex { IsSimplexWithin 4 63 self.now }
+    {
+        let [a, b, c, d] = self.values;
+        u8::from(a.is_some())
+            + u8::from(b.is_some())
+            + u8::from(c.is_some())
+            + u8::from(d.is_some())
+    }
+
+    /// The process at a place, the processes ascending.
+    pub fn colour(&self, place: u8) -> u8
+        requires { place < length self.now }
+        ensures { result ≡ slice_index (processes_of self.now) place }
+    {
+        let mut left = place;
+        for (process, value) in self.values.iter().enumerate() {
+            if value.is_some() {
+                if left == 0 {
+                    return process as u8;
+                }
+                left -= 1;
+            }
+        }
+        unreachable!()
+    }
+
+    /// The value of a process, if it takes part.
+    pub fn value(&self, colour: u8) -> Option<u8>
+        ensures { result ≡ value_at self.now colour }
+    {
+        if colour < 4 {
+            self.values[colour as usize]
+        } else {
+            None
+        }
+    }
+
+    /// Whether each vertex is also one of the other simplex.
+    pub fn is_face(&self, other: &Simplex) -> bool
+        ensures { result ≡ is_face self.now other.now }
+    {
+        let [a, b, c, d] = self.values;
+        let [e, f, g, h] = other.values;
+        is_within(a, e) & is_within(b, f) & is_within(c, g) & is_within(d, h)
+    }
+}
+
+/// Whether some value is above 63.
+fn has_large(pairs: &[(u8, u8)]) -> bool
+    ensures { result ≡ has_large pairs.now }
+{
+    pairs.iter().any(|pair| pair.1 > 63)
+}
+
+/// Whether the first entry is absent or the same as the second.
+fn is_within(entry: Option<u8>, other: Option<u8>) -> bool
+    ensures { result ≡ is_within entry other }
+{
+    match (entry, other) {
+        (None, _) => true,
+        (Some(_), None) => false,
+        (Some(x), Some(y)) => x == y,
+    }
+}
+
+/// How two entries of one process order their simplices: of two simplices of one size the one in which
+/// the process takes part comes first, since the other's next process is a later one.
+fn entry_cmp(entry: Option<u8>, other: Option<u8>) -> Ordering
+    ensures { result ≡ entry_cmp entry other }
+{
+    match (entry, other) {
+        (None, None) => Ordering::Equal,
+        (None, Some(_)) => Ordering::Greater,
+        (Some(_), None) => Ordering::Less,
+        (Some(x), Some(y)) => x.cmp(&y),
+    }
+}
+
+impl PartialEq for Simplex {
+    ghost use Rattle.wf_simplex.specs.Order.{same_simplex, same_simplex-equivalence};
+    ghost use Rattle.std.specs.Cmp.{partial_equiv_from_equiv};
+
+    ghost eq = { same_simplex };
+
+    ghost laws = { partial_equiv_from_equiv same_simplex-equivalence };
+
+    fn eq(&self, other: &Simplex) -> bool {
+        self.values == other.values
+    }
+}
+
+impl Eq for Simplex {
+    ghost use Rattle.wf_simplex.specs.Order.{same_simplex-equivalence};
+
+    ghost laws = { same_simplex-equivalence };
+}
+
+impl Ord for Simplex {
+    ghost use Rattle.std.specs.Prelude.{refl};
+    ghost use Rattle.wf_simplex.specs.Order.{simplex_cmp-total, same_simplex-ties};
+
+    ghost cmp = { simplex_cmp };
+
+    ghost total = { simplex_cmp-total };
+
+    ghost matches_partial_cmp = { λ s t. refl };
+
+    ghost matches_eq = { same_simplex-ties };
+
+    fn cmp(&self, other: &Simplex) -> Ordering {
+        let [a, b, c, d] = self.values;
+        let [e, f, g, h] = other.values;
+        self.colours()
+            .cmp(&other.colours())
+            .then(entry_cmp(a, e))
+            .then(entry_cmp(b, f))
+            .then(entry_cmp(c, g))
+            .then(entry_cmp(d, h))
+    }
+}
+
+impl PartialOrd for Simplex {
+    ghost use Rattle.std.specs.Cmp.{po};
+    ghost use Rattle.std.specs.Ordering.{as_partial_cmp};
+    ghost use Rattle.wf_simplex.specs.Order.{simplex_cmp-total, same_simplex-ties};
+
+    ghost partial_cmp = { as_partial_cmp simplex_cmp };
+
+    ghost laws = { po simplex_cmp-total same_simplex-ties };
+
+    fn partial_cmp(&self, other: &Simplex) -> Option<Ordering> {
+        Some(self.cmp(other))
+    }
+}

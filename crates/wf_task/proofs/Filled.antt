@@ -1,0 +1,33 @@
+-- Up to four numbers and the zeros past them.
+use Rattle.std.proofs.Common.{◌≡◌, ◌-◌, ◌≤◌, ℕ, List, [], ◌∷◌, ◌++◌, length, take, replicate, refl, sym, ap, ◌∙◌, arith, take_all}
+use Rattle.wf_task.specs.Filled.{filled}
+
+pub append-replicate : (xs : List ℕ) → length xs ≤ 4 → xs ++ replicate (4 - length xs) 0 ≡ filled xs
+append-replicate [] h = refl
+append-replicate (a ∷ []) h = refl
+append-replicate (a ∷ b ∷ []) h = refl
+append-replicate (a ∷ b ∷ c ∷ []) h = refl
+append-replicate (a ∷ b ∷ c ∷ d ∷ []) h = refl
+append-replicate (a ∷ b ∷ c ∷ d ∷ e ∷ xs) h = absurd (omega arith)
+
+pub take-filled : (xs : List ℕ) → length xs ≤ 4 → take (length xs) (filled xs) ≡ xs
+take-filled [] h = refl
+take-filled (a ∷ []) h = refl
+take-filled (a ∷ b ∷ []) h = refl
+take-filled (a ∷ b ∷ c ∷ []) h = refl
+take-filled (a ∷ b ∷ c ∷ d ∷ []) h = refl
+take-filled (a ∷ b ∷ c ∷ d ∷ e ∷ xs) h = absurd (omega arith)
+
+pub length-filled : (xs : List ℕ) → length xs ≤ 4 → length (filled xs) ≡ 4
+length-filled [] h = refl
+length-filled (a ∷ []) h = refl
+length-filled (a ∷ b ∷ []) h = refl
+length-filled (a ∷ b ∷ c ∷ []) h = refl
+length-filled (a ∷ b ∷ c ∷ d ∷ []) h = refl
+length-filled (a ∷ b ∷ c ∷ d ∷ e ∷ xs) h = absurd (omega arith)
+
+-- what the loop leaves, once it went through all values
+pub is_filled : (xs row : List ℕ) (i : ℕ) → length xs ≤ 4 → length xs ≤ i → i ≤ length xs → row ≡ take i xs ++ replicate (4 - i) 0 → row ≡ filled xs
+is_filled xs row i few past upto is =
+    let all : i ≡ length xs = omega arith in
+    is ∙ ap (λ n. take n xs ++ replicate (4 - n) 0) all ∙ ap (λ ys. ys ++ replicate (4 - length xs) 0) (take_all (length xs) xs (omega arith)) ∙ append-replicate xs few
