@@ -1,13 +1,12 @@
-// A library with one function.
+//! Reading a whole text and writing one, over any reader and any writer, with the failed calls counted.
+//!
+//! A contract can't say what a file or a terminal holds. So a [`Source`] counts the calls of its reader that failed and
+//! the bytes that it gave, and a [`Sink`] the calls of its writer that failed: a refusal for a failed read or write is
+//! then answered only where the count rose. For readers and writers over memory the contracts say every byte.
 #![tactic(auto)]
 
-ghost use Rattle.std.specs.Prelude.{◌≡◌};
-ghost use Rattle.wf_io.specs.Echo.{echo_of};
+pub mod sink;
+pub mod source;
 
-// The `ensures` clause is the contract: what `echo` returns is `echo_of` of its argument, a definition
-// in `specs/Echo.antt`, which a caller's clause can cite too.
-pub fn echo(x: usize) -> usize
-    ensures { result ≡ echo_of x }
-{
-    x
-}
+pub use sink::{Sink, WriteFault, write_whole};
+pub use source::{LONGEST, ReadFault, Source, read_all};

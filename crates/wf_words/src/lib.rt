@@ -1,13 +1,123 @@
-// A library with one function.
+//! What a command line asks for.
 #![tactic(auto)]
 
-ghost use Rattle.std.specs.Prelude.{◌≡◌};
-ghost use Rattle.wf_words.specs.Echo.{echo_of};
+ghost use Rattle.std.specs.Prelude.{IfOk, IfErr, IfSome};
+ghost use Rattle.wf_words.specs.Job.{IsWithinLimits, IsClapMistake};
 
-// The `ensures` clause is the contract: what `echo` returns is `echo_of` of its argument, a definition
-// in `specs/Echo.antt`, which a caller's clause can cite too.
-pub fn echo(x: usize) -> usize
-    ensures { result ≡ echo_of x }
+use clap::error::ErrorKind;
+use clap::{Arg, ArgAction, ArgMatches, Command, value_parser};
+use std::alloc::{AllocError, Global};
+
+/// A command, with its options.
+#[derive(Debug, Drop)]
+pub enum Job {
+    /// Decide a task after some rounds.
+    Solve {
+        /// How many rounds.
+        rounds: u32,
+        /// How many workers, from 1 to 64. Today it is 1.
+        workers: u32,
+        /// Whether the lines of a refutation are left out. Today they are.
+        verdict: bool,
+    },
+}
+
+/// Why words are no job.
+#[derive(Drop)]
+pub enum WordsFault {
+    /// The words are not those of the command line, or they ask for help: a text to be printed.
+    Clap(clap::Error),
+    /// The words are read but ask for what this program refuses.
+    Words,
+    /// Want of memory.
+    OutOfMemory,
+}
+
+impl From<AllocError> for WordsFault {
+    ghost use Rattle.std.specs.Prelude.{◌≡◌};
+    ghost use Rattle.wf_words.specs.declared.WordsFault.TheVariants.{OutOfMemory};
+
+    ghost from_gives = { λ _ e. e ≡ OutOfMemory };
+
+    fn from(_refused: AllocError) -> WordsFault {
+        WordsFault::OutOfMemory
+    }
+}
+
+fn number<'a>(alloc: Global, name: &'a str, help: &'a str) -> Arg<'a> {
+    Arg::new(alloc, name)
+        .long(name)
+        .help(help)
+        .required(true)
+        .action(ArgAction::Set)
+        .value_parser(value_parser!(u32))
+}
+
+fn solve_command<'a>(alloc: Global) -> Result<Command<'a>, AllocError> {
+    let workers = number(
+        alloc,
+        "workers",
+        "How many workers share the search (1 for now)",
+    )
+    .value_parser(value_parser!(u32).range(1..=64));
+    let verdict = Arg::new(alloc, "verdict")
+        .long("verdict")
+        .help("Leave out the lines of a refutation (wanted for now)")
+        .action(ArgAction::SetTrue);
+    Command::new(alloc, "solve")
+        .about(
+            "Read a task on standard input, and write its least decision map, or that there is none",
+        )
+        .arg(number(alloc, "rounds", "How many rounds of immediate snapshots"))?
+        .arg(workers)?
+        .arg(verdict)
+}
+
+fn whole_command<'a>(alloc: Global) -> Result<Command<'a>, AllocError> {
+    Command::new(alloc, "wfcheck")
+        .about(
+            "Decide whether a task can be solved wait-free in r rounds of iterated immediate snapshots",
+        )
+        .subcommand_required(true)
+        .subcommand(solve_command(alloc)?)
+}
+
+/// The job of `solve`, where it asks for no more than what is there: one worker, and the verdict form.
+fn solve_job(found: &ArgMatches<'_>) -> Option<Job>
+    ensures { IfSome result IsWithinLimits }
 {
-    x
+    let rounds = found.get_one::<u32>("rounds")?;
+    let workers = found.get_one::<u32>("workers")?;
+    let verdict = found.get_flag("verdict");
+    if workers != 1 || !verdict {
+        return None;
+    }
+    Some(Job::Solve {
+        rounds,
+        workers,
+        verdict,
+    })
+}
+
+/// What the words ask for. The first is the program's own name.
+///
+/// A fault of `clap` carries the text to be printed; want of memory is never handed out as one.
+pub fn read_words(alloc: Global, words: &[String]) -> Result<Job, WordsFault>
+    ensures ok { IfOk result IsWithinLimits }
+    ensures err { IfErr result IsClapMistake }
+{
+    let command = whole_command(alloc)?;
+    let found = match command.try_get_matches_from(words) {
+        Ok(found) => found,
+        Err(error) => {
+            if matches!(error.kind(), ErrorKind::OutOfMemory) {
+                return Err(WordsFault::OutOfMemory);
+            }
+            return Err(WordsFault::Clap(error));
+        }
+    };
+    match found.subcommand() {
+        Some(("solve", inner)) => solve_job(inner).ok_or(WordsFault::Words),
+        _ => Err(WordsFault::Words),
+    }
 }
