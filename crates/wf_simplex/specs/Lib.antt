@@ -1,3 +1,4 @@
 pub mod Entries
 pub mod Reading
 pub mod Order
+pub mod WordTable

@@ -6,5 +6,7 @@
 #![tactic(auto)]
 
 pub mod simplex;
+pub mod word;
 
 pub use simplex::{Simplex, SimplexFault};
+pub use word::{Word, word_count};

@@ -1,0 +1,226 @@
+ghost use Rattle.std.specs.Prelude.{◌≡◌, ℕ, ◌+◌, ◌<◌, ◌≤◌, Contains, IsTrue, false, nat_le, length, slice_get, slice_index, Some};
+ghost use Rattle.std.specs.Bool.{OnFalse};
+ghost use Rattle.wf_model.specs.Word.{words};
+ghost use Rattle.wf_simplex.specs.WordTable.{start_of, end_of};
+
+use std::marker::Model;
+
+/// The words of one participant, then of two, of three and of four, each time in order; filled up by zeros.
+static WORDS: [[u8; 4]; 92] = [
+    [0, 0, 0, 0],
+    [0, 0, 0, 0],
+    [0, 1, 0, 0],
+    [1, 0, 0, 0],
+    [0, 0, 0, 0],
+    [0, 0, 1, 0],
+    [0, 1, 0, 0],
+    [0, 1, 1, 0],
+    [0, 1, 2, 0],
+    [0, 2, 1, 0],
+    [1, 0, 0, 0],
+    [1, 0, 1, 0],
+    [1, 0, 2, 0],
+    [1, 1, 0, 0],
+    [1, 2, 0, 0],
+    [2, 0, 1, 0],
+    [2, 1, 0, 0],
+    [0, 0, 0, 0],
+    [0, 0, 0, 1],
+    [0, 0, 1, 0],
+    [0, 0, 1, 1],
+    [0, 0, 1, 2],
+    [0, 0, 2, 1],
+    [0, 1, 0, 0],
+    [0, 1, 0, 1],
+    [0, 1, 0, 2],
+    [0, 1, 1, 0],
+    [0, 1, 1, 1],
+    [0, 1, 1, 2],
+    [0, 1, 2, 0],
+    [0, 1, 2, 1],
+    [0, 1, 2, 2],
+    [0, 1, 2, 3],
+    [0, 1, 3, 2],
+    [0, 2, 0, 1],
+    [0, 2, 1, 0],
+    [0, 2, 1, 1],
+    [0, 2, 1, 2],
+    [0, 2, 1, 3],
+    [0, 2, 2, 1],
+    [0, 2, 3, 1],
+    [0, 3, 1, 2],
+    [0, 3, 2, 1],
+    [1, 0, 0, 0],
+    [1, 0, 0, 1],
+    [1, 0, 0, 2],
+    [1, 0, 1, 0],
+    [1, 0, 1, 1],
+    [1, 0, 1, 2],
+    [1, 0, 2, 0],
+    [1, 0, 2, 1],
+    [1, 0, 2, 2],
+    [1, 0, 2, 3],
+    [1, 0, 3, 2],
+    [1, 1, 0, 0],
+    [1, 1, 0, 1],
+    [1, 1, 0, 2],
+    [1, 1, 1, 0],
+    [1, 1, 2, 0],
+    [1, 2, 0, 0],
+    [1, 2, 0, 1],
+    [1, 2, 0, 2],
+    [1, 2, 0, 3],
+    [1, 2, 1, 0],
+    [1, 2, 2, 0],
+    [1, 2, 3, 0],
+    [1, 3, 0, 2],
+    [1, 3, 2, 0],
+    [2, 0, 0, 1],
+    [2, 0, 1, 0],
+    [2, 0, 1, 1],
+    [2, 0, 1, 2],
+    [2, 0, 1, 3],
+    [2, 0, 2, 1],
+    [2, 0, 3, 1],
+    [2, 1, 0, 0],
+    [2, 1, 0, 1],
+    [2, 1, 0, 2],
+    [2, 1, 0, 3],
+    [2, 1, 1, 0],
+    [2, 1, 2, 0],
+    [2, 1, 3, 0],
+    [2, 2, 0, 1],
+    [2, 2, 1, 0],
+    [2, 3, 0, 1],
+    [2, 3, 1, 0],
+    [3, 0, 1, 2],
+    [3, 0, 2, 1],
+    [3, 1, 0, 2],
+    [3, 1, 2, 0],
+    [3, 2, 0, 1],
+    [3, 2, 1, 0],
+];
+
+/// One immediate snapshot of one to four participants, as an ordered partition of them.
+///
+/// A clause sees it as the list of the numbers of their blocks, by ascending process. With a block each
+/// smaller number is one too. A participant sees those whose block is its own or an earlier one.
+/// The words of a size are ordered as these lists.
+#[derive(Clone, Copy, Debug)]
+pub struct Word {
+    size: u8,
+    // the place in the table
+    index: u8,
+}
+
+impl Model for Word {
+    ghost use Rattle.std.specs.Prelude.{ℕ, List};
+    ghost use Rattle.std.proofs.Common.{ap₂};
+    ghost use Rattle.wf_simplex.specs.WordTable.{word_at, start_of, end_of, size_of, index_of, IsInTable, length-word_at, index_of-word_at};
+
+    ghost Value = { List ℕ };
+
+    ghost view = { λ w. word_at w.size w.index };
+
+    ghost invariant = { λ w. IsInTable w.size w.index };
+
+    ghost inverse = { λ w. record { size = size_of w; index = index_of w } };
+
+    ghost inverse_ok = { λ w h. ap₂ (λ n k. record { size = n; index = k }) (length-word_at w.size w.index h) (index_of-word_at w.size w.index h) };
+}
+
+impl Word {
+    /// The first word of a size: all participants in one block.
+    pub fn first(size: u8) -> Word
+        requires some { 1 ≤ size }
+        requires few { size ≤ 4 }
+        ensures { slice_get (words 1 size) 0 ≡ Some result }
+    {
+        Word {
+            size,
+            index: start(size),
+        }
+    }
+
+    /// Goes on to the next word of the size. At the last word it stays and answers false.
+    pub fn next(&mut self) -> bool
+        ensures size { length self.new ≡ length self.old }
+        ensures next { (k : ℕ) → slice_get (words 1 (length self.old)) k ≡ Some self.old
+            → IsTrue result → slice_get (words 1 (length self.old)) (k + 1) ≡ Some self.new }
+        ensures last { (k : ℕ) → slice_get (words 1 (length self.old)) k ≡ Some self.old
+            → result ≡ false → k + 1 ≡ length (words 1 (length self.old)) }
+        ensures stays { OnFalse result (self.new ≡ self.old) }
+    {
+        let next = self.index + 1;
+        if next == end(self.size) {
+            return false;
+        }
+        self.index = next;
+        true
+    }
+
+    /// How many participants there are.
+    pub fn size(&self) -> u8
+        ensures count { result ≡ length self.now }
+        ensures some { 1 ≤ result }
+        ensures few { result ≤ 4 }
+        ensures word { Contains (words 1 (length self.now)) self.now }
+    {
+        self.size
+    }
+
+    /// The number of the block of a participant.
+    pub fn level(&self, i: u8) -> u8
+        requires { i < length self.now }
+        ensures level { result ≡ slice_index self.now i }
+        ensures small { result < length self.now }
+    {
+        WORDS[self.index as usize][i as usize]
+    }
+
+    /// Whether participant i sees participant j: whether the block of j is that of i or an earlier one.
+    pub fn sees(&self, i: u8, j: u8) -> bool
+        requires i { i < length self.now }
+        requires j { j < length self.now }
+        ensures { result ≡ nat_le (slice_index self.now j) (slice_index self.now i) }
+    {
+        self.level(j) <= self.level(i)
+    }
+}
+
+/// How many words of a size there are.
+pub fn word_count(size: u8) -> u32
+    requires some { 1 ≤ size }
+    requires few { size ≤ 4 }
+    ensures { result ≡ length (words 1 size) }
+{
+    u32::from(end(size)) - u32::from(start(size))
+}
+
+/// Where the words of a size begin in the table.
+fn start(size: u8) -> u8
+    requires some { 1 ≤ size }
+    requires few { size ≤ 4 }
+    ensures { result ≡ start_of size }
+{
+    match size {
+        1 => 0,
+        2 => 1,
+        3 => 4,
+        _ => 17,
+    }
+}
+
+/// Where they end.
+fn end(size: u8) -> u8
+    requires some { 1 ≤ size }
+    requires few { size ≤ 4 }
+    ensures { result ≡ end_of size }
+{
+    match size {
+        1 => 1,
+        2 => 4,
+        3 => 17,
+        _ => 92,
+    }
+}
