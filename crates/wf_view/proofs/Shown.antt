@@ -45,7 +45,7 @@ node_view-seen vs p (a ∷ b ∷ c ∷ []) h k = refl
 node_view-seen vs p (a ∷ b ∷ c ∷ d ∷ []) h k = refl
 node_view-seen vs p (a ∷ b ∷ c ∷ d ∷ e ∷ more) h k = absurd (let none : ⊥ = omega (arith, k) in none)
 
-views_at_front : (vs more : List View) (ids : List ℕ) → AllByRecursion (λ k. k < length vs) ids → map (view_at (vs ++ more)) ids ≡ map (view_at vs) ids
+pub views_at_front : (vs more : List View) (ids : List ℕ) → AllByRecursion (λ k. k < length vs) ids → map (view_at (vs ++ more)) ids ≡ map (view_at vs) ids
 views_at_front vs more [] h = refl
 views_at_front vs more (k ∷ ids) h = λ i. get_or-append vs more (base 0 0) k h.0 i ∷ views_at_front vs more ids h.1 i
 

@@ -1,0 +1,106 @@
+//! One more round of immediate snapshots, on views by their numbers.
+
+ghost use Rattle.std.specs.Prelude.{◌≡◌, ◌<◌, ◌≤◌, ◌+◌, ◌++◌, length, map, take, slice_index, All, IfOk, OnOk};
+ghost use Rattle.wf_model.specs.View.{round};
+ghost use Rattle.wf_model.specs.Word.{words};
+ghost use Rattle.wf_view.specs.Views.{view_at};
+ghost use Rattle.wf_complex.specs.Rounds.{views_at, visible_ids, only_if, Extends, AreViews, leaves, cost};
+
+use std::alloc::AllocError;
+use wf_simplex::{Word, word_count};
+use wf_view::Views;
+
+/// At most four numbers of views.
+#[derive(Clone, Copy)]
+struct Ids {
+    count: usize,
+    ids: [u32; 4],
+}
+
+impl Ids {
+    /// Adds a number at the end, where it is wanted.
+    fn push_if(&mut self, wanted: bool, id: u32)
+        requires { self.old.count < 4 }
+        ensures count { self.new.count ≤ self.old.count + 1 }
+        ensures ids { take self.new.count self.new.ids ≡ take self.old.count self.old.ids ++ only_if wanted id }
+    {
+        if wanted {
+            self.ids[self.count] = id;
+            self.count += 1;
+        }
+    }
+}
+
+/// The numbers of the views that participant i sees.
+fn visible(current: &[u32], word: &Word, i: u8) -> Ids
+    requires long { length current.now ≡ length word.now }
+    requires place { i < length current.now }
+    ensures count { result.count ≤ 4 }
+    ensures ids { take result.count result.ids ≡ visible_ids (slice_index word.now i) word.now current.now }
+{
+    let mut seen = Ids {
+        count: 0,
+        ids: [0; 4],
+    };
+    let size = word.size();
+    for j in 0..size {
+        seen.push_if(word.sees(i, j), current[j as usize]);
+    }
+    seen
+}
+
+/// The numbers of the views after one more round, by ascending process. Views that are new get the next numbers.
+///
+/// Refused for want of memory; the views so far keep their numbers.
+fn next_views(views: &mut Views, current: &[u32], word: &Word) -> Result<[u32; 4], AllocError>
+    requires long { length current.now ≡ length word.now }
+    requires views { AreViews views.old current.now }
+    requires room { length views.old + 4 ≤ 4294967295 }
+    ensures extends { Extends views.old views.new }
+    ensures few { length views.new ≤ length views.old + length current.now }
+    ensures views { IfOk result (λ ids. AreViews views.new (take (length current.now) ids)
+        × (views_at views.new (take (length current.now) ids) ≡ round (views_at views.old current.now) word.now)) }
+{
+    let mut next = [0u32; 4];
+    for i in 0..word.size() {
+        let seen = visible(current, word, i);
+        let process = views.colour(current[i as usize]);
+        next[i as usize] = views.seen(process, &seen.ids[..seen.count])?;
+    }
+    Ok(next)
+}
+
+/// Adds the views after all rounds, execution by execution, to the last views of those before.
+///
+/// Refused for want of memory; the views so far keep their numbers.
+fn walk(
+    views: &mut Views,
+    lasts: &mut Vec<u32>,
+    current: &[u32],
+    rounds: u32,
+) -> Result<(), AllocError>
+    requires some { 1 ≤ length current.now }
+    requires few { length current.now ≤ 4 }
+    requires views { AreViews views.old current.now }
+    requires lasts { All (λ k. k < length views.old) lasts.old.items }
+    requires room { length views.old + cost (length current.now) rounds ≤ 4294967291 }
+    ensures extends { Extends views.old views.new }
+    ensures added { length views.new ≤ length views.old + cost (length current.now) rounds }
+    ensures within { OnOk result (All (λ k. k < length views.new) lasts.new.items) }
+    ensures made { OnOk result (views_at views.new lasts.new.items
+        ≡ views_at views.old lasts.old.items
+        ++ leaves (words 1 (length current.now)) rounds (views_at views.old current.now)) }
+{
+    if rounds == 0 {
+        lasts.extend_from_slice(current)?;
+        return Ok(());
+    }
+    let size = current.len();
+    let mut word = Word::first(size as u8);
+    for turn in 0..word_count(size as u8) {
+        let next = next_views(views, current, &word)?;
+        walk(views, lasts, &next[..size], rounds - 1)?;
+        word.next();
+    }
+    Ok(())
+}
