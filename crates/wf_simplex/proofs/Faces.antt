@@ -15,7 +15,7 @@ has_cons x t (p ∷ ps) (inl e) = inl (ap (λ rest. x ∷ rest) e)
 has_cons x t (p ∷ ps) (inr h) = inr (has_cons x t ps h)
 
 -- what stands in a list of lists that begin with x begins with it
-begins : {X : Type 0} (x : X) (t : List X) (ps : List (List X)) → Has t (map (λ rest. x ∷ rest) ps) → (rest : List X) × (x ∷ rest ≡ t) × Has rest ps
+pub begins : {X : Type 0} (x : X) (t : List X) (ps : List (List X)) → Has t (map (λ rest. x ∷ rest) ps) → (rest : List X) × (x ∷ rest ≡ t) × Has rest ps
 begins x t [] h = absurd h
 begins x t (p ∷ ps) (inl e) = (p, e, inl refl)
 begins x t (p ∷ ps) (inr h) = let b = begins x t ps h in (b.0, b.1, inr b.2)
@@ -30,13 +30,15 @@ part_of_part [] t u (inl e) h = subst (λ w. Has u (parts_of w)) (sym e) h
 part_of_part [] t u (inr g) h = absurd g
 part_of_part {X} (x ∷ s) t u g h =
     elim (has-append t (map (λ rest. x ∷ rest) (parts_of s)) (parts_of s) g) [
-      inl here ↦ (let b = begins x t (parts_of s) here in
-        elim (has-append u (map (λ rest. x ∷ rest) (parts_of b.0)) (parts_of b.0) (subst (λ w. Has u (parts_of w)) (sym b.1) h)) [
-          inl there ↦ (let d = begins x u (parts_of b.0) there in
-            has-append_left u (map (λ rest. x ∷ rest) (parts_of s)) (parts_of s)
-              (subst (λ w. Has w (map (λ rest. x ∷ rest) (parts_of s))) d.1 (has_cons x d.0 (parts_of s) (part_of_part s b.0 d.0 b.2 d.2))))
-        | inr there ↦ has-append_right u (map (λ rest. x ∷ rest) (parts_of s)) (parts_of s) (part_of_part s b.0 u b.2 there) ])
-    | inr here ↦ has-append_right u (map (λ rest. x ∷ rest) (parts_of s)) (parts_of s) (part_of_part s t u here h) ]
+      | inl here ↦ (let b = begins x t (parts_of s) here in
+          elim (has-append u (map (λ rest. x ∷ rest) (parts_of b.0)) (parts_of b.0) (subst (λ w. Has u (parts_of w)) (sym b.1) h)) [
+            | inl there ↦ (let d = begins x u (parts_of b.0) there in
+                has-append_left u (map (λ rest. x ∷ rest) (parts_of s)) (parts_of s)
+                (subst (λ w. Has w (map (λ rest. x ∷ rest) (parts_of s))) d.1 (has_cons x d.0 (parts_of s) (part_of_part s b.0 d.0 b.2 d.2))))
+            | inr there ↦ has-append_right u (map (λ rest. x ∷ rest) (parts_of s)) (parts_of s) (part_of_part s b.0 u b.2 there)
+          ])
+      | inr here ↦ has-append_right u (map (λ rest. x ∷ rest) (parts_of s)) (parts_of s) (part_of_part s t u here h)
+    ]
 
 -- ---- what passes a test
 
@@ -63,8 +65,9 @@ pub has-flat_map : {X Y : Type 0} (f : X → List Y) (y : Y) (xs : List X) → H
 has-flat_map f y [] h = absurd h
 has-flat_map f y (x ∷ xs) h =
     elim (has-append y (f x) (flat_map f xs) h) [
-      inl g ↦ (x, inl refl, g)
-    | inr g ↦ (let r = has-flat_map f y xs g in (r.0, inr r.1, r.2)) ]
+      | inl g ↦ (x, inl refl, g)
+      | inr g ↦ (let r = has-flat_map f y xs g in (r.0, inr r.1, r.2))
+    ]
 
 pub flat_map-has : {X Y : Type 0} (f : X → List Y) (y : Y) (x : X) (xs : List X) → Has x xs → Has y (f x) → Has y (flat_map f xs)
 flat_map-has f y x [] h g = absurd h
@@ -105,32 +108,35 @@ complex_of-sorted facets = sorted-in_order simplex_cmp simplex_cmp-total simplex
 pub complex_of-complex_of : (facets : List Simplex) → complex_of (complex_of facets) ≡ complex_of facets
 complex_of-complex_of facets =
     same_in_order simplex_cmp simplex_cmp-total simplex_cmp-Equal (complex_of (complex_of facets)) (complex_of facets)
-      (complex_of-sorted (complex_of facets)) (complex_of-sorted facets)
-      (λ t h. (let g = of_some_facet t (complex_of facets) h in complex_closed g.0 t facets g.1 g.2))
-      (λ t h. (let g = of_some_facet t facets h in is_in_complex t t (complex_of facets) h (face_of_itself t (nonempty_face g.0 t g.2))))
+    (complex_of-sorted (complex_of facets)) (complex_of-sorted facets)
+    (λ t h. (let g = of_some_facet t (complex_of facets) h in complex_closed g.0 t facets g.1 g.2))
+    (λ t h. (let g = of_some_facet t facets h in is_in_complex t t (complex_of facets) h (face_of_itself t (nonempty_face g.0 t g.2))))
 
 -- a facet that is there already changes nothing
 pub complex_of-again : (facets : List Simplex) (f : Simplex) → Has f (complex_of facets) → complex_of (facets ++ (f ∷ [])) ≡ complex_of facets
 complex_of-again facets f here =
     same_in_order simplex_cmp simplex_cmp-total simplex_cmp-Equal (complex_of (facets ++ (f ∷ []))) (complex_of facets)
-      (complex_of-sorted (facets ++ (f ∷ []))) (complex_of-sorted facets)
-      (λ t h. (let g = of_some_facet t (facets ++ (f ∷ [])) h in
-        elim (has-append g.0 facets (f ∷ []) g.1) [
-          inl old ↦ is_in_complex t g.0 facets old g.2
-        | inr new ↦ elim new [ inl e ↦ complex_closed f t facets here (subst (λ w. Has t (faces_of w)) (sym e) g.2) | inr none ↦ absurd none ] ]))
-      (λ t h. (let g = of_some_facet t facets h in is_in_complex t g.0 (facets ++ (f ∷ [])) (has-append_left g.0 facets (f ∷ []) g.1) g.2))
+    (complex_of-sorted (facets ++ (f ∷ []))) (complex_of-sorted facets)
+    (λ t h. (let g = of_some_facet t (facets ++ (f ∷ [])) h in
+    elim (has-append g.0 facets (f ∷ []) g.1) [
+      | inl old ↦ is_in_complex t g.0 facets old g.2
+      | inr new ↦ elim new [ inl e ↦ complex_closed f t facets here (subst (λ w. Has t (faces_of w)) (sym e) g.2) | inr none ↦ absurd none ]
+    ]))
+    (λ t h. (let g = of_some_facet t facets h in is_in_complex t g.0 (facets ++ (f ∷ [])) (has-append_left g.0 facets (f ∷ []) g.1) g.2))
 
 -- one more facet
 pub complex_of-more : (facets : List Simplex) (f : Simplex) → in_order simplex_cmp (faces_of f ++ flat_map faces_of facets) ≡ complex_of (facets ++ (f ∷ []))
 complex_of-more facets f =
     in_order-same simplex_cmp simplex_cmp-total simplex_cmp-Equal (faces_of f ++ flat_map faces_of facets) (flat_map faces_of (facets ++ (f ∷ [])))
-      (λ t h. elim (has-append t (faces_of f) (flat_map faces_of facets) h) [
-          inl new ↦ flat_map-has faces_of t f (facets ++ (f ∷ [])) (has-append_right f facets (f ∷ []) (inl refl)) new
-        | inr old ↦ (let g = has-flat_map faces_of t facets old in flat_map-has faces_of t g.0 (facets ++ (f ∷ [])) (has-append_left g.0 facets (f ∷ []) g.1) g.2) ])
-      (λ t h. (let g = has-flat_map faces_of t (facets ++ (f ∷ [])) h in
-        elim (has-append g.0 facets (f ∷ []) g.1) [
-          inl old ↦ has-append_right t (faces_of f) (flat_map faces_of facets) (flat_map-has faces_of t g.0 facets old g.2)
-        | inr new ↦ elim new [ inl e ↦ has-append_left t (faces_of f) (flat_map faces_of facets) (subst (λ w. Has t (faces_of w)) (sym e) g.2) | inr none ↦ absurd none ] ]))
+    (λ t h. elim (has-append t (faces_of f) (flat_map faces_of facets) h) [
+      | inl new ↦ flat_map-has faces_of t f (facets ++ (f ∷ [])) (has-append_right f facets (f ∷ []) (inl refl)) new
+      | inr old ↦ (let g = has-flat_map faces_of t facets old in flat_map-has faces_of t g.0 (facets ++ (f ∷ [])) (has-append_left g.0 facets (f ∷ []) g.1) g.2)
+    ])
+    (λ t h. (let g = has-flat_map faces_of t (facets ++ (f ∷ [])) h in
+    elim (has-append g.0 facets (f ∷ []) g.1) [
+      | inl old ↦ has-append_right t (faces_of f) (flat_map faces_of facets) (flat_map-has faces_of t g.0 facets old g.2)
+      | inr new ↦ elim new [ inl e ↦ has-append_left t (faces_of f) (flat_map faces_of facets) (subst (λ w. Has t (faces_of w)) (sym e) g.2) | inr none ↦ absurd none ]
+    ]))
 
 -- ---- how many
 

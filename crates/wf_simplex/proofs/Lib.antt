@@ -3,3 +3,7 @@ pub mod Reading
 pub mod Words
 pub mod Orders
 pub mod Faces
+pub mod SmallTables
+pub mod Search
+pub mod Within
+pub mod FromFacets

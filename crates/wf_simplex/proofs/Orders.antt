@@ -7,17 +7,13 @@ use Rattle.std.specs.Cmp.{IsTotalOrder, tied_itself}
 use Rattle.std.specs.List.{AllByRecursion}
 use Rattle.std.specs.List.Sorted.{IsStrictlySortedBy}
 use Rattle.std.specs.BTreeSet.{insert_key}
+use Rattle.wf_simplex.specs.Faces.{with_all}
 use Rattle.wf_model.specs.Lists.{with_element, in_order}
 
 -- x is one of the elements, by recursion
 abbrev pub Has : {X : Type 0} → X → List X → Type 0
 Has x [] = ⊥
 Has x (y ∷ ys) = (y ≡ x) ⊎ Has x ys
-
--- the elements of the one put into the other, the last first
-abbrev pub with_all : {X : Type 0} → (X → X → Ordering) → List X → List X → List X
-with_all cmp [] ys = ys
-with_all cmp (x ∷ xs) ys = with_element cmp x (with_all cmp xs ys)
 
 pub with_all-append : {X : Type 0} (cmp : X → X → Ordering) (xs ys zs : List X) → with_all cmp (xs ++ ys) zs ≡ with_all cmp xs (with_all cmp ys zs)
 with_all-append cmp [] ys zs = refl
@@ -174,8 +170,8 @@ module _ {X : Type 0} (cmp : X → X → Ordering) (o : IsTotalOrder cmp) (same 
   same_in_order (x ∷ xs) (y ∷ ys) h g f b =
       let e : x ≡ y = first_is x y xs ys h.0 g.0 (f x (inl refl)) (b y (inl refl)) in
       let rest = same_in_order xs ys h.1 g.1
-        (λ z here. rest_has x z xs ys h.0 here (subst (λ w. Has z (w ∷ ys)) (sym e) (f z (inr here))))
-        (λ z here. rest_has y z ys xs g.0 here (subst (λ w. Has z (w ∷ xs)) e (b z (inr here)))) in
+      (λ z here. rest_has x z xs ys h.0 here (subst (λ w. Has z (w ∷ ys)) (sym e) (f z (inr here))))
+      (λ z here. rest_has y z ys xs g.0 here (subst (λ w. Has z (w ∷ xs)) e (b z (inr here)))) in
       λ i. e i ∷ rest i
 
   -- what is in order stays
@@ -189,4 +185,4 @@ module _ {X : Type 0} (cmp : X → X → Ordering) (o : IsTotalOrder cmp) (same 
   pub in_order-same : (xs ys : List X) → ((z : X) → Has z xs → Has z ys) → ((z : X) → Has z ys → Has z xs) → in_order cmp xs ≡ in_order cmp ys
   in_order-same xs ys f b =
       same_in_order (in_order cmp xs) (in_order cmp ys) (sorted-in_order xs) (sorted-in_order ys)
-        (λ z h. in_order-has z ys (f z (has-in_order z xs h))) (λ z h. in_order-has z xs (b z (has-in_order z ys h)))
+      (λ z h. in_order-has z ys (f z (has-in_order z xs h))) (λ z h. in_order-has z xs (b z (has-in_order z ys h)))

@@ -32,12 +32,12 @@ skipped es i h k = rw (at_place es i h) (by (slice_index_or es i None) k)
     by None k = refl
     by (Some x) k = cc
 
-pub kept : (es : List (Option ℕ)) (i : ℕ) → i < length es → is_some (slice_index_or es i None) ≡ true → (x : ℕ) × (vertices_from i (drop i es) ≡ (i, x) ∷ vertices_from (i + 1) (drop (i + 1) es))
+pub kept : (es : List (Option ℕ)) (i : ℕ) → i < length es → is_some (slice_index_or es i None) ≡ true → (x : ℕ) × (slice_index_or es i None ≡ Some x) × (vertices_from i (drop i es) ≡ (i, x) ∷ vertices_from (i + 1) (drop (i + 1) es))
 kept es i h k = rw (at_place es i h) (by (slice_index_or es i None) k)
   where
-    by : (e : Option ℕ) → is_some e ≡ true → (x : ℕ) × (vertices_from i (e ∷ drop (i + 1) es) ≡ (i, x) ∷ vertices_from (i + 1) (drop (i + 1) es))
+    by : (e : Option ℕ) → is_some e ≡ true → (x : ℕ) × (e ≡ Some x) × (vertices_from i (e ∷ drop (i + 1) es) ≡ (i, x) ∷ vertices_from (i + 1) (drop (i + 1) es))
     by None k = cc
-    by (Some x) k = (x, refl)
+    by (Some x) k = (x, refl, refl)
 
 -- ---- one more vertex
 

@@ -42,7 +42,7 @@ get_words_of n k some few h =
     let shorter : k < length (take (end_of n - start_of n) whole) = omega (arith, inside, length-map (take (end_of n - start_of n) whole) (take n)) in
     slice_get-get_or (words_of n) k [] inside
     ∙ ap Some (get_or-map (take n) (take (end_of n - start_of n) whole) k [] [] shorter
-      ∙ ap (take n) (get_or-take (end_of n - start_of n) whole k [] h ∙ get_or-drop (start_of n) WORDS k []))
+    ∙ ap (take n) (get_or-take (end_of n - start_of n) whole k [] h ∙ get_or-drop (start_of n) WORDS k []))
 
 pub get_word : (n index : ℕ) → IsInTable n index → slice_get (words 1 n) (index - start_of n) ≡ Some (word_at n index)
 get_word n index h =

@@ -2,3 +2,4 @@ pub mod Entries
 pub mod Reading
 pub mod Order
 pub mod WordTable
+pub mod Faces

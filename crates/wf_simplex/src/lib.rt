@@ -5,8 +5,10 @@
 //! - [`Word`]: one immediate snapshot as an ordered partition of its participants.
 #![tactic(auto)]
 
+pub mod complex;
 pub mod simplex;
 pub mod word;
 
+pub use complex::Complex;
 pub use simplex::{Simplex, SimplexFault};
 pub use word::{Word, word_count};

@@ -1,11 +1,14 @@
-ghost use Rattle.std.specs.Prelude.{◌≡◌, ℕ, ◌<◌, ◌≤◌, ◌&&◌, Bool, List, [], ◌∷◌, length, None, Some, MatchResult, slice_index, map};
+ghost use Rattle.std.specs.Prelude.{◌≡◌, ℕ, ◌<◌, ◌≤◌, ◌&&◌, Bool, List, [], ◌∷◌, length, None, Some, MatchResult, OnOk, slice_index, slice_index_or, drop, map};
 ghost use Rattle.std.specs.Ordering.{ordering_then};
-ghost use Rattle.wf_model.specs.Simplex.{processes_of, is_face, simplex_cmp};
+ghost use Rattle.wf_model.specs.Simplex.{processes_of, faces_of, is_face, simplex_cmp};
 ghost use Rattle.wf_model.specs.Task.{IsSimplexWithin};
-ghost use Rattle.wf_simplex.specs.Entries.{value_at, entry_cmp, is_within, ascends_from};
+ghost use Rattle.wf_simplex.specs.Faces.{with_all, faces_with, AreSmall};
+ghost use Rattle.wf_simplex.specs.Entries.{vertices_from, value_at, entry_cmp, is_within, ascends_from};
 ghost use Rattle.wf_simplex.specs.Reading.{has_large, read_fault};
 
+use std::alloc::AllocError;
 use std::cmp::Ordering;
+use std::collections::BTreeSet;
 use std::fmt;
 use std::marker::Model;
 
@@ -85,13 +88,11 @@ impl Simplex {
     /// How many processes take part.
     pub fn colours(&self) -> u8
         ensures count { result ≡ length self.now }
+        ensures some { 1 ≤ result }
+        ensures few { result ≤ 4 }
         ensures simplex { IsSimplexWithin 4 63 self.now }
     {
-        let [a, b, c, d] = self.values;
-        u8::from(a.is_some())
-            + u8::from(b.is_some())
-            + u8::from(c.is_some())
-            + u8::from(d.is_some())
+        count(self.values)
     }
 
     /// The process at a place, the processes ascending.
@@ -130,6 +131,52 @@ impl Simplex {
         let [e, f, g, h] = other.values;
         is_within(a, e) & is_within(b, f) & is_within(c, g) & is_within(d, h)
     }
+
+    /// Adds all faces.
+    pub(crate) fn add_faces(&self, faces: &mut BTreeSet<Simplex>) -> Result<(), AllocError>
+        ensures added { OnOk result (faces.new.keys ≡ with_all simplex_cmp (faces_of self.now) faces.old.keys) }
+        ensures simplex { IsSimplexWithin 4 63 self.now }
+        ensures few { length self.now ≤ 4 }
+    {
+        add_faces(faces, self.values, [None; 4], 0)
+    }
+}
+
+/// How many entries are there.
+fn count(values: [Option<u8>; 4]) -> u8
+    ensures { result ≡ length (vertices_from 0 values) }
+{
+    let [a, b, c, d] = values;
+    u8::from(a.is_some()) + u8::from(b.is_some()) + u8::from(c.is_some()) + u8::from(d.is_some())
+}
+
+/// Adds the faces that have the chosen entries, and of the others some of the facet's.
+fn add_faces(
+    faces: &mut BTreeSet<Simplex>,
+    facet: [Option<u8>; 4],
+    chosen: [Option<u8>; 4],
+    from: usize,
+) -> Result<(), AllocError>
+    requires place { from ≤ 4 }
+    requires blank { (k : ℕ) → from ≤ k → slice_index_or chosen k None ≡ None }
+    requires small { AreSmall chosen }
+    requires small_facet { AreSmall facet }
+    ensures { OnOk result (faces.new.keys ≡ with_all simplex_cmp
+        (faces_with (vertices_from 0 chosen) (vertices_from from (drop from facet))) faces.old.keys) }
+{
+    if from == 4 {
+        if count(chosen) > 0 {
+            faces.insert(Simplex { values: chosen })?;
+        }
+        return Ok(());
+    }
+    add_faces(faces, facet, chosen, from + 1)?;
+    if facet[from].is_some() {
+        let mut longer = chosen;
+        longer[from] = facet[from];
+        add_faces(faces, facet, longer, from + 1)?;
+    }
+    Ok(())
 }
 
 /// Whether some value is above 63.

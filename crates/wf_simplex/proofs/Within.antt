@@ -1,0 +1,132 @@
+-- The faces of a simplex within some bounds are within them.
+use Rattle.std.proofs.Common.{◌≡◌, ℕ, zero, suc, ◌+◌, ◌<◌, ◌≤◌, Bool, true, false, ◌&&◌, nat_lt, List, [], ◌∷◌, ◌++◌, length, map, All, ◌⊎◌, inl, inr, refl, sym, ap, ◌∙◌, subst, arith, ltb-true, lt-ltb}
+use Rattle.std.specs.declared.cmp.Ordering.{Ordering}
+use Rattle.std.specs.declared.cmp.Ordering.TheVariants.{Less, Equal, Greater}
+use Rattle.std.specs.Ordering.{match_ordering}
+use Rattle.std.specs.List.{AllByRecursion}
+use Rattle.std.proofs.lemmas.List.Elements.{All-nil, All-cons, All-head, All-tail, All-from_recursion, recursion_from_All, All-contains}
+use Rattle.wf_model.specs.Lists.{with_element}
+use Rattle.wf_model.specs.Simplex.{Vertex, Simplex, processes_of, values_of, is_ascending, is_nonempty, is_simplex, parts_of, faces_of, simplex_cmp, complex_of}
+use Rattle.wf_model.specs.Task.{IsSimplexWithin}
+use Rattle.wf_simplex.specs.Faces.{with_all}
+use Rattle.wf_simplex.specs.Order.{simplex_cmp-total, simplex_cmp-Equal}
+use Rattle.wf_simplex.proofs.Orders.{Has, has-append, has-in_order, has_from_place, length-with_element}
+use Rattle.wf_simplex.proofs.Faces.{has-filter, of_some_facet, begins, length-faces_of}
+use Rattle.wf_simplex.proofs.Reading.{and_both, and_first, and_second}
+
+-- processes from m on, below n and ascending, with values of at most the largest
+Climbs : ℕ → ℕ → ℕ → Simplex → Type 0
+Climbs n largest m [] = Unit {0}
+Climbs n largest m (v ∷ s) = (m ≤ v.0) × (v.0 < n) × (v.1 ≤ largest) × Climbs n largest (v.0 + 1) s
+
+climbs_lower : (n largest m k : ℕ) (s : Simplex) → k ≤ m → Climbs n largest m s → Climbs n largest k s
+unfolding Climbs
+climbs_lower n largest m k [] low h = tt
+climbs_lower n largest m k (v ∷ s) low h = let first : k ≤ v.0 = omega (arith, h.0, low) in (first, h.1, h.2, h.3)
+
+climbs_part : (n largest m : ℕ) (s t : Simplex) → Climbs n largest m s → Has t (parts_of s) → Climbs n largest m t
+unfolding Climbs
+climbs_part n largest m [] t h (inl e) = subst (Climbs n largest m) e tt
+climbs_part n largest m [] t h (inr none) = absurd none
+climbs_part n largest m (v ∷ s) t h here =
+    elim (has-append t (map (λ rest. v ∷ rest) (parts_of s)) (parts_of s) here) [
+      | inl with ↦ (let b = begins v t (parts_of s) with in
+          subst (Climbs n largest m) b.1 (h.0, h.1, h.2, climbs_part n largest (v.0 + 1) s b.0 h.3 b.2))
+      | inr without ↦ climbs_lower n largest (v.0 + 1) m t (omega (arith, h.0)) (climbs_part n largest (v.0 + 1) s t h.3 without)
+    ]
+
+climbs_processes : (n largest m : ℕ) (s : Simplex) → Climbs n largest m s → All (λ p. p < n) (processes_of s)
+unfolding Climbs
+climbs_processes n largest m [] h = All-nil (λ p. p < n)
+climbs_processes n largest m (v ∷ s) h = All-cons (λ p. p < n) v.0 (processes_of s) h.1 (climbs_processes n largest (v.0 + 1) s h.3)
+
+climbs_values : (n largest m : ℕ) (s : Simplex) → Climbs n largest m s → All (λ x. x ≤ largest) (values_of s)
+unfolding Climbs
+climbs_values n largest m [] h = All-nil (λ x. x ≤ largest)
+climbs_values n largest m (v ∷ s) h = All-cons (λ x. x ≤ largest) v.1 (values_of s) h.2 (climbs_values n largest (v.0 + 1) s h.3)
+
+climbs_ascend : (n largest m : ℕ) (s : Simplex) → Climbs n largest m s → is_ascending (processes_of s) ≡ true
+unfolding Climbs
+climbs_ascend n largest m [] h = refl
+climbs_ascend n largest m (v ∷ []) h = refl
+climbs_ascend n largest m (v ∷ w ∷ s) h =
+    and_both (nat_lt v.0 w.0) (is_ascending (processes_of (w ∷ s))) (lt-ltb v.0 w.0 (omega (arith, h.3.0))) (climbs_ascend n largest (v.0 + 1) (w ∷ s) h.3)
+
+climbs_within : (n largest : ℕ) (s : Simplex) → is_nonempty s ≡ true → Climbs n largest 0 s → IsSimplexWithin n largest s
+climbs_within n largest s some h = record {
+  is_simplex = and_both (is_nonempty s) (is_ascending (processes_of s)) some (climbs_ascend n largest 0 s h);
+  processes = climbs_processes n largest 0 s h;
+  values = climbs_values n largest 0 s h;
+}
+
+above : (m p : ℕ) (ps : List ℕ) → m ≤ p → is_ascending (p ∷ ps) ≡ true → AllByRecursion (λ q. m + 1 ≤ q) ps
+above m p [] low h = tt
+above m p (q ∷ ps) low h =
+    let first : m + 1 ≤ q = omega (arith, ltb-true p q (and_first (nat_lt p q) (is_ascending (q ∷ ps)) h)) in
+    (first, above m q ps (omega arith) (and_second (nat_lt p q) (is_ascending (q ∷ ps)) h))
+
+climbs_from : (n largest m : ℕ) (s : Simplex) → is_ascending (processes_of s) ≡ true → All (λ p. p < n) (processes_of s) → All (λ x. x ≤ largest) (values_of s) → All (λ p. m ≤ p) (processes_of s) → Climbs n largest m s
+unfolding Climbs
+climbs_from n largest m [] up below small low = tt
+climbs_from n largest m (v ∷ s) up below small low = (
+  All-head (λ p. m ≤ p) v.0 (processes_of s) low,
+  All-head (λ p. p < n) v.0 (processes_of s) below,
+  All-head (λ x. x ≤ largest) v.1 (values_of s) small,
+  climbs_from n largest (v.0 + 1) s (rest_ascends v.0 (processes_of s) up) (All-tail (λ p. p < n) v.0 (processes_of s) below) (All-tail (λ x. x ≤ largest) v.1 (values_of s) small) (rest_above v.0 (processes_of s) up),
+)
+  where
+    rest_ascends : (p : ℕ) (ps : List ℕ) → is_ascending (p ∷ ps) ≡ true → is_ascending ps ≡ true
+    rest_ascends p [] h = refl
+    rest_ascends p (q ∷ ps) h = and_second (nat_lt p q) (is_ascending (q ∷ ps)) h
+
+    rest_above : (p : ℕ) (ps : List ℕ) → is_ascending (p ∷ ps) ≡ true → All (λ q. p + 1 ≤ q) ps
+    rest_above p ps h = All-from_recursion (λ q. p + 1 ≤ q) ps (above p p ps (omega arith) h)
+
+all_from_none : (s : Simplex) → All (λ p. 0 ≤ p) (processes_of s)
+all_from_none s = λ k d h. omega arith
+
+climbs : (n largest : ℕ) (s : Simplex) → IsSimplexWithin n largest s → Climbs n largest 0 s
+climbs n largest s h = climbs_from n largest 0 s (and_second (is_nonempty s) (is_ascending (processes_of s)) h.is_simplex) h.processes h.values (all_from_none s)
+
+-- a face of a simplex within some bounds is within them
+pub face_within : (n largest : ℕ) (s t : Simplex) → IsSimplexWithin n largest s → Has t (faces_of s) → IsSimplexWithin n largest t
+face_within n largest s t h here =
+    let part = has-filter is_nonempty t (parts_of s) here in
+    climbs_within n largest t part.1 (climbs_part n largest 0 s t (climbs n largest s h) part.0)
+
+pub all_of_has : {X : Type 0} (P : X → Type 0) (xs : List X) → ((x : X) → Has x xs → P x) → All P xs
+all_of_has P [] h = All-nil P
+all_of_has P (x ∷ xs) h = All-cons P x xs (h x (inl refl)) (all_of_has P xs (λ y g. h y (inr g)))
+
+pub has_of_all : {X : Type 0} (P : X → Type 0) (x : X) (xs : List X) → All P xs → Has x xs → P x
+has_of_all P x [] h g = absurd g
+has_of_all P x (y ∷ xs) h (inl e) = subst P e (All-head P y xs h)
+has_of_all P x (y ∷ xs) h (inr g) = has_of_all P x xs (All-tail P y xs h) g
+
+-- the complex of facets within some bounds is within them
+pub complex_within : (n largest : ℕ) (facets : List Simplex) → All (IsSimplexWithin n largest) facets → All (IsSimplexWithin n largest) (complex_of facets)
+complex_within n largest facets h =
+    all_of_has (IsSimplexWithin n largest) (complex_of facets)
+    (λ t here. (let f = of_some_facet t facets here in face_within n largest f.0 t (has_of_all (IsSimplexWithin n largest) f.0 facets h f.1) f.2))
+
+pub faces_within : (n largest : ℕ) (s : Simplex) → IsSimplexWithin n largest s → All (IsSimplexWithin n largest) (faces_of s)
+faces_within n largest s h = all_of_has (IsSimplexWithin n largest) (faces_of s) (λ t here. face_within n largest s t h here)
+
+-- ---- one list put into another
+
+pub all-with_all : {X : Type 0} (cmp : X → X → Ordering) (P : X → Type 0) (xs ys : List X) → All P xs → All P ys → All P (with_all cmp xs ys)
+all-with_all cmp P [] ys h g = g
+all-with_all cmp P (x ∷ xs) ys h g = all-with_element cmp P x (with_all cmp xs ys) (All-head P x xs h) (all-with_all cmp P xs ys (All-tail P x xs h) g)
+  where
+    all-with_element : {X : Type 0} (cmp : X → X → Ordering) (P : X → Type 0) (x : X) (ys : List X) → P x → All P ys → All P (with_element cmp x ys)
+    all-with_element cmp P x [] h g = All-cons P x [] h g
+    all-with_element {X = X} cmp P x (y ∷ ys) h g = by (all-with_element cmp P x ys h (All-tail P y ys g)) (cmp x y)
+      where
+        by : All P (with_element cmp x ys) → (o : Ordering) → All P (match_ordering o (x ∷ y ∷ ys) (y ∷ ys) (y ∷ with_element cmp x ys))
+        by deeper Less = All-cons P x (y ∷ ys) h g
+        by deeper Equal = g
+        by deeper Greater = All-cons P y (with_element cmp x ys) (All-head P y ys g) deeper
+
+pub length-with_all : {X : Type 0} (cmp : X → X → Ordering) (xs ys : List X) → length (with_all cmp xs ys) ≤ length xs + length ys
+length-with_all cmp [] ys = omega arith
+length-with_all cmp (x ∷ xs) ys = omega (arith, length-with_element cmp x (with_all cmp xs ys), length-with_all cmp xs ys)

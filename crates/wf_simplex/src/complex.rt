@@ -1,0 +1,70 @@
+ghost use Rattle.std.specs.Prelude.{◌≡◌, ◌<◌, ◌≤◌, ◌↔◌, IfOk, IfSome, OnOk, IsTrue, IsNone, Contains, length, slice_get, Some};
+ghost use Rattle.wf_model.specs.Simplex.{complex_of};
+ghost use Rattle.wf_simplex.specs.Faces.{IsComplex};
+
+use crate::simplex::Simplex;
+use std::alloc::{AllocError, Global};
+use std::collections::BTreeSet;
+use std::marker::Model;
+
+/// Simplices with all their faces, in order, each once.
+///
+/// A clause sees it as the list of its simplices.
+#[derive(Drop)]
+pub struct Complex {
+    simplices: Vec<Simplex>,
+}
+
+impl Model for Complex {
+    ghost use Rattle.std.specs.Prelude.{ℕ, List};
+    ghost use Rattle.wf_simplex.specs.Faces.{IsComplex};
+
+    ghost Value = { List (List (ℕ × ℕ)) };
+
+    ghost view = { λ c. c.simplices.items };
+
+    ghost invariant = { λ c. IsComplex c.simplices.items };
+}
+
+impl Complex {
+    /// The faces of these simplices. It takes n log n steps, and memory for twice the different faces.
+    pub fn from_facets(alloc: Global, facets: &[Simplex]) -> Result<Complex, AllocError>
+        requires { length facets.now ≤ 16777216 }
+        ensures { IfOk result (λ c. c ≡ complex_of facets.now) }
+    {
+        let mut faces = BTreeSet::new(alloc);
+        for facet in facets {
+            if !faces.contains(facet) {
+                facet.add_faces(&mut faces)?;
+            }
+        }
+        let simplices = faces.into_iter().collect(alloc)?;
+        Ok(Complex { simplices })
+    }
+
+    /// Whether the simplex is one of the complex.
+    pub fn contains(&self, simplex: &Simplex) -> bool
+        ensures { IsTrue result ↔ Contains self.now simplex.now }
+    {
+        self.index(simplex).is_some()
+    }
+
+    /// The simplices, in order.
+    pub fn simplices(&self) -> &[Simplex]
+        ensures simplices { result.now ≡ self.now }
+        ensures complex { IsComplex self.now }
+    {
+        &self.simplices
+    }
+
+    /// The place of a simplex, if it is one of the complex; by binary search.
+    pub fn index(&self, simplex: &Simplex) -> Option<u32>
+        ensures place { IfSome result (λ i. slice_get self.now i ≡ Some simplex.now) }
+        ensures absent { IsNone result → Contains self.now simplex.now → ⊥ }
+    {
+        match self.simplices.binary_search(simplex) {
+            Ok(place) => Some(place as u32),
+            Err(_) => None,
+        }
+    }
+}
