@@ -1,2 +1,3 @@
 pub mod RoundLemmas
 pub mod WalkLemmas
+pub mod InputLemmas

@@ -114,6 +114,36 @@ views_push : (table : List View) (xs : List ℕ) (x : ℕ) → views_at table (x
 views_push table [] x = refl
 views_push table (y ∷ xs) x = ap (λ vs. view_at table y ∷ vs) (views_push table xs x)
 
+-- ---- views that are numbered one after another
+
+-- the views made so far and one more are the first ones that are wanted
+pub record IsFurther (old now : List View) (wanted : List View) (i : ℕ) (next : List ℕ) (new : List View) (id : ℕ) : Type 0 where
+  pub extends : Extends old new
+  pub few : length new ≤ length now + 1
+  pub within : All (λ k. k < length new) (take (i + 1) (slice_set next i id))
+  pub made : views_at new (take (i + 1) (slice_set next i id)) ≡ take (i + 1) wanted
+
+module _ (old now : List View) (grown : Extends old now) (wanted : List View) (i : ℕ) (place : i < length wanted) (next : List ℕ) (room : i < length next)
+    (before : All (λ k. k < length now) (take i next)) (made_before : views_at now (take i next) ≡ take i wanted) where
+  pub further : (v : View) → v ≡ get_or wanted i (base 0 0) → (new : List View) (id : ℕ) → new ≡ with_view now v → slice_get new id ≡ Some v → IsFurther old now wanted i next new id
+  further v wants new id table stands =
+      let on : Extends now new = subst (Extends now) (sym table) (extends_with now now v (extends_itself now)) in
+      let before_each = recursion_from_All (λ k. k < length now) (take i next) before in
+      let there : id < length new = slice_get_within new id v stands in
+      let is : view_at new id ≡ get_or wanted i (base 0 0) = get_or_from_slice_get new id v (base 0 0) stands ∙ wants in
+      let set : take (i + 1) (slice_set next i id) ≡ take i next ++ id ∷ [] = take_more_set next i id room in
+      record {
+        extends = extends_then old now new grown on;
+        few = one_more now v new table;
+        within = subst (All (λ k. k < length new)) (sym set) (All-from_recursion _ (take i next ++ id ∷ []) (each_push (λ k. k < length new) (take i next) id (within_kept now new (take i next) on before_each) there));
+        made =
+            ap (views_at new) set
+            ∙ views_push new (take i next) id
+            ∙ (λ k. views_kept now new (take i next) on before_each k ++ is k ∷ [])
+            ∙ ap (λ vs. vs ++ get_or wanted i (base 0 0) ∷ []) made_before
+            ∙ sym (take_more wanted i (base 0 0) place);
+      }
+
 -- ---- one participant's view after the round
 
 -- the view at a place of a round
@@ -203,35 +233,11 @@ module _ (old now : List View) (ids : List ℕ) (w : Word) (views : AreViews old
       ∙ (λ k. seen (process_of (sym here k)) (views_of (visible (get_or w i 0) w (views_at old ids))))
       ∙ sym (get_or-round (views_at old ids) w w (views_at old ids) i (omega (arith, place, length-views old ids)) (length-views old ids ∙ long))
 
-  -- what the loop keeps, one participant further
-  pub record IsFurther (next : List ℕ) (new : List View) (id : ℕ) : Type 0 where
-    pub extends : Extends old new
-    pub few : length new ≤ length now + 1
-    pub within : All (λ k. k < length new) (take (i + 1) (slice_set next i id))
-    pub made : views_at new (take (i + 1) (slice_set next i id)) ≡ take (i + 1) (round (views_at old ids) w)
-
   pub next_step : (next : List ℕ) → i < length next → All (λ k. k < length now) (take i next) → views_at now (take i next) ≡ take i (round (views_at old ids) w) →
-      (new : List View) (id : ℕ) → new ≡ with_view now (view_seen now process parts) → slice_get new id ≡ Some (view_seen now process parts) → IsFurther next new id
+      (new : List View) (id : ℕ) → new ≡ with_view now (view_seen now process parts) → slice_get new id ≡ Some (view_seen now process parts) → IsFurther old now (round (views_at old ids) w) i next new id
   next_step next room before made new id table stands =
-      let v = view_seen now process parts in
-      let on : Extends now new = subst (Extends now) (sym table) (extends_with now now v (extends_itself now)) in
-      let before_each = recursion_from_All (λ k. k < length now) (take i next) before in
-      let there : id < length new = slice_get_within new id v stands in
-      let is : view_at new id ≡ get_or (round (views_at old ids) w) i (base 0 0) = get_or_from_slice_get new id v (base 0 0) stands ∙ is_view_after in
-      let set : take (i + 1) (slice_set next i id) ≡ take i next ++ id ∷ [] = take_more_set next i id room in
-      let further : take (i + 1) (round (views_at old ids) w) ≡ take i (round (views_at old ids) w) ++ get_or (round (views_at old ids) w) i (base 0 0) ∷ [] =
-      take_more (round (views_at old ids) w) i (base 0 0) (omega (arith, place, length-round (views_at old ids) w (length-views old ids ∙ long), length-views old ids)) in
-      record {
-        extends = extends_then old now new grown on;
-        few = one_more now v new table;
-        within = subst (All (λ k. k < length new)) (sym set) (All-from_recursion _ (take i next ++ id ∷ []) (each_push (λ k. k < length new) (take i next) id (within_kept now new (take i next) on before_each) there));
-        made =
-            ap (views_at new) set
-            ∙ views_push new (take i next) id
-            ∙ (λ k. views_kept now new (take i next) on before_each k ++ is k ∷ [])
-            ∙ ap (λ vs. vs ++ get_or (round (views_at old ids) w) i (base 0 0) ∷ []) made
-            ∙ sym further;
-      }
+      further old now grown (round (views_at old ids) w) i (omega (arith, place, length-round (views_at old ids) w (length-views old ids ∙ long), length-views old ids)) next room before made
+      (view_seen now process parts) is_view_after new id table stands
 
 module _ (old now : List View) (ids : List ℕ) (w : Word) (views : AreViews old ids) (long : length ids ≡ length w) (n : ℕ) (whole : length ids ≤ n) (no_more : n ≤ length ids) (next : List ℕ) where
   pub after_round : All (λ k. k < length now) (take n next) → views_at now (take n next) ≡ take n (round (views_at old ids) w) →

@@ -1,7 +1,7 @@
 -- Views by their numbers in a table, through a round.
 use Rattle.std.specs.Prelude.{◌≡◌, ◌<◌, ◌≤◌, ◌+◌, ◌*◌, ℕ, zero, suc, nat_le, Bool, true, false, List, [], ◌∷◌, ◌++◌, map, filter, flat_map, length, zip, All}
-use Rattle.wf_model.specs.Simplex.{is_ascending}
-use Rattle.wf_model.specs.View.{View, process_of, round}
+use Rattle.wf_model.specs.Simplex.{Simplex, is_ascending}
+use Rattle.wf_model.specs.View.{View, process_of, base_views, round}
 use Rattle.wf_model.specs.Word.{Word, words}
 use Rattle.wf_view.specs.Views.{view_at}
 
@@ -36,3 +36,12 @@ leaves ws (suc k) vs = flat_map (λ w. leaves ws k (round vs w)) ws
 abbrev pub cost : ℕ → ℕ → ℕ
 cost n zero = 0
 cost n (suc k) = length (words 1 n) * (n + cost n k)
+
+-- the last views of the executions on a simplex
+abbrev pub leaves_of : ℕ → Simplex → List View
+leaves_of rounds s = leaves (words 1 (length s)) rounds (base_views s)
+
+-- how many views the executions on these simplices add at most
+abbrev pub cost_of_each : ℕ → List Simplex → ℕ
+cost_of_each rounds [] = 0
+cost_of_each rounds (s ∷ ss) = (length s + cost (length s) rounds) + cost_of_each rounds ss

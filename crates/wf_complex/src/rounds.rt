@@ -1,13 +1,13 @@
 //! One more round of immediate snapshots, on views by their numbers.
 
-ghost use Rattle.std.specs.Prelude.{◌≡◌, ◌<◌, ◌≤◌, ◌+◌, ◌++◌, length, map, take, slice_index, All, IfOk, OnOk};
-ghost use Rattle.wf_model.specs.View.{round};
+ghost use Rattle.std.specs.Prelude.{◌≡◌, ◌<◌, ◌≤◌, ◌+◌, ◌++◌, length, map, take, flat_map, slice_index, All, IfOk, OnOk};
+ghost use Rattle.wf_model.specs.View.{round, base_views};
 ghost use Rattle.wf_model.specs.Word.{words};
 ghost use Rattle.wf_view.specs.Views.{view_at};
-ghost use Rattle.wf_complex.specs.Rounds.{views_at, visible_ids, only_if, Extends, AreViews, leaves, cost};
+ghost use Rattle.wf_complex.specs.Rounds.{views_at, visible_ids, only_if, Extends, AreViews, leaves, cost, leaves_of, cost_of_each};
 
-use std::alloc::AllocError;
-use wf_simplex::{Word, word_count};
+use std::alloc::{AllocError, Global};
+use wf_simplex::{Simplex, Word, word_count};
 use wf_view::Views;
 
 /// At most four numbers of views.
@@ -47,6 +47,27 @@ fn visible(current: &[u32], word: &Word, i: u8) -> Ids
         seen.push_if(word.sees(i, j), current[j as usize]);
     }
     seen
+}
+
+/// The numbers of the views of an input simplex before the first round, by ascending process.
+///
+/// Refused for want of memory; the views so far keep their numbers.
+fn first_views(views: &mut Views, simplex: &Simplex) -> Result<[u32; 4], AllocError>
+    requires room { length views.old + 4 ≤ 4294967295 }
+    ensures extends { Extends views.old views.new }
+    ensures few { length views.new ≤ length views.old + length simplex.now }
+    ensures views { IfOk result (λ ids. AreViews views.new (take (length simplex.now) ids)
+        × (views_at views.new (take (length simplex.now) ids) ≡ base_views simplex.now)) }
+{
+    let mut ids = [0u32; 4];
+    for place in 0..simplex.colours() {
+        let process = simplex.colour(place);
+        let Some(value) = simplex.value(process) else {
+            unreachable!()
+        };
+        ids[place as usize] = views.base(process, value)?;
+    }
+    Ok(ids)
 }
 
 /// The numbers of the views after one more round, by ascending process. Views that are new get the next numbers.
@@ -103,4 +124,30 @@ fn walk(
         word.next();
     }
     Ok(())
+}
+
+/// The last views of all executions on these simplices, one after another: simplex by simplex, execution by execution,
+/// and by ascending process.
+pub(crate) fn last_views(
+    alloc: Global,
+    views: &mut Views,
+    simplices: &[Simplex],
+    rounds: u32,
+) -> Result<Vec<u32>, AllocError>
+    requires room { length views.old + cost_of_each rounds simplices.now ≤ 4294967291 }
+    ensures extends { Extends views.old views.new }
+    ensures within { IfOk result (λ lasts. All (λ k. k < length views.new) lasts.items) }
+    ensures made { IfOk result (λ lasts. views_at views.new lasts.items ≡ flat_map (leaves_of rounds) simplices.now) }
+{
+    let mut lasts = Vec::new(alloc);
+    for simplex in simplices {
+        let first = first_views(views, simplex)?;
+        walk(
+            views,
+            &mut lasts,
+            &first[..simplex.colours() as usize],
+            rounds,
+        )?;
+    }
+    Ok(lasts)
 }

@@ -39,13 +39,22 @@ walk-requires t c =
     let more = cost_more (length c.args.current.now) c.args.rounds (omega arith) in
     let left = turn_left c.loop-turn.turn (length (words 1 (length c.args.current.now))) (length c.args.current.now + cost (length c.args.current.now) (c.args.rounds - 1)) (omega (arith, c.word_count-turn-end.ensures, c.loop-turn-test.true)) in
     let long = taken_length c.loop-turn.views c.next_views.new.views c.args.current.now c.in_ok-next.next c.loop-turn.word c.loop-turn.invariant.size c.in_ok-next.ensures.views.1 in
-    let same = ap (λ n. cost n (c.args.rounds - 1)) long in
-    (omega (arith, c.decreases),
-    (omega (arith, long, c.requires.some),
-    (omega (arith, long, c.requires.few),
-    (c.in_ok-next.ensures.views.0,
-    (All-from_recursion _ c.loop-turn.lasts.items (within_kept c.loop-turn.views c.next_views.new.views c.loop-turn.lasts.items c.next_views.ensures.extends (recursion_from_All _ c.loop-turn.lasts.items c.loop-turn.invariant.within)),
-    omega (arith, same, more, left, c.loop-turn.invariant.added, c.next_views.ensures.few, c.requires.room))))))
+    let same = ap (λ n. cost n (c.args.rounds - 1)) long in (
+      omega (arith, c.decreases),
+      (
+        omega (arith, long, c.requires.some),
+        (
+          omega (arith, long, c.requires.few),
+          (
+            c.in_ok-next.ensures.views.0,
+            (
+              All-from_recursion _ c.loop-turn.lasts.items (within_kept c.loop-turn.views c.next_views.new.views c.loop-turn.lasts.items c.next_views.ensures.extends (recursion_from_All _ c.loop-turn.lasts.items c.loop-turn.invariant.within)),
+              omega (arith, same, more, left, c.loop-turn.invariant.added, c.next_views.ensures.few, c.requires.room),
+            ),
+          ),
+        ),
+      ),
+    )
 
 pub returns-in_err-walk-clause-extends : goal.returns-in_err-walk-clause-extends
 returns-in_err-walk-clause-extends t c =
@@ -79,7 +88,7 @@ loop-turn-preserved t c =
           (c.in_ok-walk.ensures.made
           ∙ (λ i. views_at c.next_views.new.views c.loop-turn.lasts.items ++ leaves (words 1 (long i)) (c.args.rounds - 1) (c.in_ok-next.ensures.views.1 i))
           ∙ ap (λ vs. views_at c.next_views.new.views c.loop-turn.lasts.items ++ leaves (words 1 n) (c.args.rounds - 1) (round vs c.loop-turn.word))
-              (views_kept c.args.views.now c.loop-turn.views c.args.current.now c.loop-turn.invariant.extends (recursion_from_All _ c.args.current.now c.requires.views.within)));
+          (views_kept c.args.views.now c.loop-turn.views c.args.current.now c.loop-turn.invariant.extends (recursion_from_All _ c.args.current.now c.requires.views.within)));
     }
 
 pub returns-clause-added : goal.returns-clause-added

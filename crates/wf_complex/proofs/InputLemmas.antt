@@ -1,0 +1,85 @@
+-- The views of an input simplex.
+use Rattle.std.proofs.Common.{◌++◌, flat_map, drop, append-nil, ◌≡◌, ◌<◌, ◌≤◌, ℕ, zero, suc, ◌+◌, ◌==◌, ◌&&◌, Bool, true, false, List, [], ◌∷◌, map, length, take, get_or, Some, None, Option, All, if◌then◌else◌, sym, refl, ap, ◌∙◌, subst, arith, inl, inr, eqb-true, eq-eqb}
+use Rattle.std.specs.List.{AllByRecursion}
+use Rattle.std.proofs.lemmas.Bool.{cases_Bool, and_parts, and_right, both_ways}
+use Rattle.std.proofs.lemmas.List.{take_all, take_more, drop_more}
+use Rattle.std.proofs.lemmas.List.Concat.{flat_map-append}
+use Rattle.std.proofs.lemmas.List.Elements.{recursion_from_All, All-from_recursion}
+use Rattle.wf_model.specs.Simplex.{Simplex, processes_of, values_of, is_nonempty, is_ascending, is_simplex}
+use Rattle.wf_model.specs.Task.{IsSimplexWithin}
+use Rattle.wf_model.specs.View.{View, base, base_views, process_of}
+use Rattle.wf_model.proofs.Ascending.{Ascends, ascends_from}
+use Rattle.wf_model.proofs.Bridge.{weaker}
+use Rattle.wf_simplex.specs.Entries.{value_at}
+use Rattle.wf_view.specs.Views.{view_at}
+use Rattle.wf_complex.specs.Rounds.{views_at, AreViews, Extends, leaves, leaves_of, cost, cost_of_each}
+use Rattle.wf_complex.proofs.RoundLemmas.{views_kept, length-views}
+use Rattle.wf_model.specs.Word.{words}
+
+-- a process that is above all of these is not among them
+later_process : (p x i : ℕ) (s : Simplex) → AllByRecursion (λ q. p < q) (processes_of s) → i < length s → (p == get_or (processes_of s) i 0) ≡ false
+later_process p x i [] h within = absurd (let none : ⊥ = omega (arith, within) in none)
+later_process p x zero (v ∷ s) h within = elim (cases_Bool (p == v.0)) [ inl same ↦ absurd (let none : ⊥ = omega (arith, h.0, eqb-true p v.0 same) in none) | inr apart ↦ apart ]
+later_process p x (suc i) (v ∷ s) h within = later_process p x i s h.1 (omega (arith, within))
+
+at_process : (s : Simplex) (i : ℕ) → Ascends (processes_of s) → i < length s → value_at s (get_or (processes_of s) i 0) ≡ Some (get_or (values_of s) i 0)
+at_process [] i h within = absurd (let none : ⊥ = omega (arith, within) in none)
+at_process (v ∷ s) zero h within = rw (eq-eqb v.0 v.0 refl) refl
+at_process (v ∷ s) (suc i) h within = rw (later_process v.0 0 i s h.0 (omega (arith, within))) (at_process s i h.1 (omega (arith, within)))
+
+pub value_there : (s : Simplex) (i : ℕ) → IsSimplexWithin 4 63 s → i < length s → value_at s (get_or (processes_of s) i 0) ≡ Some (get_or (values_of s) i 0)
+value_there s i h within = at_process s i (ascends_from (processes_of s) (and_parts (is_nonempty s) (is_ascending (processes_of s)) h.is_simplex).1) within
+
+-- the view of a place
+pub base_there : (s : Simplex) (i : ℕ) → i < length s → base (get_or (processes_of s) i 0) (get_or (values_of s) i 0) ≡ get_or (base_views s) i (base 0 0)
+base_there [] i within = absurd (let none : ⊥ = omega (arith, within) in none)
+base_there (v ∷ s) zero within = refl
+base_there (v ∷ s) (suc i) within = base_there s i (omega (arith, within))
+
+pub length-base_views : (s : Simplex) → length (base_views s) ≡ length s
+length-base_views [] = refl
+length-base_views (v ∷ s) = ap suc (length-base_views s)
+
+processes-base_views : (s : Simplex) → map process_of (base_views s) ≡ processes_of s
+processes-base_views [] = refl
+processes-base_views (v ∷ s) = ap (λ ps. v.0 ∷ ps) (processes-base_views s)
+
+pub first_round : (now : List View) (s : Simplex) (n : ℕ) (ids : List ℕ) → IsSimplexWithin 4 63 s → n ≤ length s → length s ≤ n → All (λ k. k < length now) (take n ids) → views_at now (take n ids) ≡ take n (base_views s) →
+    AreViews now (take (length s) ids) × (views_at now (take (length s) ids) ≡ base_views s)
+first_round now s n ids h low high within made =
+    let e : n ≡ length s = omega (arith, low, high) in
+    let all : views_at now (take (length s) ids) ≡ base_views s =
+    subst (λ k. views_at now (take k ids) ≡ take k (base_views s)) e made ∙ take_all (length s) (base_views s) (omega (arith, length-base_views s)) in
+    let same : map process_of (views_at now (take (length s) ids)) ≡ processes_of s = ap (map process_of) all ∙ processes-base_views s in (
+      record {
+        within = subst (λ k. All (λ x. x < length now) (take k ids)) e within;
+        ascending = ap is_ascending same ∙ (and_parts (is_nonempty s) (is_ascending (processes_of s)) h.is_simplex).1;
+        low = subst (All (λ p. p ≤ 3)) (sym same) (All-from_recursion _ (processes_of s) (weaker (λ p. p < 4) (λ p. p ≤ 3) (λ p k. omega (arith, k)) (processes_of s) (recursion_from_All _ (processes_of s) h.processes)));
+      },
+      all,
+    )
+
+-- ---- one simplex further
+
+module _ (rounds : ℕ) (ss : List Simplex) (i : ℕ) (s : Simplex) (place : i < length ss) (is : s ≡ get_or ss i s) (ids : List ℕ) (n : ℕ) (count : n ≡ length s)
+    (table first after : List View) (views : views_at first (take (length s) ids) ≡ base_views s) where
+  pub long : length (take n ids) ≡ length s
+  long = ap (λ k. length (take k ids)) count ∙ sym (length-views first (take (length s) ids)) ∙ ap length views ∙ length-base_views s
+
+  same_cost : cost (length (take n ids)) rounds ≡ cost (length s) rounds
+  same_cost = ap (λ k. cost k rounds) long
+
+  pub room_here : length table + cost_of_each rounds (drop i ss) ≤ 4294967291 → length first ≤ length table + length s → length first + cost (length (take n ids)) rounds ≤ 4294967291
+  room_here room few = omega (arith, room, few, same_cost, ap (cost_of_each rounds) (drop_more ss i s place ∙ ap (λ x. x ∷ drop (i + 1) ss) (sym is)))
+
+  pub room_after : length table + cost_of_each rounds (drop i ss) ≤ 4294967291 → length first ≤ length table + length s → length after ≤ length first + cost (length (take n ids)) rounds →
+      length after + cost_of_each rounds (drop (i + 1) ss) ≤ 4294967291
+  room_after room few added = omega (arith, room, few, added, same_cost, ap (cost_of_each rounds) (drop_more ss i s place ∙ ap (λ x. x ∷ drop (i + 1) ss) (sym is)))
+
+  pub made_after : (lasts more : List ℕ) → AllByRecursion (λ k. k < length table) lasts → Extends table first → views_at table lasts ≡ flat_map (leaves_of rounds) (take i ss) →
+      views_at after more ≡ views_at first lasts ++ leaves (words 1 (length (take n ids))) rounds (views_at first (take n ids)) → views_at after more ≡ flat_map (leaves_of rounds) (take (i + 1) ss)
+  made_after lasts more within grown made added =
+      added
+      ∙ (λ k. views_kept table first lasts grown within k ++ leaves (words 1 (long k)) rounds (views_at first (take (count k) ids)))
+      ∙ (λ k. made k ++ leaves (words 1 (length s)) rounds (views k))
+      ∙ sym (ap (flat_map (leaves_of rounds)) (take_more ss i s place ∙ ap (λ x. take i ss ++ x ∷ []) (sym is)) ∙ flat_map-append (leaves_of rounds) (take i ss) (s ∷ []) ∙ ap (λ vs. flat_map (leaves_of rounds) (take i ss) ++ vs) (append-nil (leaves_of rounds s)))

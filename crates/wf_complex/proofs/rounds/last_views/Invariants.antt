@@ -1,0 +1,11 @@
+use Rattle.std.proofs.Common.{◌≡◌, ◌≤◌, ◌<◌, ◌+◌, All, length, take, drop, flat_map}
+use Rattle.wf_complex.specs.Rounds.{views_at, Extends, leaves_of, cost_of_each}
+use Rattle.wf_complex.proofs.rounds.last_views.Given as goal
+
+abbrev pub invariant-loop-simplex : goal.invariant-loop-simplex
+invariant-loop-simplex l = record {
+  extends : Extends l.initial.views l.views;
+  room : length l.views + cost_of_each l.rounds (drop l.simplex-index l.simplices) ≤ 4294967291;
+  within : All (λ k. k < length l.views) l.lasts.items;
+  made : views_at l.views l.lasts.items ≡ flat_map (leaves_of l.rounds) (take l.simplex-index l.simplices);
+}
