@@ -1,2 +1,4 @@
 pub mod Lines
 pub mod Rounds
+pub mod Numbering
+pub mod Layout

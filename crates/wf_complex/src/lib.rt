@@ -4,7 +4,9 @@
 //! - [`Line`] and [`Lines`]: why a box of candidates holds no decision map.
 #![tactic(auto)]
 
+mod layout;
 mod line;
+mod numbering;
 mod rounds;
 
 pub use line::{Line, Lines};

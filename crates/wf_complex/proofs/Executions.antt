@@ -1,0 +1,72 @@
+-- The rounds of the code are the executions of the definitions.
+use Rattle.std.proofs.Common.{◌≡◌, ℕ, zero, suc, ◌+◌, ◌*◌, List, [], ◌∷◌, ◌++◌, map, flat_map, length, fold, sym, refl, ap, ◌∙◌, arith, append_assoc, append-nil, length-append}
+use Rattle.std.proofs.lemmas.List.Concat.{flat_map-append}
+use Rattle.wf_model.specs.Lists.{lists_of}
+use Rattle.wf_model.specs.Simplex.{Simplex}
+use Rattle.wf_model.specs.Word.{Word, words}
+use Rattle.wf_model.specs.View.{View, base_views, round}
+use Rattle.wf_model.specs.Task.{Task, Rule, inputs, first_block}
+use Rattle.wf_model.specs.Execution.{Execution, executions_on, executions, last_views}
+use Rattle.wf_complex.specs.Rounds.{leaves, leaves_of}
+use Rattle.wf_complex.specs.Layout.{turns, execution_total}
+
+module _ {X Y : Type 0} where
+  flat_map-flat_map : {Z : Type 0} (f : Y → List Z) (g : X → List Y) (xs : List X) → flat_map f (flat_map g xs) ≡ flat_map (λ x. flat_map f (g x)) xs
+  flat_map-flat_map f g [] = refl
+  flat_map-flat_map f g (x ∷ xs) = flat_map-append f (g x) (flat_map g xs) ∙ ap (λ zs. flat_map f (g x) ++ zs) (flat_map-flat_map f g xs)
+
+  flat_map-map : {Z : Type 0} (f : Y → List Z) (g : X → Y) (xs : List X) → flat_map f (map g xs) ≡ flat_map (λ x. f (g x)) xs
+  flat_map-map f g [] = refl
+  flat_map-map f g (x ∷ xs) = ap (λ zs. f (g x) ++ zs) (flat_map-map f g xs)
+
+  flat_map-same : (f g : X → List Y) → ((x : X) → f x ≡ g x) → (xs : List X) → flat_map f xs ≡ flat_map g xs
+  flat_map-same f g h [] = refl
+  flat_map-same f g h (x ∷ xs) = λ i. h x i ++ flat_map-same f g h xs i
+
+-- going on round by round gives the views after each list of words
+pub leaves_folded : (ws : List Word) (k : ℕ) (vs : List View) → leaves ws k vs ≡ flat_map (λ us. fold round vs us) (lists_of ws k)
+leaves_folded ws zero vs = sym (append-nil vs)
+leaves_folded ws (suc k) vs =
+    flat_map-same (λ w. leaves ws k (round vs w)) (λ w. flat_map (λ us. fold round vs us) (map (λ rest. w ∷ rest) (lists_of ws k)))
+    (λ w. leaves_folded ws k (round vs w) ∙ sym (flat_map-map (λ us. fold round vs us) (λ rest. w ∷ rest) (lists_of ws k))) ws
+    ∙ sym (flat_map-flat_map (λ us. fold round vs us) (λ w. map (λ rest. w ∷ rest) (lists_of ws k)) ws)
+
+on_rule : (r : ℕ) (rule : Rule) → flat_map last_views (executions_on 1 r rule) ≡ leaves_of r rule.input
+on_rule r rule =
+    flat_map-map last_views (λ ws. record { rule = rule; words = ws }) (lists_of (words 1 (length rule.input)) r)
+    ∙ sym (leaves_folded (words 1 (length rule.input)) r (base_views rule.input))
+
+-- the last views of all executions, one after another
+pub last_views-executions : (t : Task) (r : ℕ) → first_block t ≡ 1 → flat_map last_views (executions t r) ≡ flat_map (leaves_of r) (inputs t)
+last_views-executions t r all =
+    ap (λ m. flat_map last_views (flat_map (executions_on m r) t.rules)) all
+    ∙ flat_map-flat_map last_views (executions_on 1 r) t.rules
+    ∙ flat_map-same (λ rule. flat_map last_views (executions_on 1 r rule)) (λ rule. leaves_of r rule.input) (on_rule r) t.rules
+    ∙ sym (flat_map-map (leaves_of r) (λ rule. rule.input) t.rules)
+
+-- ---- how many there are
+
+length-map : {X Y : Type 0} (f : X → Y) (xs : List X) → length (map f xs) ≡ length xs
+length-map f [] = refl
+length-map f (x ∷ xs) = ap suc (length-map f xs)
+
+suc_times : (m n : ℕ) → suc m * n ≡ n + m * n
+suc_times m n = grind arith
+
+length-flat : {X Y : Type 0} (f : X → List Y) (n : ℕ) → ((x : X) → length (f x) ≡ n) → (xs : List X) → length (flat_map f xs) ≡ length xs * n
+length-flat f n h [] = omega arith
+length-flat f n h (x ∷ xs) = length-append (f x) (flat_map f xs) ∙ (λ i. h x i + length-flat f n h xs i) ∙ sym (suc_times (length xs) n)
+
+pub length-lists_of : (n : ℕ) (r : ℕ) → length (lists_of (words 1 n) r) ≡ turns n r
+length-lists_of n zero = refl
+length-lists_of n (suc r) =
+    length-flat (λ x. map (λ rest. x ∷ rest) (lists_of (words 1 n) r)) (turns n r) (λ x. length-map (λ rest. x ∷ rest) (lists_of (words 1 n) r) ∙ length-lists_of n r) (words 1 n)
+
+pub length-executions : (t : Task) (r : ℕ) → first_block t ≡ 1 → length (executions t r) ≡ execution_total r (inputs t)
+length-executions t r all = ap (λ m. length (flat_map (executions_on m r) t.rules)) all ∙ each t.rules
+  where
+    each : (rules : List Rule) → length (flat_map (executions_on 1 r) rules) ≡ execution_total r (map (λ rule. rule.input) rules)
+    each [] = refl
+    each (rule ∷ rules) =
+        let here : length (executions_on 1 r rule) ≡ turns (length rule.input) r = length-map (λ ws. record { rule = rule; words = ws }) (lists_of (words 1 (length rule.input)) r) ∙ length-lists_of (length rule.input) r in
+        length-append (executions_on 1 r rule) (flat_map (executions_on 1 r) rules) ∙ (λ i. here i + each rules i)

@@ -1,0 +1,88 @@
+//! Where the executions of a task lie in the list of their last views.
+
+ghost use Rattle.std.specs.Prelude.{◌≡◌, ◌<◌, ◌≤◌, ◌+◌, ◌*◌, ℕ, List, [], min, length, get_or, All, IfOk, OnOk};
+ghost use Rattle.wf_model.specs.Simplex.{Simplex};
+ghost use Rattle.wf_complex.specs.Layout.{turns, execution_total, place_total, LiesIn};
+
+use std::alloc::{AllocError, Global};
+use wf_simplex::{Simplex, word_count};
+
+/// The most executions that a protocol complex may have.
+pub const MOST_EXECUTIONS: u32 = 500_000;
+
+/// An execution: the number of its input simplex, and the place of its first process in the list of places.
+#[derive(Clone, Copy, Debug)]
+pub(crate) struct Execution {
+    pub simplex: u32,
+    pub place: u32,
+}
+
+/// How many executions a simplex of this size has, counted up to one more than the most.
+fn executions_on(size: u8, rounds: u32) -> u32
+    requires some { 1 ≤ size }
+    requires few { size ≤ 4 }
+    ensures count { result ≡ min (turns size rounds) 500001 }
+{
+    let words = word_count(size);
+    let mut count = 1;
+    for _round in 0..rounds {
+        count = (count * words).min(MOST_EXECUTIONS + 1);
+    }
+    count
+}
+
+/// How many executions there are on these simplices, counted up to one more than the most.
+pub(crate) fn execution_count(inputs: &[Simplex], rounds: u32) -> u32
+    ensures count { result ≡ min (execution_total rounds inputs.now) 500001 }
+{
+    let mut total = 0;
+    for simplex in inputs {
+        total = (total + executions_on(simplex.colours(), rounds)).min(MOST_EXECUTIONS + 1);
+    }
+    total
+}
+
+/// The executions in order: simplex by simplex, and those on one simplex one after another.
+pub(crate) fn lay_out(
+    alloc: Global,
+    inputs: &[Simplex],
+    rounds: u32,
+) -> Result<Vec<Execution>, AllocError>
+    requires few { execution_total rounds inputs.now ≤ 500000 }
+    requires inputs { length inputs.now ≤ 4096 }
+    requires sizes { All (λ s. length s ≤ 4) inputs.now }
+    ensures count { IfOk result (λ es. length es.items ≡ execution_total rounds inputs.now) }
+    ensures within { IfOk result (λ es. All (LiesIn inputs.now (place_total rounds inputs.now)) es.items) }
+{
+    let mut executions = Vec::new(alloc);
+    let mut place = 0;
+    for (number, simplex) in inputs.iter().enumerate() {
+        let size = simplex.colours();
+        let count = executions_on(size, rounds);
+        lay_on(&mut executions, number as u32, size, place, count)?;
+        place += count * u32::from(size);
+    }
+    Ok(executions)
+}
+
+/// Adds the executions on one simplex, whose places begin here.
+fn lay_on(
+    executions: &mut Vec<Execution>,
+    simplex: u32,
+    size: u8,
+    first: u32,
+    count: u32,
+) -> Result<(), AllocError>
+    requires size { size ≤ 4 }
+    requires room { first + count * size ≤ 4000000 }
+    ensures count { OnOk result (length executions.new.items ≡ length executions.old.items + count) }
+    ensures within { (inputs : List Simplex) (total : ℕ) → All (LiesIn inputs total) executions.old.items → simplex < length inputs
+        → length (get_or inputs simplex []) ≡ size → first + count * size ≤ total → OnOk result (All (LiesIn inputs total) executions.new.items) }
+{
+    let mut place = first;
+    for _turn in 0..count {
+        executions.push(Execution { simplex, place })?;
+        place += u32::from(size);
+    }
+    Ok(())
+}
