@@ -1,2 +1,4 @@
 pub mod Ranges
 pub mod Steps
+pub mod Tokens
+pub mod Rounds

@@ -6,7 +6,9 @@
 #![tactic(auto)]
 
 mod lists;
+mod view;
 mod word;
 
 pub use lists::lists_of;
+pub use view::{Token, View};
 pub use word::{is_allowed, is_word, words};
