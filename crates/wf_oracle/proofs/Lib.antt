@@ -2,3 +2,4 @@ pub mod Ranges
 pub mod Steps
 pub mod Tokens
 pub mod Rounds
+pub mod Choices

@@ -5,10 +5,14 @@
 //! answers has to be what this one answers. Nothing else should call it.
 #![tactic(auto)]
 
+mod execution;
 mod lists;
+mod task;
 mod view;
 mod word;
 
+pub use execution::{Execution, executions};
 pub use lists::lists_of;
-pub use view::{Token, View};
+pub use task::{Rule, Task};
+pub use view::{Token, View, base_views, round, views_after};
 pub use word::{is_allowed, is_word, words};
