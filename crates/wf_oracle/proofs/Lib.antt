@@ -3,3 +3,5 @@ pub mod Steps
 pub mod Tokens
 pub mod Rounds
 pub mod Choices
+pub mod Distinct
+pub mod Ordered

@@ -1,6 +1,7 @@
 -- Views as lists of tokens in preorder.
-use Rattle.std.specs.Prelude.{◌≡◌, ℕ, suc, ◌==◌, Bool, nat_le, List, [], ◌∷◌, ◌++◌, map, filter, length, take, drop}
-use Rattle.wf_model.specs.View.{View, base, seen, Views, no_views, view, views_of}
+use Rattle.std.specs.Prelude.{◌≡◌, ℕ, suc, ◌==◌, Bool, nat_le, List, [], ◌∷◌, ◌++◌, map, filter, length, take, drop, if◌then◌else◌}
+use Rattle.std.specs.List.{list_any}
+use Rattle.wf_model.specs.View.{View, base, seen, Views, no_views, view, views_of, same_view}
 use Rattle.wf_oracle.specs.declared.view.Token.{Token}
 use Rattle.wf_oracle.specs.declared.view.Token.TheVariants.{Base, Seen}
 
@@ -42,3 +43,7 @@ token_renamed f (Seen p n) = Seen (f p) n
 -- the views among these, each with its block, that are seen from a block
 abbrev pub visible_in : ℕ → List (ℕ × View) → List View
 visible_in block pairs = map (λ q. q.1) (filter (λ q. nat_le q.0 block) pairs)
+
+-- the points with one more, unless it is there
+abbrev pub with_point : List View → View → List View
+with_point points v = if list_any (λ point. same_view point v) points then points else points ++ v ∷ []

@@ -7,12 +7,16 @@
 
 mod execution;
 mod lists;
+mod point;
+mod problem;
 mod task;
 mod view;
 mod word;
 
 pub use execution::{Execution, executions};
 pub use lists::lists_of;
+pub use point::{class, classes, number_of, points};
+pub use problem::{Constraint, Problem, constraint_of, problem_of};
 pub use task::{Rule, Task};
 pub use view::{Token, View, base_views, round, views_after};
 pub use word::{is_allowed, is_word, words};
