@@ -1,5 +1,7 @@
 -- One more element of a list, at a step of a loop.
-use Rattle.std.proofs.Common.{◌≡◌, ℕ, ◌+◌, ◌<◌, ◌≤◌, min, List, [], ◌∷◌, ◌++◌, map, flat_map, take, length, get_or, sym, refl, ap, ◌∙◌, arith}
+use Rattle.std.proofs.Common.{◌≡◌, ℕ, zero, suc, Bool, true, ◌+◌, ◌<◌, ◌≤◌, min, List, [], ◌∷◌, ◌++◌, map, flat_map, take, length, get_or, sym, refl, ap, ◌∙◌, arith}
+use Rattle.std.specs.List.{list_any}
+use Rattle.std.proofs.lemmas.Bool.{or_left, or_right}
 use Rattle.std.proofs.lemmas.List.{take_more, take_min, map-append, append-nil}
 use Rattle.std.proofs.Math.Seq.{take-length}
 use Rattle.std.proofs.lemmas.List.Concat.{flat_map-append}
@@ -22,3 +24,9 @@ map_grows f xs i x before after within is so step = step ∙ ap (λ ys. ys ++ f 
 
 pub take_all : {X : Type 0} (n : ℕ) (xs : List X) → length xs ≤ n → take n xs ≡ xs
 take_all n xs h = sym (take_min n xs) ∙ ap (λ k. take k xs) (let e : min n (length xs) ≡ length xs = omega (arith, h) in e) ∙ take-length xs
+
+-- where an element passes a test by its name, the list of names passes it
+pub found_at : {X Y : Type 0} (test : Y → Bool) (name : X → Y) (xs : List X) (i : ℕ) (x : X) → i < length xs → x ≡ get_or xs i x → test (name x) ≡ true → list_any test (map name xs) ≡ true
+found_at test name [] i x within is pass = absurd (let none : ⊥ = omega (arith, within) in none)
+found_at test name (y ∷ xs) zero x within is pass = or_left (test (name y)) _ (ap (λ z. test (name z)) (sym is) ∙ pass)
+found_at test name (y ∷ xs) (suc i) x within is pass = or_right (test (name y)) _ (found_at test name xs i x (omega (arith, within)) is pass)
