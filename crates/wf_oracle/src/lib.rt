@@ -5,8 +5,23 @@
 //! answers has to be what this one answers. Nothing else should call it.
 #![tactic(auto)]
 
+mod execution;
 mod lists;
+mod point;
+mod problem;
+mod solution;
+mod task;
+mod view;
 mod word;
 
+pub use execution::{Execution, executions};
 pub use lists::lists_of;
+pub use point::{class, classes, number_of, points};
+pub use problem::{Constraint, Problem, constraint_of, problem_of};
+pub use solution::{all_solutions, decision_maps, satisfies};
+pub use task::{Rule, Task};
+pub use view::{Token, View, base_views, round, views_after};
 pub use word::{is_allowed, is_word, words};
+
+#[cfg(test)]
+mod tests;
