@@ -1,0 +1,6 @@
+pub mod Lists
+pub mod Tests
+pub mod Refusals
+pub mod Runs
+pub mod Tied
+pub mod Writes
