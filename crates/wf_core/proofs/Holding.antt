@@ -31,8 +31,8 @@ held_past bs v w i j now there here apart =
 held_on : (s : State) (e : Event) (t : State) (w i : ℕ) → Step s e t → Is s i (status.Held w) → ¬ (Settles e w i) → Is t i (status.Held w)
 held_on s (Take v j) t w i step h settles = ap (λ (x : State). slice_get x.branches i) step.1
     ∙ held_else s.branches w i j (status.Held v) (λ e. free_not_held (same_Some status.Free (status.Held w) (sym step.0.2 ∙ (ap (slice_get s.branches) e ∙ h)))) h where
-  free_not_held : ¬ (status.Free ≡ status.Held w)
-  free_not_held e = cc
+      free_not_held : ¬ (status.Free ≡ status.Held w)
+      free_not_held e = cc
 held_on s (Look v) t w i step h settles = ap (λ (x : State). slice_get x.branches i) step.1 ∙ h
 held_on s (Post v j) t w i step h settles = ap (λ (x : State). slice_get x.branches i) step.1
     ∙ held_past s.branches v w i j status.Posted step.0.1 h (λ e. settles (inl (λ k. Post (e.0 k) (e.1 k))))
@@ -73,24 +73,24 @@ held_before s (Post v j) t w i step h =
     (λ (k : (i ≡ j) × (status.Posted ≡ status.Held w)). absurd (let e = k.1 in cc))
     (λ (k : (i ≢ j) × Is s i (status.Held w)). inr (k.1, not_settled (Post v j) w i (λ e. k.0 (sym (post_branch v j w i e))) (λ e. cc) (λ e. cc)))
     (at_set s.branches j i status.Posted (status.Held w) at) where
-  post_branch : (v j w i : ℕ) → Post v j ≡ Post w i → j ≡ i
-  post_branch v j w i e = cc
+      post_branch : (v j w i : ℕ) → Post v j ≡ Post w i → j ≡ i
+      post_branch v j w i e = cc
 held_before s (Searched v j) t w i step h =
     let at = sym (ap (λ (x : State). slice_get x.branches i) step.1) ∙ h in
     ⊎_elim
     (λ (k : (i ≡ j) × (status.Refuted ≡ status.Held w)). absurd (let e = k.1 in cc))
     (λ (k : (i ≢ j) × Is s i (status.Held w)). inr (k.1, not_settled (Searched v j) w i (λ e. cc) (λ e. k.0 (sym (searched_branch v j w i e))) (λ e. cc)))
     (at_set s.branches j i status.Refuted (status.Held w) at) where
-  searched_branch : (v j w i : ℕ) → Searched v j ≡ Searched w i → j ≡ i
-  searched_branch v j w i e = cc
+      searched_branch : (v j w i : ℕ) → Searched v j ≡ Searched w i → j ≡ i
+      searched_branch v j w i e = cc
 held_before s (Cut v j) t w i step h =
     let at = sym (ap (λ (x : State). slice_get x.branches i) step.1) ∙ h in
     ⊎_elim
     (λ (k : (i ≡ j) × (status.Cut ≡ status.Held w)). absurd (let e = k.1 in cc))
     (λ (k : (i ≢ j) × Is s i (status.Held w)). inr (k.1, not_settled (Cut v j) w i (λ e. cc) (λ e. cc) (λ e. k.0 (sym (cut_branch v j w i e)))))
     (at_set s.branches j i status.Cut (status.Held w) at) where
-  cut_branch : (v j w i : ℕ) → Cut v j ≡ Cut w i → j ≡ i
-  cut_branch v j w i e = cc
+      cut_branch : (v j w i : ℕ) → Cut v j ≡ Cut w i → j ≡ i
+      cut_branch v j w i e = cc
 held_before s (End v) t w i step h =
     inr (sym (ap (λ (x : State). slice_get x.branches i) step.1) ∙ h, not_settled (End v) w i (λ e. cc) (λ e. cc) (λ e. cc))
 
@@ -99,9 +99,9 @@ held_since s [] t w i r h = inr (sym (ap (λ (x : State). slice_get x.branches i
 held_since s (e ∷ es) t w i r h = ⊎_elim
     (λ (k : Holds es w i). inl (e ∷ k.0, k.1, ap (λ (l : List Event). e ∷ l) k.2, k.3))
     (λ (k : Is r.0 i (status.Held w) × All (λ x. ¬ (Settles x w i)) es). ⊎_elim
-        (λ (is : e ≡ Take w i). inl ([], es, ap (λ (x : Event). x ∷ es) is, k.1))
-        (λ (b : Is s i (status.Held w) × ¬ (Settles e w i)). inr (b.0, All-cons (λ x. ¬ (Settles x w i)) e es b.1 k.1))
-        (held_before s e r.0 w i r.1 k.0))
+    (λ (is : e ≡ Take w i). inl ([], es, ap (λ (x : Event). x ∷ es) is, k.1))
+    (λ (b : Is s i (status.Held w) × ¬ (Settles e w i)). inr (b.0, All-cons (λ x. ¬ (Settles x w i)) e es b.1 k.1))
+    (held_before s e r.0 w i r.1 k.0))
     (held_since r.0 es t w i r.2 h)
 
 free_at_start : (b n w i : ℕ) → ¬ (Is (start b n) i (status.Held w))
@@ -129,19 +129,19 @@ HoldsOne s = (w i j : ℕ) → Is s i (status.Held w) → Is s j (status.Held w)
 one_step : (s : State) (e : Event) (t : State) → HoldsOne s → Step s e t → HoldsOne t
 one_step s e t one step w i j hi hj = ⊎_elim
     (λ (a : e ≡ Take w i). ⊎_elim
-        (λ (b : e ≡ Take w j). same_branch (sym a ∙ b))
-        (λ (b : Is s j (status.Held w) × ¬ (Settles e w j)). absurd (idle i a j b.0))
-        (held_before s e t w j step hj))
+    (λ (b : e ≡ Take w j). same_branch (sym a ∙ b))
+    (λ (b : Is s j (status.Held w) × ¬ (Settles e w j)). absurd (idle i a j b.0))
+    (held_before s e t w j step hj))
     (λ (a : Is s i (status.Held w) × ¬ (Settles e w i)). ⊎_elim
-        (λ (b : e ≡ Take w j). absurd (idle j b i a.0))
-        (λ (b : Is s j (status.Held w) × ¬ (Settles e w j)). one w i j a.0 b.0)
-        (held_before s e t w j step hj))
+    (λ (b : e ≡ Take w j). absurd (idle j b i a.0))
+    (λ (b : Is s j (status.Held w) × ¬ (Settles e w j)). one w i j a.0 b.0)
+    (held_before s e t w j step hj))
     (held_before s e t w i step hi) where
-  idle : (k : ℕ) → e ≡ Take w k → HoldsNothing s w
-  idle k q = (subst (λ (x : Event). Step s x t) q step).0.1
+      idle : (k : ℕ) → e ≡ Take w k → HoldsNothing s w
+      idle k q = (subst (λ (x : Event). Step s x t) q step).0.1
 
-  same_branch : Take w i ≡ Take w j → i ≡ j
-  same_branch q = cc
+      same_branch : Take w i ≡ Take w j → i ≡ j
+      same_branch q = cc
 
 one_run : (s : State) (es : List Event) (t : State) → HoldsOne s → Run s es t → HoldsOne t
 one_run s [] t one r = subst HoldsOne (sym r) one

@@ -87,25 +87,25 @@ kept_step b s (Post w i) t k step =
     let After : ℕ → Type 0 = λ x. (x ≡ b) ⊎ (slice_get (set s.branches i status.Posted) x ≡ Some status.Posted) in
     let stays = still_or b s i (status.Held w) status.Posted k held (held_not_posted w) in
     let reached : After l = ⊎_elim
-        (λ (e : l ≡ s.least). subst After (sym e) (stays s.least k.least.reached))
-        (λ (e : l ≡ i). inr (subst (λ (x : ℕ). slice_get (set s.branches i status.Posted) x ≡ Some status.Posted) (sym e) here))
-        (min_cases s.least i) in
+    (λ (e : l ≡ s.least). subst After (sym e) (stays s.least k.least.reached))
+    (λ (e : l ≡ i). inr (subst (λ (x : ℕ). slice_get (set s.branches i status.Posted) x ≡ Some status.Posted) (sym e) here))
+    (min_cases s.least i) in
     subst (Kept b) (sym step.1)
     (changed b s i (status.Held w) status.Posted k held (held_not_posted w) l (set s.seen w l) (min-le_left s.least i) reached (λ _. min-le_right s.least i) (λ e. cc)
     (λ v n p. ⊎_elim
-        (λ (h : (v ≡ w) × (l ≡ n)). subst (λ (x : ℕ). (l ≤ x) × After x) h.1 (le_refl l, reached))
-        (λ (h : (v ≢ w) × Saw s v n). let x = k.seen v n h.1 in (le_trans (min-le_left s.least i) x.0, stays n x.1))
-        (at_set s.seen w v l n p)))
+    (λ (h : (v ≡ w) × (l ≡ n)). subst (λ (x : ℕ). (l ≤ x) × After x) h.1 (le_refl l, reached))
+    (λ (h : (v ≢ w) × Saw s v n). let x = k.seen v n h.1 in (le_trans (min-le_left s.least i) x.0, stays n x.1))
+    (at_set s.seen w v l n p)))
 kept_step b s (Searched w i) t k step = subst (Kept b) (sym step.1)
     (changed_status b s i (status.Held w) status.Refuted k step.0.1 (held_not_posted w) (λ e. cc) (λ e. cc))
 kept_step b s (Cut w i) t k step = subst (Kept b) (sym step.1)
     (changed_status b s i (status.Held w) status.Cut k step.0.1 (held_not_posted w) (λ e. cc) (λ _.
-        let seen = step.0.2 in
-        let inside = slice_get_within s.branches i (status.Held w) step.0.1 in
-        ⊎_elim
-        (λ (e : seen.0 ≡ b). absurd (let low = seen.2 in let size = k.size in omega arith))
-        (λ (p : Is s seen.0 status.Posted). (seen.0, p, seen.2))
-        (k.seen w seen.0 seen.1).1))
+    let seen = step.0.2 in
+    let inside = slice_get_within s.branches i (status.Held w) step.0.1 in
+    ⊎_elim
+    (λ (e : seen.0 ≡ b). absurd (let low = seen.2 in let size = k.size in omega arith))
+    (λ (p : Is s seen.0 status.Posted). (seen.0, p, seen.2))
+    (k.seen w seen.0 seen.1).1))
 kept_step b s (End w) t k step = subst (Kept b) (sym step.1) (record { size = k.size; least = same_least b s s.seen (set s.ended w true) k.least; seen = k.seen; cut = k.cut })
 
 pub kept_run : (b : ℕ) (s : State) (es : List Event) (t : State) → Kept b s → Run s es t → Kept b t
@@ -146,9 +146,9 @@ first_place b w es s maps r posted refuted settled =
       before = λ i lt. ⊎_elim
           (λ (p : Is s i status.Posted). absurd (let a = k.least.below i p in omega arith))
           (λ (h : Is s i status.Refuted ⊎ Is s i status.Cut). ⊎_elim
-              (λ (p : Is s i status.Refuted). refuted i p)
-              (λ (p : Is s i status.Cut). let x = k.cut i p in absurd (let a = k.least.below x.0 x.1 in let d = x.2 in omega arith))
-              h)
+          (λ (p : Is s i status.Refuted). refuted i p)
+          (λ (p : Is s i status.Cut). let x = k.cut i p in absurd (let a = k.least.below x.0 x.1 in let d = x.2 in omega arith))
+          h)
           (settled i (let a = k.least.bound in omega arith));
       here = λ lt. ⊎_elim (λ (e : s.least ≡ b). absurd (omega arith)) (λ (p : Is s s.least status.Posted). posted s.least p) k.least.reached;
     }

@@ -1,5 +1,6 @@
 pub mod Lists
-pub mod Tests
+pub mod Counts
+pub mod Needed
 pub mod Refusals
 pub mod Runs
 pub mod Tied

@@ -12,7 +12,7 @@ use Rattle.wf_core.specs.declared.event.Illegal.TheVariants.{NoWorker, NoBranch,
 use Rattle.wf_core.specs.declared.machine.Worker.{Worker}
 use Rattle.wf_core.specs.Core.{State, Is, Saw, IsActive, HoldsNothing, has_worker, has_branch, is_active, is_held_by, is_idle, is_free, holds, has_seen_below, refusal}
 use Rattle.wf_core.specs.Fields.{IsWorker}
-use Rattle.wf_core.proofs.Tests.{any_at, held_here, free_fact, worker_there, branch_there, active_true, idle_true, holds_true, fails_after}
+use Rattle.wf_core.proofs.Needed.{any_at, held_here, free_fact, worker_there, branch_there, active_true, idle_true, holds_true, fails_after}
 
 busy : (s : State) (w : ℕ) (k : Worker) (o : Option ℕ) → IsWorker s w k → k.holds ≡ o → is_some o ≡ true → is_idle s w ≡ false
 busy s w k None is e some = absurd (false≢true some)

@@ -1,12 +1,14 @@
 -- Runs of joined lists, and of a list's beginning.
-use Rattle.std.proofs.Common.{◌≡◌, ◌⊎◌, ⊎_elim, inl, inr, ℕ, zero, suc, ◌+◌, ◌<◌, List, [], ◌∷◌, ◌++◌, length, take, get_or, refl, sym, ap, ◌∙◌, subst, arith}
+use Rattle.std.proofs.Common.{◌≡◌, ◌⊎◌, ⊎_elim, inl, inr, ℕ, zero, suc, ◌+◌, ◌<◌, List, [], ◌∷◌, ◌++◌, length, take, get_or, refl, sym, ap, ◌∙◌, subst, arith, min, length-set}
 use Rattle.std.specs.Prelude.{◌↔◌, Option, Some, None, slice_get}
 use Rattle.std.proofs.lemmas.Option.{same_Some, none-some, slice_get_within, slice_get-get_or}
+use Rattle.wf_core.specs.declared.event.Status.TheVariants.{Held, Refuted, Posted, Cut as WasCut}
 use Rattle.wf_core.specs.declared.event.Event.{Event}
+use Rattle.wf_core.specs.declared.event.Event.TheVariants.{Take, Look, Post, Searched, Cut, End}
 use Rattle.wf_core.specs.declared.event.Illegal.{Illegal}
 use Rattle.wf_core.specs.Core.{State, Step, Run, after, refusal, IsFirstIllegal}
 use Rattle.wf_core.proofs.Lists.{take_next}
-use Rattle.wf_core.proofs.Tests.{needed, allowed}
+use Rattle.wf_core.proofs.Needed.{needed, allowed}
 
 pub run-append : (s t u : State) (xs ys : List Event) → Run s xs t → Run t ys u → Run s (xs ++ ys) u
 run-append s t u [] ys r q = subst (λ (x : State). Run x ys u) r q
@@ -45,8 +47,8 @@ after_first : (s : State) (e : Event) (es : List Event) (o : Option Illegal) →
 after_first s e es None h rest = ⊎_elim
     (λ (r : (t : State) × Run (after s e) es t). inl (r.0, (after s e, (needed s e h, refl), r.1)))
     (λ (f : (at : ℕ) × (why : Illegal) × IsFirstIllegal (after s e) es at why).
-        let lt = f.2.0 in let g = f.2.1 in
-        inr (suc f.0, f.1, (omega arith, (g.0, g.1, (after s e, (needed s e h, refl), g.2), g.3, g.4))))
+    let lt = f.2.0 in let g = f.2.1 in
+    inr (suc f.0, f.1, (omega arith, (g.0, g.1, (after s e, (needed s e h, refl), g.2), g.3, g.4))))
     rest
 after_first s e es (Some why) h rest = inr (0, why, (omega arith, (s, e, refl, refl, h)))
 
@@ -84,6 +86,26 @@ one_place s (e ∷ es) (suc i) (suc j) why because a b =
     let la = a.0 in
     let lb = b.0 in
     let rest = one_place m es i j why because
-        (omega arith, (a.1.0, a.1.1, a.1.2.2, a.1.3, a.1.4))
-        (omega arith, (b.1.0, b.1.1, subst (λ (x : State). Run x (take j es) b.1.0) (step_one s n.0 m e n.1 a.1.2.1) n.2, b.1.3, b.1.4)) in
+    (omega arith, (a.1.0, a.1.1, a.1.2.2, a.1.3, a.1.4))
+    (omega arith, (b.1.0, b.1.1, subst (λ (x : State). Run x (take j es) b.1.0) (step_one s n.0 m e n.1 a.1.2.1) n.2, b.1.3, b.1.4)) in
     (ap suc rest.0, rest.1)
+
+-- a step leaves as many branches and workers
+pub record SameSizes (s t : State) : Type 0 where
+  pub branches : length t.branches ≡ length s.branches
+  pub seen : length t.seen ≡ length s.seen
+
+pub sizes_step : (s : State) (e : Event) → SameSizes s (after s e)
+sizes_step s (Take w i) = record { branches = length-set s.branches i (Held w); seen = refl }
+sizes_step s (Look w) = record { branches = refl; seen = length-set s.seen w s.least }
+sizes_step s (Post w i) = record { branches = length-set s.branches i Posted; seen = length-set s.seen w (min s.least i) }
+sizes_step s (Searched w i) = record { branches = length-set s.branches i Refuted; seen = refl }
+sizes_step s (Cut w i) = record { branches = length-set s.branches i WasCut; seen = refl }
+sizes_step s (End w) = record { branches = refl; seen = refl }
+
+pub sizes_run : (s t : State) (es : List Event) → Run s es t → SameSizes s t
+sizes_run s t [] r = subst (SameSizes s) (sym r) (record { branches = refl; seen = refl })
+sizes_run s t (e ∷ es) r =
+    let one = subst (SameSizes s) (sym r.1.1) (sizes_step s e) in
+    let rest = sizes_run r.0 t es r.2 in
+    record { branches = rest.branches ∙ one.branches; seen = rest.seen ∙ one.seen }

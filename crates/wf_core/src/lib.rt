@@ -4,6 +4,8 @@
 mod event;
 mod laws;
 mod machine;
+#[cfg(test)]
+mod tests;
 
 pub use event::{Account, CoreFault, Event, Illegal, Status};
 pub use laws::{

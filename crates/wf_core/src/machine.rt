@@ -64,6 +64,7 @@ impl Core {
         events: &[Event],
     ) -> Result<Core, CoreFault>
         ensures ok { IfOk result (Run (start branches workers) events.now) }
+        ensures sizes { IfOk result (λ c. (length c.branches ≡ branches) × (length c.seen ≡ workers)) }
         ensures fault { IfErr result (Explains (start branches workers) events.now) }
     {
         let mut core = Core::start(alloc, branches, workers)?;
@@ -95,20 +96,20 @@ impl Core {
     }
 
     /// The status of a branch.
-    pub fn status(&self, i: u32) -> Status
-        requires { i < length self.now.branches }
-        ensures { Is self.now i result }
+    pub fn status(&self, branch: u32) -> Status
+        requires { branch < length self.now.branches }
+        ensures { Is self.now branch result }
     {
-        self.branches[i as usize]
+        self.branches[branch as usize]
     }
 
     /// The number that a worker has seen: the least posted one as of its last look or post, or the number of
     /// branches.
-    pub fn seen(&self, w: u32) -> u32
-        requires { w < length self.now.seen }
-        ensures { Saw self.now w result }
+    pub fn seen(&self, worker: u32) -> u32
+        requires { worker < length self.now.seen }
+        ensures { Saw self.now worker result }
     {
-        self.workers[w as usize].seen
+        self.workers[worker as usize].seen
     }
 
     // Whether the event is legal: asks its needs in the order of the reasons.

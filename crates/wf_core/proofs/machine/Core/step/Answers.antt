@@ -1,4 +1,4 @@
-use Rattle.wf_core.proofs.Tests.{allowed}
+use Rattle.wf_core.proofs.Needed.{allowed}
 use Rattle.wf_core.proofs.machine.Core.step.Goals as goal
 
 pub returns-clause-legal : goal.returns-clause-legal
