@@ -1,6 +1,7 @@
 -- Lists read by `slice_get`, after a write.
-use Rattle.std.proofs.Common.{◌≡◌, ◌≢◌, ◌⊎◌, ℕ, zero, suc, ◌<◌, List, [], ◌∷◌, ◌++◌, length, set, replicate, take, refl, sym, ap, ⊎_elim, inl, inr, arith}
-use Rattle.std.specs.Prelude.{Option, Some, None, slice_get}
+use Rattle.std.proofs.Common.{◌≡◌, ◌≢◌, ◌⊎◌, ℕ, zero, suc, ◌<◌, List, [], ◌∷◌, ◌++◌, length, set, replicate, take, refl, sym, ap, ◌∙◌, subst, ⊎_elim, inl, inr, arith, ◌+◌, ◌≤◌, append_assoc, length-append}
+use Rattle.std.specs.Prelude.{Option, Some, None, slice_get, All, Contains}
+use Rattle.std.proofs.lemmas.List.Elements.{All-contains, Contains-append_left, Contains-push}
 use Rattle.std.proofs.lemmas.Option.{none-some, same_Some}
 use mathlib.Core.Option.{some, some-ne-none, some-injective}
 use lib.ListN.{get_elem?}
@@ -58,3 +59,14 @@ module _ {A : Type 0} where
   put_at [] i a b e = absurd (some-ne-none a (sym e))
   put_at (x ∷ xs) zero a b e = refl
   put_at (x ∷ xs) (suc i) a b e = put_at xs i a b e
+
+  -- a loop pops the list xs from its end, and has done the rest: what it pops stands in the whole list
+  pub popped_has : (P : A → Type 0) (whole xs ys done : List A) (x : A) → whole ≡ xs ++ done → xs ≡ ys ++ x ∷ [] → All P whole → P x
+  popped_has P whole xs ys done x e f all = All-contains P whole x all
+      (subst (λ (l : List A). Contains l x) (sym (e ∙ ap (λ (l : List A). l ++ done) f)) (Contains-append_left (ys ++ x ∷ []) done x (Contains-push ys x)))
+
+  pub popped_is : (whole xs ys done : List A) (x : A) → whole ≡ xs ++ done → xs ≡ ys ++ x ∷ [] → whole ≡ ys ++ x ∷ done
+  popped_is whole xs ys done x e f = e ∙ ap (λ (l : List A). l ++ done) f ∙ append_assoc ys (x ∷ []) done
+
+  pub popped_length : (whole ys done : List A) (x : A) → whole ≡ ys ++ x ∷ done → length done + 1 ≤ length whole
+  popped_length whole ys done x e = let a = ap length e in let b = length-append ys (x ∷ done) in omega arith
