@@ -91,3 +91,17 @@ inside_of i a b h e = omega arith
 
 pub fresh_of : (i : ℕ) (v d : Desk) → v ≡ d → times i (settled d) ≡ 0 → times i (settled v) ≡ 0
 fresh_of i v d e h = subst (λ (x : Desk). times i (settled x) ≡ 0) (sym e) h
+
+-- How often a branch stands in what a seat has settled, after a call
+
+settled_parts : (x : ℕ) (d : Desk) → times x (settled d) ≡ times x d.posted + (times x d.refuted + times x d.cut)
+settled_parts x d = let a = times-append x d.posted (d.refuted ++ d.cut) in let b = times-append x d.refuted d.cut in omega arith
+
+pub settled-posted : (x i l : ℕ) (d : Desk) → times x (settled (posted d i l)) ≡ times x (settled d) + times x (i ∷ [])
+settled-posted x i l d = let a = settled_parts x d in let b = settled_parts x (posted d i l) in let e = times-append x d.posted (i ∷ []) in omega arith
+
+pub settled-searched : (x i : ℕ) (d : Desk) → times x (settled (searched d i)) ≡ times x (settled d) + times x (i ∷ [])
+settled-searched x i d = let a = settled_parts x d in let b = settled_parts x (searched d i) in let e = times-append x d.refuted (i ∷ []) in omega arith
+
+pub settled-is_cut : (x i : ℕ) (d : Desk) → times x (settled (is_cut d i)) ≡ times x (settled d) + times x (i ∷ [])
+settled-is_cut x i d = let a = settled_parts x d in let b = settled_parts x (is_cut d i) in let e = times-append x d.cut (i ∷ []) in omega arith

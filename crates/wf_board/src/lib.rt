@@ -7,6 +7,8 @@
 mod board;
 mod laws;
 mod table;
+#[cfg(test)]
+mod tests;
 
 pub use board::{Board, BoardSeat};
 pub use laws::calls_are_events;
