@@ -1,0 +1,6 @@
+pub mod Views
+pub mod Keeps
+pub mod Parts
+pub mod Seats
+pub mod Gathered
+pub mod Events

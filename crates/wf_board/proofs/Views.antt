@@ -1,0 +1,27 @@
+-- What stands in the seats' lists, after one view has changed.
+use Rattle.std.proofs.Common.{◌≡◌, ◌≢◌, ◌⊎◌, ℕ, List, set, sym, ◌∙◌, subst, ⊎_elim, inl, inr}
+use Rattle.std.specs.Prelude.{Contains}
+use mathlib.Core.Option.{some, some-injective}
+use mathlib.Core.Logic.{dite}
+use native.Mathlib.Decide.{ℕ_discrete}
+use lib.ListN.{get_elem?}
+use Rattle.atomic_table.proofs.Lists.{at_set, set_else}
+use Rattle.wf_core.proofs.Lists.{put_at}
+use Rattle.wf_board.specs.declared.table.View.{View}
+use Rattle.wf_board.specs.Rule.{Stands}
+
+-- a list that grows keeps what stands there
+pub stands_kept : (f : View → List ℕ) (views : List View) (id : ℕ) (v w : View) → get_elem? views id ≡ some v → ((x : ℕ) → Contains (f v) x → Contains (f w) x)
+    → (x : ℕ) → Stands f views x → Stands f (set views id w) x
+stands_kept f views id v w at grows x p = dite (ℕ_discrete p.0 id)
+    (λ (e : p.0 ≡ id).
+    let same : v ≡ p.1 = some-injective v p.1 (sym at ∙ subst (λ (k : ℕ). get_elem? views k ≡ some p.1) e p.2) in
+    (id, w, put_at views id v w at, grows x (subst (λ (u : View). Contains (f u) x) (sym same) p.3)))
+    (λ (ne : p.0 ≢ id). (p.0, p.1, set_else views id p.0 w ne ∙ p.2, p.3))
+
+-- what stands there afterwards stood there, or is the new view's
+pub stands_before : (f : View → List ℕ) (views : List View) (id : ℕ) (w : View) (x : ℕ) → Stands f (set views id w) x → Stands f views x ⊎ Contains (f w) x
+stands_before f views id w x p = ⊎_elim
+    (λ (t : (p.0 ≡ id) × (w ≡ p.1)). inr (subst (λ (u : View). Contains (f u) x) (sym t.1) p.3))
+    (λ (t : (p.0 ≢ id) × (get_elem? views p.0 ≡ some p.1)). inl (p.0, p.1, t.1, p.3))
+    (at_set views id p.0 w p.1 p.2)

@@ -1,0 +1,87 @@
+-- What contracts see of a board and of a seat, and what each call changes in a seat.
+use Rattle.std.specs.Prelude.{◌≡◌, ℕ, ◌+◌, ◌≤◌, ◌⊎◌, List, [], ◌∷◌, ◌++◌, All, Contains}
+use Rattle.atomic_table.specs.Seated.{TableId}
+use Rattle.wf_board.specs.declared.table.View.{View}
+
+-- a board: which one, and its branches and workers
+pub record Place : Type 0 where
+  pub table : TableId
+  pub branches : ℕ
+  pub workers : ℕ
+
+abbrev pub place : TableId → ℕ → ℕ → Place
+place table branches workers = record { table = table; branches = branches; workers = workers }
+
+-- a seat: of which board, the number that it has seen, and the branches that it has posted, refuted and cut
+pub record Desk : Type 0 where
+  pub table : TableId
+  pub branches : ℕ
+  pub seen : ℕ
+  pub posted : List ℕ
+  pub refuted : List ℕ
+  pub cut : List ℕ
+
+abbrev pub desk : TableId → ℕ → ℕ → List ℕ → List ℕ → List ℕ → Desk
+desk table branches seen posted refuted cut =
+    record { table = table; branches = branches; seen = seen; posted = posted; refuted = refuted; cut = cut }
+
+-- a seat that has done nothing has seen the number of branches
+abbrev pub fresh_desk : Place → Desk
+fresh_desk p = desk p.table p.branches p.branches [] [] []
+
+-- the branches that the seat has settled
+abbrev pub settled : Desk → List ℕ
+settled d = d.posted ++ (d.refuted ++ d.cut)
+
+-- the seat after each of the calls, which found or left this least number
+
+abbrev pub looked : Desk → ℕ → Desk
+looked d least = record d { seen = least }
+
+abbrev pub posted : Desk → ℕ → ℕ → Desk
+posted d branch least = record d { seen = least; posted = d.posted ++ branch ∷ [] }
+
+abbrev pub searched : Desk → ℕ → Desk
+searched d branch = record d { refuted = d.refuted ++ branch ∷ [] }
+
+abbrev pub is_cut : Desk → ℕ → Desk
+is_cut d branch = record d { cut = d.cut ++ branch ∷ [] }
+
+-- seats of this board
+abbrev pub AreSeats : Place → List Desk → Type 0
+AreSeats p ds = All (λ d. (d.table ≡ p.table) × (d.branches ≡ p.branches)) ds
+
+-- What seats know of the table
+
+abbrev pub knows : List ℕ → List ℕ → List ℕ → List ℕ → View
+knows seen posted refuted cut = record { seen = seen; posted = posted; refuted = refuted; cut = cut }
+
+abbrev pub nothing : View
+nothing = knows [] [] [] []
+
+abbrev pub joined : View → View → View
+joined v w = knows (v.seen ++ w.seen) (v.posted ++ w.posted) (v.refuted ++ w.refuted) (v.cut ++ w.cut)
+
+-- what a worker's seat knows
+abbrev pub known : Desk → View
+known d = knows (d.seen ∷ []) d.posted d.refuted d.cut
+
+-- what several seats know together, the last one's first
+abbrev pub gathered : List Desk → View
+gathered [] = nothing
+gathered (d ∷ ds) = joined (gathered ds) (known d)
+
+abbrev pub all_posted : List Desk → List ℕ
+all_posted ds = (gathered ds).posted
+
+abbrev pub all_refuted : List Desk → List ℕ
+all_refuted ds = (gathered ds).refuted
+
+abbrev pub all_cut : List Desk → List ℕ
+all_cut ds = (gathered ds).cut
+
+-- the least of these numbers, or b where there is none
+pub record IsLeast (b : ℕ) (xs : List ℕ) (least : ℕ) : Type 0 where
+  pub bound : least ≤ b
+  pub below : All (λ x. least ≤ x) xs
+  pub reached : (least ≡ b) ⊎ Contains xs least

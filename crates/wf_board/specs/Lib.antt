@@ -1,0 +1,3 @@
+pub mod Desk
+pub mod Rule
+pub mod Shows

@@ -1,0 +1,287 @@
+// The board and its seats.
+ghost use Rattle.std.specs.Prelude.{ℕ, ◌≡◌, ◌+◌, ◌*◌, ◌^◌, ◌<◌, ◌≤◌, ◌⊎◌, [], ◌∷◌, ◌++◌, length, All, Contains, IfOk};
+ghost use Rattle.wf_core.specs.Count.{times};
+ghost use Rattle.wf_board.specs.Rule.{Sits, IsRest, Ends};
+ghost use Rattle.wf_board.specs.Desk.{Desk, Place, desk, place, looked, posted, searched, is_cut, settled, fresh_desk, AreSeats, gathered, all_posted, all_refuted, all_cut, IsLeast};
+
+use crate::table::{About, Cut, Gather, Hand, Ledger, Look, Post, Refute, Ruled, View};
+use atomic_table::{Seat, Table};
+use std::alloc::{AllocError, Global};
+use std::marker::{Brand, Model};
+use wf_core::Account;
+
+/// The least posted branch, and the numbers of refuted and cut branches, as three atomic words.
+///
+/// Contracts see which board it is, and its numbers of branches and workers.
+#[derive(Drop)]
+pub struct Board {
+    table: Table<(), View, Ledger, Ruled, Global>,
+    branches: u32,
+    workers: u32,
+}
+
+impl Model for Board {
+    ghost Value = { Place };
+
+    ghost view = { λ b. place b.table.shared.table_id b.branches b.workers };
+
+    ghost invariant = { λ b. (b.table.shared.table_id.words ≡ 3) × (b.table.shared.table_id.slots ≡ 0) × (b.table.shared.key.branches ≡ b.branches) × (b.table.shared.key.workers ≡ b.workers) × (b.branches * b.workers < 2 ^ 32) × (0 < b.workers) };
+}
+
+/// A worker's seat at a board.
+///
+/// Contracts see which board it is of, the number that it has seen, and the branches that it has posted, refuted and
+/// cut.
+#[derive(Drop)]
+pub struct BoardSeat {
+    seat: Seat<(), View>,
+    branches: u32,
+    seen: u32,
+    posts: u32,
+}
+
+impl Model for BoardSeat {
+    ghost Value = { Desk };
+
+    ghost view = { λ s. desk s.seat.table_id s.branches s.seen s.seat.me.0.posted s.seat.me.0.refuted s.seat.me.0.cut };
+
+    ghost invariant = { λ s. Sits s.seen s.posts s.branches s.seat.me };
+}
+
+// A seat with the numbers of the workers that have no seat yet.
+#[derive(Drop)]
+struct Rest {
+    seat: Seat<(), View>,
+    left: u32,
+}
+
+// The three words of a board that is closed.
+#[derive(Clone, Copy)]
+struct Words {
+    least: u32,
+    refuted: u32,
+    cut: u32,
+}
+
+impl BoardSeat {
+    /// The number that this seat has seen: the least posted branch as of its last look or post, or the number of
+    /// branches.
+    pub fn seen(&self) -> u32
+        ensures { result ≡ self.now.seen }
+    {
+        self.seen
+    }
+}
+
+impl Board {
+    /// A board, with a seat for each worker.
+    pub fn make(
+        alloc: Global,
+        branches: u32,
+        workers: u32,
+    ) -> Result<(Board, Vec<BoardSeat>), AllocError>
+        requires { (0 < workers) × (branches * workers < 2 ^ 32) }
+        ensures board { IfOk result (λ m. (m.0.branches ≡ branches) × (m.0.workers ≡ workers)) }
+        ensures seats { IfOk result (λ m. (length m.1.items ≡ workers) × All (λ d. d ≡ fresh_desk m.0) m.1.items) }
+    {
+        let (board, rest) = Board::open(alloc, branches, workers)?;
+        let seats = board.hand_all(alloc, rest)?;
+        Ok((board, seats))
+    }
+
+    /// Sees the least posted number, or the number of branches where none is posted. One load.
+    pub fn least(&self, seat: &mut BoardSeat) -> u32
+        requires { seat.old.table ≡ self.now.table }
+        ensures looked { seat.new ≡ looked seat.old result }
+        ensures down { result ≤ seat.old.seen }
+    {
+        let found = self.table.shared.load::<Look>(&mut seat.seat, 0);
+        seat.seen = found as u32;
+        seat.seen
+    }
+
+    /// Posts a branch that has a map, and sees the least posted number. One atomic minimum.
+    pub fn post(&self, seat: &mut BoardSeat, branch: u32) -> u32
+        requires board { (seat.old.table ≡ self.now.table) × (seat.old.branches ≡ self.now.branches) }
+        requires branch { (branch < self.now.branches) × (times branch (settled seat.old) ≡ 0) }
+        ensures posted { seat.new ≡ posted seat.old branch result }
+        ensures least { (result ≤ branch) × (result ≤ seat.old.seen) }
+    {
+        let found = self
+            .table
+            .shared
+            .fetch_min::<Post>(&mut seat.seat, 0, u64::from(branch));
+        seat.seen = found.min(u64::from(branch)) as u32;
+        seat.posts += 1;
+        seat.seen
+    }
+
+    /// Counts a branch that was searched and has no map. One atomic addition.
+    pub fn searched(&self, seat: &mut BoardSeat, branch: u32)
+        requires board { (seat.old.table ≡ self.now.table) × (seat.old.branches ≡ self.now.branches) }
+        requires branch { (branch < self.now.branches) × (times branch (settled seat.old) ≡ 0) }
+        ensures { seat.new ≡ searched seat.old branch }
+    {
+        self.add_refuted::<Brand>(seat, branch);
+    }
+
+    /// Counts a branch that needs no search, since the seat has seen a lower one posted. One atomic addition.
+    pub fn cut(&self, seat: &mut BoardSeat, branch: u32)
+        requires board { (seat.old.table ≡ self.now.table) × (seat.old.branches ≡ self.now.branches) }
+        requires branch { (branch < self.now.branches) × (times branch (settled seat.old) ≡ 0) }
+        requires below { seat.old.seen < branch }
+        ensures { seat.new ≡ is_cut seat.old branch }
+    {
+        self.add_cut::<Brand>(seat, branch);
+    }
+
+    /// What all workers did, exactly. It takes all seats of this board, and no memory.
+    pub fn finish(self, seats: Vec<BoardSeat>) -> Account
+        requires { (length seats.items ≡ self.workers) × AreSeats self seats.items }
+        ensures branches { result.branches ≡ self.branches }
+        ensures least { IsLeast self.branches (all_posted seats.items) result.least }
+        ensures searched { result.searched ≡ length (all_posted seats.items) + length (all_refuted seats.items) }
+        ensures cut { result.cut ≡ length (all_cut seats.items) }
+        ensures seen { All (λ d. (d.seen ≡ self.branches) ⊎ Contains (all_posted seats.items) d.seen) seats.items }
+    {
+        let mut seats = seats;
+        let Some(first) = seats.pop() else {
+            unreachable!()
+        };
+        let branches = self.branches;
+        let (all, posts) = self.gather(first, seats);
+        let words = self.close(all);
+        Account {
+            branches,
+            least: words.least,
+            searched: posts + words.refuted,
+            cut: words.cut,
+        }
+    }
+
+    fn open(alloc: Global, branches: u32, workers: u32) -> Result<(Board, Rest), AllocError>
+        requires { (0 < workers) × (branches * workers < 2 ^ 32) }
+        ensures { IfOk result (λ m. (m.0.branches ≡ branches) × (m.0.workers ≡ workers) × (m.1.left ≡ workers) × IsRest m.1.seat.me m.1.left branches × (m.1.seat.table_id ≡ m.0.table)) }
+    {
+        let (table, seat) = Table::of_words(
+            alloc,
+            &[u64::from(branches), 0, 0],
+            &Ledger { branches, workers },
+        )?;
+        let board = Board {
+            table,
+            branches,
+            workers,
+        };
+        let rest = Rest {
+            seat,
+            left: workers,
+        };
+        Ok((board, rest))
+    }
+
+    fn hand_all(&self, alloc: Global, mut rest: Rest) -> Result<Vec<BoardSeat>, AllocError>
+        requires { (0 < rest.left) × IsRest rest.seat.me rest.left self.now.branches × (rest.seat.table_id ≡ self.now.table) }
+        ensures { IfOk result (λ s. (length s.items ≡ rest.left) × All (λ d. d ≡ fresh_desk self.now) s.items) }
+    {
+        let mut seats = Vec::new(alloc);
+        while rest.left > 1 {
+            seats.push(self.hand(&mut rest))?;
+        }
+        let Rest { seat, left: _ } = rest;
+        seats.push(self.seated(seat))?;
+        Ok(seats)
+    }
+
+    // One worker's number goes to a seat.
+    fn hand(&self, rest: &mut Rest) -> BoardSeat
+        requires { (1 < rest.old.left) × IsRest rest.old.seat.me rest.old.left self.now.branches × (rest.old.seat.table_id ≡ self.now.table) }
+        ensures rest { (rest.new.left + 1 ≡ rest.old.left) × IsRest rest.new.seat.me rest.new.left self.now.branches × (rest.new.seat.table_id ≡ self.now.table) }
+        ensures seat { result ≡ fresh_desk self.now }
+    {
+        let seat = self.table.shared.split_seat::<Hand>(&mut rest.seat);
+        rest.left -= 1;
+        self.seated(seat)
+    }
+
+    fn seated(&self, seat: Seat<(), View>) -> BoardSeat
+        requires { IsRest seat.me 1 self.now.branches × (seat.table_id ≡ self.now.table) }
+        ensures { result ≡ fresh_desk self.now }
+    {
+        BoardSeat {
+            seat,
+            branches: self.branches,
+            seen: self.branches,
+            posts: 0,
+        }
+    }
+
+    fn add_refuted<J: About>(&self, seat: &mut BoardSeat, branch: u32)
+        requires picked { J.branch ≡ branch }
+        requires board { (seat.old.table ≡ self.now.table) × (seat.old.branches ≡ self.now.branches) }
+        requires branch { (branch < self.now.branches) × (times branch (settled seat.old) ≡ 0) }
+        ensures { seat.new ≡ searched seat.old branch }
+    {
+        self.table
+            .shared
+            .fetch_add::<Refute<J>>(&mut seat.seat, 1, 1);
+    }
+
+    fn add_cut<J: About>(&self, seat: &mut BoardSeat, branch: u32)
+        requires picked { J.branch ≡ branch }
+        requires board { (seat.old.table ≡ self.now.table) × (seat.old.branches ≡ self.now.branches) }
+        requires branch { (branch < self.now.branches) × (times branch (settled seat.old) ≡ 0) }
+        requires below { seat.old.seen < branch }
+        ensures { seat.new ≡ is_cut seat.old branch }
+    {
+        self.table.shared.fetch_add::<Cut<J>>(&mut seat.seat, 2, 1);
+    }
+
+    // The first seat takes in what the others know. The number is that of the posts.
+    fn gather(&self, first: BoardSeat, seats: Vec<BoardSeat>) -> (Seat<(), View>, u32)
+        requires seats { AreSeats self.now (seats.items ++ first ∷ []) }
+        requires room { length (seats.items ++ first ∷ []) * self.now.branches < 2 ^ 32 }
+        ensures { (result.0.table_id ≡ self.now.table) × (result.0.me ≡ (gathered (seats.items ++ first ∷ []), [])) × (result.1 ≡ length (gathered (seats.items ++ first ∷ [])).posted) }
+    {
+        let BoardSeat {
+            seat: mut all,
+            branches: _,
+            seen: _,
+            mut posts,
+        } = first;
+        let mut seats = seats;
+        while let Some(next) = seats.pop() {
+            let BoardSeat {
+                seat,
+                branches: _,
+                seen: _,
+                posts: more,
+            } = next;
+            self.table.shared.join_seat::<Gather>(&mut all, seat);
+            posts += more;
+        }
+        (all, posts)
+    }
+
+    // The words at the end, where the seat has every worker's number.
+    fn close(self, all: Seat<(), View>) -> Words
+        requires { (all.table_id ≡ self.table) × (length all.me.0.seen ≡ self.workers) }
+        ensures { Ends self.branches self.workers all.me.0 result.least result.refuted result.cut }
+    {
+        let Board {
+            table,
+            branches: _,
+            workers: _,
+        } = self;
+        let closed = table.close_with(all);
+        let least = closed.word(0);
+        let refuted = closed.word(1);
+        let cut = closed.word(2);
+        closed.free();
+        Words {
+            least: least as u32,
+            refuted: refuted as u32,
+            cut: cut as u32,
+        }
+    }
+}

@@ -1,0 +1,14 @@
+// What the board's steps are in the pool.
+ghost use Rattle.wf_board.specs.Shows.{StartIsShown, LookIsEvent, PostIsEvent, SearchedIsEvent, CutIsEvent};
+
+/// Each call of the board is one event of the pool of its name: whatever the table is between two steps, and
+/// whatever state of the pool it shows, the step leaves a table that shows the state after the event. The calls that
+/// settle a branch are so where their worker holds it. What a step leaves in the seat is said by the words that the
+/// calls' contracts use.
+pub fn calls_are_events()
+    ensures start { StartIsShown }
+    ensures look { LookIsEvent }
+    ensures post { PostIsEvent }
+    ensures searched { SearchedIsEvent }
+    ensures cut { CutIsEvent }
+{}

@@ -1,0 +1,9 @@
+pub mod Lists
+pub mod Counts
+pub mod Needed
+pub mod Refusals
+pub mod Runs
+pub mod Tied
+pub mod Kept
+pub mod Holding
+pub mod Writes

@@ -1,0 +1,16 @@
+use Rattle.std.proofs.Common.{ap, refl, ◌∙◌, slice_set, true}
+use Rattle.std.proofs.lemmas.Option.{slice_get_read}
+use Rattle.wf_core.specs.Core.{State}
+use Rattle.wf_core.proofs.Tied.{same_ties}
+use Rattle.wf_core.proofs.Writes.{active_place, ended_shown}
+use Rattle.wf_core.proofs.machine.Core.end.Goals as goal
+
+pub invariant_of-self : goal.invariant_of-self
+invariant_of-self c =
+    let place = active_place c.self.inside.branches.items c.self.inside.workers.items c.self.inside.least c.args.self.now c.args.w c.self.view_is c.requires in
+    same_ties _ _ _ _ _ c.self.invariant (slice_get_read c.self.inside.workers.items _ c.args.w c.index_mut-worker.result.now refl place c.index_mut-worker.ensures.value) refl
+
+pub returns : goal.returns
+returns c =
+    ended_shown _ _ _ _ _ _ c.index_mut-worker.ensures.value refl refl
+    ∙ ap (λ (s : State). record s { ended = slice_set s.ended c.args.w true }) c.self.view_is

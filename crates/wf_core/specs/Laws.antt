@@ -1,0 +1,74 @@
+-- What holds after every list of legal events.
+use Rattle.std.specs.Prelude.{◌≡◌, ℕ, ◌<◌, ◌≤◌, ◌⊎◌, ◌↔◌, Bool, true, false, List, ◌∷◌, ◌++◌, All, Option, Some, None, slice_index_or}
+use Rattle.wf_core.specs.declared.event.Status.TheVariants as status
+use Rattle.wf_core.specs.declared.event.Event.{Event}
+use Rattle.wf_core.specs.declared.event.Event.TheVariants.{Take, Post, Searched, Cut}
+use Rattle.wf_core.specs.declared.event.Illegal.{Illegal}
+use Rattle.wf_core.specs.Core.{State, Is, Saw, Step, Run, start, refusal, IsFirstIllegal}
+
+-- l is the least posted branch, or b where none is posted
+pub record IsLeastPosted (b : ℕ) (s : State) (l : ℕ) : Type 0 where
+  pub bound : l ≤ b
+  pub below : (i : ℕ) → Is s i status.Posted → l ≤ i
+  pub reached : (l ≡ b) ⊎ Is s l status.Posted
+
+abbrev pub LeastIsPosted : Type 0
+LeastIsPosted = (branches workers : ℕ) (events : List Event) (s : State)
+    → Run (start branches workers) events s → IsLeastPosted branches s s.least
+
+-- a number that a worker has seen was posted, or is the number of branches
+abbrev pub SeenWasPosted : Type 0
+SeenWasPosted = (branches workers : ℕ) (events : List Event) (s : State)
+    → Run (start branches workers) events s
+    → (w n : ℕ) → Saw s w n → (s.least ≤ n) × ((n ≡ branches) ⊎ Is s n status.Posted)
+
+abbrev pub CutLiesAbove : Type 0
+CutLiesAbove = (branches workers : ℕ) (events : List Event) (s : State)
+    → Run (start branches workers) events s
+    → (i : ℕ) → Is s i status.Cut → (j : ℕ) × Is s j status.Posted × (j < i)
+
+-- the event settles branch i for worker w
+abbrev pub Settles : Event → ℕ → ℕ → Type 0
+Settles e w i = (e ≡ Post w i) ⊎ ((e ≡ Searched w i) ⊎ (e ≡ Cut w i))
+
+-- by these events worker w took branch i, and has not settled it since
+abbrev pub Holds : List Event → ℕ → ℕ → Type 0
+Holds events w i = (before later : List Event) × (events ≡ before ++ Take w i ∷ later) × All (λ e. ¬ (Settles e w i)) later
+
+abbrev pub HeldIsHeld : Type 0
+HeldIsHeld = (branches workers : ℕ) (events : List Event) (s : State)
+    → Run (start branches workers) events s
+    → (w i : ℕ) → Holds events w i ↔ Is s i (status.Held w)
+
+abbrev pub OneWorker : Type 0
+OneWorker = (branches workers : ℕ) (events : List Event) (s : State)
+    → Run (start branches workers) events s
+    → (v w i : ℕ) → Holds events v i → Holds events w i → v ≡ w
+
+abbrev pub OneBranch : Type 0
+OneBranch = (branches workers : ℕ) (events : List Event) (s : State)
+    → Run (start branches workers) events s
+    → (w i j : ℕ) → Holds events w i → Holds events w j → i ≡ j
+
+-- the branch was searched or cut
+abbrev pub IsSettled : State → ℕ → Type 0
+IsSettled s i = Is s i status.Posted ⊎ (Is s i status.Refuted ⊎ Is s i status.Cut)
+
+-- whether branch i has a map
+abbrev pub has_map : List Bool → ℕ → Bool
+has_map maps i = slice_index_or maps i false
+
+-- i is the first true place, or b where none of the first b places is true
+pub record IsFirstTrue (maps : List Bool) (b i : ℕ) : Type 0 where
+  pub bound : i ≤ b
+  pub before : (j : ℕ) → j < i → has_map maps j ≡ false
+  pub here : i < b → has_map maps i ≡ true
+
+-- Posts and refutals tell the truth, and every branch is settled. Cut branches may have a map or not.
+abbrev pub FirstTruePlace : Type 0
+FirstTruePlace = (branches workers : ℕ) (events : List Event) (s : State) (maps : List Bool)
+    → Run (start branches workers) events s
+    → ((i : ℕ) → Is s i status.Posted → has_map maps i ≡ true)
+    → ((i : ℕ) → Is s i status.Refuted → has_map maps i ≡ false)
+    → ((i : ℕ) → i < branches → IsSettled s i)
+    → IsFirstTrue maps branches s.least

@@ -1,0 +1,4 @@
+pub mod Core
+pub mod Count
+pub mod Fields
+pub mod Laws

@@ -1,0 +1,3 @@
+pub mod Shares
+pub mod Rule
+pub mod Hands
