@@ -1,1 +1,4 @@
 pub mod Filled
+pub mod Lists
+pub mod Texts
+pub mod Colours

@@ -3,8 +3,13 @@
 //! - [`Row`]: the output values of a tuple, one for each process of an input simplex. Copied, five bytes, no memory.
 #![tactic(auto)]
 
+mod draft;
+pub mod fault;
+mod judge;
 pub mod row;
+mod shape;
 
+pub use fault::{Key, Limit, TaskFault};
 pub use row::Row;
 
 #[cfg(test)]
