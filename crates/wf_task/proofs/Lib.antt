@@ -2,3 +2,5 @@ pub mod Filled
 pub mod Lists
 pub mod Texts
 pub mod Colours
+pub mod Sizes
+pub mod Judged

@@ -3,9 +3,13 @@ use Rattle.std.specs.Prelude.{List, map}
 use Rattle.wf_model.specs.Simplex.{Simplex}
 use Rattle.wf_model.specs.Task.{Rule, Tuple}
 use Rattle.wf_task.specs.declared.shape.Entry.{Entry}
+use Rattle.wf_task.specs.declared.shape.ListedSimplex.{ListedSimplex}
 use Rattle.wf_task.specs.declared.draft.Draft.{Draft}
 use Rattle.wf_task.specs.Shape.{rule_of}
 use Rattle.wf_task.specs.Draft.{Listed}
+
+abbrev pub pairs_seen : ListedSimplex → Simplex
+pairs_seen s = s.pairs.items
 
 abbrev pub entry_seen : Entry → Rule
 entry_seen e = rule_of e.input.pairs.items (map (λ t. t.items) e.tuples.items)
@@ -15,7 +19,7 @@ draft_seen draft = record {
   version = draft.version;
   processes = draft.processes;
   symmetric = draft.symmetric;
-  inputs = map (λ s. s.pairs.items) draft.inputs.items;
-  outputs = map (λ s. s.pairs.items) draft.outputs.items;
+  inputs = map pairs_seen draft.inputs.items;
+  outputs = map pairs_seen draft.outputs.items;
   delta = map entry_seen draft.delta.items;
 }

@@ -1,5 +1,5 @@
 -- The task that a draft lists, or its first fault: the refusals 4 to 14, in this order.
-use Rattle.std.specs.Prelude.{ℕ, suc, ◌+◌, ◌==◌, ◌&&◌, ◌||◌, nat_lt, nat_le, Bool, true, false, not, List, [], ◌∷◌, ◌++◌, map, filter, flat_map, length, zip, sum_by, Option, Some, None, option_map, Result, Ok, Err, position, if◌then◌else◌}
+use Rattle.std.specs.Prelude.{ℕ, suc, ◌+◌, ◌==◌, ◌&&◌, ◌||◌, nat_lt, nat_le, Bool, true, false, not, List, [], ◌∷◌, ◌++◌, map, filter, flat_map, length, zip, sum_by, count_by, Option, Some, None, option_map, Result, Ok, Err, position, if◌then◌else◌}
 use Rattle.std.specs.List.{list_any, list_all}
 use Rattle.std.specs.Ordering.{nat_cmp}
 use Rattle.std.specs.Cmp.Lexicographic.{slice_cmp}
@@ -88,7 +88,7 @@ numbers_judged listed = do
 -- 8: of how many there are, where inputs is the input complex
 unfoldable pub sizes_judged : Listed → List Simplex → Result (Unit {0}) TaskFault
 sizes_judged listed inputs = do
-  vertices ← refused_if (nat_lt 64 (length (filter (λ s. length s == 1) inputs))) (fault.TooMany limit.Vertices)
+  vertices ← refused_if (nat_lt 64 (count_by (λ s. length s == 1) inputs)) (fault.TooMany limit.Vertices)
   simplices ← refused_if (nat_lt 4096 (length inputs)) (fault.TooMany limit.Simplices)
   outputs ← refused_if (nat_lt 65536 (length listed.outputs)) (fault.TooMany limit.Outputs)
   refused_if (nat_lt 65536 (sum_by (λ rule. length rule.tuples) listed.delta)) (fault.TooMany limit.Tuples)

@@ -3,6 +3,7 @@
 //! - [`Row`]: the output values of a tuple, one for each process of an input simplex. Copied, five bytes, no memory.
 #![tactic(auto)]
 
+mod complexes;
 mod draft;
 pub mod fault;
 mod judge;

@@ -1,4 +1,4 @@
-ghost use Rattle.std.specs.Prelude.{◌≡◌, ℕ, List, map, Option, option_map, option_and_then, IfOk};
+ghost use Rattle.std.specs.Prelude.{◌≡◌, ℕ, List, map, vec_len, ◌<◌, Option, option_map, option_and_then, IfOk};
 ghost use Rattle.serde_json.specs.Data.{Data};
 ghost use Rattle.serde_json.specs.View.{view, items_view};
 ghost use Rattle.wf_model.specs.Task.{Rule};
@@ -92,6 +92,7 @@ pub(crate) fn list<T: Shape + Drop>(
 #[derive(Drop)]
 pub(crate) struct ListedSimplex {
     pub(crate) pairs: Vec<(u64, u64)>,
+    ghost some: { 0 < vec_len pairs },
 }
 
 impl Shape for ListedSimplex {
