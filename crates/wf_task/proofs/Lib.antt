@@ -4,3 +4,4 @@ pub mod Texts
 pub mod Colours
 pub mod Sizes
 pub mod Judged
+pub mod TaskSeen

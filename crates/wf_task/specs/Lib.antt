@@ -5,3 +5,4 @@ pub mod Draft
 pub mod DraftSeen
 pub mod Text
 pub mod Judge
+pub mod TaskSeen

@@ -9,9 +9,11 @@ pub mod fault;
 mod judge;
 pub mod row;
 mod shape;
+pub mod task;
 
 pub use fault::{Key, Limit, TaskFault};
 pub use row::Row;
+pub use task::Task;
 
 #[cfg(test)]
 mod tests;
