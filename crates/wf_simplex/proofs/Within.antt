@@ -1,9 +1,9 @@
 -- The faces of a simplex within some bounds are within them.
-use Rattle.std.proofs.Common.{◌≡◌, ℕ, zero, suc, ◌+◌, ◌<◌, ◌≤◌, Bool, true, false, ◌&&◌, nat_lt, List, [], ◌∷◌, ◌++◌, length, map, All, ◌⊎◌, inl, inr, refl, sym, ap, ◌∙◌, subst, arith, ltb-true, lt-ltb}
+use Rattle.std.proofs.Common.{◌≡◌, ℕ, zero, suc, ◌+◌, ◌<◌, ◌≤◌, Bool, true, false, ◌&&◌, nat_lt, List, [], ◌∷◌, ◌++◌, length, map, All, ◌⊎◌, inl, inr, refl, sym, ap, ◌∙◌, subst, arith, ltb-true, lt-ltb, None}
 use Rattle.std.specs.declared.cmp.Ordering.{Ordering}
 use Rattle.std.specs.declared.cmp.Ordering.TheVariants.{Less, Equal, Greater}
 use Rattle.std.specs.Ordering.{match_ordering}
-use Rattle.std.specs.List.{AllByRecursion}
+use Rattle.std.specs.List.{AllByRecursion, list_all}
 use Rattle.std.proofs.lemmas.List.Elements.{All-nil, All-cons, All-head, All-tail, All-from_recursion, recursion_from_All, All-contains}
 use Rattle.wf_model.specs.Lists.{with_element}
 use Rattle.wf_model.specs.Simplex.{Vertex, Simplex, processes_of, values_of, is_ascending, is_nonempty, is_simplex, parts_of, faces_of, simplex_cmp, complex_of}
@@ -12,7 +12,8 @@ use Rattle.wf_simplex.specs.Faces.{with_all}
 use Rattle.wf_simplex.specs.Order.{simplex_cmp-total, simplex_cmp-Equal}
 use Rattle.wf_simplex.proofs.Orders.{Has, has-append, has-in_order, has_from_place, length-with_element}
 use Rattle.wf_simplex.proofs.Faces.{has-filter, of_some_facet, begins, length-faces_of}
-use Rattle.wf_simplex.proofs.Reading.{and_both, and_first, and_second}
+use Rattle.wf_simplex.specs.Reading.{has_large, read_fault}
+use Rattle.wf_simplex.proofs.Reading.{and_both, and_first, and_second, no_fault}
 
 -- processes from m on, below n and ascending, with values of at most the largest
 Climbs : ℕ → ℕ → ℕ → Simplex → Type 0
@@ -130,3 +131,39 @@ all-with_all cmp P (x ∷ xs) ys h g = all-with_element cmp P x (with_all cmp xs
 pub length-with_all : {X : Type 0} (cmp : X → X → Ordering) (xs ys : List X) → length (with_all cmp xs ys) ≤ length xs + length ys
 length-with_all cmp [] ys = omega arith
 length-with_all cmp (x ∷ xs) ys = omega (arith, length-with_element cmp x (with_all cmp xs ys), length-with_all cmp xs ys)
+
+-- ---- how many vertices, and no fault
+
+climbs_length : (n largest m : ℕ) (s : Simplex) → m ≤ n → Climbs n largest m s → length s + m ≤ n
+unfolding Climbs
+climbs_length n largest m [] low h = omega arith
+climbs_length n largest m (v ∷ s) low h = omega (arith, h.0, climbs_length n largest (v.0 + 1) s (omega (arith, h.1)) h.3)
+
+-- a simplex has at most one vertex for each process
+pub length-within : (n largest : ℕ) (s : Simplex) → IsSimplexWithin n largest s → length s ≤ n
+length-within n largest s h = omega (arith, climbs_length n largest 0 s (omega arith) (climbs n largest s h))
+
+list_all-below : (n : ℕ) (ps : List ℕ) → All (λ p. p < n) ps → list_all (λ p. nat_lt p n) ps ≡ true
+list_all-below n [] h = refl
+list_all-below n (p ∷ ps) h = and_both (nat_lt p n) (list_all (λ p. nat_lt p n) ps) (lt-ltb p n (All-head (λ p. p < n) p ps h)) (list_all-below n ps (All-tail (λ p. p < n) p ps h))
+
+none_large : (s : Simplex) → All (λ x. x ≤ 63) (values_of s) → has_large s ≡ false
+none_large [] h = refl
+none_large (v ∷ s) h =
+    let first : v.1 ≤ 63 = All-head (λ x. x ≤ 63) v.1 (values_of s) h in
+    let small = not_above v.1 first in
+    rw small (none_large s (All-tail (λ x. x ≤ 63) v.1 (values_of s) h))
+  where
+    not_above : (x : ℕ) → x ≤ 63 → nat_lt 63 x ≡ false
+    not_above x low = by (nat_lt 63 x) refl
+      where
+        by : (b : Bool) → nat_lt 63 x ≡ b → b ≡ false
+        by true e = absurd (let l : 63 < x = ltb-true 63 x e in omega arith)
+        by false e = refl
+
+-- a simplex is read without a fault
+pub read_fault-within : (s : Simplex) → IsSimplexWithin 4 63 s → read_fault s ≡ None
+read_fault-within s h =
+    no_fault s (and_first (is_nonempty s) (is_ascending (processes_of s)) h.is_simplex)
+      (and_both (is_ascending (processes_of s)) (list_all (λ p. nat_lt p 4) (processes_of s)) (and_second (is_nonempty s) (is_ascending (processes_of s)) h.is_simplex) (list_all-below 4 (processes_of s) h.processes))
+      (none_large s h.values)

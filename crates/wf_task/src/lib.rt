@@ -3,9 +3,17 @@
 //! - [`Row`]: the output values of a tuple, one for each process of an input simplex. Copied, five bytes, no memory.
 #![tactic(auto)]
 
+mod complexes;
+mod draft;
+pub mod fault;
+mod judge;
 pub mod row;
+mod shape;
+pub mod task;
 
+pub use fault::{Key, Limit, TaskFault};
 pub use row::Row;
+pub use task::Task;
 
 #[cfg(test)]
 mod tests;

@@ -1,0 +1,9 @@
+use Rattle.std.proofs.Common.{◌≡◌, ◌<◌, ◌≤◌, All, length, map, sym, ap, ◌∙◌, subst, arith}
+use Rattle.wf_model.specs.Task.{IsSimplexWithin}
+use Rattle.wf_task.specs.DraftSeen.{pairs_seen}
+use Rattle.wf_task.proofs.Sizes.{seen_within}
+use Rattle.wf_task.proofs.complexes.complex.Goals as goal
+
+pub simplex_of-requires : goal.simplex_of-requires
+simplex_of-requires c =
+    subst (IsSimplexWithin 4 63) (sym c.deref.ensures.value) (seen_within c.args.listed.now c.loop-simplex.simplex-index c.simplex-item.result c.loop-simplex-test.true c.simplex-item.is c.requires)

@@ -1,0 +1,6 @@
+use Rattle.std.proofs.Common.{◌≡◌, map, take}
+use Rattle.wf_task.specs.DraftSeen.{pairs_seen}
+use Rattle.wf_task.proofs.complexes.complex.Given as goal
+
+abbrev pub invariant-loop-simplex : goal.invariant-loop-simplex
+invariant-loop-simplex l = l.facets.items ≡ map pairs_seen (take l.simplex-index l.listed)

@@ -1,0 +1,25 @@
+-- What a clause sees of the program's drafts.
+use Rattle.std.specs.Prelude.{List, map}
+use Rattle.wf_model.specs.Simplex.{Simplex}
+use Rattle.wf_model.specs.Task.{Rule, Tuple}
+use Rattle.wf_task.specs.declared.shape.Entry.{Entry}
+use Rattle.wf_task.specs.declared.shape.ListedSimplex.{ListedSimplex}
+use Rattle.wf_task.specs.declared.draft.Draft.{Draft}
+use Rattle.wf_task.specs.Shape.{rule_of}
+use Rattle.wf_task.specs.Draft.{Listed}
+
+abbrev pub pairs_seen : ListedSimplex → Simplex
+pairs_seen s = s.pairs.items
+
+abbrev pub entry_seen : Entry → Rule
+entry_seen e = rule_of e.input.pairs.items (map (λ t. t.items) e.tuples.items)
+
+abbrev pub draft_seen : Draft → Listed
+draft_seen draft = record {
+  version = draft.version;
+  processes = draft.processes;
+  symmetric = draft.symmetric;
+  inputs = map pairs_seen draft.inputs.items;
+  outputs = map pairs_seen draft.outputs.items;
+  delta = map entry_seen draft.delta.items;
+}

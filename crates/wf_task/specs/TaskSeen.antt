@@ -1,0 +1,28 @@
+-- What a clause sees of the program's tasks, and what each of them keeps.
+use Rattle.std.specs.Prelude.{◌≡◌, ℕ, ◌<◌, ◌↔◌, true, List, [], ◌∷◌, map, length, None, vec_items}
+use Rattle.std.specs.Int.{bit_at}
+use Rattle.wf_model.specs.Lists.{has}
+use Rattle.wf_model.specs.Simplex.{Simplex}
+use Rattle.wf_model.specs.Task.{Task, Rule, Tuple, IsTask, values}
+use Rattle.wf_task.specs.declared.task.Task.TheInside.{Inside}
+use Rattle.wf_task.specs.Shape.{rule_of}
+
+-- each input simplex with its tuples
+abbrev pub rules_seen : List Simplex → List (List Tuple) → List Rule
+rules_seen [] ts = []
+rules_seen (s ∷ ss) [] = []
+rules_seen (s ∷ ss) (t ∷ ts) = rule_of s t ∷ rules_seen ss ts
+
+abbrev pub task_seen : Inside → Task
+task_seen t = record {
+  processes = t.processes;
+  symmetric = t.symmetric;
+  restriction = None;
+  rules = rules_seen t.inputs (map vec_items t.tuples.items);
+  outputs = t.outputs;
+}
+
+pub record IsKept (t : Inside) : Type 0 where
+  pub task : IsTask (task_seen t)
+  pub each : length (map vec_items t.tuples.items) ≡ length t.inputs
+  pub values : (v : ℕ) → v < 64 → (bit_at t.values v ≡ 1) ↔ (has (values (task_seen t)) v ≡ true)

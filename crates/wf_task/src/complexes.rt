@@ -1,0 +1,91 @@
+ghost use Rattle.std.specs.Prelude.{◌≡◌, ◌==◌, ◌<◌, ◌≤◌, ℕ, All, List, map, count_by, sum_by, nat_lt, length, Ok};
+ghost use Rattle.wf_model.specs.Simplex.{complex_of};
+ghost use Rattle.wf_model.specs.Task.{IsSimplexWithin};
+ghost use Rattle.wf_task.specs.Draft.{Gives};
+ghost use Rattle.wf_task.specs.DraftSeen.{draft_seen, pairs_seen, entry_seen};
+ghost use Rattle.wf_task.specs.Judge.{sizes_judged};
+
+use crate::draft::Draft;
+use crate::fault::{Limit, TaskFault};
+use crate::shape::{Entry, ListedSimplex};
+use std::alloc::Global;
+use wf_simplex::{Complex, Simplex};
+
+/// The most facets that a complex is made of.
+const MOST_FACETS: usize = 16_777_216;
+
+/// The simplex of pairs that were judged.
+fn simplex_of(pairs: &[(u64, u64)]) -> Simplex
+    requires { IsSimplexWithin 4 63 pairs.now }
+    ensures { result ≡ pairs.now }
+{
+    let mut small = [(0u8, 0u8); 4];
+    for (place, (process, value)) in pairs.iter().enumerate() {
+        small[place] = (*process as u8, *value as u8);
+    }
+    match Simplex::read(&small[..pairs.len()]) {
+        Ok(simplex) => simplex,
+        Err(_) => unreachable!(),
+    }
+}
+
+/// The faces of listed simplices that were judged. A text lists fewer simplices than it has bytes, and so no
+/// more than a complex can be made of; should that fail, it counts as want of memory.
+pub(crate) fn complex(alloc: Global, listed: &[ListedSimplex]) -> Result<Complex, TaskFault>
+    requires { All (IsSimplexWithin 4 63) (map pairs_seen listed.now) }
+    ensures { Gives (λ c. c) result (Ok (complex_of (map pairs_seen listed.now))) }
+{
+    if listed.len() > MOST_FACETS {
+        return Err(TaskFault::OutOfMemory);
+    }
+    let mut facets = Vec::new(alloc);
+    for simplex in listed {
+        facets.push(simplex_of(&simplex.pairs))?;
+    }
+    Ok(Complex::from_facets(alloc, &facets)?)
+}
+
+/// How many of the simplices are vertices.
+fn count_vertices(simplices: &[Simplex]) -> usize
+    ensures { result ≡ count_by (λ s. length s == 1) simplices.now }
+{
+    simplices
+        .iter()
+        .filter(|simplex| simplex.colours() == 1)
+        .count()
+}
+
+/// Whether the entries have more value lists than this.
+fn has_more_tuples(delta: &[Entry], most: usize) -> bool
+    ensures { result ≡ nat_lt most (sum_by (λ rule. length rule.tuples) (map entry_seen delta.now)) }
+{
+    let mut left = most;
+    for entry in delta {
+        let tuples = entry.tuples.as_slice().len();
+        if tuples > left {
+            return true;
+        }
+        left -= tuples;
+    }
+    false
+}
+
+/// Refusal 8.
+#[tactic(auto, unfolding(crate::specs::Judge::sizes_judged))]
+pub(crate) fn judge_sizes(draft: &Draft, inputs: &[Simplex]) -> Result<(), TaskFault>
+    ensures { Gives (λ u. u) result (sizes_judged (draft_seen draft.now) inputs.now) }
+{
+    if count_vertices(inputs) > 64 {
+        return Err(TaskFault::TooMany(Limit::Vertices));
+    }
+    if inputs.len() > 4096 {
+        return Err(TaskFault::TooMany(Limit::Simplices));
+    }
+    if draft.outputs.len() > 65536 {
+        return Err(TaskFault::TooMany(Limit::Outputs));
+    }
+    if has_more_tuples(&draft.delta, 65536) {
+        return Err(TaskFault::TooMany(Limit::Tuples));
+    }
+    Ok(())
+}

@@ -1,0 +1,102 @@
+ghost use Rattle.std.specs.Prelude.{◌≡◌, List, map, option_map};
+ghost use Rattle.serde_json.specs.Find.{as_bool};
+ghost use Rattle.serde_json.specs.View.{view};
+ghost use Rattle.wf_task.specs.Shape.{whole_of};
+ghost use Rattle.wf_task.specs.Draft.{Gives, value_at, list_at, draft_of};
+ghost use Rattle.wf_task.specs.DraftSeen.{draft_seen};
+
+use crate::fault::{Key, TaskFault};
+use crate::shape::{Entry, ListedSimplex, Shape, list};
+use serde_json::Value;
+use std::alloc::Global;
+
+/// What a JSON value of the right shape lists, and nothing judged yet.
+#[derive(Drop)]
+pub(crate) struct Draft {
+    pub(crate) version: u64,
+    pub(crate) processes: u64,
+    pub(crate) symmetric: bool,
+    pub(crate) inputs: Vec<ListedSimplex>,
+    pub(crate) outputs: Vec<ListedSimplex>,
+    pub(crate) delta: Vec<Entry>,
+}
+
+/// The place as a refusal carries it. A text has fewer items than bytes, and so far fewer than u32 can say;
+/// should that fail, it counts as want of memory.
+fn place_of(place: usize) -> Result<u32, TaskFault>
+    ensures { Gives (λ n. n) result (Ok place) }
+{
+    match u32::try_from(place) {
+        Ok(place) => Ok(place),
+        Err(_) => Err(TaskFault::OutOfMemory),
+    }
+}
+
+/// A whole number under a key.
+fn number_under(key: Key, value: Option<&Value>) -> Result<u64, TaskFault>
+    ensures { Gives (λ n. n) result (value_at key whole_of (option_map (λ v. view v.now) value.entry)) }
+{
+    match value.and_then(Value::as_u64) {
+        Some(number) => Ok(number),
+        None => Err(TaskFault::Shape(key, 0)),
+    }
+}
+
+/// A truth value under a key.
+fn truth_under(key: Key, value: Option<&Value>) -> Result<bool, TaskFault>
+    ensures { Gives (λ b. b) result (value_at key as_bool (option_map (λ v. view v.now) value.entry)) }
+{
+    match value.and_then(Value::as_bool) {
+        Some(truth) => Ok(truth),
+        None => Err(TaskFault::Shape(key, 0)),
+    }
+}
+
+/// A list under a key, or the key with the place of the first item that has another shape.
+fn list_under<T: Shape + Drop>(
+    alloc: Global,
+    key: Key,
+    value: Option<&Value>,
+) -> Result<Vec<T>, TaskFault>
+    ensures { Gives (λ v. map T.seen v.items) result (list_at key T.reading (option_map (λ v. view v.now) value.entry)) }
+{
+    let Some(value) = value else {
+        return Err(TaskFault::Shape(key, 0));
+    };
+    let Some(items) = value.as_array() else {
+        return Err(TaskFault::Shape(key, 0));
+    };
+    match list(alloc, items)? {
+        Ok(found) => Ok(found),
+        Err(place) => Err(TaskFault::Shape(key, place_of(place)?)),
+    }
+}
+
+impl Draft {
+    /// What the value lists, or the first key of the wrong shape.
+    #[tactic(auto, using(crate::proofs::Lists::members_count), unfolding(crate::specs::Draft::draft_of))]
+    pub(crate) fn of(alloc: Global, value: &Value) -> Result<Draft, TaskFault>
+        ensures { Gives draft_seen result (draft_of (view value.now)) }
+    {
+        let Some(members) = value.as_object() else {
+            return Err(TaskFault::Shape(Key::Whole, 0));
+        };
+        let version = number_under(Key::Version, value.get("version"))?;
+        let processes = number_under(Key::Processes, value.get("processes"))?;
+        let symmetric = truth_under(Key::Symmetric, value.get("symmetric"))?;
+        let inputs = list_under(alloc, Key::Inputs, value.get("inputs"))?;
+        let outputs = list_under(alloc, Key::Outputs, value.get("outputs"))?;
+        let delta = list_under(alloc, Key::Delta, value.get("delta"))?;
+        if members.len() != 6 {
+            return Err(TaskFault::Shape(Key::Other, 0));
+        }
+        Ok(Draft {
+            version,
+            processes,
+            symmetric,
+            inputs,
+            outputs,
+            delta,
+        })
+    }
+}
