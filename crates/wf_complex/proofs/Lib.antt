@@ -4,3 +4,4 @@ pub mod InputLemmas
 pub mod Numbers
 pub mod LayoutLemmas
 pub mod Executions
+pub mod Bounds

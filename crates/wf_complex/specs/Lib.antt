@@ -2,3 +2,4 @@ pub mod Lines
 pub mod Rounds
 pub mod Numbering
 pub mod Layout
+pub mod Faults

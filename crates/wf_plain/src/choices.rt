@@ -9,6 +9,7 @@ pub(crate) fn advance(choices: &mut Vec<u8>, count: u8) -> bool
     requires below { All (λ c. c < count) choices.old.items }
     ensures below { All (λ c. c < count) choices.new.items }
     ensures long { vec_len choices.new ≤ vec_len choices.old }
+    ensures capacity { vec_capacity choices.new ≡ vec_capacity choices.old }
     ensures further { (n : ℕ) → length choices.old.items ≤ n → result ≡ true → remaining count n choices.new.items < remaining count n choices.old.items }
 {
     while let Some(last) = choices.pop() {

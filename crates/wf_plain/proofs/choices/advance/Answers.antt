@@ -10,6 +10,7 @@ loop-last-preserved c =
     record {
       below = all_front (λ x. x < c.args.count) c.loop-last.choices.items c.pop.new.self.items (c.in-Some.last ∷ []) popped c.loop-last.invariant.below;
       long = omega (arith, c.loop-last.invariant.long, c.in-Some.ensures.len);
+      capacity = c.in-Some.ensures.capacity ∙ c.loop-last.invariant.capacity;
       taken_back = (c.in-Some.last ∷ back.0, back.1 ∙ ap (λ xs. xs ++ back.0) popped ∙ append_assoc c.pop.new.self.items (c.in-Some.last ∷ []) back.0);
     }
 
