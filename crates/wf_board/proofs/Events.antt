@@ -1,22 +1,21 @@
 -- Each step of the board is an event of the pool.
-use Rattle.std.proofs.Common.{◌≡◌, ◌≢◌, ◌⊎◌, ℕ, zero, suc, ◌+◌, ◌%◌, ◌^◌, ◌<◌, min, List, [], ◌∷◌, ◌++◌, set, replicate, slice_index, slice_set, refl, sym, ap, ◌∙◌, subst, ⊎_elim, arith, inl, inr}
-use Rattle.std.specs.Prelude.{Contains, Option, Some, None, slice_get}
+use Rattle.std.proofs.Common.{◌≡◌, ◌≢◌, ◌⊎◌, ℕ, zero, suc, min, List, [], ◌∷◌, ◌++◌, set, replicate, slice_index, slice_set, refl, sym, ap, ◌∙◌, subst, ⊎_elim, arith, inl, inr}
+use Rattle.std.specs.Prelude.{Contains, Some, slice_get}
 use Rattle.std.proofs.lemmas.List.Elements.{Contains-push, Contains-push_cases, Contains-append_left}
-use Rattle.std.proofs.lemmas.Option.{same_Some, none-some}
+use Rattle.std.proofs.lemmas.Option.{same_Some}
 use mathlib.Core.Option.{some, some-ne-none, some-injective}
 use lib.ListN.{get_elem?}
-use Rattle.atomic_table.specs.Table.{State, stepped, keeps}
-use Rattle.atomic_table.proofs.Lists.{at_set as view_set, set_else as view_else}
+use Rattle.atomic_table.specs.Table.{State}
+use Rattle.atomic_table.proofs.Lists.{at_set as view_set}
 use Rattle.wf_core.specs.declared.event.Status.{Status}
 use Rattle.wf_core.specs.declared.event.Status.TheVariants as status
 use Rattle.wf_core.specs.declared.event.Event.TheVariants.{Look, Post, Searched, Cut}
-use Rattle.wf_core.specs.Core.{State as Core, Is, Saw, IsActive, Step, after, start}
+use Rattle.wf_core.specs.Core.{State as Core, Is, Saw, after, start}
 use Rattle.wf_core.proofs.Lists.{set_at, set_else, at_set, at_replicate, put_at}
 use Rattle.wf_board.specs.declared.table.View.{View}
-use Rattle.wf_board.specs.declared.table.Ledger.{Ledger}
-use Rattle.wf_board.specs.Desk.{Place, Desk, fresh_desk, known, looked, posted, searched, is_cut}
+use Rattle.wf_board.specs.Desk.{Place, fresh_desk, known, looked, posted, searched, is_cut}
 use Rattle.wf_board.specs.Rule.{Stands}
-use Rattle.wf_board.specs.Shows.{Agree, Shows, IsSeat, StartIsShown, LookIsEvent, PostIsEvent, SearchedIsEvent, CutIsEvent}
+use Rattle.wf_board.specs.Shows.{Agree, StartIsShown, LookIsEvent, PostIsEvent, SearchedIsEvent, CutIsEvent}
 use Rattle.wf_board.proofs.Views.{stands_kept, stands_before}
 
 -- a list that the step leaves alone, and a status that the event does not touch

@@ -1,5 +1,5 @@
 -- Each step of one seat keeps the rule.
-use Rattle.std.proofs.Common.{◌≡◌, ◌≢◌, ◌⊎◌, ℕ, zero, suc, ◌+◌, ◌*◌, ◌%◌, ◌^◌, ◌<◌, ◌≤◌, min, List, [], ◌∷◌, ◌++◌, length, set, refl, sym, ap, ◌∙◌, subst, ⊎_elim, arith, inl, inr, length-append, slice_index, slice_set, le_refl, le_trans}
+use Rattle.std.proofs.Common.{◌≡◌, ◌≢◌, ◌⊎◌, ℕ, ◌+◌, ◌*◌, ◌%◌, ◌^◌, ◌<◌, ◌≤◌, min, List, [], ◌∷◌, ◌++◌, length, set, refl, sym, ap, ◌∙◌, subst, ⊎_elim, arith, inl, inr, length-append, slice_index, le_refl, le_trans}
 use Rattle.std.specs.Prelude.{All, Contains}
 use Rattle.std.proofs.lemmas.List.Elements.{All-nil, All-cons, All-push, All-head, All-weaker, All-contains, Contains-push, Contains-append_left}
 use Rattle.std.proofs.Math.Nat.{min-le_left, min-le_right, min-eq_left, min-eq_right}
@@ -11,14 +11,14 @@ use mathlib.Core.Option.{none}
 use Rattle.atomic_table.specs.Table.{step}
 use mathlib.Core.Option.{some, some-ne-none, some-injective}
 use lib.ListN.{get_elem?}
-use Rattle.atomic_table.specs.Table.{State, Me, Step, Act, keeps, Allows, Valid, carried_after, stepped}
+use Rattle.atomic_table.specs.Table.{State, Step, Act, keeps, Allows, Valid, carried_after, stepped}
 use Rattle.atomic_table.proofs.Lists.{at_set}
 use Rattle.wf_board.specs.declared.table.View.{View}
 use Rattle.wf_board.specs.declared.table.Ledger.{Ledger}
 use Rattle.wf_core.specs.Count.{total}
 use Rattle.wf_core.proofs.Lists.{put_at}
 use Rattle.wf_core.proofs.Counts.{total_set, total_bound}
-use Rattle.wf_board.specs.Desk.{Desk, knows, known, looked, posted, searched, is_cut}
+use Rattle.wf_board.specs.Desk.{Desk, knows, known}
 use Rattle.wf_board.specs.Rule.{Posted, AtMost, Below, Fits, Shown, Seated, looks, posts, refutes, cuts}
 use Rattle.wf_board.proofs.Views.{stands_kept}
 
@@ -97,7 +97,7 @@ sees_least ledger slots id m one s h _ at _ =
       tt,
       shown,
       (λ d e. (
-        seen_head (λ x. l ≤ x) v d e (All-weaker (λ x. (l ≤ x) × ((x ≡ b) ⊎ Posted s.views x)) (λ x. l ≤ x) (λ x k. k.0) v.seen f.sees),
+        (seen_head (λ x. l ≤ x) v d e (All-weaker (λ x. (l ≤ x) × ((x ≡ b) ⊎ Posted s.views x)) (λ x. l ≤ x) (λ x k. k.0) v.seen f.sees), subst (λ (u : View). All (λ x. l ≤ x) u.posted) e f.posts),
         (λ k. (knows (l ∷ []) (e k).posted (e k).refuted (e k).cut, m.1)),
       )),
     )
@@ -152,7 +152,7 @@ posts_number ledger slots id m i one inside room s h _ at _ =
       tt,
       shown,
       (λ d e. (
-        seen_head (λ x. l ≤ x) v d e (All-weaker (λ x. (h.least ≤ x) × ((x ≡ b) ⊎ Posted s.views x)) (λ x. l ≤ x) (λ x k. le_trans down k.0) v.seen f.sees),
+        (seen_head (λ x. l ≤ x) v d e (All-weaker (λ x. (h.least ≤ x) × ((x ≡ b) ⊎ Posted s.views x)) (λ x. l ≤ x) (λ x k. le_trans down k.0) v.seen f.sees), subst (λ (u : View). All (λ x. l ≤ x) u.posted) e (All-weaker (λ x. h.least ≤ x) (λ x. l ≤ x) (λ x k. le_trans down k) v.posted f.posts)),
         (λ k. (knows (l ∷ []) ((e k).posted ++ i ∷ []) (e k).refuted (e k).cut, m.1)),
       )),
     )

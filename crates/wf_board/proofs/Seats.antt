@@ -1,12 +1,12 @@
 -- A worker's seat after each of its steps.
-use Rattle.std.proofs.Common.{◌≡◌, ◌≢◌, ℕ, ◌+◌, ◌<◌, ◌≤◌, List, [], ◌∷◌, ◌++◌, length, refl, sym, ap, ◌∙◌, subst, arith, length-append}
+use Rattle.std.proofs.Common.{◌≡◌, ◌≢◌, ℕ, ◌+◌, ◌<◌, ◌≤◌, List, [], ◌∷◌, ◌++◌, length, sym, ap, subst, arith, length-append}
 use mathlib.Core.Logic.{dite}
 use native.Mathlib.Decide.{ℕ_discrete}
 use Rattle.atomic_table.specs.Seated.{TableId}
-use Rattle.wf_core.specs.Count.{times, once_below}
+use Rattle.wf_core.specs.Count.{times}
 use Rattle.wf_core.proofs.Counts.{times-append, times_same, times_other, once_in, length-le_below, times_more}
 use Rattle.wf_board.specs.Rule.{Seated, Sits}
-use Rattle.wf_board.specs.Desk.{Desk, desk, knows, known, settled, looked, posted, searched, is_cut}
+use Rattle.wf_board.specs.Desk.{Desk, desk, knows, known, settled, posted, searched, is_cut}
 
 -- what the seat has settled
 abbrev all : Seated → List ℕ

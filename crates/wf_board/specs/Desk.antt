@@ -1,5 +1,5 @@
 -- What contracts see of a board and of a seat, and what each call changes in a seat.
-use Rattle.std.specs.Prelude.{◌≡◌, ℕ, ◌+◌, ◌≤◌, ◌⊎◌, List, [], ◌∷◌, ◌++◌, All, Contains}
+use Rattle.std.specs.Prelude.{◌≡◌, ℕ, ◌≤◌, ◌⊎◌, List, [], ◌∷◌, ◌++◌, All, Contains}
 use Rattle.atomic_table.specs.Seated.{TableId}
 use Rattle.wf_board.specs.declared.table.View.{View}
 

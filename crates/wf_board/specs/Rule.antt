@@ -56,16 +56,19 @@ Seated = Me (Unit {0}) View
 abbrev pub PlayOf : Type 1
 PlayOf = Step (Unit {0}) → Seated → ℕ → Seated → Type 0
 
--- Each step of a worker's seat leaves the seat as the call of its name says. The number found is at most what was
--- seen, where the step sees it.
+-- Each step of a worker's seat leaves the seat as the call of its name says. A number that the step sees is at most
+-- what the seat had seen and each of its posts.
+
+abbrev pub IsLow : Desk → ℕ → Type 0
+IsLow d least = (least ≤ d.seen) × All (λ x. least ≤ x) d.posted
 
 abbrev pub looks : PlayOf
 looks step me found after =
-    (d : Desk) → me.0 ≡ known d → (found ≤ d.seen) × (after ≡ (known (looked d found), me.1))
+    (d : Desk) → me.0 ≡ known d → IsLow d found × (after ≡ (known (looked d found), me.1))
 
 abbrev pub posts : PlayOf
 posts step me found after =
-    (d : Desk) → me.0 ≡ known d → (min found step.first ≤ d.seen) × (after ≡ (known (posted d step.first (min found step.first)), me.1))
+    (d : Desk) → me.0 ≡ known d → IsLow d (min found step.first) × (after ≡ (known (posted d step.first (min found step.first)), me.1))
 
 abbrev pub refutes : ℕ → PlayOf
 refutes branch step me found after = (d : Desk) → me.0 ≡ known d → after ≡ (known (searched d branch), me.1)

@@ -93,7 +93,7 @@ impl Board {
     pub fn least(&self, seat: &mut BoardSeat) -> u32
         requires { seat.old.table ≡ self.now.table }
         ensures looked { seat.new ≡ looked seat.old result }
-        ensures down { result ≤ seat.old.seen }
+        ensures low { (result ≤ seat.old.seen) × All (λ x. result ≤ x) seat.old.posted }
     {
         let found = self.table.shared.load::<Look>(&mut seat.seat, 0);
         seat.seen = found as u32;
@@ -105,7 +105,8 @@ impl Board {
         requires board { (seat.old.table ≡ self.now.table) × (seat.old.branches ≡ self.now.branches) }
         requires branch { (branch < self.now.branches) × (times branch (settled seat.old) ≡ 0) }
         ensures posted { seat.new ≡ posted seat.old branch result }
-        ensures least { (result ≤ branch) × (result ≤ seat.old.seen) }
+        ensures branch { result ≤ branch }
+        ensures low { (result ≤ seat.old.seen) × All (λ x. result ≤ x) seat.old.posted }
     {
         let found = self
             .table

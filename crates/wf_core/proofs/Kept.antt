@@ -1,9 +1,9 @@
 -- What every step keeps: the least number, the numbers that were seen, and where cut branches lie.
-use Rattle.std.proofs.Common.{◌≡◌, ◌≢◌, ◌⊎◌, ℕ, ◌<◌, ◌≤◌, min, Bool, true, false, List, [], ◌∷◌, length, set, refl, sym, ap, ◌∙◌, subst, ⊎_elim, inl, inr, arith, le_refl, le_trans, length-set, lt_of_not-le, le_of_lt}
-use Rattle.std.specs.Prelude.{Option, Some, None, slice_get}
+use Rattle.std.proofs.Common.{◌≡◌, ◌≢◌, ◌⊎◌, ℕ, ◌<◌, ◌≤◌, min, Bool, true, List, [], ◌∷◌, length, set, refl, sym, ◌∙◌, subst, ⊎_elim, inl, inr, arith, le_refl, le_trans, length-set, lt_of_not-le, le_of_lt}
+use Rattle.std.specs.Prelude.{Some, slice_get}
 use Rattle.std.proofs.Math.Nat.{min-le_left, min-le_right, min-eq_left, min-eq_right}
 use Rattle.std.proofs.lemmas.List.{length-replicate}
-use Rattle.std.proofs.lemmas.Option.{none-some, same_Some, slice_get_within}
+use Rattle.std.proofs.lemmas.Option.{same_Some, slice_get_within}
 use mathlib.Core.Logic.{dite}
 use native.Mathlib.Decide.{dec_le}
 use Rattle.wf_core.specs.declared.event.Status.{Status}
@@ -11,7 +11,7 @@ use Rattle.wf_core.specs.declared.event.Status.TheVariants as status
 use Rattle.wf_core.specs.declared.event.Event.{Event}
 use Rattle.wf_core.specs.declared.event.Event.TheVariants.{Take, Look, Post, Searched, Cut, End}
 use Rattle.wf_core.specs.Core.{State, Is, Saw, Step, Run, start}
-use Rattle.wf_core.specs.Laws.{IsLeastPosted, LeastIsPosted, SeenWasPosted, CutLiesAbove, IsFirstTrue, has_map, FirstTruePlace}
+use Rattle.wf_core.specs.Laws.{IsLeastPosted, LeastIsPosted, SeenWasPosted, CutLiesAbove, FirstTruePlace}
 use Rattle.wf_core.proofs.Lists.{set_at, set_else, at_set, at_replicate}
 
 min_cases : (a b : ℕ) → (min a b ≡ a) ⊎ (min a b ≡ b)

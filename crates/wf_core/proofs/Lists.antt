@@ -1,6 +1,6 @@
 -- Lists read by `slice_get`, after a write.
-use Rattle.std.proofs.Common.{◌≡◌, ◌≢◌, ◌⊎◌, ℕ, zero, suc, ◌<◌, List, [], ◌∷◌, ◌++◌, length, set, replicate, take, refl, sym, ap, ◌∙◌, subst, ⊎_elim, inl, inr, arith, ◌+◌, ◌≤◌, append_assoc, length-append}
-use Rattle.std.specs.Prelude.{Option, Some, None, slice_get, All, Contains}
+use Rattle.std.proofs.Common.{◌≡◌, ◌≢◌, ◌⊎◌, ℕ, zero, suc, List, [], ◌∷◌, ◌++◌, length, set, replicate, take, refl, sym, ap, ◌∙◌, subst, ⊎_elim, inl, inr, arith, ◌+◌, ◌≤◌, append_assoc, length-append}
+use Rattle.std.specs.Prelude.{Some, slice_get, All, Contains}
 use Rattle.std.proofs.lemmas.List.Elements.{All-contains, Contains-append_left, Contains-push}
 use Rattle.std.proofs.lemmas.Option.{none-some, same_Some}
 use mathlib.Core.Option.{some, some-ne-none, some-injective}

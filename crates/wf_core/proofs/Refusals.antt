@@ -1,16 +1,16 @@
 -- Which test fails, by the fields of a worker.
-use Rattle.std.proofs.Common.{◌≡◌, ℕ, ◌<◌, ◌≤◌, Bool, true, false, not, List, [], ◌∷◌, refl, sym, ap, ◌∙◌, arith}
-use Rattle.std.specs.Prelude.{Option, Some, None, slice_get, is_some, nat_lt}
+use Rattle.std.proofs.Common.{◌≡◌, ℕ, ◌≤◌, true, false, [], ◌∷◌, refl, sym, ap, ◌∙◌}
+use Rattle.std.specs.Prelude.{Option, Some, None, is_some, nat_lt}
 use Rattle.std.specs.List.{list_any}
 use Rattle.std.specs.Option.{option_map_or}
 use Rattle.std.proofs.lemmas.Bool.{false≢true, le-ltb, not_from_true, false_from_ne_true}
-use Rattle.std.proofs.lemmas.Option.{none-some, same_Some}
+use Rattle.std.proofs.lemmas.Option.{same_Some}
 use Rattle.wf_core.specs.declared.event.Status.{Status}
 use Rattle.wf_core.specs.declared.event.Status.TheVariants as status
 use Rattle.wf_core.specs.declared.event.Event.TheVariants.{Take, Cut, End}
 use Rattle.wf_core.specs.declared.event.Illegal.TheVariants.{NoWorker, NoBranch, Ended, Busy, NotFree, NotHeld, NotBelow}
 use Rattle.wf_core.specs.declared.machine.Worker.{Worker}
-use Rattle.wf_core.specs.Core.{State, Is, Saw, IsActive, HoldsNothing, has_worker, has_branch, is_active, is_held_by, is_idle, is_free, holds, has_seen_below, refusal}
+use Rattle.wf_core.specs.Core.{State, Is, IsActive, HoldsNothing, has_worker, has_branch, is_active, is_held_by, is_idle, is_free, holds, has_seen_below, refusal}
 use Rattle.wf_core.specs.Fields.{IsWorker}
 use Rattle.wf_core.proofs.Needed.{any_at, held_here, free_fact, worker_there, branch_there, active_true, idle_true, holds_true, fails_after}
 

@@ -1,8 +1,8 @@
 -- What a `Core` shows after a write to a worker's fields.
-use Rattle.std.proofs.Common.{◌≡◌, ◌≢◌, ℕ, zero, suc, ◌∷◌, replicate, ◌<◌, ◌≤◌, List, map, set, length, get_or, Bool, true, false, refl, sym, ap, ◌∙◌, arith, lt_of_not-le}
-use Rattle.std.specs.Prelude.{Option, Some, None, slice_get}
+use Rattle.std.proofs.Common.{◌≡◌, ℕ, zero, suc, ◌∷◌, replicate, ◌<◌, List, map, set, length, get_or, true, false, refl, sym, ap, ◌∙◌, arith, lt_of_not-le}
+use Rattle.std.specs.Prelude.{Some, None, slice_get}
 use Rattle.std.specs.Option.{option_and_then, option_map}
-use Rattle.std.proofs.lemmas.Option.{none-some, same_Some, slice_get-map, slice_get_within, slice_get_past, option_and_then_some}
+use Rattle.std.proofs.lemmas.Option.{none-some, slice_get-map, slice_get_within, slice_get_past, option_and_then_some}
 use Rattle.std.proofs.lemmas.List.{map-set, length-map}
 use Rattle.std.proofs.Math.Seq.{map-set_same}
 use mathlib.Core.Logic.{dite}
@@ -10,7 +10,7 @@ use native.Mathlib.Decide.{dec_le}
 use Rattle.wf_core.specs.declared.event.Status.{Status}
 use Rattle.wf_core.specs.declared.event.Status.TheVariants.{Free, Held}
 use Rattle.wf_core.specs.declared.machine.Worker.{Worker}
-use Rattle.wf_core.specs.Core.{State, Is, Saw, IsActive, start}
+use Rattle.wf_core.specs.Core.{State, IsActive, start}
 use Rattle.wf_core.proofs.Lists.{at_replicate}
 use Rattle.wf_core.specs.Fields.{shown, holding, IsTied, IsWorker}
 

@@ -3,7 +3,7 @@
 -- B branches are numbered from 0, and so are the workers. A worker takes a free branch, and then settles it: it
 -- posts the branch where it found a map, or finds that it has none, or gives it up because it has seen that a lower
 -- branch has a map. The least posted number is shared; a worker knows it as of its last look or post.
-use Rattle.std.specs.Prelude.{◌≡◌, ℕ, ◌<◌, Bool, true, false, not, List, [], ◌∷◌, length, min, replicate, take, slice_get, slice_index_or, slice_set, nat_lt, nat_eq, Option, Some, None}
+use Rattle.std.specs.Prelude.{◌≡◌, ℕ, ◌<◌, Bool, true, false, not, List, [], ◌∷◌, length, min, replicate, take, slice_get, slice_set, nat_lt, nat_eq, Option, Some, None}
 use Rattle.std.specs.List.{list_any}
 use Rattle.std.specs.Option.{option_map_or}
 use Rattle.wf_core.specs.declared.event.Status.{Status}

@@ -1,10 +1,10 @@
 -- What the fields of a `Core` mean.
-use Rattle.std.specs.Prelude.{◌≡◌, ℕ, List, map, slice_get, Option, Some, None}
+use Rattle.std.specs.Prelude.{◌≡◌, ℕ, List, map, slice_get, Option, Some}
 use Rattle.std.specs.Option.{option_and_then}
 use Rattle.wf_core.specs.declared.event.Status.{Status}
 use Rattle.wf_core.specs.declared.event.Status.TheVariants.{Held}
 use Rattle.wf_core.specs.declared.machine.Worker.{Worker}
-use Rattle.wf_core.specs.Core.{State, Is, Saw, IsActive}
+use Rattle.wf_core.specs.Core.{State, Is, Saw}
 
 abbrev pub shown : List Status → List Worker → ℕ → State
 shown branches workers least =

@@ -1,10 +1,9 @@
 -- What holds after every list of legal events.
-use Rattle.std.specs.Prelude.{◌≡◌, ℕ, ◌<◌, ◌≤◌, ◌⊎◌, ◌↔◌, Bool, true, false, List, ◌∷◌, ◌++◌, All, Option, Some, None, slice_index_or}
+use Rattle.std.specs.Prelude.{◌≡◌, ℕ, ◌<◌, ◌≤◌, ◌⊎◌, ◌↔◌, Bool, true, false, List, ◌∷◌, ◌++◌, All, slice_index_or}
 use Rattle.wf_core.specs.declared.event.Status.TheVariants as status
 use Rattle.wf_core.specs.declared.event.Event.{Event}
 use Rattle.wf_core.specs.declared.event.Event.TheVariants.{Take, Post, Searched, Cut}
-use Rattle.wf_core.specs.declared.event.Illegal.{Illegal}
-use Rattle.wf_core.specs.Core.{State, Is, Saw, Step, Run, start, refusal, IsFirstIllegal}
+use Rattle.wf_core.specs.Core.{State, Is, Saw, Run, start}
 
 -- l is the least posted branch, or b where none is posted
 pub record IsLeastPosted (b : ℕ) (s : State) (l : ℕ) : Type 0 where

@@ -1,5 +1,5 @@
 // The machine: its state, and its steps.
-ghost use Rattle.std.specs.Prelude.{ℕ, ◌≡◌, ◌<◌, ◌↔◌, List, [], ◌∷◌, Some, None, length, min, slice_get, slice_set, IfOk, IfErr, OnOk, OnErr};
+ghost use Rattle.std.specs.Prelude.{ℕ, ◌≡◌, ◌<◌, [], ◌∷◌, Some, None, length, slice_set, IfOk, IfErr, OnOk, OnErr};
 ghost use Rattle.wf_core.specs.declared.event.Illegal.TheVariants.{NoWorker, NoBranch, Ended};
 ghost use Rattle.wf_core.specs.declared.event.Status.TheVariants.{Free, Held};
 ghost use Rattle.wf_core.specs.Core.{Is, Saw, IsActive, HoldsNothing, Needs, Step, Run, start, after, refusal, Explains, has_worker, has_branch, is_active, first_failing};
@@ -82,6 +82,7 @@ impl Core {
         ensures legal { OnOk result (refusal self.old event ≡ None) }
         ensures why { IfErr result (λ why. refusal self.old event ≡ Some why) }
         ensures unchanged { OnErr result (self.new ≡ self.old) }
+        ensures sizes { (length self.new.branches ≡ length self.old.branches) × (length self.new.seen ≡ length self.old.seen) }
     {
         self.check(event)?;
         self.apply(event);

@@ -1,12 +1,11 @@
 -- What several shares know together.
-use Rattle.std.proofs.Common.{◌≡◌, ◌≢◌, ℕ, ◌+◌, ◌<◌, ◌≤◌, Bool, true, false, cond, List, [], ◌∷◌, ◌++◌, length, refl, sym, ap, ◌∙◌, arith}
+use Rattle.std.proofs.Common.{◌≡◌, ℕ, ◌+◌, ◌<◌, ◌≤◌, Bool, true, false, cond, List, [], ◌∷◌, ◌++◌, length, refl, ap, ◌∙◌, arith}
 use Rattle.std.specs.Prelude.{All, Option, Some, None, IfSome, MatchOption}
 use Rattle.std.proofs.lemmas.List.Elements.{All-head}
 use mathlib.Core.Logic.{dite}
 use native.Mathlib.Decide.{dec_lt}
 use Rattle.wf_core.specs.Count.{times, once_below, times_in}
 use Rattle.wf_core.proofs.Counts.{times-append, once_in, once_out}
-use Rattle.wf_handout.specs.declared.table.View.{View}
 use Rattle.wf_handout.specs.Rule.{knows, joined, Seated}
 use Rattle.wf_handout.specs.Hands.{Hand, known, gathered, Sits}
 

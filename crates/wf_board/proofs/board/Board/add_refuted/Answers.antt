@@ -1,7 +1,5 @@
-use Rattle.std.proofs.Common.{rules, ℕ, ◌≡◌, ◌+◌, ◌*◌, ◌^◌, ◌<◌, ◌≤◌, min, [], ◌∷◌, ◌++◌, length, arith, ap, sym, ◌∙◌, subst, refl}
-use Rattle.std.proofs.Math.Nat.{le-mul_of_pos_right}
-use Rattle.wf_board.specs.Rule.{Seated}
-use Rattle.wf_board.specs.Desk.{Desk, Place, knows, known, searched}
+use Rattle.std.proofs.Common.{rules, ℕ, ◌≡◌, ◌*◌, ◌^◌, ◌<◌, arith, ap, sym, ◌∙◌}
+use Rattle.wf_board.specs.Desk.{Desk, Place, known, searched}
 use Rattle.wf_board.proofs.Keeps.{refutes_number}
 use Rattle.wf_board.proofs.Seats.{sits_room, sits_refuted, one_seen, desk_at, sits_known, desk_is, inside_of, fresh_of}
 use Rattle.wf_board.proofs.board.Board.add_refuted.Goals as goal

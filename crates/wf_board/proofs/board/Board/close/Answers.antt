@@ -1,5 +1,4 @@
-use Rattle.std.proofs.Common.{ℕ, ◌≡◌, ◌+◌, ◌*◌, ◌^◌, ◌<◌, ◌≤◌, length, arith, ap, sym, subst, ◌∙◌}
-use lib.ListN.{get_elem?}
+use Rattle.std.proofs.Common.{ℕ, ◌≡◌, ◌*◌, ◌^◌, ◌<◌, length, arith, ap, sym, subst, ◌∙◌}
 use Rattle.wf_board.specs.Desk.{Place}
 use Rattle.wf_board.specs.Rule.{Ends}
 use Rattle.wf_board.proofs.Gathered.{ends}

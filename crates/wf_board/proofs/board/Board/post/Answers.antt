@@ -1,6 +1,6 @@
-use Rattle.std.proofs.Common.{rules, ℕ, ◌≡◌, ◌+◌, ◌*◌, ◌^◌, ◌<◌, ◌≤◌, min, [], ◌∷◌, ◌++◌, length, arith, ap, sym, ◌∙◌, subst, refl}
-use Rattle.std.proofs.Math.Nat.{le-mul_of_pos_right, min-le_right}
-use Rattle.wf_board.specs.Rule.{Seated}
+use Rattle.std.proofs.Common.{rules, ◌≡◌, min, [], ◌∷◌, ◌++◌, arith, ap, sym, ◌∙◌, subst}
+use Rattle.std.proofs.Math.Nat.{le-mul_of_pos_right}
+use Rattle.wf_board.specs.Rule.{IsLow}
 use Rattle.wf_board.specs.Desk.{Desk, Place, knows, known, posted}
 use Rattle.wf_board.proofs.Keeps.{posts_number}
 use Rattle.wf_board.proofs.Seats.{sits_room, sits_posted, one_seen, desk_at, sits_known, desk_is, inside_of, fresh_of}
@@ -56,16 +56,10 @@ returns-clause-posted c =
     desk_is _ _ (posted d c.args.branch c.min.result) _ c.fetch_min-found.ensures.0 after
     ∙ ap (λ (x : Desk). posted x c.args.branch c.min.result) c.seat.view_is
 
-pub returns-clause-least : goal.returns-clause-least
-returns-clause-least c =
+pub returns-clause-low : goal.returns-clause-low
+returns-clause-low c =
     let me = c.seat.inside.seat.me in
     let d = desk_at c.seat.inside.seat.table_id c.seat.inside.branches c.seat.inside.seen me in
     let knows_d = sits_known d.table d.seen c.seat.inside.posts d.branches me c.seat.invariant in
-    let number = c.from.ensures in
-    let least = ap (min c.fetch_min-found.result) (number ∙ sym c.from-2.ensures) ∙ sym c.min.ensures in
-    let low = (c.fetch_min-found.ensures.2 d knows_d).0 in
-    let seen = ap (λ (x : Desk). x.seen) c.seat.view_is in
-    let of = c.min.ensures in
-    let from = c.from-2.ensures in
-    let right = min-le_right c.fetch_min-found.result c.from-2.result in
-    (omega arith, omega arith)
+    let least = ap (min c.fetch_min-found.result) (c.from.ensures ∙ sym c.from-2.ensures) ∙ sym c.min.ensures in
+    subst (λ (x : Desk). IsLow x c.min.result) c.seat.view_is (subst (IsLow d) least (c.fetch_min-found.ensures.2 d knows_d).0)

@@ -1,4 +1,4 @@
-use Rattle.std.proofs.Common.{length, ◌∙◌, replicate}
+use Rattle.std.proofs.Common.{◌∙◌}
 use Rattle.std.proofs.lemmas.List.{length-replicate}
 use Rattle.wf_core.specs.declared.event.Status.TheVariants.{Free}
 use Rattle.wf_core.specs.Core.{start}

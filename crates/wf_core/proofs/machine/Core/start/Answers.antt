@@ -1,4 +1,3 @@
-use Rattle.std.proofs.Common.{ap, refl, sym, ◌∙◌, map, replicate}
 use Rattle.wf_core.proofs.Writes.{start_shown}
 use Rattle.wf_core.proofs.machine.Core.start.Goals as goal
 

@@ -1,5 +1,5 @@
 use Rattle.std.proofs.Common.{◌≡◌, ◌<◌, ap, refl, ◌∙◌, arith, length, slice_set}
-use Rattle.std.specs.Prelude.{Some, slice_get, ℕ}
+use Rattle.std.specs.Prelude.{slice_get, ℕ}
 use Rattle.std.proofs.lemmas.Option.{slice_get_read}
 use Rattle.wf_core.specs.declared.event.Status.TheVariants.{Held}
 use Rattle.wf_core.specs.Core.{State}
