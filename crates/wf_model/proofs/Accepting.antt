@@ -1,14 +1,14 @@
 -- The lines of a tree that refutes have no fault.
-use Rattle.std.proofs.Common.{◌≡◌, ℕ, zero, suc, ◌+◌, ◌<◌, ◌==◌, Bool, true, false, List, [], ◌∷◌, ◌++◌, map, length, slice_get, slice_set, Option, Some, None, All, sym, refl, ap, ◌∙◌, subst, arith, append_assoc, append-nil, length-set, nat_lt, if◌then◌else◌, cond}
+use Rattle.std.proofs.Common.{◌≡◌, ℕ, zero, suc, ◌+◌, ◌<◌, ◌==◌, true, false, List, [], ◌∷◌, ◌++◌, map, length, slice_get, Some, None, sym, refl, ap, ◌∙◌, subst, arith, append_assoc, append-nil, length-set, nat_lt}
 use Rattle.std.specs.List.{AllByRecursion}
 use Rattle.std.proofs.lemmas.Bool.{lt-ltb, ne_eqb, eq-eqb}
 use Rattle.std.proofs.lemmas.List.Elements.{recursion_from_All}
 use Rattle.std.proofs.Math.ListN.{length-replicate}
 use Rattle.wf_model.specs.Problem.{Problem, Constraint, IsWellFormed}
 use Rattle.wf_model.specs.Simplex.{is_ascending}
-use Rattle.wf_model.specs.Box.{Box, root, candidates, without, decided, branches_at, is_supported_in}
-use Rattle.wf_model.specs.Refutation.{Line, Tree, emptied, removed, branched, ended, Trees, no_trees, tree, lines, lines_each, Refutes, RefutesEach, IsLost}
-use Rattle.wf_model.specs.Check.{place_of, removal, removal_at, first_fault}
+use Rattle.wf_model.specs.Box.{Box, root, candidates, without, branches_at}
+use Rattle.wf_model.specs.Refutation.{Line, Tree, emptied, removed, branched, ended, Trees, no_trees, tree, lines, lines_each, Refutes, RefutesEach}
+use Rattle.wf_model.specs.Check.{place_of, first_fault}
 use Rattle.wf_model.proofs.Headline.{each_append, each_of_map}
 use Rattle.wf_model.proofs.Sound.{point_within}
 use Rattle.wf_model.proofs.Ascending.{Ascends, ascends_from}

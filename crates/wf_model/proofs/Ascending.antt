@@ -1,7 +1,7 @@
 -- Ascending lists of numbers, and lists put in order.
-use Rattle.std.proofs.Common.{◌≡◌, ℕ, ◌<◌, ◌≤◌, ◌==◌, ◌&&◌, ◌||◌, Bool, true, false, not, cond, nat_lt, List, [], ◌∷◌, filter, sym, refl, ap, ◌∙◌, inl, inr, arith, ltb-true, eqb-true, eq-eqb}
-use Rattle.std.specs.List.{AllByRecursion, list_any}
-use Rattle.std.specs.Ordering.{nat_cmp, match_ordering}
+use Rattle.std.proofs.Common.{◌≡◌, ℕ, ◌<◌, ◌==◌, Bool, true, false, nat_lt, List, [], ◌∷◌, filter, sym, refl, inl, inr, arith, ltb-true, eqb-true, eq-eqb}
+use Rattle.std.specs.List.{AllByRecursion}
+use Rattle.std.specs.Ordering.{nat_cmp}
 use Rattle.std.proofs.lemmas.Bool.{cases_Bool, and_from, and_parts, or_left, or_right, or_cases, lt-ltb, ltb-false, false≢true}
 use Rattle.wf_model.specs.Lists.{has, with_element, in_order}
 use Rattle.wf_model.specs.Simplex.{is_ascending}

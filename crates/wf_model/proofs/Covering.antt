@@ -1,26 +1,25 @@
 -- Ordered covers: what they say of maps, and that splitting gives one.
-use Rattle.std.proofs.Common.{◌≡◌, ℕ, zero, suc, ◌+◌, ◌<◌, ◌⊎◌, ◌==◌, ◌&&◌, Bool, true, false, List, [], ◌∷◌, ◌++◌, map, flat_map, filter_map, length, get_or, nat_lt, position, Option, Some, None, All, sym, refl, ap, ◌∙◌, subst, inl, inr, arith}
-use Rattle.std.specs.List.{AllByRecursion, Any, cons_option, list_any, position_from}
-use Rattle.std.proofs.lemmas.Bool.{cases_order, ne_eqb}
+use Rattle.std.proofs.Common.{◌≡◌, ℕ, zero, suc, ◌<◌, ◌⊎◌, ◌&&◌, Bool, true, false, List, [], ◌∷◌, ◌++◌, flat_map, filter_map, length, get_or, nat_lt, Option, Some, None, All, sym, refl, ◌∙◌, subst, inl, inr, arith}
+use Rattle.std.specs.List.{AllByRecursion, Any, cons_option, list_any}
+use Rattle.std.proofs.lemmas.Bool.{cases_order}
 use Rattle.std.proofs.lemmas.List.Elements.{recursion_from_All, All-from_recursion}
-use Rattle.std.proofs.lemmas.Iterator.Adapters.{position_from-zero}
-use Rattle.wf_model.specs.Lists.{has, IsBelow}
+use Rattle.wf_model.specs.Lists.{IsBelow}
 use Rattle.wf_model.specs.Simplex.{is_ascending}
 use Rattle.wf_model.specs.Problem.{Problem, IsSolution, IsWellFormed}
-use Rattle.wf_model.specs.Box.{Box, LiesIn, root, candidates, decided, branches_at, first_open, first_empty}
+use Rattle.wf_model.specs.Box.{Box, LiesIn, root, candidates, branches_at, first_open}
 use Rattle.wf_model.specs.Refutation.{Line}
 use Rattle.wf_model.specs.Closing.{sweep, closing}
 use Rattle.wf_model.specs.Split.{closed, is_open, children_at, children, level_if, levels, split_from, split, IsOrderedCover}
-use Rattle.wf_model.specs.Laws.{IsBoxOf, IsLeastIn, IsClosedBranch, LiesAt, LiesInExactlyOne}
+use Rattle.wf_model.specs.Laws.{IsLeastIn, IsClosedBranch, LiesAt, LiesInExactlyOne}
 use Rattle.wf_model.proofs.Bridge.{weaker}
-use Rattle.wf_model.proofs.Headline.{each_append, each_flat, always, both}
+use Rattle.wf_model.proofs.Headline.{each_append, each_flat, both}
 use Rattle.wf_model.proofs.Sound.{none_refutes}
 use Rattle.wf_model.proofs.Fuel.{Leaves, leaves_weaker}
 use Rattle.wf_model.proofs.Canonical.{LeadsTo, leads_closing}
-use Rattle.wf_model.proofs.Stable.{each_has}
 use Rattle.wf_model.proofs.Ascending.{Ascends, ascends_from, is_ascending_from}
 use Rattle.wf_model.proofs.Order.{below_itself, OneOf, EachPair, all_pairs_from, Before, branches_in_order}
 use Rattle.wf_model.proofs.Kept.{Full, Ascending, candidates_ascend, IsInside, closing_inside, closing_keeps_solution}
+use Rattle.wf_model.proofs.Closed.{filled}
 use Rattle.wf_model.proofs.Least.{IsClosed, leaves_closed, each_decided, branches_within, to_branches, root_is_box}
 
 -- ---- maps in the boxes of a cover
@@ -245,18 +244,6 @@ module _ (p : Problem) (well : IsWellFormed p) where
     covers = λ m solves lies. any_from (LiesIn m) (split p) (split_branches.cover m solves lies);
     ordered = all_pairs_from Before (split p) split_branches.pairs;
   }
-
-  not_found : {X : Type 0} (test : X → Bool) (n : ℕ) (xs : List X) → AllByRecursion (λ x. test x ≡ false) xs → position_from test n xs ≡ None
-  not_found test n [] h = refl
-  not_found test n (x ∷ xs) h = rw h.0 (not_found test (n + 1) xs h.1)
-
-  filled : (b : Box) → Full b → first_empty b ≡ None
-  filled b full =
-      position_from-zero (λ (set : List ℕ). length set == 0) b
-      ∙ not_found (λ (set : List ℕ). length set == 0) 0 b (weaker (λ (set : List ℕ). 0 < length set) (λ (set : List ℕ). (length set == 0) ≡ false) some b full)
-    where
-      some : (set : List ℕ) → 0 < length set → (length set == 0) ≡ false
-      some set h = ne_eqb (length set) 0 (λ e. let none : ⊥ = omega (arith, h, e) in none)
 
   -- each branch is a closed box
   pub split_closed : All (IsClosedBranch p (root p)) (split p)

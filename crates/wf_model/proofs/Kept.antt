@@ -1,10 +1,9 @@
 -- What closing keeps: every solution of the box, and the box's shape.
-use Rattle.std.proofs.Common.{◌≡◌, ◌≢◌, ℕ, zero, suc, ◌+◌, ◌<◌, ◌==◌, ◌&&◌, Bool, true, false, not, List, [], ◌∷◌, filter, length, get_or, slice_get, slice_set, slice_index, Option, Some, None, sym, refl, ap, ◌∙◌, subst, arith, length-set}
+use Rattle.std.proofs.Common.{◌≡◌, ℕ, zero, suc, ◌+◌, ◌<◌, ◌==◌, false, not, List, [], ◌∷◌, length, slice_get, slice_set, Option, Some, None, sym, refl, ◌∙◌, subst, arith, length-set}
 use Rattle.std.specs.List.{AllByRecursion}
-use Rattle.wf_model.specs.Lists.{has}
 use Rattle.wf_model.specs.Problem.{Problem, Constraint, IsSolution, InRange}
 use Rattle.wf_model.specs.Box.{Box, LiesIn, candidates, without, count, first_empty}
-use Rattle.wf_model.specs.Refutation.{Line, IsLost}
+use Rattle.wf_model.specs.Refutation.{Line}
 use Rattle.wf_model.specs.Closing.{Step, Loss, taken_out, take_out, take_out_each, lost, sweep_from, sweep, unless_none, sweeps, closing_at, closing}
 use Rattle.wf_model.proofs.Sound.{kept, lies_without, named}
 use Rattle.wf_model.proofs.Fuel.{Leaves, leaves_weaker}

@@ -1,30 +1,30 @@
 -- The map that the canonical search finds is the least solution in the box.
-use Rattle.std.proofs.Common.{◌≡◌, ℕ, zero, suc, ◌+◌, ◌<◌, ◌≤◌, ◌⊎◌, Bool, true, false, List, [], ◌∷◌, map, length, slice_index, slice_set, replicate, Option, Some, None, All, sym, refl, ap, ◌∙◌, subst, inl, inr, arith, length-set}
-use Rattle.std.specs.List.{AllByRecursion, AllZip}
+use Rattle.std.proofs.Common.{◌≡◌, ℕ, zero, suc, ◌<◌, ◌≤◌, ◌⊎◌, true, List, [], ◌∷◌, map, length, replicate, Option, Some, None, refl, ◌∙◌, subst, inl, inr, arith, length-set}
+use Rattle.std.specs.List.{AllByRecursion}
 use Rattle.std.proofs.lemmas.List.Elements.{recursion_from_All, All-from_recursion}
 use Rattle.std.proofs.Math.ListN.{length-replicate}
 use Rattle.wf_model.specs.Lists.{has, IsBelow}
 use Rattle.wf_model.specs.Simplex.{is_ascending}
 use Rattle.wf_model.specs.View.{View}
 use Rattle.wf_model.specs.Task.{Task, IsTask}
-use Rattle.wf_model.specs.DecisionMap.{IsDecisionMap, IsLeast, listed}
-use Rattle.wf_model.specs.Problem.{Problem, IsSolution, IsLeastSolution, IsWellFormed, problem_of}
+use Rattle.wf_model.specs.DecisionMap.{IsDecisionMap, IsLeast}
+use Rattle.wf_model.specs.Problem.{Problem, IsSolution, IsWellFormed, problem_of}
 use Rattle.wf_model.specs.Box.{Box, LiesIn, root, candidates, decided, branches_at, count, first_open}
-use Rattle.wf_model.specs.Refutation.{Line, branch}
-use Rattle.wf_model.specs.Closing.{Step, Trace, before, in_turn, branching_at, branching, searched, sweep, closing, search_within, canonical}
+use Rattle.wf_model.specs.Refutation.{Line}
+use Rattle.wf_model.specs.Closing.{Trace, before, in_turn, branching_at, branching, searched, sweep, closing, search_within, canonical}
 use Rattle.wf_model.specs.Laws.{IsBoxOf, IsLeastIn}
 use Rattle.wf_model.proofs.Bridge.{weaker, by_number, solution_decides}
 use Rattle.wf_model.proofs.Headline.{lies_in_root, no_decision_map}
 use Rattle.wf_model.proofs.Sound.{none_refutes, value_at_point}
-use Rattle.wf_model.proofs.Fuel.{Leaves, leaves_weaker, closing_count, Few, branches_few, open_point}
-use Rattle.wf_model.proofs.Canonical.{NoMap, Refutable, refutes_within, canonical_none_refutes}
+use Rattle.wf_model.proofs.Fuel.{Leaves, closing_count, Few, branches_few, open_point}
+use Rattle.wf_model.proofs.Canonical.{NoMap, refutes_within, canonical_none_refutes}
 use Rattle.wf_model.proofs.Stable.{each_has, closing_stable}
 use Rattle.wf_model.proofs.Ascending.{Ascends, ascends_from}
 use Rattle.wf_model.proofs.WellFormed.{task_listed, task_well_formed}
 use Rattle.wf_model.proofs.Numbers.{least_map, listed_by_number}
-use Rattle.wf_model.proofs.Order.{OneOf, EachPair, Before, one_of_weaker, one_with, branches_in_order, in_one_branch, in_whole}
+use Rattle.wf_model.proofs.Order.{OneOf, EachPair, Before, one_with, branches_in_order, in_one_branch, in_whole}
 use Rattle.wf_model.proofs.Kept.{Ascending, ascending_after, candidates_ascend, IsInside, closing_inside, closing_keeps_solution}
-use Rattle.wf_model.proofs.Solved.{Single, single_unless_open, values_in, values_lie, values_alone, single_solves}
+use Rattle.wf_model.proofs.Solved.{single_unless_open, values_in, values_lie, values_alone, single_solves}
 
 -- no map is found where one was
 two_maps : {X : Type 0} {m : List ℕ} → None ≡ Some m → X

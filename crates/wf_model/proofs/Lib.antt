@@ -12,5 +12,7 @@ pub mod Accepting
 pub mod Order
 pub mod Kept
 pub mod Solved
+pub mod Closed
+pub mod Trying
 pub mod Least
 pub mod Covering

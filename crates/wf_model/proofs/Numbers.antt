@@ -1,5 +1,5 @@
 -- The numbers of the points: solutions by number listed again, and where points appear first.
-use Rattle.std.proofs.Common.{◌≡◌, ℕ, zero, suc, ◌+◌, Bool, true, false, not, cond, if◌then◌else◌, ◌⊎◌, List, [], ◌∷◌, ◌++◌, map, filter, flat_map, length, get_or, slice_index, sym, refl, ap, ◌∙◌, subst, inl, inr, arith}
+use Rattle.std.proofs.Common.{◌≡◌, ℕ, ◌+◌, Bool, true, false, not, ◌⊎◌, List, [], ◌∷◌, ◌++◌, map, filter, flat_map, length, slice_index, sym, refl, ap, ◌∙◌, subst, inl, inr}
 use Rattle.std.specs.List.{AllByRecursion, enumerate_from}
 use Rattle.std.proofs.lemmas.Bool.{cases_Bool, both_ways, not-true, false_from_ne_true}
 use Rattle.std.proofs.lemmas.List.{map-append}
@@ -7,9 +7,9 @@ use Rattle.wf_model.specs.Lists.{distinct, IsBelow}
 use Rattle.wf_model.specs.View.{View, same_view, process_of}
 use Rattle.wf_model.specs.Task.{Task}
 use Rattle.wf_model.specs.Execution.{Execution, executions, last_views}
-use Rattle.wf_model.specs.Points.{class, classes, points, Appearance, same_point, appearances_in, first_appearances}
-use Rattle.wf_model.specs.DecisionMap.{IsDecisionMap, IsLeast, listed}
-use Rattle.wf_model.specs.Problem.{number_of, problem_of, IsSolution, IsLeastSolution}
+use Rattle.wf_model.specs.Points.{class, classes, points, Appearance, appearances_in, first_appearances}
+use Rattle.wf_model.specs.DecisionMap.{IsLeast, listed}
+use Rattle.wf_model.specs.Problem.{number_of, problem_of, IsLeastSolution}
 use Rattle.wf_model.proofs.Bridge.{same_itself, same_is, weaker, by_number, listed_solves, solution_decides}
 use Rattle.wf_model.proofs.Headline.{each_filter}
 

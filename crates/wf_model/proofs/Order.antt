@@ -1,7 +1,7 @@
 -- The order of maps: branches at the first open point stand in order.
-use Rattle.std.proofs.Common.{◌≡◌, ℕ, zero, suc, ◌+◌, ◌<◌, ◌≤◌, ◌==◌, ◌||◌, ◌⊎◌, Bool, true, false, List, [], ◌∷◌, map, length, get_or, Option, Some, None, nat_lt, cond, position, sym, refl, ap, ◌∙◌, subst, inl, inr, arith, eqb-true, ltb-false}
+use Rattle.std.proofs.Common.{◌≡◌, ℕ, zero, suc, ◌+◌, ◌<◌, ◌≤◌, ◌==◌, ◌⊎◌, Bool, true, false, List, [], ◌∷◌, map, length, get_or, Some, None, nat_lt, position, sym, refl, ◌∙◌, subst, inl, inr, arith, eqb-true, ltb-false}
 use Rattle.std.specs.List.{AllByRecursion, AllPairs, position_from}
-use Rattle.std.proofs.lemmas.Bool.{cases_Bool, or_cases, or_left, or_right, false≢true, eq-eqb}
+use Rattle.std.proofs.lemmas.Bool.{cases_Bool, or_cases, false≢true}
 use Rattle.std.proofs.lemmas.List.Quantifiers.{position-Some}
 use Rattle.std.proofs.lemmas.List.Elements.{All-from_recursion}
 use Rattle.std.proofs.lemmas.List.Kept.{AllPairs-cons}
@@ -56,6 +56,14 @@ each_fails test n (x ∷ xs) h =
 -- where no element is found, none passes
 pub position_none : {X : Type 0} (test : X → Bool) (xs : List X) → position test xs ≡ None → AllByRecursion (λ x. test x ≡ false) xs
 position_none test xs h = each_fails test 0 xs (sym (position_from-zero test xs) ∙ h)
+
+not_found : {X : Type 0} (test : X → Bool) (n : ℕ) (xs : List X) → AllByRecursion (λ x. test x ≡ false) xs → position_from test n xs ≡ None
+not_found test n [] h = refl
+not_found test n (x ∷ xs) h = rw h.0 (not_found test (n + 1) xs h.1)
+
+-- where none passes, none is found
+pub position_none_from : {X : Type 0} (test : X → Bool) (xs : List X) → AllByRecursion (λ x. test x ≡ false) xs → position test xs ≡ None
+position_none_from test xs h = position_from-zero test xs ∙ not_found test 0 xs h
 
 -- ---- branches
 

@@ -1,17 +1,16 @@
 -- A closed box with one candidate at each point is a solution.
-use Rattle.std.proofs.Common.{◌≡◌, ℕ, zero, suc, ◌+◌, ◌<◌, ◌≤◌, ◌==◌, ◌&&◌, ◌||◌, Bool, true, false, not, List, [], ◌∷◌, ◌++◌, map, filter, flat_map, length, get_or, slice_index, nat_lt, Option, Some, None, All, Contains, sym, refl, ap, ◌∙◌, subst, inl, inr, arith, eqb-true, ltb-false}
-use Rattle.std.specs.List.{AllByRecursion, list_any}
+use Rattle.std.proofs.Common.{◌≡◌, ℕ, zero, suc, ◌<◌, ◌≤◌, ◌==◌, ◌&&◌, Bool, true, false, not, List, [], ◌∷◌, ◌++◌, map, filter, flat_map, length, slice_index, nat_lt, None, All, Contains, sym, refl, ◌∙◌, subst, inl, inr, arith, eqb-true, ltb-false}
+use Rattle.std.specs.List.{AllByRecursion}
 use Rattle.std.specs.Cmp.Lexicographic.{pointwise}
-use Rattle.std.proofs.lemmas.Bool.{cases_Bool, or_cases, or_left, and_parts, both_ways, not-false, false≢true, eq-eqb}
+use Rattle.std.proofs.lemmas.Bool.{cases_Bool, or_cases, or_left, and_parts, not-false, false≢true, eq-eqb}
 use Rattle.std.proofs.lemmas.List.Elements.{recursion_from_All, All-from_recursion}
 use Rattle.std.proofs.lemmas.List.Folds.{Any-from_list_any}
 use Rattle.wf_model.specs.Lists.{has, distinct}
 use Rattle.wf_model.specs.Task.{Tuple}
 use Rattle.wf_model.specs.Problem.{Problem, Constraint, IsSolution, Satisfies, values_at, IsWellFormed}
-use Rattle.wf_model.specs.Box.{Box, LiesIn, candidates, first_open, has_at, is_alive, is_supported, is_supported_in, sets_of}
-use Rattle.wf_model.specs.Refutation.{Line}
-use Rattle.wf_model.specs.Closing.{Step, Loss, same_candidate, continued, take_out, take_out_each, places, lost_at, lost, sweep_from, sweep}
-use Rattle.wf_model.proofs.Bridge.{weaker, length_map}
+use Rattle.wf_model.specs.Box.{Box, LiesIn, candidates, first_open, has_at, is_alive, is_supported_in, sets_of}
+use Rattle.wf_model.specs.Closing.{Loss, same_candidate, continued, take_out, take_out_each, places, lost_at, lost, sweep_from, sweep}
+use Rattle.wf_model.proofs.Bridge.{length_map}
 use Rattle.wf_model.proofs.Headline.{both}
 use Rattle.wf_model.proofs.Stable.{HasLine, line_taken, line_continued}
 use Rattle.wf_model.proofs.Order.{position_none}
@@ -32,7 +31,7 @@ module _ (box : Box) where
           absurd (subst HasLine h (line_continued (take_out_each e (x ∷ xs) box).lines (take_out_each e (x ∷ xs) box).left (sweep_from (suc e) ks)
           (line_continued (take_out e x box).lines (take_out e x box).left (take_out_each e xs) (line_taken e x _ _))))
 
-nothing_distinct : {X : Type 0} (same : X → X → Bool) (xs : List X) → distinct same xs ≡ [] → xs ≡ []
+pub nothing_distinct : {X : Type 0} (same : X → X → Bool) (xs : List X) → distinct same xs ≡ [] → xs ≡ []
 nothing_distinct same [] h = refl
 nothing_distinct same (x ∷ xs) h = absurd (let none : ⊥ = cc in none)
 
@@ -40,7 +39,7 @@ nothing_first : {X : Type 0} (xs ys : List X) → xs ++ ys ≡ [] → xs ≡ []
 nothing_first [] ys h = refl
 nothing_first (x ∷ xs) ys h = absurd (let none : ⊥ = cc in none)
 
-nothing_mapped : {X Y : Type 0} (f : X → Y) (xs : List X) → map f xs ≡ [] → xs ≡ []
+pub nothing_mapped : {X Y : Type 0} (f : X → Y) (xs : List X) → map f xs ≡ [] → xs ≡ []
 nothing_mapped f [] h = refl
 nothing_mapped f (x ∷ xs) h = absurd (let none : ⊥ = cc in none)
 

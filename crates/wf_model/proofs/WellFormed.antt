@@ -1,18 +1,17 @@
 -- What a task has: its tuples have values of O, and its problems are well formed.
-use Rattle.std.proofs.Common.{◌≡◌, ℕ, zero, suc, ◌<◌, ◌==◌, ◌&&◌, ◌||◌, Bool, true, false, List, [], ◌∷◌, ◌++◌, map, filter, flat_map, fold, zip, length, get_or, All, Contains, sym, refl, ap, ◌∙◌, subst, arith}
-use Rattle.std.specs.List.{AllByRecursion, list_any}
-use Rattle.std.specs.Ordering.{nat_cmp}
+use Rattle.std.proofs.Common.{◌≡◌, ℕ, zero, suc, ◌<◌, ◌==◌, ◌&&◌, true, List, [], ◌∷◌, map, flat_map, fold, zip, length, get_or, Contains, sym, refl, ap, ◌∙◌, subst, arith}
+use Rattle.std.specs.List.{AllByRecursion}
 use Rattle.std.proofs.lemmas.Bool.{and_parts, or_left, or_right, false≢true}
 use Rattle.std.proofs.lemmas.List.Elements.{recursion_from_All, All-from_recursion}
 use Rattle.std.proofs.lemmas.List.Folds.{list_any-append}
-use Rattle.wf_model.specs.Lists.{has, in_order, lists_of, below}
+use Rattle.wf_model.specs.Lists.{has, lists_of, below}
 use Rattle.wf_model.specs.Simplex.{Simplex, processes_of, values_of, is_simplex, is_nonempty, is_ascending}
 use Rattle.wf_model.specs.Word.{Word, is_word, is_allowed, words}
 use Rattle.wf_model.specs.View.{View, Views, seen, views_of, visible, process_of, base_views, round}
 use Rattle.wf_model.specs.Task.{Task, Tuple, Rule, IsTask, IsRule, IsSimplexWithin, HasListedValues, values, inputs, first_block, largest_value}
 use Rattle.wf_model.specs.Execution.{Execution, executions, executions_on, last_views}
 use Rattle.wf_model.specs.Points.{class, points}
-use Rattle.wf_model.specs.Problem.{Problem, Constraint, number_of, constraint_of, problem_of, InRange, IsWellFormed}
+use Rattle.wf_model.specs.Problem.{Constraint, number_of, constraint_of, problem_of, IsWellFormed}
 use Rattle.wf_model.proofs.Bridge.{weaker, length_map}
 use Rattle.wf_model.proofs.Headline.{each_flat, each_map, each_of_map, each_filter, both, always, problem_in_range}
 use Rattle.wf_model.proofs.Stable.{each_has}

@@ -18,18 +18,23 @@
 //! puts its clauses among the facts that are known there.
 #![tactic(auto)]
 
+mod closing;
 mod covers;
 mod maps;
 mod refutations;
 mod search;
 
+pub use closing::{
+    closed_boxes_support_their_candidates, closing_a_closed_box_changes_nothing,
+    closing_keeps_solutions, closing_leaves_a_closed_box,
+};
 pub use covers::{
     boxes_of_a_cover_are_in_order, split_covers_in_order, the_first_map_of_a_cover_is_the_least,
 };
 pub use maps::{
-    a_least_solution_is_a_least_map, first_appearances_are_the_points, maps_are_solutions,
-    maps_lie_in_the_root, problems_of_tasks_are_well_formed, solutions_lie_in_the_root,
-    tasks_have_listed_values,
+    a_least_solution_is_a_least_map, all_solutions_are_found, faultless_maps_are_solutions,
+    first_appearances_are_the_points, maps_are_solutions, maps_lie_in_the_root,
+    problems_of_tasks_are_well_formed, solutions_lie_in_the_root, tasks_have_listed_values,
 };
 pub use refutations::{
     a_refutation_leaves_no_map, accepted_lines_refute, no_tree_refutes_a_solution,

@@ -1,12 +1,14 @@
 //! Laws of decision maps: what they have in common with the solutions of a task's problem.
 
-ghost use Rattle.std.specs.Prelude.{◌≡◌, ℕ, List, map, slice_index};
+ghost use Rattle.std.specs.Prelude.{◌≡◌, ◌↔◌, ℕ, List, None, Contains, map, slice_index};
 ghost use Rattle.wf_model.specs.View.{View};
 ghost use Rattle.wf_model.specs.Task.{Task, IsTask, HasListedValues};
 ghost use Rattle.wf_model.specs.Points.{points, first_appearances};
 ghost use Rattle.wf_model.specs.DecisionMap.{IsDecisionMap, IsLeast, listed};
-ghost use Rattle.wf_model.specs.Problem.{IsSolution, IsLeastSolution, IsWellFormed, problem_of, number_of};
+ghost use Rattle.wf_model.specs.Problem.{Problem, IsSolution, IsLeastSolution, IsWellFormed, problem_of, number_of};
 ghost use Rattle.wf_model.specs.Box.{LiesIn, root};
+ghost use Rattle.wf_model.specs.Check.{map_fault};
+ghost use Rattle.wf_model.specs.AllSolutions.{all_solutions};
 
 /// The values of a task's tuples occur in its output complex.
 pub fn tasks_have_listed_values()
@@ -44,4 +46,14 @@ pub fn solutions_lie_in_the_root()
 /// The least solution, read by the numbers of the points, is the least decision map.
 pub fn a_least_solution_is_a_least_map()
     ensures { (t : Task) (r : ℕ) (values : List ℕ) → IsLeastSolution (problem_of t r) values → IsLeast t r (λ v. slice_index values (number_of (points t r) v)) }
+{}
+
+/// Trying each list of values finds the solutions in the root, and nothing else.
+pub fn all_solutions_are_found()
+    ensures { (p : Problem) (m : List ℕ) → Contains (all_solutions p) m ↔ (IsSolution p m × LiesIn m (root p)) }
+{}
+
+/// A checker finds no fault in a list of values exactly where it is a solution.
+pub fn faultless_maps_are_solutions()
+    ensures { (p : Problem) (m : List ℕ) → (map_fault p m ≡ None) ↔ IsSolution p m }
 {}

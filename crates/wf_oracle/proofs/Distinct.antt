@@ -1,13 +1,12 @@
 -- Lists of different views, one more view at a time.
-use Rattle.std.proofs.Common.{◌≡◌, ℕ, zero, suc, ◌+◌, ◌<◌, ◌≤◌, ◌||◌, Bool, true, false, not, cond, if◌then◌else◌, ◌⊎◌, List, [], ◌∷◌, ◌++◌, filter, flat_map, fold, length, get_or, take, drop, sym, refl, ap, ◌∙◌, subst, arith, inl, inr, append_assoc}
+use Rattle.std.proofs.Common.{◌≡◌, ℕ, ◌+◌, ◌<◌, Bool, true, false, not, ◌⊎◌, List, [], ◌∷◌, ◌++◌, filter, flat_map, fold, length, get_or, take, sym, refl, ap, ◌∙◌, subst, inl, inr, append_assoc}
 use Rattle.std.specs.List.{list_any}
-use Rattle.std.proofs.lemmas.Bool.{cases_Bool, or_cases, or_parts, or_from, or_left, or_right, both_ways, false≢true}
+use Rattle.std.proofs.lemmas.Bool.{cases_Bool, or_cases, or_parts, or_from, or_left, or_right, both_ways}
 use Rattle.std.proofs.lemmas.List.{append-nil}
 use Rattle.std.proofs.lemmas.List.Elements.{filter-append}
 use Rattle.wf_model.specs.Lists.{distinct}
 use Rattle.wf_model.specs.View.{View, same_view}
-use Rattle.wf_model.specs.Problem.{number_of}
-use Rattle.wf_model.proofs.Bridge.{same_itself, same_is}
+use Rattle.wf_model.proofs.Bridge.{same_is}
 use Rattle.wf_oracle.specs.Token.{with_point}
 use Rattle.wf_oracle.proofs.Steps.{flat_map_next}
 

@@ -1,12 +1,12 @@
 -- The tokens of a view, and the view of the tokens.
-use Rattle.std.proofs.Common.{◌≡◌, ℕ, zero, suc, ◌+◌, ◌-◌, ◌<◌, ◌≤◌, ◌==◌, ◌||◌, ◌↔◌, IsTrue, Bool, true, false, cond, List, [], ◌∷◌, ◌++◌, map, filter, flat_map, length, length-append, get_or, take, drop, sym, refl, ap, ◌∙◌, subst, arith, append_assoc, append-nil}
+use Rattle.std.proofs.Common.{◌≡◌, ℕ, suc, ◌+◌, ◌<◌, ◌≤◌, ◌==◌, ◌||◌, ◌↔◌, IsTrue, Bool, true, false, cond, List, [], ◌∷◌, ◌++◌, map, filter, flat_map, length, length-append, get_or, take, drop, sym, refl, ap, ◌∙◌, subst, append_assoc, append-nil}
 use Rattle.std.specs.List.{list_any}
 use Rattle.std.proofs.lemmas.List.{map-append}
 use Rattle.std.proofs.lemmas.List.Folds.{list_any-append}
 use Rattle.std.proofs.lemmas.Bool.{false_from_ne_true, false≢true}
 use Rattle.std.proofs.lemmas.List.Elements.{filter-append}
 use Rattle.wf_model.specs.Lists.{below}
-use Rattle.wf_model.specs.View.{View, base, seen, Views, no_views, view, views_of, same_view, process_of, occurs, occurs_in, renamed, renamed_each, rank, normal}
+use Rattle.wf_model.specs.View.{View, base, seen, Views, no_views, view, views_of, same_view, occurs, occurs_in, renamed, renamed_each, rank, normal}
 use Rattle.wf_model.proofs.Bridge.{same_itself, same_is}
 use Rattle.wf_oracle.specs.declared.view.Token.{Token}
 use Rattle.wf_oracle.specs.declared.view.Token.TheVariants.{Base, Seen}

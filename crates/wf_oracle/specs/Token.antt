@@ -1,5 +1,5 @@
 -- Views as lists of tokens in preorder.
-use Rattle.std.specs.Prelude.{◌≡◌, ℕ, suc, ◌==◌, Bool, nat_le, List, [], ◌∷◌, ◌++◌, map, filter, length, take, drop, if◌then◌else◌}
+use Rattle.std.specs.Prelude.{ℕ, nat_le, List, [], ◌∷◌, ◌++◌, map, filter, length, take, drop, if◌then◌else◌}
 use Rattle.std.specs.List.{list_any}
 use Rattle.wf_model.specs.View.{View, base, seen, Views, no_views, view, views_of, same_view}
 use Rattle.wf_oracle.specs.declared.view.Token.{Token}

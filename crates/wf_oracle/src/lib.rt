@@ -20,7 +20,7 @@ pub use point::{class, classes, number_of, points};
 pub use problem::{Constraint, Problem, constraint_of, problem_of};
 pub use solution::{all_solutions, decision_maps, satisfies};
 pub use task::{Rule, Task};
-pub use view::{Token, View, base_views, round, views_after};
+pub use view::{View, base_views, round, tokens_tell_views_apart, views_after};
 pub use word::{is_allowed, is_word, words};
 
 #[cfg(test)]

@@ -4,14 +4,14 @@
 ghost use Rattle.std.specs.Prelude.{◌≡◌, ◌==◌, ◌↔◌, ◌++◌, ℕ, IfOk, OnOk, IsTrue, map, fold, vec_items};
 ghost use Rattle.std.specs.List.{list_any};
 ghost use Rattle.wf_oracle.specs.Token.{tokens_of, token_process, token_renamed};
-ghost use Rattle.wf_model.specs.View.{base, seen, views_of, base_views, visible, round, process_of, same_view, occurs, rank, normal};
+ghost use Rattle.wf_model.specs.View.{View as ViewOfModel, base, seen, views_of, base_views, visible, round, process_of, same_view, occurs, rank, normal};
 
 use std::alloc::{AllocError, Global};
 use std::marker::Model;
 
 /// One step of a view in preorder.
-#[derive(Clone, Copy, PartialEq, Eq, Debug)]
-pub enum Token {
+#[derive(Clone, Copy, PartialEq)]
+enum Token {
     /// An input: a process and its value.
     Base { process: usize, value: usize },
     /// A process, and how many views it saw: they follow.
@@ -20,7 +20,7 @@ pub enum Token {
 
 impl Token {
     /// The process that the token names.
-    pub fn process(&self) -> usize
+    fn process(&self) -> usize
         ensures { result ≡ token_process self.now }
     {
         match *self {
@@ -227,3 +227,8 @@ pub fn views_after(
     }
     Ok(views)
 }
+
+/// Different views have different tokens.
+pub fn tokens_tell_views_apart()
+    ensures { (v w : ViewOfModel) → tokens_of v ≡ tokens_of w → v ≡ w }
+{}

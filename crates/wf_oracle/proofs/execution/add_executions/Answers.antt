@@ -1,4 +1,4 @@
-use Rattle.std.proofs.Common.{◌≡◌, [], map, length, vec_items, get_or, sym, ap, ◌∙◌, arith}
+use Rattle.std.proofs.Common.{◌≡◌, map, length, vec_items, sym, ap, ◌∙◌, arith}
 use Rattle.wf_model.specs.Task.{Rule}
 use Rattle.wf_model.proofs.Bridge.{length_map}
 use Rattle.wf_oracle.proofs.Steps.{take_all}

@@ -1,4 +1,4 @@
-use Rattle.std.proofs.Common.{◌≡◌, [], ◌++◌, map, take, vec_items}
+use Rattle.std.proofs.Common.{◌≡◌, ◌++◌, map, take, vec_items}
 use Rattle.wf_oracle.specs.Chosen.{execution_by}
 use Rattle.wf_oracle.proofs.execution.add_executions.Given as goal
 

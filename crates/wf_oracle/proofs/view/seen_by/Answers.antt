@@ -1,4 +1,4 @@
-use Rattle.std.proofs.Common.{◌<◌, ◌≤◌, length, min, get_or, Vec, Global, ap, ◌∙◌, arith}
+use Rattle.std.proofs.Common.{◌<◌, ◌≤◌, length, min, Vec, Global, ap, ◌∙◌, arith}
 use Rattle.wf_model.specs.View.{seen, views_of, visible}
 use Rattle.wf_oracle.specs.declared.view.Token.{Token}
 use Rattle.wf_oracle.specs.declared.view.Token.TheVariants.{Seen}

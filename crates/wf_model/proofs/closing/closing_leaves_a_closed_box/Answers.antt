@@ -1,0 +1,5 @@
+use Rattle.wf_model.proofs.Closed.{closed_branch}
+use Rattle.wf_model.proofs.closing.closing_leaves_a_closed_box.Goals as goal
+
+pub returns : goal.returns
+returns c = closed_branch

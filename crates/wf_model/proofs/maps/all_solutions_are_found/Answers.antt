@@ -1,0 +1,5 @@
+use Rattle.wf_model.proofs.Trying.{tried}
+use Rattle.wf_model.proofs.maps.all_solutions_are_found.Goals as goal
+
+pub returns : goal.returns
+returns c = tried
