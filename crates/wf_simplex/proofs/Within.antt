@@ -165,5 +165,5 @@ none_large (v ∷ s) h =
 pub read_fault-within : (s : Simplex) → IsSimplexWithin 4 63 s → read_fault s ≡ None
 read_fault-within s h =
     no_fault s (and_first (is_nonempty s) (is_ascending (processes_of s)) h.is_simplex)
-      (and_both (is_ascending (processes_of s)) (list_all (λ p. nat_lt p 4) (processes_of s)) (and_second (is_nonempty s) (is_ascending (processes_of s)) h.is_simplex) (list_all-below 4 (processes_of s) h.processes))
-      (none_large s h.values)
+    (and_both (is_ascending (processes_of s)) (list_all (λ p. nat_lt p 4) (processes_of s)) (and_second (is_nonempty s) (is_ascending (processes_of s)) h.is_simplex) (list_all-below 4 (processes_of s) h.processes))
+    (none_large s h.values)

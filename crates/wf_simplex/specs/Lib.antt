@@ -3,3 +3,4 @@ pub mod Reading
 pub mod Order
 pub mod WordTable
 pub mod Faces
+pub mod FaultText

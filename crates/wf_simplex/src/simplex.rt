@@ -24,12 +24,18 @@ pub enum SimplexFault {
 }
 
 impl fmt::Display for SimplexFault {
+    ghost use Rattle.std.specs.Prelude.{Some};
+    ghost use Rattle.wf_simplex.specs.FaultText.{fault_text};
+
+    ghost output = { λ fault. Some (fault_text fault) };
+
     fn fmt<W: fmt::Write>(&self, f: &mut fmt::Formatter<W>) -> fmt::Result {
-        f.write_str(match self {
+        let name = match self {
             SimplexFault::Empty => "Empty",
             SimplexFault::Colour => "Colour",
             SimplexFault::Value => "Value",
-        })
+        };
+        write!(f, "{name}")
     }
 }
 
