@@ -5,8 +5,8 @@ use Rattle.std.proofs.lemmas.Bool.{cases_Bool, or_cases, ne_eqb, not-false, fals
 use Rattle.std.proofs.lemmas.List.Elements.{recursion_from_All, All-from_recursion}
 use Rattle.wf_model.specs.Lists.{has}
 use Rattle.wf_model.specs.Simplex.{is_ascending}
-use Rattle.wf_model.specs.Problem.{Problem, Constraint, IsSolution, InRange}
-use Rattle.wf_model.specs.Box.{Box, LiesIn, candidates, count, first_empty, is_supported_in}
+use Rattle.wf_model.specs.Problem.{Problem, Constraint, IsSolution, InRange, IsWellFormed}
+use Rattle.wf_model.specs.Box.{Box, LiesIn, candidates, count, first_open, first_empty, is_supported_in}
 use Rattle.wf_model.specs.Closing.{Step, Loss, same_candidate, keeps, places, lost_at, lost, sweep, unless_none, sweeps, closing_at, closing}
 use Rattle.wf_model.specs.Laws.{IsBoxOf, IsClosedBranch}
 use Rattle.wf_model.proofs.Bridge.{weaker}
@@ -16,9 +16,9 @@ use Rattle.wf_model.proofs.Canonical.{LeadsTo, leads_closing}
 use Rattle.wf_model.proofs.Stable.{sweep_progress, Progress, closing_stable, HasLine}
 use Rattle.wf_model.proofs.Ascending.{Ascends, ascends_from, is_ascending_from}
 use Rattle.wf_model.proofs.Accepting.{each_at}
-use Rattle.wf_model.proofs.Order.{position_none_from}
-use Rattle.wf_model.proofs.Kept.{Full, Ascending, IsInside, closing_inside, closing_keeps_solution}
-use Rattle.wf_model.proofs.Solved.{sweep_nothing, nothing_distinct, nothing_mapped}
+use Rattle.wf_model.proofs.Order.{position_none, position_none_from}
+use Rattle.wf_model.proofs.Kept.{Full, fully, Ascending, IsInside, closing_inside, closing_keeps_solution}
+use Rattle.wf_model.proofs.Solved.{values_in, single_unless_open, single_solves, sweep_nothing, nothing_distinct, nothing_mapped}
 
 -- ---- solutions
 
@@ -111,3 +111,8 @@ sweeps_still p n box stable = ap (λ ls. unless_none ls (sweep p box) (sweeps n 
 -- closing a closed box writes nothing and leaves the box
 pub closing_again : (p : Problem) (box : Box) → (sweep p box).lines ≡ [] → first_empty box ≡ None → closing p box ≡ keeps box
 closing_again p box stable none = ap (λ o. closing_at o p box) none ∙ sweeps_still p (count box) box stable
+
+-- a closed box with one candidate at each point is a solution
+pub closed_single_solves : (p : Problem) (box b : Box) → IsWellFormed p → IsClosedBranch p box b → first_open b ≡ None → IsSolution p (values_in b)
+closed_single_solves p box b well is none =
+    single_solves p well b is.is_box.long (single_unless_open b (fully b (position_none (λ (set : List ℕ). length set == 0) b is.filled)) none) is.closed

@@ -17,7 +17,7 @@ use Rattle.wf_model.proofs.Sound.{none_refutes}
 use Rattle.wf_model.proofs.Fuel.{Leaves, leaves_weaker}
 use Rattle.wf_model.proofs.Canonical.{LeadsTo, leads_closing}
 use Rattle.wf_model.proofs.Ascending.{Ascends, ascends_from, is_ascending_from}
-use Rattle.wf_model.proofs.Order.{below_itself, OneOf, EachPair, all_pairs_from, Before, branches_in_order}
+use Rattle.wf_model.proofs.Order.{below_itself, below_one_way, OneOf, EachPair, all_pairs_from, Before, branches_in_order}
 use Rattle.wf_model.proofs.Kept.{Full, Ascending, candidates_ascend, IsInside, closing_inside, closing_keeps_solution}
 use Rattle.wf_model.proofs.Closed.{filled}
 use Rattle.wf_model.proofs.Least.{IsClosed, leaves_closed, each_decided, branches_within, to_branches, root_is_box}
@@ -63,6 +63,15 @@ module _ (p : Problem) (box : Box) (boxes : List Box) (cover : IsOrderedCover p 
             | inr (inl less) ↦ absurd (none j other less solves there)
             | inr (inr more) ↦ inr (in_order i j m other more (within, least.lies) there)
           ]
+
+-- a box has one least solution
+pub one_least : (p : Problem) (box : Box) (m n : List ℕ) → IsLeastIn p box m → IsLeastIn p box n → m ≡ n
+one_least p box m n first second = by_order (first.least n second.solves second.lies) (second.least m first.solves first.lies)
+  where
+    by_order : (m ≡ n) ⊎ IsBelow m n → (n ≡ m) ⊎ IsBelow n m → m ≡ n
+    by_order (inl same) back = same
+    by_order (inr less) (inl same) = sym same
+    by_order (inr less) (inr more) = absurd (below_one_way m n less more)
 
 -- ---- lists of boxes, one after another
 

@@ -101,7 +101,7 @@ pub record IsInside (box b : Box) : Type 0 where
   pub full : Full b
   pub smaller : (m : List ℕ) → LiesIn m b → LiesIn m box
 
-fully : (xs : Box) → AllByRecursion (λ (set : List ℕ). (length set == 0) ≡ false) xs → Full xs
+pub fully : (xs : Box) → AllByRecursion (λ (set : List ℕ). (length set == 0) ≡ false) xs → Full xs
 fully [] h = tt
 fully (s ∷ xs) h = (some s h.0, fully xs h.1)
   where

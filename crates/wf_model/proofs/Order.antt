@@ -18,6 +18,14 @@ below_itself [] h = h
 below_itself (x ∷ m) (inl less) = absurd (let none : ⊥ = omega (arith, less) in none)
 below_itself (x ∷ m) (inr same) = below_itself m same.1
 
+pub below_one_way : (m n : List ℕ) → IsBelow m n → IsBelow n m → ⊥
+below_one_way [] n h k = h
+below_one_way (x ∷ m) [] h k = h
+below_one_way (x ∷ m) (y ∷ n) (inl less) (inl more) = let none : ⊥ = omega (arith, less, more) in none
+below_one_way (x ∷ m) (y ∷ n) (inl less) (inr same) = let e : y ≡ x = same.0 in let none : ⊥ = omega (arith, less, e) in none
+below_one_way (x ∷ m) (y ∷ n) (inr same) (inl more) = let e : x ≡ y = same.0 in let none : ⊥ = omega (arith, more, e) in none
+below_one_way (x ∷ m) (y ∷ n) (inr same) (inr back) = below_one_way m n same.1 back.1
+
 -- ---- one of a list, and each pair of a list
 
 abbrev pub OneOf : {X : Type 0} → (X → Type 0) → List X → Type 0

@@ -1,10 +1,10 @@
 //! Laws of closing: what it keeps, what it leaves, and that closing again changes nothing.
 
-ghost use Rattle.std.specs.Prelude.{◌≡◌, true, ℕ, List, [], Some, None};
+ghost use Rattle.std.specs.Prelude.{◌≡◌, true, ℕ, List, [], Some, None, map, slice_index};
 ghost use Rattle.std.specs.List.{slice_get};
 ghost use Rattle.wf_model.specs.Lists.{has};
-ghost use Rattle.wf_model.specs.Problem.{Problem, Constraint, InRange, IsSolution};
-ghost use Rattle.wf_model.specs.Box.{Box, LiesIn, candidates, first_empty, is_supported_in};
+ghost use Rattle.wf_model.specs.Problem.{Problem, Constraint, InRange, IsSolution, IsWellFormed};
+ghost use Rattle.wf_model.specs.Box.{Box, LiesIn, candidates, first_open, first_empty, is_supported_in};
 ghost use Rattle.wf_model.specs.Closing.{closing, sweep, keeps};
 ghost use Rattle.wf_model.specs.Laws.{IsBoxOf, IsClosedBranch};
 
@@ -28,4 +28,9 @@ pub fn closed_boxes_support_their_candidates()
 /// Closing a closed box writes no line and leaves the box.
 pub fn closing_a_closed_box_changes_nothing()
     ensures { (p : Problem) (box : Box) → (sweep p box).lines ≡ [] → first_empty box ≡ None → closing p box ≡ keeps box }
+{}
+
+/// A closed box with one candidate at each point is a solution.
+pub fn closed_boxes_of_single_candidates_are_solutions()
+    ensures { (p : Problem) (box b : Box) → IsWellFormed p → IsClosedBranch p box b → first_open b ≡ None → IsSolution p (map (λ set. slice_index set 0) b) }
 {}

@@ -25,8 +25,8 @@ mod refutations;
 mod search;
 
 pub use closing::{
-    closed_boxes_support_their_candidates, closing_a_closed_box_changes_nothing,
-    closing_keeps_solutions, closing_leaves_a_closed_box,
+    closed_boxes_of_single_candidates_are_solutions, closed_boxes_support_their_candidates,
+    closing_a_closed_box_changes_nothing, closing_keeps_solutions, closing_leaves_a_closed_box,
 };
 pub use covers::{
     boxes_of_a_cover_are_in_order, split_covers_in_order, the_first_map_of_a_cover_is_the_least,
@@ -41,6 +41,6 @@ pub use refutations::{
     refuting_lines_are_accepted,
 };
 pub use search::{
-    the_canonical_answer, the_canonical_map_is_the_least_solution, the_canonical_search_by_steps,
-    the_canonical_search_refutes,
+    a_box_has_one_least_solution, the_canonical_answer, the_canonical_map_is_the_least_solution,
+    the_canonical_search_by_steps, the_canonical_search_refutes,
 };

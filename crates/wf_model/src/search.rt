@@ -32,3 +32,8 @@ pub fn the_canonical_answer()
     ensures map { (t : Task) (r : ℕ) (m : List ℕ) → IsTask t → (canonical (problem_of t r) (root (problem_of t r))).map ≡ Some m → IsLeast t r (λ v. slice_index m (number_of (points t r) v)) }
     ensures none { (t : Task) (r : ℕ) → IsTask t → (canonical (problem_of t r) (root (problem_of t r))).map ≡ None → (m : View → ℕ) → IsDecisionMap t r m → ⊥ }
 {}
+
+/// A box has at most one least solution, so who finds one finds the map of the canonical search.
+pub fn a_box_has_one_least_solution()
+    ensures { (p : Problem) (box : Box) (m n : List ℕ) → IsLeastIn p box m → IsLeastIn p box n → m ≡ n }
+{}
