@@ -5,3 +5,4 @@ pub mod Colours
 pub mod Sizes
 pub mod Judged
 pub mod TaskSeen
+pub mod EntrySlots

@@ -1,6 +1,6 @@
 -- The task that a draft lists, or its first fault: the refusals 4 to 14, in this order.
-use Rattle.std.specs.Prelude.{ℕ, suc, ◌+◌, ◌==◌, ◌&&◌, ◌||◌, nat_lt, nat_le, Bool, true, false, not, List, [], ◌∷◌, ◌++◌, map, filter, flat_map, length, zip, sum_by, count_by, Option, Some, None, option_map, Result, Ok, Err, position, if◌then◌else◌}
-use Rattle.std.specs.List.{list_any, list_all}
+use Rattle.std.specs.Prelude.{ℕ, suc, ◌+◌, ◌==◌, ◌&&◌, ◌||◌, nat_lt, nat_le, Bool, true, false, not, List, [], ◌∷◌, ◌++◌, map, filter, flat_map, length, zip, sum_by, count_by, Option, Some, None, option_map, Result, Ok, Err, if◌then◌else◌}
+use Rattle.std.specs.List.{list_any, list_all, position_from}
 use Rattle.std.specs.Ordering.{nat_cmp}
 use Rattle.std.specs.Cmp.Lexicographic.{slice_cmp}
 use Rattle.serde_json.specs.Data.{Data}
@@ -13,6 +13,7 @@ use Rattle.wf_task.specs.declared.fault.TaskFault.{TaskFault}
 use Rattle.wf_task.specs.declared.fault.TaskFault.TheVariants as fault
 use Rattle.wf_task.specs.Draft.{Listed, ◌>>=◌, or_fault, draft_of}
 use Rattle.wf_task.specs.Text.{json_of}
+use Rattle.wf_task.specs.Slots.{entries_in}
 
 -- ---- what is asked
 
@@ -44,18 +45,18 @@ is_among complex s = list_any (same_simplex s) complex
 
 -- the entries for an input simplex, and their value lists
 abbrev pub entries_for : Listed → Simplex → List Rule
-entries_for listed s = filter (λ rule. same_simplex rule.input s) listed.delta
+entries_for listed s = entries_in listed.delta s
 
 abbrev pub tuples_for : Listed → Simplex → List Tuple
 tuples_for listed s = flat_map (λ rule. rule.tuples) (entries_for listed s)
 
 -- the place of the first value list that has not as many values as the simplex has processes
 abbrev pub wrong_length : Listed → Simplex → Option ℕ
-wrong_length listed s = position (λ tuple. not (length tuple == length s)) (tuples_for listed s)
+wrong_length listed s = position_from (λ tuple. not (length tuple == length s)) 0 (tuples_for listed s)
 
 -- the place of the first value list that is no output simplex
 abbrev pub no_output : Listed → Simplex → Option ℕ
-no_output listed s = position (λ tuple. not (is_among (complex_of listed.outputs) (zip (processes_of s) tuple))) (tuples_for listed s)
+no_output listed s = position_from (λ tuple. not (is_among (complex_of listed.outputs) (zip (processes_of s) tuple))) 0 (tuples_for listed s)
 
 -- the number of the first simplex at which f answers, with the answer
 abbrev pub answer_or : Option ℕ → ℕ → Option (ℕ × ℕ) → Option (ℕ × ℕ)
@@ -96,9 +97,9 @@ sizes_judged listed inputs = do
 -- 9 to 11: of the entries, each simplex of the input complex has one, and no other has
 unfoldable pub entries_judged : Listed → List Simplex → Result (Unit {0}) TaskFault
 entries_judged listed inputs = do
-  missing ← refused_at (position (λ s. length (entries_for listed s) == 0) inputs) fault.DeltaMissing
-  twice ← refused_at (position (λ s. nat_lt 1 (length (entries_for listed s))) inputs) fault.DeltaTwice
-  refused_at (position (λ rule. not (is_among inputs rule.input)) listed.delta) fault.DeltaStray
+  missing ← refused_at (position_from (λ s. length (entries_for listed s) == 0) 0 inputs) fault.DeltaMissing
+  twice ← refused_at (position_from (λ s. nat_lt 1 (length (entries_for listed s))) 0 inputs) fault.DeltaTwice
+  refused_at (position_from (λ rule. not (is_among inputs rule.input)) 0 listed.delta) fault.DeltaStray
 
 -- 12 and 13: of the value lists
 unfoldable pub tuples_judged : Listed → List Simplex → Result (Unit {0}) TaskFault

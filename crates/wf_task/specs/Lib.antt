@@ -4,5 +4,6 @@ pub mod Shape
 pub mod Draft
 pub mod DraftSeen
 pub mod Text
+pub mod Slots
 pub mod Judge
 pub mod TaskSeen

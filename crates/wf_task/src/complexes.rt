@@ -15,7 +15,7 @@ use wf_simplex::{Complex, Simplex};
 const MOST_FACETS: usize = 16_777_216;
 
 /// The simplex of pairs that were judged.
-fn simplex_of(pairs: &[(u64, u64)]) -> Simplex
+pub(crate) fn simplex_of(pairs: &[(u64, u64)]) -> Simplex
     requires { IsSimplexWithin 4 63 pairs.now }
     ensures { result ≡ pairs.now }
 {

@@ -23,7 +23,7 @@ pub(crate) struct Draft {
 
 /// The place as a refusal carries it. A text has fewer items than bytes, and so far fewer than u32 can say;
 /// should that fail, it counts as want of memory.
-fn place_of(place: usize) -> Result<u32, TaskFault>
+pub(crate) fn place_of(place: usize) -> Result<u32, TaskFault>
     ensures { Gives (λ n. n) result (Ok place) }
 {
     match u32::try_from(place) {

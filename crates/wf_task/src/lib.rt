@@ -9,6 +9,7 @@ pub mod fault;
 mod judge;
 pub mod row;
 mod shape;
+mod slots;
 pub mod task;
 
 pub use fault::{Key, Limit, TaskFault};

@@ -1,4 +1,4 @@
-use crate::Row;
+use crate::{Key, Limit, Row, TaskFault};
 use std::test::Fail;
 
 #[test]
@@ -24,4 +24,39 @@ fn rows_have_a_value_at_each_place(rt: HostRuntime) {
     assert_eq!(rt; row.value(1), 7);
     assert_eq!(rt; row.value(2), 11);
     assert_eq!(rt; row.value(3), 13);
+}
+
+#[test]
+fn refusals_are_printed_with_what_they_carry(rt: HostRuntime) -> Result<(), Fail> {
+    let rows = [
+        (TaskFault::TooLong, "1 TooLong"),
+        (TaskFault::NotJson, "2 NotJson"),
+        (TaskFault::Shape(Key::Delta, 4), "3 Shape delta 4"),
+        (TaskFault::Shape(Key::Whole, 0), "3 Shape whole 0"),
+        (TaskFault::Shape(Key::Version, 0), "3 Shape version 0"),
+        (TaskFault::Shape(Key::Processes, 0), "3 Shape processes 0"),
+        (TaskFault::Shape(Key::Symmetric, 0), "3 Shape symmetric 0"),
+        (TaskFault::Shape(Key::Inputs, 10), "3 Shape inputs 10"),
+        (TaskFault::Shape(Key::Outputs, 7), "3 Shape outputs 7"),
+        (TaskFault::Shape(Key::Other, 0), "3 Shape other 0"),
+        (TaskFault::Version, "4 Version"),
+        (TaskFault::Processes, "5 Processes"),
+        (TaskFault::Value, "6 Value"),
+        (TaskFault::Colours, "7 Colours"),
+        (TaskFault::TooMany(Limit::Vertices), "8 TooMany vertices"),
+        (TaskFault::TooMany(Limit::Simplices), "8 TooMany simplices"),
+        (TaskFault::TooMany(Limit::Outputs), "8 TooMany outputs"),
+        (TaskFault::TooMany(Limit::Tuples), "8 TooMany tuples"),
+        (TaskFault::DeltaMissing(1), "9 DeltaMissing 1"),
+        (TaskFault::DeltaTwice(2), "10 DeltaTwice 2"),
+        (TaskFault::DeltaStray(0), "11 DeltaStray 0"),
+        (TaskFault::OutLength(3, 4), "12 OutLength 3 4"),
+        (TaskFault::OutStray(4095, 65535), "13 OutStray 4095 65535"),
+        (TaskFault::NoInput, "14 NoInput"),
+        (TaskFault::OutOfMemory, "15 OutOfMemory"),
+    ];
+    for (fault, text) in rows {
+        assert_eq!(rt; format!(in rt.alloc(); "{fault}")?.as_str(), text);
+    }
+    Ok(())
 }

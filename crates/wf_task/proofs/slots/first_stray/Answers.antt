@@ -1,0 +1,19 @@
+use Rattle.std.proofs.Common.{◌≡◌, Bool, true, false, IsTrue, Contains, map, sym, ap, ◌∙◌, subst}
+use Rattle.wf_model.specs.Task.{IsSimplexWithin}
+use Rattle.wf_task.specs.DraftSeen.{entry_seen}
+use Rattle.wf_task.proofs.EntrySlots.{entry_within, stray_here}
+use Rattle.wf_task.proofs.slots.first_stray.Goals as goal
+
+not_both : (b : Bool) → b ≡ false → IsTrue b → ⊥
+not_both true e h = cc
+not_both false e h = cc
+
+pub simplex_of-requires : goal.simplex_of-requires
+simplex_of-requires c =
+    subst (IsSimplexWithin 4 63) (sym c.deref.ensures.value) (entry_within c.args.delta.now c.loop-place.place c.index-delta-place.result c.loop-place-test.true c.index-delta-place.is c.requires)
+
+pub returns-then-not-contains : goal.returns-then-not-contains
+returns-then-not-contains c =
+    stray_here c.args.inputs.now c.args.delta.now c.loop-place.place c.index-delta-place.result c.loop-place-test.true c.index-delta-place.is
+    (λ here. (let found = c.contains.ensures.1 (subst (Contains c.args.inputs.now) (sym (c.simplex_of.ensures ∙ c.deref.ensures.value)) here) in not_both c.contains.result c.if-not-contains.true found))
+    ∙ c.loop-place.invariant
