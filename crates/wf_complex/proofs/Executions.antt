@@ -1,12 +1,11 @@
 -- The rounds of the code are the executions of the definitions.
-use Rattle.std.proofs.Common.{◌≡◌, ℕ, zero, suc, ◌+◌, ◌*◌, List, [], ◌∷◌, ◌++◌, map, flat_map, length, fold, sym, refl, ap, ◌∙◌, arith, append_assoc, append-nil, length-append}
+use Rattle.std.proofs.Common.{◌≡◌, ℕ, zero, suc, ◌+◌, ◌*◌, List, [], ◌∷◌, ◌++◌, map, flat_map, length, fold, sym, refl, ap, ◌∙◌, arith, append-nil, length-append}
 use Rattle.std.proofs.lemmas.List.Concat.{flat_map-append}
 use Rattle.wf_model.specs.Lists.{lists_of}
-use Rattle.wf_model.specs.Simplex.{Simplex}
 use Rattle.wf_model.specs.Word.{Word, words}
 use Rattle.wf_model.specs.View.{View, base_views, round}
 use Rattle.wf_model.specs.Task.{Task, Rule, inputs, first_block}
-use Rattle.wf_model.specs.Execution.{Execution, executions_on, executions, last_views}
+use Rattle.wf_model.specs.Execution.{executions_on, executions, last_views}
 use Rattle.wf_complex.specs.Rounds.{leaves, leaves_of}
 use Rattle.wf_complex.specs.Layout.{turns, execution_total}
 

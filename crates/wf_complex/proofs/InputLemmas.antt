@@ -1,17 +1,16 @@
 -- The views of an input simplex.
-use Rattle.std.proofs.Common.{◌++◌, flat_map, drop, append-nil, ◌≡◌, ◌<◌, ◌≤◌, ℕ, zero, suc, ◌+◌, ◌==◌, ◌&&◌, Bool, true, false, List, [], ◌∷◌, map, length, take, get_or, Some, None, Option, All, if◌then◌else◌, sym, refl, ap, ◌∙◌, subst, arith, inl, inr, eqb-true, eq-eqb}
+use Rattle.std.proofs.Common.{◌++◌, flat_map, drop, append-nil, ◌≡◌, ◌<◌, ◌≤◌, ℕ, zero, suc, ◌+◌, ◌==◌, false, List, [], ◌∷◌, map, length, take, get_or, Some, All, sym, refl, ap, ◌∙◌, subst, arith, inl, inr, eqb-true, eq-eqb}
 use Rattle.std.specs.List.{AllByRecursion}
-use Rattle.std.proofs.lemmas.Bool.{cases_Bool, and_parts, and_right, both_ways}
+use Rattle.std.proofs.lemmas.Bool.{cases_Bool, and_parts}
 use Rattle.std.proofs.lemmas.List.{take_all, take_more, drop_more}
 use Rattle.std.proofs.lemmas.List.Concat.{flat_map-append}
 use Rattle.std.proofs.lemmas.List.Elements.{recursion_from_All, All-from_recursion}
-use Rattle.wf_model.specs.Simplex.{Simplex, processes_of, values_of, is_nonempty, is_ascending, is_simplex}
+use Rattle.wf_model.specs.Simplex.{Simplex, processes_of, values_of, is_nonempty, is_ascending}
 use Rattle.wf_model.specs.Task.{IsSimplexWithin}
 use Rattle.wf_model.specs.View.{View, base, base_views, process_of}
 use Rattle.wf_model.proofs.Ascending.{Ascends, ascends_from}
 use Rattle.wf_model.proofs.Bridge.{weaker}
 use Rattle.wf_simplex.specs.Entries.{value_at}
-use Rattle.wf_view.specs.Views.{view_at}
 use Rattle.wf_complex.specs.Rounds.{views_at, AreViews, Extends, leaves, leaves_of, cost, cost_of_each}
 use Rattle.wf_complex.proofs.RoundLemmas.{views_kept, length-views}
 use Rattle.wf_model.specs.Word.{words}

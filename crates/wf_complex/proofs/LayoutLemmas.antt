@@ -1,5 +1,5 @@
 -- How many executions there are, and where their places lie.
-use Rattle.std.proofs.Common.{◌≡◌, ◌<◌, ◌≤◌, ℕ, zero, suc, ◌+◌, ◌*◌, min, List, [], ◌∷◌, ◌++◌, length, drop, get_or, All, sym, refl, ap, ◌∙◌, subst, arith, length-append, lit≤}
+use Rattle.std.proofs.Common.{◌≡◌, ◌<◌, ◌≤◌, ℕ, suc, ◌+◌, ◌*◌, min, List, [], ◌∷◌, ◌++◌, length, drop, get_or, All, sym, refl, ap, ◌∙◌, arith, lit≤}
 use Rattle.std.specs.List.{AllByRecursion}
 use Rattle.std.proofs.Math.Nat.{mul-le-mul_right, mul-le-mul_left}
 use Rattle.std.proofs.lemmas.List.{drop_more}
@@ -9,7 +9,6 @@ use Rattle.wf_model.specs.Word.{words}
 use Rattle.wf_simplex.specs.WordTable.{each_size}
 use Rattle.wf_complex.specs.declared.layout.Execution.{Execution}
 use Rattle.wf_complex.specs.Layout.{turns, execution_total, place_total, LiesIn}
-use Rattle.wf_complex.proofs.WalkLemmas.{turn_left}
 
 -- 1, 3, 13 and 75
 pub words_few : (n : ℕ) → 1 ≤ n → n ≤ 4 → length (words 1 n) ≤ 75

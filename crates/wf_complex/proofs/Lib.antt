@@ -5,3 +5,4 @@ pub mod Numbers
 pub mod LayoutLemmas
 pub mod Executions
 pub mod Bounds
+pub mod FirstPlaces

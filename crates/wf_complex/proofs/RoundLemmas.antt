@@ -1,5 +1,5 @@
 -- One participant's view after a round, by numbers.
-use Rattle.std.proofs.Common.{◌≡◌, ◌<◌, ◌≤◌, ℕ, zero, suc, ◌+◌, ◌==◌, nat_le, Bool, true, false, List, [], ◌∷◌, ◌++◌, map, filter, length, zip, take, drop, get_or, slice_get, slice_set, Some, All, if◌then◌else◌, sym, refl, ap, ◌∙◌, subst, arith, inl, inr, eq-eqb, append_assoc, append-nil, length-append}
+use Rattle.std.proofs.Common.{◌≡◌, ◌<◌, ◌≤◌, ℕ, zero, suc, ◌+◌, nat_le, true, List, [], ◌∷◌, ◌++◌, map, length, zip, take, get_or, slice_get, slice_set, Some, All, sym, refl, ap, ◌∙◌, subst, arith, inl, inr, eq-eqb, append_assoc, append-nil, length-append}
 use Rattle.std.specs.List.{AllByRecursion, list_any}
 use Rattle.std.proofs.lemmas.Bool.{cases_Bool, or_left, or_right, le-leb}
 use Rattle.std.proofs.lemmas.List.{take_more_set, take_more, take_all}

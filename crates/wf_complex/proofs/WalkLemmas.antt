@@ -1,13 +1,11 @@
 -- Rounds after rounds, one word further.
-use Rattle.std.proofs.Common.{◌≡◌, ◌<◌, ◌≤◌, ℕ, zero, suc, ◌+◌, ◌-◌, ◌*◌, List, [], ◌∷◌, ◌++◌, map, flat_map, length, take, slice_get, Some, Option, Bool, true, false, IsTrue, All, sym, refl, ap, ◌∙◌, subst, arith, append_assoc, append-nil, length-append}
+use Rattle.std.proofs.Common.{◌≡◌, ◌<◌, ◌≤◌, ℕ, zero, suc, ◌+◌, ◌-◌, ◌*◌, List, [], ◌∷◌, ◌++◌, flat_map, length, take, slice_get, Some, Bool, true, false, IsTrue, sym, refl, ap, ◌∙◌, subst, arith, append_assoc, append-nil}
 use Rattle.std.specs.List.{AllByRecursion}
 use Rattle.std.proofs.Math.Nat.{mul-le-mul_right}
-use Rattle.std.proofs.lemmas.List.Concat.{flat_map-append}
-use Rattle.std.proofs.lemmas.List.Elements.{recursion_from_All, All-from_recursion}
 use Rattle.wf_model.specs.View.{View, round}
 use Rattle.wf_model.specs.Word.{Word, words}
 use Rattle.wf_simplex.specs.WordTable.{each_size}
-use Rattle.wf_complex.specs.Rounds.{views_at, Extends, AreViews, leaves, cost}
+use Rattle.wf_complex.specs.Rounds.{views_at, Extends, leaves, cost}
 use Rattle.wf_complex.proofs.RoundLemmas.{views_kept, length-views, length-round}
 
 first_length : (n : ℕ) → 1 ≤ n → n ≤ 4 → (w : Word) → slice_get (words 1 n) 0 ≡ Some w → length w ≡ n

@@ -1,7 +1,24 @@
--- Numbers that were met, by their places.
-use Rattle.std.specs.Prelude.{◌<◌, ℕ, List, Option, IfSome}
-use Rattle.std.specs.List.{AllByRecursion}
+-- Numbers in the order of first appearance.
+use Rattle.std.specs.Prelude.{◌≡◌, ◌<◌, ◌==◌, ℕ, Bool, true, false, List, Option, Some, None, length, slice_index, get_or}
+use Rattle.std.specs.List.{list_any}
+use Rattle.wf_model.specs.Lists.{distinct, below}
 
--- the places are below n
-abbrev pub AreKnown : ℕ → List (Option ℕ) → Type 0
-AreKnown n numbers = AllByRecursion (λ o. IfSome o (λ place. place < n)) numbers
+-- whether one number stands at both places
+abbrev pub same_at : List ℕ → ℕ → ℕ → Bool
+same_at ids i j = slice_index ids i == slice_index ids j
+
+-- those of the first n places at which a number stands first
+abbrev pub first_places : List ℕ → ℕ → List ℕ
+first_places ids n = distinct (same_at ids) (below n)
+
+-- whether the number stands at one of the first n places
+abbrev pub stands : List ℕ → ℕ → ℕ → Bool
+stands ids n id = list_any (λ j. slice_index ids j == id) (below n)
+
+-- what is known of a number after n places: that it was not met, or its place among the different ones
+abbrev pub Knows : List ℕ → ℕ → List ℕ → ℕ → Option ℕ → Type 0
+Knows ids n firsts id None = stands ids n id ≡ false
+Knows ids n firsts id (Some k) = (stands ids n id ≡ true) × (k < length firsts) × (slice_index ids (slice_index firsts k) ≡ id)
+
+abbrev pub AllKnown : List ℕ → ℕ → List ℕ → List (Option ℕ) → Type 0
+AllKnown ids n firsts numbers = (id : ℕ) → id < length numbers → Knows ids n firsts id (get_or numbers id None)

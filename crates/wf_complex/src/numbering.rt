@@ -1,7 +1,7 @@
 //! Numbers in the order of first appearance.
 
-ghost use Rattle.std.specs.Prelude.{◌≡◌, ◌<◌, ◌≤◌, ◌⊎◌, ◌∷◌, [], ◌++◌, length, vec_len, All, IfOk};
-ghost use Rattle.wf_complex.specs.Numbering.{AreKnown};
+ghost use Rattle.std.specs.Prelude.{◌≡◌, ◌<◌, ◌∷◌, [], ◌++◌, ℕ, length, vec_len, All, map, IfOk, OnOk, Ok, Some, None, get_or, slice_index, slice_set};
+ghost use Rattle.wf_complex.specs.Numbering.{first_places};
 
 use std::alloc::{AllocError, Global};
 
@@ -18,9 +18,9 @@ pub(crate) struct Numbered {
 pub(crate) fn number_all(alloc: Global, ids: &[u32], bound: usize) -> Result<Numbered, AllocError>
     requires bound { All (λ id. id < bound) ids.now }
     requires few { length ids.now < 4294967296 }
-    ensures long { IfOk result (λ n. length n.places.items ≡ length ids.now) }
+    ensures firsts { IfOk result (λ n. n.firsts.items ≡ first_places ids.now (length ids.now)) }
     ensures places { IfOk result (λ n. All (λ p. p < length n.firsts.items) n.places.items) }
-    ensures firsts { IfOk result (λ n. All (λ i. i < length ids.now) n.firsts.items) }
+    ensures numbers { IfOk result (λ n. map (λ p. slice_index ids.now (slice_index n.firsts.items p)) n.places.items ≡ ids.now) }
 {
     let mut numbers: Vec<Option<u32>> = vec![in alloc; None; bound]?;
     let mut places = Vec::new(alloc);
@@ -41,11 +41,12 @@ fn number_one(
 ) -> Result<u32, AllocError>
     requires id { id < vec_len numbers.old }
     requires room { vec_len firsts.old < 4294967296 }
-    requires known { AreKnown (length firsts.old.items) numbers.old.items }
     ensures numbers { vec_len numbers.new ≡ vec_len numbers.old }
-    ensures known { AreKnown (length firsts.new.items) numbers.new.items }
-    ensures place { IfOk result (λ place. place < length firsts.new.items) }
-    ensures firsts { (firsts.new.items ≡ firsts.old.items) ⊎ (firsts.new.items ≡ firsts.old.items ++ i ∷ []) }
+    ensures met { (k : ℕ) → get_or numbers.old.items id None ≡ Some k
+        → (result ≡ Ok k) × (numbers.new.items ≡ numbers.old.items) × (firsts.new.items ≡ firsts.old.items) }
+    ensures first { get_or numbers.old.items id None ≡ None → OnOk result ((result ≡ Ok (length firsts.old.items))
+        × (numbers.new.items ≡ slice_set numbers.old.items id (Some (length firsts.old.items)))
+        × (firsts.new.items ≡ firsts.old.items ++ i ∷ [])) }
 {
     if let Some(place) = numbers[id as usize] {
         return Ok(place);

@@ -1,4 +1,4 @@
-use Rattle.std.proofs.Common.{◌≡◌, ◌≤◌, ◌<◌, ◌*◌, ◌+◌, length, min, arith, rules, sym, ap, ◌∙◌}
+use Rattle.std.proofs.Common.{◌≤◌, ◌<◌, ◌*◌, length, min, arith, rules, sym, ap, ◌∙◌}
 use Rattle.wf_model.specs.Word.{words}
 use Rattle.wf_complex.specs.Layout.{turns}
 use Rattle.wf_complex.proofs.LayoutLemmas.{words_few, words_some, turns-more, min_times, product_small}

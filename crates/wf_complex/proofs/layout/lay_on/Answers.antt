@@ -1,4 +1,4 @@
-use Rattle.std.proofs.Common.{◌≡◌, ◌<◌, ◌≤◌, ◌+◌, ◌*◌, ◌∷◌, [], ◌++◌, All, length, arith, sym, ap, subst, ◌∙◌, length-append}
+use Rattle.std.proofs.Common.{◌≡◌, ◌+◌, ◌*◌, ◌∷◌, [], All, length, arith, sym, ap, subst, length-append}
 use Rattle.wf_complex.specs.Layout.{LiesIn}
 use Rattle.wf_complex.proofs.WalkLemmas.{turn_left}
 use Rattle.wf_complex.proofs.LayoutLemmas.{lies_push}

@@ -1,8 +1,8 @@
-use Rattle.std.proofs.Common.{◌≡◌, ◌<◌, ◌≤◌, ◌+◌, ◌*◌, List, [], All, length, drop, get_or, arith, rules, sym, ap, subst, ◌∙◌}
+use Rattle.std.proofs.Common.{◌≡◌, ◌<◌, ◌≤◌, ◌+◌, ◌*◌, [], length, get_or, arith, rules, sym, ap, ◌∙◌}
 use Rattle.std.proofs.lemmas.List.{get_or_default}
 use Rattle.std.proofs.lemmas.List.Elements.{recursion_from_All}
-use Rattle.wf_complex.specs.Layout.{turns, execution_total, place_total, LiesIn}
-use Rattle.wf_complex.proofs.LayoutLemmas.{turns_here, place_few, product_small, whole_count}
+use Rattle.wf_complex.specs.Layout.{place_total}
+use Rattle.wf_complex.proofs.LayoutLemmas.{turns_here, place_few, whole_count}
 use Rattle.wf_complex.proofs.layout.lay_out.Goals as goal
 
 pub lay_on-requires-clause-room : goal.lay_on-requires-clause-room

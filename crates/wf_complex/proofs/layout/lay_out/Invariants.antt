@@ -1,4 +1,4 @@
-use Rattle.std.proofs.Common.{◌≡◌, ◌≤◌, ◌+◌, All, length, drop}
+use Rattle.std.proofs.Common.{◌≡◌, ◌+◌, All, length, drop}
 use Rattle.wf_complex.specs.Layout.{execution_total, place_total, LiesIn}
 use Rattle.wf_complex.proofs.layout.lay_out.Given as goal
 

@@ -1,5 +1,5 @@
-use Rattle.std.proofs.Common.{◌≡◌, ◌<◌, ◌+◌, List, length, take, get_or, Some, None, length-set, arith, sym, ap, subst, ◌∙◌}
-use Rattle.wf_model.specs.Simplex.{processes_of, values_of}
+use Rattle.std.proofs.Common.{◌≡◌, ◌<◌, length, get_or, Some, length-set, arith, sym, ap, ◌∙◌}
+use Rattle.wf_model.specs.Simplex.{values_of}
 use Rattle.wf_model.specs.View.{base, base_views}
 use Rattle.wf_simplex.specs.Entries.{value_at}
 use Rattle.wf_complex.proofs.RoundLemmas.{further}

@@ -1,4 +1,4 @@
-use Rattle.std.proofs.Common.{◌≡◌, ◌<◌, length, arith}
+use Rattle.std.proofs.Common.{◌<◌, length, arith}
 use Rattle.std.proofs.lemmas.List.Elements.{recursion_from_All}
 use Rattle.wf_complex.proofs.RoundLemmas.{extends_then}
 use Rattle.wf_complex.proofs.InputLemmas.{room_after, made_after}

@@ -1,6 +1,4 @@
-use Rattle.std.proofs.Common.{◌≡◌, ◌<◌, ◌≤◌, ◌+◌, ℕ, List, [], ◌∷◌, ◌++◌, All, length, take, get_or, length-set, arith, sym, ap, subst, ◌∙◌}
-use Rattle.wf_model.specs.View.{round}
-use Rattle.wf_complex.specs.Rounds.{views_at, AreViews, Extends}
+use Rattle.std.proofs.Common.{take, length-set, arith, ◌∙◌}
 use Rattle.wf_complex.proofs.RoundLemmas.{low, numbers, ascending, own_part, next_step, after_round}
 use Rattle.wf_complex.proofs.rounds.next_views.Goals as goal
 
