@@ -9,3 +9,6 @@ mod node;
 mod views;
 
 pub use views::Views;
+
+#[cfg(test)]
+mod tests;
