@@ -8,3 +8,6 @@ mod writing;
 
 pub use report::{Body, Report};
 pub use writing::write_report;
+
+#[cfg(test)]
+mod tests;
