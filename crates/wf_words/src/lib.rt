@@ -121,3 +121,6 @@ pub fn read_words(alloc: Global, words: &[String]) -> Result<Job, WordsFault>
         _ => Err(WordsFault::Words),
     }
 }
+
+#[cfg(test)]
+mod tests;

@@ -1,0 +1,62 @@
+use super::*;
+use std::test::Fail;
+
+fn split(rt: &HostRuntime, line: &str) -> Result<Vec<String>, AllocError> {
+    let mut words = Vec::new(rt.alloc());
+    for word in line.split(' ') {
+        words.push(String::from_str(rt.alloc(), word)?)?;
+    }
+    Ok(words)
+}
+
+#[test]
+fn words_are_a_job_or_a_fault(rt: HostRuntime) -> Result<(), Fail> {
+    let rows = [
+        (
+            "wfcheck solve --rounds 1 --workers 1 --verdict",
+            "solve 1 1 true",
+        ),
+        (
+            "wfcheck solve --verdict --workers 1 --rounds 4294967295",
+            "solve 4294967295 1 true",
+        ),
+        ("wfcheck solve --rounds 1 --workers 1", "words"),
+        ("wfcheck solve --rounds 1 --workers 2 --verdict", "words"),
+        (
+            "wfcheck solve --rounds 1 --workers 65 --verdict",
+            "clap ValueValidation",
+        ),
+        (
+            "wfcheck solve --rounds 1 --workers 0 --verdict",
+            "clap ValueValidation",
+        ),
+        (
+            "wfcheck solve --rounds 4294967296 --workers 1 --verdict",
+            "clap ValueValidation",
+        ),
+        ("wfcheck solve --rounds 1", "clap MissingRequiredArgument"),
+        ("wfcheck", "clap MissingSubcommand"),
+        ("wfcheck --help", "clap DisplayHelp"),
+        ("wfcheck draw", "clap InvalidSubcommand"),
+    ];
+    for (line, want) in rows {
+        let words = split(&rt, line)?;
+        let got = match read_words(rt.alloc(), &words) {
+            Ok(
+                Job::Solve {
+                    rounds,
+                    workers,
+                    verdict,
+                },
+            ) => format!(in rt.alloc(); "solve {rounds} {workers} {verdict}")?,
+            Err(WordsFault::Clap(error)) => {
+                let kind = error.kind();
+                format!(in rt.alloc(); "clap {kind:?}")?
+            }
+            Err(WordsFault::Words) => String::from_str(rt.alloc(), "words")?,
+            Err(WordsFault::OutOfMemory) => String::from_str(rt.alloc(), "memory")?,
+        };
+        assert_eq!(rt; got.as_str(), want, "at {line}");
+    }
+    Ok(())
+}
