@@ -9,3 +9,6 @@ mod choices;
 mod search;
 
 pub use search::{Execution, least_solution};
+
+#[cfg(test)]
+mod tests;
