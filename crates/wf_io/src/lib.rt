@@ -10,3 +10,6 @@ pub mod source;
 
 pub use sink::{Sink, WriteFault, write_whole};
 pub use source::{LONGEST, ReadFault, Source, read_all};
+
+#[cfg(test)]
+mod tests;
