@@ -11,3 +11,6 @@ mod rounds;
 
 pub use fault::BuildFault;
 pub use line::{Line, Lines};
+
+#[cfg(test)]
+mod tests;
