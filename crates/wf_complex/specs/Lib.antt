@@ -3,3 +3,5 @@ pub mod Rounds
 pub mod Numbering
 pub mod Layout
 pub mod Faults
+pub mod Protocol
+pub mod ProtocolSeen

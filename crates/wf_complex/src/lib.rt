@@ -7,10 +7,12 @@ mod fault;
 mod layout;
 mod line;
 mod numbering;
+mod protocol;
 mod rounds;
 
 pub use fault::BuildFault;
 pub use line::{Line, Lines};
+pub use protocol::Protocol;
 
 #[cfg(test)]
 mod tests;

@@ -1,4 +1,4 @@
-ghost use Rattle.std.specs.Prelude.{◌≡◌, ℕ, ◌<◌, ◌↔◌, true, length, option_map, slice_get, Some};
+ghost use Rattle.std.specs.Prelude.{◌≡◌, ℕ, ◌<◌, ◌↔◌, true, length, option_map, slice_get, Some, None};
 ghost use Rattle.std.specs.Int.{bit_at};
 ghost use Rattle.wf_model.specs.Lists.{has};
 ghost use Rattle.wf_model.specs.Task.{IsTask, inputs, values};
@@ -49,10 +49,11 @@ impl Task {
         self.symmetric
     }
 
-    /// The input complex.
+    /// The input complex. All words are allowed in its executions.
     pub fn inputs(&self) -> &Complex
         ensures inputs { result.now ≡ inputs self.now }
         ensures task { IsTask self.now }
+        ensures unrestricted { self.now.restriction ≡ None }
     {
         &self.inputs
     }

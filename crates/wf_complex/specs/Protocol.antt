@@ -1,0 +1,45 @@
+-- What a clause sees of a protocol complex, and of which task and rounds it is one.
+use Rattle.std.specs.Prelude.{◌≡◌, ◌<◌, ◌≤◌, ℕ, List, [], ◌∷◌, map, flat_map, length, Option, None, Some, Result, Ok, Err, ◌==◌, if◌then◌else◌}
+use Rattle.std.specs.List.{enumerate_from}
+use Rattle.wf_model.specs.Task.{Task, first_block}
+use Rattle.wf_model.specs.View.{View}
+use Rattle.wf_model.specs.Execution.{executions_on, executions}
+use Rattle.wf_model.specs.Points.{points, last_view_count, first_appearances}
+use Rattle.wf_model.specs.Problem.{problem_of}
+use Rattle.wf_complex.specs.declared.fault.BuildFault.{BuildFault}
+use Rattle.wf_complex.specs.declared.fault.BuildFault.TheVariants.{Rounds, TooManyExecutions, OutOfMemory}
+
+-- what a clause sees of a protocol complex
+pub record Built : Type 0 where
+  pub rounds : ℕ
+  pub table : List View  -- the views by their numbers
+  pub points : List View  -- the class of each point
+  pub view_count : ℕ  -- how many different last views there are
+  pub firsts : List (ℕ × ℕ)  -- for each point the execution and the process in which it appears first
+  pub simplices : List ℕ  -- for each execution the number of its input simplex
+  pub scopes : List (List (ℕ × ℕ))  -- for each execution its processes, each with its point
+
+-- the number of the input simplex of each execution
+abbrev pub simplices_of : Task → ℕ → List ℕ
+simplices_of t r = flat_map (λ at. map (λ e. at.0) (executions_on (first_block t) r at.1)) (enumerate_from 0 t.rules)
+
+-- the protocol complex of this task after r rounds
+pub record IsProtocol (t : Task) (r : ℕ) (b : Built) : Type 0 where
+  pub rounds_are : b.rounds ≡ r
+  pub points_are : b.points ≡ points t r
+  pub views_are : b.view_count ≡ last_view_count t r
+  pub firsts_are : b.firsts ≡ map (λ a. (a.execution, a.process)) (first_appearances t r)
+  pub simplices_are : b.simplices ≡ simplices_of t r
+  pub scopes_are : b.scopes ≡ map (λ k. k.scope) (problem_of t r).constraints
+
+-- what building answers: too many rounds first, then too many executions, and else the complex, unless memory ran out
+abbrev pub Builds : Task → ℕ → Result Built BuildFault → Type 0
+Builds t r (Ok b) = (r ≤ 8) × (length (executions t r) ≤ 500000) × IsProtocol t r b
+Builds t r (Err Rounds) = 8 < r
+Builds t r (Err TooManyExecutions) = (r ≤ 8) × (500000 < length (executions t r))
+Builds t r (Err OutOfMemory) = (r ≤ 8) × (length (executions t r) ≤ 500000)
+
+-- the point of a process in an execution, if it takes part
+abbrev pub point_in : ℕ → List (ℕ × ℕ) → Option ℕ
+point_in c [] = None
+point_in c (at ∷ scope) = if at.0 == c then Some at.1 else point_in c scope
