@@ -1,1 +1,5 @@
-pub mod Remaining
+pub mod Tried
+pub mod Turns
+pub mod Rules
+pub mod State
+pub mod Named

@@ -1,97 +1,105 @@
 //! The search.
 
-ghost use Rattle.std.specs.Prelude.{◌≡◌, ◌<◌, ◌≤◌, length, All, IfOk, IfSome, vec_len};
+ghost use Rattle.std.specs.Prelude.{◌≡◌, ◌<◌, ◌≤◌, ◌+◌, ◌++◌, ◌∷◌, ℕ, [], List, true, All, length, take, map, vec_items, slice_index, IfOk};
+ghost use Rattle.std.specs.Bool.{OnTrue, OnFalse};
+ghost use Rattle.std.specs.List.{list_all};
+ghost use Rattle.wf_model.specs.Problem.{problem_of, IsSolution, IsLeastSolution};
+ghost use Rattle.wf_model.specs.Check.{satisfies};
+ghost use Rattle.wf_complex.specs.Protocol.{IsProtocol};
+ghost use Rattle.wf_plain.specs.Plain.{Answers, AreEnds, IsTried, LiesBelow, constraint_at};
 
-use crate::choices::advance;
+use crate::ends::ends_of;
+use crate::fits::fits;
 use std::alloc::{AllocError, Global};
-use wf_task::Row;
+use wf_complex::Protocol;
+use wf_task::Task;
 
-/// An execution: its points, and the tuples of values that are allowed there.
-#[derive(Clone, Copy)]
-pub struct Execution<'a> {
-    /// The numbers of the points, by ascending process.
-    pub points: &'a [u32],
-    /// The tuples, by the same places.
-    pub tuples: &'a [Row],
-}
+/// How many values there are at most.
+const VALUES: u8 = 64;
 
-/// The least solution: a value for each point such that in each execution the values at its points are a tuple that
-/// is allowed there; or `None` where there is none. The values are tried in the order in which they stand.
-pub fn least_solution(
+/// The least decision map of a task on its protocol complex, as the list of its values over the points; or `None`
+/// where there is none.
+///
+/// The protocol has to be that of the task. Refused for want of memory alone. There is no bound on the turns that it
+/// takes but the number of all lists of values.
+pub fn least_map(
     alloc: Global,
-    points: u32,
-    values: &[u8],
-    executions: &[Execution<'_>],
+    task: &Task,
+    protocol: &Protocol,
 ) -> Result<Option<Vec<u8>>, AllocError>
-    requires values { length values.now ≤ 64 }
-    ensures long { IfOk result (λ found. IfSome found (λ map. length map.items ≡ points)) }
+    requires built { IsProtocol task.now protocol.now.rounds protocol.now }
+    ensures answer { IfOk result (Answers (problem_of task.now protocol.now.rounds)) }
 {
-    let count = values.len() as u8;
-    let mut choices = Vec::with_capacity(alloc, points as usize)?;
-    loop {
-        if fits(&choices, values, executions) {
-            if choices.len() == points as usize {
-                return Ok(Some(values_of(alloc, &choices, values)?));
+    let ends = ends_of(alloc, task, protocol)?;
+    let mut values = vec![in alloc; 0u8; protocol.points() as usize]?;
+    if search(task, protocol, &ends, &mut values) {
+        Ok(Some(values))
+    } else {
+        Ok(None)
+    }
+}
+
+/// Writes the least decision map, where each list of executions ends at the point of its place. Answers false where
+/// there is none.
+fn search(task: &Task, protocol: &Protocol, ends: &[Vec<u32>], values: &mut [u8]) -> bool
+    requires built { IsProtocol task.now protocol.now.rounds protocol.now }
+    requires ends { AreEnds protocol.now.scopes (length protocol.now.points) (length protocol.now.scopes) (map vec_items ends.now) }
+    requires long { length values.old ≡ length protocol.now.points }
+    ensures map { OnTrue result (IsLeastSolution (problem_of task.now protocol.now.rounds) values.new) }
+    ensures none { OnFalse result ((m : List ℕ) → IsSolution (problem_of task.now protocol.now.rounds) m → ⊥) }
+{
+    let _inputs = task.inputs();
+    let mut point = 0;
+    let mut from = 0;
+    while point < values.len() {
+        if give_value(task, protocol, &ends[point], values, point, from) {
+            point += 1;
+            from = 0;
+        } else {
+            if point == 0 {
+                return false;
             }
-            if count == 0 {
-                return Ok(None);
-            }
-            choices.push_reserved(0u8);
-        } else if !advance(&mut choices, count) {
-            return Ok(None);
-        }
-    }
-}
-
-/// The values that were chosen.
-fn values_of(alloc: Global, choices: &[u8], values: &[u8]) -> Result<Vec<u8>, AllocError>
-    requires { All (λ c. c < length values.now) choices.now }
-    ensures { IfOk result (λ map. length map.items ≡ length choices.now) }
-{
-    let mut map = Vec::with_capacity(alloc, choices.len())?;
-    for choice in choices {
-        map.push(values[*choice as usize])?;
-    }
-    Ok(map)
-}
-
-/// Whether the choices so far are right: in each execution whose points have them all, they are a tuple.
-fn fits(choices: &[u8], values: &[u8], executions: &[Execution<'_>]) -> bool
-    requires { All (λ c. c < length values.now) choices.now }
-{
-    executions.iter().all(|execution| is_open(choices, execution)
-        || allows(choices, values, execution))
-}
-
-/// Whether some point of the execution has no choice yet.
-fn is_open(choices: &[u8], execution: &Execution<'_>) -> bool {
-    execution
-        .points
-        .iter()
-        .any(|point| *point as usize >= choices.len())
-}
-
-/// Whether some tuple of the execution has the chosen values.
-fn allows(choices: &[u8], values: &[u8], execution: &Execution<'_>) -> bool
-    requires { All (λ c. c < length values.now) choices.now }
-{
-    execution.tuples.iter().any(|tuple| is_chosen(choices, values, execution.points, tuple))
-}
-
-/// Whether the chosen values at these points are the tuple.
-fn is_chosen(choices: &[u8], values: &[u8], points: &[u32], tuple: &Row) -> bool
-    requires { All (λ c. c < length values.now) choices.now }
-{
-    if points.len() != tuple.size() as usize {
-        return false;
-    }
-    for (place, point) in points.iter().enumerate() {
-        let Some(choice) = choices.get(*point as usize) else {
-            return false;
-        };
-        if values[*choice as usize] != tuple.value(place as u8) {
-            return false;
+            point -= 1;
+            from = values[point] + 1;
         }
     }
     true
+}
+
+/// Gives the point the least value from this one on with which these executions, which end there, are right. Answers
+/// false where there is none.
+fn give_value(
+    task: &Task,
+    protocol: &Protocol,
+    executions: &[u32],
+    values: &mut [u8],
+    point: usize,
+    from: u8,
+) -> bool
+    requires built { IsProtocol task.now protocol.now.rounds protocol.now }
+    requires executions { All (LiesBelow protocol.now.scopes (point + 1)) executions.now }
+    requires point { point < length values.old }
+    requires from { from ≤ 64 }
+    ensures long { length values.new ≡ length values.old }
+    ensures kept { take point values.new ≡ take point values.old }
+    ensures from { OnTrue result (from ≤ slice_index values.new point) }
+    ensures small { OnTrue result (slice_index values.new point < 64) }
+    ensures right { OnTrue result (list_all (λ e. satisfies values.new (constraint_at (problem_of task.now protocol.now.rounds) e)) executions.now ≡ true) }
+    ensures found { OnTrue result (IsTried (problem_of task.now protocol.now.rounds) (take point values.old ++ from ∷ [])
+        → IsTried (problem_of task.now protocol.now.rounds) (take point values.old ++ slice_index values.new point ∷ [])) }
+    ensures none { OnFalse result (IsTried (problem_of task.now protocol.now.rounds) (take point values.old ++ from ∷ [])
+        → IsTried (problem_of task.now protocol.now.rounds) (take point values.old ++ 64 ∷ [])) }
+{
+    let all = task.values();
+    let _inputs = task.inputs();
+    for value in from..VALUES {
+        if all >> value & 1 == 0 {
+            continue;
+        }
+        values[point] = value;
+        if fits(task, protocol, executions, values) {
+            return true;
+        }
+    }
+    false
 }
