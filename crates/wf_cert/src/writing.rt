@@ -26,14 +26,16 @@ pub fn write_report(alloc: Global, report: &Report) -> Result<Vec<u8>, AllocErro
     Ok(text.into_bytes())
 }
 
-fn put_words(text: &mut String, words: &str) -> Result<(), AllocError>
+/// Adds a line of these words.
+pub fn put_words(text: &mut String, words: &str) -> Result<(), AllocError>
     ensures { OnOk result (string_bytes text.new ≡ string_bytes text.old ++ line words.now []) }
 {
     writeln!(text, "{words}")?;
     Ok(())
 }
 
-fn put_number(text: &mut String, name: &str, number: u32) -> Result<(), AllocError>
+/// Adds a line of a name and a number.
+pub fn put_number(text: &mut String, name: &str, number: u32) -> Result<(), AllocError>
     ensures { OnOk result (string_bytes text.new ≡ string_bytes text.old ++ line name.now (number ∷ [])) }
 {
     writeln!(text, "{name} {number}")?;

@@ -1,0 +1,33 @@
+-- How the refusals of the parts become those of a run, and what is printed of one.
+use Rattle.std.specs.Prelude.{ℕ, List, codes}
+use Rattle.wf_io.specs.declared.source.ReadFault.{ReadFault}
+use Rattle.wf_io.specs.declared.source.ReadFault.TheVariants as read
+use Rattle.wf_task.specs.declared.fault.TaskFault.{TaskFault}
+use Rattle.wf_task.specs.declared.fault.TaskFault.TheVariants as task
+use Rattle.wf_task.specs.FaultText as task_text
+use Rattle.wf_complex.specs.declared.fault.BuildFault.{BuildFault}
+use Rattle.wf_complex.specs.declared.fault.BuildFault.TheVariants as build
+use Rattle.wf_complex.specs.Faults as build_text
+use Rattle.wf_engine.specs.declared.fault.RunFault.{RunFault}
+use Rattle.wf_engine.specs.declared.fault.RunFault.TheVariants.{Task, Build, OutOfMemory, Read, Write}
+
+-- want of memory is one refusal, wherever it came
+abbrev pub of_read : ReadFault → RunFault
+of_read read.TooLong = Task task.TooLong
+of_read read.OutOfMemory = OutOfMemory
+of_read read.Read = Read
+
+abbrev pub of_task : TaskFault → RunFault
+of_task task.OutOfMemory = OutOfMemory
+of_task e = Task e
+
+abbrev pub of_build : BuildFault → RunFault
+of_build build.OutOfMemory = OutOfMemory
+of_build e = Build e
+
+abbrev pub fault_text : RunFault → List ℕ
+fault_text (Task e) = task_text.fault_text e
+fault_text (Build e) = build_text.fault_text e
+fault_text OutOfMemory = codes "15 OutOfMemory"
+fault_text Read = codes "30 Read"
+fault_text Write = codes "31 Write"

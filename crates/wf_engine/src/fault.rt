@@ -1,0 +1,100 @@
+//! Why a run is refused.
+
+ghost use Rattle.std.specs.Prelude.{◌≡◌, ◌++◌, IfOk, Some, string_bytes, codes};
+ghost use Rattle.wf_engine.specs.Faults.{of_read, of_task, of_build, fault_text};
+ghost use Rattle.wf_engine.specs.declared.fault.RunFault.TheVariants.{OutOfMemory, Write};
+
+use std::alloc::{AllocError, Global};
+use std::fmt;
+use wf_complex::BuildFault;
+use wf_io::{ReadFault, WriteFault};
+use wf_task::TaskFault;
+
+/// Why a run is refused.
+#[derive(Clone, Copy, Debug, PartialEq, Eq)]
+pub enum RunFault {
+    /// 1 to 14: the text is no task.
+    Task(TaskFault),
+    /// 16, 17: there are too many rounds or executions.
+    Build(BuildFault),
+    /// 15: memory ran out.
+    OutOfMemory,
+    /// 30: a call of the reader answered an error.
+    Read,
+    /// 31: a call of the writer answered an error, or took no byte.
+    Write,
+}
+
+impl fmt::Display for RunFault {
+    ghost output = { λ f. Some (fault_text f) };
+
+    fn fmt<W: fmt::Write>(&self, f: &mut fmt::Formatter<W>) -> fmt::Result {
+        match self {
+            RunFault::Task(fault) => write!(f, "{fault}"),
+            RunFault::Build(fault) => write!(f, "{fault}"),
+            RunFault::OutOfMemory => write!(f, "15 OutOfMemory"),
+            RunFault::Read => write!(f, "30 Read"),
+            RunFault::Write => write!(f, "31 Write"),
+        }
+    }
+}
+
+impl std::error::Error for RunFault {}
+
+impl From<ReadFault> for RunFault {
+    ghost from_gives = { λ x e. e ≡ of_read x };
+
+    fn from(fault: ReadFault) -> RunFault {
+        match fault {
+            ReadFault::TooLong => RunFault::Task(TaskFault::TooLong),
+            ReadFault::OutOfMemory => RunFault::OutOfMemory,
+            ReadFault::Read => RunFault::Read,
+        }
+    }
+}
+
+impl From<TaskFault> for RunFault {
+    ghost from_gives = { λ x e. e ≡ of_task x };
+
+    fn from(fault: TaskFault) -> RunFault {
+        match fault {
+            TaskFault::OutOfMemory => RunFault::OutOfMemory,
+            fault => RunFault::Task(fault),
+        }
+    }
+}
+
+impl From<BuildFault> for RunFault {
+    ghost from_gives = { λ x e. e ≡ of_build x };
+
+    fn from(fault: BuildFault) -> RunFault {
+        match fault {
+            BuildFault::OutOfMemory => RunFault::OutOfMemory,
+            fault => RunFault::Build(fault),
+        }
+    }
+}
+
+impl From<AllocError> for RunFault {
+    ghost from_gives = { λ _ e. e ≡ OutOfMemory };
+
+    fn from(_refused: AllocError) -> RunFault {
+        RunFault::OutOfMemory
+    }
+}
+
+impl From<WriteFault> for RunFault {
+    ghost from_gives = { λ _ e. e ≡ Write };
+
+    fn from(_failed: WriteFault) -> RunFault {
+        RunFault::Write
+    }
+}
+
+/// The line that a program prints for a refusal: `wfcheck:`, the number and the name of the refusal, and what it
+/// carries.
+pub fn refusal_line(alloc: Global, fault: &RunFault) -> Result<String, AllocError>
+    ensures { IfOk result (λ line. string_bytes line ≡ codes "wfcheck: " ++ fault_text fault.now) }
+{
+    format!(in alloc; "wfcheck: {fault}")
+}
