@@ -27,7 +27,7 @@ use Rattle.wf_complex.proofs.Bounds.{IsSized}
 use Rattle.wf_complex.proofs.Executions.{last_views-executions}
 use Rattle.wf_complex.proofs.PlaceLemmas.{length-part_of}
 use Rattle.wf_complex.proofs.Cuts.{parts-map, last_views_cut}
-use Rattle.wf_complex.proofs.Different.{length-map, map-map, map_agrees, by_place, distinct_by_place, IsOnce, number_at, same_by_number, apart_once, there, distinct_views}
+use Rattle.wf_complex.proofs.Different.{length-map, map-map, map_agrees, each_of, by_place, distinct_by_place, IsOnce, number_at, same_by_number, apart_once, there, distinct_views}
 
 -- ---- how many places there are
 
@@ -70,10 +70,6 @@ length-places table lasts r ss h = length-places_on table lasts 0 (laid_out r 0 
 zip-maps : {X Y Z : Type 0} (f : X → Y) (g : X → Z) (xs : List X) → zip (map f xs) (map g xs) ≡ map (λ x. (f x, g x)) xs
 zip-maps f g [] = refl
 zip-maps f g (x ∷ xs) = ap (λ ps. (f x, g x) ∷ ps) (zip-maps f g xs)
-
-pub each_of : {X : Type 0} (P Q : X → Type 0) → ((x : X) → P x → Q x) → (xs : List X) → AllByRecursion P xs → AllByRecursion Q xs
-each_of P Q f [] h = tt
-each_of P Q f (x ∷ xs) h = (f x h.0, each_of P Q f xs h.1)
 
 -- ---- execution by execution
 

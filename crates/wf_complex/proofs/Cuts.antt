@@ -21,7 +21,7 @@ use Rattle.wf_complex.proofs.Bounds.{IsSized, words_long}
 use Rattle.wf_complex.proofs.RoundLemmas.{length-round}
 use Rattle.wf_complex.proofs.InputLemmas.{length-base_views}
 use Rattle.wf_complex.proofs.Executions.{length-lists_of}
-use Rattle.wf_complex.proofs.Different.{length-map, map-map}
+use Rattle.wf_complex.proofs.Different.{length-map, each_of, each_map}
 
 -- ---- cutting
 
@@ -80,23 +80,15 @@ laid_then k n (suc c) p (q ∷ ps) long each es qs h =
       ),
     )
 
-each_long : (n : ℕ) (ws : List Word) → list_all (λ w. length w == n) ws ≡ true → AllByRecursion (λ w. length w ≡ n) ws
+pub each_long : (n : ℕ) (ws : List Word) → list_all (λ w. length w == n) ws ≡ true → AllByRecursion (λ w. length w ≡ n) ws
 each_long n [] h = tt
 each_long n (w ∷ ws) h =
     let parts = and_parts (length w == n) (list_all (λ u. length u == n) ws) h in
     (eqb-true (length w) n parts.0, each_long n ws parts.1)
 
-each_map : {X Y : Type 0} (P : Y → Type 0) (f : X → Y) (xs : List X) → AllByRecursion (λ x. P (f x)) xs → AllByRecursion P (map f xs)
-each_map P f [] h = tt
-each_map P f (x ∷ xs) h = (h.0, each_map P f xs h.1)
-
-each_append : {X : Type 0} (P : X → Type 0) (xs ys : List X) → AllByRecursion P xs → AllByRecursion P ys → AllByRecursion P (xs ++ ys)
+pub each_append : {X : Type 0} (P : X → Type 0) (xs ys : List X) → AllByRecursion P xs → AllByRecursion P ys → AllByRecursion P (xs ++ ys)
 each_append P [] ys h k = k
 each_append P (x ∷ xs) ys h k = (h.0, each_append P xs ys h.1 k)
-
-each_weaker : {X : Type 0} (P Q : X → Type 0) → ((x : X) → P x → Q x) → (xs : List X) → AllByRecursion P xs → AllByRecursion Q xs
-each_weaker P Q f [] h = tt
-each_weaker P Q f (x ∷ xs) h = (f x h.0, each_weaker P Q f xs h.1)
 
 AllLong : ℕ → List Word → Type 0
 AllLong n ws = AllByRecursion (λ w. length w ≡ n) ws
@@ -111,7 +103,7 @@ lists_long n ws h (suc r) = onto (lists_long n ws h r) ws h
     onto rests (w ∷ us) k =
         each_append (λ xs. AllByRecursion (λ w. length w ≡ n) xs) (map (λ rest. w ∷ rest) (lists_of ws r)) (flat_map (λ u. map (λ rest. u ∷ rest) (lists_of ws r)) us)
         (each_map (λ xs. AllByRecursion (λ w. length w ≡ n) xs) (λ rest. w ∷ rest) (lists_of ws r)
-        (each_weaker (λ xs. AllByRecursion (λ w. length w ≡ n) xs) (λ xs. AllByRecursion (λ w. length w ≡ n) (w ∷ xs)) (λ xs j. (k.0, j)) (lists_of ws r) rests))
+        (each_of (λ xs. AllByRecursion (λ w. length w ≡ n) xs) (λ xs. AllByRecursion (λ w. length w ≡ n) (w ∷ xs)) (λ xs j. (k.0, j)) (lists_of ws r) rests))
         (onto rests us k.1)
 
 length-folded : (n : ℕ) (ws : List Word) (vs : List View) → AllLong n ws → length vs ≡ n → length (fold round vs ws) ≡ n
@@ -129,7 +121,7 @@ parts_long r rule h =
     let n = length rule.input in
     each_map (λ q. length q ≡ length rule.input) last_views (executions_on 1 r rule)
     (each_map (λ e. length (last_views e) ≡ length rule.input) (λ ws. record { rule = rule; words = ws }) (lists_of (words 1 n) r)
-    (each_weaker (AllLong (length rule.input)) (λ ws. length (fold round (base_views rule.input) ws) ≡ length rule.input) (λ ws k. length-folded (length rule.input) ws (base_views rule.input) k (length-base_views rule.input)) (lists_of (words 1 n) r)
+    (each_of (AllLong (length rule.input)) (λ ws. length (fold round (base_views rule.input) ws) ≡ length rule.input) (λ ws k. length-folded (length rule.input) ws (base_views rule.input) k (length-base_views rule.input)) (lists_of (words 1 n) r)
     (lists_long (length rule.input) (words 1 n) (long_words n h) r)))
 
 parts_count : (r : ℕ) (rule : Rule) → length (map last_views (executions_on 1 r rule)) ≡ turns (length rule.input) r

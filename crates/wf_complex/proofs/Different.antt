@@ -5,7 +5,7 @@ use Rattle.std.specs.Cmp.{both_ways}
 use Rattle.std.proofs.lemmas.Bool.{false_from_ne_true, cases_Bool}
 use Rattle.std.proofs.lemmas.Bool as bool
 use Rattle.std.proofs.lemmas.List.{get_or-map, drop_more, drop_all}
-use Rattle.std.proofs.lemmas.List.Elements.{recursion_from_All}
+use Rattle.std.proofs.lemmas.List.Elements.{recursion_from_All, All-from_recursion, All-get_or}
 use Rattle.wf_model.specs.Lists.{distinct, below}
 use Rattle.wf_model.specs.View.{View, base, same_view}
 use Rattle.wf_model.specs.Problem.{number_of}
@@ -30,6 +30,14 @@ pub map_agrees : {X Y : Type 0} (f g : X → Y) (xs : List X) → AllByRecursion
 map_agrees f g [] h = refl
 map_agrees f g (x ∷ xs) h = λ i. h.0 i ∷ map_agrees f g xs h.1 i
 
+pub each_of : {X : Type 0} (P Q : X → Type 0) → ((x : X) → P x → Q x) → (xs : List X) → AllByRecursion P xs → AllByRecursion Q xs
+each_of P Q f [] h = tt
+each_of P Q f (x ∷ xs) h = (f x h.0, each_of P Q f xs h.1)
+
+pub each_map : {X Y : Type 0} (P : Y → Type 0) (f : X → Y) (xs : List X) → AllByRecursion (λ x. P (f x)) xs → AllByRecursion P (map f xs)
+each_map P f [] h = tt
+each_map P f (x ∷ xs) h = (h.0, each_map P f xs h.1)
+
 rest_by_place : {X : Type 0} (xs : List X) (d : X) (n a : ℕ) → a + n ≡ length xs → map (λ j. get_or xs j d) (range_with_len a n) ≡ drop a xs
 rest_by_place xs d zero a e = sym (drop_all a xs (omega (arith, e)))
 rest_by_place xs d (suc n) a e =
@@ -39,7 +47,7 @@ rest_by_place xs d (suc n) a e =
 pub by_place : {X : Type 0} (xs : List X) (d : X) → map (λ j. get_or xs j d) (below (length xs)) ≡ xs
 by_place xs d = rest_by_place xs d (length xs) 0 (omega arith)
 
-pub all_in_range : (a n m : ℕ) → a + n ≤ m → AllByRecursion (λ j. j < m) (range_with_len a n)
+all_in_range : (a n m : ℕ) → a + n ≤ m → AllByRecursion (λ j. j < m) (range_with_len a n)
 all_in_range a zero m h = tt
 all_in_range a (suc n) m h = (omega (arith, h), all_in_range (a + 1) n m (omega (arith, h)))
 
@@ -81,8 +89,25 @@ length-range : (a n : ℕ) → length (range_with_len a n) ≡ n
 length-range a zero = refl
 length-range a (suc n) = ap suc (length-range (a + 1) n)
 
-pub length-first_places : (ids : List ℕ) (n : ℕ) → length (first_places ids n) ≤ n
+length-first_places : (ids : List ℕ) (n : ℕ) → length (first_places ids n) ≤ n
 length-first_places ids n = omega (arith, length-distinct (same_at ids) (below n), length-range 0 n)
+
+first_places_low : (ids : List ℕ) → AllByRecursion (λ j. j < length ids) (first_places ids (length ids))
+first_places_low ids = each_distinct (λ j. j < length ids) (same_at ids) (below (length ids)) (all_in_range 0 (length ids) (length ids) (omega arith))
+
+-- each number stands first at a place of the list
+pub firsts_low : (ids firsts : List ℕ) → firsts ≡ first_places ids (length ids) → All (λ j. j < length ids) firsts
+firsts_low ids firsts first = subst (All (λ j. j < length ids)) (sym first) (All-from_recursion (λ j. j < length ids) (first_places ids (length ids)) (first_places_low ids))
+
+pub few_firsts : (ids firsts : List ℕ) → firsts ≡ first_places ids (length ids) → length firsts ≤ length ids
+few_firsts ids firsts first = omega (arith, ap length first, length-first_places ids (length ids))
+
+-- what holds of all numbers of a list holds of those at some places
+pub all_picked : (P : ℕ → Type 0) (ids places : List ℕ) → All P ids → All (λ j. j < length ids) places → All P (map (λ j. slice_index ids j) places)
+all_picked P ids places h low =
+    All-from_recursion P (map (λ j. slice_index ids j) places)
+    (each_map P (λ j. slice_index ids j) places
+    (each_of (λ j. j < length ids) (λ j. P (slice_index ids j)) (λ j k. All-get_or P ids j 0 k h) places (recursion_from_All (λ j. j < length ids) places low)))
 
 -- ---- a table without doubles
 

@@ -7,7 +7,6 @@ use Rattle.wf_model.specs.Lists.{distinct, below}
 use Rattle.wf_model.specs.Simplex.{Simplex, is_nonempty, is_ascending, processes_of}
 use Rattle.wf_model.specs.View.{View, same_view}
 use Rattle.wf_model.specs.Task.{Task, inputs, first_block, IsSimplexWithin}
-use Rattle.wf_model.proofs.Headline.{each_distinct}
 use Rattle.wf_simplex.proofs.Within.{length-within}
 use Rattle.wf_complex.specs.declared.layout.Execution.{Execution}
 use Rattle.wf_complex.specs.declared.places.Place.{Place}
@@ -22,8 +21,8 @@ use Rattle.wf_complex.proofs.Bounds.{IsSized, cost_bound, length-last_views}
 use Rattle.wf_complex.proofs.LayoutLemmas.{place_few}
 use Rattle.wf_complex.proofs.RoundLemmas.{length-views}
 use Rattle.wf_complex.proofs.Cuts.{all_end, length-laid_out, laid_simplices}
-use Rattle.wf_complex.proofs.Different.{length-map, IsOnce, all_in_range, length-first_places, there}
-use Rattle.wf_complex.proofs.BuiltLemmas.{each_of, length-places, view_count_is, points_are, firsts_are, scopes_are}
+use Rattle.wf_complex.proofs.Different.{length-map, each_of, IsOnce}
+use Rattle.wf_complex.proofs.BuiltLemmas.{length-places, view_count_is, points_are, firsts_are, scopes_are}
 
 -- ---- words
 
@@ -43,29 +42,8 @@ all_sized ss h = each_of (IsSimplexWithin 4 63) IsSized sized ss (recursion_from
 pub all_small : (ss : List Simplex) → AllByRecursion IsSized ss → AllByRecursion (λ s. length s ≤ 4) ss
 all_small ss h = each_of IsSized (λ s. length s ≤ 4) (λ s k. k.1) ss h
 
-pub room_for_all : (r : ℕ) (ss : List Simplex) → r ≤ 8 → execution_total r ss ≤ 500000 → length ss ≤ 4096 → AllByRecursion IsSized ss → cost_of_each r ss ≤ 4294967291
-room_for_all r ss rounds few inputs h = omega (arith, cost_bound r ss rounds h, few, inputs)
-
-first_places_low : (ids : List ℕ) → AllByRecursion (λ j. j < length ids) (first_places ids (length ids))
-first_places_low ids = each_distinct (λ j. j < length ids) (same_at ids) (below (length ids)) (all_in_range 0 (length ids) (length ids) (omega arith))
-
--- each number stands first at a place of the list
-pub firsts_low : (ids firsts : List ℕ) → firsts ≡ first_places ids (length ids) → All (λ j. j < length ids) firsts
-firsts_low ids firsts first = subst (All (λ j. j < length ids)) (sym first) (All-from_recursion (λ j. j < length ids) (first_places ids (length ids)) (first_places_low ids))
-
-each_map : (P : ℕ → Type 0) (f : ℕ → ℕ) (xs : List ℕ) → AllByRecursion (λ x. P (f x)) xs → AllByRecursion P (map f xs)
-each_map P f [] h = tt
-each_map P f (x ∷ xs) h = (h.0, each_map P f xs h.1)
-
--- what stands at some places is low where all is
-pub all_viewed : (m : ℕ) (cs firsts : List ℕ) → All (λ k. k < m) cs → All (λ j. j < length cs) firsts → All (λ k. k < m) (map (λ j. slice_index cs j) firsts)
-all_viewed m cs firsts within low =
-    All-from_recursion (λ k. k < m) (map (λ j. slice_index cs j) firsts)
-    (each_map (λ k. k < m) (λ j. slice_index cs j) firsts
-    (each_of (λ j. j < length cs) (λ j. slice_index cs j < m) (λ j h. All-get_or (λ k. k < m) cs j 0 h within) firsts (recursion_from_All (λ j. j < length cs) firsts low)))
-
-pub few_firsts : (cs firsts : List ℕ) → firsts ≡ first_places cs (length cs) → length firsts ≤ length cs
-few_firsts cs firsts first = omega (arith, ap length first, length-first_places cs (length cs))
+pub few_views : (r : ℕ) (ss : List Simplex) → r ≤ 8 → execution_total r ss ≤ 500000 → length ss ≤ 4096 → AllByRecursion IsSized ss → cost_of_each r ss ≤ 16016384
+few_views r ss rounds few inputs h = omega (arith, cost_bound r ss rounds h, few, inputs)
 
 -- ---- what is kept
 

@@ -12,3 +12,4 @@ pub mod Cuts
 pub mod ClassLemmas
 pub mod BuiltLemmas
 pub mod Kept
+pub mod Depth

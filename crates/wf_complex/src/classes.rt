@@ -1,8 +1,9 @@
 //! The classes of the last views.
 
-ghost use Rattle.std.specs.Prelude.{◌≡◌, ◌<◌, ◌≤◌, length, map, slice_index, All, IfOk};
+ghost use Rattle.std.specs.Prelude.{◌≡◌, ◌<◌, ◌≤◌, ◌+◌, ◌*◌, length, map, slice_index, All, IfOk, OnOk};
 ghost use Rattle.wf_model.specs.Lists.{distinct};
-ghost use Rattle.wf_model.specs.View.{same_view};
+ghost use Rattle.wf_model.specs.View.{same_view, normal};
+ghost use Rattle.wf_view.specs.Views.{view_at, count_within};
 ghost use Rattle.wf_complex.specs.Rounds.{views_at, Extends};
 ghost use Rattle.wf_complex.specs.Classes.{class_by};
 
@@ -27,7 +28,9 @@ pub(crate) fn classes_of(
 ) -> Result<Classes, AllocError>
     requires lasts { All (λ k. k < length views.old) lasts.items }
     requires few { length lasts.items ≤ 2000000 }
-    ensures extends { IfOk result (λ _. Extends views.old views.new) }
+    requires shallow { All (λ k. count_within (view_at views.old k) ≤ 36) lasts.items }
+    requires room { length views.old + 36 * length lasts.items ≤ 4294967295 }
+    ensures extends { OnOk result (Extends views.old views.new) }
     ensures within { IfOk result (λ c. All (λ k. k < length views.new) c.ids.items) }
     ensures classes { IfOk result
         (λ c. views_at views.new c.ids.items ≡ map (class_by symmetric) (views_at views.old lasts.items)) }
@@ -36,13 +39,33 @@ pub(crate) fn classes_of(
 {
     let different = number_all(alloc, &lasts, views.len() as usize)?;
     let view_count = different.firsts.len() as u32;
-    if symmetric {
-        return Err(AllocError);
+    if !symmetric {
+        return Ok(Classes {
+            ids: lasts,
+            view_count,
+        });
     }
-    Ok(Classes {
-        ids: lasts,
-        view_count,
-    })
+    let found = picked(alloc, &lasts, &different.firsts)?;
+    let normals = normals_of(alloc, views, &found)?;
+    let ids = picked(alloc, &normals, &different.places)?;
+    Ok(Classes { ids, view_count })
+}
+
+/// The numbers of views with the names of their processes forgotten, in the order of the views.
+fn normals_of(alloc: Global, views: &mut Views, ids: &[u32]) -> Result<Vec<u32>, AllocError>
+    requires ids { All (λ k. k < length views.old) ids.now }
+    requires shallow { All (λ k. count_within (view_at views.old k) ≤ 36) ids.now }
+    requires room { length views.old + 36 * length ids.now ≤ 4294967295 }
+    ensures extends { OnOk result (Extends views.old views.new) }
+    ensures within { IfOk result (λ ns. All (λ k. k < length views.new) ns.items) }
+    ensures normals { IfOk result (λ ns. views_at views.new ns.items ≡ map normal (views_at views.old ids.now)) }
+{
+    let mut normals = Vec::new(alloc);
+    for id in ids {
+        let number = views.normal(*id)?;
+        normals.push(number)?;
+    }
+    Ok(normals)
 }
 
 /// The numbers at these places of a list.

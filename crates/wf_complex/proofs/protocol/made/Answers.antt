@@ -6,14 +6,15 @@ use Rattle.wf_complex.specs.Layout.{laid_out}
 use Rattle.wf_complex.specs.Classes.{class_by}
 use Rattle.wf_complex.specs.Places.{EndsBy, places_on}
 use Rattle.wf_complex.specs.Numbering.{first_places}
-use Rattle.wf_complex.proofs.Different.{length-map, length-first_places, there}
-use Rattle.wf_complex.proofs.Kept.{all_sized, all_small, room_for_all, firsts_low, all_viewed, few_firsts, few_lasts, lasts_end, few_laid, length-marked, length-classed, is_protocol}
+use Rattle.wf_complex.proofs.Different.{length-map, firsts_low, few_firsts, all_picked}
+use Rattle.wf_complex.proofs.Kept.{all_sized, all_small, few_views, few_lasts, lasts_end, few_laid, length-marked, length-classed, is_protocol}
+use Rattle.wf_complex.proofs.Depth.{lasts_shallow}
 use Rattle.wf_complex.proofs.protocol.made.Goals as goal
 
 pub last_views-requires : goal.last_views-requires
 last_views-requires c =
     let inputs = c.args.inputs.now in
-    let room = room_for_all c.args.rounds inputs c.requires.rounds c.requires.executions c.requires.few (all_sized inputs c.requires.simplices) in
+    let room = few_views c.args.rounds inputs c.requires.rounds c.requires.executions c.requires.few (all_sized inputs c.requires.simplices) in
     omega (arith, room, ap length c.start-views.ensures)
 
 pub lay_out-requires-clause-sizes : goal.lay_out-requires-clause-sizes
@@ -36,6 +37,19 @@ pub classes_of-requires-clause-few : goal.classes_of-requires-clause-few
 classes_of-requires-clause-few c =
     let inputs = c.args.inputs.now in
     few_lasts c.args.rounds inputs c.requires.executions (all_sized inputs c.requires.simplices) c.last_views.new.views c.in_ok-lasts.lasts.items c.in_ok-lasts.ensures.made
+
+pub classes_of-requires-clause-shallow : goal.classes_of-requires-clause-shallow
+classes_of-requires-clause-shallow c =
+    let inputs = c.args.inputs.now in
+    lasts_shallow c.args.rounds inputs c.requires.rounds (all_sized inputs c.requires.simplices) c.last_views.new.views c.in_ok-lasts.lasts.items c.in_ok-lasts.ensures.made
+
+pub classes_of-requires-clause-room : goal.classes_of-requires-clause-room
+classes_of-requires-clause-room c =
+    let inputs = c.args.inputs.now in
+    let sized = all_sized inputs c.requires.simplices in
+    let few = few_lasts c.args.rounds inputs c.requires.executions sized c.last_views.new.views c.in_ok-lasts.lasts.items c.in_ok-lasts.ensures.made in
+    let room = few_views c.args.rounds inputs c.requires.rounds c.requires.executions c.requires.few sized in
+    omega (arith, few, room, c.in_ok-lasts.ensures.added, ap length c.start-views.ensures)
 
 pub number_all-requires-clause-few : goal.number_all-requires-clause-few
 number_all-requires-clause-few c =
@@ -81,7 +95,7 @@ invariant_of-result c =
           (subst (All (EndsBy (length c.in_ok-lasts.lasts.items))) (sym c.in_ok-executions.ensures) (lasts_end r inputs c.requires.executions sized table lasts made));
       few_executions = omega (arith, ap length c.in_ok-executions.ensures, few_laid r inputs c.requires.executions sized table lasts made);
       few_points = omega (arith, views, few_firsts cs firsts first, same, few);
-      viewed = subst (All (λ id. id < length c.classes_of.new.views)) (sym picked) (all_viewed (length c.classes_of.new.views) cs firsts c.in_ok-ids.ensures.within (firsts_low cs firsts first));
+      viewed = subst (All (λ id. id < length c.classes_of.new.views)) (sym picked) (all_picked (λ id. id < length c.classes_of.new.views) cs firsts c.in_ok-ids.ensures.within (firsts_low cs firsts first));
       appearing = sym views;
       placed = subst (λ n. All (λ j. j < n) c.in_ok-numbered.numbered.firsts.items) (sym (pointed ∙ many)) (firsts_low cs firsts first);
     }
