@@ -6,3 +6,4 @@ pub mod Sizes
 pub mod Judged
 pub mod TaskSeen
 pub mod EntrySlots
+pub mod TupleLemmas

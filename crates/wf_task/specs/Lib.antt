@@ -6,4 +6,5 @@ pub mod DraftSeen
 pub mod Text
 pub mod Slots
 pub mod Judge
+pub mod Tuples
 pub mod TaskSeen

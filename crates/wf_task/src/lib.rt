@@ -11,6 +11,8 @@ pub mod row;
 mod shape;
 mod slots;
 pub mod task;
+mod text;
+mod tuples;
 
 pub use fault::{Key, Limit, TaskFault};
 pub use row::Row;
