@@ -7,3 +7,6 @@ pub mod Judged
 pub mod TaskSeen
 pub mod EntrySlots
 pub mod TupleLemmas
+pub mod RowLemmas
+pub mod Vertices
+pub mod Drafted

@@ -7,4 +7,6 @@ pub mod Text
 pub mod Slots
 pub mod Judge
 pub mod Tuples
+pub mod Faultless
+pub mod Mask
 pub mod TaskSeen

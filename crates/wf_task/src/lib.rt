@@ -8,6 +8,7 @@ mod draft;
 pub mod fault;
 mod judge;
 pub mod row;
+mod rows;
 mod shape;
 mod slots;
 pub mod task;
