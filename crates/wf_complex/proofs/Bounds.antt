@@ -52,7 +52,7 @@ cost_bound rounds (s ∷ ss) few h =
 
 -- ---- places
 
-words_long : (n : ℕ) → 1 ≤ n → n ≤ 4 → list_all (λ w. length w == n) (words 1 n) ≡ true
+pub words_long : (n : ℕ) → 1 ≤ n → n ≤ 4 → list_all (λ w. length w == n) (words 1 n) ≡ true
 words_long = each_size (λ n. list_all (λ w. length w == n) (words 1 n) ≡ true) refl refl refl refl
 
 suc_times : (m n : ℕ) → suc m * n ≡ n + m * n

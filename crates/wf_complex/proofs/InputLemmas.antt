@@ -68,12 +68,12 @@ module _ (rounds : ℕ) (ss : List Simplex) (i : ℕ) (s : Simplex) (place : i <
   same_cost : cost (length (take n ids)) rounds ≡ cost (length s) rounds
   same_cost = ap (λ k. cost k rounds) long
 
-  pub room_here : length table + cost_of_each rounds (drop i ss) ≤ 4294967291 → length first ≤ length table + length s → length first + cost (length (take n ids)) rounds ≤ 4294967291
-  room_here room few = omega (arith, room, few, same_cost, ap (cost_of_each rounds) (drop_more ss i s place ∙ ap (λ x. x ∷ drop (i + 1) ss) (sym is)))
+  pub room_here : (m : ℕ) → length table + cost_of_each rounds (drop i ss) ≤ m → length first ≤ length table + length s → length first + cost (length (take n ids)) rounds ≤ m
+  room_here m room few = omega (arith, room, few, same_cost, ap (cost_of_each rounds) (drop_more ss i s place ∙ ap (λ x. x ∷ drop (i + 1) ss) (sym is)))
 
-  pub room_after : length table + cost_of_each rounds (drop i ss) ≤ 4294967291 → length first ≤ length table + length s → length after ≤ length first + cost (length (take n ids)) rounds →
-      length after + cost_of_each rounds (drop (i + 1) ss) ≤ 4294967291
-  room_after room few added = omega (arith, room, few, added, same_cost, ap (cost_of_each rounds) (drop_more ss i s place ∙ ap (λ x. x ∷ drop (i + 1) ss) (sym is)))
+  pub room_after : (m : ℕ) → length table + cost_of_each rounds (drop i ss) ≤ m → length first ≤ length table + length s → length after ≤ length first + cost (length (take n ids)) rounds →
+      length after + cost_of_each rounds (drop (i + 1) ss) ≤ m
+  room_after m room few added = omega (arith, room, few, added, same_cost, ap (cost_of_each rounds) (drop_more ss i s place ∙ ap (λ x. x ∷ drop (i + 1) ss) (sym is)))
 
   pub made_after : (lasts more : List ℕ) → AllByRecursion (λ k. k < length table) lasts → Extends table first → views_at table lasts ≡ flat_map (leaves_of rounds) (take i ss) →
       views_at after more ≡ views_at first lasts ++ leaves (words 1 (length (take n ids))) rounds (views_at first (take n ids)) → views_at after more ≡ flat_map (leaves_of rounds) (take (i + 1) ss)

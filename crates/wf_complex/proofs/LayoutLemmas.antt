@@ -1,14 +1,13 @@
 -- How many executions there are, and where their places lie.
-use Rattle.std.proofs.Common.{◌≡◌, ◌<◌, ◌≤◌, ℕ, suc, ◌+◌, ◌*◌, min, List, [], ◌∷◌, ◌++◌, length, drop, get_or, All, sym, refl, ap, ◌∙◌, arith, lit≤}
+use Rattle.std.proofs.Common.{◌≡◌, ◌<◌, ◌≤◌, ℕ, suc, ◌+◌, ◌*◌, min, List, [], ◌∷◌, ◌++◌, length, drop, get_or, sym, refl, ap, ◌∙◌, arith, lit≤, append_assoc}
 use Rattle.std.specs.List.{AllByRecursion}
 use Rattle.std.proofs.Math.Nat.{mul-le-mul_right, mul-le-mul_left}
 use Rattle.std.proofs.lemmas.List.{drop_more}
-use Rattle.std.proofs.lemmas.List.Elements.{recursion_from_All, All-from_recursion}
 use Rattle.wf_model.specs.Simplex.{Simplex}
 use Rattle.wf_model.specs.Word.{words}
 use Rattle.wf_simplex.specs.WordTable.{each_size}
 use Rattle.wf_complex.specs.declared.layout.Execution.{Execution}
-use Rattle.wf_complex.specs.Layout.{turns, execution_total, place_total, LiesIn}
+use Rattle.wf_complex.specs.Layout.{turns, execution_total, place_total, laid_on, laid_out}
 
 -- 1, 3, 13 and 75
 pub words_few : (n : ℕ) → 1 ≤ n → n ≤ 4 → length (words 1 n) ≤ 75
@@ -34,13 +33,19 @@ turns_here rounds ss i s place is =
     let e : drop i ss ≡ s ∷ drop (i + 1) ss = drop_more ss i s place ∙ ap (λ x. x ∷ drop (i + 1) ss) (sym is) in
     (ap (execution_total rounds) e, ap (place_total rounds) e)
 
--- one execution more
-each_push : {X : Type 0} (P : X → Type 0) (xs : List X) (x : X) → AllByRecursion P xs → P x → AllByRecursion P (xs ++ x ∷ [])
-each_push P [] x h p = (p, tt)
-each_push P (y ∷ xs) x h p = (h.0, each_push P xs x h.1 p)
+-- the executions that are left, after one more
+pub laid_on-more : (k n p c left : ℕ) (before : List Execution) → left ≡ c + 1 → before ++ laid_on k n p left ≡ (before ++ record { simplex = k; place = p; size = n } ∷ []) ++ laid_on k n (p + n) c
+laid_on-more k n p c left before e =
+    let one : left ≡ suc c = omega (arith, e) in
+    ap (λ m. before ++ laid_on k n p m) one ∙ sym (append_assoc before (record { simplex = k; place = p; size = n } ∷ []) (laid_on k n (p + n) c))
 
-pub lies_push : (inputs : List Simplex) (total : ℕ) (es : List Execution) (e : Execution) → All (LiesIn inputs total) es → e.simplex < length inputs → e.place + length (get_or inputs e.simplex []) ≤ total → All (LiesIn inputs total) (es ++ e ∷ [])
-lies_push inputs total es e h k p = All-from_recursion _ (es ++ e ∷ []) (each_push (LiesIn inputs total) es e (recursion_from_All _ es h) (record { simplex = k; places = p }))
+-- those of the simplices that are left, after one more simplex
+pub laid_out-more : (rounds : ℕ) (ss : List Simplex) (i place : ℕ) (s : Simplex) (before : List Execution) → i < length ss → s ≡ get_or ss i s →
+    before ++ laid_out rounds i place (drop i ss) ≡ (before ++ laid_on i (length s) place (turns (length s) rounds)) ++ laid_out rounds (i + 1) (place + turns (length s) rounds * length s) (drop (i + 1) ss)
+laid_out-more rounds ss i place s before low is =
+    let e : drop i ss ≡ s ∷ drop (i + 1) ss = drop_more ss i s low ∙ ap (λ x. x ∷ drop (i + 1) ss) (sym is) in
+    ap (λ xs. before ++ laid_out rounds i place xs) e
+    ∙ sym (append_assoc before (laid_on i (length s) place (turns (length s) rounds)) (laid_out rounds (i + 1) (place + turns (length s) rounds * length s) (drop (i + 1) ss)))
 
 -- at most four processes take part in each execution
 pub place_few : (rounds : ℕ) (ss : List Simplex) → AllByRecursion (λ s. length s ≤ 4) ss → place_total rounds ss ≤ execution_total rounds ss * 4

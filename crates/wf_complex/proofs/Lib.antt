@@ -6,3 +6,10 @@ pub mod LayoutLemmas
 pub mod Executions
 pub mod Bounds
 pub mod FirstPlaces
+pub mod PlaceLemmas
+pub mod Different
+pub mod Cuts
+pub mod ClassLemmas
+pub mod BuiltLemmas
+pub mod Kept
+pub mod Depth

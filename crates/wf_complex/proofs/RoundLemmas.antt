@@ -110,7 +110,7 @@ each_push : (P : ℕ → Type 0) (xs : List ℕ) (x : ℕ) → AllByRecursion P 
 each_push P [] x h p = (p, tt)
 each_push P (y ∷ xs) x h p = (h.0, each_push P xs x h.1 p)
 
-views_push : (table : List View) (xs : List ℕ) (x : ℕ) → views_at table (xs ++ x ∷ []) ≡ views_at table xs ++ view_at table x ∷ []
+pub views_push : (table : List View) (xs : List ℕ) (x : ℕ) → views_at table (xs ++ x ∷ []) ≡ views_at table xs ++ view_at table x ∷ []
 views_push table [] x = refl
 views_push table (y ∷ xs) x = ap (λ vs. view_at table y ∷ vs) (views_push table xs x)
 

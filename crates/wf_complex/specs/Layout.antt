@@ -1,5 +1,5 @@
 -- How many executions there are, and where their places lie.
-use Rattle.std.specs.Prelude.{◌<◌, ◌≤◌, ℕ, zero, suc, ◌+◌, ◌*◌, List, [], ◌∷◌, length, get_or}
+use Rattle.std.specs.Prelude.{ℕ, zero, suc, ◌+◌, ◌*◌, List, [], ◌∷◌, ◌++◌, length}
 use Rattle.wf_model.specs.Simplex.{Simplex}
 use Rattle.wf_model.specs.Word.{words}
 use Rattle.wf_complex.specs.declared.layout.Execution.{Execution}
@@ -19,7 +19,13 @@ abbrev pub place_total : ℕ → List Simplex → ℕ
 place_total rounds [] = 0
 place_total rounds (s ∷ ss) = turns (length s) rounds * length s + place_total rounds ss
 
--- an execution on one of the simplices, whose places lie below the total
-pub record LiesIn (inputs : List Simplex) (total : ℕ) (e : Execution) : Type 0 where
-  pub simplex : e.simplex < length inputs
-  pub places : e.place + length (get_or inputs e.simplex []) ≤ total
+-- the executions on one simplex, one place after another from this one on
+abbrev pub laid_on : ℕ → ℕ → ℕ → ℕ → List Execution
+laid_on simplex size place zero = []
+laid_on simplex size place (suc count) = record { simplex = simplex; place = place; size = size } ∷ laid_on simplex size (place + size) count
+
+-- the executions on these simplices, of which the first has this number and begins at this place
+abbrev pub laid_out : ℕ → ℕ → ℕ → List Simplex → List Execution
+laid_out rounds number place [] = []
+laid_out rounds number place (s ∷ ss) =
+    laid_on number (length s) place (turns (length s) rounds) ++ laid_out rounds (number + 1) (place + turns (length s) rounds * length s) ss

@@ -2,6 +2,9 @@ pub mod Lines
 pub mod Rounds
 pub mod Numbering
 pub mod Layout
+pub mod Places
+pub mod Classes
 pub mod Faults
 pub mod Protocol
+pub mod ProtocolMade
 pub mod ProtocolSeen

@@ -1,9 +1,14 @@
 -- What a clause sees of the program's protocol complexes, and what each of them keeps.
-use Rattle.std.specs.Prelude.{◌≡◌, ℕ, List, [], refl}
+use Rattle.std.specs.Prelude.{◌≡◌, ◌<◌, ◌≤◌, ℕ, List, map, length, get_or, All, refl}
 use Rattle.std.specs.Coded.{Coded, code_by, coded×, coded_list, coded_ℕ}
 use Rattle.wf_model.specs.View.{View}
 use Rattle.wf_model.specs.ViewCode.{view_list_code}
+use Rattle.wf_complex.specs.Rounds.{views_at}
+use Rattle.wf_complex.specs.Places.{part_of, EndsBy}
+use Rattle.wf_complex.specs.ProtocolMade.{pairs_of}
 use Rattle.wf_complex.specs.Protocol.{Built}
+use Rattle.wf_complex.specs.declared.layout.Execution.{Execution}
+use Rattle.wf_complex.specs.declared.places.Place.{Place}
 use Rattle.wf_complex.specs.declared.protocol.Protocol.TheInside.{Inside}
 
 -- a protocol complex is stored as the tuple of its fields
@@ -15,8 +20,35 @@ built_code =
     (λ p. record { rounds = p.0; table = p.1.0; points = p.1.1.0; view_count = p.1.1.1.0; firsts = p.1.1.1.1.0; simplices = p.1.1.1.1.1.0; scopes = p.1.1.1.1.1.1 })
     (λ _. refl)
 
-abbrev pub built_seen : Inside → Built
-built_seen p = record { rounds = p.rounds; table = p.views; points = []; view_count = 0; firsts = []; simplices = []; scopes = [] }
+-- the class of each point
+abbrev pub points_seen : List View → List ℕ → List View
+points_seen table classes = views_at table classes
 
-abbrev pub IsKept : Inside → Type 0
-IsKept p = ⊥
+-- the execution and the process at some places
+abbrev pub firsts_seen : List Place → List ℕ → List (ℕ × ℕ)
+firsts_seen places firsts = map (λ j. get_or (map (λ place. (place.execution, place.process)) places) j (0, 0)) firsts
+
+-- the processes of each execution, each with its point
+abbrev pub scopes_seen : List Place → List ℕ → List Execution → List (List (ℕ × ℕ))
+scopes_seen places numbers executions = map (part_of (pairs_of places numbers)) executions
+
+abbrev pub built_seen : Inside → Built
+built_seen p = record {
+  rounds = p.rounds;
+  table = p.views;
+  points = points_seen p.views p.classes.items;
+  view_count = p.view_count;
+  firsts = firsts_seen p.places.items p.firsts.items;
+  simplices = map (λ e. e.simplex) p.executions.items;
+  scopes = scopes_seen p.places.items p.numbers.items p.executions.items;
+}
+
+-- each place has a point, each execution lies among the places, and each point has a view and a first place
+pub record IsKept (p : Inside) : Type 0 where
+  pub pointed : length p.places.items ≡ length p.numbers.items
+  pub within : All (EndsBy (length p.numbers.items)) p.executions.items
+  pub few_executions : length p.executions.items ≤ 500000
+  pub few_points : length p.classes.items < 4294967296
+  pub viewed : All (λ id. id < length p.views) p.classes.items
+  pub appearing : length p.firsts.items ≡ length p.classes.items
+  pub placed : All (λ j. j < length p.places.items) p.firsts.items

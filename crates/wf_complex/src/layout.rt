@@ -1,8 +1,7 @@
 //! Where the executions of a task lie in the list of their last views.
 
-ghost use Rattle.std.specs.Prelude.{◌≡◌, ◌<◌, ◌≤◌, ◌+◌, ◌*◌, ℕ, List, [], min, length, get_or, All, IfOk, OnOk};
-ghost use Rattle.wf_model.specs.Simplex.{Simplex};
-ghost use Rattle.wf_complex.specs.Layout.{turns, execution_total, place_total, LiesIn};
+ghost use Rattle.std.specs.Prelude.{◌≡◌, ◌≤◌, ◌+◌, ◌*◌, ◌++◌, min, length, All, IfOk, OnOk};
+ghost use Rattle.wf_complex.specs.Layout.{turns, execution_total, laid_on, laid_out};
 
 use std::alloc::{AllocError, Global};
 use wf_simplex::{Simplex, word_count};
@@ -10,11 +9,13 @@ use wf_simplex::{Simplex, word_count};
 /// The most executions that a protocol complex may have.
 pub const MOST_EXECUTIONS: u32 = 500_000;
 
-/// An execution: the number of its input simplex, and the place of its first process in the list of places.
+/// An execution: the number of its input simplex, the place of its first process in the list of places, and how many
+/// processes take part.
 #[derive(Clone, Copy, Debug)]
 pub(crate) struct Execution {
     pub simplex: u32,
     pub place: u32,
+    pub size: u8,
 }
 
 /// How many executions a simplex of this size has, counted up to one more than the most.
@@ -51,8 +52,7 @@ pub(crate) fn lay_out(
     requires few { execution_total rounds inputs.now ≤ 500000 }
     requires inputs { length inputs.now ≤ 4096 }
     requires sizes { All (λ s. length s ≤ 4) inputs.now }
-    ensures count { IfOk result (λ es. length es.items ≡ execution_total rounds inputs.now) }
-    ensures within { IfOk result (λ es. All (LiesIn inputs.now (place_total rounds inputs.now)) es.items) }
+    ensures { IfOk result (λ es. es.items ≡ laid_out rounds 0 0 inputs.now) }
 {
     let mut executions = Vec::new(alloc);
     let mut place = 0;
@@ -75,13 +75,15 @@ fn lay_on(
 ) -> Result<(), AllocError>
     requires size { size ≤ 4 }
     requires room { first + count * size ≤ 4000000 }
-    ensures count { OnOk result (length executions.new.items ≡ length executions.old.items + count) }
-    ensures within { (inputs : List Simplex) (total : ℕ) → All (LiesIn inputs total) executions.old.items → simplex < length inputs
-        → length (get_or inputs simplex []) ≡ size → first + count * size ≤ total → OnOk result (All (LiesIn inputs total) executions.new.items) }
+    ensures { OnOk result (executions.new.items ≡ executions.old.items ++ laid_on simplex size first count) }
 {
     let mut place = first;
     for _turn in 0..count {
-        executions.push(Execution { simplex, place })?;
+        executions.push(Execution {
+            simplex,
+            place,
+            size,
+        })?;
         place += u32::from(size);
     }
     Ok(())

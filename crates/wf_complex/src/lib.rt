@@ -3,10 +3,12 @@
 //! - [`Line`] and [`Lines`]: why a box of candidates holds no decision map.
 #![tactic(auto)]
 
+mod classes;
 mod fault;
 mod layout;
 mod line;
 mod numbering;
+mod places;
 mod protocol;
 mod rounds;
 

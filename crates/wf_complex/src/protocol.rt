@@ -1,13 +1,21 @@
 //! The r-round protocol complex of a task.
 
-ghost use Rattle.std.specs.Prelude.{◌≡◌, ◌<◌, ◌≤◌, ℕ, Some, [], length, map, slice_get};
+ghost use Rattle.std.specs.Prelude.{◌≡◌, ◌<◌, ◌≤◌, ℕ, Some, [], length, map, slice_get, All, IfOk};
 ghost use Rattle.std.specs.List.{slice_index_or};
+ghost use Rattle.wf_model.specs.Task.{IsSimplexWithin};
+ghost use Rattle.wf_complex.specs.Layout.{execution_total};
 ghost use Rattle.wf_complex.specs.Protocol.{Builds, point_in};
+ghost use Rattle.wf_complex.specs.ProtocolMade.{IsMade, pairs_of};
 
+use crate::classes::{classes_of, picked};
 use crate::fault::BuildFault;
-use crate::layout::{MOST_EXECUTIONS, execution_count};
-use std::alloc::Global;
+use crate::layout::{Execution, MOST_EXECUTIONS, execution_count, lay_out};
+use crate::numbering::number_all;
+use crate::places::{Place, places_of};
+use crate::rounds::last_views;
+use std::alloc::{AllocError, Global};
 use std::marker::Model;
+use wf_simplex::Simplex;
 use wf_task::Task;
 use wf_view::Views;
 
@@ -23,6 +31,16 @@ const MOST_ROUNDS: u32 = 8;
 pub struct Protocol {
     rounds: u32,
     views: Views,
+    // how many different last views there are
+    view_count: u32,
+    // the class of each point, by its number among the views
+    classes: Vec<u32>,
+    // the place at which each point appears first
+    firsts: Vec<u32>,
+    executions: Vec<Execution>,
+    // the execution and the process of each place, and its point
+    places: Vec<Place>,
+    numbers: Vec<u32>,
 }
 
 impl Model for Protocol {
@@ -50,31 +68,32 @@ impl Protocol {
         if rounds > MOST_ROUNDS {
             return Err(BuildFault::Rounds);
         }
-        if execution_count(task.inputs().simplices(), rounds) > MOST_EXECUTIONS {
+        let inputs = task.inputs().simplices();
+        if execution_count(inputs, rounds) > MOST_EXECUTIONS {
             return Err(BuildFault::TooManyExecutions);
         }
-        Err(BuildFault::OutOfMemory)
+        Ok(made(alloc, inputs, task.symmetric(), rounds)?)
     }
 
     /// The number of rounds.
     pub fn rounds(&self) -> u32
         ensures { result ≡ self.now.rounds }
     {
-        unreachable!()
+        self.rounds
     }
 
     /// How many points there are.
     pub fn points(&self) -> u32
         ensures { result ≡ length self.now.points }
     {
-        unreachable!()
+        self.classes.len() as u32
     }
 
     /// How many executions there are.
     pub fn executions(&self) -> u32
         ensures { result ≡ length self.now.scopes }
     {
-        unreachable!()
+        self.executions.len() as u32
     }
 
     /// The number of the input simplex that an execution is on.
@@ -82,7 +101,7 @@ impl Protocol {
         requires { execution < length self.now.scopes }
         ensures { slice_get self.now.simplices execution ≡ Some result }
     {
-        unreachable!()
+        self.executions[execution as usize].simplex
     }
 
     /// The point of a process in an execution; `None` where it does not take part.
@@ -90,7 +109,10 @@ impl Protocol {
         requires { execution < length self.now.scopes }
         ensures { result ≡ point_in process (slice_index_or self.now.scopes execution []) }
     {
-        unreachable!()
+        let at = self.executions[execution as usize];
+        let first = at.place as usize;
+        let end = first + at.size as usize;
+        point_among(&self.places[first..end], &self.numbers[first..end], process)
     }
 
     /// The points of an execution, by ascending process.
@@ -98,7 +120,9 @@ impl Protocol {
         requires { execution < length self.now.scopes }
         ensures { result.now ≡ map (λ at. at.1) (slice_index_or self.now.scopes execution []) }
     {
-        unreachable!()
+        let at = self.executions[execution as usize];
+        let first = at.place as usize;
+        &self.numbers[first..first + at.size as usize]
     }
 
     /// The number of a point's view, or in a symmetric task that of its class, in the table of views.
@@ -106,7 +130,7 @@ impl Protocol {
         requires { point < length self.now.points }
         ensures { slice_get self.now.table result ≡ slice_get self.now.points point }
     {
-        unreachable!()
+        self.classes[point as usize]
     }
 
     /// The execution and the process in which a point appears first.
@@ -114,20 +138,66 @@ impl Protocol {
         requires { point < length self.now.points }
         ensures { slice_get self.now.firsts point ≡ Some result }
     {
-        unreachable!()
+        let place = self.places[self.firsts[point as usize] as usize];
+        (place.execution, place.process)
     }
 
     /// How many different last views there are. In a symmetric task several may be one point.
     pub fn view_count(&self) -> u32
         ensures { result ≡ self.now.view_count }
     {
-        unreachable!()
+        self.view_count
     }
 
     /// The views, under their numbers.
     pub fn views(&self) -> &Views
         ensures { result.now ≡ self.now.table }
     {
-        unreachable!()
+        &self.views
     }
+}
+
+/// The complex of these input simplices.
+pub(crate) fn made(
+    alloc: Global,
+    inputs: &[Simplex],
+    symmetric: bool,
+    rounds: u32,
+) -> Result<Protocol, AllocError>
+    requires rounds { rounds ≤ 8 }
+    requires executions { execution_total rounds inputs.now ≤ 500000 }
+    requires few { length inputs.now ≤ 4096 }
+    requires simplices { All (IsSimplexWithin 4 63) inputs.now }
+    ensures { IfOk result (IsMade inputs.now symmetric rounds) }
+{
+    let mut views = Views::start(alloc);
+    let lasts = last_views(alloc, &mut views, inputs, rounds)?;
+    let executions = lay_out(alloc, inputs, rounds)?;
+    let places = places_of(alloc, &views, &lasts, &executions)?;
+    let ids = classes_of(alloc, &mut views, lasts, symmetric)?;
+    let numbered = number_all(alloc, &ids.ids, views.len() as usize)?;
+    let classes = picked(alloc, &ids.ids, &numbered.firsts)?;
+    Ok(Protocol {
+        rounds,
+        views,
+        view_count: ids.view_count,
+        classes,
+        firsts: numbered.firsts,
+        executions,
+        places,
+        numbers: numbered.places,
+    })
+}
+
+/// The point of a process, where these processes have these points.
+fn point_among(places: &[Place], points: &[u32], process: u8) -> Option<u32>
+    requires { length places.now ≡ length points.now }
+    ensures { result ≡ point_in process (pairs_of places.now points.now) }
+{
+    for (i, place) in places.iter().enumerate() {
+        if place.process == process {
+            return Some(points[i]);
+        }
+    }
+    None
 }

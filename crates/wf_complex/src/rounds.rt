@@ -136,6 +136,7 @@ pub(crate) fn last_views(
 ) -> Result<Vec<u32>, AllocError>
     requires room { length views.old + cost_of_each rounds simplices.now ≤ 4294967291 }
     ensures extends { Extends views.old views.new }
+    ensures added { OnOk result (length views.new ≤ length views.old + cost_of_each rounds simplices.now) }
     ensures within { IfOk result (λ lasts. All (λ k. k < length views.new) lasts.items) }
     ensures made { IfOk result (λ lasts. views_at views.new lasts.items ≡ flat_map (leaves_of rounds) simplices.now) }
 {

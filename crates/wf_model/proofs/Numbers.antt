@@ -78,7 +78,7 @@ map_filter f test [] = refl
 map_filter f test (x ∷ xs) =
     elim (cases_Bool (test (f x))) [ inl pass ↦ rw pass (ap (λ ys. f x ∷ ys) (map_filter f test xs)) | inr fail ↦ rw fail (map_filter f test xs) ]
 
-map_distinct : {X Y : Type 0} (f : X → Y) (same : Y → Y → Bool) (xs : List X) → map f (distinct (λ x y. same (f x) (f y)) xs) ≡ distinct same (map f xs)
+pub map_distinct : {X Y : Type 0} (f : X → Y) (same : Y → Y → Bool) (xs : List X) → map f (distinct (λ x y. same (f x) (f y)) xs) ≡ distinct same (map f xs)
 map_distinct f same [] = refl
 map_distinct f same (x ∷ xs) =
     ap (λ ys. f x ∷ ys) (map_filter f (λ y. not (same (f x) y)) (distinct (λ x y. same (f x) (f y)) xs) ∙ ap (filter (λ y. not (same (f x) y))) (map_distinct f same xs))

@@ -1,5 +1,5 @@
 -- Processes that strictly ascend and are below a bound, one after another.
-use Rattle.std.proofs.Common.{◌≡◌, ℕ, ◌+◌, ◌<◌, ◌≤◌, Bool, true, false, ◌&&◌, nat_lt, nat_le, List, [], ◌∷◌, refl, sym, ◌∙◌, arith, le-leb, lt-ltb, leb-true, ltb-true}
+use Rattle.std.proofs.Common.{◌≡◌, ℕ, ◌+◌, ◌<◌, ◌≤◌, Bool, true, false, ◌&&◌, nat_lt, nat_le, [], ◌∷◌, refl, sym, ◌∙◌, arith, le-leb, lt-ltb, leb-true, ltb-true}
 use Rattle.std.specs.List.{list_all}
 use Rattle.wf_model.specs.Simplex.{Vertex, Simplex, processes_of, is_ascending}
 use Rattle.wf_simplex.proofs.Reading.{and_first, and_second, and_both}

@@ -1,5 +1,5 @@
 -- Up to four numbers and the zeros past them.
-use Rattle.std.proofs.Common.{◌≡◌, ◌-◌, ◌≤◌, ℕ, List, [], ◌∷◌, ◌++◌, length, take, replicate, refl, sym, ap, ◌∙◌, arith, take_all}
+use Rattle.std.proofs.Common.{◌≡◌, ◌-◌, ◌≤◌, ℕ, List, [], ◌∷◌, ◌++◌, length, take, replicate, refl, ap, ◌∙◌, arith, take_all}
 use Rattle.wf_task.specs.Filled.{filled}
 
 pub append-replicate : (xs : List ℕ) → length xs ≤ 4 → xs ++ replicate (4 - length xs) 0 ≡ filled xs

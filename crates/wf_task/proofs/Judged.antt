@@ -1,9 +1,9 @@
 -- What the judged numbers tell: each listed simplex is one, within the bounds.
-use Rattle.std.proofs.Common.{◌≡◌, ℕ, ◌<◌, ◌≤◌, Bool, true, false, not, ◌&&◌, ◌||◌, ◌==◌, nat_lt, nat_le, List, [], ◌∷◌, map, length, All, Result, Ok, Err, refl, sym, ap, ◌∙◌, arith, eqb-true, leb-true, ltb-true, ltb-false}
+use Rattle.std.proofs.Common.{◌≡◌, ℕ, ◌<◌, ◌≤◌, Bool, true, false, not, ◌&&◌, ◌||◌, ◌==◌, nat_lt, nat_le, List, [], ◌∷◌, All, Result, Ok, refl, eqb-true, leb-true, ltb-true, ltb-false}
 use Rattle.std.specs.List.{list_any, list_all}
 use Rattle.std.proofs.lemmas.List.Elements.{All-nil, All-cons, All-head, All-tail}
 use Rattle.wf_model.specs.Simplex.{Simplex, processes_of, values_of, is_nonempty, is_ascending}
-use Rattle.wf_model.specs.Task.{IsSimplexWithin, Rule}
+use Rattle.wf_model.specs.Task.{IsSimplexWithin}
 use Rattle.wf_simplex.proofs.Reading.{and_first, and_second, and_both}
 use Rattle.wf_task.specs.declared.fault.TaskFault.{TaskFault}
 use Rattle.wf_task.specs.declared.fault.TaskFault.TheVariants as fault
@@ -11,15 +11,15 @@ use Rattle.wf_task.specs.Draft.{Listed, ◌>>=◌}
 use Rattle.wf_task.specs.Judge.{is_large, has_large, rule_has_large, some_large, has_colours, all_colours, refused_if, numbers_judged}
 
 -- a refusal that did not come
-passed : {A : Type 0} (b : Bool) (e : TaskFault) (next : Unit {0} → Result A TaskFault) (x : A) → (refused_if b e >>= next) ≡ Ok x → (b ≡ false) × (next tt ≡ Ok x)
+pub passed : {A : Type 0} (b : Bool) (e : TaskFault) (next : Unit {0} → Result A TaskFault) (x : A) → (refused_if b e >>= next) ≡ Ok x → (b ≡ false) × (next tt ≡ Ok x)
 passed true e next x h = cc
 passed false e next x h = (refl, h)
 
-passed_last : (b : Bool) (e : TaskFault) (u : Unit {0}) → refused_if b e ≡ Ok u → b ≡ false
+pub passed_last : (b : Bool) (e : TaskFault) (u : Unit {0}) → refused_if b e ≡ Ok u → b ≡ false
 passed_last true e u h = cc
 passed_last false e u h = refl
 
-not_false : (b : Bool) → not b ≡ false → b ≡ true
+pub not_false : (b : Bool) → not b ≡ false → b ≡ true
 not_false true h = refl
 not_false false h = cc
 
@@ -49,15 +49,15 @@ are_judged listed u h =
 
 -- ---- one simplex
 
-or_first : (a b : Bool) → (a || b) ≡ false → a ≡ false
+pub or_first : (a b : Bool) → (a || b) ≡ false → a ≡ false
 or_first true b h = h
 or_first false b h = refl
 
-or_second : (a b : Bool) → (a || b) ≡ false → b ≡ false
+pub or_second : (a b : Bool) → (a || b) ≡ false → b ≡ false
 or_second true b h = cc
 or_second false b h = h
 
-small_values : (xs : List ℕ) → list_any is_large xs ≡ false → All (λ x. x ≤ 63) xs
+pub small_values : (xs : List ℕ) → list_any is_large xs ≡ false → All (λ x. x ≤ 63) xs
 small_values [] h = All-nil (λ x. x ≤ 63)
 small_values (x ∷ xs) h =
     All-cons (λ x. x ≤ 63) x xs (ltb-false 63 x (or_first (nat_lt 63 x) (list_any is_large xs) h)) (small_values xs (or_second (nat_lt 63 x) (list_any is_large xs) h))

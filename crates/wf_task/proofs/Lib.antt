@@ -6,3 +6,7 @@ pub mod Sizes
 pub mod Judged
 pub mod TaskSeen
 pub mod EntrySlots
+pub mod TupleLemmas
+pub mod RowLemmas
+pub mod Vertices
+pub mod Drafted

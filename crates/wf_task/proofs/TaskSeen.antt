@@ -1,9 +1,9 @@
 -- The rules of a task, by its parts.
-use Rattle.std.proofs.Common.{◌≡◌, ℕ, zero, suc, ◌<◌, List, [], ◌∷◌, length, map, Option, None, Some, option_map, slice_get, slice_index_or, vec_items, Vec, Global, refl, sym, ap, ◌∙◌, arith}
+use Rattle.std.proofs.Common.{◌≡◌, ℕ, zero, suc, ◌<◌, List, [], ◌∷◌, length, map, Some, option_map, slice_get, slice_index_or, vec_items, Vec, Global, refl, sym, ap, ◌∙◌, arith}
 use Rattle.std.proofs.lemmas.Option.{slice_get-get_or}
 use Rattle.std.proofs.lemmas.List.{get_or-map, length-map}
 use Rattle.wf_model.specs.Simplex.{Simplex}
-use Rattle.wf_model.specs.Task.{Rule, Tuple}
+use Rattle.wf_model.specs.Task.{Tuple}
 use Rattle.wf_task.specs.TaskSeen.{rules_seen}
 
 pub inputs-rules_seen : (ss : List Simplex) (ts : List (List Tuple)) → length ts ≡ length ss → map (λ rule. rule.input) (rules_seen ss ts) ≡ ss

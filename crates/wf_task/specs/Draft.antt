@@ -1,5 +1,5 @@
 -- What a JSON value of the right shape lists, or the first key of the wrong shape.
-use Rattle.std.specs.Prelude.{◌≡◌, ℕ, List, map, Option, None, Some, option_and_then, Result, Ok, Err, ◌==◌, if◌then◌else◌, codes, Bool}
+use Rattle.std.specs.Prelude.{◌≡◌, ℕ, List, Option, None, Some, option_and_then, Result, Ok, Err, ◌==◌, if◌then◌else◌, codes, Bool}
 use Rattle.serde_json.specs.Data.{Data}
 use Rattle.serde_json.specs.Find.{get, as_bool, as_array, as_object}
 use Rattle.serde_json.specs.Events.{members_len}

@@ -1,7 +1,7 @@
 -- What a clause sees of the program's drafts.
-use Rattle.std.specs.Prelude.{List, map}
+use Rattle.std.specs.Prelude.{map}
 use Rattle.wf_model.specs.Simplex.{Simplex}
-use Rattle.wf_model.specs.Task.{Rule, Tuple}
+use Rattle.wf_model.specs.Task.{Rule}
 use Rattle.wf_task.specs.declared.shape.Entry.{Entry}
 use Rattle.wf_task.specs.declared.shape.ListedSimplex.{ListedSimplex}
 use Rattle.wf_task.specs.declared.draft.Draft.{Draft}

@@ -1,5 +1,5 @@
 -- How a refusal is printed: its number, its name, and what it carries.
-use Rattle.std.specs.Prelude.{ℕ, List, [], ◌∷◌, ◌++◌, codes, decimal}
+use Rattle.std.specs.Prelude.{ℕ, List, ◌∷◌, ◌++◌, codes, decimal}
 use Rattle.wf_task.specs.declared.fault.Key.{Key}
 use Rattle.wf_task.specs.declared.fault.Key.TheVariants.{Whole, Version, Processes, Symmetric, Inputs, Outputs, Delta, Other}
 use Rattle.wf_task.specs.declared.fault.Limit.{Limit}

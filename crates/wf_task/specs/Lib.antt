@@ -6,4 +6,7 @@ pub mod DraftSeen
 pub mod Text
 pub mod Slots
 pub mod Judge
+pub mod Tuples
+pub mod Faultless
+pub mod Mask
 pub mod TaskSeen

@@ -1,7 +1,7 @@
 -- Which entries each input simplex has.
 use Rattle.std.specs.Prelude.{◌≡◌, ℕ, ◌<◌, Bool, true, false, List, [], ◌∷◌, filter, length, slice_index_or}
 use Rattle.wf_model.specs.Simplex.{Simplex}
-use Rattle.wf_model.specs.Task.{Rule}
+use Rattle.wf_model.specs.Task.{Rule, Tuple}
 use Rattle.wf_simplex.specs.Order.{same_simplex}
 use Rattle.wf_task.specs.declared.slots.Slot.{Slot}
 use Rattle.wf_task.specs.declared.slots.Slot.TheVariants.{Missing, Once, Twice}
@@ -41,3 +41,26 @@ Means Twice rules s = 1 < length (entries_in rules s)
 pub record AreOf (slots : List Slot) (rules : List Rule) (inputs : List Simplex) : Type 0 where
   pub long : length slots ≡ length inputs
   pub each : (i : ℕ) → i < length inputs → Means (slice_index_or slots i Missing) rules (slice_index_or inputs i [])
+
+-- a slot that names one of so many entries
+abbrev pub IsOnceBelow : ℕ → Slot → Type 0
+IsOnceBelow n Missing = ⊥
+IsOnceBelow n (Once k) = k < n
+IsOnceBelow n Twice = ⊥
+
+-- the value lists of the entry that a slot names
+abbrev pub lists_at : Slot → List Rule → List Tuple
+lists_at Missing rules = []
+lists_at (Once k) rules = (slice_index_or rules k (rule_of [] [])).tuples
+lists_at Twice rules = []
+
+-- the slot of a simplex with exactly one entry
+abbrev pub IsOnly : Slot → List Rule → Simplex → Type 0
+IsOnly Missing rules s = ⊥
+IsOnly (Once k) rules s = Means (Once k) rules s
+IsOnly Twice rules s = ⊥
+
+-- each simplex of a complex has exactly one entry, and its slot names it
+pub record AreOnly (slots : List Slot) (rules : List Rule) (inputs : List Simplex) : Type 0 where
+  pub long : length slots ≡ length inputs
+  pub each : (i : ℕ) → i < length inputs → IsOnly (slice_index_or slots i Missing) rules (slice_index_or inputs i [])

@@ -8,9 +8,12 @@ mod draft;
 pub mod fault;
 mod judge;
 pub mod row;
+mod rows;
 mod shape;
 mod slots;
 pub mod task;
+mod text;
+mod tuples;
 
 pub use fault::{Key, Limit, TaskFault};
 pub use row::Row;

@@ -1,11 +1,29 @@
-ghost use Rattle.std.specs.Prelude.{◌≡◌, ℕ, ◌<◌, ◌↔◌, true, length, option_map, slice_get, Some, None};
+ghost use Rattle.std.specs.Prelude.{◌≡◌, ℕ, ◌<◌, ◌↔◌, true, length, map, option_map, slice_get, Some, None, IfOk};
 ghost use Rattle.std.specs.Int.{bit_at};
 ghost use Rattle.wf_model.specs.Lists.{has};
+ghost use Rattle.wf_model.specs.Simplex.{complex_of};
 ghost use Rattle.wf_model.specs.Task.{IsTask, inputs, values};
+ghost use Rattle.wf_task.specs.Draft.{Gives};
+ghost use Rattle.wf_task.specs.DraftSeen.{draft_seen, pairs_seen, entry_seen};
+ghost use Rattle.wf_task.specs.Judge.{judged, drafted, text_of};
+ghost use Rattle.wf_task.specs.Slots.{AreOf};
+ghost use Rattle.wf_task.specs.Faultless.{ListsVertices, IsFaultless};
 
+use crate::complexes::{complex, judge_sizes};
+use crate::draft::Draft;
+use crate::fault::TaskFault;
+use crate::judge::judge_numbers;
 use crate::row::Row;
+use crate::rows::{all_rows, mask};
+use crate::slots::{Slot, judge_entries, slots};
+use crate::text::json;
+use crate::tuples::judge_tuples;
+use std::alloc::{AllocError, Global};
 use std::marker::Model;
 use wf_simplex::Complex;
+
+/// The longest text that is read, in bytes.
+const LONGEST: usize = 16_777_216;
 
 /// A decision task (Herlihy and Shavit 1999): input simplices, output simplices, and for each input simplex
 /// the output tuples on its processes.
@@ -34,6 +52,20 @@ impl Model for Task {
 }
 
 impl Task {
+    /// The task of a text, or the first fault of the text.
+    #[tactic(auto, unfolding(crate::specs::Judge::text_of, crate::specs::Judge::task_of))]
+    pub fn read_text(alloc: Global, bytes: &[u8]) -> Result<Task, TaskFault>
+        ensures { Gives (λ t. t) result (text_of bytes.now) }
+    {
+        if bytes.len() > LONGEST {
+            return Err(TaskFault::TooLong);
+        }
+        let value = json(alloc, bytes)?;
+        let draft = Draft::of(alloc, &value)?;
+        drop(value);
+        judged(alloc, &draft)
+    }
+
     /// How many processes there are.
     pub fn processes(&self) -> u8
         ensures processes { result ≡ self.now.processes }
@@ -80,4 +112,49 @@ impl Task {
     {
         self.values
     }
+}
+
+/// The task that a draft lists, or its first fault.
+#[tactic(auto, unfolding(crate::specs::Judge::judged))]
+fn judged(alloc: Global, draft: &Draft) -> Result<Task, TaskFault>
+    requires { ListsVertices (draft_seen draft.now) }
+    ensures { Gives (λ t. t) result (judged (draft_seen draft.now)) }
+{
+    judge_numbers(draft)?;
+    let inputs = complex(alloc, &draft.inputs)?;
+    judge_sizes(draft, inputs.simplices())?;
+    let slots = slots(alloc, &inputs, &draft.delta)?;
+    judge_entries(draft, &inputs, &slots)?;
+    let outputs = complex(alloc, &draft.outputs)?;
+    judge_tuples(draft, inputs.simplices(), &slots, &outputs)?;
+    if draft.inputs.is_empty() {
+        return Err(TaskFault::NoInput);
+    }
+    Ok(drafted(alloc, draft, inputs, outputs, &slots)?)
+}
+
+/// The task that a draft without a fault lists.
+fn drafted(
+    alloc: Global,
+    draft: &Draft,
+    inputs: Complex,
+    outputs: Complex,
+    slots: &[Slot],
+) -> Result<Task, AllocError>
+    requires faultless { IsFaultless (draft_seen draft.now) }
+    requires inputs { inputs ≡ complex_of (map pairs_seen draft.now.inputs.items) }
+    requires outputs { outputs ≡ complex_of (map pairs_seen draft.now.outputs.items) }
+    requires slots { AreOf slots.now (map entry_seen draft.now.delta.items) inputs }
+    ensures { IfOk result (λ t. t ≡ drafted (draft_seen draft.now)) }
+{
+    let tuples = all_rows(alloc, &draft.delta, slots)?;
+    let values = mask(outputs.simplices());
+    Ok(Task {
+        processes: draft.processes as u8,
+        symmetric: draft.symmetric,
+        inputs,
+        outputs,
+        tuples,
+        values,
+    })
 }

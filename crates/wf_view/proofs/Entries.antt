@@ -19,11 +19,11 @@ entry_process : (n : ℕ) (vs : List View) (node : Node) → IsEntry n node → 
 entry_process n vs node (is_base p x low) = refl
 entry_process n vs node (is_seen p ids low some few earlier) = ap process_of (node_view-seen vs p ids some few)
 
-entry_low : (n : ℕ) (node : Node) → IsEntry n node → node.process ≤ 3
+pub entry_low : (n : ℕ) (node : Node) → IsEntry n node → node.process ≤ 3
 entry_low n node (is_base p x low) = low
 entry_low n node (is_seen p ids low some few earlier) = low
 
-entry_count : (n : ℕ) (node : Node) → IsEntry n node → node.count ≤ 4
+pub entry_count : (n : ℕ) (node : Node) → IsEntry n node → node.count ≤ 4
 entry_count n node (is_base p x low) = omega arith
 entry_count n node (is_seen p ids low some few earlier) = few
 
@@ -31,7 +31,7 @@ list_of-views_of : (vs : List View) → list_of (views_of vs) ≡ vs
 list_of-views_of [] = refl
 list_of-views_of (v ∷ vs) = ap (λ ws. v ∷ ws) (list_of-views_of vs)
 
-take-padded : (ids : List ℕ) → length ids ≤ 4 → take (length ids) (padded ids) ≡ ids
+pub take-padded : (ids : List ℕ) → length ids ≤ 4 → take (length ids) (padded ids) ≡ ids
 take-padded [] h = refl
 take-padded (a ∷ []) h = refl
 take-padded (a ∷ b ∷ []) h = refl
@@ -44,7 +44,7 @@ entry_parts n vs node (is_base p x low) = refl
 entry_parts n vs node (is_seen p ids low some few earlier) =
     ap (map (view_at vs)) (take-padded ids few) ∙ sym (list_of-views_of (map (view_at vs) ids)) ∙ sym (ap inner_views (node_view-seen vs p ids some few))
 
-entry_earlier : (n : ℕ) (node : Node) → IsEntry n node → All (λ k. k < n) (take node.count node.ids)
+pub entry_earlier : (n : ℕ) (node : Node) → IsEntry n node → All (λ k. k < n) (take node.count node.ids)
 entry_earlier n node (is_base p x low) = All-from_recursion (λ k. k < n) [] tt
 entry_earlier n node (is_seen p ids low some few earlier) = subst (All (λ k. k < n)) (sym (take-padded ids few)) earlier
 
@@ -101,7 +101,7 @@ colours_at-views vs [] h = refl
 colours_at-views vs (k ∷ ids) h = λ i. bit_or (get_or-map vs k h.0 i) (colours_at-views vs ids h.1 i)
 
 -- the processes in the view of one that saw these
-colours_of-seen : (vs : List View) (p : ℕ) (ids : List ℕ) → All (λ k. k < length vs) ids → 0 < length ids → length ids ≤ 4 → bit_or (2 ^ p) (colours_at (map colours_of vs) ids) ≡ colours_of (node_view vs (seen_node p ids))
+pub colours_of-seen : (vs : List View) (p : ℕ) (ids : List ℕ) → All (λ k. k < length vs) ids → 0 < length ids → length ids ≤ 4 → bit_or (2 ^ p) (colours_at (map colours_of vs) ids) ≡ colours_of (node_view vs (seen_node p ids))
 colours_of-seen vs p ids within some few = ap (bit_or (2 ^ p)) (colours_at-views vs ids (recursion_from_All _ ids within)) ∙ sym (ap colours_of (node_view-seen vs p ids some few))
 
 -- ---- an entry that was read
@@ -110,7 +110,7 @@ module _ (xs : List Node) (entries : AreEntriesFrom 0 xs) (vs : List View) (is :
   in_nodes : n < length xs
   in_nodes = omega (arith, within, ap length is, length-shown xs)
 
-  entry_read : IsEntry n node
+  pub entry_read : IsEntry n node
   entry_read = subst (IsEntry n) (sym read) (entry_at xs entries n node in_nodes)
 
   pub count_read : node.count ≤ 4
@@ -119,7 +119,7 @@ module _ (xs : List Node) (entries : AreEntriesFrom 0 xs) (vs : List View) (is :
   pub earlier_read : All (λ k. k < n) (take node.count node.ids)
   earlier_read = entry_earlier n node entry_read
 
-  view_read : node_view vs node ≡ view_at vs n
+  pub view_read : node_view vs node ≡ view_at vs n
   view_read = subst (λ ws. node_view ws node ≡ view_at ws n) is (ap (node_view (shown xs)) read ∙ sym (view_at-shown xs entries n node in_nodes))
 
   pub parts_read : map (view_at vs) (take node.count node.ids) ≡ inner_views (view_at vs n)

@@ -2,3 +2,9 @@ pub mod Shown
 pub mod Once
 pub mod Steps
 pub mod Entries
+pub mod Within
+pub mod Ranks
+pub mod Beside
+pub mod Renamed
+pub mod Collecting
+pub mod Ranked

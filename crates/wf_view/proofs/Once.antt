@@ -211,3 +211,9 @@ module _ (xs : List Node) (entries : AreEntriesFrom 0 xs) (once : IsOnce xs) (no
           (sym (view_at-shown xs entries number node below) ∙ view_at-number (shown xs) v among) in
           let clash : Some number ≡ None = sym (once number node below) ∙ ap (place_in xs) same ∙ h in
           cc
+
+-- one number, one view, in the list of a table's views
+pub apart_in_table : (xs : List Node) → AreEntriesFrom 0 xs → IsOnce xs → (vs : List View) → shown xs ≡ vs → (i j : ℕ) → i < length vs → j < length vs → view_at vs i ≡ view_at vs j → i ≡ j
+apart_in_table xs entries once vs is i j h k e =
+    let long : length vs ≡ length xs = sym (ap length is) ∙ length-shown xs in
+    apart xs entries once (base_node 0 0) i j (omega (arith, h, long)) (omega (arith, k, long)) (subst (λ ws. view_at ws i ≡ view_at ws j) (sym is) e)

@@ -18,7 +18,7 @@ pub record IsNumbered (old new : List View) (v : View) (n : ℕ) : Type 0 where
   pub number : n ≡ number_of new v
   pub stands : slice_get new n ≡ Some v
 
-slice_get-at : (vs : List View) (n : ℕ) (v : View) → n < length vs → view_at vs n ≡ v → slice_get vs n ≡ Some v
+pub slice_get-at : (vs : List View) (n : ℕ) (v : View) → n < length vs → view_at vs n ≡ v → slice_get vs n ≡ Some v
 slice_get-at [] n v h e = absurd (let none : ⊥ = omega (arith, h) in none)
 slice_get-at (w ∷ vs) zero v h e = ap Some e
 slice_get-at (w ∷ vs) (suc n) v h e = slice_get-at vs n v (omega (arith, h)) e

@@ -1,6 +1,7 @@
 -- What contracts say of a table of views. A table is seen as the list of its views in the order of their numbers.
-use Rattle.std.specs.Prelude.{ℕ, ◌^◌, List, [], ◌∷◌, ◌++◌, map, get_or, bit_or, if◌then◌else◌}
+use Rattle.std.specs.Prelude.{ℕ, ◌^◌, List, [], ◌∷◌, ◌++◌, map, length, get_or, bit_or, if◌then◌else◌}
 use Rattle.std.specs.List.{list_any}
+use Rattle.wf_model.specs.Lists.{distinct}
 use Rattle.wf_model.specs.View.{View, base, seen, Views, no_views, view, views_of, same_view}
 
 -- the view of this number
@@ -33,3 +34,17 @@ abbrev mutual
   pub colours_of_each : Views → ℕ
   colours_of_each no_views = 0
   colours_of_each (view v vs) = bit_or (colours_of v) (colours_of_each vs)
+
+-- the view itself and all views inside it, at every depth
+abbrev mutual
+  pub views_within : View → List View
+  views_within (base p x) = base p x ∷ []
+  views_within (seen p vs) = seen p vs ∷ views_within_each vs
+
+  pub views_within_each : Views → List View
+  views_within_each no_views = []
+  views_within_each (view v vs) = views_within v ++ views_within_each vs
+
+-- how many different views those are
+abbrev pub count_within : View → ℕ
+count_within v = length (distinct same_view (views_within v))

@@ -1,7 +1,10 @@
 //! An entry of the table.
 
-ghost use Rattle.std.specs.Prelude.{◌≡◌, ◌≤◌, ◌<◌, length};
+ghost use Rattle.std.specs.Prelude.{◌≡◌, ◌≤◌, ◌<◌, true, length, take, All};
+ghost use Rattle.wf_model.specs.Lists.{has};
+ghost use Rattle.wf_model.specs.Simplex.{is_ascending};
 ghost use Rattle.wf_view.specs.Table.{base_node, seen_node};
+ghost use Rattle.wf_view.specs.Renaming.{number_beside, renumbered_node};
 
 /// A view, with the views inside it by their numbers. An input has the count 0, and its value in the first place.
 /// Places past the last are 0, so that equal views are equal entries.
@@ -40,5 +43,38 @@ pub fn snapshot(process: u8, ids: &[u32]) -> Node
         process,
         count,
         ids: four,
+    }
+}
+
+/// The entry with this process, and with the new number of each view in it. The new numbers stand beside the old ones,
+/// which ascend.
+pub fn renumbered(node: Node, process: u8, old: &[u32], new: &[u32]) -> Node
+    requires count { node.count ≤ 4 }
+    requires ascending { is_ascending old.now ≡ true }
+    requires fewer { length new.now ≤ length old.now }
+    requires known { All (λ k. has (take (length new.now) old.now) k ≡ true) (take node.count node.ids) }
+    ensures { result ≡ renumbered_node process (number_beside old.now new.now) node }
+{
+    let mut ids = node.ids;
+    for place in 0..usize::from(node.count) {
+        ids[place] = number_beside(old, new, ids[place]);
+    }
+    Node {
+        process,
+        count: node.count,
+        ids,
+    }
+}
+
+/// The new number that stands beside this old one.
+pub fn number_beside(old: &[u32], new: &[u32], id: u32) -> u32
+    requires ascending { is_ascending old.now ≡ true }
+    requires fewer { length new.now ≤ length old.now }
+    requires known { has (take (length new.now) old.now) id ≡ true }
+    ensures { result ≡ number_beside old.now new.now id }
+{
+    match old[..new.len()].binary_search(&id) {
+        Ok(place) => new[place],
+        Err(_) => unreachable!(),
     }
 }

@@ -1,17 +1,21 @@
 //! The table of views.
 
-ghost use Rattle.std.specs.Prelude.{◌≡◌, ◌<◌, ◌≤◌, ◌^◌, bit_or, ℕ, true, List, [], length, All, map, is_ok, IfOk, Some, slice_get, if◌then◌else◌};
-ghost use Rattle.wf_model.specs.Lists.{has};
-ghost use Rattle.wf_model.specs.Simplex.{is_ascending};
-ghost use Rattle.wf_model.specs.View.{View, base, process_of};
-ghost use Rattle.wf_model.specs.Problem.{number_of};
-ghost use Rattle.wf_view.specs.Views.{view_at, view_seen, with_view, inner_views, colours_of};
+ghost use Rattle.std.specs.Prelude.{◌≡◌, ◌<◌, ◌≤◌, ◌^◌, bit_or, ℕ, true, List, [], ◌++◌, ◌+◌, length, take, All, map, is_ok, OnOk, IfOk, Some, slice_get, if◌then◌else◌};
 ghost use Rattle.std.specs.HashMap.{get};
+ghost use Rattle.std.specs.BTreeSet.{insert_key};
+ghost use Rattle.std.specs.List.{fold};
+ghost use Rattle.std.specs.Ordering.{nat_cmp};
+ghost use Rattle.wf_model.specs.Lists.{has, distinct};
+ghost use Rattle.wf_model.specs.Simplex.{is_ascending};
+ghost use Rattle.wf_model.specs.View.{View, base, process_of, same_view, renamed, normal};
+ghost use Rattle.wf_model.specs.Problem.{number_of};
+ghost use Rattle.wf_view.specs.Views.{view_at, view_seen, with_view, inner_views, colours_of, count_within};
 ghost use Rattle.wf_view.specs.Table.{same_node, colours_at};
+ghost use Rattle.wf_view.specs.Renaming.{rank_in, SawAmong, AreInside, AreRenamed};
 
-use crate::node::{Node, input, snapshot};
+use crate::node::{Node, input, number_beside, renumbered, snapshot};
 use std::alloc::{AllocError, Global};
-use std::collections::HashMap;
+use std::collections::{BTreeSet, HashMap};
 use std::marker::Model;
 
 /// Views under numbers from 0 on, each once. In contracts a table is the list of its views.
@@ -54,6 +58,7 @@ impl Views {
     /// How many views there are.
     pub fn len(&self) -> u32
         ensures count { result ≡ length self.now }
+        ensures once { distinct same_view self.now ≡ self.now }
     {
         self.nodes.len() as u32
     }
@@ -117,6 +122,74 @@ impl Views {
         &node.ids[..node.count as usize]
     }
 
+    /// The number of a view with each process replaced by its rank among those that occur in it, at every depth.
+    ///
+    /// The views inside it, renamed alike, get numbers too: at most one new view for each different view inside.
+    /// Refused for want of memory, which leaves each number with its view; some of the new views may stand then.
+    pub fn normal(&mut self, id: u32) -> Result<u32, AllocError>
+        requires id { id < length self.old }
+        requires room { length self.old + count_within (view_at self.old id) ≤ 4294967295 }
+        ensures grows { (more : List View) × (self.new ≡ self.old ++ more) × (length more ≤ count_within (view_at self.old id)) }
+        ensures number { IfOk result (λ n. n ≡ number_of self.new (normal (view_at self.old id))) }
+        ensures stands { IfOk result (λ n. slice_get self.new n ≡ Some (normal (view_at self.old id))) }
+    {
+        let processes = self.colours_in(id);
+        let inside = self.inside(id)?;
+        let mut numbers = Vec::with_capacity(*self.nodes.allocator(), inside.len())?;
+        for old in &inside {
+            let number = self.put_renamed(*old, processes, &inside, &numbers)?;
+            numbers.push(number)?;
+        }
+        Ok(number_beside(&inside, &numbers, id))
+    }
+
+    /// The numbers of a view and of the views inside it, ascending.
+    fn inside(&self, id: u32) -> Result<Vec<u32>, AllocError>
+        requires { id < length self.now }
+        ensures { IfOk result (λ ids. AreInside self.now id ids.items) }
+    {
+        let mut open = BTreeSet::new(*self.nodes.allocator());
+        let mut inside = Vec::new(*self.nodes.allocator());
+        open.insert(id)?;
+        while let Some(greatest) = open.pop_last() {
+            inside.push(greatest)?;
+            put_all(&mut open, self.parts(greatest))?;
+        }
+        inside.reverse();
+        Ok(inside)
+    }
+
+    /// The number of a view with its processes replaced by their ranks in a set. The new numbers of the views in it
+    /// stand beside their old ones.
+    fn put_renamed(
+        &mut self,
+        id: u32,
+        processes: u8,
+        old: &[u32],
+        new: &[u32],
+    ) -> Result<u32, AllocError>
+        requires id { id < length self.old }
+        requires room { length self.old < 4294967295 }
+        requires ascending { is_ascending old.now ≡ true }
+        requires numbers { All (λ k. k < length self.old) old.now }
+        requires fewer { length new.now ≤ length old.now }
+        requires parts { SawAmong self.old id (take (length new.now) old.now) }
+        requires renamed { AreRenamed self.old (rank_in processes) old.now new.now }
+        ensures table { self.new
+            ≡ (if is_ok result then with_view self.old (renamed (rank_in processes) (view_at self.old id)) else self.old) }
+        ensures number { IfOk result (λ n. n ≡ number_of self.new (renamed (rank_in processes) (view_at self.old id))) }
+        ensures stands { IfOk result (λ n. slice_get self.new n ≡ Some (renamed (rank_in processes) (view_at self.old id))) }
+    {
+        let node = self.nodes[id as usize];
+        let entry = renumbered(node, rank(processes, node.process), old, new);
+        let colours = colours_seen(
+            &self.colours,
+            entry.process,
+            &entry.ids[..entry.count as usize],
+        );
+        self.number(entry, colours)
+    }
+
     /// The number of an entry's view. A new view gets the next number.
     fn number(&mut self, node: Node, colours: u8) -> Result<u32, AllocError>
         requires room { length self.old < 4294967295 }
@@ -158,4 +231,28 @@ fn colours_seen(colours: &[u8], process: u8, ids: &[u32]) -> u8
         all |= colours[*id as usize];
     }
     all
+}
+
+/// Puts these numbers into the set.
+fn put_all(set: &mut BTreeSet<u32>, numbers: &[u32]) -> Result<(), AllocError>
+    ensures { OnOk result (set.new.keys ≡ fold (insert_key nat_cmp) set.old.keys numbers.now) }
+{
+    for number in numbers {
+        set.insert(*number)?;
+    }
+    Ok(())
+}
+
+/// How many processes of a set are below this one: bit p is set where process p is in the set.
+fn rank(processes: u8, process: u8) -> u8
+    requires { process ≤ 3 }
+    ensures { result ≡ rank_in processes process }
+{
+    let mut rank = 0;
+    for lower in 0..process {
+        if processes >> lower & 1 == 1 {
+            rank += 1;
+        }
+    }
+    rank
 }

@@ -1,18 +1,24 @@
-use Rattle.std.proofs.Common.{◌≡◌, ◌+◌, ◌*◌, ◌∷◌, [], All, length, arith, sym, ap, subst, length-append}
-use Rattle.wf_complex.specs.Layout.{LiesIn}
-use Rattle.wf_complex.proofs.WalkLemmas.{turn_left}
-use Rattle.wf_complex.proofs.LayoutLemmas.{lies_push}
+use Rattle.std.proofs.Common.{◌≡◌, ◌+◌, ◌-◌, ◌*◌, ◌∷◌, [], ◌++◌, arith, sym, ap, ◌∙◌, append-nil}
+use Rattle.wf_complex.specs.Layout.{laid_on}
+use Rattle.wf_complex.proofs.LayoutLemmas.{laid_on-more}
 use Rattle.wf_complex.proofs.layout.lay_on.Goals as goal
 
 pub loop-turn-preserved : goal.loop-turn-preserved
 loop-turn-preserved c =
+    let k = c.args.simplex in
     let more : (c.loop-turn._turn + 1) * c.args.size ≡ c.loop-turn._turn * c.args.size + c.args.size = grind arith in
-    let left = turn_left c.loop-turn._turn c.args.count c.args.size (omega arith) in
-    let pushed = c.in_ok-push.ensures.items in
+    let left : c.args.count - c.loop-turn._turn ≡ (c.args.count - (c.loop-turn._turn + 1)) + 1 = omega (arith, c.loop-turn-test.true) in
     record {
       place = omega (arith, more, c.loop-turn.invariant.place, c.from-place.ensures);
-      long = omega (arith, ap length pushed, length-append c.loop-turn.executions.items (record { simplex = c.args.simplex; place = c.loop-turn.place } ∷ []), c.loop-turn.invariant.long);
-      within = λ inputs total before here size room.
-          subst (All (LiesIn inputs total)) (sym pushed)
-          (lies_push inputs total c.loop-turn.executions.items (record { simplex = c.args.simplex; place = c.loop-turn.place }) (c.loop-turn.invariant.within inputs total before here size room) here (omega (arith, size, left, room, c.loop-turn.invariant.place)));
+      laid =
+          (λ i. c.in_ok-push.ensures.items i ++ laid_on c.args.simplex c.args.size (c.loop-turn.place + c.from-place.ensures i) (c.args.count - (c.loop-turn._turn + 1)))
+          ∙ sym (laid_on-more c.args.simplex c.args.size c.loop-turn.place (c.args.count - (c.loop-turn._turn + 1)) (c.args.count - c.loop-turn._turn) c.loop-turn.executions.items left)
+          ∙ c.loop-turn.invariant.laid;
     }
+
+pub returns : goal.returns
+returns c =
+    let none : c.args.count - c.loop-turn._turn ≡ 0 = omega (arith, c.loop-turn-test.false) in
+    sym (append-nil c.loop-turn.executions.items)
+    ∙ ap (λ m. c.loop-turn.executions.items ++ laid_on c.args.simplex c.args.size c.loop-turn.place m) (sym none)
+    ∙ c.loop-turn.invariant.laid

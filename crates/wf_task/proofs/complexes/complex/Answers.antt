@@ -1,6 +1,5 @@
-use Rattle.std.proofs.Common.{◌≡◌, ◌<◌, ◌≤◌, All, length, map, sym, ap, ◌∙◌, subst, arith}
+use Rattle.std.proofs.Common.{sym, subst}
 use Rattle.wf_model.specs.Task.{IsSimplexWithin}
-use Rattle.wf_task.specs.DraftSeen.{pairs_seen}
 use Rattle.wf_task.proofs.Sizes.{seen_within}
 use Rattle.wf_task.proofs.complexes.complex.Goals as goal
 

@@ -1,4 +1,4 @@
-use Rattle.std.proofs.Common.{◌≡◌, ◌<◌, length, map, ap, ◌∙◌, sym, arith}
+use Rattle.std.proofs.Common.{length, ap, arith}
 use Rattle.std.proofs.lemmas.List.{length-map}
 use Rattle.wf_task.specs.DraftSeen.{entry_seen}
 use Rattle.wf_task.proofs.Sizes.{more_than_left}

@@ -1,4 +1,4 @@
-use Rattle.std.proofs.Common.{◌≡◌, ◌≤◌, length, take}
+use Rattle.std.proofs.Common.{◌≡◌, length, take}
 use Rattle.wf_task.proofs.complexes.simplex_of.Given as goal
 
 abbrev pub invariant-loop-place : goal.invariant-loop-place

@@ -1,8 +1,6 @@
-use Rattle.std.proofs.Common.{◌≡◌, ◌<◌, map, drop, nat_lt}
-use Rattle.std.specs.List.{list_any, list_all}
-use Rattle.wf_model.specs.Simplex.{values_of}
-use Rattle.wf_task.specs.DraftSeen.{entry_seen}
-use Rattle.wf_task.specs.Judge.{is_large, has_large, rule_has_large, has_colours}
+use Rattle.std.proofs.Common.{◌≡◌, map, drop}
+use Rattle.std.specs.List.{list_all}
+use Rattle.wf_task.specs.Judge.{has_colours}
 use Rattle.wf_task.proofs.judge.all_have_colours.Given as goal
 
 abbrev pub invariant-loop-simplex : goal.invariant-loop-simplex

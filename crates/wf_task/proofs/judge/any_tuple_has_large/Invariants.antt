@@ -1,8 +1,6 @@
-use Rattle.std.proofs.Common.{◌≡◌, ◌<◌, map, drop, nat_lt}
-use Rattle.std.specs.List.{list_any, list_all}
-use Rattle.wf_model.specs.Simplex.{values_of}
-use Rattle.wf_task.specs.DraftSeen.{entry_seen}
-use Rattle.wf_task.specs.Judge.{is_large, has_large, rule_has_large, has_colours}
+use Rattle.std.proofs.Common.{◌≡◌, map, drop}
+use Rattle.std.specs.List.{list_any}
+use Rattle.wf_task.specs.Judge.{is_large}
 use Rattle.wf_task.proofs.judge.any_tuple_has_large.Given as goal
 
 abbrev pub invariant-loop-tuple : goal.invariant-loop-tuple

@@ -1,6 +1,5 @@
-use Rattle.std.proofs.Common.{◌≡◌, Bool, true, false, IsTrue, Contains, map, sym, ap, ◌∙◌, subst}
+use Rattle.std.proofs.Common.{◌≡◌, Bool, true, false, IsTrue, Contains, sym, ◌∙◌, subst}
 use Rattle.wf_model.specs.Task.{IsSimplexWithin}
-use Rattle.wf_task.specs.DraftSeen.{entry_seen}
 use Rattle.wf_task.proofs.EntrySlots.{entry_within, stray_here}
 use Rattle.wf_task.proofs.slots.first_stray.Goals as goal
 

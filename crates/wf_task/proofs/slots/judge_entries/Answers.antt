@@ -1,7 +1,7 @@
-use Rattle.std.proofs.Common.{◌≡◌, Some, None, not, Result, Ok, Err, map, refl, sym, ap, ◌∙◌}
+use Rattle.std.proofs.Common.{◌≡◌, not, Result, Ok, Err, map, refl, sym, ap, ◌∙◌}
 use Rattle.wf_task.specs.declared.fault.TaskFault.{TaskFault}
 use Rattle.wf_task.specs.declared.fault.TaskFault.TheVariants as fault
-use Rattle.wf_task.specs.DraftSeen.{entry_seen, draft_seen}
+use Rattle.wf_task.specs.DraftSeen.{entry_seen}
 use Rattle.wf_task.specs.Judge.{entries_judged, is_among}
 use Rattle.std.specs.List.{position_from}
 use Rattle.wf_task.proofs.EntrySlots.{first_missing_is, first_twice_is}

@@ -1,8 +1,7 @@
-use Rattle.std.proofs.Common.{◌≡◌, ◌<◌, Contains, map, sym, ap, ◌∙◌, subst, arith, refl}
+use Rattle.std.proofs.Common.{Contains, sym, ap, ◌∙◌, subst, arith, refl}
 use Rattle.std.proofs.lemmas.Option.{slice_get_within}
 use Rattle.std.specs.Vec.{vec_items}
 use Rattle.wf_model.specs.Task.{IsSimplexWithin}
-use Rattle.wf_task.specs.DraftSeen.{entry_seen}
 use Rattle.wf_task.proofs.EntrySlots.{entry_within, found_step, stray_step}
 use Rattle.wf_task.proofs.slots.slots.Goals as goal
 use Rattle.wf_task.proofs.slots.slots.Goals.{in-Some, in-None}

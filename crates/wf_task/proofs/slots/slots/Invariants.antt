@@ -1,4 +1,4 @@
-use Rattle.std.proofs.Common.{◌≡◌, map, take, length}
+use Rattle.std.proofs.Common.{map, take}
 use Rattle.wf_task.specs.DraftSeen.{entry_seen}
 use Rattle.wf_task.specs.Slots.{AreOf}
 use Rattle.wf_task.proofs.slots.slots.Given as goal

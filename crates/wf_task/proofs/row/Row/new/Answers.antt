@@ -1,4 +1,4 @@
-use Rattle.std.proofs.Common.{◌≡◌, ◌≤◌, All, length, take, sym, ap, ◌∙◌, subst, arith}
+use Rattle.std.proofs.Common.{◌≤◌, All, length, take, sym, ap, ◌∙◌, subst}
 use Rattle.wf_task.specs.Filled.{filled}
 use Rattle.wf_task.proofs.Filled.{is_filled, take-filled, length-filled}
 use Rattle.wf_task.proofs.row.Row.new.Goals as goal

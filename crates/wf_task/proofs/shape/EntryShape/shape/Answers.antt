@@ -1,6 +1,5 @@
-use Rattle.std.proofs.Common.{◌≡◌, Some, option_map, option_and_then, length, sym, ap, ◌∙◌, arith}
-use Rattle.serde_json.specs.Find.{get}
-use Rattle.wf_task.specs.Shape.{simplex_of, tuples_of, rule_of}
+use Rattle.std.proofs.Common.{Some, option_map, option_and_then, sym, ap, ◌∙◌}
+use Rattle.wf_task.specs.Shape.{simplex_of, tuples_of}
 use Rattle.wf_task.proofs.Lists.{entry_found, numbers_seen, members_count}
 use Rattle.wf_task.proofs.shape.EntryShape.shape.Goals as goal
 

@@ -1,4 +1,4 @@
-use Rattle.std.proofs.Common.{◌≡◌, ◌<◌, Some, length, map, option_map, slice_get, slice_index_or, vec_items, sym, ap, ◌∙◌, arith}
+use Rattle.std.proofs.Common.{◌<◌, Some, length, map, option_map, slice_get, slice_index_or, vec_items, sym, ap, ◌∙◌, arith}
 use Rattle.std.proofs.lemmas.List.{length-map}
 use Rattle.wf_model.specs.Task.{Task}
 use Rattle.wf_task.proofs.TaskSeen.{length-rules_seen, tuples_of_rule}

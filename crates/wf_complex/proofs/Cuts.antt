@@ -1,0 +1,194 @@
+-- The executions that are laid out cut the list of places into the executions' parts.
+use Rattle.std.proofs.Common.{◌≡◌, ◌≤◌, ◌<◌, ℕ, zero, suc, ◌+◌, ◌*◌, ◌==◌, true, List, [], ◌∷◌, ◌++◌, map, flat_map, fold, take, drop, length, All, sym, refl, ap, ◌∙◌, subst, arith, eqb-true, append_assoc, length-append}
+use Rattle.std.specs.List.{AllByRecursion, list_all, enumerate_from}
+use Rattle.std.proofs.lemmas.Bool.{and_parts}
+use Rattle.std.proofs.lemmas.List.{map-append, take-map, drop-map}
+use Rattle.std.proofs.lemmas.List.Folds.{flat_map-map}
+use Rattle.std.proofs.lemmas.List.Elements.{All-from_recursion}
+use Rattle.std.proofs.Math.Seq.{take-append_seam, drop-append_seam}
+use Rattle.wf_model.specs.Lists.{lists_of}
+use Rattle.wf_model.specs.Simplex.{Simplex}
+use Rattle.wf_model.specs.Word.{Word, words}
+use Rattle.wf_model.specs.View.{View, base_views, round}
+use Rattle.wf_model.specs.Task.{Task, Rule, inputs, first_block}
+use Rattle.wf_model.specs.Execution as model
+use Rattle.wf_model.specs.Execution.{executions_on, executions, last_views}
+use Rattle.wf_complex.specs.declared.layout.Execution.{Execution}
+use Rattle.wf_complex.specs.Layout.{turns, place_total, execution_total, laid_on, laid_out}
+use Rattle.wf_complex.specs.Places.{part_of, EndsBy}
+use Rattle.wf_complex.specs.Protocol.{simplices_of}
+use Rattle.wf_complex.proofs.Bounds.{IsSized, words_long}
+use Rattle.wf_complex.proofs.RoundLemmas.{length-round}
+use Rattle.wf_complex.proofs.InputLemmas.{length-base_views}
+use Rattle.wf_complex.proofs.Executions.{length-lists_of}
+use Rattle.wf_complex.proofs.Different.{length-map, each_of, each_map}
+
+-- ---- cutting
+
+-- the executions lie one after another from place p on, and have these parts
+abbrev pub AreCut : {X : Type 0} → ℕ → List Execution → List (List X) → Type 0
+AreCut p [] [] = Unit {0}
+AreCut p [] (q ∷ qs) = ⊥
+AreCut p (e ∷ es) [] = ⊥
+AreCut p (e ∷ es) (q ∷ qs) = (e.place ≡ p) × ((e.size ≡ length q) × AreCut (p + length q) es qs)
+
+abbrev pub joined : {X : Type 0} → List (List X) → List X
+joined qs = flat_map (λ q. q) qs
+
+module _ {X : Type 0} where
+  first_part : (front q rest : List X) (e : Execution) → e.place ≡ length front → e.size ≡ length q → part_of (front ++ (q ++ rest)) e ≡ q
+  first_part front q rest e place size =
+      (λ i. take (size i) (drop (place i) (front ++ (q ++ rest))))
+      ∙ ap (take (length q)) (drop-append_seam front (q ++ rest))
+      ∙ take-append_seam q rest
+
+  cut_after : (front : List X) (es : List Execution) (qs : List (List X)) → AreCut (length front) es qs → map (part_of (front ++ joined qs)) es ≡ qs
+  cut_after front [] [] h = refl
+  cut_after front [] (q ∷ qs) h = absurd h
+  cut_after front (e ∷ es) [] h = absurd h
+  cut_after front (e ∷ es) (q ∷ qs) h =
+      let later : AreCut (length (front ++ q)) es qs = subst (λ n. AreCut n es qs) (sym (length-append front q)) h.1.1 in
+      let rest : map (part_of (front ++ (q ++ joined qs))) es ≡ qs = ap (λ xs. map (part_of xs) es) (sym (append_assoc front q (joined qs))) ∙ cut_after (front ++ q) es qs later in
+      λ i. first_part front q (joined qs) e h.0 h.1.0 i ∷ rest i
+
+  -- the parts of what they have together
+  pub parts_cut : (es : List Execution) (qs : List (List X)) → AreCut 0 es qs → map (part_of (joined qs)) es ≡ qs
+  parts_cut es qs h = cut_after [] es qs h
+
+pub part_of-map : {X Y : Type 0} (f : X → Y) (xs : List X) (e : Execution) → part_of (map f xs) e ≡ map f (part_of xs e)
+part_of-map f xs e = ap (take e.size) (drop-map f e.place xs) ∙ take-map f e.size (drop e.place xs)
+
+pub parts-map : {X Y : Type 0} (f : X → Y) (xs : List X) (es : List Execution) → map (part_of (map f xs)) es ≡ map (λ e. map f (part_of xs e)) es
+parts-map f xs [] = refl
+parts-map f xs (e ∷ es) = λ i. part_of-map f xs e i ∷ parts-map f xs es i
+
+-- ---- what is laid out
+
+suc_times : (m n : ℕ) → suc m * n ≡ n + m * n
+suc_times m n = grind arith
+
+laid_then : {X : Type 0} (k n c p : ℕ) (ps : List (List X)) → length ps ≡ c → AllByRecursion (λ q. length q ≡ n) ps → (es : List Execution) (qs : List (List X)) → AreCut (p + c * n) es qs → AreCut p (laid_on k n p c ++ es) (ps ++ qs)
+laid_then k n zero p [] long each es qs h = let e : p + 0 * n ≡ p = omega arith in subst (λ m. AreCut m es qs) e h
+laid_then k n zero p (q ∷ ps) long each es qs h = absurd (let none : ⊥ = omega (arith, long) in none)
+laid_then k n (suc c) p [] long each es qs h = absurd (let none : ⊥ = omega (arith, long) in none)
+laid_then k n (suc c) p (q ∷ ps) long each es qs h =
+    let e : p + suc c * n ≡ (p + n) + c * n = omega (arith, suc_times c n) in (
+      refl,
+      (
+        sym each.0,
+        subst (λ m. AreCut m (laid_on k n (p + n) c ++ es) (ps ++ qs)) (ap (λ m. p + m) (sym each.0)) (laid_then k n c (p + n) ps (omega (arith, long)) each.1 es qs (subst (λ m. AreCut m es qs) e h)),
+      ),
+    )
+
+pub each_long : (n : ℕ) (ws : List Word) → list_all (λ w. length w == n) ws ≡ true → AllByRecursion (λ w. length w ≡ n) ws
+each_long n [] h = tt
+each_long n (w ∷ ws) h =
+    let parts = and_parts (length w == n) (list_all (λ u. length u == n) ws) h in
+    (eqb-true (length w) n parts.0, each_long n ws parts.1)
+
+pub each_append : {X : Type 0} (P : X → Type 0) (xs ys : List X) → AllByRecursion P xs → AllByRecursion P ys → AllByRecursion P (xs ++ ys)
+each_append P [] ys h k = k
+each_append P (x ∷ xs) ys h k = (h.0, each_append P xs ys h.1 k)
+
+AllLong : ℕ → List Word → Type 0
+AllLong n ws = AllByRecursion (λ w. length w ≡ n) ws
+
+lists_long : (n : ℕ) (ws : List Word) → AllLong n ws → (r : ℕ) → AllByRecursion (AllLong n) (lists_of ws r)
+unfolding AllLong
+lists_long n ws h zero = (tt, tt)
+lists_long n ws h (suc r) = onto (lists_long n ws h r) ws h
+  where
+    onto : AllByRecursion (λ xs. AllByRecursion (λ w. length w ≡ n) xs) (lists_of ws r) → (us : List Word) → AllByRecursion (λ w. length w ≡ n) us → AllByRecursion (λ xs. AllByRecursion (λ w. length w ≡ n) xs) (flat_map (λ w. map (λ rest. w ∷ rest) (lists_of ws r)) us)
+    onto rests [] k = tt
+    onto rests (w ∷ us) k =
+        each_append (λ xs. AllByRecursion (λ w. length w ≡ n) xs) (map (λ rest. w ∷ rest) (lists_of ws r)) (flat_map (λ u. map (λ rest. u ∷ rest) (lists_of ws r)) us)
+        (each_map (λ xs. AllByRecursion (λ w. length w ≡ n) xs) (λ rest. w ∷ rest) (lists_of ws r)
+        (each_of (λ xs. AllByRecursion (λ w. length w ≡ n) xs) (λ xs. AllByRecursion (λ w. length w ≡ n) (w ∷ xs)) (λ xs j. (k.0, j)) (lists_of ws r) rests))
+        (onto rests us k.1)
+
+length-folded : (n : ℕ) (ws : List Word) (vs : List View) → AllLong n ws → length vs ≡ n → length (fold round vs ws) ≡ n
+unfolding AllLong
+length-folded n [] vs h e = e
+length-folded n (w ∷ ws) vs h e = length-folded n ws (round vs w) h.1 (length-round vs w (e ∙ sym h.0) ∙ e)
+
+long_words : (n : ℕ) → (1 ≤ n) × (n ≤ 4) → AllLong n (words 1 n)
+unfolding AllLong
+long_words n h = each_long n (words 1 n) (words_long n h.0 h.1)
+
+-- the last views of the executions on a rule are as many as its input has processes
+parts_long : (r : ℕ) (rule : Rule) → IsSized rule.input → AllByRecursion (λ q. length q ≡ length rule.input) (map last_views (executions_on 1 r rule))
+parts_long r rule h =
+    let n = length rule.input in
+    each_map (λ q. length q ≡ length rule.input) last_views (executions_on 1 r rule)
+    (each_map (λ e. length (last_views e) ≡ length rule.input) (λ ws. record { rule = rule; words = ws }) (lists_of (words 1 n) r)
+    (each_of (AllLong (length rule.input)) (λ ws. length (fold round (base_views rule.input) ws) ≡ length rule.input) (λ ws k. length-folded (length rule.input) ws (base_views rule.input) k (length-base_views rule.input)) (lists_of (words 1 n) r)
+    (lists_long (length rule.input) (words 1 n) (long_words n h) r)))
+
+parts_count : (r : ℕ) (rule : Rule) → length (map last_views (executions_on 1 r rule)) ≡ turns (length rule.input) r
+parts_count r rule =
+    length-map last_views (executions_on 1 r rule)
+    ∙ length-map (λ ws. record { rule = rule; words = ws }) (lists_of (words 1 (length rule.input)) r)
+    ∙ length-lists_of (length rule.input) r
+
+pub laid_out_cut : (r k p : ℕ) (rules : List Rule) → AllByRecursion IsSized (map (λ rule. rule.input) rules) → AreCut p (laid_out r k p (map (λ rule. rule.input) rules)) (map last_views (flat_map (executions_on 1 r) rules))
+laid_out_cut r k p [] h = tt
+laid_out_cut r k p (rule ∷ rules) h =
+    let n = length rule.input in
+    subst (AreCut p (laid_out r k p (map (λ rule. rule.input) (rule ∷ rules)))) (sym (map-append last_views (executions_on 1 r rule) (flat_map (executions_on 1 r) rules)))
+    (laid_then k n (turns n r) p (map last_views (executions_on 1 r rule)) (parts_count r rule) (parts_long r rule h.0) (laid_out r (k + 1) (p + turns n r * n) (map (λ rule. rule.input) rules)) (map last_views (flat_map (executions_on 1 r) rules))
+    (laid_out_cut r (k + 1) (p + turns n r * n) rules h.1))
+
+-- ---- where they end, and how many they are
+
+laid_on_ends : (k n c p m : ℕ) → p + c * n ≤ m → AllByRecursion (EndsBy m) (laid_on k n p c)
+laid_on_ends k n zero p m h = tt
+laid_on_ends k n (suc c) p m h = let e = suc_times c n in (omega (arith, h, e), laid_on_ends k n c (p + n) m (omega (arith, h, e)))
+
+laid_out_ends : (r k p m : ℕ) (ss : List Simplex) → p + place_total r ss ≤ m → AllByRecursion (EndsBy m) (laid_out r k p ss)
+laid_out_ends r k p m [] h = tt
+laid_out_ends r k p m (s ∷ ss) h =
+    each_append (EndsBy m) (laid_on k (length s) p (turns (length s) r)) (laid_out r (k + 1) (p + turns (length s) r * length s) ss)
+    (laid_on_ends k (length s) (turns (length s) r) p m (omega (arith, h)))
+    (laid_out_ends r (k + 1) (p + turns (length s) r * length s) m ss (omega (arith, h)))
+
+pub all_end : (r m : ℕ) (ss : List Simplex) → place_total r ss ≡ m → All (EndsBy m) (laid_out r 0 0 ss)
+all_end r m ss e = All-from_recursion (EndsBy m) (laid_out r 0 0 ss) (laid_out_ends r 0 0 m ss (omega (arith, e)))
+
+length-laid_on : (k n c p : ℕ) → length (laid_on k n p c) ≡ c
+length-laid_on k n zero p = refl
+length-laid_on k n (suc c) p = ap suc (length-laid_on k n c (p + n))
+
+pub length-laid_out : (r k p : ℕ) (ss : List Simplex) → length (laid_out r k p ss) ≡ execution_total r ss
+length-laid_out r k p [] = refl
+length-laid_out r k p (s ∷ ss) =
+    length-append (laid_on k (length s) p (turns (length s) r)) (laid_out r (k + 1) (p + turns (length s) r * length s) ss)
+    ∙ (λ i. length-laid_on k (length s) (turns (length s) r) p i + length-laid_out r (k + 1) (p + turns (length s) r * length s) ss i)
+
+-- ---- whose executions they are
+
+laid_on_simplices : {X : Type 0} (k n c p : ℕ) (xs : List X) → length xs ≡ c → map (λ (e : Execution). e.simplex) (laid_on k n p c) ≡ map (λ x. k) xs
+laid_on_simplices k n zero p [] h = refl
+laid_on_simplices k n zero p (x ∷ xs) h = absurd (let none : ⊥ = omega (arith, h) in none)
+laid_on_simplices k n (suc c) p [] h = absurd (let none : ⊥ = omega (arith, h) in none)
+laid_on_simplices k n (suc c) p (x ∷ xs) h = ap (λ ks. k ∷ ks) (laid_on_simplices k n c (p + n) xs (omega (arith, h)))
+
+on_rules : (r k p : ℕ) (rules : List Rule) →
+    map (λ (e : Execution). e.simplex) (laid_out r k p (map (λ rule. rule.input) rules)) ≡ flat_map (λ (at : ℕ × Rule). map (λ e. at.0) (executions_on 1 r at.1)) (enumerate_from k rules)
+on_rules r k p [] = refl
+on_rules r k p (rule ∷ rules) =
+    let n = length rule.input in
+    let count : length (executions_on 1 r rule) ≡ turns (length rule.input) r = sym (length-map last_views (executions_on 1 r rule)) ∙ parts_count r rule in
+    map-append (λ (e : Execution). e.simplex) (laid_on k n p (turns n r)) (laid_out r (k + 1) (p + turns n r * n) (map (λ rule. rule.input) rules))
+    ∙ (λ i. laid_on_simplices k n (turns n r) p (executions_on 1 r rule) count i ++ on_rules r (k + 1) (p + turns n r * n) rules i)
+
+module _ (t : Task) (r : ℕ) (whole : first_block t ≡ 1) where
+  pub laid_simplices : map (λ (e : Execution). e.simplex) (laid_out r 0 0 (inputs t)) ≡ simplices_of t r
+  laid_simplices = on_rules r 0 0 t.rules ∙ ap (λ m. flat_map (λ (at : ℕ × Rule). map (λ e. at.0) (executions_on m r at.1)) (enumerate_from 0 t.rules)) (sym whole)
+
+  -- the executions cut the list of all last views into theirs
+  pub last_views_cut : AllByRecursion IsSized (inputs t) → map (part_of (flat_map last_views (executions t r))) (laid_out r 0 0 (inputs t)) ≡ map last_views (executions t r)
+  last_views_cut sized =
+      let cut : AreCut 0 (laid_out r 0 0 (inputs t)) (map last_views (executions t r)) =
+      subst (λ m. AreCut 0 (laid_out r 0 0 (inputs t)) (map last_views (flat_map (executions_on m r) t.rules))) (sym whole) (laid_out_cut r 0 0 t.rules sized) in
+      ap (λ vs. map (part_of vs) (laid_out r 0 0 (inputs t))) (sym (flat_map-map (λ q. q) last_views (executions t r)))
+      ∙ parts_cut (laid_out r 0 0 (inputs t)) (map last_views (executions t r)) cut

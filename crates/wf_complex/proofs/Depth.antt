@@ -1,0 +1,138 @@
+-- After r rounds of n participants there are at most n * (r + 1) different views inside a view.
+use Rattle.std.proofs.Common.{◌≡◌, ◌<◌, ◌≤◌, ℕ, zero, suc, ◌+◌, ◌*◌, nat_le, false, not, All, List, [], ◌∷◌, ◌++◌, map, flat_map, filter, zip, length, sym, refl, ap, ◌∙◌, subst, inl, inr, arith, length-append}
+use Rattle.std.specs.List.{AllByRecursion, list_any}
+use Rattle.std.proofs.lemmas.Bool.{cases_Bool, or_cases, or_left, or_right, both_ways, false≢true}
+use Rattle.std.proofs.lemmas.List.Elements.{All-from_recursion}
+use Rattle.wf_model.specs.Lists.{distinct}
+use Rattle.wf_model.specs.Simplex.{Simplex}
+use Rattle.wf_model.specs.Word.{Word, words}
+use Rattle.wf_model.specs.View.{View, base, seen, views_of, process_of, same_view, base_views, visible, round}
+use Rattle.wf_model.proofs.Bridge.{Among, same_is, same_itself, weaker}
+use Rattle.wf_model.proofs.Headline.{both, each_distinct}
+use Rattle.wf_model.proofs.Fuel.{length_filter}
+use Rattle.wf_model.proofs.Numbers.{Apart, apart_distinct}
+use Rattle.wf_view.specs.Views.{view_at, views_within, views_within_each, count_within}
+use Rattle.wf_view.proofs.Within.{among_left, among_right}
+use Rattle.wf_complex.specs.Rounds.{views_at, leaves, leaves_of}
+use Rattle.wf_complex.proofs.Bounds.{IsSized, words_long}
+use Rattle.wf_complex.proofs.LayoutLemmas.{product_small}
+use Rattle.wf_complex.proofs.InputLemmas.{length-base_views}
+use Rattle.wf_complex.proofs.RoundLemmas.{length-round}
+use Rattle.wf_complex.proofs.Cuts.{each_append, each_long}
+
+-- ---- views that differ and are all among others are no more than those
+
+among_others : (w v : View) (zs : List View) → same_view w v ≡ false → Among zs v → Among (filter (λ z. not (same_view w z)) zs) v
+among_others w v [] other h = h
+among_others w v (z ∷ zs) other h =
+    elim (cases_Bool (same_view w z)) [
+      | inl same ↦ rw same (among_others w v zs other (elim (or_cases (same_view v z) (list_any (same_view v) zs) h) [
+        | inl here ↦ absurd (both_ways _ other (rw (same_is v z here) same))
+        | inr later ↦ later
+      ]))
+      | inr apart ↦ rw apart (elim (or_cases (same_view v z) (list_any (same_view v) zs) h) [
+        | inl here ↦ or_left _ _ here
+        | inr later ↦ or_right _ _ (among_others w v zs other later)
+      ])
+    ]
+
+fewer_others : (w : View) (zs : List View) → Among zs w → length (filter (λ z. not (same_view w z)) zs) < length zs
+fewer_others w [] h = absurd (false≢true h)
+fewer_others w (z ∷ zs) h =
+    elim (cases_Bool (same_view w z)) [
+      | inl same ↦ rw same (omega (arith, length_filter (λ y. not (same_view w y)) zs))
+      | inr apart ↦ rw apart (omega (arith, fewer_others w zs (elim (or_cases (same_view w z) (list_any (same_view w) zs) h) [ inl here ↦ absurd (both_ways _ apart here) | inr later ↦ later ])))
+    ]
+
+no_more : (ws zs : List View) → Apart ws → AllByRecursion (Among zs) ws → length ws ≤ length zs
+no_more [] zs h k = omega arith
+no_more (w ∷ ws) zs h k =
+    let rest = no_more ws (filter (λ z. not (same_view w z)) zs) h.1
+    (both (λ v. same_view w v ≡ false) (Among zs) (Among (filter (λ z. not (same_view w z)) zs)) (λ v other there. among_others w v zs other there) ws h.0 k.1) in
+    omega (arith, rest, fewer_others w zs k.0)
+
+-- ---- views of which all that is inside is among some views
+
+abbrev IsHeld : List View → View → Type 0
+IsHeld zs v = AllByRecursion (Among zs) (views_within v)
+
+few_within : (zs : List View) (v : View) → IsHeld zs v → count_within v ≤ length zs
+few_within zs v h = no_more (distinct same_view (views_within v)) zs (apart_distinct (views_within v)) (each_distinct (Among zs) same_view (views_within v) h)
+
+each_itself : (vs : List View) → AllByRecursion (Among vs) vs
+each_itself [] = tt
+each_itself (v ∷ vs) = (or_left _ _ (same_itself v), weaker (Among vs) (Among (v ∷ vs)) (λ w h. or_right _ _ h) vs (each_itself vs))
+
+within_each : (zs us : List View) → AllByRecursion (IsHeld zs) us → AllByRecursion (Among zs) (views_within_each (views_of us))
+within_each zs [] h = tt
+within_each zs (u ∷ us) h = each_append (Among zs) (views_within u) (views_within_each (views_of us)) h.0 (within_each zs us h.1)
+
+visible_each : (P : View → Type 0) (block : ℕ) (w : Word) (vs : List View) → AllByRecursion P vs → AllByRecursion P (visible block w vs)
+visible_each P block [] [] h = tt
+visible_each P block [] (v ∷ vs) h = tt
+visible_each P block (l ∷ w) [] h = tt
+visible_each P block (l ∷ w) (v ∷ vs) h =
+    elim (cases_Bool (nat_le l block)) [ inl sees ↦ rw sees (h.0, visible_each P block w vs h.1) | inr not_sees ↦ rw not_sees (visible_each P block w vs h.1) ]
+
+-- a round's views are held by those before it and its own
+held_round : (zs vs : List View) (w : Word) → AllByRecursion (IsHeld zs) vs → AllByRecursion (IsHeld (zs ++ round vs w)) (round vs w)
+held_round zs vs w h = onto w vs (weaker (Among (round vs w)) (Among (zs ++ round vs w)) (λ v k. among_right v zs (round vs w) k) (round vs w) (each_itself (round vs w)))
+  where
+    onto : (u : Word) (xs : List View) → AllByRecursion (Among (zs ++ round vs w)) (map (λ (q : ℕ × View). seen (process_of q.1) (views_of (visible q.0 w vs))) (zip u xs)) →
+        AllByRecursion (IsHeld (zs ++ round vs w)) (map (λ (q : ℕ × View). seen (process_of q.1) (views_of (visible q.0 w vs))) (zip u xs))
+    onto [] [] k = tt
+    onto [] (x ∷ xs) k = tt
+    onto (l ∷ u) [] k = tt
+    onto (l ∷ u) (x ∷ xs) k = (
+      (
+        k.0,
+        weaker (Among zs) (Among (zs ++ round vs w)) (λ v a. among_left v zs (round vs w) a) (views_within_each (views_of (visible l w vs))) (within_each zs (visible l w vs) (visible_each (IsHeld zs) l w vs h)),
+      ),
+      onto u xs k.1,
+    )
+
+-- ---- rounds after rounds
+
+suc_times : (m n : ℕ) → suc m * n ≡ n + m * n
+suc_times m n = grind arith
+
+bound_more : (zs vs : List View) (w : Word) (n k : ℕ) → length vs ≡ n → length vs ≡ length w → length (zs ++ round vs w) + k * n ≤ length zs + suc k * n
+bound_more zs vs w n k long e = omega (arith, length-append zs (round vs w), length-round vs w e, long, suc_times k n)
+
+leaves_shallow : (n : ℕ) (ws : List Word) → AllByRecursion (λ w. length w ≡ n) ws → (k : ℕ) (vs zs : List View) → length vs ≡ n → AllByRecursion (IsHeld zs) vs → AllByRecursion (λ v. count_within v ≤ length zs + k * n) (leaves ws k vs)
+leaves_shallow n ws h zero vs zs long held = weaker (IsHeld zs) (λ v. count_within v ≤ length zs + 0 * n) (λ v k. omega (arith, few_within zs v k)) vs held
+leaves_shallow n ws h (suc k) vs zs long held = onto (λ us ys e j. leaves_shallow n ws h k us ys e j) ws h
+  where
+    onto : ((us ys : List View) → length us ≡ n → AllByRecursion (IsHeld ys) us → AllByRecursion (λ v. count_within v ≤ length ys + k * n) (leaves ws k us)) → (all : List Word) → AllByRecursion (λ w. length w ≡ n) all →
+        AllByRecursion (λ v. count_within v ≤ length zs + suc k * n) (flat_map (λ w. leaves ws k (round vs w)) all)
+    onto next [] j = tt
+    onto next (w ∷ all) j =
+        let e : length vs ≡ length w = long ∙ sym j.0 in
+        each_append (λ v. count_within v ≤ length zs + suc k * n) (leaves ws k (round vs w)) (flat_map (λ u. leaves ws k (round vs u)) all)
+        (weaker (λ v. count_within v ≤ length (zs ++ round vs w) + k * n) (λ v. count_within v ≤ length zs + suc k * n) (λ v few. omega (arith, few, bound_more zs vs w n k long e)) (leaves ws k (round vs w))
+        (next (round vs w) (zs ++ round vs w) (length-round vs w e ∙ long) (held_round zs vs w held)))
+        (onto next all j.1)
+
+held_bases : (zs : List View) (s : Simplex) → AllByRecursion (Among zs) (base_views s) → AllByRecursion (IsHeld zs) (base_views s)
+held_bases zs [] h = tt
+held_bases zs (v ∷ s) h = ((h.0, tt), held_bases zs s h.1)
+
+on_simplex : (r : ℕ) (s : Simplex) → r ≤ 8 → IsSized s → AllByRecursion (λ v. count_within v ≤ 36) (leaves_of r s)
+on_simplex r s rounds h =
+    let few : r * length s ≤ 8 * 4 = product_small r (length s) 8 4 rounds h.1 in
+    weaker (λ v. count_within v ≤ length (base_views s) + r * length s) (λ v. count_within v ≤ 36) (λ v k. omega (arith, k, few, length-base_views s, h.1)) (leaves_of r s)
+    (leaves_shallow (length s) (words 1 (length s)) (each_long (length s) (words 1 (length s)) (words_long (length s) h.0 h.1)) r (base_views s) (base_views s) (length-base_views s) (held_bases (base_views s) s (each_itself (base_views s))))
+
+on_simplices : (r : ℕ) (ss : List Simplex) → r ≤ 8 → AllByRecursion IsSized ss → AllByRecursion (λ v. count_within v ≤ 36) (flat_map (leaves_of r) ss)
+on_simplices r [] rounds h = tt
+on_simplices r (s ∷ ss) rounds h = each_append (λ v. count_within v ≤ 36) (leaves_of r s) (flat_map (leaves_of r) ss) (on_simplex r s rounds h.0) (on_simplices r ss rounds h.1)
+
+by_number : (P : View → Type 0) (table : List View) (ids : List ℕ) → AllByRecursion P (views_at table ids) → AllByRecursion (λ k. P (view_at table k)) ids
+by_number P table [] h = tt
+by_number P table (k ∷ ids) h = (h.0, by_number P table ids h.1)
+
+-- at most 36 views are inside a last view of at most 8 rounds
+pub lasts_shallow : (r : ℕ) (ss : List Simplex) → r ≤ 8 → AllByRecursion IsSized ss → (table : List View) (lasts : List ℕ) → views_at table lasts ≡ flat_map (leaves_of r) ss → All (λ k. count_within (view_at table k) ≤ 36) lasts
+lasts_shallow r ss rounds h table lasts made =
+    All-from_recursion (λ k. count_within (view_at table k) ≤ 36) lasts
+    (by_number (λ v. count_within v ≤ 36) table lasts (subst (AllByRecursion (λ v. count_within v ≤ 36)) (sym made) (on_simplices r ss rounds h)))

@@ -1,0 +1,163 @@
+-- Numbers of a table without doubles: different numbers are different views, and first places are first views.
+use Rattle.std.proofs.Common.{◌≡◌, ◌<◌, ◌≤◌, ℕ, zero, suc, ◌+◌, ◌==◌, Bool, true, false, not, cond, List, [], ◌∷◌, map, filter, drop, length, get_or, slice_index, All, sym, refl, ap, ◌∙◌, subst, arith, eqb-true, eq-eqb, inl, inr}
+use Rattle.std.specs.List.{AllByRecursion, range_with_len}
+use Rattle.std.specs.Cmp.{both_ways}
+use Rattle.std.proofs.lemmas.Bool.{false_from_ne_true, cases_Bool}
+use Rattle.std.proofs.lemmas.Bool as bool
+use Rattle.std.proofs.lemmas.List.{get_or-map, drop_more, drop_all}
+use Rattle.std.proofs.lemmas.List.Elements.{recursion_from_All, All-from_recursion, All-get_or}
+use Rattle.wf_model.specs.Lists.{distinct, below}
+use Rattle.wf_model.specs.View.{View, base, same_view}
+use Rattle.wf_model.specs.Problem.{number_of}
+use Rattle.wf_model.proofs.Bridge.{same_itself, same_is}
+use Rattle.wf_model.proofs.Headline.{each_distinct}
+use Rattle.wf_model.proofs.Numbers.{Apart, apart_distinct, map_distinct}
+use Rattle.wf_view.specs.Views.{view_at}
+use Rattle.wf_complex.specs.Rounds.{views_at}
+use Rattle.wf_complex.specs.Numbering.{same_at, first_places}
+
+-- ---- lists by their places
+
+pub length-map : {X Y : Type 0} (f : X → Y) (xs : List X) → length (map f xs) ≡ length xs
+length-map f [] = refl
+length-map f (x ∷ xs) = ap suc (length-map f xs)
+
+pub map-map : {X Y Z : Type 0} (f : Y → Z) (g : X → Y) (xs : List X) → map f (map g xs) ≡ map (λ x. f (g x)) xs
+map-map f g [] = refl
+map-map f g (x ∷ xs) = ap (λ ys. f (g x) ∷ ys) (map-map f g xs)
+
+pub map_agrees : {X Y : Type 0} (f g : X → Y) (xs : List X) → AllByRecursion (λ x. f x ≡ g x) xs → map f xs ≡ map g xs
+map_agrees f g [] h = refl
+map_agrees f g (x ∷ xs) h = λ i. h.0 i ∷ map_agrees f g xs h.1 i
+
+pub each_of : {X : Type 0} (P Q : X → Type 0) → ((x : X) → P x → Q x) → (xs : List X) → AllByRecursion P xs → AllByRecursion Q xs
+each_of P Q f [] h = tt
+each_of P Q f (x ∷ xs) h = (f x h.0, each_of P Q f xs h.1)
+
+pub each_map : {X Y : Type 0} (P : Y → Type 0) (f : X → Y) (xs : List X) → AllByRecursion (λ x. P (f x)) xs → AllByRecursion P (map f xs)
+each_map P f [] h = tt
+each_map P f (x ∷ xs) h = (h.0, each_map P f xs h.1)
+
+rest_by_place : {X : Type 0} (xs : List X) (d : X) (n a : ℕ) → a + n ≡ length xs → map (λ j. get_or xs j d) (range_with_len a n) ≡ drop a xs
+rest_by_place xs d zero a e = sym (drop_all a xs (omega (arith, e)))
+rest_by_place xs d (suc n) a e =
+    ap (λ ys. get_or xs a d ∷ ys) (rest_by_place xs d n (a + 1) (omega (arith, e))) ∙ sym (drop_more xs a d (omega (arith, e)))
+
+-- a list is what stands at its places
+pub by_place : {X : Type 0} (xs : List X) (d : X) → map (λ j. get_or xs j d) (below (length xs)) ≡ xs
+by_place xs d = rest_by_place xs d (length xs) 0 (omega arith)
+
+all_in_range : (a n m : ℕ) → a + n ≤ m → AllByRecursion (λ j. j < m) (range_with_len a n)
+all_in_range a zero m h = tt
+all_in_range a (suc n) m h = (omega (arith, h), all_in_range (a + 1) n m (omega (arith, h)))
+
+-- ---- two tests that agree
+
+filter_agrees : {X : Type 0} (p q : X → Bool) (xs : List X) → AllByRecursion (λ x. p x ≡ q x) xs → filter p xs ≡ filter q xs
+filter_agrees p q [] h = refl
+filter_agrees p q (x ∷ xs) h = λ i. cond (h.0 i) (x ∷ filter_agrees p q xs h.1 i) (filter_agrees p q xs h.1 i)
+
+module _ {X : Type 0} (same other : X → X → Bool) (P : X → Type 0) (agree : (x y : X) → P x → P y → same x y ≡ other x y) where
+  each_agrees : (x : X) → P x → (ys : List X) → AllByRecursion P ys → AllByRecursion (λ y. not (same x y) ≡ not (other x y)) ys
+  each_agrees x h [] k = tt
+  each_agrees x h (y ∷ ys) k = (ap not (agree x y h k.0), each_agrees x h ys k.1)
+
+  pub distinct_agrees : (xs : List X) → AllByRecursion P xs → distinct same xs ≡ distinct other xs
+  distinct_agrees [] h = refl
+  distinct_agrees (x ∷ xs) h =
+      ap (λ ys. x ∷ ys)
+      (ap (filter (λ y. not (same x y))) (distinct_agrees xs h.1)
+      ∙ filter_agrees (λ y. not (same x y)) (λ y. not (other x y)) (distinct other xs) (each_agrees x h.0 (distinct other xs) (each_distinct P other xs h.1)))
+
+-- the different ones of a list whose elements are told apart as numbers are, place by place
+pub distinct_by_place : {X : Type 0} (f : ℕ → X) (same : X → X → Bool) (ids : List ℕ) → ((i j : ℕ) → i < length ids → j < length ids → same (f i) (f j) ≡ same_at ids i j) →
+    distinct same (map f (below (length ids))) ≡ map f (first_places ids (length ids))
+distinct_by_place f same ids agree =
+    sym (map_distinct f same (below (length ids)))
+    ∙ ap (map f) (distinct_agrees (λ i j. same (f i) (f j)) (same_at ids) (λ j. j < length ids) (λ i j h k. agree i j h k) (below (length ids)) (all_in_range 0 (length ids) (length ids) (omega arith)))
+
+length-filter : {X : Type 0} (p : X → Bool) (xs : List X) → length (filter p xs) ≤ length xs
+length-filter p [] = omega arith
+length-filter p (x ∷ xs) =
+    elim (cases_Bool (p x)) [ inl pass ↦ rw pass (omega (arith, length-filter p xs)) | inr fail ↦ rw fail (omega (arith, length-filter p xs)) ]
+
+pub length-distinct : {X : Type 0} (same : X → X → Bool) (xs : List X) → length (distinct same xs) ≤ length xs
+length-distinct same [] = omega arith
+length-distinct same (x ∷ xs) = omega (arith, length-filter (λ y. not (same x y)) (distinct same xs), length-distinct same xs)
+
+length-range : (a n : ℕ) → length (range_with_len a n) ≡ n
+length-range a zero = refl
+length-range a (suc n) = ap suc (length-range (a + 1) n)
+
+length-first_places : (ids : List ℕ) (n : ℕ) → length (first_places ids n) ≤ n
+length-first_places ids n = omega (arith, length-distinct (same_at ids) (below n), length-range 0 n)
+
+first_places_low : (ids : List ℕ) → AllByRecursion (λ j. j < length ids) (first_places ids (length ids))
+first_places_low ids = each_distinct (λ j. j < length ids) (same_at ids) (below (length ids)) (all_in_range 0 (length ids) (length ids) (omega arith))
+
+-- each number stands first at a place of the list
+pub firsts_low : (ids firsts : List ℕ) → firsts ≡ first_places ids (length ids) → All (λ j. j < length ids) firsts
+firsts_low ids firsts first = subst (All (λ j. j < length ids)) (sym first) (All-from_recursion (λ j. j < length ids) (first_places ids (length ids)) (first_places_low ids))
+
+pub few_firsts : (ids firsts : List ℕ) → firsts ≡ first_places ids (length ids) → length firsts ≤ length ids
+few_firsts ids firsts first = omega (arith, ap length first, length-first_places ids (length ids))
+
+-- what holds of all numbers of a list holds of those at some places
+pub all_picked : (P : ℕ → Type 0) (ids places : List ℕ) → All P ids → All (λ j. j < length ids) places → All P (map (λ j. slice_index ids j) places)
+all_picked P ids places h low =
+    All-from_recursion P (map (λ j. slice_index ids j) places)
+    (each_map P (λ j. slice_index ids j) places
+    (each_of (λ j. j < length ids) (λ j. P (slice_index ids j)) (λ j k. All-get_or P ids j 0 k h) places (recursion_from_All (λ j. j < length ids) places low)))
+
+-- ---- a table without doubles
+
+abbrev pub IsOnce : List View → Type 0
+IsOnce table = distinct same_view table ≡ table
+
+pub apart_once : (table : List View) → IsOnce table → Apart table
+apart_once table once = subst Apart once (apart_distinct table)
+
+at_place : {X : Type 0} (P : X → Type 0) (xs : List X) (i : ℕ) (d : X) → i < length xs → AllByRecursion P xs → P (get_or xs i d)
+at_place P [] i d h a = absurd (let none : ⊥ = omega (arith, h) in none)
+at_place P (x ∷ xs) zero d h a = a.0
+at_place P (x ∷ xs) (suc i) d h a = at_place P xs i d (omega (arith, h)) a.1
+
+other_way : (v w : View) → same_view v w ≡ false → same_view w v ≡ false
+other_way v w h = false_from_ne_true (same_view w v) (λ same. bool.both_ways (same_view v w) h (subst (λ x. same_view v x ≡ true) (sym (same_is w v same)) (same_itself v)))
+
+-- the number of the view at a place is the place
+pub number_at : (table : List View) → Apart table → (i : ℕ) (d : View) → i < length table → number_of table (get_or table i d) ≡ i
+number_at [] apart i d h = absurd (let none : ⊥ = omega (arith, h) in none)
+number_at (v ∷ vs) apart zero d h = rw (same_itself v) refl
+number_at (v ∷ vs) apart (suc i) d h =
+    let low : i < length vs = omega (arith, h) in
+    let other : same_view (get_or vs i d) v ≡ false = other_way v (get_or vs i d) (at_place (λ w. same_view v w ≡ false) vs i d low apart.0) in
+    rw other (ap suc (number_at vs apart.1 i d low))
+
+-- views are told apart by their numbers
+pub same_by_number : (table : List View) → Apart table → (i j : ℕ) → i < length table → j < length table → same_view (view_at table i) (view_at table j) ≡ (i == j)
+same_by_number table apart i j h k =
+    both_ways (same_view (view_at table i) (view_at table j)) (i == j)
+    (λ same. eq-eqb i j (sym (number_at table apart i (base 0 0) h) ∙ ap (number_of table) (same_is (view_at table i) (view_at table j) same) ∙ number_at table apart j (base 0 0) k))
+    (λ same. subst (λ n. same_view (view_at table i) (view_at table n) ≡ true) (eqb-true i j same) (same_itself (view_at table i)))
+
+module _ (table : List View) (once : IsOnce table) (ids : List ℕ) (within : All (λ k. k < length table) ids) where
+  pub there : (i : ℕ) → i < length ids → slice_index ids i < length table
+  there i h = at_place (λ k. k < length table) ids i 0 h (recursion_from_All (λ k. k < length table) ids within)
+
+  pub agree_there : (i j : ℕ) → i < length ids → j < length ids → same_view (view_at table (slice_index ids i)) (view_at table (slice_index ids j)) ≡ same_at ids i j
+  agree_there i j h k = same_by_number table (apart_once table once) (slice_index ids i) (slice_index ids j) (there i h) (there j k)
+
+  -- the different views of these numbers are those at the first places
+  pub distinct_views : distinct same_view (views_at table ids) ≡ views_at table (map (λ j. slice_index ids j) (first_places ids (length ids)))
+  distinct_views =
+      ap (λ xs. distinct same_view (views_at table xs)) (sym (by_place ids 0))
+      ∙ ap (distinct same_view) (map-map (view_at table) (λ j. slice_index ids j) (below (length ids)))
+      ∙ distinct_by_place (λ j. view_at table (slice_index ids j)) same_view ids agree_there
+      ∙ sym (map-map (view_at table) (λ j. slice_index ids j) (first_places ids (length ids)))
+
+  pub length-distinct_views : length (distinct same_view (views_at table ids)) ≡ length (first_places ids (length ids))
+  length-distinct_views =
+      ap length distinct_views
+      ∙ length-map (view_at table) (map (λ j. slice_index ids j) (first_places ids (length ids)))
+      ∙ length-map (λ j. slice_index ids j) (first_places ids (length ids))

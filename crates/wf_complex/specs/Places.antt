@@ -1,0 +1,22 @@
+-- Which process stands at each place of the executions.
+use Rattle.std.specs.Prelude.{ℕ, ◌+◌, ◌≤◌, List, map, take, drop}
+use Rattle.wf_model.specs.View.{View, process_of}
+use Rattle.wf_view.specs.Views.{view_at}
+use Rattle.wf_complex.specs.declared.layout.Execution.{Execution}
+use Rattle.wf_complex.specs.declared.places.Place.{Place}
+
+-- what stands at the places of an execution
+abbrev pub part_of : {X : Type 0} → List X → Execution → List X
+part_of xs e = take e.size (drop e.place xs)
+
+-- an execution whose places are among the first n
+abbrev pub EndsBy : ℕ → Execution → Type 0
+EndsBy n e = e.place + e.size ≤ n
+
+-- the place of a process in an execution, by its last view
+abbrev pub place_of : List View → ℕ → ℕ → Place
+place_of table execution id = record { execution = execution; process = process_of (view_at table id) }
+
+-- the places of an execution that has a number
+abbrev pub places_on : List View → List ℕ → ℕ × Execution → List Place
+places_on table lasts at = map (place_of table at.0) (part_of lasts at.1)

@@ -1,0 +1,40 @@
+use Rattle.std.proofs.Common.{◌≡◌, All, map, flat_map, vec_items, sym, ap, ◌∙◌, subst, arith, refl}
+use Rattle.wf_model.specs.Simplex.{values_of}
+use Rattle.wf_model.specs.Task.{IsTask}
+use Rattle.wf_task.specs.DraftSeen.{draft_seen, entry_seen}
+use Rattle.wf_task.specs.Mask.{IsMaskOf}
+use Rattle.wf_task.specs.TaskSeen.{rules_seen}
+use Rattle.wf_task.specs.Tuples.{NamesRows, rows_at}
+use Rattle.wf_task.proofs.Judged.{are_judged}
+use Rattle.wf_task.proofs.Drafted.{slots_of_faultless, rows_of_faultless, rules_of_faultless, task_is, drafted_is_task, has_in_order, has_from_order}
+use Rattle.wf_task.proofs.task.drafted.Goals as goal
+
+pub all_rows-requires : goal.all_rows-requires
+all_rows-requires c =
+    let listed = draft_seen c.args.draft.now in
+    subst (λ es. All (NamesRows (map entry_seen es)) c.args.slots.now) (sym c.deref.ensures.value) (slots_of_faultless listed c.args.slots.now c.args.inputs c.requires.faultless c.requires.inputs c.requires.slots)
+
+pub overflow_cast-result : goal.overflow_cast-result
+overflow_cast-result c = let few = (are_judged (draft_seen c.args.draft.now) tt c.requires.faultless.numbers).few in omega (arith, few)
+
+pub invariant_of-result : goal.invariant_of-result
+invariant_of-result c =
+    let listed = draft_seen c.args.draft.now in
+    let rows = map vec_items c.in_ok-tuples.tuples.items in
+    let made : rows ≡ map (rows_at listed.delta) c.args.slots.now = c.in_ok-tuples.ensures ∙ ap (λ es. map (rows_at (map entry_seen es)) c.args.slots.now) c.deref.ensures.value in
+    let rules = rules_of_faultless listed c.args.slots.now c.args.inputs rows c.requires.faultless c.requires.inputs c.requires.slots made in
+    let seen = task_is listed (rules_seen c.args.inputs rows) c.args.outputs _ refl rules c.requires.outputs in
+    let mask = subst (λ os. IsMaskOf c.mask-values.result (flat_map values_of os)) c.simplices.ensures.simplices c.mask-values.ensures in
+    record {
+      task = subst IsTask (sym seen) (drafted_is_task listed c.requires.faultless);
+      each = rows_of_faultless listed c.args.slots.now c.args.inputs rows c.requires.faultless c.requires.inputs c.requires.slots made;
+      values = λ v low. (λ e. has_in_order v (flat_map values_of c.args.outputs) ((mask v low).0 e), λ e. (mask v low).1 (has_from_order v (flat_map values_of c.args.outputs) e));
+    }
+
+pub returns : goal.returns
+returns c =
+    let listed = draft_seen c.args.draft.now in
+    let rows = map vec_items c.in_ok-tuples.tuples.items in
+    let made : rows ≡ map (rows_at listed.delta) c.args.slots.now = c.in_ok-tuples.ensures ∙ ap (λ es. map (rows_at (map entry_seen es)) c.args.slots.now) c.deref.ensures.value in
+    let rules = rules_of_faultless listed c.args.slots.now c.args.inputs rows c.requires.faultless c.requires.inputs c.requires.slots made in
+    task_is listed (rules_seen c.args.inputs rows) c.args.outputs _ refl rules c.requires.outputs

@@ -1,0 +1,7 @@
+use Rattle.std.proofs.Common.{◌≡◌, drop}
+use Rattle.wf_task.specs.DraftSeen.{draft_seen}
+use Rattle.wf_task.specs.Judge.{first_answer, wrong_length}
+use Rattle.wf_task.proofs.tuples.first_wrong_length.Given as goal
+
+abbrev pub invariant-loop-number : goal.invariant-loop-number
+invariant-loop-number l = first_answer (wrong_length (draft_seen l.draft)) l.number (drop l.number l.inputs) ≡ first_answer (wrong_length (draft_seen l.draft)) 0 l.inputs

@@ -1,0 +1,26 @@
+use Rattle.std.proofs.Common.{◌≡◌, Bool, true, false, IsTrue, Contains, length, zip, not, ap, sym, ◌∙◌, subst}
+use Rattle.wf_model.specs.Simplex.{processes_of}
+use Rattle.wf_task.specs.Judge.{is_among}
+use Rattle.wf_task.specs.Tuples.{IsTupleOf}
+use Rattle.wf_task.proofs.EntrySlots.{among-absent}
+use Rattle.wf_task.proofs.TupleLemmas.{seen_here, first_here}
+use Rattle.wf_task.proofs.tuples.no_output.Goals as goal
+
+not_both : (b : Bool) → b ≡ false → IsTrue b → ⊥
+not_both true e h = cc
+not_both false e h = cc
+
+pub on_processes-requires : goal.on_processes-requires
+on_processes-requires c =
+    subst (IsTupleOf (length c.args.simplex.now)) (sym c.deref.ensures.value)
+    (seen_here (IsTupleOf (length c.args.simplex.now)) (λ t. t.items) c.args.lists.now c.loop-place.place c.index-lists-place.result c.loop-place-test.true c.index-lists-place.is c.requires)
+
+pub returns-then-not-contains : goal.returns-then-not-contains
+returns-then-not-contains c =
+    let outputs = c.args.outputs.now in
+    let s = c.args.simplex.now in
+    let made = c.on_processes.ensures ∙ ap (zip (processes_of s)) c.deref.ensures.value in
+    let absent = among-absent outputs (zip (processes_of s) c.index-lists-place.result.items)
+    (λ here. not_both c.contains.result c.if-not-contains.true (c.contains.ensures.1 (subst (Contains outputs) (sym made) here))) in
+    first_here (λ tuple. not (is_among outputs (zip (processes_of s) tuple))) (λ t. t.items) c.args.lists.now c.loop-place.place c.index-lists-place.result c.loop-place-test.true c.index-lists-place.is (ap not absent)
+    ∙ c.loop-place.invariant

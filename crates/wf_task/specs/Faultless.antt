@@ -1,0 +1,20 @@
+-- Drafts that were read and judged.
+use Rattle.std.specs.Prelude.{◌≡◌, ◌==◌, true, false, All, length, Ok}
+use Rattle.wf_model.specs.Simplex.{is_nonempty, complex_of}
+use Rattle.wf_task.specs.Draft.{Listed}
+use Rattle.wf_task.specs.Judge.{numbers_judged, sizes_judged, entries_judged, tuples_judged}
+
+-- each listed simplex has a vertex
+pub record ListsVertices (listed : Listed) : Type 0 where
+  pub inputs : All (λ s. is_nonempty s ≡ true) listed.inputs
+  pub outputs : All (λ s. is_nonempty s ≡ true) listed.outputs
+  pub entries : All (λ rule. is_nonempty rule.input ≡ true) listed.delta
+
+-- what the judgement of a draft without a fault went through
+pub record IsFaultless (listed : Listed) : Type 0 where
+  pub vertices : ListsVertices listed
+  pub numbers : numbers_judged listed ≡ Ok tt
+  pub sizes : sizes_judged listed (complex_of listed.inputs) ≡ Ok tt
+  pub entries : entries_judged listed (complex_of listed.inputs) ≡ Ok tt
+  pub tuples : tuples_judged listed (complex_of listed.inputs) ≡ Ok tt
+  pub input : (length listed.inputs == 0) ≡ false

@@ -1,0 +1,82 @@
+ghost use Rattle.std.specs.Prelude.{◌≡◌, ◌≤◌, All, List, map, flat_map, length, vec_items, IfOk};
+ghost use Rattle.std.specs.Ordering.{nat_cmp};
+ghost use Rattle.std.specs.Cmp.Lexicographic.{slice_cmp};
+ghost use Rattle.wf_model.specs.Lists.{in_order};
+ghost use Rattle.wf_model.specs.Simplex.{values_of};
+ghost use Rattle.wf_task.specs.DraftSeen.{entry_seen};
+ghost use Rattle.wf_task.specs.Mask.{IsMaskOf};
+ghost use Rattle.wf_task.specs.Tuples.{IsRow, NamesRows, rows_at};
+
+use crate::row::Row;
+use crate::shape::Entry;
+use crate::slots::Slot;
+use crate::tuples::lists_at;
+use std::alloc::{AllocError, Global};
+use std::collections::BTreeSet;
+use wf_simplex::Simplex;
+
+/// The row of a value list.
+fn row_of(values: &[u64]) -> Row
+    requires { IsRow values.now }
+    ensures { result ≡ values.now }
+{
+    let mut small = [0u8; 4];
+    for (place, value) in values.iter().enumerate() {
+        small[place] = *value as u8;
+    }
+    Row::new(&small[..values.len()])
+}
+
+/// The rows of value lists: ascending, each once. It takes n log n steps.
+fn rows(alloc: Global, lists: &[Vec<u64>]) -> Result<Vec<Row>, AllocError>
+    requires { All IsRow (map (λ t. t.items) lists.now) }
+    ensures { IfOk result (λ rows. rows.items ≡ in_order (slice_cmp nat_cmp) (map (λ t. t.items) lists.now)) }
+{
+    let mut rows = BTreeSet::new(alloc);
+    for list in lists {
+        rows.insert(row_of(list))?;
+    }
+    rows.into_iter().collect(alloc)
+}
+
+/// The rows of the entry that each slot names.
+pub(crate) fn all_rows(
+    alloc: Global,
+    delta: &[Entry],
+    slots: &[Slot],
+) -> Result<Vec<Vec<Row>>, AllocError>
+    requires { All (NamesRows (map entry_seen delta.now)) slots.now }
+    ensures { IfOk result (λ found. map vec_items found.items ≡ map (rows_at (map entry_seen delta.now)) slots.now) }
+{
+    let mut found = Vec::new(alloc);
+    for slot in slots {
+        found.push(rows(alloc, lists_at(delta, *slot))?)?;
+    }
+    Ok(found)
+}
+
+/// The values of a simplex as bits.
+fn mask_of(simplex: &Simplex) -> u64
+    ensures { IsMaskOf result (values_of simplex.now) }
+{
+    let mut mask = 0u64;
+    for place in 0..simplex.colours() {
+        let process = simplex.colour(place);
+        let Some(value) = simplex.value(process) else {
+            unreachable!()
+        };
+        mask |= 1 << value;
+    }
+    mask
+}
+
+/// The values of some simplices as bits.
+pub(crate) fn mask(simplices: &[Simplex]) -> u64
+    ensures { IsMaskOf result (flat_map values_of simplices.now) }
+{
+    let mut mask = 0u64;
+    for simplex in simplices {
+        mask |= mask_of(simplex);
+    }
+    mask
+}
