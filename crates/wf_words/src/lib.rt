@@ -20,6 +20,11 @@ pub enum Job {
         /// Whether the lines of a refutation are left out. Today they are.
         verdict: bool,
     },
+    /// List the points of a task's protocol complex after some rounds.
+    Views {
+        /// How many rounds.
+        rounds: u32,
+    },
 }
 
 /// Why words are no job.
@@ -73,13 +78,22 @@ fn solve_command<'a>(alloc: Global) -> Result<Command<'a>, AllocError> {
         .arg(verdict)
 }
 
+fn views_command<'a>(alloc: Global) -> Result<Command<'a>, AllocError> {
+    Command::new(alloc, "views")
+        .about(
+            "Read a task on standard input, and list the points of its protocol complex by first appearance",
+        )
+        .arg(number(alloc, "rounds", "How many rounds of immediate snapshots"))
+}
+
 fn whole_command<'a>(alloc: Global) -> Result<Command<'a>, AllocError> {
     Command::new(alloc, "wfcheck")
         .about(
             "Decide whether a task can be solved wait-free in r rounds of iterated immediate snapshots",
         )
         .subcommand_required(true)
-        .subcommand(solve_command(alloc)?)
+        .subcommand(solve_command(alloc)?)?
+        .subcommand(views_command(alloc)?)
 }
 
 /// The job of `solve`, where it asks for no more than what is there: one worker, and the verdict form.
@@ -97,6 +111,14 @@ fn solve_job(found: &ArgMatches<'_>) -> Option<Job>
         workers,
         verdict,
     })
+}
+
+/// The job of `views`.
+fn views_job(found: &ArgMatches<'_>) -> Option<Job>
+    ensures { IfSome result IsWithinLimits }
+{
+    let rounds = found.get_one::<u32>("rounds")?;
+    Some(Job::Views { rounds })
 }
 
 /// What the words ask for. The first is the program's own name.
@@ -118,6 +140,7 @@ pub fn read_words(alloc: Global, words: &[String]) -> Result<Job, WordsFault>
     };
     match found.subcommand() {
         Some(("solve", inner)) => solve_job(inner).ok_or(WordsFault::Words),
+        Some(("views", inner)) => views_job(inner).ok_or(WordsFault::Words),
         _ => Err(WordsFault::Words),
     }
 }
