@@ -10,3 +10,6 @@ mod fits;
 mod search;
 
 pub use search::least_map;
+
+#[cfg(test)]
+mod tests;
