@@ -21,3 +21,5 @@ pub use task::Task;
 
 #[cfg(test)]
 mod tests;
+#[cfg(test)]
+mod text_tests;
