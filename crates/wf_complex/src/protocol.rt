@@ -158,7 +158,7 @@ impl Protocol {
 }
 
 /// The complex of these input simplices.
-pub(crate) fn made(
+fn made(
     alloc: Global,
     inputs: &[Simplex],
     symmetric: bool,
@@ -201,3 +201,6 @@ fn point_among(places: &[Place], points: &[u32], process: u8) -> Option<u32>
     }
     None
 }
+
+#[cfg(test)]
+mod tests;
