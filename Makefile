@@ -1,11 +1,16 @@
 # Everything needs the toolchain alone: the command `rt` on the path.
 
-.PHONY: demo test
+.PHONY: demo build test
 
-# What can be seen without waiting for a proof: the sizes of protocol complexes and the decision maps of small tasks,
-# by the plain slow program. It is run, not proved, here.
+# Decides the task of examples/path-3.json for one round, and prints its report. The program is run, not proved, here.
 demo:
-	cd crates/wf_oracle && rt try --test
+	cd crates/wfcheck && rt try -- solve --rounds 1 --workers 1 --verdict < ../../examples/path-3.json
+
+# The proved program, at bin/wfcheck. Whatever it stands on is proved first.
+build:
+	cd crates/wfcheck && rt run > /dev/null
+	mkdir -p bin
+	cp crates/wfcheck/out/wfcheck bin/wfcheck
 
 # Everything is proved from nothing, the edits that must fail are tried, and the tests are run.
 test:
