@@ -55,7 +55,7 @@ cost_bound rounds (s ∷ ss) few h =
 pub words_long : (n : ℕ) → 1 ≤ n → n ≤ 4 → list_all (λ w. length w == n) (words 1 n) ≡ true
 words_long = each_size (λ n. list_all (λ w. length w == n) (words 1 n) ≡ true) refl refl refl refl
 
-suc_times : (m n : ℕ) → suc m * n ≡ n + m * n
+pub suc_times : (m n : ℕ) → suc m * n ≡ n + m * n
 suc_times m n = grind arith
 
 length-leaves : (n : ℕ) (ws : List Word) → list_all (λ w. length w == n) ws ≡ true → (k t : ℕ) → ((us : List View) → length us ≡ n → length (leaves ws k us) ≡ t) →

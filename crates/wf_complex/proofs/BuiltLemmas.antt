@@ -1,5 +1,5 @@
 -- What is built is the protocol complex of the definitions.
-use Rattle.std.proofs.Common.{◌≡◌, ◌<◌, ◌≤◌, ℕ, zero, suc, ◌+◌, ◌*◌, List, [], ◌∷◌, ◌++◌, map, flat_map, zip, length, get_or, slice_index, All, sym, refl, ap, ◌∙◌, subst, arith, length-append}
+use Rattle.std.proofs.Common.{◌≡◌, ◌<◌, ℕ, zero, suc, ◌+◌, ◌*◌, List, [], ◌∷◌, ◌++◌, map, flat_map, zip, length, get_or, slice_index, All, sym, refl, ap, ◌∙◌, subst, arith, length-append}
 use Rattle.std.specs.List.{AllByRecursion, enumerate_from}
 use Rattle.std.proofs.Math.ListN as list
 use Rattle.std.proofs.lemmas.List.{map-append, map-id, get_or-map}
@@ -23,11 +23,13 @@ use Rattle.wf_complex.specs.Classes.{class_by}
 use Rattle.wf_complex.specs.Numbering.{same_at, first_places}
 use Rattle.wf_complex.specs.ProtocolMade.{pairs_of}
 use Rattle.wf_complex.specs.ProtocolSeen.{firsts_seen, scopes_seen}
-use Rattle.wf_complex.proofs.Bounds.{IsSized}
+use Rattle.wf_complex.proofs.Bounds.{IsSized, suc_times}
 use Rattle.wf_complex.proofs.Executions.{last_views-executions}
 use Rattle.wf_complex.proofs.PlaceLemmas.{length-part_of}
 use Rattle.wf_complex.proofs.Cuts.{parts-map, last_views_cut}
-use Rattle.wf_complex.proofs.Different.{length-map, map-map, map_agrees, each_of, by_place, distinct_by_place, IsOnce, number_at, same_by_number, apart_once, there, distinct_views}
+use Rattle.wf_complex.proofs.Different.{map_agrees, by_place, distinct_by_place, IsOnce, number_at, same_by_number, apart_once, there, distinct_views}
+use Rattle.wf_model.proofs.Bridge.{length_map, weaker}
+use Rattle.std.proofs.lemmas.Simd.{map-map}
 
 -- ---- how many places there are
 
@@ -39,9 +41,6 @@ sizes-append : (ds es : List Execution) → sizes (ds ++ es) ≡ sizes ds + size
 unfolding sizes
 sizes-append [] es = omega arith
 sizes-append (d ∷ ds) es = omega (arith, sizes-append ds es)
-
-suc_times : (m n : ℕ) → suc m * n ≡ n + m * n
-suc_times m n = grind arith
 
 sizes-laid_on : (k n c p : ℕ) → sizes (laid_on k n p c) ≡ c * n
 unfolding sizes
@@ -60,7 +59,7 @@ unfolding sizes
 length-places_on table lasts k [] h = refl
 length-places_on table lasts k (e ∷ es) h =
     length-append (places_on table lasts (k, e)) (flat_map (places_on table lasts) (enumerate_from (k + 1) es))
-    ∙ (λ i. (length-map (place_of table k) (part_of lasts e) ∙ length-part_of lasts e h.0) i + length-places_on table lasts (k + 1) es h.1 i)
+    ∙ (λ i. (length_map (place_of table k) (part_of lasts e) ∙ length-part_of lasts e h.0) i + length-places_on table lasts (k + 1) es h.1 i)
 
 pub length-places : (table : List View) (lasts : List ℕ) (r : ℕ) (ss : List Simplex) → All (EndsBy (length lasts)) (laid_out r 0 0 ss) → length (flat_map (places_on table lasts) (enumerate_from 0 (laid_out r 0 0 ss))) ≡ place_total r ss
 length-places table lasts r ss h = length-places_on table lasts 0 (laid_out r 0 0 ss) (recursion_from_All (EndsBy (length lasts)) (laid_out r 0 0 ss) h) ∙ sizes-laid_out r 0 0 ss
@@ -170,7 +169,7 @@ module _ (t : Task) (r : ℕ) (whole : first_block t ≡ 1) (sized : AllByRecurs
     appearance_points = points_along t 0 (executions t r) ∙ all_classes
 
     length-appearances : length appearances ≡ length cs
-    length-appearances = sym (length-map (λ (a : Appearance). a.point) appearances) ∙ ap length appearance_points ∙ length-map (view_at grown) cs
+    length-appearances = sym (length_map (λ (a : Appearance). a.point) appearances) ∙ ap length appearance_points ∙ length_map (view_at grown) cs
 
     point_there : (j : ℕ) → j < length cs → (get_or appearances j nowhere).point ≡ view_at grown (slice_index cs j)
     point_there j h =
@@ -205,11 +204,11 @@ module _ (t : Task) (r : ℕ) (whole : first_block t ≡ 1) (sized : AllByRecurs
 
       number_there : (p : ℕ) → p < length firsts → number_of point_views (view_at grown (slice_index cs (slice_index firsts p))) ≡ p
       number_there p h =
-          let long : length (map (λ j. slice_index cs j) firsts) ≡ length firsts = length-map (λ j. slice_index cs j) firsts in
+          let long : length (map (λ j. slice_index cs j) firsts) ≡ length firsts = length_map (λ j. slice_index cs j) firsts in
           let inside : p < length (map (λ j. slice_index cs j) firsts) = omega (arith, h, long) in
           let is : get_or point_views p (base 0 0) ≡ view_at grown (slice_index cs (slice_index firsts p)) =
           get_or-map (view_at grown) (map (λ j. slice_index cs j) firsts) p 0 (base 0 0) inside ∙ ap (view_at grown) (get_or-map (λ j. slice_index cs j) firsts p 0 0 h) in
-          ap (number_of point_views) (sym is) ∙ number_at point_views apart p (base 0 0) (omega (arith, inside, length-map (view_at grown) (map (λ j. slice_index cs j) firsts)))
+          ap (number_of point_views) (sym is) ∙ number_at point_views apart p (base 0 0) (omega (arith, inside, length_map (view_at grown) (map (λ j. slice_index cs j) firsts)))
 
       numbers_found : map (number_of point_views) (views_at grown cs) ≡ numbers
       numbers_found =
@@ -217,7 +216,7 @@ module _ (t : Task) (r : ℕ) (whole : first_block t ≡ 1) (sized : AllByRecurs
           ∙ ap (map (number_of point_views)) (map-map (view_at grown) (λ p. slice_index cs (slice_index firsts p)) numbers)
           ∙ map-map (number_of point_views) (λ p. view_at grown (slice_index cs (slice_index firsts p))) numbers
           ∙ map_agrees (λ p. number_of point_views (view_at grown (slice_index cs (slice_index firsts p)))) (λ p. p) numbers
-          (each_of (λ p. p < length firsts) (λ p. number_of point_views (view_at grown (slice_index cs (slice_index firsts p))) ≡ p) number_there numbers (recursion_from_All (λ p. p < length firsts) numbers low))
+          (weaker (λ p. p < length firsts) (λ p. number_of point_views (view_at grown (slice_index cs (slice_index firsts p))) ≡ p) number_there numbers (recursion_from_All (λ p. p < length firsts) numbers low))
           ∙ map-id numbers
 
       numbers_are : numbers ≡ map (λ v. number_of point_views (class t v)) (views_at table lasts)

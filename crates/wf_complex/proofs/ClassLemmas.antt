@@ -1,17 +1,17 @@
 -- The classes of views.
-use Rattle.std.proofs.Common.{◌≡◌, ◌<◌, ◌≤◌, ℕ, ◌+◌, ◌*◌, Bool, true, false, Some, List, [], ◌∷◌, ◌++◌, map, take, length, get_or, slice_get, slice_index, All, sym, refl, ap, ◌∙◌, subst, arith, length-append}
-use Rattle.std.specs.List.{AllByRecursion}
+use Rattle.std.proofs.Common.{◌≡◌, ◌<◌, ◌≤◌, ℕ, ◌+◌, Bool, true, false, Some, List, [], ◌∷◌, ◌++◌, map, take, length, get_or, slice_get, slice_index, All, sym, refl, ap, ◌∙◌, subst, arith}
 use Rattle.std.proofs.lemmas.List.{map-append, get_or-map, take_more}
 use Rattle.std.proofs.lemmas.List.Elements.{recursion_from_All, All-from_recursion, All-get_or}
 use Rattle.std.proofs.lemmas.Option.{slice_get_within, get_or_from_slice_get}
 use Rattle.wf_model.specs.View.{View, base, normal}
 use Rattle.wf_view.specs.Views.{view_at, count_within}
-use Rattle.wf_view.proofs.Shown.{views_at_front}
 use Rattle.wf_complex.specs.Rounds.{views_at, Extends}
 use Rattle.wf_complex.specs.Classes.{class_by}
-use Rattle.wf_complex.proofs.RoundLemmas.{extends_then, extends_longer, views_kept, within_kept, views_push}
+use Rattle.wf_complex.proofs.RoundLemmas.{extends_longer, views_kept, within_kept, views_push}
 use Rattle.wf_complex.proofs.Numbers.{all_push}
-use Rattle.wf_complex.proofs.Different.{length-map, map-map, map_agrees, each_of}
+use Rattle.wf_complex.proofs.Different.{map_agrees}
+use Rattle.wf_model.proofs.Bridge.{length_map, weaker}
+use Rattle.std.proofs.lemmas.Simd.{map-map}
 
 -- ---- tasks that are not symmetric
 
@@ -58,11 +58,11 @@ module _ (old new : List View) (lasts firsts places normals : List ℕ) (low : A
     (made : views_at new normals ≡ map normal (views_at old (map (λ j. slice_index lasts j) firsts))) where
   pub length-normals : length normals ≡ length firsts
   length-normals =
-      sym (length-map (view_at new) normals)
+      sym (length_map (view_at new) normals)
       ∙ ap length made
-      ∙ length-map normal (views_at old (map (λ j. slice_index lasts j) firsts))
-      ∙ length-map (view_at old) (map (λ j. slice_index lasts j) firsts)
-      ∙ length-map (λ j. slice_index lasts j) firsts
+      ∙ length_map normal (views_at old (map (λ j. slice_index lasts j) firsts))
+      ∙ length_map (view_at old) (map (λ j. slice_index lasts j) firsts)
+      ∙ length_map (λ j. slice_index lasts j) firsts
 
   pub low_places : All (λ p. p < length normals) places
   low_places = subst (λ n. All (λ p. p < n) places) (sym length-normals) low
@@ -77,7 +77,7 @@ module _ (old new : List View) (lasts firsts places normals : List ℕ) (low : A
   all_normals =
       map-map (view_at new) (λ p. slice_index normals p) places
       ∙ map_agrees (λ p. view_at new (slice_index normals p)) (λ p. normal (view_at old (slice_index lasts (slice_index firsts p)))) places
-      (each_of (λ p. p < length firsts) (λ p. view_at new (slice_index normals p) ≡ normal (view_at old (slice_index lasts (slice_index firsts p)))) normal_there places (recursion_from_All (λ p. p < length firsts) places low))
+      (weaker (λ p. p < length firsts) (λ p. view_at new (slice_index normals p) ≡ normal (view_at old (slice_index lasts (slice_index firsts p)))) normal_there places (recursion_from_All (λ p. p < length firsts) places low))
       ∙ sym (map-map (λ k. normal (view_at old k)) (λ p. slice_index lasts (slice_index firsts p)) places)
       ∙ ap (map (λ k. normal (view_at old k))) found
       ∙ sym (map-map normal (view_at old) lasts)

@@ -1,5 +1,5 @@
 -- The executions that are laid out cut the list of places into the executions' parts.
-use Rattle.std.proofs.Common.{◌≡◌, ◌≤◌, ◌<◌, ℕ, zero, suc, ◌+◌, ◌*◌, ◌==◌, true, List, [], ◌∷◌, ◌++◌, map, flat_map, fold, take, drop, length, All, sym, refl, ap, ◌∙◌, subst, arith, eqb-true, append_assoc, length-append}
+use Rattle.std.proofs.Common.{◌≡◌, ◌≤◌, ℕ, zero, suc, ◌+◌, ◌*◌, ◌==◌, true, List, [], ◌∷◌, ◌++◌, map, flat_map, fold, take, drop, length, All, sym, refl, ap, ◌∙◌, subst, arith, eqb-true, append_assoc, length-append}
 use Rattle.std.specs.List.{AllByRecursion, list_all, enumerate_from}
 use Rattle.std.proofs.lemmas.Bool.{and_parts}
 use Rattle.std.proofs.lemmas.List.{map-append, take-map, drop-map}
@@ -11,17 +11,17 @@ use Rattle.wf_model.specs.Simplex.{Simplex}
 use Rattle.wf_model.specs.Word.{Word, words}
 use Rattle.wf_model.specs.View.{View, base_views, round}
 use Rattle.wf_model.specs.Task.{Task, Rule, inputs, first_block}
-use Rattle.wf_model.specs.Execution as model
 use Rattle.wf_model.specs.Execution.{executions_on, executions, last_views}
 use Rattle.wf_complex.specs.declared.layout.Execution.{Execution}
 use Rattle.wf_complex.specs.Layout.{turns, place_total, execution_total, laid_on, laid_out}
 use Rattle.wf_complex.specs.Places.{part_of, EndsBy}
 use Rattle.wf_complex.specs.Protocol.{simplices_of}
-use Rattle.wf_complex.proofs.Bounds.{IsSized, words_long}
+use Rattle.wf_complex.proofs.Bounds.{IsSized, words_long, suc_times}
 use Rattle.wf_complex.proofs.RoundLemmas.{length-round}
 use Rattle.wf_complex.proofs.InputLemmas.{length-base_views}
 use Rattle.wf_complex.proofs.Executions.{length-lists_of}
-use Rattle.wf_complex.proofs.Different.{length-map, each_of, each_map}
+use Rattle.wf_complex.proofs.Different.{each_map}
+use Rattle.wf_model.proofs.Bridge.{length_map, weaker}
 
 -- ---- cutting
 
@@ -64,9 +64,6 @@ parts-map f xs (e ∷ es) = λ i. part_of-map f xs e i ∷ parts-map f xs es i
 
 -- ---- what is laid out
 
-suc_times : (m n : ℕ) → suc m * n ≡ n + m * n
-suc_times m n = grind arith
-
 laid_then : {X : Type 0} (k n c p : ℕ) (ps : List (List X)) → length ps ≡ c → AllByRecursion (λ q. length q ≡ n) ps → (es : List Execution) (qs : List (List X)) → AreCut (p + c * n) es qs → AreCut p (laid_on k n p c ++ es) (ps ++ qs)
 laid_then k n zero p [] long each es qs h = let e : p + 0 * n ≡ p = omega arith in subst (λ m. AreCut m es qs) e h
 laid_then k n zero p (q ∷ ps) long each es qs h = absurd (let none : ⊥ = omega (arith, long) in none)
@@ -103,7 +100,7 @@ lists_long n ws h (suc r) = onto (lists_long n ws h r) ws h
     onto rests (w ∷ us) k =
         each_append (λ xs. AllByRecursion (λ w. length w ≡ n) xs) (map (λ rest. w ∷ rest) (lists_of ws r)) (flat_map (λ u. map (λ rest. u ∷ rest) (lists_of ws r)) us)
         (each_map (λ xs. AllByRecursion (λ w. length w ≡ n) xs) (λ rest. w ∷ rest) (lists_of ws r)
-        (each_of (λ xs. AllByRecursion (λ w. length w ≡ n) xs) (λ xs. AllByRecursion (λ w. length w ≡ n) (w ∷ xs)) (λ xs j. (k.0, j)) (lists_of ws r) rests))
+        (weaker (λ xs. AllByRecursion (λ w. length w ≡ n) xs) (λ xs. AllByRecursion (λ w. length w ≡ n) (w ∷ xs)) (λ xs j. (k.0, j)) (lists_of ws r) rests))
         (onto rests us k.1)
 
 length-folded : (n : ℕ) (ws : List Word) (vs : List View) → AllLong n ws → length vs ≡ n → length (fold round vs ws) ≡ n
@@ -121,13 +118,13 @@ parts_long r rule h =
     let n = length rule.input in
     each_map (λ q. length q ≡ length rule.input) last_views (executions_on 1 r rule)
     (each_map (λ e. length (last_views e) ≡ length rule.input) (λ ws. record { rule = rule; words = ws }) (lists_of (words 1 n) r)
-    (each_of (AllLong (length rule.input)) (λ ws. length (fold round (base_views rule.input) ws) ≡ length rule.input) (λ ws k. length-folded (length rule.input) ws (base_views rule.input) k (length-base_views rule.input)) (lists_of (words 1 n) r)
+    (weaker (AllLong (length rule.input)) (λ ws. length (fold round (base_views rule.input) ws) ≡ length rule.input) (λ ws k. length-folded (length rule.input) ws (base_views rule.input) k (length-base_views rule.input)) (lists_of (words 1 n) r)
     (lists_long (length rule.input) (words 1 n) (long_words n h) r)))
 
 parts_count : (r : ℕ) (rule : Rule) → length (map last_views (executions_on 1 r rule)) ≡ turns (length rule.input) r
 parts_count r rule =
-    length-map last_views (executions_on 1 r rule)
-    ∙ length-map (λ ws. record { rule = rule; words = ws }) (lists_of (words 1 (length rule.input)) r)
+    length_map last_views (executions_on 1 r rule)
+    ∙ length_map (λ ws. record { rule = rule; words = ws }) (lists_of (words 1 (length rule.input)) r)
     ∙ length-lists_of (length rule.input) r
 
 pub laid_out_cut : (r k p : ℕ) (rules : List Rule) → AllByRecursion IsSized (map (λ rule. rule.input) rules) → AreCut p (laid_out r k p (map (λ rule. rule.input) rules)) (map last_views (flat_map (executions_on 1 r) rules))
@@ -177,7 +174,7 @@ on_rules : (r k p : ℕ) (rules : List Rule) →
 on_rules r k p [] = refl
 on_rules r k p (rule ∷ rules) =
     let n = length rule.input in
-    let count : length (executions_on 1 r rule) ≡ turns (length rule.input) r = sym (length-map last_views (executions_on 1 r rule)) ∙ parts_count r rule in
+    let count : length (executions_on 1 r rule) ≡ turns (length rule.input) r = sym (length_map last_views (executions_on 1 r rule)) ∙ parts_count r rule in
     map-append (λ (e : Execution). e.simplex) (laid_on k n p (turns n r)) (laid_out r (k + 1) (p + turns n r * n) (map (λ rule. rule.input) rules))
     ∙ (λ i. laid_on_simplices k n (turns n r) p (executions_on 1 r rule) count i ++ on_rules r (k + 1) (p + turns n r * n) rules i)
 

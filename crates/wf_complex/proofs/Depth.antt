@@ -1,12 +1,12 @@
 -- After r rounds of n participants there are at most n * (r + 1) different views inside a view.
-use Rattle.std.proofs.Common.{◌≡◌, ◌<◌, ◌≤◌, ℕ, zero, suc, ◌+◌, ◌*◌, nat_le, false, not, All, List, [], ◌∷◌, ◌++◌, map, flat_map, filter, zip, length, sym, refl, ap, ◌∙◌, subst, inl, inr, arith, length-append}
+use Rattle.std.proofs.Common.{◌≡◌, ◌<◌, ◌≤◌, ℕ, zero, suc, ◌+◌, ◌*◌, nat_le, false, not, All, List, [], ◌∷◌, ◌++◌, map, flat_map, filter, zip, length, sym, ◌∙◌, subst, inl, inr, arith, length-append}
 use Rattle.std.specs.List.{AllByRecursion, list_any}
 use Rattle.std.proofs.lemmas.Bool.{cases_Bool, or_cases, or_left, or_right, both_ways, false≢true}
 use Rattle.std.proofs.lemmas.List.Elements.{All-from_recursion}
 use Rattle.wf_model.specs.Lists.{distinct}
 use Rattle.wf_model.specs.Simplex.{Simplex}
 use Rattle.wf_model.specs.Word.{Word, words}
-use Rattle.wf_model.specs.View.{View, base, seen, views_of, process_of, same_view, base_views, visible, round}
+use Rattle.wf_model.specs.View.{View, seen, views_of, process_of, same_view, base_views, visible, round}
 use Rattle.wf_model.proofs.Bridge.{Among, same_is, same_itself, weaker}
 use Rattle.wf_model.proofs.Headline.{both, each_distinct}
 use Rattle.wf_model.proofs.Fuel.{length_filter}
@@ -14,7 +14,7 @@ use Rattle.wf_model.proofs.Numbers.{Apart, apart_distinct}
 use Rattle.wf_view.specs.Views.{view_at, views_within, views_within_each, count_within}
 use Rattle.wf_view.proofs.Within.{among_left, among_right}
 use Rattle.wf_complex.specs.Rounds.{views_at, leaves, leaves_of}
-use Rattle.wf_complex.proofs.Bounds.{IsSized, words_long}
+use Rattle.wf_complex.proofs.Bounds.{IsSized, words_long, suc_times}
 use Rattle.wf_complex.proofs.LayoutLemmas.{product_small}
 use Rattle.wf_complex.proofs.InputLemmas.{length-base_views}
 use Rattle.wf_complex.proofs.RoundLemmas.{length-round}
@@ -92,9 +92,6 @@ held_round zs vs w h = onto w vs (weaker (Among (round vs w)) (Among (zs ++ roun
     )
 
 -- ---- rounds after rounds
-
-suc_times : (m n : ℕ) → suc m * n ≡ n + m * n
-suc_times m n = grind arith
 
 bound_more : (zs vs : List View) (w : Word) (n k : ℕ) → length vs ≡ n → length vs ≡ length w → length (zs ++ round vs w) + k * n ≤ length zs + suc k * n
 bound_more zs vs w n k long e = omega (arith, length-append zs (round vs w), length-round vs w e, long, suc_times k n)

@@ -1,38 +1,28 @@
 -- Numbers of a table without doubles: different numbers are different views, and first places are first views.
-use Rattle.std.proofs.Common.{◌≡◌, ◌<◌, ◌≤◌, ℕ, zero, suc, ◌+◌, ◌==◌, Bool, true, false, not, cond, List, [], ◌∷◌, map, filter, drop, length, get_or, slice_index, All, sym, refl, ap, ◌∙◌, subst, arith, eqb-true, eq-eqb, inl, inr}
+use Rattle.std.proofs.Common.{◌≡◌, ◌<◌, ◌≤◌, ℕ, zero, suc, ◌+◌, ◌==◌, Bool, true, false, not, cond, List, [], ◌∷◌, map, filter, drop, length, get_or, slice_index, All, sym, refl, ap, ◌∙◌, subst, arith, eqb-true, eq-eqb}
 use Rattle.std.specs.List.{AllByRecursion, range_with_len}
 use Rattle.std.specs.Cmp.{both_ways}
 use Rattle.std.proofs.lemmas.Bool.{false_from_ne_true, cases_Bool}
 use Rattle.std.proofs.lemmas.Bool as bool
-use Rattle.std.proofs.lemmas.List.{get_or-map, drop_more, drop_all}
+use Rattle.std.proofs.lemmas.List.{drop_more, drop_all}
 use Rattle.std.proofs.lemmas.List.Elements.{recursion_from_All, All-from_recursion, All-get_or}
 use Rattle.wf_model.specs.Lists.{distinct, below}
 use Rattle.wf_model.specs.View.{View, base, same_view}
 use Rattle.wf_model.specs.Problem.{number_of}
-use Rattle.wf_model.proofs.Bridge.{same_itself, same_is}
+use Rattle.wf_model.proofs.Bridge.{same_itself, same_is, length_map, weaker}
 use Rattle.wf_model.proofs.Headline.{each_distinct}
 use Rattle.wf_model.proofs.Numbers.{Apart, apart_distinct, map_distinct}
 use Rattle.wf_view.specs.Views.{view_at}
 use Rattle.wf_complex.specs.Rounds.{views_at}
 use Rattle.wf_complex.specs.Numbering.{same_at, first_places}
+use Rattle.wf_model.proofs.Fuel.{length_filter}
+use Rattle.std.proofs.lemmas.Simd.{map-map}
 
 -- ---- lists by their places
-
-pub length-map : {X Y : Type 0} (f : X → Y) (xs : List X) → length (map f xs) ≡ length xs
-length-map f [] = refl
-length-map f (x ∷ xs) = ap suc (length-map f xs)
-
-pub map-map : {X Y Z : Type 0} (f : Y → Z) (g : X → Y) (xs : List X) → map f (map g xs) ≡ map (λ x. f (g x)) xs
-map-map f g [] = refl
-map-map f g (x ∷ xs) = ap (λ ys. f (g x) ∷ ys) (map-map f g xs)
 
 pub map_agrees : {X Y : Type 0} (f g : X → Y) (xs : List X) → AllByRecursion (λ x. f x ≡ g x) xs → map f xs ≡ map g xs
 map_agrees f g [] h = refl
 map_agrees f g (x ∷ xs) h = λ i. h.0 i ∷ map_agrees f g xs h.1 i
-
-pub each_of : {X : Type 0} (P Q : X → Type 0) → ((x : X) → P x → Q x) → (xs : List X) → AllByRecursion P xs → AllByRecursion Q xs
-each_of P Q f [] h = tt
-each_of P Q f (x ∷ xs) h = (f x h.0, each_of P Q f xs h.1)
 
 pub each_map : {X Y : Type 0} (P : Y → Type 0) (f : X → Y) (xs : List X) → AllByRecursion (λ x. P (f x)) xs → AllByRecursion P (map f xs)
 each_map P f [] h = tt
@@ -76,14 +66,9 @@ distinct_by_place f same ids agree =
     sym (map_distinct f same (below (length ids)))
     ∙ ap (map f) (distinct_agrees (λ i j. same (f i) (f j)) (same_at ids) (λ j. j < length ids) (λ i j h k. agree i j h k) (below (length ids)) (all_in_range 0 (length ids) (length ids) (omega arith)))
 
-length-filter : {X : Type 0} (p : X → Bool) (xs : List X) → length (filter p xs) ≤ length xs
-length-filter p [] = omega arith
-length-filter p (x ∷ xs) =
-    elim (cases_Bool (p x)) [ inl pass ↦ rw pass (omega (arith, length-filter p xs)) | inr fail ↦ rw fail (omega (arith, length-filter p xs)) ]
-
 pub length-distinct : {X : Type 0} (same : X → X → Bool) (xs : List X) → length (distinct same xs) ≤ length xs
 length-distinct same [] = omega arith
-length-distinct same (x ∷ xs) = omega (arith, length-filter (λ y. not (same x y)) (distinct same xs), length-distinct same xs)
+length-distinct same (x ∷ xs) = omega (arith, length_filter (λ y. not (same x y)) (distinct same xs), length-distinct same xs)
 
 length-range : (a n : ℕ) → length (range_with_len a n) ≡ n
 length-range a zero = refl
@@ -107,7 +92,7 @@ pub all_picked : (P : ℕ → Type 0) (ids places : List ℕ) → All P ids → 
 all_picked P ids places h low =
     All-from_recursion P (map (λ j. slice_index ids j) places)
     (each_map P (λ j. slice_index ids j) places
-    (each_of (λ j. j < length ids) (λ j. P (slice_index ids j)) (λ j k. All-get_or P ids j 0 k h) places (recursion_from_All (λ j. j < length ids) places low)))
+    (weaker (λ j. j < length ids) (λ j. P (slice_index ids j)) (λ j k. All-get_or P ids j 0 k h) places (recursion_from_All (λ j. j < length ids) places low)))
 
 -- ---- a table without doubles
 
@@ -159,5 +144,5 @@ module _ (table : List View) (once : IsOnce table) (ids : List ℕ) (within : Al
   pub length-distinct_views : length (distinct same_view (views_at table ids)) ≡ length (first_places ids (length ids))
   length-distinct_views =
       ap length distinct_views
-      ∙ length-map (view_at table) (map (λ j. slice_index ids j) (first_places ids (length ids)))
-      ∙ length-map (λ j. slice_index ids j) (first_places ids (length ids))
+      ∙ length_map (view_at table) (map (λ j. slice_index ids j) (first_places ids (length ids)))
+      ∙ length_map (λ j. slice_index ids j) (first_places ids (length ids))

@@ -8,6 +8,8 @@ use Rattle.wf_model.specs.Task.{Task, Rule, inputs, first_block}
 use Rattle.wf_model.specs.Execution.{executions_on, executions, last_views}
 use Rattle.wf_complex.specs.Rounds.{leaves, leaves_of}
 use Rattle.wf_complex.specs.Layout.{turns, execution_total}
+use Rattle.wf_model.proofs.Bridge.{length_map}
+use Rattle.wf_complex.proofs.Bounds.{suc_times}
 
 module _ {X Y : Type 0} where
   flat_map-flat_map : {Z : Type 0} (f : Y → List Z) (g : X → List Y) (xs : List X) → flat_map f (flat_map g xs) ≡ flat_map (λ x. flat_map f (g x)) xs
@@ -45,13 +47,6 @@ last_views-executions t r all =
 
 -- ---- how many there are
 
-length-map : {X Y : Type 0} (f : X → Y) (xs : List X) → length (map f xs) ≡ length xs
-length-map f [] = refl
-length-map f (x ∷ xs) = ap suc (length-map f xs)
-
-suc_times : (m n : ℕ) → suc m * n ≡ n + m * n
-suc_times m n = grind arith
-
 length-flat : {X Y : Type 0} (f : X → List Y) (n : ℕ) → ((x : X) → length (f x) ≡ n) → (xs : List X) → length (flat_map f xs) ≡ length xs * n
 length-flat f n h [] = omega arith
 length-flat f n h (x ∷ xs) = length-append (f x) (flat_map f xs) ∙ (λ i. h x i + length-flat f n h xs i) ∙ sym (suc_times (length xs) n)
@@ -59,7 +54,7 @@ length-flat f n h (x ∷ xs) = length-append (f x) (flat_map f xs) ∙ (λ i. h 
 pub length-lists_of : (n : ℕ) (r : ℕ) → length (lists_of (words 1 n) r) ≡ turns n r
 length-lists_of n zero = refl
 length-lists_of n (suc r) =
-    length-flat (λ x. map (λ rest. x ∷ rest) (lists_of (words 1 n) r)) (turns n r) (λ x. length-map (λ rest. x ∷ rest) (lists_of (words 1 n) r) ∙ length-lists_of n r) (words 1 n)
+    length-flat (λ x. map (λ rest. x ∷ rest) (lists_of (words 1 n) r)) (turns n r) (λ x. length_map (λ rest. x ∷ rest) (lists_of (words 1 n) r) ∙ length-lists_of n r) (words 1 n)
 
 pub length-executions : (t : Task) (r : ℕ) → first_block t ≡ 1 → length (executions t r) ≡ execution_total r (inputs t)
 length-executions t r all = ap (λ m. length (flat_map (executions_on m r) t.rules)) all ∙ each t.rules
@@ -67,5 +62,5 @@ length-executions t r all = ap (λ m. length (flat_map (executions_on m r) t.rul
     each : (rules : List Rule) → length (flat_map (executions_on 1 r) rules) ≡ execution_total r (map (λ rule. rule.input) rules)
     each [] = refl
     each (rule ∷ rules) =
-        let here : length (executions_on 1 r rule) ≡ turns (length rule.input) r = length-map (λ ws. record { rule = rule; words = ws }) (lists_of (words 1 (length rule.input)) r) ∙ length-lists_of (length rule.input) r in
+        let here : length (executions_on 1 r rule) ≡ turns (length rule.input) r = length_map (λ ws. record { rule = rule; words = ws }) (lists_of (words 1 (length rule.input)) r) ∙ length-lists_of (length rule.input) r in
         length-append (executions_on 1 r rule) (flat_map (executions_on 1 r) rules) ∙ (λ i. here i + each rules i)

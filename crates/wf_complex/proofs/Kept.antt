@@ -1,9 +1,9 @@
 -- What is built keeps what each protocol complex keeps, and is the one of the task.
-use Rattle.std.proofs.Common.{◌≡◌, ◌<◌, ◌≤◌, ℕ, zero, suc, ◌+◌, ◌*◌, true, Bool, List, [], ◌∷◌, map, flat_map, length, slice_index, None, unwrap_or, All, sym, refl, ap, ◌∙◌, subst, arith}
+use Rattle.std.proofs.Common.{◌≡◌, ◌<◌, ◌≤◌, ℕ, Bool, List, [], ◌∷◌, map, flat_map, length, slice_index, None, unwrap_or, All, sym, refl, ap, ◌∙◌, subst, arith}
 use Rattle.std.specs.List.{AllByRecursion, enumerate_from}
 use Rattle.std.proofs.lemmas.Bool.{and_parts, false≢true}
-use Rattle.std.proofs.lemmas.List.Elements.{recursion_from_All, All-from_recursion, All-get_or}
-use Rattle.wf_model.specs.Lists.{distinct, below}
+use Rattle.std.proofs.lemmas.List.Elements.{recursion_from_All}
+use Rattle.wf_model.specs.Lists.{distinct}
 use Rattle.wf_model.specs.Simplex.{Simplex, is_nonempty, is_ascending, processes_of}
 use Rattle.wf_model.specs.View.{View, same_view}
 use Rattle.wf_model.specs.Task.{Task, inputs, first_block, IsSimplexWithin}
@@ -14,15 +14,16 @@ use Rattle.wf_complex.specs.Rounds.{views_at, leaves_of, cost_of_each}
 use Rattle.wf_complex.specs.Layout.{execution_total, place_total, laid_out}
 use Rattle.wf_complex.specs.Places.{EndsBy, places_on}
 use Rattle.wf_complex.specs.Classes.{class_by}
-use Rattle.wf_complex.specs.Numbering.{same_at, first_places}
+use Rattle.wf_complex.specs.Numbering.{first_places}
 use Rattle.wf_complex.specs.Protocol.{IsProtocol}
 use Rattle.wf_complex.specs.ProtocolSeen.{points_seen, firsts_seen, scopes_seen}
 use Rattle.wf_complex.proofs.Bounds.{IsSized, cost_bound, length-last_views}
 use Rattle.wf_complex.proofs.LayoutLemmas.{place_few}
 use Rattle.wf_complex.proofs.RoundLemmas.{length-views}
 use Rattle.wf_complex.proofs.Cuts.{all_end, length-laid_out, laid_simplices}
-use Rattle.wf_complex.proofs.Different.{length-map, each_of, IsOnce}
+use Rattle.wf_complex.proofs.Different.{IsOnce}
 use Rattle.wf_complex.proofs.BuiltLemmas.{length-places, view_count_is, points_are, firsts_are, scopes_are}
+use Rattle.wf_model.proofs.Bridge.{length_map, weaker}
 
 -- ---- words
 
@@ -37,10 +38,10 @@ sized [] h = absurd (false≢true (and_parts (is_nonempty {X = ℕ × ℕ} []) (
 sized (v ∷ s) h = (omega arith, length-within 4 63 (v ∷ s) h)
 
 pub all_sized : (ss : List Simplex) → All (IsSimplexWithin 4 63) ss → AllByRecursion IsSized ss
-all_sized ss h = each_of (IsSimplexWithin 4 63) IsSized sized ss (recursion_from_All (IsSimplexWithin 4 63) ss h)
+all_sized ss h = weaker (IsSimplexWithin 4 63) IsSized sized ss (recursion_from_All (IsSimplexWithin 4 63) ss h)
 
 pub all_small : (ss : List Simplex) → AllByRecursion IsSized ss → AllByRecursion (λ s. length s ≤ 4) ss
-all_small ss h = each_of IsSized (λ s. length s ≤ 4) (λ s k. k.1) ss h
+all_small ss h = weaker IsSized (λ s. length s ≤ 4) (λ s k. k.1) ss h
 
 pub few_views : (r : ℕ) (ss : List Simplex) → r ≤ 8 → execution_total r ss ≤ 500000 → length ss ≤ 4096 → AllByRecursion IsSized ss → cost_of_each r ss ≤ 16016384
 few_views r ss rounds few inputs h = omega (arith, cost_bound r ss rounds h, few, inputs)
@@ -65,7 +66,7 @@ module _ (r : ℕ) (ss : List Simplex) (few : execution_total r ss ≤ 500000) (
 
   module _ (f : View → View) (grown : List View) (cs : List ℕ) (classed : views_at grown cs ≡ map f (views_at table lasts)) where
     pub length-classed : length cs ≡ length lasts
-    length-classed = sym (length-views grown cs) ∙ ap length classed ∙ length-map f (views_at table lasts) ∙ length-views table lasts
+    length-classed = sym (length-views grown cs) ∙ ap length classed ∙ length_map f (views_at table lasts) ∙ length-views table lasts
 
 -- ---- what is built
 

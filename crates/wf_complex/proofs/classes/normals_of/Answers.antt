@@ -1,4 +1,4 @@
-use Rattle.std.proofs.Common.{◌<◌, length, All, slice_index, subst, sym, arith, length-append, ap, ◌∙◌}
+use Rattle.std.proofs.Common.{◌<◌, length, All, subst, sym, arith, length-append, ap, ◌∙◌}
 use Rattle.wf_complex.specs.Rounds.{views_at}
 use Rattle.wf_complex.proofs.RoundLemmas.{extends_then}
 use Rattle.wf_complex.proofs.ClassLemmas.{shallow_there, normal_more}

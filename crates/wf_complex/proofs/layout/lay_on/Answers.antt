@@ -1,4 +1,4 @@
-use Rattle.std.proofs.Common.{◌≡◌, ◌+◌, ◌-◌, ◌*◌, ◌∷◌, [], ◌++◌, arith, sym, ap, ◌∙◌, append-nil}
+use Rattle.std.proofs.Common.{◌≡◌, ◌+◌, ◌-◌, ◌*◌, ◌++◌, arith, sym, ap, ◌∙◌, append-nil}
 use Rattle.wf_complex.specs.Layout.{laid_on}
 use Rattle.wf_complex.proofs.LayoutLemmas.{laid_on-more}
 use Rattle.wf_complex.proofs.layout.lay_on.Goals as goal

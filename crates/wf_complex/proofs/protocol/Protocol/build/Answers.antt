@@ -1,6 +1,6 @@
-use Rattle.std.proofs.Common.{◌≡◌, ◌<◌, ◌≤◌, ℕ, Result, Ok, Err, length, sym, ap, ◌∙◌, arith}
-use Rattle.std.specs.Result.{IsErr, IsErrAnd}
-use Rattle.wf_model.specs.Task.{Task, inputs, first_block}
+use Rattle.std.proofs.Common.{◌≡◌, ◌≤◌, ℕ, Result, Ok, Err, length, sym, ap, ◌∙◌, arith}
+use Rattle.std.specs.Result.{IsErrAnd}
+use Rattle.wf_model.specs.Task.{Task}
 use Rattle.wf_model.specs.Execution.{executions}
 use Rattle.wf_complex.specs.declared.fault.BuildFault.{BuildFault}
 use Rattle.wf_complex.specs.declared.fault.BuildFault.TheVariants.{Rounds, TooManyExecutions, OutOfMemory}
