@@ -37,7 +37,7 @@ impl Read for Drip<'_> {
     }
 }
 
-/// Takes some bytes, and then answers an error.
+/// Takes some bytes, and then answers an error; so does its flush.
 #[derive(Drop)]
 struct Narrow<'a> {
     taken: &'a mut Vec<u8>,
@@ -56,7 +56,7 @@ impl Write for Narrow<'_> {
     }
 
     fn flush(&mut self) -> io::Result<()> {
-        Ok(())
+        Err(io::Error::from(io::ErrorKind::Other))
     }
 }
 
@@ -123,7 +123,7 @@ fn each_read_fails_in_turn(rt: HostRuntime) -> Result<(), Fail> {
 
 #[test]
 fn a_writer_of_each_room_has_a_beginning(rt: HostRuntime) -> Result<(), Fail> {
-    for room in 0..REPORT.len() {
+    for room in 0..=REPORT.len() {
         let mut source = Source::new(ONE.as_bytes());
         let mut written = Vec::new(rt.alloc());
         let mut sink = Sink::new(Narrow {
