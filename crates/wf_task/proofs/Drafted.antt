@@ -29,6 +29,7 @@ use Rattle.wf_task.specs.Faultless.{ListsVertices, IsFaultless}
 use Rattle.wf_task.specs.Tuples.{IsTupleOf, AreTuples, IsRow, NamesRows, rows_at}
 use Rattle.wf_task.specs.TaskSeen.{rules_seen}
 use Rattle.wf_task.proofs.Judged.{AreJudged, are_judged, passed, passed_last, not_false, or_first, or_second, within, inputs_within, outputs_within}
+use Rattle.wf_task.proofs.Sizes.{sum_by-map}
 use Rattle.wf_task.proofs.TupleLemmas.{lists-only, once-only, no_answer, none_passes, are_tuples}
 use Rattle.wf_task.proofs.RowLemmas.{tuple_cmp-Equal}
 
@@ -221,12 +222,8 @@ sum_of_less : {X : Type 0} (f g : X → ℕ) (xs : List X) → ((x : X) → f x 
 sum_of_less f g [] each = omega arith
 sum_of_less f g (x ∷ xs) each = omega (arith, sum_by-cons f x xs, sum_by-cons g x xs, each x, sum_of_less f g xs each)
 
-sum_of_map : {X Y : Type 0} (f : Y → ℕ) (g : X → Y) (xs : List X) → sum_by f (map g xs) ≡ sum_by (λ x. f (g x)) xs
-sum_of_map f g [] = refl
-sum_of_map f g (x ∷ xs) = sum_by-cons f (g x) (map g xs) ∙ ap (λ n. f (g x) + n) (sum_of_map f g xs) ∙ sym (sum_by-cons (λ x. f (g x)) x xs)
-
 -- the value lists of all entries for a simplex, and one entry more
-lists_more : (rule : Rule) (rules : List Rule) (s : Simplex)
+pub lists_more : (rule : Rule) (rules : List Rule) (s : Simplex)
     → length (flat_map (λ r. r.tuples) (entries_in (rule ∷ rules) s)) ≡ cond (same_simplex rule.input s) (length rule.tuples) 0 + length (flat_map (λ r. r.tuples) (entries_in rules s))
 lists_more rule rules s = by (same_simplex rule.input s)
   where
@@ -250,7 +247,7 @@ few_rows : (listed : Listed) (inputs : List Simplex) → IsStrictlySortedBy simp
 few_rows listed inputs h =
     omega (
       arith,
-      sum_of_map (λ (r : Rule). length r.tuples) (rule_for listed) inputs,
+      sum_by-map (λ (r : Rule). length r.tuples) (rule_for listed) inputs,
       sum_of_less (λ s. length (rule_for listed s).tuples) (λ s. length (tuples_for listed s)) inputs (λ s. length-in_order (slice_cmp nat_cmp) (tuples_for listed s)),
       few_lists listed.delta inputs h,
     )
@@ -258,12 +255,12 @@ few_rows listed inputs h =
 -- ---- the task
 
 -- what the judged sizes tell
-record AreFew (listed : Listed) (inputs : List Simplex) : Type 0 where
+pub record AreFew (listed : Listed) (inputs : List Simplex) : Type 0 where
   pub vertices : count_by (λ s. length s == 1) inputs ≤ 64
   pub simplices : length inputs ≤ 4096
   pub tuples : sum_by (λ r. length r.tuples) listed.delta ≤ 65536
 
-are_few : (listed : Listed) (inputs : List Simplex) (u : Unit {0}) → sizes_judged listed inputs ≡ Ok u → AreFew listed inputs
+pub are_few : (listed : Listed) (inputs : List Simplex) (u : Unit {0}) → sizes_judged listed inputs ≡ Ok u → AreFew listed inputs
 unfolding sizes_judged
 are_few listed inputs u h =
     let vertices = passed (nat_lt 64 (count_by (λ s. length s == 1) inputs)) _ _ u h in

@@ -10,3 +10,6 @@ pub mod TupleLemmas
 pub mod RowLemmas
 pub mod Vertices
 pub mod Drafted
+pub mod Counts
+pub mod Few
+pub mod Bounds

@@ -17,7 +17,7 @@ part_below f [] i x h is = absurd (let none : ⊥ = omega (arith, h) in none)
 part_below f (y ∷ ys) zero x h is = let e : f x ≡ f y = ap f is in omega (arith, e, sum_by-cons f y ys, sum_by-nil f)
 part_below f (y ∷ ys) (suc i) x h is = omega (arith, part_below f ys i x (omega (arith, h)) is, sum_by-cons f y ys, sum_by-cons f y (take i ys))
 
-sum_by-map : {X Y : Type 0} (f : Y → ℕ) (g : X → Y) (xs : List X) → sum_by f (map g xs) ≡ sum_by (λ x. f (g x)) xs
+pub sum_by-map : {X Y : Type 0} (f : Y → ℕ) (g : X → Y) (xs : List X) → sum_by f (map g xs) ≡ sum_by (λ x. f (g x)) xs
 sum_by-map f g [] = refl
 sum_by-map f g (x ∷ xs) = sum_by-cons f (g x) (map g xs) ∙ ap (λ n. f (g x) + n) (sum_by-map f g xs) ∙ sym (sum_by-cons (λ x. f (g x)) x xs)
 

@@ -20,13 +20,13 @@ pub chained : {A B : Type 0} (r : Result A TaskFault) (next : A → Result B Tas
 chained (Ok x) next y h = (x, refl, h)
 chained (Err e) next y h = cc
 
-found_both : {A B : Type 0} (next : A → Option B) (o : Option A) (y : B) → option_and_then next o ≡ Some y → (x : A) × (o ≡ Some x) × (next x ≡ Some y)
+pub found_both : {A B : Type 0} (next : A → Option B) (o : Option A) (y : B) → option_and_then next o ≡ Some y → (x : A) × (o ≡ Some x) × (next x ≡ Some y)
 found_both next None y h = cc
 found_both next (Some x) y h = (x, refl, h)
 
 -- ---- each item
 
-first_and_rest : {A : Type 0} (o : Option A) (rest : Result (List A) ℕ) (ys : List A) → with_first o rest ≡ Ok ys → (x : A) × (xs : List A) × (o ≡ Some x) × (rest ≡ Ok xs) × (x ∷ xs ≡ ys)
+pub first_and_rest : {A : Type 0} (o : Option A) (rest : Result (List A) ℕ) (ys : List A) → with_first o rest ≡ Ok ys → (x : A) × (xs : List A) × (o ≡ Some x) × (rest ≡ Ok xs) × (x ∷ xs ≡ ys)
 first_and_rest None rest ys h = cc
 first_and_rest {A = A} (Some x) (Ok xs) ys h = (x, xs, refl, refl, ended h)
   where
@@ -44,7 +44,7 @@ each-all f P known (item d ds) ys h =
     let parts = first_and_rest (f d) (each f ds) ys h in
     subst (All P) parts.4 (All-cons P parts.0 parts.1 (known d parts.0 parts.2) (each-all f P known ds parts.1 parts.3))
 
-placed-ok : {A : Type 0} (key : Key) (r : Result A ℕ) (x : A) → placed key r ≡ Ok x → r ≡ Ok x
+pub placed-ok : {A : Type 0} (key : Key) (r : Result A ℕ) (x : A) → placed key r ≡ Ok x → r ≡ Ok x
 placed-ok {A = A} key (Ok y) x h = by h
   where
     by : ◌≡◌ {A = Result A TaskFault} (Ok y) (Ok x) → ◌≡◌ {A = Result A ℕ} (Ok y) (Ok x)
@@ -83,7 +83,7 @@ entry-vertex d rule h =
 
 -- ---- the draft
 
-ended_draft : (b : Bool) (made listed : Listed) → cond b (Ok made) (Err (fault.Shape Other 0)) ≡ Ok listed → made ≡ listed
+pub ended_draft : (b : Bool) (made listed : Listed) → cond b (Ok made) (Err (fault.Shape Other 0)) ≡ Ok listed → made ≡ listed
 ended_draft true made listed h = by h
   where
     by : ◌≡◌ {A = Result Listed TaskFault} (Ok made) (Ok listed) → made ≡ listed

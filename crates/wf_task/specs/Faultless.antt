@@ -1,5 +1,5 @@
 -- Drafts that were read and judged.
-use Rattle.std.specs.Prelude.{◌≡◌, ◌==◌, true, false, All, length, Ok}
+use Rattle.std.specs.Prelude.{◌≡◌, ◌≤◌, ◌==◌, true, false, All, length, Ok}
 use Rattle.wf_model.specs.Simplex.{is_nonempty, complex_of}
 use Rattle.wf_task.specs.Draft.{Listed}
 use Rattle.wf_task.specs.Judge.{numbers_judged, sizes_judged, entries_judged, tuples_judged}
@@ -9,6 +9,12 @@ pub record ListsVertices (listed : Listed) : Type 0 where
   pub inputs : All (λ s. is_nonempty s ≡ true) listed.inputs
   pub outputs : All (λ s. is_nonempty s ≡ true) listed.outputs
   pub entries : All (λ rule. is_nonempty rule.input ≡ true) listed.delta
+
+-- no list is longer than a text
+pub record ListsFew (listed : Listed) : Type 0 where
+  pub inputs : length listed.inputs ≤ 16777216
+  pub outputs : length listed.outputs ≤ 16777216
+  pub entries : length listed.delta ≤ 16777216
 
 -- what the judgement of a draft without a fault went through
 pub record IsFaultless (listed : Listed) : Type 0 where

@@ -10,3 +10,4 @@ pub mod Tuples
 pub mod Faultless
 pub mod Mask
 pub mod TaskSeen
+pub mod Parts

@@ -1,4 +1,4 @@
-ghost use Rattle.std.specs.Prelude.{◌≡◌, ◌==◌, ◌<◌, ◌≤◌, ℕ, All, List, map, count_by, sum_by, nat_lt, length, Ok};
+ghost use Rattle.std.specs.Prelude.{◌≡◌, ◌==◌, ◌<◌, ◌≤◌, ℕ, All, List, map, count_by, sum_by, nat_lt, length, IfOk};
 ghost use Rattle.wf_model.specs.Simplex.{complex_of};
 ghost use Rattle.wf_model.specs.Task.{IsSimplexWithin};
 ghost use Rattle.wf_task.specs.Draft.{Gives};
@@ -8,11 +8,8 @@ ghost use Rattle.wf_task.specs.Judge.{sizes_judged};
 use crate::draft::Draft;
 use crate::fault::{Limit, TaskFault};
 use crate::shape::{Entry, ListedSimplex};
-use std::alloc::Global;
+use std::alloc::{AllocError, Global};
 use wf_simplex::{Complex, Simplex};
-
-/// The most facets that a complex is made of.
-const MOST_FACETS: usize = 16_777_216;
 
 /// The simplex of pairs that were judged.
 pub(crate) fn simplex_of(pairs: &[(u64, u64)]) -> Simplex
@@ -29,20 +26,17 @@ pub(crate) fn simplex_of(pairs: &[(u64, u64)]) -> Simplex
     }
 }
 
-/// The faces of listed simplices that were judged. A text lists fewer simplices than it has bytes, and so no
-/// more than a complex can be made of; should that fail, it counts as want of memory.
-pub(crate) fn complex(alloc: Global, listed: &[ListedSimplex]) -> Result<Complex, TaskFault>
-    requires { All (IsSimplexWithin 4 63) (map pairs_seen listed.now) }
-    ensures { Gives (λ c. c) result (Ok (complex_of (map pairs_seen listed.now))) }
+/// The faces of listed simplices that were judged.
+pub(crate) fn complex(alloc: Global, listed: &[ListedSimplex]) -> Result<Complex, AllocError>
+    requires within { All (IsSimplexWithin 4 63) (map pairs_seen listed.now) }
+    requires few { length listed.now ≤ 16777216 }
+    ensures { IfOk result (λ c. c ≡ complex_of (map pairs_seen listed.now)) }
 {
-    if listed.len() > MOST_FACETS {
-        return Err(TaskFault::OutOfMemory);
-    }
     let mut facets = Vec::new(alloc);
     for simplex in listed {
         facets.push(simplex_of(&simplex.pairs))?;
     }
-    Ok(Complex::from_facets(alloc, &facets)?)
+    Complex::from_facets(alloc, &facets)
 }
 
 /// How many of the simplices are vertices.

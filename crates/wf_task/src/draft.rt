@@ -4,6 +4,7 @@ ghost use Rattle.serde_json.specs.View.{view};
 ghost use Rattle.wf_task.specs.Shape.{whole_of};
 ghost use Rattle.wf_task.specs.Draft.{Gives, value_at, list_at, draft_of};
 ghost use Rattle.wf_task.specs.DraftSeen.{draft_seen};
+ghost use Rattle.wf_task.specs.Parts.{IsOfText, IsPart};
 
 use crate::fault::{Key, TaskFault};
 use crate::shape::{Entry, ListedSimplex, Shape, list};
@@ -19,17 +20,6 @@ pub(crate) struct Draft {
     pub(crate) inputs: Vec<ListedSimplex>,
     pub(crate) outputs: Vec<ListedSimplex>,
     pub(crate) delta: Vec<Entry>,
-}
-
-/// The place as a refusal carries it. A text has fewer items than bytes, and so far fewer than u32 can say;
-/// should that fail, it counts as want of memory.
-pub(crate) fn place_of(place: usize) -> Result<u32, TaskFault>
-    ensures { Gives (λ n. n) result (Ok place) }
-{
-    match u32::try_from(place) {
-        Ok(place) => Ok(place),
-        Err(_) => Err(TaskFault::OutOfMemory),
-    }
 }
 
 /// A whole number under a key.
@@ -52,12 +42,14 @@ fn truth_under(key: Key, value: Option<&Value>) -> Result<bool, TaskFault>
     }
 }
 
-/// A list under a key, or the key with the place of the first item that has another shape.
+/// A list under a key, or the key with the place of the first item that has another shape. A list of a text has
+/// fewer items than the text has bytes, so the place is a number of 32 bits.
 fn list_under<T: Shape + Drop>(
     alloc: Global,
     key: Key,
     value: Option<&Value>,
 ) -> Result<Vec<T>, TaskFault>
+    requires { IsPart (option_map (λ v. view v.now) value) }
     ensures { Gives (λ v. map T.seen v.items) result (list_at key T.reading (option_map (λ v. view v.now) value.entry)) }
 {
     let Some(value) = value else {
@@ -68,7 +60,7 @@ fn list_under<T: Shape + Drop>(
     };
     match list(alloc, items)? {
         Ok(found) => Ok(found),
-        Err(place) => Err(TaskFault::Shape(key, place_of(place)?)),
+        Err(place) => Err(TaskFault::Shape(key, place as u32)),
     }
 }
 
@@ -76,6 +68,7 @@ impl Draft {
     /// What the value lists, or the first key of the wrong shape.
     #[tactic(auto, using(crate::proofs::Lists::members_count), unfolding(crate::specs::Draft::draft_of))]
     pub(crate) fn of(alloc: Global, value: &Value) -> Result<Draft, TaskFault>
+        requires { IsOfText (view value.now) }
         ensures { Gives draft_seen result (draft_of (view value.now)) }
     {
         let Some(members) = value.as_object() else {

@@ -7,6 +7,9 @@ ghost use Rattle.wf_task.specs.Shape.{whole_of, pair_of, list_of, simplex_of, en
 use serde_json::Value;
 use std::alloc::{AllocError, Global};
 
+/// How many keys an entry has.
+const ENTRY_KEYS: usize = 2;
+
 /// A type that some JSON values stand for.
 pub(crate) trait Shape: Sized {
     // what a clause sees of a value of the type
@@ -139,7 +142,7 @@ impl Shape for Entry {
         let Some(tuples) = under(alloc, value.get("out"))? else {
             return Ok(None);
         };
-        if members.len() != 2 {
+        if members.len() != ENTRY_KEYS {
             return Ok(None);
         }
         Ok(Some(Entry { input, tuples }))

@@ -1,4 +1,4 @@
-ghost use Rattle.std.specs.Prelude.{◌≡◌, All, List, map, not, length, IfOk};
+ghost use Rattle.std.specs.Prelude.{◌≡◌, ◌≤◌, All, List, map, not, length, IfOk};
 ghost use Rattle.wf_model.specs.Task.{IsSimplexWithin};
 ghost use Rattle.std.specs.List.{position_from};
 ghost use Rattle.wf_task.specs.Draft.{Gives};
@@ -7,7 +7,7 @@ ghost use Rattle.wf_task.specs.Judge.{is_among, entries_judged};
 ghost use Rattle.wf_task.specs.Slots.{AreOf, with_entry, no_entry, is_missing, is_twice};
 
 use crate::complexes::simplex_of;
-use crate::draft::{Draft, place_of};
+use crate::draft::Draft;
 use crate::fault::TaskFault;
 use crate::shape::Entry;
 use std::alloc::{AllocError, Global};
@@ -101,18 +101,20 @@ pub(crate) fn judge_entries(
 ) -> Result<(), TaskFault>
     requires within { All (λ rule. IsSimplexWithin 4 63 rule.input) (map entry_seen draft.now.delta.items) }
     requires slots { AreOf slots.now (map entry_seen draft.now.delta.items) inputs.now }
+    requires few_inputs { length inputs.now ≤ 4096 }
+    requires few_entries { length draft.now.delta.items ≤ 16777216 }
     ensures { Gives (λ u. u) result (entries_judged (draft_seen draft.now) inputs.now) }
 {
     match first_missing(slots) {
-        Some(place) => return Err(TaskFault::DeltaMissing(place_of(place)?)),
+        Some(place) => return Err(TaskFault::DeltaMissing(place as u32)),
         None => {}
     }
     match first_twice(slots) {
-        Some(place) => return Err(TaskFault::DeltaTwice(place_of(place)?)),
+        Some(place) => return Err(TaskFault::DeltaTwice(place as u32)),
         None => {}
     }
     match first_stray(inputs, &draft.delta) {
-        Some(place) => return Err(TaskFault::DeltaStray(place_of(place)?)),
+        Some(place) => return Err(TaskFault::DeltaStray(place as u32)),
         None => {}
     }
     Ok(())
@@ -124,7 +126,8 @@ pub(crate) fn first_stray(inputs: &Complex, delta: &[Entry]) -> Option<usize>
     ensures { result ≡ position_from (λ rule. not (is_among inputs.now rule.input)) 0 (map entry_seen delta.now) }
 {
     for (place, entry) in delta.iter().enumerate() {
-        if !inputs.contains(&simplex_of(&entry.input.pairs)) {
+        let stray = !inputs.contains(&simplex_of(&entry.input.pairs));
+        if stray {
             return Some(place);
         }
     }

@@ -7,7 +7,7 @@ ghost use Rattle.wf_task.specs.Draft.{Gives};
 ghost use Rattle.wf_task.specs.DraftSeen.{draft_seen, pairs_seen, entry_seen};
 ghost use Rattle.wf_task.specs.Judge.{judged, drafted, text_of};
 ghost use Rattle.wf_task.specs.Slots.{AreOf};
-ghost use Rattle.wf_task.specs.Faultless.{ListsVertices, IsFaultless};
+ghost use Rattle.wf_task.specs.Faultless.{ListsVertices, ListsFew, IsFaultless};
 
 use crate::complexes::{complex, judge_sizes};
 use crate::draft::Draft;
@@ -103,7 +103,8 @@ impl Task {
         ensures { option_map (λ rule. rule.tuples) (slice_get self.now.rules simplex) ≡ Some result.now }
     {
         let tuples = self.tuples.as_slice();
-        tuples[simplex as usize].as_slice()
+        let place = simplex as usize;
+        tuples[place].as_slice()
     }
 
     /// The values that occur in the output complex: bit v is set where v does.
@@ -117,7 +118,8 @@ impl Task {
 /// The task that a draft lists, or its first fault.
 #[tactic(auto, unfolding(crate::specs::Judge::judged))]
 fn judged(alloc: Global, draft: &Draft) -> Result<Task, TaskFault>
-    requires { ListsVertices (draft_seen draft.now) }
+    requires vertices { ListsVertices (draft_seen draft.now) }
+    requires few { ListsFew (draft_seen draft.now) }
     ensures { Gives (λ t. t) result (judged (draft_seen draft.now)) }
 {
     judge_numbers(draft)?;

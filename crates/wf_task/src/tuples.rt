@@ -1,4 +1,4 @@
-ghost use Rattle.std.specs.Prelude.{◌≡◌, ◌==◌, ◌≤◌, false, All, List, map, not, zip, length};
+ghost use Rattle.std.specs.Prelude.{◌≡◌, ◌==◌, ◌≤◌, false, All, List, map, not, zip, length, sum_by};
 ghost use Rattle.std.specs.List.{position_from};
 ghost use Rattle.wf_model.specs.Simplex.{processes_of, complex_of};
 ghost use Rattle.wf_model.specs.Task.{IsSimplexWithin};
@@ -9,7 +9,7 @@ ghost use Rattle.wf_task.specs.Slots.{AreOnly, IsOnceBelow, lists_at};
 ghost use Rattle.wf_task.specs.Tuples.{IsTupleOf, AreTuples};
 
 use crate::complexes::simplex_of;
-use crate::draft::{Draft, place_of};
+use crate::draft::Draft;
 use crate::fault::TaskFault;
 use crate::shape::Entry;
 use crate::slots::Slot;
@@ -58,7 +58,8 @@ fn no_output(outputs: &Complex, simplex: &Simplex, lists: &[Vec<u64>]) -> Option
     ensures { result ≡ position_from (λ tuple. not (is_among outputs.now (zip (processes_of simplex.now) tuple))) 0 (map (λ t. t.items) lists.now) }
 {
     for (place, list) in lists.iter().enumerate() {
-        if !outputs.contains(&on_processes(simplex, list)) {
+        let stray = !outputs.contains(&on_processes(simplex, list));
+        if stray {
             return Some(place);
         }
     }
@@ -103,7 +104,7 @@ fn first_no_output(
 }
 
 /// Refusals 12 and 13.
-#[tactic(auto, unfolding(crate::specs::Judge::tuples_judged))]
+#[tactic(auto, using(crate::proofs::TupleLemmas::are_tuples), unfolding(crate::specs::Judge::tuples_judged))]
 pub(crate) fn judge_tuples(
     draft: &Draft,
     inputs: &[Simplex],
@@ -112,18 +113,20 @@ pub(crate) fn judge_tuples(
 ) -> Result<(), TaskFault>
     requires only { AreOnly slots.now (map entry_seen draft.now.delta.items) inputs.now }
     requires small { some_large (draft_seen draft.now) ≡ false }
+    requires few_inputs { length inputs.now ≤ 4096 }
+    requires few_tuples { sum_by (λ rule. length rule.tuples) (map entry_seen draft.now.delta.items) ≤ 65536 }
     requires outputs { outputs.now ≡ complex_of (map pairs_seen draft.now.outputs.items) }
     ensures { Gives (λ u. u) result (tuples_judged (draft_seen draft.now) inputs.now) }
 {
     match first_wrong_length(draft, inputs, slots) {
         Some((number, place)) => {
-            return Err(TaskFault::OutLength(place_of(number)?, place_of(place)?));
+            return Err(TaskFault::OutLength(number as u32, place as u32));
         }
         None => {}
     }
     match first_no_output(draft, inputs, slots, outputs) {
         Some((number, place)) => {
-            return Err(TaskFault::OutStray(place_of(number)?, place_of(place)?));
+            return Err(TaskFault::OutStray(number as u32, place as u32));
         }
         None => {}
     }

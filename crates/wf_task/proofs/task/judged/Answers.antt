@@ -1,42 +1,38 @@
-use Rattle.std.proofs.Common.{◌≡◌, ◌≢◌, ◌==◌, false, arith, ne_eqb, All, List, Ok, Result, length, map, sym, ap, ◌∙◌, subst, subst₂}
+use Rattle.std.proofs.Common.{◌≡◌, ◌≢◌, ◌==◌, false, arith, ne_eqb, All, List, Ok, length, map, sym, ap, ◌∙◌, subst, subst₂}
 use Rattle.std.proofs.lemmas.Bool.{eqb-false}
 use Rattle.std.proofs.lemmas.List.{length-map}
 use Rattle.wf_model.specs.Simplex.{Simplex, complex_of}
 use Rattle.wf_model.specs.Task.{IsSimplexWithin}
-use Rattle.wf_task.specs.declared.fault.TaskFault.{TaskFault}
 use Rattle.wf_task.specs.declared.slots.Slot.{Slot}
 use Rattle.wf_task.specs.DraftSeen.{draft_seen, pairs_seen, entry_seen}
 use Rattle.wf_task.specs.Judge.{sizes_judged, tuples_judged}
 use Rattle.wf_task.specs.Slots.{AreOf, AreOnly}
 use Rattle.wf_task.proofs.Judged.{are_judged, inputs_within, outputs_within}
-use Rattle.wf_task.proofs.Drafted.{all_within_four, entries_within_four, only_entries, faultless}
+use Rattle.wf_task.proofs.Drafted.{all_within_four, entries_within_four, only_entries, faultless, are_few}
 use Rattle.wf_task.proofs.task.judged.Goals as goal
 
-carried : {X : Type 0} {x y : X} → ◌≡◌ {A = Result X TaskFault} (Ok x) (Ok y) → x ≡ y
-carried e = cc
-
-pub complex-requires : goal.complex-requires
-complex-requires c =
+pub complex-requires-clause-within : goal.complex-requires-clause-within
+complex-requires-clause-within c =
     let listed = draft_seen c.args.draft.now in
     let numbers = are_judged listed c.in_ok-judge_numbers.field-0 c.in_ok-judge_numbers.ensures in
-    subst (λ ds. All (IsSimplexWithin 4 63) (map pairs_seen ds)) (sym c.deref.ensures.value) (all_within_four listed listed.inputs numbers (inputs_within listed numbers c.requires.inputs))
+    subst (λ ds. All (IsSimplexWithin 4 63) (map pairs_seen ds)) (sym c.deref.ensures.value) (all_within_four listed listed.inputs numbers (inputs_within listed numbers c.requires.vertices.inputs))
 
 pub slots-requires : goal.slots-requires
 slots-requires c =
     let listed = draft_seen c.args.draft.now in
     let numbers = are_judged listed c.in_ok-judge_numbers.field-0 c.in_ok-judge_numbers.ensures in
-    subst (λ es. All (λ rule. IsSimplexWithin 4 63 rule.input) (map entry_seen es)) (sym c.deref-2.ensures.value) (entries_within_four listed numbers c.requires)
+    subst (λ es. All (λ rule. IsSimplexWithin 4 63 rule.input) (map entry_seen es)) (sym c.deref-2.ensures.value) (entries_within_four listed numbers c.requires.vertices)
 
 pub judge_entries-requires-clause-within : goal.judge_entries-requires-clause-within
 judge_entries-requires-clause-within c =
     let listed = draft_seen c.args.draft.now in
-    entries_within_four listed (are_judged listed c.in_ok-judge_numbers.field-0 c.in_ok-judge_numbers.ensures) c.requires
+    entries_within_four listed (are_judged listed c.in_ok-judge_numbers.field-0 c.in_ok-judge_numbers.ensures) c.requires.vertices
 
-pub complex-requires-2 : goal.complex-requires-2
-complex-requires-2 c =
+pub complex-requires-2-clause-within : goal.complex-requires-2-clause-within
+complex-requires-2-clause-within c =
     let listed = draft_seen c.args.draft.now in
     let numbers = are_judged listed c.in_ok-judge_numbers.field-0 c.in_ok-judge_numbers.ensures in
-    subst (λ ds. All (IsSimplexWithin 4 63) (map pairs_seen ds)) (sym c.deref-4.ensures.value) (all_within_four listed listed.outputs numbers (outputs_within listed numbers c.requires.outputs))
+    subst (λ ds. All (IsSimplexWithin 4 63) (map pairs_seen ds)) (sym c.deref-4.ensures.value) (all_within_four listed listed.outputs numbers (outputs_within listed numbers c.requires.vertices.outputs))
 
 pub judge_tuples-requires-clause-only : goal.judge_tuples-requires-clause-only
 judge_tuples-requires-clause-only c =
@@ -55,11 +51,33 @@ pub drafted-requires-clause-faultless : goal.drafted-requires-clause-faultless
 drafted-requires-clause-faultless c =
     let listed = draft_seen c.args.draft.now in
     let inputs = c.in_ok-inputs.inputs in
-    let is : inputs ≡ complex_of listed.inputs = sym (carried c.in_ok-inputs.ensures) ∙ ap (λ ds. complex_of (map pairs_seen ds)) c.deref.ensures.value in
+    let is : inputs ≡ complex_of listed.inputs = c.in_ok-inputs.ensures ∙ ap (λ ds. complex_of (map pairs_seen ds)) c.deref.ensures.value in
     let count : c.args.draft.now.inputs.len ≢ 0 = eqb-false c.args.draft.now.inputs.len 0 (sym c.is_empty.ensures ∙ c.if-is_empty.false) in
     let some : (length listed.inputs == 0) ≡ false = ne_eqb (length listed.inputs) 0 (λ e. count (omega (arith, e, c.args.draft.now.inputs.ok.0, length-map c.args.draft.now.inputs.items pairs_seen))) in
-    faultless listed inputs c.in_ok-judge_numbers.field-0 c.in_ok-judge_sizes.field-0 c.in_ok-judge_entries.field-0 c.in_ok-judge_tuples.field-0 c.requires c.in_ok-judge_numbers.ensures is
+    faultless listed inputs c.in_ok-judge_numbers.field-0 c.in_ok-judge_sizes.field-0 c.in_ok-judge_entries.field-0 c.in_ok-judge_tuples.field-0 c.requires.vertices c.in_ok-judge_numbers.ensures is
     (let sizes : sizes_judged listed inputs ≡ Ok c.in_ok-judge_sizes.field-0 = subst (λ ss. sizes_judged listed ss ≡ Ok c.in_ok-judge_sizes.field-0) c.simplices.ensures.simplices c.in_ok-judge_sizes.ensures in sizes)
     c.in_ok-judge_entries.ensures
     (let tuples : tuples_judged listed inputs ≡ Ok c.in_ok-judge_tuples.field-0 = subst (λ ss. tuples_judged listed ss ≡ Ok c.in_ok-judge_tuples.field-0) c.simplices-2.ensures.simplices c.in_ok-judge_tuples.ensures in tuples)
     some
+
+pub complex-requires-clause-few : goal.complex-requires-clause-few
+complex-requires-clause-few c = omega (arith, ap length c.deref.ensures.value, length-map c.args.draft.now.inputs.items pairs_seen, c.requires.few.inputs)
+
+pub complex-requires-2-clause-few : goal.complex-requires-2-clause-few
+complex-requires-2-clause-few c = omega (arith, ap length c.deref-4.ensures.value, length-map c.args.draft.now.outputs.items pairs_seen, c.requires.few.outputs)
+
+pub judge_entries-requires-clause-few_inputs : goal.judge_entries-requires-clause-few_inputs
+judge_entries-requires-clause-few_inputs c =
+    let few = are_few (draft_seen c.args.draft.now) c.simplices.result.now c.in_ok-judge_sizes.field-0 c.in_ok-judge_sizes.ensures in
+    omega (arith, few.simplices, ap length c.simplices.ensures.simplices)
+
+pub judge_entries-requires-clause-few_entries : goal.judge_entries-requires-clause-few_entries
+judge_entries-requires-clause-few_entries c = omega (arith, length-map c.args.draft.now.delta.items entry_seen, c.requires.few.entries)
+
+pub judge_tuples-requires-clause-few_inputs : goal.judge_tuples-requires-clause-few_inputs
+judge_tuples-requires-clause-few_inputs c =
+    let few = are_few (draft_seen c.args.draft.now) c.simplices.result.now c.in_ok-judge_sizes.field-0 c.in_ok-judge_sizes.ensures in
+    omega (arith, few.simplices, ap length c.simplices.ensures.simplices, ap length c.simplices-2.ensures.simplices)
+
+pub judge_tuples-requires-clause-few_tuples : goal.judge_tuples-requires-clause-few_tuples
+judge_tuples-requires-clause-few_tuples c = (are_few (draft_seen c.args.draft.now) c.simplices.result.now c.in_ok-judge_sizes.field-0 c.in_ok-judge_sizes.ensures).tuples

@@ -15,12 +15,12 @@ on_processes-requires c =
     subst (IsTupleOf (length c.args.simplex.now)) (sym c.deref.ensures.value)
     (seen_here (IsTupleOf (length c.args.simplex.now)) (λ t. t.items) c.args.lists.now c.loop-place.place c.index-lists-place.result c.loop-place-test.true c.index-lists-place.is c.requires)
 
-pub returns-then-not-contains : goal.returns-then-not-contains
-returns-then-not-contains c =
+pub returns-then-stray : goal.returns-then-stray
+returns-then-stray c =
     let outputs = c.args.outputs.now in
     let s = c.args.simplex.now in
     let made = c.on_processes.ensures ∙ ap (zip (processes_of s)) c.deref.ensures.value in
     let absent = among-absent outputs (zip (processes_of s) c.index-lists-place.result.items)
-    (λ here. not_both c.contains.result c.if-not-contains.true (c.contains.ensures.1 (subst (Contains outputs) (sym made) here))) in
+    (λ here. not_both c.contains-stray.result c.if-stray.true (c.contains-stray.ensures.1 (subst (Contains outputs) (sym made) here))) in
     first_here (λ tuple. not (is_among outputs (zip (processes_of s) tuple))) (λ t. t.items) c.args.lists.now c.loop-place.place c.index-lists-place.result c.loop-place-test.true c.index-lists-place.is (ap not absent)
     ∙ c.loop-place.invariant
