@@ -10,6 +10,3 @@ pub use fault::{RunFault, refusal_line};
 pub use outcome::Outcome;
 pub use solve::run_solve_one;
 pub use views::run_views;
-
-#[cfg(test)]
-mod tests;

@@ -318,28 +318,3 @@ fn points_are_listed(rt: HostRuntime) -> Result<(), Fail> {
     }
     Ok(())
 }
-
-#[test]
-fn a_large_complex_is_listed(rt: HostRuntime) -> Result<(), Fail> {
-    let row = Row {
-        words: "wfcheck views --rounds 3",
-        input: AGREEMENT_4_3,
-        output: "wfcheck views 1\nprocesses 4\nrounds 3\nsimplices 15\nviews 72560\npoints 72560\nexecutions 430829\nv 0 0 0\n",
-        errors: "",
-        status: 0,
-    };
-    let answer = run(rt.alloc(), &row)?;
-    assert_eq!(rt; answer.status, row.status);
-    assert_eq!(rt; answer.output.len(), 1_196_628);
-    assert!(rt;
-        answer.output.starts_with(row.output.as_bytes()),
-        "the first lines"
-    );
-    assert!(rt;
-        answer
-            .output
-            .ends_with("v 72559 430754 3\nend\n".as_bytes()),
-        "the last lines"
-    );
-    Ok(())
-}
