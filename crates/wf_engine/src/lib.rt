@@ -10,3 +10,6 @@ pub use fault::{RunFault, refusal_line};
 pub use outcome::Outcome;
 pub use solve::run_solve_one;
 pub use views::run_views;
+
+#[cfg(test)]
+mod tests;
