@@ -1,5 +1,6 @@
 //! The r-round protocol complex of a task, and the lines of a certificate about it.
 //!
+//! - [`Protocol`]: the executions of a task and its points, by their numbers.
 //! - [`Line`] and [`Lines`]: why a box of candidates holds no decision map.
 #![tactic(auto)]
 
