@@ -36,11 +36,11 @@ struct Answer {
     status: u8,
 }
 
-fn run(alloc: Global, row: &Row) -> Result<Answer, AllocError> {
-    let words = split(alloc, row.words)?;
+fn run(alloc: Global, line: &str, input: &str) -> Result<Answer, AllocError> {
+    let words = split(alloc, line)?;
     let mut output = Vec::new(alloc);
     let mut errors = Vec::new(alloc);
-    let mut input = row.input.as_bytes();
+    let mut input = input.as_bytes();
     let status = run_program(alloc, &words, &mut input, &mut output, &mut errors);
     Ok(Answer {
         output,
@@ -222,20 +222,17 @@ fn tasks_are_decided(rt: HostRuntime) -> Result<(), Fail> {
         },
     ];
     for row in rows {
-        let answer = run(rt.alloc(), &row)?;
-        assert_eq!(rt; answer.status, row.status, "{}", row.words);
-        assert_eq!(rt;
-            answer.output.as_slice(),
-            row.output.as_bytes(),
-            "{}",
-            row.words
-        );
-        assert_eq!(rt;
-            answer.errors.as_slice(),
-            row.errors.as_bytes(),
-            "{}",
-            row.words
-        );
+        let Row {
+            words,
+            input,
+            output,
+            errors,
+            status,
+        } = row;
+        let answer = run(rt.alloc(), words, input)?;
+        assert_eq!(rt; answer.status, status, "{words}");
+        assert_eq!(rt; answer.output.as_slice(), output.as_bytes(), "{words}");
+        assert_eq!(rt; answer.errors.as_slice(), errors.as_bytes(), "{words}");
     }
     Ok(())
 }
@@ -301,20 +298,33 @@ fn points_are_listed(rt: HostRuntime) -> Result<(), Fail> {
         },
     ];
     for row in rows {
-        let answer = run(rt.alloc(), &row)?;
-        assert_eq!(rt; answer.status, row.status, "{}", row.words);
-        assert_eq!(rt;
-            answer.output.as_slice(),
-            row.output.as_bytes(),
-            "{}",
-            row.words
-        );
-        assert_eq!(rt;
-            answer.errors.as_slice(),
-            row.errors.as_bytes(),
-            "{}",
-            row.words
-        );
+        let Row {
+            words,
+            input,
+            output,
+            errors,
+            status,
+        } = row;
+        let answer = run(rt.alloc(), words, input)?;
+        assert_eq!(rt; answer.status, status, "{words}");
+        assert_eq!(rt; answer.output.as_slice(), output.as_bytes(), "{words}");
+        assert_eq!(rt; answer.errors.as_slice(), errors.as_bytes(), "{words}");
     }
+    Ok(())
+}
+
+#[test]
+fn a_large_complex_is_listed(rt: HostRuntime) -> Result<(), Fail> {
+    let answer = run(rt.alloc(), "wfcheck views --rounds 3", AGREEMENT_4_3)?;
+    assert_eq!(rt; answer.status, 0);
+    assert_eq!(rt; answer.output.len(), 1_196_628);
+    let first =
+        "wfcheck views 1\nprocesses 4\nrounds 3\nsimplices 15\nviews 72560\npoints 72560\nexecutions 430829\nv 0 0 0\n";
+    assert!(rt;
+        answer.output.starts_with(first.as_bytes()),
+        "the first lines"
+    );
+    let last = "v 72559 430754 3\nend\n";
+    assert!(rt; answer.output.ends_with(last.as_bytes()), "the last lines");
     Ok(())
 }
