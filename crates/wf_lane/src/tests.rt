@@ -1,0 +1,54 @@
+use crate::TupleTable;
+use std::test::Fail;
+use wf_task::Row;
+
+#[test]
+fn one_place_rows_with_all_candidates(rt: HostRuntime) -> Result<(), Fail> {
+    let rows = [
+        Row::new(&[0]),
+        Row::new(&[1]),
+        Row::new(&[2]),
+        Row::new(&[3]),
+        Row::new(&[4]),
+        Row::new(&[5]),
+        Row::new(&[6]),
+        Row::new(&[7]),
+        Row::new(&[63]),
+    ];
+    let table = TupleTable::build(rt.alloc(), &rows, 1)?;
+    let all = table.revise([u64::MAX, 0, 5, 9]);
+    assert_eq!(rt; all.masks, [0x8000_0000_0000_00ff, 0, 0, 0]);
+    assert_eq!(rt; all.alive, 9);
+    let last = table.revise([0x8000_0000_0000_0000, 0, 0, 0]);
+    assert_eq!(rt; last.masks, [0x8000_0000_0000_0000, 0, 0, 0]);
+    assert_eq!(rt; last.alive, 1);
+    Ok(())
+}
+
+#[test]
+fn no_rows_support_nothing(rt: HostRuntime) -> Result<(), Fail> {
+    let table = TupleTable::build(rt.alloc(), &[], 1)?;
+    let none = table.revise([u64::MAX, u64::MAX, u64::MAX, u64::MAX]);
+    assert_eq!(rt; none.masks, [0, 0, 0, 0]);
+    assert_eq!(rt; none.alive, 0);
+    Ok(())
+}
+
+// The rows are the pairs of values 0 to 2 that differ by at most 1.
+#[test]
+fn near_pairs_with_one_value_fixed(rt: HostRuntime) -> Result<(), Fail> {
+    let rows = [
+        Row::new(&[0, 0]),
+        Row::new(&[0, 1]),
+        Row::new(&[1, 0]),
+        Row::new(&[1, 1]),
+        Row::new(&[1, 2]),
+        Row::new(&[2, 1]),
+        Row::new(&[2, 2]),
+    ];
+    let table = TupleTable::build(rt.alloc(), &rows, 2)?;
+    let near = table.revise([1, 7, 7, 7]);
+    assert_eq!(rt; near.masks, [1, 3, 0, 0]);
+    assert_eq!(rt; near.alive, 2);
+    Ok(())
+}
