@@ -1,4 +1,7 @@
-use crate::TupleTable;
+ghost use Rattle.std.specs.Prelude.{◌≡◌, length};
+
+use crate::{Support, TupleTable, count, first_empty, first_open, meet};
+use std::alloc::{AllocError, Global};
 use std::test::Fail;
 use wf_task::Row;
 
@@ -51,4 +54,50 @@ fn near_pairs_with_one_value_fixed(rt: HostRuntime) -> Result<(), Fail> {
     assert_eq!(rt; near.masks, [1, 3, 0, 0]);
     assert_eq!(rt; near.alive, 2);
     Ok(())
+}
+
+// What is found of value 63 in a table of rows of 0 with 63 at one place.
+fn found_in(alloc: Global, length: u8, place: u8) -> Result<Support, AllocError> {
+    let mut rows = Vec::new(alloc);
+    for i in 0..length {
+        rows.push(one_value(i == place))?;
+    }
+    let table = TupleTable::build(alloc, &rows, 1)?;
+    Ok(table.revise([0x8000_0000_0000_0000, 0, 0, 0]))
+}
+
+fn one_value(last: bool) -> Row
+    ensures { length result ≡ 1 }
+{
+    if last {
+        Row::new(&[63])
+    } else {
+        Row::new(&[0])
+    }
+}
+
+#[test]
+fn one_row_is_found_at_each_place(rt: HostRuntime) -> Result<(), Fail> {
+    for length in 0..18 {
+        for place in 0..length {
+            let found = found_in(rt.alloc(), length, place)?;
+            assert_eq!(rt; found.masks, [0x8000_0000_0000_0000, 0, 0, 0]);
+            assert_eq!(rt; found.alive, 1);
+        }
+        let none = found_in(rt.alloc(), length, length)?;
+        assert_eq!(rt; none.alive, 0);
+    }
+    Ok(())
+}
+
+#[test]
+fn sets_are_met_and_counted(rt: HostRuntime) {
+    assert_eq!(rt; first_open(&[1, 2, 6, 3]), Some(2));
+    assert_eq!(rt; first_open(&[]), None);
+    assert_eq!(rt; first_empty(&[1, 0, 0]), Some(1));
+    assert_eq!(rt; first_empty(&[1, 2]), None);
+    assert_eq!(rt; count(&[3, 4, 0]), 3);
+    let mut sets = [7, 5, 1];
+    meet(&mut sets, &[3, 4, 2]);
+    assert_eq!(rt; sets, [3, 4, 0]);
 }
