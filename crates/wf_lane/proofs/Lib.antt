@@ -1,0 +1,5 @@
+pub mod WordLemmas
+pub mod OrLemmas
+pub mod Values
+pub mod Building
+pub mod Revising

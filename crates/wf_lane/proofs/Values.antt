@@ -1,0 +1,159 @@
+-- From one-hot words to values.
+use Rattle.std.proofs.Common.{pow_pos, ◌≡◌, ℕ, zero, suc, ◌+◌, ◌*◌, ◌<◌, ◌≤◌, ◌^◌, List, [], ◌∷◌, length, map, take, Bool, true, false, cond, not, ◌&&◌, refl, sym, ◌∙◌, ap, arith, ⊎_elim, subst, max, get_or, eqb-true}
+use Rattle.std.specs.Prelude.{bit_and, bit_or, count_by, ◌||◌, ◌==◌, ◌↔◌}
+use Rattle.std.specs.Int.{bit_at, trailing_zeros, w64}
+use Rattle.std.specs.Int.Bits.{and_comm}
+use Rattle.std.specs.List.{All, filter, list_any}
+use Rattle.std.proofs.lemmas.Bool.{cases_eq, eq-eqb, ne_eqb, and_right}
+use Rattle.std.proofs.lemmas.Nat.Bits.{bit_at_or, bit_at-lt, and_pow, bit_at-pow_same, bit_at-pow_other, bit_at-zero, bit_at_ones}
+use Rattle.std.proofs.lemmas.List.FromFn.{get_or-range_with_len, length-range_with_len}
+use Rattle.std.proofs.lemmas.List.Elements.{All-head, All-tail}
+use Rattle.std.proofs.lemmas.List.Folds.{list_any_at}
+use Rattle.std.proofs.lemmas.List.Sums.{sum_by-cons}
+use Rattle.std.proofs.lemmas.Map.Views.{any-filter_same}
+use Rattle.wf_model.specs.Lists.{below, has}
+use Rattle.wf_model.specs.Task.{Tuple}
+use Rattle.wf_model.specs.Box.{is_supported, is_alive, has_at}
+use Rattle.wf_lane.specs.Sets.{holds, values_in, sets_of}
+use Rattle.wf_lane.specs.Words.{Words, is_live, joined_words, meets}
+use Rattle.wf_lane.specs.Table.{IsOneHot, AreOneHot, row_of, four_values, value_of, opened}
+
+and_true : (b : Bool) → (b && true) ≡ b
+and_true true = refl
+and_true false = refl
+
+or_test : (m n : ℕ) → m < 2 → n < 2 → (max m n == 1) ≡ (m == 1 || n == 1)
+or_test zero zero h k = refl
+or_test zero (suc zero) h k = refl
+or_test (suc zero) zero h k = refl
+or_test (suc zero) (suc zero) h k = refl
+or_test (suc (suc m)) n h k = absurd (omega arith)
+or_test zero (suc (suc n)) h k = absurd (omega arith)
+or_test (suc zero) (suc (suc n)) h k = absurd (omega arith)
+
+holds-or : (x y a : ℕ) → holds (bit_or x y) a ≡ (holds x a || holds y a)
+holds-or x y a = ap (λ b. b == 1) (bit_at_or x y a) ∙ or_test (bit_at x a) (bit_at y a) (bit_at-lt x a) (bit_at-lt y a)
+
+holds_nothing : (a : ℕ) → holds 0 a ≡ false
+holds_nothing a = ap (λ b. b == 1) (bit_at-zero a)
+
+holds-pow : (k a : ℕ) → holds (2 ^ k) a ≡ (k == a)
+holds-pow k a = ⊎_elim (λ (e : a ≡ k). subst (λ j. holds (2 ^ k) j ≡ (k == j)) (sym e) (ap (λ b. b == 1) (bit_at-pow_same k) ∙ sym (eq-eqb k k refl))) (λ (ne : a ≡ k → ⊥). ap (λ b. b == 1) (bit_at-pow_other k a ne) ∙ sym (ne_eqb k a (λ e. ne (sym e)))) (cases_eq a k)
+
+test_bit : (b x : ℕ) → b < 2 → 0 < x → not (b * x == 0) ≡ (b == 1)
+test_bit zero x h pos = ap not (eq-eqb (0 * x) 0 (omega arith))
+test_bit (suc zero) x h pos = ap not (ne_eqb (1 * x) 0 (λ (e : 1 * x ≡ 0). absurd (omega arith)))
+test_bit (suc (suc b)) x h pos = absurd (omega arith)
+
+meets_holds : (w s : ℕ) → IsOneHot w → meets w s ≡ holds s (value_of w)
+unfolding value_of
+meets_holds w s h =
+    let t = trailing_zeros w64 w in
+    ap (λ x. not (bit_and x s == 0)) h.power ∙ ap (λ x. not (x == 0)) (and_comm (2 ^ t) s ∙ and_pow s t) ∙ test_bit (bit_at s t) (2 ^ t) (bit_at-lt s t) (pow_pos t)
+
+word_holds : (w a : ℕ) → IsOneHot w → holds w a ≡ (value_of w == a)
+unfolding value_of
+word_holds w a h = ap (λ x. holds x a) h.power ∙ holds-pow (trailing_zeros w64 w) a
+
+-- ---- lists of a word's values
+
+in_below : (n v : ℕ) → v < n → has (below n) v ≡ true
+in_below n v h = list_any_at (λ y. y == v) (below n) v 0 (rw (length-range_with_len 0 n) h) (rw (get_or-range_with_len 0 n v 0 h) (eq-eqb (0 + v) v (omega arith)))
+
+-- a value is in the list where its bit is set
+pub has-values_in : (word v : ℕ) → v < 64 → has (values_in word) v ≡ holds word v
+unfolding values_in
+has-values_in word v h =
+    any-filter_same (λ y. y == v) (holds word) (holds word v) (λ k e. ap (holds word) (eqb-true k v e)) (below 64)
+    ∙ ap (λ b. holds word v && b) (in_below 64 v h) ∙ and_true (holds word v)
+
+-- ---- a row and its four words
+value_small : (word : ℕ) → IsOneHot word → value_of word < 64
+unfolding value_of
+value_small word h = h.small
+
+all_held : (v : ℕ) → v < 64 → holds 18446744073709551615 v ≡ true
+all_held v h = ap (λ b. b == 1) (bit_at_ones 64 v h)
+
+every_value : (word : ℕ) → IsOneHot word → meets word 18446744073709551615 ≡ true
+every_value word h = meets_holds word 18446744073709551615 h ∙ all_held (value_of word) (value_small word h)
+
+meets_list : (word set : ℕ) → IsOneHot word → meets word set ≡ has (values_in set) (value_of word)
+meets_list word set h = meets_holds word set h ∙ sym (has-values_in set (value_of word) (value_small word h))
+
+four : (p q r s : Bool) → (p && q && r && s) ≡ (p && (q && (r && s)))
+four true true true s = refl
+four true true false s = refl
+four true false r s = refl
+four false q r s = refl
+
+same_four : (p q r s p' q' r' s' : Bool) → p ≡ p' → q ≡ q' → r ≡ r' → s ≡ s' → (p && q && r && s) ≡ (p' && (q' && (r' && s')))
+same_four p q r s p' q' r' s' e f g h = four p q r s ∙ cc
+
+live_is : (width s0 s1 s2 s3 : ℕ) (r : Words) → 1 ≤ width → width ≤ 4 → AreOneHot r → is_live (opened width (s0 ∷ s1 ∷ s2 ∷ s3 ∷ [])) r ≡ is_alive (sets_of width (s0 ∷ s1 ∷ s2 ∷ s3 ∷ [])) (row_of width r)
+live_is zero s0 s1 s2 s3 r some narrow h = absurd (omega arith)
+live_is (suc zero) s0 s1 s2 s3 r some narrow h =
+    same_four _ _ _ _ _ true true true (meets_list r.first s0 h.first) (every_value r.second h.second) (every_value r.third h.third) (every_value r.fourth h.fourth)
+live_is (suc (suc zero)) s0 s1 s2 s3 r some narrow h =
+    same_four _ _ _ _ _ _ true true (meets_list r.first s0 h.first) (meets_list r.second s1 h.second) (every_value r.third h.third) (every_value r.fourth h.fourth)
+live_is (suc (suc (suc zero))) s0 s1 s2 s3 r some narrow h =
+    same_four _ _ _ _ _ _ _ true (meets_list r.first s0 h.first) (meets_list r.second s1 h.second) (meets_list r.third s2 h.third) (every_value r.fourth h.fourth)
+live_is (suc (suc (suc (suc zero)))) s0 s1 s2 s3 r some narrow h =
+    same_four _ _ _ _ _ _ _ _ (meets_list r.first s0 h.first) (meets_list r.second s1 h.second) (meets_list r.third s2 h.third) (meets_list r.fourth s3 h.fourth ∙ sym (and_true (has (values_in s3) (value_of r.fourth))))
+live_is (suc (suc (suc (suc (suc n))))) s0 s1 s2 s3 r some narrow h = absurd (omega arith)
+
+-- ---- the mask of one place
+kept_holds : (b : Bool) (w a : ℕ) → IsOneHot w → holds (cond b w 0) a ≡ ((value_of w == a) && b)
+kept_holds true w a h = word_holds w a h ∙ sym (and_true (value_of w == a))
+kept_holds false w a h = holds_nothing a ∙ sym (and_right (value_of w == a) false refl)
+
+has_at-take : (xs : Tuple) (n place v : ℕ) → place < n → has_at (take n xs) place v ≡ has_at xs place v
+has_at-take xs zero place v h = absurd (omega arith)
+has_at-take [] (suc n) place v h = refl
+has_at-take (x ∷ xs) (suc n) zero v h = refl
+has_at-take (x ∷ xs) (suc n) (suc place) v h = has_at-take xs n place v (omega arith)
+
+module _ (width s0 s1 s2 s3 : ℕ) (some : 1 ≤ width) (narrow : width ≤ 4) where
+  abbrev sets : List ℕ
+  sets = s0 ∷ s1 ∷ s2 ∷ s3 ∷ []
+
+  mask_is : (w : Words → ℕ) (place v : ℕ) → ((r : Words) → AreOneHot r → IsOneHot (w r)) → ((r : Words) → has_at (row_of width r) place v ≡ (value_of (w r) == v)) → (rows : List Words) → All AreOneHot rows → holds (joined_words (opened width sets) w rows) v ≡ is_supported (map (row_of width) rows) (sets_of width sets) place v
+  mask_is w place v one at [] h = holds_nothing v
+  mask_is w place v one at (r ∷ rows) h =
+      let hot = All-head AreOneHot r rows h in
+      let alive = is_alive (sets_of width sets) (row_of width r) in
+      holds-or (cond (is_live (opened width sets) r) (w r) 0) (joined_words (opened width sets) w rows) v
+      ∙ ap (λ b. b || holds (joined_words (opened width sets) w rows) v)
+      (ap (λ b. holds (cond b (w r) 0) v) (live_is width s0 s1 s2 s3 r some narrow hot) ∙ kept_holds alive (w r) v (one r hot) ∙ ap (λ b. b && alive) (sym (at r)))
+      ∙ ap (λ b. (has_at (row_of width r) place v && alive) || b) (mask_is w place v one at rows (All-tail AreOneHot r rows h))
+
+  count_is : (rows : List Words) → All AreOneHot rows → count_by (is_live (opened width sets)) rows ≡ count_by (is_alive (sets_of width sets)) (map (row_of width) rows)
+  count_is [] h = refl
+  count_is (r ∷ rows) h =
+      sum_by-cons (λ x. cond (is_live (opened width sets) x) 1 0) r rows
+      ∙ ap (λ b. cond b 1 0 + count_by (is_live (opened width sets)) rows) (live_is width s0 s1 s2 s3 r some narrow (All-head AreOneHot r rows h))
+      ∙ ap (λ n. cond (is_alive (sets_of width sets) (row_of width r)) 1 0 + n) (count_is rows (All-tail AreOneHot r rows h))
+      ∙ sym (sum_by-cons (λ x. cond (is_alive (sets_of width sets) x) 1 0) (row_of width r) (map (row_of width) rows))
+
+-- what is joined at each place below the width, and counted, over all rows
+pub record Found (width : ℕ) (sets : List ℕ) (rows : List Words) : Type 0 where
+  pub first : (v : ℕ) → 0 < width → holds (joined_words (opened width sets) (λ r. r.first) rows) v ≡ is_supported (map (row_of width) rows) (sets_of width sets) 0 v
+  pub second : (v : ℕ) → 1 < width → holds (joined_words (opened width sets) (λ r. r.second) rows) v ≡ is_supported (map (row_of width) rows) (sets_of width sets) 1 v
+  pub third : (v : ℕ) → 2 < width → holds (joined_words (opened width sets) (λ r. r.third) rows) v ≡ is_supported (map (row_of width) rows) (sets_of width sets) 2 v
+  pub fourth : (v : ℕ) → 3 < width → holds (joined_words (opened width sets) (λ r. r.fourth) rows) v ≡ is_supported (map (row_of width) rows) (sets_of width sets) 3 v
+  pub alive : count_by (is_live (opened width sets)) rows ≡ count_by (is_alive (sets_of width sets)) (map (row_of width) rows)
+
+pub found_in : (width : ℕ) (sets : List ℕ) (rows : List Words) → 1 ≤ width → width ≤ 4 → length sets ≡ 4 → All AreOneHot rows → Found width sets rows
+found_in width [] rows some narrow e h = absurd (omega arith)
+found_in width (s0 ∷ []) rows some narrow e h = absurd (omega arith)
+found_in width (s0 ∷ s1 ∷ []) rows some narrow e h = absurd (omega arith)
+found_in width (s0 ∷ s1 ∷ s2 ∷ []) rows some narrow e h = absurd (omega arith)
+found_in width (s0 ∷ s1 ∷ s2 ∷ s3 ∷ x ∷ ss) rows some narrow e h = absurd (omega arith)
+found_in width (s0 ∷ s1 ∷ s2 ∷ s3 ∷ []) rows some narrow e h =
+    record {
+      first = λ v lt. mask_is width s0 s1 s2 s3 some narrow (λ r. r.first) 0 v (λ r k. k.first) (λ r. has_at-take (four_values r) width 0 v lt) rows h;
+      second = λ v lt. mask_is width s0 s1 s2 s3 some narrow (λ r. r.second) 1 v (λ r k. k.second) (λ r. has_at-take (four_values r) width 1 v lt) rows h;
+      third = λ v lt. mask_is width s0 s1 s2 s3 some narrow (λ r. r.third) 2 v (λ r k. k.third) (λ r. has_at-take (four_values r) width 2 v lt) rows h;
+      fourth = λ v lt. mask_is width s0 s1 s2 s3 some narrow (λ r. r.fourth) 3 v (λ r k. k.fourth) (λ r. has_at-take (four_values r) width 3 v lt) rows h;
+      alive = count_is width s0 s1 s2 s3 some narrow rows h;
+    }
