@@ -8,7 +8,7 @@ demo:
 
 # The proved program, at bin/wfcheck. Whatever it stands on is proved first.
 build:
-	cd crates/wfcheck && rt run > /dev/null
+	cd crates/wfcheck && rt run -- solve --rounds 1 --workers 1 --verdict < ../../examples/path-3.json > /dev/null
 	mkdir -p bin
 	cp crates/wfcheck/out/wfcheck bin/wfcheck
 
