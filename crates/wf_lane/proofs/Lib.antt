@@ -2,4 +2,5 @@ pub mod WordLemmas
 pub mod OrLemmas
 pub mod Values
 pub mod Building
+pub mod SetLaws
 pub mod Revising

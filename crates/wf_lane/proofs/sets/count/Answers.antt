@@ -1,5 +1,5 @@
-use Rattle.std.proofs.Common.{◌≡◌, ℕ, ◌+◌, ◌*◌, ◌<◌, ◌≤◌, ◌^◌, length, take, get_or, arith, ap, sym, ◌∙◌}
-use Rattle.std.specs.Prelude.{sum_by, count_ones}
+use Rattle.std.proofs.Common.{◌<◌, ◌≤◌, ◌^◌, length, get_or, arith}
+use Rattle.std.specs.Prelude.{count_ones}
 use Rattle.std.proofs.lemmas.Nat.{ones-le}
 use Rattle.std.proofs.lemmas.List.Sums.{sum_by_more}
 use Rattle.wf_lane.proofs.sets.count.Goals as goal
