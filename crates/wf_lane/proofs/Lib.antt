@@ -3,4 +3,5 @@ pub mod OrLemmas
 pub mod Values
 pub mod Building
 pub mod SetLaws
+pub mod BoxLaws
 pub mod Revising
