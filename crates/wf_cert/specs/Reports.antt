@@ -1,12 +1,14 @@
 -- The reports of the code and those of the definitions.
+use Rattle.std.specs.Prelude.{map}
 use Rattle.wf_model.specs.Report as report
+use Rattle.wf_complex.specs.Lines.{line_of}
 use Rattle.wf_cert.specs.declared.report.Report.{Report}
 use Rattle.wf_cert.specs.declared.report.Body.{Body}
 use Rattle.wf_cert.specs.declared.report.Body.TheVariants.{Map, Nothing}
 
 abbrev pub body_of : Body → report.Body
 body_of (Map values) = report.a_map values.items
-body_of (Nothing lines) = report.none lines
+body_of (Nothing lines) = report.none (map line_of lines.items)
 
 abbrev pub report_seen : Report → report.Report
 report_seen r = record { processes = r.processes; rounds = r.rounds; points = r.points; executions = r.executions; body = body_of r.body }

@@ -1,6 +1,6 @@
 //! The text of a report.
 
-ghost use Rattle.std.specs.Prelude.{◌≡◌, ◌∷◌, [], ◌++◌, IfOk, OnOk, string_bytes, flat_map};
+ghost use Rattle.std.specs.Prelude.{◌≡◌, ◌∷◌, [], ◌++◌, IfOk, OnOk, string_bytes, flat_map, map};
 ghost use Rattle.wf_model.specs.Report.{line, value_line, line_text, answer_line, body_text, report_text};
 ghost use Rattle.wf_complex.specs.Lines.{line_of};
 ghost use Rattle.wf_cert.specs.Reports.{body_of, report_seen};
@@ -8,7 +8,7 @@ ghost use Rattle.wf_cert.specs.Reports.{body_of, report_seen};
 use crate::report::{Body, Report};
 use std::alloc::{AllocError, Global};
 use std::fmt::Write;
-use wf_complex::{Line, Lines};
+use wf_complex::Line;
 
 /// The text of a report: a header, the values of a map or the lines of a refutation, and `end`. Every line ends in one
 /// line feed, and numbers are decimal. Refused for want of memory alone.
@@ -67,11 +67,11 @@ fn put_values(text: &mut String, values: &[u8]) -> Result<(), AllocError>
     Ok(())
 }
 
-fn put_lines(text: &mut String, lines: &Lines) -> Result<(), AllocError>
-    ensures { OnOk result (string_bytes text.new ≡ string_bytes text.old ++ flat_map line_text lines.now) }
+fn put_lines(text: &mut String, lines: &[Line]) -> Result<(), AllocError>
+    ensures { OnOk result (string_bytes text.new ≡ string_bytes text.old ++ flat_map line_text (map line_of lines.now)) }
 {
-    for place in 0..lines.len() {
-        put_line(text, lines.get(place))?;
+    for line in lines {
+        put_line(text, *line)?;
     }
     Ok(())
 }

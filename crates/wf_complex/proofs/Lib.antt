@@ -13,3 +13,4 @@ pub mod ClassLemmas
 pub mod BuiltLemmas
 pub mod Kept
 pub mod Depth
+pub mod RuleAt

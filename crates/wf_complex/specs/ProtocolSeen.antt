@@ -48,7 +48,7 @@ pub record IsKept (p : Inside) : Type 0 where
   pub pointed : length p.places.items ≡ length p.numbers.items
   pub within : All (EndsBy (length p.numbers.items)) p.executions.items
   pub few_executions : length p.executions.items ≤ 500000
-  pub few_points : length p.classes.items < 4294967296
+  pub few_points : length p.classes.items ≤ 2000000
   pub viewed : All (λ id. id < length p.views) p.classes.items
   pub appearing : length p.firsts.items ≡ length p.classes.items
   pub placed : All (λ j. j < length p.places.items) p.firsts.items

@@ -84,14 +84,16 @@ impl Protocol {
 
     /// How many points there are.
     pub fn points(&self) -> u32
-        ensures { result ≡ length self.now.points }
+        ensures points { result ≡ length self.now.points }
+        ensures few { result ≤ 2000000 }
     {
         self.classes.len() as u32
     }
 
     /// How many executions there are.
     pub fn executions(&self) -> u32
-        ensures { result ≡ length self.now.scopes }
+        ensures executions { result ≡ length self.now.scopes }
+        ensures few { result ≤ 500000 }
     {
         self.executions.len() as u32
     }

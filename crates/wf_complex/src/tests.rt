@@ -1,6 +1,5 @@
 use crate::layout::execution_count;
 use crate::numbering::number_all;
-use crate::{BuildFault, Line, Lines};
 use std::alloc::Global;
 use std::test::Fail;
 use wf_simplex::{Complex, Simplex};
@@ -46,20 +45,5 @@ fn numbers_are_by_first_appearance(rt: HostRuntime) -> Result<(), Fail> {
         [0, 1, 2, 3, 0, 3, 2, 1].as_slice()
     );
     assert_eq!(rt; numbered.firsts.as_slice(), [0, 1, 2, 3].as_slice());
-    Ok(())
-}
-
-#[test]
-fn lines_are_kept_in_order(rt: HostRuntime) -> Result<(), Fail> {
-    let mut lines = Lines::new(rt.alloc());
-    assert!(rt; lines.is_empty());
-    lines.push(Line::B { point: 3 })?;
-    lines.push(Line::Z { point: 0 })?;
-    assert_eq!(rt; lines.len(), 2);
-    if lines.len() == 2 {
-        assert_eq!(rt; lines.get(0), Line::B { point: 3 });
-        assert_eq!(rt; lines.get(1), Line::Z { point: 0 });
-    }
-    assert_eq!(rt; BuildFault::Rounds, BuildFault::Rounds);
     Ok(())
 }

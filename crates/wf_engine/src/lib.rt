@@ -8,7 +8,7 @@ mod views;
 
 pub use fault::{RunFault, refusal_line};
 pub use outcome::Outcome;
-pub use solve::run_solve_one;
+pub use solve::{run_solve, run_solve_one};
 pub use views::run_views;
 
 #[cfg(test)]

@@ -11,8 +11,9 @@ use crate::fault::RunFault;
 use crate::outcome::Outcome;
 use std::alloc::{AllocError, Global};
 use std::io::{Read, Write};
+use std::thread::Threads;
 use wf_cert::{Body, Report, write_report};
-use wf_complex::{Lines, Protocol};
+use wf_complex::Protocol;
 use wf_core::Account;
 use wf_io::{Sink, Source, read_all, write_whole};
 use wf_plain::least_map;
@@ -47,6 +48,30 @@ pub fn run_solve_one<R: Read, W: Write>(
     Ok(answer)
 }
 
+/// The same as [`run_solve_one`], for a number of workers. There is one worker today, and so no thread is started.
+pub fn run_solve<T: Threads + Sync, R: Read, W: Write>(
+    _rt: &T,
+    alloc: Global,
+    source: &mut Source<R>,
+    sink: &mut Sink<W>,
+    rounds: u32,
+    workers: u8,
+    verdict: bool,
+) -> Result<(Outcome, Account), RunFault>
+    requires source { source_failures source.old < 2 ^ 64 - 1 }
+    requires taken { source_taken source.old < 2 ^ 63 }
+    requires sink { sink_failures sink.old < 2 ^ 64 - 1 }
+    requires workers { workers ≡ 1 }
+    requires verdict { verdict ≡ true }
+    ensures runs { Runs (IsSolved rounds) rounds (R.remaining (source_reader source.old)) (R.remaining (source_reader source.new))
+        (W.contents (sink_writer sink.old)) (W.contents (sink_writer sink.new)) result }
+    ensures at_most { source_taken source.new ≤ source_taken source.old + 16777217 }
+    ensures read { source_failures source.new ≡ source_failures source.old + (if is_read result then 1 else 0) }
+    ensures write { sink_failures sink.new ≡ sink_failures sink.old + (if is_write result then 1 else 0) }
+{
+    run_solve_one(alloc, source, sink, rounds, verdict)
+}
+
 /// The answer of a text, with the text of its report.
 fn solve_text(
     alloc: Global,
@@ -72,7 +97,7 @@ fn decide(alloc: Global, task: &Task, protocol: &Protocol) -> Result<(Outcome, V
             Ok((Outcome::Map, report))
         }
         None => {
-            let none = Body::Nothing(Lines::new(alloc));
+            let none = Body::Nothing(Vec::new(alloc));
             Ok((Outcome::Nothing, report_text(alloc, task, protocol, none)?))
         }
     }

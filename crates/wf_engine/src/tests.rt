@@ -1,4 +1,4 @@
-use crate::{Outcome, RunFault, run_solve_one, run_views};
+use crate::{Outcome, RunFault, run_solve, run_solve_one, run_views};
 use std::io;
 use std::io::{Read, Write};
 use std::test::Fail;
@@ -58,6 +58,39 @@ impl Write for Narrow<'_> {
     fn flush(&mut self) -> io::Result<()> {
         Err(io::Error::from(io::ErrorKind::Other))
     }
+}
+
+/// Gives line feeds without end.
+#[derive(Drop)]
+struct LineFeeds;
+
+impl Read for LineFeeds {
+    fn read(&mut self, buf: &mut [u8]) -> io::Result<usize> {
+        buf.fill(b'\n');
+        Ok(buf.len())
+    }
+}
+
+#[test]
+fn a_text_without_end_is_too_long(rt: HostRuntime) -> Result<(), Fail> {
+    let mut source = Source::new(LineFeeds);
+    let mut written = Vec::new(rt.alloc());
+    let mut sink = Sink::new(&mut written);
+    let found = run_solve_one(rt.alloc(), &mut source, &mut sink, 1, true);
+    assert!(rt; found.is_err_and(|e| e == RunFault::Task(TaskFault::TooLong)));
+    assert!(rt; written.is_empty());
+    Ok(())
+}
+
+#[test]
+fn one_worker_decides_a_task(rt: HostRuntime) -> Result<(), Fail> {
+    let mut source = Source::new(ONE.as_bytes());
+    let mut written = Vec::new(rt.alloc());
+    let mut sink = Sink::new(&mut written);
+    let found = run_solve(&rt, rt.alloc(), &mut source, &mut sink, 8, 1, true);
+    assert!(rt; found.is_ok_and(|(outcome, _)| outcome == Outcome::Map));
+    assert_eq!(rt; written.as_slice(), REPORT.as_bytes());
+    Ok(())
 }
 
 #[test]

@@ -1,0 +1,57 @@
+-- What the sweeps come to.
+use Rattle.std.proofs.Common.{◌≡◌, ℕ, suc, ◌+◌, ◌<◌, ◌≤◌, ◌^◌, ◌==◌, true, List, [], ◌∷◌, ◌++◌, map, length, get_or, slice_index, All, Option, Some, None, refl, sym, ap, ◌∙◌, subst, arith, position, eqb-true}
+use Rattle.std.proofs.lemmas.List.{get_or_default}
+use Rattle.std.proofs.lemmas.List.Quantifiers.{position-Some}
+use Rattle.wf_model.specs.Problem.{Problem, IsSolution, IsWellFormed}
+use Rattle.wf_model.specs.Box.{Box, LiesIn, candidates, count, first_empty}
+use Rattle.wf_model.specs.Refutation as refutation
+use Rattle.wf_model.specs.Closing.{Step, and_then, closing, closing_at, sweeps}
+use Rattle.wf_model.specs.Laws.{IsBoxOf}
+use Rattle.wf_model.proofs.Closed.{solution_left, closed_branch, closed_supports}
+use Rattle.wf_complex.specs.Lines.{line_of}
+use Rattle.wf_complex.specs.declared.line.Line.{Line}
+use Rattle.wf_box.specs.Steps.{box_of, left_by, reached}
+use Rattle.wf_box.specs.Closes.{IsSupported, Leaves, emptied_by}
+use Rattle.wf_box.specs.declared.closing.Closed.{Closed}
+use Rattle.wf_box.specs.declared.closing.Closed.TheVariants.{Empty, Open}
+
+-- each word of a slice is one of 64 bits
+pub words_fit : (words : List ℕ) → ((k : ℕ) → slice_index words k < 2 ^ 64) → All (λ word. word < 2 ^ 64) words
+words_fit words h k d low = subst (λ w. w < 2 ^ 64) (get_or_default words k 0 d low) (h k)
+
+-- ---- a point that is empty at the start
+
+pub closing_empty : (p : Problem) (box : Box) (v : ℕ) → first_empty box ≡ Some v → closing p box ≡ record { lines = refutation.empty v ∷ []; left = None }
+closing_empty p box v is = ap (λ o. closing_at o p box) is
+
+no_candidate : (set : List ℕ) → (length set == 0) ≡ true → set ≡ []
+no_candidate [] h = refl
+no_candidate (a ∷ set) h = absurd (let bad : ⊥ = omega (arith, eqb-true (length (a ∷ set)) 0 h) in bad)
+
+pub empty_there : (box : Box) (v : ℕ) → first_empty box ≡ Some v → candidates box v ≡ []
+empty_there box v is = no_candidate (candidates box v) (position-Some (λ set. length set == 0) box v [] is).1
+
+-- ---- sweeps
+
+pub closing_sweeps : (p : Problem) (box : Box) → first_empty box ≡ None → closing p box ≡ sweeps (suc (count box)) p box
+closing_sweeps p box is = ap (λ o. closing_at o p box) is
+
+pub leaves_by : (closed : Closed) (o : Option Box) (box : Box) → left_by (emptied_by closed) box ≡ o → Leaves o box closed
+leaves_by (Empty v) o box is = sym is
+leaves_by (Open n) o box is = sym is
+
+same_box : {b c : Box} → ◌≡◌ {A = Option Box} (Some b) (Some c) → b ≡ c
+same_box is = cc
+
+-- the solutions are kept
+pub left_of : (p : Problem) (old new : List Line) (before after : List ℕ) (closed : Closed) → reached new (emptied_by closed) after ≡ and_then (reached old None before) (closing p) → Leaves (closing p (box_of before)).left (box_of after) closed
+left_of p old new before after closed is = leaves_by closed (closing p (box_of before)).left (box_of after) (ap (λ (s : Step). s.left) is)
+
+pub solutions_kept : (p : Problem) (old new : Box) (closed : Closed) → IsWellFormed p → Leaves (closing p old).left new closed → (m : List ℕ) → IsSolution p m → LiesIn m old → LiesIn m new
+solutions_kept p old new (Empty v) well left m solves lies = let found = solution_left p well.in_range m solves old lies in absurd (let e : ◌≡◌ {A = Option Box} None (Some found.0) = sym left ∙ found.1 in let bad : ⊥ = cc in bad)
+solutions_kept p old new (Open n) well left m solves lies = let found = solution_left p well.in_range m solves old lies in subst (LiesIn m) (same_box (sym found.1 ∙ left)) found.2
+
+-- each candidate is supported
+pub supported_there : (p : Problem) (old new : Box) (closed : Closed) → IsBoxOf p old → Leaves (closing p old).left new closed → IsSupported p new closed
+supported_there p old new (Empty v) is left = tt
+supported_there p old new (Open n) is left = closed_supports p new (closed_branch p old new is left).closed

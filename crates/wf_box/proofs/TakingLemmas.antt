@@ -1,0 +1,70 @@
+-- One candidate is taken out, and then each of some values.
+use Rattle.std.proofs.Common.{◌≡◌, ℕ, zero, suc, ◌+◌, ◌<◌, ◌≤◌, ◌^◌, ◌==◌, Bool, true, false, not, List, [], ◌∷◌, ◌++◌, map, filter, length, get_or, Option, Some, None, refl, sym, ap, ◌∙◌, subst, append_assoc, arith, inl, inr, ⊎_elim, length-set}
+use Rattle.std.specs.List.{slice_set, slice_index_or}
+use Rattle.std.proofs.lemmas.Bool.{cases_Bool, cases_lt, cases_eq}
+use Rattle.std.proofs.lemmas.List.{map-set, map-append, get_or-map, length-map}
+use Rattle.wf_model.specs.Lists.{has}
+use Rattle.wf_model.specs.Box.{Box, candidates, without, count}
+use Rattle.wf_model.specs.Refutation as refutation
+use Rattle.wf_model.specs.Closing.{Step, Loss, and_then, taken_out, take_out, take_out_each}
+use Rattle.wf_model.proofs.Fuel.{count_set_less}
+use Rattle.wf_box.proofs.Shared.{filter_less}
+use Rattle.wf_lane.specs.Sets.{values_in}
+use Rattle.wf_complex.specs.Lines.{line_of}
+use Rattle.wf_complex.specs.declared.line.Line.{Line}
+use Rattle.wf_complex.specs.declared.line.Line.TheVariants as line
+use Rattle.wf_box.specs.Steps.{box_of, reached, loss}
+
+-- the candidates of a point are the values of its word
+pub word_at : (words : List ℕ) (v : ℕ) → v < length words → candidates (box_of words) v ≡ values_in (get_or words v 0)
+word_at words v inside = get_or-map values_in words v 0 [] inside
+
+-- the box without a candidate is that of the words with one word changed
+pub set_without : (words : List ℕ) (v a set : ℕ) → v < length words → values_in set ≡ filter (λ b. not (b == a)) (values_in (get_or words v 0)) → box_of (slice_set words v set) ≡ without (box_of words) v a
+set_without words v a set inside is =
+    map-set values_in words v set
+    ∙ ap (λ s. slice_set (box_of words) v s) (is ∙ ap (filter (λ b. not (b == a))) (sym (word_at words v inside)))
+
+pub set_there : (words : List ℕ) (v set : ℕ) → v < length words → candidates (box_of (slice_set words v set)) v ≡ values_in set
+set_there [] v set h = absurd (let none : ⊥ = omega (arith, h) in none)
+set_there (w ∷ words) zero set h = refl
+set_there (w ∷ words) (suc v) set h = set_there words v set (omega (arith, h))
+
+left_there : (words : List ℕ) (v a set : ℕ) → v < length words → values_in set ≡ filter (λ b. not (b == a)) (values_in (get_or words v 0)) → candidates (without (box_of words) v a) v ≡ values_in set
+left_there words v a set inside is = ap (λ box. candidates box v) (sym (set_without words v a set inside is)) ∙ set_there words v set inside
+
+-- the point keeps a candidate
+some_left : (e : ℕ) (x : Loss) (box : Box) (s : List ℕ) → (s ≡ [] → ⊥) → taken_out e x box s ≡ record { lines = refutation.remove e x.process x.value ∷ []; left = Some box }
+some_left e x box [] some = absurd (some refl)
+some_left e x box (a ∷ s) some = refl
+
+pub taken_on : (old : List Line) (words : List ℕ) (e p v a set : ℕ) → v < length words → values_in set ≡ filter (λ b. not (b == a)) (values_in (get_or words v 0)) → (values_in set ≡ [] → ⊥)
+    → reached (old ++ line.P e p a ∷ []) None (slice_set words v set) ≡ and_then (reached old None words) (take_out e (loss p v a))
+taken_on old words e p v a set inside is some =
+    let taken : take_out e (loss p v a) (box_of words) ≡ record { lines = refutation.remove e p a ∷ []; left = Some (without (box_of words) v a) } =
+    some_left e (loss p v a) (without (box_of words) v a) (candidates (without (box_of words) v a) v) (λ gone. some (sym (left_there words v a set inside is) ∙ gone)) in
+    λ i. record {
+      lines = (map-append line_of old (line.P e p a ∷ []) ∙ ap (λ (s : Step). map line_of old ++ s.lines) (sym taken)) i;
+      left = (ap Some (set_without words v a set inside is) ∙ ap (λ (s : Step). s.left) (sym taken)) i;
+    }
+
+-- the point is emptied
+none_left : (e : ℕ) (x : Loss) (box : Box) (s : List ℕ) → s ≡ [] → taken_out e x box s ≡ record { lines = refutation.remove e x.process x.value ∷ refutation.empty x.point ∷ []; left = None }
+none_left e x box [] h = refl
+none_left e x box (a ∷ s) h = absurd (let none : ⊥ = cc in none)
+
+pub taken_last : (old : List Line) (words : List ℕ) (e p v a set : ℕ) → v < length words → values_in set ≡ filter (λ b. not (b == a)) (values_in (get_or words v 0)) → values_in set ≡ []
+    → reached ((old ++ line.P e p a ∷ []) ++ line.Z v ∷ []) (Some v) (slice_set words v set) ≡ and_then (reached old None words) (take_out e (loss p v a))
+taken_last old words e p v a set inside is gone =
+    let taken : take_out e (loss p v a) (box_of words) ≡ record { lines = refutation.remove e p a ∷ refutation.empty v ∷ []; left = None } =
+    none_left e (loss p v a) (without (box_of words) v a) (candidates (without (box_of words) v a) v) (left_there words v a set inside is ∙ gone) in
+    λ i. record {
+      lines = (ap (map line_of) (append_assoc old (line.P e p a ∷ []) (line.Z v ∷ [])) ∙ map-append line_of old (line.P e p a ∷ line.Z v ∷ []) ∙ ap (λ (s : Step). map line_of old ++ s.lines) (sym taken)) i;
+      left = ap (λ (s : Step). s.left) (sym taken) i;
+    }
+
+-- there is a candidate less
+pub one_less : (words : List ℕ) (v a set : ℕ) → v < length words → values_in set ≡ filter (λ b. not (b == a)) (values_in (get_or words v 0)) → has (candidates (box_of words) v) a ≡ true → count (box_of (slice_set words v set)) < count (box_of words)
+one_less words v a set inside is there =
+    subst (λ box. count box < count (box_of words)) (sym (set_without words v a set inside is))
+    (count_set_less (box_of words) v (filter (λ b. not (b == a)) (candidates (box_of words) v)) (filter_less (candidates (box_of words) v) a there))

@@ -1,0 +1,39 @@
+use Rattle.std.proofs.Common.{◌≡◌, ◌++◌, ◌∷◌, [], None, Some, map, sym, ap, ◌∙◌}
+use Rattle.std.proofs.lemmas.List.{map-append}
+use Rattle.wf_model.specs.Box.{first_empty}
+use Rattle.wf_model.specs.Closing.{Step, and_then}
+use Rattle.wf_complex.specs.Lines.{line_of}
+use Rattle.wf_complex.specs.declared.line.Line.TheVariants as line
+use Rattle.wf_box.specs.Steps.{box_of, reached}
+use Rattle.wf_box.proofs.CloseLemmas.{closing_empty, empty_there, closing_sweeps, left_of, solutions_kept, supported_there}
+use Rattle.wf_box.proofs.closing.close_sets.Goals as goal
+
+pub returns-in-Some-clause-step : goal.returns-in-Some-clause-step
+returns-in-Some-clause-step c =
+    let closed = closing_empty c.args.problem.now (box_of c.args.sets.now) c.in-Some.point (sym c.empty_point.ensures ∙ c.in-Some.is) in
+    λ i. record {
+      lines = (ap (map line_of) c.put.ensures.lines ∙ map-append line_of c.args.lines.now.items (line.Z c.in-Some.point ∷ []) ∙ ap (λ (s : Step). map line_of c.args.lines.now.items ++ s.lines) (sym closed)) i;
+      left = ap (λ (s : Step). s.left) (sym closed) i;
+    }
+
+pub returns-in-Some-clause-emptied : goal.returns-in-Some-clause-emptied
+returns-in-Some-clause-emptied c = empty_there (box_of c.args.sets.now) c.in-Some.point (sym c.empty_point.ensures ∙ c.in-Some.is)
+
+pub returns-clause-step : goal.returns-clause-step
+returns-clause-step c =
+    let closed = closing_sweeps c.args.problem.now (box_of c.args.sets.now) (sym c.empty_point.ensures ∙ c.in_default.is) in
+    c.sweeps.ensures.step ∙ ap (λ s. and_then (reached c.args.lines.now.items None c.args.sets.now) (λ _. s)) (sym closed)
+
+pub returns-clause-solutions : goal.returns-clause-solutions
+returns-clause-solutions c =
+    let closed = closing_sweeps c.args.problem.now (box_of c.args.sets.now) (sym c.empty_point.ensures ∙ c.in_default.is) in
+    let step = c.sweeps.ensures.step ∙ ap (λ s. and_then (reached c.args.lines.now.items None c.args.sets.now) (λ _. s)) (sym closed) in
+    solutions_kept c.args.problem.now (box_of c.args.sets.now) (box_of c.sweeps.new.sets) c.sweeps.result c.sweeps.ensures.problem
+    (left_of c.args.problem.now c.args.lines.now.items c.sweeps.new.lines.items c.args.sets.now c.sweeps.new.sets c.sweeps.result step)
+
+pub returns-clause-supported : goal.returns-clause-supported
+returns-clause-supported c =
+    let closed = closing_sweeps c.args.problem.now (box_of c.args.sets.now) (sym c.empty_point.ensures ∙ c.in_default.is) in
+    let step = c.sweeps.ensures.step ∙ ap (λ s. and_then (reached c.args.lines.now.items None c.args.sets.now) (λ _. s)) (sym closed) in
+    supported_there c.args.problem.now (box_of c.args.sets.now) (box_of c.sweeps.new.sets) c.sweeps.result c.requires.boxed
+    (left_of c.args.problem.now c.args.lines.now.items c.sweeps.new.lines.items c.args.sets.now c.sweeps.new.sets c.sweeps.result step)

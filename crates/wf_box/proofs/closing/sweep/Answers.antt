@@ -1,0 +1,1 @@
+use Rattle.wf_box.proofs.closing.sweep.Goals as goal

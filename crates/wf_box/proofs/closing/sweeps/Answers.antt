@@ -1,0 +1,29 @@
+use Rattle.std.proofs.Common.{◌≡◌, ℕ, ◌+◌, ◌<◌, ◌≤◌, None, length, ◌∙◌, arith}
+use Rattle.wf_model.specs.Box.{count}
+use Rattle.wf_box.specs.Steps.{box_of}
+use Rattle.wf_box.proofs.SweepLemmas.{count_few, grown, swept_more}
+use Rattle.wf_box.proofs.closing.sweeps.Goals as goal
+
+less : {m n : ℕ} → m ≤ n → (n ≡ m → ⊥) → m < n
+less low other = omega (arith, low, other)
+
+pub overflow_add-sweeps : goal.overflow_add-sweeps
+overflow_add-sweeps c = omega (arith, c.sweeping.invariant.3, count_few c.args.sets.now, c.requires.few)
+
+pub sweeping-preserved : goal.sweeping-preserved
+sweeping-preserved c =
+    let p = c.args.problem.now in
+    let (n, low, so_far) = c.sweeping.invariant.4 in
+    let before = c.sweeping.lines.ok.0 in
+    let after = c.sweep.new.lines.ok.0 in
+    let up = grown p c.sweeping.lines.items c.sweep.new.lines.items c.sweeping.sets c.sweep.new.sets None c.in_default.ensures.step in
+    let more : length c.sweep.new.lines.items ≡ length c.sweeping.lines.items → ⊥ = λ same. c.if-len-before.false (let e : c.len.result ≡ c.len-before.result = omega (arith, same, before, after, c.len.ensures, c.len-before.ensures) in e) in
+    let lines_differ : length c.sweeping.lines.items < length c.sweep.new.lines.items = less up more in
+    let fewer : count (box_of c.sweep.new.sets) < count (box_of c.sweeping.sets) = omega (arith, c.in_default.ensures.spent, up, before, after, lines_differ) in
+    (
+      c.in_default.ensures.long ∙ c.sweeping.invariant.0,
+      c.in_default.ensures.room,
+      omega arith,
+      omega (arith, fewer, c.sweeping.invariant.3),
+      swept_more p n c.sweeping.lines.items c.sweep.new.lines.items c.sweeping.sets c.sweep.new.sets _ low fewer more c.in_default.ensures.step so_far,
+    )

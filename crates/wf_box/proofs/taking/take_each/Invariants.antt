@@ -1,0 +1,13 @@
+use Rattle.std.proofs.Common.{◌≡◌, ◌<◌, ◌≤◌, ℕ, None, length, map}
+use Rattle.wf_model.specs.Closing.{and_then}
+use Rattle.wf_lane.specs.Sets.{values_in}
+use Rattle.wf_box.specs.Steps.{HasRoom, IsSpent, loss, reached, take_present}
+use Rattle.wf_box.proofs.taking.take_each.Given as goal
+
+abbrev pub decreases-values : goal.decreases-values
+decreases-values l = l.left
+
+abbrev pub invariant-values : goal.invariant-values
+invariant-values l = (length l.sets ≡ length l.initial.sets) × HasRoom l.lines l.sets × IsSpent l.initial.lines l.initial.sets l.lines l.sets
+    × (and_then (reached l.lines.items None l.sets) (take_present l.place.execution (map (loss l.place.process l.place.point) (values_in l.left)))
+        ≡ and_then (reached l.initial.lines.items None l.initial.sets) (take_present l.place.execution (map (loss l.place.process l.place.point) (values_in l.initial.left))))

@@ -1,0 +1,40 @@
+use Rattle.std.proofs.Common.{◌≡◌, ◌==◌, ◌++◌, ◌∷◌, [], Some, None, ◌∙◌, sym, ap, subst, arith}
+use Rattle.std.specs.List.{slice_set}
+use Rattle.wf_model.specs.Closing.{and_then, take_out}
+use Rattle.wf_complex.specs.declared.line.Line.TheVariants as line
+use Rattle.wf_lane.specs.Sets.{values_in}
+use Rattle.wf_lane.proofs.SetLaws.{nothing_from_values, values_of_nothing}
+use Rattle.wf_box.specs.Steps.{loss, reached}
+use Rattle.wf_box.proofs.TakingLemmas.{one_less, set_there, taken_on, taken_last}
+use Rattle.wf_box.proofs.taking.take_out.Goals as goal
+
+pub put-requires-then-set-eq0 : goal.put-requires-then-set-eq0
+put-requires-then-set-eq0 c =
+    let fewer = one_less c.args.sets.now c.args.place.point c.args.value c.without-set.result c.requires.point c.without-set.ensures c.requires.present in
+    omega (arith, fewer, c.put.ensures.len, c.put.ensures.room, c.requires.room)
+
+pub returns-then-set-eq0-clause-step : goal.returns-then-set-eq0-clause-step
+returns-then-set-eq0-clause-step c =
+    ap (λ ls. reached ls (Some c.args.place.point) (slice_set c.args.sets.now c.args.place.point c.without-set.result))
+    (c.put-then-set-eq0.ensures.lines ∙ ap (λ ls. ls ++ line.Z c.args.place.point ∷ []) c.put.ensures.lines)
+    ∙ taken_last c.args.lines.now.items c.args.sets.now c.args.place.execution c.args.place.process c.args.place.point c.args.value c.without-set.result c.requires.point c.without-set.ensures
+    (ap values_in c.if-set-eq0.true ∙ values_of_nothing)
+
+pub returns-then-set-eq0-clause-emptied : goal.returns-then-set-eq0-clause-emptied
+returns-then-set-eq0-clause-emptied c = set_there c.args.sets.now c.args.place.point c.without-set.result c.requires.point ∙ ap values_in c.if-set-eq0.true ∙ values_of_nothing
+
+pub returns-clause-step : goal.returns-clause-step
+returns-clause-step c =
+    ap (λ ls. reached ls None (slice_set c.args.sets.now c.args.place.point c.without-set.result)) c.put.ensures.lines
+    ∙ taken_on c.args.lines.now.items c.args.sets.now c.args.place.execution c.args.place.process c.args.place.point c.args.value c.without-set.result c.requires.point c.without-set.ensures
+    (λ gone. c.if-set-eq0.false (nothing_from_values c.without-set.result c.without-set.type_inv gone))
+
+pub returns-clause-room : goal.returns-clause-room
+returns-clause-room c =
+    let fewer = one_less c.args.sets.now c.args.place.point c.args.value c.without-set.result c.requires.point c.without-set.ensures c.requires.present in
+    omega (arith, fewer, c.put.ensures.len, c.put.ensures.room, c.requires.room)
+
+pub returns-clause-spent : goal.returns-clause-spent
+returns-clause-spent c =
+    let fewer = one_less c.args.sets.now c.args.place.point c.args.value c.without-set.result c.requires.point c.without-set.ensures c.requires.present in
+    omega (arith, fewer, c.put.ensures.len)

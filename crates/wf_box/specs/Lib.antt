@@ -1,0 +1,3 @@
+pub mod Problems
+pub mod Steps
+pub mod Closes

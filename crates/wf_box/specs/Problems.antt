@@ -1,0 +1,45 @@
+-- What a clause sees of the program's problems, and what each of them keeps.
+use Rattle.std.specs.Prelude.{◌≡◌, ◌<◌, ◌≤◌, ℕ, List, [], map, zip, length, get_or, All}
+use Rattle.wf_model.specs.Simplex.{processes_of}
+use Rattle.wf_model.specs.Task as task
+use Rattle.wf_model.specs.Problem.{Problem, Constraint, IsWellFormed}
+use Rattle.wf_lane.specs.Sets.{values_in}
+use Rattle.wf_box.specs.declared.problem.Rule.{Rule}
+use Rattle.wf_box.specs.declared.problem.Execution.{Execution}
+use Rattle.wf_box.specs.declared.problem.Problem.TheInside.{Inside}
+
+-- no input simplex at all
+abbrev pub no_rule : Rule
+no_rule = record { simplex = []; table = record { width = 0; rows = [] } }
+
+-- the rule as the definitions have it
+abbrev pub rule_seen : Rule → task.Rule
+rule_seen rule = record { input = rule.simplex; tuples = rule.table.rows }
+
+-- the table is as wide as the simplex has processes
+abbrev pub IsWide : Rule → Type 0
+IsWide rule = rule.table.width ≡ length rule.simplex
+
+-- the rule of an execution
+abbrev pub rule_of : List Rule → Execution → Rule
+rule_of rules e = get_or rules e.rule no_rule
+
+-- the processes of the execution's simplex, each with its point, and the tuples of that simplex
+abbrev pub constraint_seen : List Rule → Execution → Constraint
+constraint_seen rules e = record { scope = zip (processes_of (rule_of rules e).simplex) e.points; tuples = (rule_of rules e).table.rows }
+
+abbrev pub problem_seen : Inside → Problem
+problem_seen p = record { points = p.points; values = values_in p.values; constraints = map (constraint_seen p.rules.items) p.executions.items }
+
+-- an execution with a rule that is there and four points that are there, of which those past its size are not used
+pub record IsWithin (rules points : ℕ) (e : Execution) : Type 0 where
+  pub rule : e.rule < rules
+  pub long : length e.points ≡ 4
+  pub points_within : All (λ v. v < points) e.points
+
+pub record IsKept (p : Inside) : Type 0 where
+  pub few_points : p.points ≤ 2000000
+  pub few_executions : length p.executions.items ≤ 500000
+  pub wide : All IsWide p.rules.items
+  pub within : All (IsWithin (length p.rules.items) p.points) p.executions.items
+  pub well_formed : IsWellFormed (problem_seen p)

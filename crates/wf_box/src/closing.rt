@@ -1,0 +1,195 @@
+//! Closing.
+
+ghost use Rattle.std.specs.Prelude.{◌≡◌, ◌<◌, ◌≤◌, ◌+◌, ◌++◌, ℕ, List, None, suc, true, length, map, IfOk, IfSome, OnOk, OnErr, IfNone, [], All, slice_index, ◌^◌, bit_and};
+ghost use Rattle.std.specs.Int.{bit_not, w64};
+ghost use Rattle.wf_model.specs.Lists.{has};
+ghost use Rattle.wf_model.specs.Problem.{IsSolution, IsWellFormed};
+ghost use Rattle.wf_model.specs.Box.{LiesIn, candidates, count, first_empty};
+ghost use Rattle.wf_model.specs.Closing.{and_then, closing, lost, sweep, sweeps, take_out_each};
+ghost use Rattle.wf_model.specs.Laws.{IsBoxOf};
+ghost use Rattle.wf_complex.specs.Lines.{line_of};
+ghost use Rattle.wf_lane.specs.Sets.{values_in};
+ghost use Rattle.wf_box.specs.Steps.{HasRoom, IsSpent, box_of, reached};
+ghost use Rattle.wf_box.specs.Closes.{AreFew, IsEmptied, IsSupported, Leaves, constraint_at, emptied_by};
+
+use crate::boxed::Box0;
+use crate::problem::{Execution, Problem};
+use crate::taking::{Place, put, take_each};
+use std::alloc::{AllocError, Global};
+use wf_complex::{Line, Lines};
+use wf_lane::{count, first_empty};
+
+/// How closing ended.
+#[derive(Clone, Copy, Debug, PartialEq, Eq)]
+pub enum Closed {
+    /// This point has no candidate left.
+    Empty(u32),
+    /// Each candidate is supported in each execution at each place where its point stands.
+    Open {
+        /// How many sweeps it took, with the last one, which changed nothing.
+        sweeps: u32,
+    },
+}
+
+/// Takes out what is not supported, sweep by sweep, until a sweep changes nothing or a point is emptied, and adds a
+/// line for each value that is taken out, and one for the point that is emptied.
+///
+/// In a sweep the executions come in order, and each is judged by the candidates as they stand before it. Where a point
+/// has no candidate at the start, the line of the first such point is all. Refused for want of memory alone, and box
+/// and lines are then as before.
+pub fn close(
+    _alloc: Global,
+    problem: &Problem,
+    boxed: &mut Box0,
+    lines: &mut Lines,
+) -> Result<Closed, AllocError>
+    requires { IsBoxOf problem.now boxed.old }
+    ensures lines { OnOk result (map line_of lines.new.items ≡ map line_of lines.old.items ++ (closing problem.now boxed.old).lines) }
+    ensures leaves { IfOk result (Leaves (closing problem.now boxed.old).left boxed.new) }
+    ensures emptied { IfOk result (IsEmptied boxed.new) }
+    ensures solutions { OnOk result ((m : List ℕ) → IsSolution problem.now m → LiesIn m boxed.old → LiesIn m boxed.new) }
+    ensures supported { IfOk result (IsSupported problem.now boxed.new) }
+    ensures sweeps { IfOk result (AreFew (count boxed.old) (count boxed.new)) }
+    ensures refused_lines { OnErr result (lines.new.items ≡ lines.old.items) }
+    ensures refused_box { OnErr result (boxed.new ≡ boxed.old) }
+{
+    lines.reserve(count_candidates(&boxed.sets) + 1)?;
+    Ok(close_sets(problem, &mut boxed.sets, lines))
+}
+
+/// How many candidates the points have in all.
+fn count_candidates(sets: &[u64]) -> usize
+    requires { length sets.now ≤ 2000000 }
+    ensures count { result ≡ count (box_of sets.now) }
+    ensures few { result ≤ 128000000 }
+{
+    count(sets) as usize
+}
+
+/// Closes a box of words, where there is room for the lines.
+fn close_sets(problem: &Problem, sets: &mut [u64], lines: &mut Lines) -> Closed
+    requires boxed { IsBoxOf problem.now (box_of sets.old) }
+    requires long { length sets.old ≡ problem.now.points }
+    requires few { length sets.old ≤ 2000000 }
+    requires room { HasRoom lines.old sets.old }
+    ensures step { reached lines.new.items (emptied_by result) sets.new ≡ and_then (reached lines.old.items None sets.old) (closing problem.now) }
+    ensures emptied { IsEmptied (box_of sets.new) result }
+    ensures solutions { (m : List ℕ) → IsSolution problem.now m → LiesIn m (box_of sets.old) → LiesIn m (box_of sets.new) }
+    ensures supported { IsSupported problem.now (box_of sets.new) result }
+    ensures sweeps { AreFew (count (box_of sets.old)) (count (box_of sets.new)) result }
+{
+    if let Some(point) = empty_point(sets) {
+        put(lines, Line::Z { point });
+        return Closed::Empty(point);
+    }
+    sweeps(problem, sets, lines)
+}
+
+/// The first point without a candidate.
+fn empty_point(sets: &[u64]) -> Option<u32>
+    requires { length sets.now ≤ 2000000 }
+    ensures { result ≡ first_empty (box_of sets.now) }
+{
+    match first_empty(sets) {
+        Some(point) => Some(point as u32),
+        None => None,
+    }
+}
+
+/// Sweeps until one changes nothing or a point is emptied.
+fn sweeps(problem: &Problem, sets: &mut [u64], lines: &mut Lines) -> Closed
+    requires long { length sets.old ≡ problem.now.points }
+    requires few { length sets.old ≤ 2000000 }
+    requires room { HasRoom lines.old sets.old }
+    ensures step { reached lines.new.items (emptied_by result) sets.new ≡ and_then (reached lines.old.items None sets.old) (sweeps (suc (count (box_of sets.old))) problem.now) }
+    ensures emptied { IsEmptied (box_of sets.new) result }
+    ensures sweeps { AreFew (count (box_of sets.old)) (count (box_of sets.new)) result }
+    ensures problem { IsWellFormed problem.now }
+{
+    let mut sweeps = 1;
+    'sweeping: loop {
+        let before = lines.len();
+        if let Some(point) = sweep(problem, sets, lines) {
+            return Closed::Empty(point);
+        }
+        if lines.len() == before {
+            return Closed::Open { sweeps };
+        }
+        sweeps += 1;
+    }
+}
+
+/// Takes out of each execution in turn what is not supported there. The point that this empties, if there is one.
+fn sweep(problem: &Problem, sets: &mut [u64], lines: &mut Lines) -> Option<u32>
+    requires long { length sets.old ≡ problem.now.points }
+    requires room { HasRoom lines.old sets.old }
+    ensures step { reached lines.new.items result sets.new ≡ and_then (reached lines.old.items None sets.old) (sweep problem.now) }
+    ensures long { length sets.new ≡ length sets.old }
+    ensures emptied { IfSome result (λ v. candidates (box_of sets.new) v ≡ []) }
+    ensures room { IfNone result (HasRoom lines.new sets.new) }
+    ensures spent { IfNone result (IsSpent lines.old sets.old lines.new sets.new) }
+    ensures problem { IsWellFormed problem.now }
+{
+    'executions: for number in 0..problem.executions.len() {
+        let emptied = revise(problem, number as u32, sets, lines);
+        if emptied.is_some() {
+            return emptied;
+        }
+    }
+    None
+}
+
+/// Takes out what is not supported in an execution, judged by its points' candidates as they stood before. The point
+/// that this empties, if there is one.
+fn revise(problem: &Problem, number: u32, sets: &mut [u64], lines: &mut Lines) -> Option<u32>
+    requires number { number < length problem.now.constraints }
+    requires long { length sets.old ≡ problem.now.points }
+    requires room { HasRoom lines.old sets.old }
+    ensures step { reached lines.new.items result sets.new
+        ≡ and_then (reached lines.old.items None sets.old) (λ box. take_out_each number (lost box (constraint_at problem.now number)) box) }
+    ensures long { length sets.new ≡ length sets.old }
+    ensures emptied { IfSome result (λ v. candidates (box_of sets.new) v ≡ []) }
+    ensures room { IfNone result (HasRoom lines.new sets.new) }
+    ensures spent { IfNone result (IsSpent lines.old sets.old lines.new sets.new) }
+{
+    let execution = problem.executions[number as usize];
+    let rule = &problem.rules[execution.rule as usize];
+    let found = candidates_at(execution, sets);
+    let supported = rule.table.revise(found).masks;
+    'places: for place in 0..rule.simplex.colours() {
+        let at = Place {
+            execution: number,
+            process: rule.simplex.colour(place),
+            point: execution.points[place as usize],
+        };
+        let lost = difference(found[place as usize], supported[place as usize]);
+        if take_each(lost, at, sets, lines) {
+            return Some(at.point);
+        }
+    }
+    None
+}
+
+/// The values that are not among the others.
+fn difference(values: u64, others: u64) -> u64
+    ensures difference { result ≡ bit_and values (bit_not w64 others) }
+    ensures word { others < 2 ^ 64 }
+{
+    values & !others
+}
+
+/// The candidates of the points of an execution.
+fn candidates_at(execution: Execution, sets: &[u64]) -> [u64; 4]
+    requires long { length execution.points ≡ 4 }
+    requires within { All (λ v. v < length sets.now) execution.points }
+    ensures candidates { result ≡ map (λ v. slice_index sets.now v) execution.points }
+    ensures long { length result ≡ 4 }
+{
+    let [first, second, third, fourth] = execution.points;
+    [
+        sets[first as usize],
+        sets[second as usize],
+        sets[third as usize],
+        sets[fourth as usize],
+    ]
+}

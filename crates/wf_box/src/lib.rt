@@ -1,0 +1,19 @@
+//! Boxes of candidates, and closing: what no process can decide is taken out, with a line for each value.
+//!
+//! - [`Problem`]: the constraint problem of a task and its protocol complex. Each input simplex has one table of
+//!   tuples, which its executions share.
+//! - [`Box0`]: the candidates of each point.
+//! - [`close`]: sweeps through the executions until each candidate is supported wherever its point stands.
+#![tactic(auto)]
+
+mod boxed;
+mod closing;
+mod problem;
+mod taking;
+
+pub use boxed::Box0;
+pub use closing::{Closed, close};
+pub use problem::Problem;
+
+#[cfg(test)]
+mod tests;

@@ -1,0 +1,135 @@
+//! The constraint problem of a task and its protocol complex.
+
+ghost use Rattle.std.specs.Prelude.{◌≡◌, ◌<◌, ◌≤◌, ◌^◌, ℕ, All, length, map, take, IfOk};
+ghost use Rattle.wf_model.specs.Problem.{problem_of};
+ghost use Rattle.wf_complex.specs.Protocol.{IsProtocol};
+ghost use Rattle.wf_box.specs.Problems.{IsWide, IsWithin, constraint_seen, rule_seen};
+
+use std::alloc::{AllocError, Global};
+use std::marker::Model;
+use wf_complex::Protocol;
+use wf_lane::TupleTable;
+use wf_simplex::Simplex;
+use wf_task::{Row, Task};
+
+/// What an input simplex allows: its processes, and its tuples as a table.
+#[derive(Drop)]
+pub(crate) struct Rule {
+    pub(crate) simplex: Simplex,
+    pub(crate) table: TupleTable,
+}
+
+impl Rule {
+    /// The rule of a simplex with these tuples.
+    pub(crate) fn of(alloc: Global, simplex: Simplex, tuples: &[Row]) -> Result<Rule, AllocError>
+        requires long { All (λ tuple. length tuple ≡ length simplex) tuples.now }
+        requires few { length tuples.now < 2 ^ 32 }
+        ensures rule { IfOk result (λ rule. rule_seen rule ≡ record { input = simplex; tuples = tuples.now }) }
+        ensures wide { IfOk result IsWide }
+    {
+        let table = TupleTable::build(alloc, tuples, simplex.colours())?;
+        Ok(Rule { simplex, table })
+    }
+}
+
+/// An execution: the number of its input simplex, and the points of its processes. The points past their number are
+/// that of the first process, and are not used.
+#[derive(Clone, Copy, Debug)]
+pub(crate) struct Execution {
+    pub(crate) rule: u32,
+    pub(crate) points: [u32; 4],
+}
+
+/// The constraint problem of a task after some rounds: a decision map gives each point a value, so that in each
+/// execution the values at its points are a tuple that the task allows.
+///
+/// Points and executions have the numbers of the protocol complex. The tuples of an input simplex are kept once.
+#[derive(Drop)]
+pub struct Problem {
+    pub(crate) points: u32,
+    // bit v is set where v occurs in the outputs
+    pub(crate) values: u64,
+    pub(crate) rules: Vec<Rule>,
+    pub(crate) executions: Vec<Execution>,
+}
+
+impl Model for Problem {
+    ghost use Rattle.wf_model.specs.Problem.{Problem};
+
+    ghost Value = { Problem };
+
+    ghost use Rattle.wf_box.specs.Problems.{problem_seen, IsKept};
+
+    ghost view = { problem_seen };
+
+    ghost invariant = { IsKept };
+}
+
+impl Problem {
+    /// The problem of a task on its protocol complex. The protocol has to be that of the task.
+    pub fn join(alloc: Global, task: &Task, protocol: &Protocol) -> Result<Problem, AllocError>
+        requires built { IsProtocol task.now protocol.now.rounds protocol.now }
+        ensures { IfOk result (λ problem. problem ≡ problem_of task.now protocol.now.rounds) }
+    {
+        let rules = rules(alloc, task)?;
+        let executions = executions(alloc, task, protocol, &rules)?;
+        Ok(Problem {
+            points: protocol.points(),
+            values: task.values(),
+            rules,
+            executions,
+        })
+    }
+}
+
+/// The rule of each input simplex.
+fn rules(alloc: Global, task: &Task) -> Result<Vec<Rule>, AllocError>
+    ensures rules { IfOk result (λ rules. map rule_seen rules.items ≡ task.now.rules) }
+    ensures wide { IfOk result (λ rules. All IsWide rules.items) }
+{
+    let inputs = task.inputs().simplices();
+    let mut rules = Vec::with_capacity(alloc, inputs.len())?;
+    for (number, simplex) in inputs.iter().enumerate() {
+        rules.push(Rule::of(alloc, *simplex, task.tuples(number as u32))?)?;
+    }
+    Ok(rules)
+}
+
+/// The executions of a protocol complex, whose input simplices have these rules.
+fn executions(
+    alloc: Global,
+    task: &Task,
+    protocol: &Protocol,
+    rules: &[Rule],
+) -> Result<Vec<Execution>, AllocError>
+    requires built { IsProtocol task.now protocol.now.rounds protocol.now }
+    requires rules { map rule_seen rules.now ≡ task.now.rules }
+    ensures constraints { IfOk result (λ executions. map (constraint_seen rules.now) executions.items ≡ (problem_of task.now protocol.now.rounds).constraints) }
+    ensures within { IfOk result (λ executions. All (IsWithin (length rules.now) (length protocol.now.points)) executions.items) }
+{
+    let _inputs = task.inputs();
+    let count = protocol.executions();
+    let mut executions = Vec::with_capacity(alloc, count as usize)?;
+    for number in 0..count {
+        executions.push(Execution {
+            rule: protocol.simplex_of(number),
+            points: four(protocol.points_of(number)),
+        })?;
+    }
+    Ok(executions)
+}
+
+/// These points, and the first of them again where there are fewer than four.
+fn four(points: &[u32]) -> [u32; 4]
+    requires some { 0 < length points.now }
+    requires few { length points.now ≤ 4 }
+    ensures points { take (length points.now) result ≡ points.now }
+    ensures long { length result ≡ 4 }
+    ensures among { (n : ℕ) → All (λ v. v < n) points.now → All (λ v. v < n) result }
+{
+    let mut four = [points[0]; 4];
+    for (place, point) in points.iter().enumerate() {
+        four[place] = *point;
+    }
+    four
+}

@@ -1,0 +1,85 @@
+use crate::{Box0, Closed, Problem, close};
+use std::alloc::Global;
+use std::test::Fail;
+use wf_complex::{Line, Lines, Protocol};
+use wf_task::Task;
+
+// The inputs are (0, 0) and (1, 0). Alone process 0 decides 0 and process 1 decides 2; together they decide values of
+// 0 to 2 that differ by at most 1.
+const PATH_2: &str =
+    r#"{"version":1,"processes":2,"symmetric":false,"inputs":[[[0,0],[1,0]]],"outputs":[[[0,0],[1,0]],[[0,0],[1,1]],[[0,1],[1,0]],[[0,1],[1,1]],[[0,1],[1,2]],[[0,2],[1,1]],[[0,2],[1,2]]],"delta":[{"in":[[0,0]],"out":[[0]]},{"in":[[1,0]],"out":[[2]]},{"in":[[0,0],[1,0]],"out":[[0,0],[0,1],[1,0],[1,1],[1,2],[2,1],[2,2]]}]}"#;
+
+// Two processes decide the same value, the input of one of them.
+const CONSENSUS_2: &str =
+    r#"{"delta":[{"in":[[0,0]],"out":[[0]]},{"in":[[1,1]],"out":[[1]]},{"in":[[0,0],[1,1]],"out":[[0,0],[1,1]]}],"inputs":[[[0,0],[1,1]]],"outputs":[[[0,0],[1,0]],[[0,1],[1,1]]],"processes":2,"symmetric":false,"version":1}"#;
+
+// Three processes without names. Without a round they know the same, and their one point stands three times in the
+// execution of all three, whose tuples are 000 and 201.
+const ONE_POINT_THREE_TIMES: &str =
+    r#"{"version":1,"processes":3,"symmetric":true,"inputs":[[[0,0],[1,0],[2,0]]],"outputs":[[[0,0],[1,0],[2,0]],[[0,2],[1,0],[2,1]],[[0,1],[1,1]],[[0,2],[1,2]],[[0,1],[2,1]],[[0,2],[2,2]],[[1,1],[2,1]],[[1,2],[2,2]]],"delta":[{"in":[[0,0]],"out":[[0],[1],[2]]},{"in":[[1,0]],"out":[[0],[1],[2]]},{"in":[[2,0]],"out":[[0],[1],[2]]},{"in":[[0,0],[1,0]],"out":[[0,0],[1,1],[2,2]]},{"in":[[0,0],[2,0]],"out":[[0,0],[1,1],[2,2]]},{"in":[[1,0],[2,0]],"out":[[0,0],[1,1],[2,2]]},{"in":[[0,0],[1,0],[2,0]],"out":[[0,0,0],[2,0,1]]}]}"#;
+
+/// The problem of a task's text after some rounds.
+fn problem_of(alloc: Global, text: &str, rounds: u32) -> Result<Problem, Fail> {
+    let task = Task::read_text(alloc, text.as_bytes())?;
+    let protocol = Protocol::build(alloc, &task, rounds)?;
+    Ok(Problem::join(alloc, &task, &protocol)?)
+}
+
+fn lost(execution: u32, process: u8, value: u8) -> Line {
+    Line::P {
+        execution,
+        process,
+        value,
+    }
+}
+
+#[test]
+fn closing_the_root_of_the_path_of_two(rt: HostRuntime) -> Result<(), Fail> {
+    let problem = problem_of(rt.alloc(), PATH_2, 1)?;
+    let mut boxed = Box0::root(rt.alloc(), &problem)?;
+    let mut lines: Lines = Vec::new(rt.alloc());
+    let closed = close(rt.alloc(), &problem, &mut boxed, &mut lines)?;
+    assert_eq!(rt; closed, Closed::Open { sweeps: 2 });
+    let wanted = [
+        lost(0, 0, 1),
+        lost(0, 0, 2),
+        lost(1, 1, 0),
+        lost(1, 1, 1),
+        lost(3, 1, 2),
+        lost(4, 0, 0),
+    ];
+    assert_eq!(rt; lines.as_slice(), wanted.as_slice());
+    assert_eq!(rt; boxed.sets.as_slice(), [1, 4, 6, 3].as_slice());
+    Ok(())
+}
+
+#[test]
+fn a_point_is_emptied(rt: HostRuntime) -> Result<(), Fail> {
+    let problem = problem_of(rt.alloc(), CONSENSUS_2, 0)?;
+    let mut boxed = Box0::root(rt.alloc(), &problem)?;
+    let mut lines: Lines = Vec::new(rt.alloc());
+    let closed = close(rt.alloc(), &problem, &mut boxed, &mut lines)?;
+    assert_eq!(rt; closed, Closed::Empty(0));
+    let wanted = [
+        lost(0, 0, 1),
+        lost(1, 1, 0),
+        lost(2, 0, 0),
+        Line::Z { point: 0 },
+    ];
+    assert_eq!(rt; lines.as_slice(), wanted.as_slice());
+    Ok(())
+}
+
+// In the execution of all three, which has number 6, process 0 can't have 1, process 1 neither 1 nor 2 and process 2
+// not 2, and each value is named once.
+#[test]
+fn a_point_that_stands_three_times_loses_each_value_once(rt: HostRuntime) -> Result<(), Fail> {
+    let problem = problem_of(rt.alloc(), ONE_POINT_THREE_TIMES, 0)?;
+    let mut boxed = Box0::root(rt.alloc(), &problem)?;
+    let mut lines: Lines = Vec::new(rt.alloc());
+    let closed = close(rt.alloc(), &problem, &mut boxed, &mut lines)?;
+    assert_eq!(rt; closed, Closed::Open { sweeps: 2 });
+    assert_eq!(rt; lines.as_slice(), [lost(6, 0, 1), lost(6, 1, 2)].as_slice());
+    assert_eq!(rt; boxed.sets.as_slice(), [1].as_slice());
+    Ok(())
+}
