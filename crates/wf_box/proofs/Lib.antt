@@ -5,3 +5,4 @@ pub mod PlaceLemmas
 pub mod ProblemLemmas
 pub mod SweepLemmas
 pub mod CloseLemmas
+pub mod BoxLemmas

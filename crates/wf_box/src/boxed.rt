@@ -4,6 +4,7 @@ ghost use Rattle.std.specs.Prelude.{◌≡◌, ◌<◌, ◌≤◌, true, length,
 ghost use Rattle.wf_model.specs.Lists.{has};
 ghost use Rattle.wf_model.specs.Box.{candidates, decided, root};
 ghost use Rattle.wf_lane.specs.Sets.{values_in};
+ghost use Rattle.wf_box.specs.Steps.{box_of};
 
 use crate::problem::Problem;
 use std::alloc::{AllocError, Global};
@@ -53,7 +54,7 @@ impl Box0 {
         requires { has (candidates self.old point) value ≡ true }
         ensures { self.new ≡ decided self.old point value }
     {
-        self.sets[point as usize] = 1 << value;
+        leave_value(&mut self.sets, point, value);
     }
 
     /// The candidates of a point: bit v is set where v is one. It takes no memory.
@@ -63,4 +64,12 @@ impl Box0 {
     {
         self.sets[point as usize]
     }
+}
+
+/// Leaves a point one of its candidates.
+fn leave_value(sets: &mut [u64], point: u32, value: u8)
+    requires { has (candidates (box_of sets.old) point) value ≡ true }
+    ensures { box_of sets.new ≡ decided (box_of sets.old) point value }
+{
+    sets[point as usize] = 1 << value;
 }
