@@ -6,3 +6,5 @@ pub mod ProblemLemmas
 pub mod SweepLemmas
 pub mod CloseLemmas
 pub mod BoxLemmas
+pub mod JoinLemmas
+pub mod ValueLemmas

@@ -1,5 +1,5 @@
 -- Lemmas of the model's proofs that are not public there yet.
-use Rattle.std.proofs.Common.{◌≡◌, ℕ, zero, suc, ◌<◌, ◌≤◌, ◌==◌, ◌&&◌, true, false, not, List, [], ◌∷◌, map, filter, flat_map, length, inl, inr, arith, sym, ◌∙◌, eq-eqb}
+use Rattle.std.proofs.Common.{◌≡◌, ℕ, zero, suc, ◌<◌, ◌≤◌, ◌==◌, ◌&&◌, true, false, not, List, [], ◌∷◌, map, filter, flat_map, length, inl, inr, arith, sym, ◌∙◌, eq-eqb, eqb-true, subst}
 use Rattle.std.specs.List.{AllByRecursion}
 use Rattle.std.proofs.lemmas.Bool.{cases_Bool, or_cases, false≢true}
 use Rattle.wf_model.specs.Lists.{has}
@@ -30,3 +30,8 @@ lost_present box k =
     (λ q. each_map (λ (x : Loss). has (candidates box x.point) x.value ≡ true) (λ a. record { process = q.1; value = a; point = q.2 }) (filter (λ a. not (is_supported_in k box q.0 a)) (candidates box q.2))
     (each_filter (λ a. has (candidates box q.2) a ≡ true) (λ a. not (is_supported_in k box q.0 a)) (candidates box q.2) (each_has (candidates box q.2))))
     (places k.scope)))
+
+pub each_with_value : (P : ℕ → Type 0) (xs : List ℕ) (a : ℕ) → AllByRecursion P xs → has xs a ≡ true → P a
+each_with_value P [] a h is = absurd (false≢true is)
+each_with_value P (x ∷ xs) a h is =
+    elim (or_cases (x == a) (has xs a) is) [ inl here ↦ subst P (eqb-true x a here) h.0 | inr later ↦ each_with_value P xs a h.1 later ]

@@ -71,5 +71,6 @@ fn leave_value(sets: &mut [u64], point: u32, value: u8)
     requires { has (candidates (box_of sets.old) point) value ≡ true }
     ensures { box_of sets.new ≡ decided (box_of sets.old) point value }
 {
-    sets[point as usize] = 1 << value;
+    let word = 1 << value;
+    sets[point as usize] = word;
 }

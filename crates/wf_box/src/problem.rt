@@ -1,6 +1,7 @@
 //! The constraint problem of a task and its protocol complex.
 
-ghost use Rattle.std.specs.Prelude.{◌≡◌, ◌<◌, ◌≤◌, ◌^◌, ℕ, All, length, map, take, IfOk};
+ghost use Rattle.std.specs.Prelude.{◌≡◌, ◌<◌, ◌≤◌, ◌^◌, ℕ, None, All, length, map, take, IfOk};
+ghost use Rattle.wf_model.specs.Task.{IsTask};
 ghost use Rattle.wf_model.specs.Problem.{problem_of};
 ghost use Rattle.wf_complex.specs.Protocol.{IsProtocol};
 ghost use Rattle.wf_box.specs.Problems.{IsWide, IsWithin, constraint_seen, rule_seen};
@@ -86,6 +87,8 @@ impl Problem {
 fn rules(alloc: Global, task: &Task) -> Result<Vec<Rule>, AllocError>
     ensures rules { IfOk result (λ rules. map rule_seen rules.items ≡ task.now.rules) }
     ensures wide { IfOk result (λ rules. All IsWide rules.items) }
+    ensures task { IsTask task.now }
+    ensures unrestricted { task.now.restriction ≡ None }
 {
     let inputs = task.inputs().simplices();
     let mut rules = Vec::with_capacity(alloc, inputs.len())?;
@@ -106,6 +109,7 @@ fn executions(
     requires rules { map rule_seen rules.now ≡ task.now.rules }
     ensures constraints { IfOk result (λ executions. map (constraint_seen rules.now) executions.items ≡ (problem_of task.now protocol.now.rounds).constraints) }
     ensures within { IfOk result (λ executions. All (IsWithin (length rules.now) (length protocol.now.points)) executions.items) }
+    ensures few { IfOk result (λ executions. length executions.items ≤ 500000) }
 {
     let _inputs = task.inputs();
     let count = protocol.executions();

@@ -18,6 +18,10 @@ const CONSENSUS_2: &str =
 const ONE_POINT_THREE_TIMES: &str =
     r#"{"version":1,"processes":3,"symmetric":true,"inputs":[[[0,0],[1,0],[2,0]]],"outputs":[[[0,0],[1,0],[2,0]],[[0,2],[1,0],[2,1]],[[0,1],[1,1]],[[0,2],[1,2]],[[0,1],[2,1]],[[0,2],[2,2]],[[1,1],[2,1]],[[1,2],[2,2]]],"delta":[{"in":[[0,0]],"out":[[0],[1],[2]]},{"in":[[1,0]],"out":[[0],[1],[2]]},{"in":[[2,0]],"out":[[0],[1],[2]]},{"in":[[0,0],[1,0]],"out":[[0,0],[1,1],[2,2]]},{"in":[[0,0],[2,0]],"out":[[0,0],[1,1],[2,2]]},{"in":[[1,0],[2,0]],"out":[[0,0],[1,1],[2,2]]},{"in":[[0,0],[1,0],[2,0]],"out":[[0,0,0],[2,0,1]]}]}"#;
 
+// One process, and no output at all.
+const ONE_WITHOUT_OUTPUT: &str =
+    r#"{"version":1,"processes":1,"symmetric":false,"inputs":[[[0,0]]],"outputs":[],"delta":[{"in":[[0,0]],"out":[]}]}"#;
+
 /// The problem of a task's text after some rounds.
 fn problem_of(alloc: Global, text: &str, rounds: u32) -> Result<Problem, Fail> {
     let task = Task::read_text(alloc, text.as_bytes())?;
@@ -81,5 +85,49 @@ fn a_point_that_stands_three_times_loses_each_value_once(rt: HostRuntime) -> Res
     assert_eq!(rt; closed, Closed::Open { sweeps: 2 });
     assert_eq!(rt; lines.as_slice(), [lost(6, 0, 1), lost(6, 1, 2)].as_slice());
     assert_eq!(rt; boxed.sets.as_slice(), [1].as_slice());
+    Ok(())
+}
+
+// Of the closed root, in which point 2 has 1 and 2 left and point 3 has 0 and 1.
+#[test]
+fn each_value_of_a_point_is_tried_in_a_copy(rt: HostRuntime) -> Result<(), Fail> {
+    let problem = problem_of(rt.alloc(), PATH_2, 1)?;
+    let mut boxed = Box0::root(rt.alloc(), &problem)?;
+    let mut lines: Lines = Vec::new(rt.alloc());
+    close(rt.alloc(), &problem, &mut boxed, &mut lines)?;
+    assert_eq!(rt; try_value(rt.alloc(), &problem, &boxed, 1)?, (1, 3, 0));
+    assert_eq!(rt; try_value(rt.alloc(), &problem, &boxed, 2)?, (2, 2, 1));
+    assert_eq!(rt; boxed.sets.as_slice(), [1, 4, 6, 3].as_slice());
+    Ok(())
+}
+
+/// Gives point 2 the value in a copy and closes that: how many sweeps it takes, the candidates of point 3 then, and how
+/// many lines are added.
+fn try_value(
+    alloc: Global,
+    problem: &Problem,
+    boxed: &Box0,
+    value: u8,
+) -> Result<(u32, u64, usize), Fail> {
+    let mut tried = boxed.copy(alloc)?;
+    if tried.sets.len() != 4 || tried.candidates(2) >> value & 1 == 0 {
+        return Err(Fail);
+    }
+    tried.set(2, value);
+    let mut lines: Lines = Vec::new(alloc);
+    match close(alloc, problem, &mut tried, &mut lines)? {
+        Closed::Open { sweeps } => Ok((sweeps, tried.candidates(3), lines.len())),
+        Closed::Empty(_) => Err(Fail),
+    }
+}
+
+#[test]
+fn a_point_without_a_candidate_at_the_start(rt: HostRuntime) -> Result<(), Fail> {
+    let problem = problem_of(rt.alloc(), ONE_WITHOUT_OUTPUT, 0)?;
+    let mut boxed = Box0::root(rt.alloc(), &problem)?;
+    let mut lines: Lines = Vec::new(rt.alloc());
+    let closed = close(rt.alloc(), &problem, &mut boxed, &mut lines)?;
+    assert_eq!(rt; closed, Closed::Empty(0));
+    assert_eq!(rt; lines.as_slice(), [Line::Z { point: 0 }].as_slice());
     Ok(())
 }

@@ -96,6 +96,7 @@ scope_on t r e x there =
 -- the constraint of an execution, by the rule of its simplex and its points
 pub constraint_there : (t : Task) (r : ℕ) (b : Built) (e s : ℕ) → IsProtocol t r b → e < length b.scopes → slice_get b.simplices e ≡ Some s → (rule : Rule) × (slice_get t.rules s ≡ Some rule)
     × (slice_get (problem_of t r).constraints e ≡ Some (record { scope = zip (processes_of rule.input) (map (λ at. at.1) (slice_index_or b.scopes e [])); tuples = rule.tuples }))
+    × (length (slice_index_or b.scopes e []) ≡ length rule.input)
 constraint_there t r b e s h inside on =
     let at = stands_at t r b e s h inside on in
     let k : Constraint = constraint_of t (points t r) at.execution in
@@ -105,4 +106,6 @@ constraint_there t r b e s h inside on =
     ∙ got (map (λ k. k.scope) (problem_of t r).constraints) e k.scope [] (slice_get-map (λ k. k.scope) (problem_of t r).constraints e ∙ ap (option_map (λ k. k.scope)) there) in
     let as_zipped : k.scope ≡ zip (processes_of at.execution.rule.input) (map (λ at. at.1) (slice_index_or b.scopes e [])) =
     parted k.scope ∙ (λ i. zip (scope_on t r e at.execution at.there i) (map (λ at. at.1) (sym scope i))) in
-    (at.execution.rule, at.rule_there, there ∙ ap (λ scope. Some (record { scope = scope; tuples = at.execution.rule.tuples })) as_zipped)
+    let as_long : length (slice_index_or b.scopes e []) ≡ length at.execution.rule.input =
+    ap length scope ∙ sym (length-map k.scope (λ at. at.0)) ∙ ap length (scope_on t r e at.execution at.there) ∙ length-map at.execution.rule.input (λ v. v.0) in
+    (at.execution.rule, at.rule_there, there ∙ ap (λ scope. Some (record { scope = scope; tuples = at.execution.rule.tuples })) as_zipped, as_long)

@@ -2,8 +2,8 @@ use Rattle.std.proofs.Common.{◌≡◌, arith}
 use Rattle.wf_box.proofs.BoxLemmas.{one_left, point_there, value_there}
 use Rattle.wf_box.proofs.boxed.leave_value.Goals as goal
 
-pub overflow_shl-value : goal.overflow_shl-value
-overflow_shl-value c = value_there c.args.sets.now c.args.point c.args.value c.requires
+pub overflow_shl-word : goal.overflow_shl-word
+overflow_shl-word c = value_there c.args.sets.now c.args.point c.args.value c.requires
 
 pub bounds-sets-point : goal.bounds-sets-point
 bounds-sets-point c = point_there c.args.sets.now c.args.point c.args.value c.requires

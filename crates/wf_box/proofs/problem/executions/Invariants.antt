@@ -4,4 +4,4 @@ use Rattle.wf_box.specs.Problems.{IsWithin, constraint_seen}
 use Rattle.wf_box.proofs.problem.executions.Given as goal
 
 abbrev pub invariant-loop-number : goal.invariant-loop-number
-invariant-loop-number l = (map (constraint_seen l.rules) l.executions.items ≡ take l.number (problem_of l.task l.protocol.rounds).constraints) × All (IsWithin (length l.rules) (length l.protocol.points)) l.executions.items
+invariant-loop-number l = (map (constraint_seen l.rules) l.executions.items ≡ take l.number (problem_of l.task l.protocol.rounds).constraints) × All (IsWithin (length l.rules) (length l.protocol.points)) l.executions.items × (length l.executions.items ≡ l.number)

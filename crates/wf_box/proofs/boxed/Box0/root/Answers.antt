@@ -5,4 +5,4 @@ use Rattle.wf_box.proofs.BoxLemmas.{same_sets}
 use Rattle.wf_box.proofs.boxed.Box0.root.Goals as goal
 
 pub returns : goal.returns
-returns c = ap (map values_in) (let q = c.in_ok-vec.ensures.items_if_clones_equal in ?) ∙ same_sets c.problem.inside.points c.problem.inside.values ∙ ap root c.problem.view_is
+returns c = ap (map values_in) (c.in_ok-vec.ensures.items_if_clones_equal (λ y e. e)) ∙ same_sets c.problem.inside.points c.problem.inside.values ∙ ap root c.problem.view_is
