@@ -138,6 +138,7 @@ fn too_many_tuples(rt: HostRuntime) -> Result<(), Fail> {
 fn the_first_limit_is_named(rt: HostRuntime) -> Result<(), Fail> {
     let alloc = rt.alloc();
     let vertices = vertices(alloc, 64)?;
+    let simplices = triangles_and(alloc, "[[0,15]],[[1,15]]")?;
     let outputs = repeated(alloc, "[[0,0]]", 65_537)?;
     let tuples = entry(alloc, repeated(alloc, "[0]", 65_537)?.as_str())?;
     let rows = [
@@ -147,6 +148,12 @@ fn the_first_limit_is_named(rt: HostRuntime) -> Result<(), Fail> {
             outputs.as_str(),
             "",
             TaskFault::TooMany(Limit::Vertices),
+        ),
+        (
+            simplices.as_str(),
+            "[]",
+            tuples.as_str(),
+            TaskFault::TooMany(Limit::Simplices),
         ),
         (
             "[]",
