@@ -1,18 +1,16 @@
 -- The words of rows, and the rows that they stand for.
-use Rattle.std.proofs.Common.{◌≡◌, ℕ, zero, suc, ◌+◌, ◌<◌, ◌≤◌, ◌^◌, List, [], ◌∷◌, length, map, take, refl, sym, ◌∙◌, ap, arith, ⊎_elim, subst, pow_pos, w64, lit<}
+use Rattle.std.proofs.Common.{◌≡◌, ℕ, zero, suc, ◌<◌, ◌≤◌, ◌^◌, List, [], ◌∷◌, length, map, refl, sym, ◌∙◌, ap, arith, ⊎_elim, subst, pow_pos, w64, lit<}
 use Rattle.std.specs.Prelude.{slice_index}
-use Rattle.std.specs.Int.{bit_at, trailing_zeros}
+use Rattle.std.specs.Int.{trailing_zeros}
 use Rattle.std.specs.List.{All}
-use Rattle.std.specs.Simd.Lanes.{zip2}
 use Rattle.std.proofs.Math.Pow.{pow-lt}
 use Rattle.std.proofs.lemmas.Bool.{cases_eq}
-use Rattle.std.proofs.lemmas.Simd.{zip2_of_maps}
 use Rattle.std.proofs.lemmas.Nat.Bits.{bit_at-pow_other, bit_at-trailing_zeros}
 use Rattle.std.proofs.lemmas.List.{length-map}
 use Rattle.std.proofs.lemmas.List.Elements.{All-head, All-tail, All-nil, All-cons}
 use Rattle.wf_model.specs.Task.{Tuple}
-use Rattle.wf_lane.specs.Words.{Words, rows_of, pair, words}
-use Rattle.wf_lane.specs.Table.{IsOneHot, AreOneHot, IsKept, Table, table_of, row_of, four_values, value_of, word_at}
+use Rattle.wf_lane.specs.Words.{Words, rows_of}
+use Rattle.wf_lane.specs.Table.{IsOneHot, AreOneHot, IsKept, Table, table_of, row_of, value_of, word_at}
 
 -- ---- a power and its exponent
 place_of-pow : (k : ℕ) → k < 64 → trailing_zeros w64 (2 ^ k) ≡ k

@@ -1,9 +1,9 @@
 -- From one-hot words to values.
-use Rattle.std.proofs.Common.{pow_pos, ◌≡◌, ℕ, zero, suc, ◌+◌, ◌*◌, ◌<◌, ◌≤◌, ◌^◌, List, [], ◌∷◌, length, map, take, Bool, true, false, cond, not, ◌&&◌, refl, sym, ◌∙◌, ap, arith, ⊎_elim, subst, max, get_or, eqb-true}
-use Rattle.std.specs.Prelude.{bit_and, bit_or, count_by, ◌||◌, ◌==◌, ◌↔◌}
+use Rattle.std.proofs.Common.{pow_pos, ◌≡◌, ℕ, zero, suc, ◌+◌, ◌*◌, ◌<◌, ◌≤◌, ◌^◌, List, [], ◌∷◌, length, map, take, Bool, true, false, cond, not, ◌&&◌, refl, sym, ◌∙◌, ap, arith, ⊎_elim, subst, max, eqb-true}
+use Rattle.std.specs.Prelude.{bit_and, bit_or, count_by, ◌||◌, ◌==◌}
 use Rattle.std.specs.Int.{bit_at, trailing_zeros, w64}
 use Rattle.std.specs.Int.Bits.{and_comm}
-use Rattle.std.specs.List.{All, filter, list_any}
+use Rattle.std.specs.List.{All}
 use Rattle.std.proofs.lemmas.Bool.{cases_eq, eq-eqb, ne_eqb, and_right}
 use Rattle.std.proofs.lemmas.Nat.Bits.{bit_at_or, bit_at-lt, and_pow, bit_at-pow_same, bit_at-pow_other, bit_at-zero, bit_at_ones}
 use Rattle.std.proofs.lemmas.List.FromFn.{get_or-range_with_len, length-range_with_len}
@@ -18,7 +18,7 @@ use Rattle.wf_lane.specs.Sets.{holds, values_in, sets_of}
 use Rattle.wf_lane.specs.Words.{Words, is_live, joined_words, meets}
 use Rattle.wf_lane.specs.Table.{IsOneHot, AreOneHot, row_of, four_values, value_of, opened}
 
-and_true : (b : Bool) → (b && true) ≡ b
+pub and_true : (b : Bool) → (b && true) ≡ b
 and_true true = refl
 and_true false = refl
 
@@ -31,13 +31,13 @@ or_test (suc (suc m)) n h k = absurd (omega arith)
 or_test zero (suc (suc n)) h k = absurd (omega arith)
 or_test (suc zero) (suc (suc n)) h k = absurd (omega arith)
 
-holds-or : (x y a : ℕ) → holds (bit_or x y) a ≡ (holds x a || holds y a)
+pub holds-or : (x y a : ℕ) → holds (bit_or x y) a ≡ (holds x a || holds y a)
 holds-or x y a = ap (λ b. b == 1) (bit_at_or x y a) ∙ or_test (bit_at x a) (bit_at y a) (bit_at-lt x a) (bit_at-lt y a)
 
-holds_nothing : (a : ℕ) → holds 0 a ≡ false
+pub holds_nothing : (a : ℕ) → holds 0 a ≡ false
 holds_nothing a = ap (λ b. b == 1) (bit_at-zero a)
 
-holds-pow : (k a : ℕ) → holds (2 ^ k) a ≡ (k == a)
+pub holds-pow : (k a : ℕ) → holds (2 ^ k) a ≡ (k == a)
 holds-pow k a = ⊎_elim (λ (e : a ≡ k). subst (λ j. holds (2 ^ k) j ≡ (k == j)) (sym e) (ap (λ b. b == 1) (bit_at-pow_same k) ∙ sym (eq-eqb k k refl))) (λ (ne : a ≡ k → ⊥). ap (λ b. b == 1) (bit_at-pow_other k a ne) ∙ sym (ne_eqb k a (λ e. ne (sym e)))) (cases_eq a k)
 
 test_bit : (b x : ℕ) → b < 2 → 0 < x → not (b * x == 0) ≡ (b == 1)
@@ -57,7 +57,7 @@ word_holds w a h = ap (λ x. holds x a) h.power ∙ holds-pow (trailing_zeros w6
 
 -- ---- lists of a word's values
 
-in_below : (n v : ℕ) → v < n → has (below n) v ≡ true
+pub in_below : (n v : ℕ) → v < n → has (below n) v ≡ true
 in_below n v h = list_any_at (λ y. y == v) (below n) v 0 (rw (length-range_with_len 0 n) h) (rw (get_or-range_with_len 0 n v 0 h) (eq-eqb (0 + v) v (omega arith)))
 
 -- a value is in the list where its bit is set
