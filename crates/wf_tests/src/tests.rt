@@ -26,7 +26,7 @@ fn complexes_are_those_of_the_slow_program(rt: HostRuntime) -> Result<(), Fail> 
         ("one process", ONE_PROCESS, ZERO, 8),
         ("one without tuple", ONE_WITHOUT_TUPLE, ZERO, 8),
         ("one without output", ONE_WITHOUT_OUTPUT, ZERO, 8),
-        ("four with inputs of their own", OWN_4, OWN, 1),
+        ("four with inputs of their own", OWN_4, OWN, 2),
     ];
     for (name, text, inputs, most) in rows {
         let found = complexes::first_difference(rt.alloc(), text, inputs, most)?;
@@ -42,7 +42,7 @@ fn symmetric_complexes_are_those_of_the_slow_program(rt: HostRuntime) -> Result<
         ("three names for two", RENAMING_2_3, ZERO, 3),
         ("five names for three", RENAMING_3_5, ZERO, 2),
         ("processes 0 and 2", SYMMETRIC_GAP, ZERO, 2),
-        ("four processes", SYMMETRIC_4, ZERO, 1),
+        ("four processes", SYMMETRIC_4, ZERO, 2),
     ];
     for (name, text, inputs, most) in rows {
         let found = complexes::first_difference(rt.alloc(), text, inputs, most)?;
