@@ -10,7 +10,7 @@ use Rattle.wf_model.specs.Box.{candidates, decided}
 use Rattle.wf_lane.specs.Sets.{values_in}
 use Rattle.wf_lane.proofs.SetLaws.{values_of_one, values_small}
 use Rattle.wf_box.specs.Steps.{box_of}
-use Rattle.wf_box.proofs.Shared.{each_with_value}
+use Rattle.wf_model.proofs.Closed.{each_with_value}
 
 pub same_sets : (n word : ℕ) → map values_in (replicate n word) ≡ replicate n (values_in word)
 same_sets zero word = refl

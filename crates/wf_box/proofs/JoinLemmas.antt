@@ -12,15 +12,12 @@ use Rattle.wf_model.specs.Problem.{Problem, Constraint, IsWellFormed, problem_of
 use Rattle.wf_model.proofs.WellFormed.{task_well_formed}
 use Rattle.wf_simplex.proofs.Within.{length-within}
 use Rattle.wf_complex.specs.Protocol.{Built, IsProtocol}
-use Rattle.wf_complex.proofs.RuleAt.{constraint_there}
+use Rattle.wf_complex.proofs.RuleAt.{constraint_there, got}
 use Rattle.wf_box.specs.Problems.{IsWide, IsWithin, constraint_seen, no_rule, rule_of, rule_seen}
 use Rattle.wf_box.specs.declared.problem.Rule.{Rule}
 use Rattle.wf_box.specs.declared.problem.Execution.{Execution}
 
 -- ---- one more in a loop
-
-pub got : {X : Type 0} (xs : List X) (i : ℕ) (x d : X) → slice_get xs i ≡ Some x → get_or xs i d ≡ x
-got xs i x d there = ap (λ o. unwrap_or o d) (sym (slice_get-get_or xs i d (slice_get_within xs i x there)) ∙ there)
 
 pub one_more : {X Y : Type 0} (f : X → Y) (xs : List X) (x : X) (ys : List Y) (i : ℕ) (y : Y) → map f xs ≡ take i ys → f x ≡ y → slice_get ys i ≡ Some y → map f (xs ++ x ∷ []) ≡ take (i + 1) ys
 one_more f xs x ys i y so_far is there =

@@ -1,4 +1,3 @@
-pub mod Shared
 pub mod StepLemmas
 pub mod TakingLemmas
 pub mod PlaceLemmas

@@ -3,9 +3,8 @@ use Rattle.std.proofs.Common.{◌≡◌, ℕ, ◌<◌, ◌≤◌, List, map, zip
 use Rattle.std.specs.List.{slice_index_or}
 use Rattle.std.proofs.lemmas.List.{get_or-map, length-map, get_or_default}
 use Rattle.wf_model.specs.Simplex.{processes_of}
-use Rattle.wf_model.specs.Problem.{Problem, Constraint}
+use Rattle.wf_model.specs.Problem.{Problem, Constraint, constraint_at, no_constraint}
 use Rattle.wf_box.specs.Problems.{IsKept, IsWide, IsWithin, constraint_seen, no_rule, problem_seen, rule_of}
-use Rattle.wf_box.specs.Closes.{constraint_at, no_constraint}
 use Rattle.wf_box.specs.declared.problem.Rule.{Rule}
 use Rattle.wf_box.specs.declared.problem.Execution.{Execution}
 use Rattle.wf_box.specs.declared.problem.Problem.TheInside.{Inside}

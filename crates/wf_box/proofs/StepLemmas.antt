@@ -7,7 +7,7 @@ use Rattle.wf_model.specs.Problem.{Constraint}
 use Rattle.wf_model.specs.Box.{Box, candidates, without}
 use Rattle.wf_model.specs.Refutation.{Line}
 use Rattle.wf_model.specs.Closing.{Step, Loss, same_candidate, keeps, continued, and_then, taken_out, take_out, take_out_each, places, lost_at, lost}
-use Rattle.wf_box.proofs.Shared.{lost_present}
+use Rattle.wf_model.proofs.Stable.{lost_present}
 use Rattle.wf_box.specs.Steps.{is_present, if_present, take_present}
 
 -- ---- steps one after another

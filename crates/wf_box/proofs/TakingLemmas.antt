@@ -8,7 +8,7 @@ use Rattle.wf_model.specs.Box.{Box, candidates, without, count}
 use Rattle.wf_model.specs.Refutation as refutation
 use Rattle.wf_model.specs.Closing.{Step, Loss, and_then, taken_out, take_out, take_out_each}
 use Rattle.wf_model.proofs.Fuel.{count_set_less}
-use Rattle.wf_box.proofs.Shared.{filter_less}
+use Rattle.wf_model.proofs.Stable.{filter_less}
 use Rattle.wf_lane.specs.Sets.{values_in}
 use Rattle.wf_complex.specs.Lines.{line_of}
 use Rattle.wf_complex.specs.declared.line.Line.{Line}

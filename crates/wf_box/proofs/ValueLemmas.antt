@@ -13,7 +13,7 @@ use Rattle.wf_model.proofs.Headline.{each_flat, always}
 use Rattle.wf_model.proofs.Stable.{each_has}
 use Rattle.wf_task.proofs.Drafted.{has_from_order}
 use Rattle.wf_lane.specs.Sets.{holds, values_in}
-use Rattle.wf_box.proofs.Shared.{each_with_value}
+use Rattle.wf_model.proofs.Closed.{each_with_value}
 
 -- ---- an ascending list as a part of a run
 

@@ -31,10 +31,3 @@ IsEmptied box (Open n) = Unit {0}
 abbrev pub IsSupported : Problem → Box → Closed → Type 0
 IsSupported p box (Empty v) = Unit {0}
 IsSupported p box (Open n) = (execution place process point a : ℕ) (k : Constraint) → slice_get p.constraints execution ≡ Some k → slice_get k.scope place ≡ Some (process, point) → has (candidates box point) a ≡ true → is_supported_in k box place a ≡ true
-
-abbrev pub no_constraint : Constraint
-no_constraint = record { scope = []; tuples = [] }
-
--- the constraint of this number
-abbrev pub constraint_at : Problem → ℕ → Constraint
-constraint_at p e = slice_index_or p.constraints e no_constraint

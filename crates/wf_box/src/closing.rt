@@ -3,14 +3,14 @@
 ghost use Rattle.std.specs.Prelude.{◌≡◌, ◌<◌, ◌≤◌, ◌+◌, ◌++◌, ℕ, List, None, suc, true, length, map, IfOk, IfSome, OnOk, OnErr, IfNone, [], All, slice_index, ◌^◌, bit_and};
 ghost use Rattle.std.specs.Int.{bit_not, w64};
 ghost use Rattle.wf_model.specs.Lists.{has};
-ghost use Rattle.wf_model.specs.Problem.{IsSolution, IsWellFormed};
+ghost use Rattle.wf_model.specs.Problem.{IsSolution, IsWellFormed, constraint_at};
 ghost use Rattle.wf_model.specs.Box.{LiesIn, candidates, count, first_empty};
 ghost use Rattle.wf_model.specs.Closing.{and_then, closing, lost, sweep, sweeps, take_out_each};
 ghost use Rattle.wf_model.specs.Laws.{IsBoxOf};
 ghost use Rattle.wf_complex.specs.Lines.{line_of};
 ghost use Rattle.wf_lane.specs.Sets.{values_in};
 ghost use Rattle.wf_box.specs.Steps.{HasRoom, IsSpent, box_of, reached};
-ghost use Rattle.wf_box.specs.Closes.{AreFew, IsEmptied, IsSupported, Leaves, constraint_at, emptied_by};
+ghost use Rattle.wf_box.specs.Closes.{AreFew, IsEmptied, IsSupported, Leaves, emptied_by};
 
 use crate::boxed::Box0;
 use crate::problem::{Execution, Problem};

@@ -13,7 +13,7 @@ use Rattle.wf_model.specs.Points.{points, class}
 use Rattle.wf_model.specs.Problem.{Constraint, constraint_of, number_of, problem_of}
 use Rattle.wf_model.proofs.Accepting.{each_at}
 use Rattle.wf_model.proofs.Headline.{always}
-use Rattle.wf_model.proofs.WellFormed.{each_execution_with, last_processes}
+use Rattle.wf_model.proofs.WellFormed.{each_execution_with, last_processes, scope_processes}
 use Rattle.wf_complex.specs.Protocol.{Built, IsProtocol, simplices_of}
 
 -- ---- the rule of an execution stands at the number of its simplex
@@ -74,7 +74,8 @@ stands_at t r b e s h inside on =
 
 -- ---- its constraint
 
-got : {X : Type 0} (xs : List X) (i : ℕ) (x d : X) → slice_get xs i ≡ Some x → slice_index_or xs i d ≡ x
+-- what stands at a place
+pub got : {X : Type 0} (xs : List X) (i : ℕ) (x d : X) → slice_get xs i ≡ Some x → slice_index_or xs i d ≡ x
 got xs i x d there = ap (λ o. unwrap_or o d) (sym (slice_get-get_or xs i d (slice_get_within xs i x there)) ∙ there)
 
 parted : (xs : List (ℕ × ℕ)) → xs ≡ zip (map (λ at. at.0) xs) (map (λ at. at.1) xs)
@@ -83,10 +84,6 @@ parted (x ∷ xs) = ap (λ rest. x ∷ rest) (parted xs)
 
 words_long : (t : Task) (r : ℕ) → AllByRecursion (λ e. AllByRecursion (λ w. length w ≡ length e.rule.input) e.words) (executions t r)
 words_long t r = each_execution_with (λ e. AllByRecursion (λ w. length w ≡ length e.rule.input) e.words) t r (λ rule. Unit {0}) (always (λ rule. Unit {0}) (λ rule. tt) t.rules) (λ e _ long. long)
-
-scope_processes : (t : Task) (ps vs : List View) → map (λ (at : ℕ × ℕ). at.0) (map (λ v. (process_of v, number_of ps (class t v))) vs) ≡ map process_of vs
-scope_processes t ps [] = refl
-scope_processes t ps (v ∷ vs) = ap (λ xs. process_of v ∷ xs) (scope_processes t ps vs)
 
 -- the processes of its scope are those of its input simplex
 pub scope_on : (t : Task) (r e : ℕ) (x : Execution) → slice_get (executions t r) e ≡ Some x → map (λ at. at.0) (constraint_of t (points t r) x).scope ≡ processes_of x.rule.input

@@ -4,4 +4,5 @@ pub mod Values
 pub mod Building
 pub mod SetLaws
 pub mod BoxLaws
+pub mod Eights
 pub mod Revising

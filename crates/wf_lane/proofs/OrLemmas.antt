@@ -1,7 +1,7 @@
 -- Words joined bit by bit.
 use mir.Val.{bool_byte}
 use Rattle.std.proofs.lemmas.Simd.{length-chunk}
-use Rattle.std.proofs.Common.{subst, ◌≡◌, ℕ, ◌+◌, ◌<◌, ◌≤◌, ◌^◌, List, [], ◌∷◌, ◌++◌, length, take, drop, map, Bool, true, false, cond, not, eqb, refl, sym, ◌∙◌, ap, arith, get_or}
+use Rattle.std.proofs.Common.{subst, ◌≡◌, ℕ, ◌+◌, ◌<◌, ◌^◌, List, [], ◌∷◌, ◌++◌, length, take, drop, map, Bool, true, false, cond, not, eqb, refl, sym, ◌∙◌, ap, arith, get_or}
 use Rattle.std.specs.Prelude.{bit_and, bit_or, count_by}
 use Rattle.std.specs.Int.Bits.{or_zero_l, or_zero_r, and_zero_l, and_comm, and_mask}
 use Rattle.std.specs.Simd.Lanes.{zip2, chunk, Each1}
@@ -9,7 +9,7 @@ use lib.Lanes.{fold_l}
 use Rattle.std.proofs.Math.Nat.{mod-eq_of_lt}
 use Rattle.std.proofs.Math.Seq.{take-add}
 use Rattle.std.proofs.lemmas.Nat.Bits.{bit_at_or, same_from_bits}
-use Rattle.std.proofs.lemmas.List.{map-append, take_more, length-map}
+use Rattle.std.proofs.lemmas.List.{map-append, take_more, take_all}
 use Rattle.std.proofs.lemmas.List.Sums.{sum_by-append, sum_by-cons, sum_by_more}
 use Rattle.wf_lane.specs.Words.{Words, is_live, ors, joined_words}
 use Rattle.wf_lane.proofs.WordLemmas.{M}
@@ -62,13 +62,19 @@ count_lanes p [] = refl
 count_lanes p (v ∷ vs) = sum_by-cons (λ x. cond (not (eqb x 0)) 1 0) (cond (p v) M 0) (map (λ v. cond (p v) M 0) vs) ∙ ap (λ n. n + count_by (λ x. not (eqb x 0)) (map (λ v. cond (p v) M 0) vs)) (one_lane (p v)) ∙ ap (λ n. cond (p v) 1 0 + n) (count_lanes p vs) ∙ sym (sum_by-cons (λ x. cond (p x) 1 0) v vs)
 
 -- the step of a loop over eights
-pub eight_more : (s : List ℕ) (w : Words → ℕ) (i : ℕ) (rows : List Words) (xs m m' live : List ℕ) → length m ≡ 8 → i + 8 ≤ length rows → chunk i 8 xs ≡ map w (chunk i 8 rows) → Each1 (λ x. x < 2 ^ 64) (chunk i 8 xs) → live ≡ map (λ r. cond (is_live s r) M 0) (chunk i 8 rows) → ors m ≡ joined_words s w (take i rows) → m' ≡ zip2 bit_or m (zip2 bit_and live (chunk i 8 xs)) → ors m' ≡ joined_words s w (take (i + 8) rows)
-eight_more s w i rows xs m m' live long room col fit lv so step =
+pub eight_more : (s : List ℕ) (w : Words → ℕ) (i : ℕ) (rows : List Words) (xs m m' live : List ℕ) → chunk i 8 xs ≡ map w (chunk i 8 rows) → Each1 (λ x. x < 2 ^ 64) (chunk i 8 xs) → live ≡ map (λ r. cond (is_live s r) M 0) (chunk i 8 rows) → ors m ≡ joined_words s w (take i rows) → ors m' ≡ bit_or (ors m) (ors (zip2 bit_and live (chunk i 8 xs))) → ors m' ≡ joined_words s w (take (i + 8) rows)
+eight_more s w i rows xs m m' live col fit lv so step =
     let vs = chunk i 8 rows in
     let f = λ (r : Words). cond (is_live s r) (w r) 0 in
     let is : zip2 bit_and live (chunk i 8 xs) ≡ map f vs = ap (λ l. zip2 bit_and l (chunk i 8 xs)) lv ∙ ap (zip2 bit_and (map (λ r. cond (is_live s r) M 0) vs)) col ∙ masked (is_live s) w vs (subst (Each1 (λ x. x < 2 ^ 64)) col fit) in
-    let n : length m ≡ length (map f vs) = long ∙ sym (length-map vs f ∙ length-chunk i 8 rows room) in
-    ap ors (step ∙ ap (zip2 bit_or m) is) ∙ ors-zip2 m (map f vs) n ∙ ap (λ a. bit_or a (ors (map f vs))) so ∙ sym (joined_add s w i 8 rows)
+    step ∙ ap (λ l. bit_or (ors m) (ors l)) is ∙ ap (λ a. bit_or a (ors (map f vs))) so ∙ sym (joined_add s w i 8 rows)
+
+-- eight lanes as two fours
+pub ors_halves : (xs : List ℕ) → length xs ≡ 8 → ors (zip2 bit_or (chunk 0 4 xs) (chunk 4 4 xs)) ≡ ors xs
+ors_halves xs long =
+    ors-zip2 (chunk 0 4 xs) (chunk 4 4 xs) (length-chunk 0 4 xs (omega (arith, long)) ∙ sym (length-chunk 4 4 xs (omega (arith, long))))
+    ∙ sym (ors-append (take 4 xs) (chunk 4 4 xs))
+    ∙ ap ors (sym (take-add 4 4 xs) ∙ take_all 8 xs (omega (arith, long)))
 
 -- the step of a loop over one row
 pub row_more : (s : List ℕ) (w : Words → ℕ) (i : ℕ) (rows : List Words) (d : Words) → i < length rows → (m k x : ℕ) → m ≡ joined_words s w (take i rows) → k ≡ cond (is_live s (get_or rows i d)) (w (get_or rows i d)) 0 → bit_or m k ≡ joined_words s w (take (i + 1) rows)

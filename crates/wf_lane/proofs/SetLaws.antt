@@ -6,7 +6,7 @@ use Rattle.std.specs.List.{All, AllByRecursion, filter, range_with_len}
 use Rattle.std.specs.Int.Count.{ones_step}
 use Rattle.std.proofs.Math.Nat.{suc-mul, pow-suc}
 use Rattle.std.proofs.lemmas.Bool.{cases_Bool, cases_eq, eq-eqb, ne_eqb, both_ways, and_left, and_right}
-use Rattle.std.proofs.lemmas.Nat.{shr_split, mod_below, one_shl, pow_below, ones_le_self}
+use Rattle.std.proofs.lemmas.Nat.{shr_split, mod_below, one_shl, pow_below, ones_le_self, zero_from_ones}
 use Rattle.std.proofs.lemmas.Nat.Bits.{bit_at_and, bit_at_not, bit_at-lt, bit_at-zero, bit_at-suc, bit_at_lowest, bit_at_cat_low, bit_at_cat_high, bit_at-trailing_zeros, same_from_bits_below}
 use Rattle.std.proofs.lemmas.List.Elements.{All-nil, All-cons, All-filter, All-weaker}
 use Rattle.wf_model.specs.Lists.{below, has}
@@ -172,6 +172,13 @@ bits_counted (suc k) word h =
     ∙ ap (λ n. bit_at word 0 + n) (moved_run (holds word) 0 k ∙ ap length (run_agrees (λ v. holds word (suc v)) (holds (word / 2)) 0 k (λ v low high. ap (λ b. b == 1) (bit_at-suc word v))) ∙ bits_counted k (word / 2) half)
     ∙ ap (λ n. n + count_ones (word / 2)) (bit_at_lowest word)
     ∙ sym (ones_step word)
+
+pub no_bit_test : (word : ℕ) → (word == 0) ≡ (count_ones word == 0)
+no_bit_test word =
+    ⊎_elim
+    (λ (e : word ≡ 0). eq-eqb word 0 e ∙ sym (eq-eqb (count_ones word) 0 (omega (arith, ones_le_self word))))
+    (λ (ne : word ≡ 0 → ⊥). ne_eqb word 0 ne ∙ sym (ne_eqb (count_ones word) 0 (λ e. ne (zero_from_ones word e))))
+    (cases_eq word 0)
 
 pub length-values_in : (word : ℕ) → word < 2 ^ 64 → length (values_in word) ≡ count_ones word
 unfolding values_in

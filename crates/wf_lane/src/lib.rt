@@ -4,7 +4,7 @@
 //!
 //! - [`TupleTable`]: rows of values as columns of words with one bit each. [`TupleTable::revise`] reads eight rows a
 //!   step, and the rest one by one.
-//! - [`first_open`], [`first_empty`], [`count`] and [`meet`]: the sets of a box. They are plain loops.
+//! - [`first_open`], [`first_empty`], [`count`] and [`meet`]: the sets of a box, eight a step, and the rest one by one.
 #![tactic(auto)]
 
 mod lanes;

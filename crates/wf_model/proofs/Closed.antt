@@ -80,7 +80,7 @@ none_pass test (x ∷ xs) h =
       | inr fail ↦ (fail, none_pass test xs (rw fail at h))
     ]
 
-each_with_value : (P : ℕ → Type 0) (xs : List ℕ) (a : ℕ) → AllByRecursion P xs → has xs a ≡ true → P a
+pub each_with_value : (P : ℕ → Type 0) (xs : List ℕ) (a : ℕ) → AllByRecursion P xs → has xs a ≡ true → P a
 each_with_value P [] a h is = absurd (false≢true is)
 each_with_value P (x ∷ xs) a h is =
     elim (or_cases (x == a) (has xs a) is) [ inl here ↦ subst P (eqb-true x a here) h.0 | inr later ↦ each_with_value P xs a h.1 later ]

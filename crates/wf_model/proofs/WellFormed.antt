@@ -101,7 +101,7 @@ base_processes (v ∷ s) = ap (λ ps. v.0 ∷ ps) (base_processes s)
 pub last_processes : (e : Execution) → AllByRecursion (λ w. length w ≡ length e.rule.input) e.words → map process_of (last_views e) ≡ processes_of e.rule.input
 last_processes e long = processes_after e.words (base_views e.rule.input) (length e.rule.input) (length_map _ e.rule.input) long ∙ base_processes e.rule.input
 
-scope_processes : (t : Task) (ps vs : List View) → map (λ (at : ℕ × ℕ). at.0) (map (λ v. (process_of v, number_of ps (class t v))) vs) ≡ map process_of vs
+pub scope_processes : (t : Task) (ps vs : List View) → map (λ (at : ℕ × ℕ). at.0) (map (λ v. (process_of v, number_of ps (class t v))) vs) ≡ map process_of vs
 scope_processes t ps [] = refl
 scope_processes t ps (v ∷ vs) = ap (λ xs. process_of v ∷ xs) (scope_processes t ps vs)
 

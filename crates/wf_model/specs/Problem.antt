@@ -1,5 +1,6 @@
 -- A constraint problem: the points have numbers, and each execution allows some tuples at its points.
 use Rattle.std.specs.Prelude.{◌≡◌, ◌<◌, ◌⊎◌, ℕ, suc, true, List, [], ◌∷◌, map, length, All, Contains, slice_index, if◌then◌else◌}
+use Rattle.std.specs.List.{slice_index_or}
 use Rattle.wf_model.specs.Lists.{IsBelow}
 use Rattle.wf_model.specs.Simplex.{is_ascending}
 use Rattle.wf_model.specs.Task.{Task, Tuple, values}
@@ -16,6 +17,13 @@ pub record Problem : Type 0 where
   pub points : ℕ
   pub values : List ℕ
   pub constraints : List Constraint
+
+-- the constraint of an execution, by its number
+abbrev pub no_constraint : Constraint
+no_constraint = record { scope = []; tuples = [] }
+
+abbrev pub constraint_at : Problem → ℕ → Constraint
+constraint_at p e = slice_index_or p.constraints e no_constraint
 
 -- the number of a view among the points: its place in the list
 abbrev pub number_of : List View → View → ℕ

@@ -6,10 +6,10 @@ use Rattle.std.proofs.lemmas.Bool.{cases_order}
 use Rattle.std.proofs.lemmas.List.{length-map}
 use Rattle.std.proofs.lemmas.List.Elements.{All-more, All-append, All-cons, All-nil, All-map, All-from_recursion, recursion_from_All}
 use Rattle.wf_model.specs.Task.{Task, IsTask}
-use Rattle.wf_model.specs.Problem.{problem_of}
+use Rattle.wf_model.specs.Problem.{problem_of, constraint_at}
 use Rattle.wf_model.proofs.WellFormed.{task_well_formed}
 use Rattle.wf_complex.specs.Protocol.{Built, IsProtocol}
-use Rattle.wf_plain.specs.Plain.{constraint_at, LiesBelow, AreEnds}
+use Rattle.wf_plain.specs.Plain.{LiesBelow, AreEnds}
 use Rattle.wf_plain.proofs.Rules.{scope_is}
 
 pub more_bound : (xs : List ℕ) (i g n : ℕ) → i < length xs → All (λ v. v < g + 1) (take i xs) → g ≤ n → get_or xs i 0 ≤ n → All (λ v. v < n + 1) (take (i + 1) xs)

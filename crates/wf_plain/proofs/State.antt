@@ -10,13 +10,13 @@ use Rattle.std.proofs.lemmas.List.Elements.{recursion_from_All, All-from_recursi
 use Rattle.wf_model.specs.Lists.{IsBelow, has, in_order, with_element}
 use Rattle.wf_model.specs.Simplex.{Simplex, values_of}
 use Rattle.wf_model.specs.Task.{Task, IsTask, IsSimplexWithin, values, largest_value}
-use Rattle.wf_model.specs.Problem.{Problem, Constraint, IsSolution, IsLeastSolution, Satisfies, problem_of}
+use Rattle.wf_model.specs.Problem.{Problem, Constraint, IsSolution, IsLeastSolution, Satisfies, problem_of, constraint_at}
 use Rattle.wf_model.specs.Box.{LiesIn}
 use Rattle.wf_model.specs.Check.{satisfies}
 use Rattle.wf_model.proofs.Least.{solution_in_root}
 use Rattle.wf_model.proofs.Trying.{satisfies_says, satisfies_tests}
 use Rattle.wf_complex.specs.Protocol.{Built, IsProtocol}
-use Rattle.wf_plain.specs.Plain.{constraint_at, LiesBelow, AreEnds, IsTried}
+use Rattle.wf_plain.specs.Plain.{LiesBelow, AreEnds, IsTried}
 use Rattle.wf_plain.proofs.Tried.{Begins, begins_own, begins_seen, below_next, below_longer, below_zero, begins_below, not_below}
 
 abbrev pub scopes_of : Problem → List (List (ℕ × ℕ))

@@ -2,16 +2,12 @@
 use Rattle.std.specs.Prelude.{◌≡◌, ◌<◌, ◌+◌, ℕ, List, [], length, Option, None, Some, All, Contains, Vec}
 use Rattle.std.specs.List.{slice_index_or}
 use Rattle.wf_model.specs.Lists.{IsBelow}
-use Rattle.wf_model.specs.Problem.{Problem, Constraint, IsSolution, IsLeastSolution}
+use Rattle.wf_model.specs.Problem.{Problem, Constraint, IsSolution, IsLeastSolution, constraint_at}
 
 -- the least solution; or none, and then there is no solution
 abbrev pub Answers : {A : Type 0} → Problem → Option (Vec ℕ A) → Type 0
 Answers p (Some m) = IsLeastSolution p m.items
 Answers p None = (m : List ℕ) → IsSolution p m → ⊥
-
--- execution e
-abbrev pub constraint_at : Problem → ℕ → Constraint
-constraint_at p e = slice_index_or p.constraints e (record { scope = []; tuples = [] })
 
 -- the processes of execution e, each with its point
 abbrev pub scope_at : List (List (ℕ × ℕ)) → ℕ → List (ℕ × ℕ)

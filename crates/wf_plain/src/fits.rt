@@ -3,10 +3,10 @@
 ghost use Rattle.std.specs.Prelude.{◌≡◌, ◌<◌, ◌==◌, All, length, map, slice_index};
 ghost use Rattle.std.specs.List.{list_all, list_any};
 ghost use Rattle.std.specs.Cmp.Lexicographic.{pointwise};
-ghost use Rattle.wf_model.specs.Problem.{problem_of};
+ghost use Rattle.wf_model.specs.Problem.{problem_of, constraint_at};
 ghost use Rattle.wf_model.specs.Check.{satisfies};
 ghost use Rattle.wf_complex.specs.Protocol.{IsProtocol};
-ghost use Rattle.wf_plain.specs.Plain.{constraint_at, LiesBelow};
+ghost use Rattle.wf_plain.specs.Plain.{LiesBelow};
 
 use wf_complex::Protocol;
 use wf_task::{Row, Task};

@@ -3,10 +3,10 @@
 ghost use Rattle.std.specs.Prelude.{◌≡◌, ◌<◌, ◌≤◌, ◌+◌, ◌++◌, ◌∷◌, ℕ, [], List, true, All, length, take, map, vec_items, slice_index, IfOk};
 ghost use Rattle.std.specs.Bool.{OnTrue, OnFalse};
 ghost use Rattle.std.specs.List.{list_all};
-ghost use Rattle.wf_model.specs.Problem.{problem_of, IsSolution, IsLeastSolution};
+ghost use Rattle.wf_model.specs.Problem.{problem_of, IsSolution, IsLeastSolution, constraint_at};
 ghost use Rattle.wf_model.specs.Check.{satisfies};
 ghost use Rattle.wf_complex.specs.Protocol.{IsProtocol};
-ghost use Rattle.wf_plain.specs.Plain.{Answers, AreEnds, IsTried, LiesBelow, constraint_at};
+ghost use Rattle.wf_plain.specs.Plain.{Answers, AreEnds, IsTried, LiesBelow};
 
 use crate::ends::ends_of;
 use crate::fits::fits;

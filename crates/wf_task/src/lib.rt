@@ -20,6 +20,10 @@ pub use row::Row;
 pub use task::Task;
 
 #[cfg(test)]
+mod limit_tests;
+#[cfg(test)]
+mod refusal_tests;
+#[cfg(test)]
 mod tests;
 #[cfg(test)]
 mod text_tests;

@@ -1,10 +1,10 @@
-use crate::{Key, Limit, Row, Task, TaskFault};
+use crate::{Key, Row, Task, TaskFault};
 use std::alloc::Global;
 use std::test::Fail;
 
 /// Two processes that begin with 0. Alone, process 0 decides 0 and process 1 decides 3; together they decide
 /// values of 0 to 3 that differ by at most 1.
-const PATH_3: &str =
+pub(crate) const PATH_3: &str =
     r#"{"version":1,"processes":2,"symmetric":false,"inputs":[[[0,0],[1,0]]],"outputs":[[[0,0],[1,0]],[[0,0],[1,1]],[[0,1],[1,0]],[[0,1],[1,1]],[[0,1],[1,2]],[[0,2],[1,1]],[[0,2],[1,2]],[[0,2],[1,3]],[[0,3],[1,2]],[[0,3],[1,3]]],"delta":[{"in":[[0,0]],"out":[[0]]},{"in":[[1,0]],"out":[[3]]},{"in":[[0,0],[1,0]],"out":[[0,0],[0,1],[1,0],[1,1],[1,2],[2,1],[2,2],[2,3],[3,2],[3,3]]}]}"#;
 
 /// A small task, with another value under one of its keys. Its input simplices are (0,0), (1,0) and both, its
@@ -38,7 +38,7 @@ fn fault_with(alloc: Global, key: Key, value: &str) -> Result<Option<TaskFault>,
 }
 
 /// The fault of a text.
-fn fault_of(alloc: Global, text: &str) -> Option<TaskFault> {
+pub(crate) fn fault_of(alloc: Global, text: &str) -> Option<TaskFault> {
     Task::read_text(alloc, text.as_bytes()).err()
 }
 
@@ -356,6 +356,7 @@ fn texts_that_are_no_json(rt: HostRuntime) -> Result<(), Fail> {
         (126usize, TaskFault::Shape(Key::Whole, 0)),
         (127, TaskFault::Shape(Key::Whole, 0)),
         (128, TaskFault::NotJson),
+        (200, TaskFault::NotJson),
         (4096, TaskFault::NotJson),
     ];
     for (depth, fault) in rows {
@@ -370,137 +371,6 @@ fn texts_that_are_no_json(rt: HostRuntime) -> Result<(), Fail> {
     assert_eq!(rt;
         Task::read_text(rt.alloc(), &[b'"', 255, b'"']).err(),
         Some(TaskFault::NotJson)
-    );
-    let most = vec![in rt.alloc(); b' '; 16_777_216]?;
-    assert_eq!(rt;
-        Task::read_text(rt.alloc(), &most).err(),
-        Some(TaskFault::NotJson)
-    );
-    let longer = vec![in rt.alloc(); b' '; 16_777_217]?;
-    assert_eq!(rt;
-        Task::read_text(rt.alloc(), &longer).err(),
-        Some(TaskFault::TooLong)
-    );
-    Ok(())
-}
-
-/// A list of one item, so many times.
-fn repeated(alloc: Global, item: &str, count: usize) -> Result<String, Fail> {
-    let mut text = String::new(alloc);
-    text.push_str("[")?;
-    for place in 0..count {
-        text.push_str(if place == 0 { "" } else { "," })?;
-        text.push_str(item)?;
-    }
-    text.push_str("]")?;
-    Ok(text)
-}
-
-/// A list of the vertices of process 0 with the values below a bound, and of a vertex of process 1.
-fn vertices(alloc: Global, bound: usize) -> Result<String, Fail> {
-    let mut text = String::new(alloc);
-    text.push_str("[")?;
-    for value in 0..bound {
-        text.push_str(format!(in alloc; "[[0,{value}]],")?.as_str())?;
-    }
-    text.push_str("[[1,0]]]")?;
-    Ok(text)
-}
-
-/// A list of the simplices of the processes 0 to 2 with the values below a bound.
-fn triangles(alloc: Global, bound: usize) -> Result<String, Fail> {
-    let mut text = String::new(alloc);
-    text.push_str("[")?;
-    for a in 0..bound {
-        for b in 0..bound {
-            for c in 0..bound {
-                text.push_str(format!(in alloc; "[[0,{a}],[1,{b}],[2,{c}]],")?.as_str())?;
-            }
-        }
-    }
-    text.push_str("[[0,0]]]")?;
-    Ok(text)
-}
-
-/// The fault of a task of three processes with these inputs, outputs and value lists of one entry.
-fn fault_of_sizes(
-    alloc: Global,
-    inputs: &str,
-    outputs: &str,
-    lists: &str,
-) -> Result<Option<TaskFault>, Fail> {
-    let mut text = String::new(alloc);
-    text.push_str(r#"{"version":1,"processes":3,"symmetric":false,"inputs":"#)?;
-    text.push_str(inputs)?;
-    text.push_str(r#","outputs":"#)?;
-    text.push_str(outputs)?;
-    text.push_str(r#","delta":[{"in":[[0,1]],"out":"#)?;
-    text.push_str(lists)?;
-    text.push_str("}]}")?;
-    Ok(fault_of(alloc, text.as_str()))
-}
-
-#[test]
-fn too_many_vertices(rt: HostRuntime) -> Result<(), Fail> {
-    let alloc = rt.alloc();
-    let most = vertices(alloc, 63)?;
-    let more = vertices(alloc, 64)?;
-    assert_eq!(rt;
-        fault_of_sizes(alloc, most.as_str(), "[]", "[]")?,
-        Some(TaskFault::DeltaMissing(0))
-    );
-    assert_eq!(rt;
-        fault_of_sizes(alloc, more.as_str(), "[]", "[]")?,
-        Some(TaskFault::TooMany(Limit::Vertices))
-    );
-    Ok(())
-}
-
-#[test]
-fn too_many_simplices(rt: HostRuntime) -> Result<(), Fail> {
-    let alloc = rt.alloc();
-    // 15 x 15 x 15 triangles, 3 x 15 x 15 edges and 45 vertices are 4,095 simplices
-    let most = triangles(alloc, 15)?;
-    let more = triangles(alloc, 16)?;
-    assert_eq!(rt;
-        fault_of_sizes(alloc, most.as_str(), "[]", "[]")?,
-        Some(TaskFault::DeltaMissing(0))
-    );
-    assert_eq!(rt;
-        fault_of_sizes(alloc, more.as_str(), "[]", "[]")?,
-        Some(TaskFault::TooMany(Limit::Simplices))
-    );
-    Ok(())
-}
-
-#[test]
-fn too_many_outputs(rt: HostRuntime) -> Result<(), Fail> {
-    let alloc = rt.alloc();
-    let most = repeated(alloc, "[[0,0]]", 65_536)?;
-    let more = repeated(alloc, "[[0,0]]", 65_537)?;
-    assert_eq!(rt;
-        fault_of_sizes(alloc, "[]", most.as_str(), "[]")?,
-        Some(TaskFault::DeltaStray(0))
-    );
-    assert_eq!(rt;
-        fault_of_sizes(alloc, "[]", more.as_str(), "[]")?,
-        Some(TaskFault::TooMany(Limit::Outputs))
-    );
-    Ok(())
-}
-
-#[test]
-fn too_many_tuples(rt: HostRuntime) -> Result<(), Fail> {
-    let alloc = rt.alloc();
-    let most = repeated(alloc, "[]", 65_536)?;
-    let more = repeated(alloc, "[]", 65_537)?;
-    assert_eq!(rt;
-        fault_of_sizes(alloc, "[]", "[]", most.as_str())?,
-        Some(TaskFault::DeltaStray(0))
-    );
-    assert_eq!(rt;
-        fault_of_sizes(alloc, "[]", "[]", more.as_str())?,
-        Some(TaskFault::TooMany(Limit::Tuples))
     );
     Ok(())
 }

@@ -1,7 +1,7 @@
 use Rattle.std.proofs.Common.{◌≡◌, ◌<◌, ◌≤◌, ℕ, None, length, map, flat_map, drop}
+use Rattle.wf_model.specs.Problem.{constraint_at}
 use Rattle.wf_model.specs.Closing.{and_then, lost, lost_at, places, take_out_each}
 use Rattle.wf_box.specs.Steps.{HasRoom, IsSpent, box_of, reached, take_present}
-use Rattle.wf_box.specs.Closes.{constraint_at}
 use Rattle.wf_box.proofs.closing.revise.Given as goal
 
 abbrev pub invariant-places : goal.invariant-places

@@ -1,8 +1,7 @@
 use Rattle.std.proofs.Common.{◌≡◌, drop}
 use Rattle.std.specs.List.{list_all}
-use Rattle.wf_model.specs.Problem.{problem_of}
+use Rattle.wf_model.specs.Problem.{problem_of, constraint_at}
 use Rattle.wf_model.specs.Check.{satisfies}
-use Rattle.wf_plain.specs.Plain.{constraint_at}
 use Rattle.wf_plain.proofs.fits.fits.Given as goal
 
 abbrev pub invariant-loop-execution : goal.invariant-loop-execution

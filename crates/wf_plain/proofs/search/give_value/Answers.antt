@@ -2,9 +2,8 @@ use Rattle.std.proofs.Common.{◌≡◌, ◌<◌, ◌+◌, [], ◌∷◌, ◌++�
 use Rattle.std.specs.List.{list_all}
 use Rattle.std.proofs.lemmas.List.{take-set}
 use Rattle.std.proofs.lemmas.Nat.Bits.{shr_and_one}
-use Rattle.wf_model.specs.Problem.{problem_of}
+use Rattle.wf_model.specs.Problem.{problem_of, constraint_at}
 use Rattle.wf_model.specs.Check.{satisfies}
-use Rattle.wf_plain.specs.Plain.{constraint_at}
 use Rattle.wf_plain.proofs.Tried.{Begins}
 use Rattle.wf_plain.proofs.Named.{set_at, set_long}
 use Rattle.wf_plain.proofs.State.{next_tried, no_value, no_fit, take_next, lie_in_problem}

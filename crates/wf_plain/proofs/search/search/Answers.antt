@@ -1,9 +1,9 @@
 use Rattle.std.proofs.Common.{◌≡◌, ◌<◌, ◌+◌, ◌-◌, ℕ, [], ◌∷◌, ◌++◌, map, length, take, get_or, slice_index, vec_items, sym, ap, ◌∙◌, subst, refl, arith, All, true, length-take}
 use Rattle.std.specs.List.{list_all, slice_index_or}
 use Rattle.std.proofs.lemmas.List.{get_or-map, length-map}
-use Rattle.wf_model.specs.Problem.{problem_of}
+use Rattle.wf_model.specs.Problem.{problem_of, constraint_at}
 use Rattle.wf_model.specs.Check.{satisfies}
-use Rattle.wf_plain.specs.Plain.{constraint_at, LiesBelow, IsTried}
+use Rattle.wf_plain.specs.Plain.{LiesBelow, IsTried}
 use Rattle.wf_plain.proofs.Turns.{turns_left, one_more, one_less}
 use Rattle.wf_plain.proofs.State.{IsState, AreEndsOf, state_start, state_up, state_back, state_none, state_end, ends_of_problem, small_solutions, take_next}
 use Rattle.wf_plain.proofs.search.search.Goals as goal

@@ -1,0 +1,74 @@
+//! Times `TupleTable::revise`. The arguments are how many rows of four values the table has, and how many calls are
+//! made; it prints a checksum of what was found, and the nanoseconds of processor time that the calls took. With no
+//! arguments it prints two checksums, and no time.
+#![tactic(auto)]
+
+ghost use Rattle.std.specs.Prelude.{◌≤◌};
+
+use std::alloc::{AllocError, Global};
+use std::env;
+use std::time::CpuClock;
+use wf_lane::TupleTable;
+use wf_task::Row;
+
+fn next(x: u32) -> u32 {
+    x.wrapping_mul(1664525).wrapping_add(1013904223)
+}
+
+fn value(x: u32) -> u8
+    ensures { result ≤ 63 }
+{
+    ((x >> 16) % 6) as u8
+}
+
+// A table of so many rows, whose values are from 0 to 5.
+fn table_of(alloc: Global, size: u32) -> Result<TupleTable, AllocError> {
+    let mut rows = Vec::new(alloc);
+    let mut x = 1;
+    for _ in 0..size {
+        let first = next(x);
+        let second = next(first);
+        let third = next(second);
+        let fourth = next(third);
+        let row = Row::new(&[value(first), value(second), value(third), value(fourth)]);
+        rows.push(row)?;
+        x = fourth;
+    }
+    TupleTable::build(alloc, &rows, 4)
+}
+
+// A checksum of what so many calls find, the sets of the first two places another ones at each call.
+fn repeat(table: &TupleTable, calls: u32) -> u64 {
+    let mut total: u64 = 0;
+    for k in 0..calls {
+        let x = u64::from(k);
+        let found = table.revise([63 ^ (x % 64), 63 ^ (x / 64 % 64), 62, 31]);
+        let [a, b, c, d] = found.masks;
+        let mixed = a ^ b.wrapping_mul(3) ^ c.wrapping_mul(5) ^ d.wrapping_mul(7);
+        total = total
+            .wrapping_mul(31)
+            .wrapping_add(mixed ^ u64::from(found.alive));
+    }
+    total
+}
+
+fn number(word: Option<String>) -> Option<u32> {
+    word?.parse().ok()
+}
+
+fn main(rt: HostRuntime) -> anyhow::Result<()> {
+    let mut words = env::args(&rt)?.skip(1);
+    let (Some(size), Some(calls)) = (number(words.next()), number(words.next())) else {
+        let large = table_of(rt.alloc(), 300)?;
+        let small = table_of(rt.alloc(), 24)?;
+        println!(rt; "{} {}", repeat(&large, 1000), repeat(&small, 1000))?;
+        return Ok(());
+    };
+    let table = table_of(rt.alloc(), size)?;
+    let start = rt.process_cpu_time()?;
+    let total = repeat(&table, calls);
+    let end = rt.process_cpu_time()?;
+    let spent = end.checked_sub(start).unwrap_or_default();
+    println!(rt; "{total} {}", spent.as_nanos())?;
+    Ok(())
+}
