@@ -1,5 +1,7 @@
 use std::test::Fail;
 
+mod boxes;
+mod closing;
 mod complexes;
 mod maps;
 mod plain;
@@ -71,6 +73,34 @@ fn maps_are_those_of_the_slow_program(rt: HostRuntime) -> Result<(), Fail> {
     ];
     for (name, text, most) in rows {
         let found = maps::first_difference(rt.alloc(), text, most)?;
+        assert_eq!(rt; found, None, "{name}");
+    }
+    Ok(())
+}
+
+#[test]
+fn closings_are_those_of_the_slow_program(rt: HostRuntime) -> Result<(), Fail> {
+    let rows = [
+        ("path 2", PATH_2, 2),
+        ("path 3", PATH_3, 2),
+        ("consensus of two", CONSENSUS_2, 2),
+        ("consensus, binary", CONSENSUS_2_BINARY, 2),
+        ("agreement of two", AGREEMENT_2_2, 2),
+        ("2-set agreement", AGREEMENT_3_2, 2),
+        ("3-set agreement", AGREEMENT_3_3, 2),
+        ("three that decide 0", ALL_ZERO_3, 2),
+        ("one process", ONE_PROCESS, 2),
+        ("one without tuple", ONE_WITHOUT_TUPLE, 2),
+        ("one without output", ONE_WITHOUT_OUTPUT, 2),
+        ("four with inputs of their own", OWN_4, 2),
+        ("two names for two", RENAMING_2_2, 2),
+        ("three names for two", RENAMING_2_3, 2),
+        ("five names for three", RENAMING_3_5, 2),
+        ("processes 0 and 2", SYMMETRIC_GAP, 2),
+        ("four processes", SYMMETRIC_4, 2),
+    ];
+    for (name, text, most) in rows {
+        let found = boxes::first_difference(rt.alloc(), text, most)?;
         assert_eq!(rt; found, None, "{name}");
     }
     Ok(())
