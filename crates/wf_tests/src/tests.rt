@@ -11,7 +11,7 @@ use complexes::{OWN, ZERO};
 use tasks::{
     AGREEMENT_2_2, AGREEMENT_3_2, AGREEMENT_3_3, ALL_ZERO_3, CONSENSUS_2, CONSENSUS_2_BINARY,
     ONE_PROCESS, ONE_WITHOUT_OUTPUT, ONE_WITHOUT_TUPLE, OWN_4, PATH_2, PATH_3, RENAMING_2_2,
-    RENAMING_2_3, RENAMING_3_5, SYMMETRIC_4, SYMMETRIC_GAP,
+    RENAMING_2_3, RENAMING_3_5, SYMMETRIC_4, SYMMETRIC_201, SYMMETRIC_GAP,
 };
 
 #[test]
@@ -79,7 +79,7 @@ fn maps_are_those_of_the_slow_program(rt: HostRuntime) -> Result<(), Fail> {
 }
 
 #[test]
-fn closings_are_those_of_the_slow_program(rt: HostRuntime) -> Result<(), Fail> {
+fn closings_are_those_of_the_plain_closing(rt: HostRuntime) -> Result<(), Fail> {
     let rows = [
         ("path 2", PATH_2, 2),
         ("path 3", PATH_3, 2),
@@ -98,6 +98,7 @@ fn closings_are_those_of_the_slow_program(rt: HostRuntime) -> Result<(), Fail> {
         ("five names for three", RENAMING_3_5, 2),
         ("processes 0 and 2", SYMMETRIC_GAP, 2),
         ("four processes", SYMMETRIC_4, 2),
+        ("three that decide 000 or 201", SYMMETRIC_201, 2),
     ];
     for (name, text, most) in rows {
         let found = boxes::first_difference(rt.alloc(), text, most)?;
