@@ -31,6 +31,9 @@ no_candidate (a ∷ set) h = absurd (let bad : ⊥ = omega (arith, eqb-true (len
 pub empty_there : (box : Box) (v : ℕ) → first_empty box ≡ Some v → candidates box v ≡ []
 empty_there box v is = no_candidate (candidates box v) (position-Some (λ set. length set == 0) box v [] is).1
 
+pub point_there : (box : Box) (v : ℕ) → first_empty box ≡ Some v → v < length box
+point_there box v is = (position-Some (λ set. length set == 0) box v [] is).0
+
 -- ---- sweeps
 
 pub closing_sweeps : (p : Problem) (box : Box) → first_empty box ≡ None → closing p box ≡ sweeps (suc (count box)) p box

@@ -5,7 +5,7 @@ use Rattle.wf_model.specs.Closing.{Step, and_then}
 use Rattle.wf_complex.specs.Lines.{line_of}
 use Rattle.wf_complex.specs.declared.line.Line.TheVariants as line
 use Rattle.wf_box.specs.Steps.{box_of, reached}
-use Rattle.wf_box.proofs.CloseLemmas.{closing_empty, empty_there, closing_sweeps, left_of, solutions_kept, supported_there}
+use Rattle.wf_box.proofs.CloseLemmas.{closing_empty, empty_there, point_there, closing_sweeps, left_of, solutions_kept, supported_there}
 use Rattle.wf_box.proofs.closing.close_sets.Goals as goal
 
 pub returns-in-Some-clause-step : goal.returns-in-Some-clause-step
@@ -17,7 +17,9 @@ returns-in-Some-clause-step c =
     }
 
 pub returns-in-Some-clause-emptied : goal.returns-in-Some-clause-emptied
-returns-in-Some-clause-emptied c = empty_there (box_of c.args.sets.now) c.in-Some.point (sym c.empty_point.ensures ∙ c.in-Some.is)
+returns-in-Some-clause-emptied c =
+    let empty = sym c.empty_point.ensures ∙ c.in-Some.is in
+    (point_there (box_of c.args.sets.now) c.in-Some.point empty, empty_there (box_of c.args.sets.now) c.in-Some.point empty, (c.args.lines.now.items, c.put.ensures.lines))
 
 pub returns-clause-step : goal.returns-clause-step
 returns-clause-step c =
