@@ -47,6 +47,7 @@ pub fn close(
     ensures lines { OnOk result (map line_of lines.new.items ≡ map line_of lines.old.items ++ (closing problem.now boxed.old).lines) }
     ensures leaves { IfOk result (Leaves (closing problem.now boxed.old).left boxed.new) }
     ensures emptied { IfOk result (IsEmptied lines.new.items boxed.new) }
+    ensures shape { OnOk result (IsBoxOf problem.now boxed.new) }
     ensures solutions { OnOk result ((m : List ℕ) → IsSolution problem.now m → LiesIn m boxed.old → LiesIn m boxed.new) }
     ensures supported { IfOk result (IsSupported problem.now boxed.new) }
     ensures sweeps { IfOk result (AreFew (count boxed.old) (count boxed.new)) }
@@ -73,6 +74,7 @@ fn close_sets(problem: &Problem, sets: &mut [u64], lines: &mut Lines) -> Closed
     requires few { length sets.old ≤ 2000000 }
     requires room { HasRoom lines.old sets.old }
     ensures step { reached lines.new.items (emptied_by result) sets.new ≡ and_then (reached lines.old.items None sets.old) (closing problem.now) }
+    ensures shape { IsBoxOf problem.now (box_of sets.new) }
     ensures emptied { IsEmptied lines.new.items (box_of sets.new) result }
     ensures solutions { (m : List ℕ) → IsSolution problem.now m → LiesIn m (box_of sets.old) → LiesIn m (box_of sets.new) }
     ensures supported { IsSupported problem.now (box_of sets.new) result }
@@ -102,6 +104,7 @@ fn sweeps(problem: &Problem, sets: &mut [u64], lines: &mut Lines) -> Closed
     requires few { length sets.old ≤ 2000000 }
     requires room { HasRoom lines.old sets.old }
     ensures step { reached lines.new.items (emptied_by result) sets.new ≡ and_then (reached lines.old.items None sets.old) (sweeps (suc (count (box_of sets.old))) problem.now) }
+    ensures long { length sets.new ≡ length sets.old }
     ensures emptied { IsEmptied lines.new.items (box_of sets.new) result }
     ensures sweeps { AreFew (count (box_of sets.old)) (count (box_of sets.new)) result }
     ensures problem { IsWellFormed problem.now }

@@ -92,7 +92,7 @@ fn without(values: u64, value: u8) -> u64
 }
 
 /// Whether the value is one of them.
-fn holds(values: u64, value: u8) -> bool
+pub(crate) fn holds(values: u64, value: u8) -> bool
     requires { value < 64 }
     ensures { result ≡ has (values_in values) value }
 {
