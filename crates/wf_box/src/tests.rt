@@ -98,8 +98,14 @@ fn each_value_of_a_point_is_tried_in_a_copy(rt: HostRuntime) -> Result<(), Fail>
     let mut boxed = Box0::root(rt.alloc(), &problem)?;
     let mut lines: Lines = Vec::new(rt.alloc());
     close(rt.alloc(), &problem, &mut boxed, &mut lines)?;
-    assert_eq!(rt; try_value(rt.alloc(), &problem, &boxed, 1)?, Some((1, 3, 0)));
-    assert_eq!(rt; try_value(rt.alloc(), &problem, &boxed, 2)?, Some((2, 2, 1)));
+    assert_eq!(rt;
+        try_value(rt.alloc(), &problem, &boxed, 1)?,
+        Some((1, 3, 0))
+    );
+    assert_eq!(rt;
+        try_value(rt.alloc(), &problem, &boxed, 2)?,
+        Some((2, 2, 1))
+    );
     assert_eq!(rt; boxed.sets.as_slice(), [1, 4, 6, 3].as_slice());
     Ok(())
 }

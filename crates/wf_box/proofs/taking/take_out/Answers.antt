@@ -21,12 +21,11 @@ returns-then-set-eq0-clause-step c =
     (ap values_in c.if-set-eq0.true ∙ values_of_nothing)
 
 pub returns-then-set-eq0-clause-emptied : goal.returns-then-set-eq0-clause-emptied
-returns-then-set-eq0-clause-emptied c =
-    (
-      omega (arith, c.requires.point, length-set c.args.sets.now c.args.place.point c.without-set.result),
-      set_there c.args.sets.now c.args.place.point c.without-set.result c.requires.point ∙ ap values_in c.if-set-eq0.true ∙ values_of_nothing,
-      (c.put.new.lines.items, c.put-then-set-eq0.ensures.lines),
-    )
+returns-then-set-eq0-clause-emptied c = (
+  omega (arith, c.requires.point, length-set c.args.sets.now c.args.place.point c.without-set.result),
+  set_there c.args.sets.now c.args.place.point c.without-set.result c.requires.point ∙ ap values_in c.if-set-eq0.true ∙ values_of_nothing,
+  (c.put.new.lines.items, c.put-then-set-eq0.ensures.lines),
+)
 
 pub returns-clause-step : goal.returns-clause-step
 returns-clause-step c =
