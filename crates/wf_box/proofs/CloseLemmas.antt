@@ -1,15 +1,21 @@
 -- What the sweeps come to.
 use Rattle.std.proofs.Common.{◌≡◌, ℕ, suc, ◌+◌, ◌<◌, ◌≤◌, ◌^◌, ◌==◌, true, List, [], ◌∷◌, ◌++◌, map, length, get_or, slice_index, All, Option, Some, None, refl, sym, ap, ◌∙◌, subst, arith, position, eqb-true}
-use Rattle.std.proofs.lemmas.List.{get_or_default}
+use Rattle.std.specs.List.{AllByRecursion}
+use Rattle.std.proofs.lemmas.List.{get_or_default, length-map}
+use Rattle.std.proofs.lemmas.List.Elements.{All-from_recursion}
 use Rattle.std.proofs.lemmas.List.Quantifiers.{position-Some}
+use Rattle.wf_model.specs.Simplex.{is_ascending}
 use Rattle.wf_model.specs.Problem.{Problem, IsSolution, IsWellFormed}
 use Rattle.wf_model.specs.Box.{Box, LiesIn, candidates, count, first_empty}
 use Rattle.wf_model.specs.Refutation as refutation
 use Rattle.wf_model.specs.Closing.{Step, and_then, closing, closing_at, sweeps}
 use Rattle.wf_model.specs.Laws.{IsBoxOf}
+use Rattle.wf_model.proofs.Ascending.{is_ascending_from}
 use Rattle.wf_model.proofs.Closed.{solution_left, closed_branch, closed_supports}
 use Rattle.wf_complex.specs.Lines.{line_of}
 use Rattle.wf_complex.specs.declared.line.Line.{Line}
+use Rattle.wf_lane.specs.Sets.{values_in}
+use Rattle.wf_lane.proofs.SetLaws.{values_ascend}
 use Rattle.wf_box.specs.Steps.{box_of, left_by, reached}
 use Rattle.wf_box.specs.Closes.{IsSupported, Leaves, emptied_by}
 use Rattle.wf_box.specs.declared.closing.Closed.{Closed}
@@ -18,6 +24,14 @@ use Rattle.wf_box.specs.declared.closing.Closed.TheVariants.{Empty, Open}
 -- each word of a slice is one of 64 bits
 pub words_fit : (words : List ℕ) → ((k : ℕ) → slice_index words k < 2 ^ 64) → All (λ word. word < 2 ^ 64) words
 words_fit words h k d low = subst (λ w. w < 2 ^ 64) (get_or_default words k 0 d low) (h k)
+
+-- each word is an ascending set
+sets_ascend : (words : List ℕ) → AllByRecursion (λ set. is_ascending set ≡ true) (box_of words)
+sets_ascend [] = tt
+sets_ascend (w ∷ words) = (is_ascending_from (values_in w) (values_ascend w), sets_ascend words)
+
+pub is_box : (p : Problem) (words : List ℕ) → length words ≡ p.points → IsBoxOf p (box_of words)
+is_box p words long = record { long = length-map words values_in ∙ long; ascending = All-from_recursion (λ set. is_ascending set ≡ true) (box_of words) (sets_ascend words) }
 
 -- ---- a point that is empty at the start
 
@@ -30,6 +44,9 @@ no_candidate (a ∷ set) h = absurd (let bad : ⊥ = omega (arith, eqb-true (len
 
 pub empty_there : (box : Box) (v : ℕ) → first_empty box ≡ Some v → candidates box v ≡ []
 empty_there box v is = no_candidate (candidates box v) (position-Some (λ set. length set == 0) box v [] is).1
+
+pub point_there : (box : Box) (v : ℕ) → first_empty box ≡ Some v → v < length box
+point_there box v is = (position-Some (λ set. length set == 0) box v [] is).0
 
 -- ---- sweeps
 

@@ -82,8 +82,7 @@ known_points t r b e s ps is built inside on are =
     let same_long : length (processes_of rule.input) ≡ length qs = length-map rule.input (λ v. v.0) ∙ sym long in
     let some : 0 < length k.scope = subst (λ (c : Constraint). 0 < length c.scope) (got p.constraints e k k k_is) (well.has_places e k low) in
     let ranged : All (λ (at : ℕ × ℕ). at.1 < p.points) k.scope = subst (λ (c : Constraint). All (λ (at : ℕ × ℕ). at.1 < p.points) c.scope) (got p.constraints e k k k_is) (well.in_range e k low) in
-    let points_in : All (λ v. v < p.points) qs = subst (All (λ v. v < p.points)) (second_of (processes_of rule.input) qs same_long) (All-map (λ v. v < p.points) (λ (at : ℕ × ℕ). at.1) k.scope ranged) in
-    (
+    let points_in : All (λ v. v < p.points) qs = subst (All (λ v. v < p.points)) (second_of (processes_of rule.input) qs same_long) (All-map (λ v. v < p.points) (λ (at : ℕ × ℕ). at.1) k.scope ranged) in (
       subst (λ (xs : List ℕ). 0 < length xs) (sym are) (some_zipped (processes_of rule.input) qs some),
       omega (arith, ap length are, long, size_of t s rule is there),
       subst (λ n. All (λ v. v < n) ps) (ap length (sym built.points_are)) (subst (All (λ v. v < p.points)) (sym are) points_in),

@@ -49,7 +49,7 @@ not_there : (x a c : ℕ) → x ≡ a → (a == c) ≡ false → (x == c) ≡ fa
 not_there x a c e k = subst (λ d. (d == c) ≡ false) (sym e) k
 
 pub has_without : (set : List ℕ) (a c : ℕ) → has (filter (λ b. not (b == a)) set) c ≡ (not (a == c) && has set c)
-has_without [] a c = elim (cases_Bool (a == c)) [ | inl same ↦ rw same refl | inr other ↦ rw other refl ]
+has_without [] a c = elim (cases_Bool (a == c)) [ inl same ↦ rw same refl | inr other ↦ rw other refl ]
 has_without (x ∷ set) a c =
     elim (cases_Bool (x == a)) [
       | inl gone ↦ rw gone (has_without set a c ∙ elim (cases_Bool (a == c)) [
@@ -139,13 +139,13 @@ each_once e (x ∷ xs) box =
       | inl there ↦
           rw there (taken_then e x box (take_out_each e (filter (is_present box) (filter (λ y. not (same_candidate x y)) (distinct same_candidate xs)))) (take_present e xs)
           (ap (λ ys. take_out_each e ys (without box x.point x.value))
-              (filter_twice (is_present box) (λ y. not (same_candidate x y)) (distinct same_candidate xs)
-              ∙ filter_same _ (is_present (without box x.point x.value)) (λ y. sym (present_without box x y)) (distinct same_candidate xs))
+          (filter_twice (is_present box) (λ y. not (same_candidate x y)) (distinct same_candidate xs)
+          ∙ filter_same _ (is_present (without box x.point x.value)) (λ y. sym (present_without box x y)) (distinct same_candidate xs))
           ∙ each_once e xs (without box x.point x.value)))
       | inr gone ↦
           rw gone (ap (λ ys. take_out_each e ys box)
-              (filter_twice (is_present box) (λ y. not (same_candidate x y)) (distinct same_candidate xs)
-              ∙ filter_same _ (is_present box) (gone_too x gone) (distinct same_candidate xs))
+          (filter_twice (is_present box) (λ y. not (same_candidate x y)) (distinct same_candidate xs)
+          ∙ filter_same _ (is_present box) (gone_too x gone) (distinct same_candidate xs))
           ∙ each_once e xs box)
     ]
   where
@@ -170,7 +170,7 @@ lost_in_turn e k box =
 part_more : (e : ℕ) (x : Loss) (box : Box) (all first : List Loss) (ys : List Loss) (b : Bool)
     → ((c : Box) → take_present e all c ≡ and_then (take_present e first c) (take_present e ys))
     → if_present b (and_then (take_out e x box) (take_present e all)) (take_present e all box)
-        ≡ and_then (if_present b (and_then (take_out e x box) (take_present e first)) (take_present e first box)) (take_present e ys)
+    ≡ and_then (if_present b (and_then (take_out e x box) (take_present e first)) (take_present e first box)) (take_present e ys)
 part_more e x box all first ys true h =
     then_same (take_out e x box) (take_present e all) (λ c. and_then (take_present e first c) (take_present e ys)) (λ c _. h c)
     ∙ sym (then_then (take_out e x box) (take_present e first) (take_present e ys))

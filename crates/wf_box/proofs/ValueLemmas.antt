@@ -52,7 +52,6 @@ run_keeps p (x ∷ xs) a (suc n) up low high same =
 
 -- ---- the values of a task
 
-
 values_within : (t : Task) → IsTask t → t.restriction ≡ None → AllByRecursion (λ x. x ≤ 63) (values t)
 values_within t h free =
     let all = flat_map values_of t.outputs in

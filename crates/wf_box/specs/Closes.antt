@@ -1,9 +1,10 @@
 -- What closing answers.
-use Rattle.std.specs.Prelude.{◌≡◌, ◌+◌, ◌<◌, ◌≤◌, ℕ, zero, suc, true, List, [], Option, Some, None, slice_get}
-use Rattle.std.specs.List.{slice_index_or}
+use Rattle.std.specs.Prelude.{◌≡◌, ◌+◌, ◌<◌, ◌≤◌, ℕ, true, List, [], ◌∷◌, ◌++◌, length, Option, Some, None, slice_get}
 use Rattle.wf_model.specs.Lists.{has}
 use Rattle.wf_model.specs.Problem.{Problem, Constraint}
 use Rattle.wf_model.specs.Box.{Box, candidates, is_supported_in}
+use Rattle.wf_complex.specs.declared.line.Line.{Line}
+use Rattle.wf_complex.specs.declared.line.Line.TheVariants as line
 use Rattle.wf_box.specs.declared.closing.Closed.{Closed}
 use Rattle.wf_box.specs.declared.closing.Closed.TheVariants.{Empty, Open}
 
@@ -22,10 +23,10 @@ abbrev pub Leaves : Option Box → Box → Closed → Type 0
 Leaves left box (Empty v) = left ≡ None
 Leaves left box (Open n) = left ≡ Some box
 
--- the point that is answered has no candidate
-abbrev pub IsEmptied : Box → Closed → Type 0
-IsEmptied box (Empty v) = candidates box v ≡ []
-IsEmptied box (Open n) = Unit {0}
+-- the point that is answered is one of the box's and has no candidate, and the last line says so
+abbrev pub IsEmptied : List Line → Box → Closed → Type 0
+IsEmptied lines box (Empty v) = (v < length box) × (candidates box v ≡ []) × ((before : List Line) × (lines ≡ before ++ line.Z v ∷ []))
+IsEmptied lines box (Open n) = Unit {0}
 
 -- in an open box each candidate is supported in each execution at each place where its point stands
 abbrev pub IsSupported : Problem → Box → Closed → Type 0

@@ -1,11 +1,12 @@
 -- Steps of a closing as the code makes them: lines of the program, and a box of words.
-use Rattle.std.specs.Prelude.{ℕ, ◌+◌, ◌<◌, ◌≤◌, Vec, vec_len, vec_capacity, List, [], ◌∷◌, map, Option, Some, None, if◌then◌else◌, Bool, true, false}
+use Rattle.std.specs.Prelude.{◌≡◌, ℕ, ◌+◌, ◌<◌, ◌≤◌, Vec, vec_len, vec_capacity, List, [], ◌∷◌, ◌++◌, length, map, Option, Some, None, if◌then◌else◌, Bool, true, false}
 use Rattle.wf_model.specs.Lists.{has}
 use Rattle.wf_model.specs.Box.{Box, candidates, count}
 use Rattle.wf_model.specs.Closing.{Step, Loss, keeps, and_then, take_out}
 use Rattle.wf_lane.specs.Sets.{values_in}
 use Rattle.wf_complex.specs.Lines.{line_of}
 use Rattle.wf_complex.specs.declared.line.Line.{Line}
+use Rattle.wf_complex.specs.declared.line.Line.TheVariants as line
 
 -- words as a box
 abbrev pub box_of : List ℕ → Box
@@ -48,3 +49,7 @@ HasRoom lines words = vec_len lines + count (box_of words) < vec_capacity lines
 -- each new line has a candidate less beside it
 abbrev pub IsSpent : {A : Type 0} → Vec Line A → List ℕ → Vec Line A → List ℕ → Type 0
 IsSpent lines words more fewer = vec_len more + count (box_of fewer) ≤ vec_len lines + count (box_of words)
+
+-- the point has no candidate, and the last line says so
+abbrev pub EndsAt : List Line → List ℕ → ℕ → Type 0
+EndsAt lines words v = (v < length words) × (candidates (box_of words) v ≡ []) × ((before : List Line) × (lines ≡ before ++ line.Z v ∷ []))

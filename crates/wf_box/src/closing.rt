@@ -9,7 +9,7 @@ ghost use Rattle.wf_model.specs.Closing.{and_then, closing, lost, sweep, sweeps,
 ghost use Rattle.wf_model.specs.Laws.{IsBoxOf};
 ghost use Rattle.wf_complex.specs.Lines.{line_of};
 ghost use Rattle.wf_lane.specs.Sets.{values_in};
-ghost use Rattle.wf_box.specs.Steps.{HasRoom, IsSpent, box_of, reached};
+ghost use Rattle.wf_box.specs.Steps.{EndsAt, HasRoom, IsSpent, box_of, reached};
 ghost use Rattle.wf_box.specs.Closes.{AreFew, IsEmptied, IsSupported, Leaves, emptied_by};
 
 use crate::boxed::Box0;
@@ -46,7 +46,8 @@ pub fn close(
     requires { IsBoxOf problem.now boxed.old }
     ensures lines { OnOk result (map line_of lines.new.items ≡ map line_of lines.old.items ++ (closing problem.now boxed.old).lines) }
     ensures leaves { IfOk result (Leaves (closing problem.now boxed.old).left boxed.new) }
-    ensures emptied { IfOk result (IsEmptied boxed.new) }
+    ensures emptied { IfOk result (IsEmptied lines.new.items boxed.new) }
+    ensures shape { OnOk result (IsBoxOf problem.now boxed.new) }
     ensures solutions { OnOk result ((m : List ℕ) → IsSolution problem.now m → LiesIn m boxed.old → LiesIn m boxed.new) }
     ensures supported { IfOk result (IsSupported problem.now boxed.new) }
     ensures sweeps { IfOk result (AreFew (count boxed.old) (count boxed.new)) }
@@ -73,7 +74,8 @@ fn close_sets(problem: &Problem, sets: &mut [u64], lines: &mut Lines) -> Closed
     requires few { length sets.old ≤ 2000000 }
     requires room { HasRoom lines.old sets.old }
     ensures step { reached lines.new.items (emptied_by result) sets.new ≡ and_then (reached lines.old.items None sets.old) (closing problem.now) }
-    ensures emptied { IsEmptied (box_of sets.new) result }
+    ensures shape { IsBoxOf problem.now (box_of sets.new) }
+    ensures emptied { IsEmptied lines.new.items (box_of sets.new) result }
     ensures solutions { (m : List ℕ) → IsSolution problem.now m → LiesIn m (box_of sets.old) → LiesIn m (box_of sets.new) }
     ensures supported { IsSupported problem.now (box_of sets.new) result }
     ensures sweeps { AreFew (count (box_of sets.old)) (count (box_of sets.new)) result }
@@ -102,7 +104,8 @@ fn sweeps(problem: &Problem, sets: &mut [u64], lines: &mut Lines) -> Closed
     requires few { length sets.old ≤ 2000000 }
     requires room { HasRoom lines.old sets.old }
     ensures step { reached lines.new.items (emptied_by result) sets.new ≡ and_then (reached lines.old.items None sets.old) (sweeps (suc (count (box_of sets.old))) problem.now) }
-    ensures emptied { IsEmptied (box_of sets.new) result }
+    ensures long { length sets.new ≡ length sets.old }
+    ensures emptied { IsEmptied lines.new.items (box_of sets.new) result }
     ensures sweeps { AreFew (count (box_of sets.old)) (count (box_of sets.new)) result }
     ensures problem { IsWellFormed problem.now }
 {
@@ -125,7 +128,7 @@ fn sweep(problem: &Problem, sets: &mut [u64], lines: &mut Lines) -> Option<u32>
     requires room { HasRoom lines.old sets.old }
     ensures step { reached lines.new.items result sets.new ≡ and_then (reached lines.old.items None sets.old) (sweep problem.now) }
     ensures long { length sets.new ≡ length sets.old }
-    ensures emptied { IfSome result (λ v. candidates (box_of sets.new) v ≡ []) }
+    ensures emptied { IfSome result (EndsAt lines.new.items sets.new) }
     ensures room { IfNone result (HasRoom lines.new sets.new) }
     ensures spent { IfNone result (IsSpent lines.old sets.old lines.new sets.new) }
     ensures problem { IsWellFormed problem.now }
@@ -148,7 +151,7 @@ fn revise(problem: &Problem, number: u32, sets: &mut [u64], lines: &mut Lines) -
     ensures step { reached lines.new.items result sets.new
         ≡ and_then (reached lines.old.items None sets.old) (λ box. take_out_each number (lost box (constraint_at problem.now number)) box) }
     ensures long { length sets.new ≡ length sets.old }
-    ensures emptied { IfSome result (λ v. candidates (box_of sets.new) v ≡ []) }
+    ensures emptied { IfSome result (EndsAt lines.new.items sets.new) }
     ensures room { IfNone result (HasRoom lines.new sets.new) }
     ensures spent { IfNone result (IsSpent lines.old sets.old lines.new sets.new) }
 {

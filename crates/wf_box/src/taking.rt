@@ -6,7 +6,7 @@ ghost use Rattle.wf_model.specs.Lists.{has};
 ghost use Rattle.wf_model.specs.Box.{candidates};
 ghost use Rattle.wf_model.specs.Closing.{and_then, take_out};
 ghost use Rattle.wf_lane.specs.Sets.{values_in};
-ghost use Rattle.wf_box.specs.Steps.{HasRoom, IsSpent, box_of, loss, point_if, reached, take_present};
+ghost use Rattle.wf_box.specs.Steps.{EndsAt, HasRoom, IsSpent, box_of, loss, point_if, reached, take_present};
 
 use wf_complex::{Line, Lines};
 
@@ -26,7 +26,7 @@ pub(crate) fn take_each(values: u64, place: Place, sets: &mut [u64], lines: &mut
     ensures step { reached lines.new.items (point_if result place.point) sets.new
         ≡ and_then (reached lines.old.items None sets.old) (take_present place.execution (map (loss place.process place.point) (values_in values))) }
     ensures long { length sets.new ≡ length sets.old }
-    ensures emptied { OnTrue result (candidates (box_of sets.new) place.point ≡ []) }
+    ensures emptied { OnTrue result (EndsAt lines.new.items sets.new place.point) }
     ensures room { OnFalse result (HasRoom lines.new sets.new) }
     ensures spent { OnFalse result (IsSpent lines.old sets.old lines.new sets.new) }
 {
@@ -51,7 +51,7 @@ fn take_out(value: u8, place: Place, sets: &mut [u64], lines: &mut Lines) -> boo
     ensures step { reached lines.new.items (point_if result place.point) sets.new
         ≡ and_then (reached lines.old.items None sets.old) (take_out place.execution (loss place.process place.point value)) }
     ensures long { length sets.new ≡ length sets.old }
-    ensures emptied { OnTrue result (candidates (box_of sets.new) place.point ≡ []) }
+    ensures emptied { OnTrue result (EndsAt lines.new.items sets.new place.point) }
     ensures room { OnFalse result (HasRoom lines.new sets.new) }
     ensures spent { OnFalse result (IsSpent lines.old sets.old lines.new sets.new) }
 {
@@ -92,7 +92,7 @@ fn without(values: u64, value: u8) -> u64
 }
 
 /// Whether the value is one of them.
-fn holds(values: u64, value: u8) -> bool
+pub(crate) fn holds(values: u64, value: u8) -> bool
     requires { value < 64 }
     ensures { result ≡ has (values_in values) value }
 {

@@ -1,5 +1,8 @@
+ghost use Rattle.wf_model.specs.Laws.{IsBoxOf};
+
+use crate::taking::holds;
 use crate::{Box0, Closed, Problem, close};
-use std::alloc::Global;
+use std::alloc::{AllocError, Global};
 use std::test::Fail;
 use wf_complex::{Line, Lines, Protocol};
 use wf_task::Task;
@@ -95,29 +98,37 @@ fn each_value_of_a_point_is_tried_in_a_copy(rt: HostRuntime) -> Result<(), Fail>
     let mut boxed = Box0::root(rt.alloc(), &problem)?;
     let mut lines: Lines = Vec::new(rt.alloc());
     close(rt.alloc(), &problem, &mut boxed, &mut lines)?;
-    assert_eq!(rt; try_value(rt.alloc(), &problem, &boxed, 1)?, (1, 3, 0));
-    assert_eq!(rt; try_value(rt.alloc(), &problem, &boxed, 2)?, (2, 2, 1));
+    assert_eq!(rt;
+        try_value(rt.alloc(), &problem, &boxed, 1)?,
+        Some((1, 3, 0))
+    );
+    assert_eq!(rt;
+        try_value(rt.alloc(), &problem, &boxed, 2)?,
+        Some((2, 2, 1))
+    );
     assert_eq!(rt; boxed.sets.as_slice(), [1, 4, 6, 3].as_slice());
     Ok(())
 }
 
 /// Gives point 2 the value in a copy and closes that: how many sweeps it takes, the candidates of point 3 then, and how
-/// many lines are added.
+/// many lines are added. None where the value is no candidate, or a point is emptied.
 fn try_value(
     alloc: Global,
     problem: &Problem,
     boxed: &Box0,
     value: u8,
-) -> Result<(u32, u64, usize), Fail> {
+) -> Result<Option<(u32, u64, usize)>, AllocError>
+    requires { IsBoxOf problem.now boxed.now }
+{
     let mut tried = boxed.copy(alloc)?;
-    if tried.sets.len() != 4 || tried.candidates(2) >> value & 1 == 0 {
-        return Err(Fail);
+    if tried.sets.len() <= 3 || value > 63 || !holds(tried.candidates(2), value) {
+        return Ok(None);
     }
     tried.set(2, value);
     let mut lines: Lines = Vec::new(alloc);
     match close(alloc, problem, &mut tried, &mut lines)? {
-        Closed::Open { sweeps } => Ok((sweeps, tried.candidates(3), lines.len())),
-        Closed::Empty(_) => Err(Fail),
+        Closed::Open { sweeps } => Ok(Some((sweeps, tried.sets[3], lines.len()))),
+        Closed::Empty(_) => Ok(None),
     }
 }
 

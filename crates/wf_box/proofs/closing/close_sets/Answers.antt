@@ -5,7 +5,7 @@ use Rattle.wf_model.specs.Closing.{Step, and_then}
 use Rattle.wf_complex.specs.Lines.{line_of}
 use Rattle.wf_complex.specs.declared.line.Line.TheVariants as line
 use Rattle.wf_box.specs.Steps.{box_of, reached}
-use Rattle.wf_box.proofs.CloseLemmas.{closing_empty, empty_there, closing_sweeps, left_of, solutions_kept, supported_there}
+use Rattle.wf_box.proofs.CloseLemmas.{closing_empty, empty_there, point_there, closing_sweeps, left_of, solutions_kept, supported_there, is_box}
 use Rattle.wf_box.proofs.closing.close_sets.Goals as goal
 
 pub returns-in-Some-clause-step : goal.returns-in-Some-clause-step
@@ -17,7 +17,9 @@ returns-in-Some-clause-step c =
     }
 
 pub returns-in-Some-clause-emptied : goal.returns-in-Some-clause-emptied
-returns-in-Some-clause-emptied c = empty_there (box_of c.args.sets.now) c.in-Some.point (sym c.empty_point.ensures ∙ c.in-Some.is)
+returns-in-Some-clause-emptied c =
+    let empty = sym c.empty_point.ensures ∙ c.in-Some.is in
+    (point_there (box_of c.args.sets.now) c.in-Some.point empty, empty_there (box_of c.args.sets.now) c.in-Some.point empty, (c.args.lines.now.items, c.put.ensures.lines))
 
 pub returns-clause-step : goal.returns-clause-step
 returns-clause-step c =
@@ -37,3 +39,6 @@ returns-clause-supported c =
     let step = c.sweeps.ensures.step ∙ ap (λ s. and_then (reached c.args.lines.now.items None c.args.sets.now) (λ _. s)) (sym closed) in
     supported_there c.args.problem.now (box_of c.args.sets.now) (box_of c.sweeps.new.sets) c.sweeps.result c.requires.boxed
     (left_of c.args.problem.now c.args.lines.now.items c.sweeps.new.lines.items c.args.sets.now c.sweeps.new.sets c.sweeps.result step)
+
+pub returns-clause-shape : goal.returns-clause-shape
+returns-clause-shape c = is_box c.args.problem.now c.sweeps.new.sets (c.sweeps.ensures.long ∙ c.requires.long)

@@ -13,13 +13,12 @@ use Rattle.wf_box.proofs.PlaceLemmas.{lost_here, place_more, no_place_more}
 use Rattle.wf_box.proofs.closing.revise.Goals as goal
 
 pub places-init : goal.places-init
-places-init c =
-    (
-      refl,
-      c.requires.room,
-      omega arith,
-      ap (λ (s : Step). and_then (reached c.args.lines.now.items None c.args.sets.now) (λ _. s)) (sym (lost_in_turn c.args.number (constraint_at c.args.problem.now c.args.number) (box_of c.args.sets.now))),
-    )
+places-init c = (
+  refl,
+  c.requires.room,
+  omega arith,
+  ap (λ (s : Step). and_then (reached c.args.lines.now.items None c.args.sets.now) (λ _. s)) (sym (lost_in_turn c.args.number (constraint_at c.args.problem.now c.args.number) (box_of c.args.sets.now))),
+)
 
 pub take_each-requires-clause-point : goal.take_each-requires-clause-point
 take_each-requires-clause-point c =

@@ -19,8 +19,7 @@ sweeping-preserved c =
     let up = grown p c.sweeping.lines.items c.sweep.new.lines.items c.sweeping.sets c.sweep.new.sets None c.in_default.ensures.step in
     let more : length c.sweep.new.lines.items ≡ length c.sweeping.lines.items → ⊥ = λ same. c.if-len-before.false (let e : c.len.result ≡ c.len-before.result = omega (arith, same, before, after, c.len.ensures, c.len-before.ensures) in e) in
     let lines_differ : length c.sweeping.lines.items < length c.sweep.new.lines.items = less up more in
-    let fewer : count (box_of c.sweep.new.sets) < count (box_of c.sweeping.sets) = omega (arith, c.in_default.ensures.spent, up, before, after, lines_differ) in
-    (
+    let fewer : count (box_of c.sweep.new.sets) < count (box_of c.sweeping.sets) = omega (arith, c.in_default.ensures.spent, up, before, after, lines_differ) in (
       c.in_default.ensures.long ∙ c.sweeping.invariant.0,
       c.in_default.ensures.room,
       omega arith,

@@ -26,8 +26,7 @@ loop-number-preserved c =
       rule = rule_within t b.rounds b rules n c.simplex_of.result c.requires.built c.requires.rules inside c.simplex_of.ensures;
       long = c.four.ensures.long;
       points_within = c.four.ensures.among (length b.points) known.2;
-    } in
-    (
+    } in (
       ap (map (constraint_seen rules)) c.in_ok-push.ensures.items ∙ one_more (constraint_seen rules) old e (problem_of t b.rounds).constraints n (constraint_seen rules e) c.loop-number.invariant.0 refl there,
       subst (All (IsWithin (length rules) (length b.points))) (sym c.in_ok-push.ensures.items) (all_more (IsWithin (length rules) (length b.points)) old e c.loop-number.invariant.1 within),
       omega (arith, ap length c.in_ok-push.ensures.items, length-append old (e ∷ []), c.loop-number.invariant.2),

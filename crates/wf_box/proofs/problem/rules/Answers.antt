@@ -20,8 +20,7 @@ loop-number-preserved c =
     let n = c.loop-number.number in
     let s = c.index-inputs-number.result in
     let same : c.simplices-inputs.result.now ≡ inputs t = c.simplices-inputs.ensures.simplices ∙ c.inputs.ensures.inputs in
-    let there = rule_there t n s s c.tuples.result.now (c.index-inputs-number.is ∙ ap (λ (xs : List Simplex). get_or xs n s) same) (omega (arith, c.loop-number-test.true, ap length same)) c.tuples.ensures in
-    (
+    let there = rule_there t n s s c.tuples.result.now (c.index-inputs-number.is ∙ ap (λ (xs : List Simplex). get_or xs n s) same) (omega (arith, c.loop-number-test.true, ap length same)) c.tuples.ensures in (
       ap (map rule_seen) c.in_ok-push.ensures.items ∙ one_more rule_seen c.loop-number.rules.items c.in_ok-of.field-0 t.rules n _ c.loop-number.invariant.0 c.in_ok-of.ensures.rule there,
       subst (All IsWide) (sym c.in_ok-push.ensures.items) (all_more IsWide c.loop-number.rules.items c.in_ok-of.field-0 c.loop-number.invariant.1 c.in_ok-of.ensures.wide),
     )

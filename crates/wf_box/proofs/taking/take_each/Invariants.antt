@@ -10,4 +10,4 @@ decreases-values l = l.left
 abbrev pub invariant-values : goal.invariant-values
 invariant-values l = (length l.sets ≡ length l.initial.sets) × HasRoom l.lines l.sets × IsSpent l.initial.lines l.initial.sets l.lines l.sets
     × (and_then (reached l.lines.items None l.sets) (take_present l.place.execution (map (loss l.place.process l.place.point) (values_in l.left)))
-        ≡ and_then (reached l.initial.lines.items None l.initial.sets) (take_present l.place.execution (map (loss l.place.process l.place.point) (values_in l.initial.left))))
+    ≡ and_then (reached l.initial.lines.items None l.initial.sets) (take_present l.place.execution (map (loss l.place.process l.place.point) (values_in l.initial.left))))

@@ -1,4 +1,4 @@
-use Rattle.std.proofs.Common.{◌≡◌, ◌==◌, ◌++◌, ◌∷◌, [], Some, None, ◌∙◌, sym, ap, subst, arith}
+use Rattle.std.proofs.Common.{◌≡◌, ◌==◌, ◌++◌, ◌∷◌, [], Some, None, ◌∙◌, sym, ap, arith, length-set}
 use Rattle.std.specs.List.{slice_set}
 use Rattle.wf_model.specs.Closing.{and_then, take_out}
 use Rattle.wf_complex.specs.declared.line.Line.TheVariants as line
@@ -21,7 +21,11 @@ returns-then-set-eq0-clause-step c =
     (ap values_in c.if-set-eq0.true ∙ values_of_nothing)
 
 pub returns-then-set-eq0-clause-emptied : goal.returns-then-set-eq0-clause-emptied
-returns-then-set-eq0-clause-emptied c = set_there c.args.sets.now c.args.place.point c.without-set.result c.requires.point ∙ ap values_in c.if-set-eq0.true ∙ values_of_nothing
+returns-then-set-eq0-clause-emptied c = (
+  omega (arith, c.requires.point, length-set c.args.sets.now c.args.place.point c.without-set.result),
+  set_there c.args.sets.now c.args.place.point c.without-set.result c.requires.point ∙ ap values_in c.if-set-eq0.true ∙ values_of_nothing,
+  (c.put.new.lines.items, c.put-then-set-eq0.ensures.lines),
+)
 
 pub returns-clause-step : goal.returns-clause-step
 returns-clause-step c =
