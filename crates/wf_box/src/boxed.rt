@@ -3,6 +3,7 @@
 ghost use Rattle.std.specs.Prelude.{◌≡◌, ◌<◌, ◌≤◌, true, length, IfOk};
 ghost use Rattle.wf_model.specs.Lists.{has};
 ghost use Rattle.wf_model.specs.Box.{candidates, decided, root};
+ghost use Rattle.wf_model.specs.Laws.{IsBoxOf};
 ghost use Rattle.wf_lane.specs.Sets.{values_in};
 ghost use Rattle.wf_box.specs.Steps.{box_of};
 
@@ -33,7 +34,8 @@ impl Model for Box0 {
 impl Box0 {
     /// The root box of a problem: each point has all values.
     pub fn root(alloc: Global, problem: &Problem) -> Result<Box0, AllocError>
-        ensures { IfOk result (λ boxed. boxed ≡ root problem.now) }
+        ensures root { IfOk result (λ boxed. boxed ≡ root problem.now) }
+        ensures shape { IfOk result (IsBoxOf problem.now) }
     {
         Ok(Box0 {
             sets: vec![in alloc; problem.values; problem.points as usize]?,
