@@ -3,6 +3,7 @@
 ghost use Rattle.std.specs.Prelude.{◌≡◌, ◌<◌, ◌≤◌, true, length, IfOk};
 ghost use Rattle.wf_model.specs.Lists.{has};
 ghost use Rattle.wf_model.specs.Box.{candidates, decided, root};
+ghost use Rattle.wf_model.specs.Problem.{Problem};
 ghost use Rattle.wf_model.specs.Laws.{IsBoxOf};
 ghost use Rattle.wf_lane.specs.Sets.{values_in};
 ghost use Rattle.wf_box.specs.Steps.{box_of};
@@ -54,7 +55,8 @@ impl Box0 {
     /// Leaves a point one of its candidates. It takes no memory.
     pub fn set(&mut self, point: u32, value: u8)
         requires { has (candidates self.old point) value ≡ true }
-        ensures { self.new ≡ decided self.old point value }
+        ensures decided { self.new ≡ decided self.old point value }
+        ensures shape { (p : Problem) → IsBoxOf p self.old → IsBoxOf p self.new }
     {
         leave_value(&mut self.sets, point, value);
     }
