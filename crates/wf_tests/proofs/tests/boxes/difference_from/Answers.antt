@@ -5,5 +5,5 @@ use Rattle.wf_tests.proofs.tests.boxes.difference_from.Goals as goal
 
 pub branch_difference-requires-clause-whole : goal.branch_difference-requires-clause-whole
 branch_difference-requires-clause-whole c =
-    let whole = subst (IsBoxOf c.args.problem.now) (sym c.in_ok-boxed.ensures) c.requires.root in
+    let whole = subst (IsBoxOf c.args.problem.now) (sym c.in_ok-boxed.ensures.root) c.requires.root in
     open_is_box c.args.problem.now c.in_ok-boxed.boxed c.close_both.new.boxed c.in_ok-closed.closed c.in-Open.sweeps whole c.in_ok-closed.ensures c.in-Open.is
