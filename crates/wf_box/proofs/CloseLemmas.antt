@@ -1,5 +1,5 @@
 -- What the sweeps come to.
-use Rattle.std.proofs.Common.{◌≡◌, ℕ, suc, ◌+◌, ◌<◌, ◌≤◌, ◌^◌, ◌==◌, true, List, [], ◌∷◌, ◌++◌, map, length, get_or, slice_index, All, Option, Some, None, refl, sym, ap, ◌∙◌, subst, arith, position, eqb-true}
+use Rattle.std.proofs.Common.{◌≡◌, ℕ, suc, ◌<◌, ◌^◌, ◌==◌, true, List, [], ◌∷◌, length, slice_index, All, Option, Some, None, refl, sym, ap, ◌∙◌, subst, arith, eqb-true}
 use Rattle.std.specs.List.{AllByRecursion}
 use Rattle.std.proofs.lemmas.List.{get_or_default, length-map}
 use Rattle.std.proofs.lemmas.List.Elements.{All-from_recursion}
@@ -12,7 +12,6 @@ use Rattle.wf_model.specs.Closing.{Step, and_then, closing, closing_at, sweeps}
 use Rattle.wf_model.specs.Laws.{IsBoxOf}
 use Rattle.wf_model.proofs.Ascending.{is_ascending_from}
 use Rattle.wf_model.proofs.Closed.{solution_left, closed_branch, closed_supports}
-use Rattle.wf_complex.specs.Lines.{line_of}
 use Rattle.wf_complex.specs.declared.line.Line.{Line}
 use Rattle.wf_lane.specs.Sets.{values_in}
 use Rattle.wf_lane.proofs.SetLaws.{values_ascend}

@@ -1,21 +1,20 @@
 -- A task and its protocol complex, as a problem.
-use Rattle.std.proofs.Common.{◌≡◌, ℕ, zero, suc, ◌+◌, ◌<◌, ◌≤◌, List, [], ◌∷◌, ◌++◌, map, zip, take, length, get_or, All, Option, Some, None, option_map, unwrap_or, slice_get, refl, sym, ap, ◌∙◌, subst, arith}
-use Rattle.std.specs.List.{slice_index_or, sum_by}
-use Rattle.std.proofs.lemmas.Option.{slice_get-get_or, slice_get-map, slice_get_within}
-use Rattle.std.proofs.lemmas.List.{get_or-map, get_or_default, length-map, map-append, take_more}
+use Rattle.std.proofs.Common.{◌≡◌, ℕ, ◌+◌, ◌<◌, ◌≤◌, List, [], ◌∷◌, ◌++◌, map, zip, take, length, get_or, All, Option, Some, None, option_map, slice_get, refl, sym, ap, ◌∙◌, subst, arith}
+use Rattle.std.specs.List.{slice_index_or}
+use Rattle.std.proofs.lemmas.Option.{slice_get_within}
+use Rattle.std.proofs.lemmas.List.{get_or-map, length-map, map-append, take_more}
 use Rattle.std.proofs.lemmas.List.Elements.{All-append, All-cons, All-nil, All-map}
 use Rattle.std.proofs.lemmas.List.Sums.{get_or-le-sum_by}
 use Rattle.wf_model.specs.Simplex.{Simplex, processes_of}
 use Rattle.wf_model.specs.Task as task
 use Rattle.wf_model.specs.Task.{Task, Tuple, IsTask, IsSimplexWithin, inputs, largest_value}
-use Rattle.wf_model.specs.Problem.{Problem, Constraint, IsWellFormed, problem_of}
+use Rattle.wf_model.specs.Problem.{Constraint, problem_of}
 use Rattle.wf_model.proofs.WellFormed.{task_well_formed}
 use Rattle.wf_simplex.proofs.Within.{length-within}
 use Rattle.wf_complex.specs.Protocol.{Built, IsProtocol}
 use Rattle.wf_complex.proofs.RuleAt.{constraint_there, got}
-use Rattle.wf_box.specs.Problems.{IsWide, IsWithin, constraint_seen, no_rule, rule_of, rule_seen}
+use Rattle.wf_box.specs.Problems.{constraint_seen, no_rule, rule_seen}
 use Rattle.wf_box.specs.declared.problem.Rule.{Rule}
-use Rattle.wf_box.specs.declared.problem.Execution.{Execution}
 
 -- ---- one more in a loop
 

@@ -1,8 +1,8 @@
 -- The places of an execution, one after another.
-use Rattle.std.proofs.Common.{◌≡◌, ℕ, zero, suc, ◌+◌, ◌<◌, ◌≤◌, ◌^◌, Bool, not, List, [], ◌∷◌, ◌++◌, map, filter, flat_map, zip, take, drop, length, get_or, slice_index, All, refl, sym, ap, ◌∙◌, subst, arith, w64, bit_and}
+use Rattle.std.proofs.Common.{◌≡◌, ℕ, zero, suc, ◌+◌, ◌<◌, ◌≤◌, ◌^◌, not, List, [], ◌∷◌, ◌++◌, map, filter, flat_map, zip, drop, length, get_or, slice_index, All, refl, sym, ap, ◌∙◌, subst, arith, w64, bit_and}
 use Rattle.std.specs.List.{enumerate_from}
 use Rattle.std.specs.Int.{bit_not}
-use Rattle.std.proofs.lemmas.List.{get_or-map, at_drop_more, length-map}
+use Rattle.std.proofs.lemmas.List.{get_or-map, at_drop_more}
 use Rattle.std.proofs.lemmas.List.Elements.{All-head, All-tail}
 use Rattle.wf_model.specs.Problem.{Constraint}
 use Rattle.wf_model.specs.Box.{Box, candidates, is_supported, is_supported_in, sets_of}

@@ -1,6 +1,6 @@
 -- Steps one after another, and taking out what is still there.
-use Rattle.std.proofs.Common.{◌≡◌, ℕ, zero, suc, ◌==◌, ◌&&◌, Bool, true, false, not, List, [], ◌∷◌, ◌++◌, map, filter, flat_map, length, Option, Some, None, refl, sym, ap, ◌∙◌, subst, append_assoc, append-nil, inl, inr, arith, ◌<◌, ◌≤◌, ◌||◌, cond, eqb-true, eq-eqb, ⊎_elim, length-set}
-use Rattle.std.specs.List.{AllByRecursion, slice_set, slice_index_or}
+use Rattle.std.proofs.Common.{◌≡◌, ℕ, zero, suc, ◌==◌, ◌&&◌, Bool, true, false, not, List, [], ◌∷◌, ◌++◌, filter, flat_map, length, Option, Some, None, refl, sym, ap, ◌∙◌, subst, append_assoc, append-nil, inl, inr, arith, ◌<◌, ◌≤◌, ◌||◌, cond, eqb-true, eq-eqb, ⊎_elim, length-set}
+use Rattle.std.specs.List.{AllByRecursion, slice_set}
 use Rattle.std.proofs.lemmas.Bool.{cases_Bool, cases_lt, false≢true, and_parts}
 use Rattle.wf_model.specs.Lists.{has, distinct}
 use Rattle.wf_model.specs.Problem.{Constraint}

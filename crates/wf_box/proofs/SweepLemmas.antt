@@ -11,8 +11,8 @@ use Rattle.wf_model.proofs.Fuel.{length_filter}
 use Rattle.wf_complex.specs.Lines.{line_of}
 use Rattle.wf_complex.specs.declared.line.Line.{Line}
 use Rattle.wf_lane.specs.Sets.{holds, values_in}
-use Rattle.wf_box.specs.Steps.{box_of, left_by, reached}
-use Rattle.wf_box.proofs.StepLemmas.{then_then, then_same}
+use Rattle.wf_box.specs.Steps.{box_of, reached}
+use Rattle.wf_box.proofs.StepLemmas.{then_then}
 
 -- ---- how many candidates there can be
 

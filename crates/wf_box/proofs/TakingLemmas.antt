@@ -1,12 +1,11 @@
 -- One candidate is taken out, and then each of some values.
-use Rattle.std.proofs.Common.{◌≡◌, ℕ, zero, suc, ◌+◌, ◌<◌, ◌≤◌, ◌^◌, ◌==◌, Bool, true, false, not, List, [], ◌∷◌, ◌++◌, map, filter, length, get_or, Option, Some, None, refl, sym, ap, ◌∙◌, subst, append_assoc, arith, inl, inr, ⊎_elim, length-set}
-use Rattle.std.specs.List.{slice_set, slice_index_or}
-use Rattle.std.proofs.lemmas.Bool.{cases_Bool, cases_lt, cases_eq}
-use Rattle.std.proofs.lemmas.List.{map-set, map-append, get_or-map, length-map}
+use Rattle.std.proofs.Common.{◌≡◌, ℕ, zero, suc, ◌<◌, ◌==◌, true, not, List, [], ◌∷◌, ◌++◌, map, filter, length, get_or, Some, None, refl, sym, ap, ◌∙◌, subst, append_assoc, arith}
+use Rattle.std.specs.List.{slice_set}
+use Rattle.std.proofs.lemmas.List.{map-set, map-append, get_or-map}
 use Rattle.wf_model.specs.Lists.{has}
 use Rattle.wf_model.specs.Box.{Box, candidates, without, count}
 use Rattle.wf_model.specs.Refutation as refutation
-use Rattle.wf_model.specs.Closing.{Step, Loss, and_then, taken_out, take_out, take_out_each}
+use Rattle.wf_model.specs.Closing.{Step, Loss, and_then, taken_out, take_out}
 use Rattle.wf_model.proofs.Fuel.{count_set_less}
 use Rattle.wf_model.proofs.Stable.{filter_less}
 use Rattle.wf_lane.specs.Sets.{values_in}

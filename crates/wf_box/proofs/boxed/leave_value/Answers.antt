@@ -1,4 +1,3 @@
-use Rattle.std.proofs.Common.{◌≡◌, arith}
 use Rattle.wf_box.proofs.BoxLemmas.{one_left, point_there, value_there}
 use Rattle.wf_box.proofs.boxed.leave_value.Goals as goal
 

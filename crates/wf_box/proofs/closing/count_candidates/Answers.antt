@@ -1,4 +1,4 @@
-use Rattle.std.proofs.Common.{◌≡◌, ◌<◌, ◌≤◌, ℕ, sym, ◌∙◌, arith}
+use Rattle.std.proofs.Common.{sym, ◌∙◌, arith}
 use Rattle.wf_lane.proofs.BoxLaws.{count_of-words}
 use Rattle.wf_box.proofs.SweepLemmas.{count_few}
 use Rattle.wf_box.proofs.CloseLemmas.{words_fit}

@@ -1,13 +1,11 @@
-use Rattle.std.proofs.Common.{◌≡◌, ℕ, ◌+◌, ◌<◌, ◌≤◌, ◌^◌, List, None, Some, map, flat_map, drop, zip, length, get_or, slice_index, All, refl, sym, ap, ◌∙◌, subst, arith, w64, bit_and}
-use Rattle.std.specs.Int.{bit_not}
-use Rattle.std.proofs.lemmas.List.{get_or-map, length-map}
+use Rattle.std.proofs.Common.{◌≡◌, ◌+◌, ◌<◌, ◌≤◌, None, map, flat_map, drop, length, get_or, All, refl, sym, ap, ◌∙◌, subst, arith}
+use Rattle.std.proofs.lemmas.List.{length-map}
 use Rattle.wf_model.specs.Simplex.{processes_of}
 use Rattle.wf_model.specs.Problem.{Problem, constraint_at}
-use Rattle.wf_model.specs.Closing.{Step, and_then, lost, lost_at, places, take_out_each}
+use Rattle.wf_model.specs.Closing.{Step, and_then, lost_at, places}
 use Rattle.wf_lane.specs.Sets.{values_in}
-use Rattle.wf_lane.specs.Table.{HasSupported}
-use Rattle.wf_box.specs.Steps.{HasRoom, IsSpent, box_of, loss, point_if, reached, take_present}
-use Rattle.wf_box.proofs.ProblemLemmas.{Known, known_at}
+use Rattle.wf_box.specs.Steps.{box_of, loss, point_if, reached, take_present}
+use Rattle.wf_box.proofs.ProblemLemmas.{known_at}
 use Rattle.wf_box.proofs.StepLemmas.{lost_in_turn}
 use Rattle.wf_box.proofs.PlaceLemmas.{lost_here, place_more, no_place_more}
 use Rattle.wf_box.proofs.closing.revise.Goals as goal

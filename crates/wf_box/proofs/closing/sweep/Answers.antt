@@ -1,1 +1,0 @@
-use Rattle.wf_box.proofs.closing.sweep.Goals as goal

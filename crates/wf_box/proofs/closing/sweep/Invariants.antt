@@ -1,4 +1,4 @@
-use Rattle.std.proofs.Common.{◌≡◌, ℕ, None, length, drop}
+use Rattle.std.proofs.Common.{◌≡◌, None, length, drop}
 use Rattle.wf_model.specs.Closing.{and_then, sweep, sweep_from}
 use Rattle.wf_box.specs.Steps.{HasRoom, IsSpent, reached}
 use Rattle.wf_box.proofs.closing.sweep.Given as goal

@@ -1,4 +1,4 @@
-use Rattle.std.proofs.Common.{◌≡◌, ℕ, ◌+◌, ◌<◌, ◌≤◌, None, length, ◌∙◌, arith}
+use Rattle.std.proofs.Common.{◌≡◌, ℕ, ◌<◌, ◌≤◌, None, length, ◌∙◌, arith}
 use Rattle.wf_model.specs.Box.{count}
 use Rattle.wf_box.specs.Steps.{box_of}
 use Rattle.wf_box.proofs.SweepLemmas.{count_few, grown, swept_more}

@@ -1,4 +1,4 @@
-use Rattle.std.proofs.Common.{◌≡◌, ◌<◌, ◌≤◌, ◌+◌, ◌∙◌, ◌∷◌, [], ℕ, All, map, ap, sym, refl, subst, length, length-append, arith}
+use Rattle.std.proofs.Common.{◌<◌, ◌∙◌, ◌∷◌, [], All, map, ap, sym, refl, subst, length, length-append, arith}
 use Rattle.wf_model.specs.Problem.{problem_of}
 use Rattle.wf_box.specs.Problems.{IsWithin, constraint_seen}
 use Rattle.wf_box.specs.declared.problem.Execution.{Execution}

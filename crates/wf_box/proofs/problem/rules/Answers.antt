@@ -1,4 +1,4 @@
-use Rattle.std.proofs.Common.{◌≡◌, ◌<◌, ◌≤◌, ◌+◌, ◌∙◌, ℕ, List, All, map, ap, sym, subst, length, get_or, arith, slice_get, Some}
+use Rattle.std.proofs.Common.{◌≡◌, ◌∙◌, List, All, map, ap, sym, subst, length, get_or, arith}
 use Rattle.wf_model.specs.Simplex.{Simplex}
 use Rattle.wf_model.specs.Task.{inputs}
 use Rattle.wf_box.specs.Problems.{IsWide, rule_seen}

@@ -1,4 +1,4 @@
-use Rattle.std.proofs.Common.{◌≡◌, ◌<◌, ◌≤◌, ℕ, None, length, map}
+use Rattle.std.proofs.Common.{◌≡◌, None, length, map}
 use Rattle.wf_model.specs.Closing.{and_then}
 use Rattle.wf_lane.specs.Sets.{values_in}
 use Rattle.wf_box.specs.Steps.{HasRoom, IsSpent, loss, reached, take_present}

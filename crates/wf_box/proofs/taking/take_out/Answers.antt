@@ -1,10 +1,9 @@
-use Rattle.std.proofs.Common.{◌≡◌, ◌==◌, ◌++◌, ◌∷◌, [], Some, None, ◌∙◌, sym, ap, arith, length-set}
+use Rattle.std.proofs.Common.{◌++◌, ◌∷◌, [], Some, None, ◌∙◌, ap, arith, length-set}
 use Rattle.std.specs.List.{slice_set}
-use Rattle.wf_model.specs.Closing.{and_then, take_out}
 use Rattle.wf_complex.specs.declared.line.Line.TheVariants as line
 use Rattle.wf_lane.specs.Sets.{values_in}
 use Rattle.wf_lane.proofs.SetLaws.{nothing_from_values, values_of_nothing}
-use Rattle.wf_box.specs.Steps.{loss, reached}
+use Rattle.wf_box.specs.Steps.{reached}
 use Rattle.wf_box.proofs.TakingLemmas.{one_less, set_there, taken_on, taken_last}
 use Rattle.wf_box.proofs.taking.take_out.Goals as goal
 

@@ -1,4 +1,4 @@
-use Rattle.std.proofs.Common.{◌≡◌, map, length, ap, ◌∙◌}
+use Rattle.std.proofs.Common.{map, length, ap, ◌∙◌}
 use Rattle.std.proofs.lemmas.List.{length-replicate}
 use Rattle.wf_model.specs.Problem.{Problem}
 use Rattle.wf_model.specs.Box.{root}
