@@ -99,6 +99,15 @@ the_first_violated = refl
 pub no_lines : report_fault (path 3) 1 (record path_3_report { body = none [] }) ≡ Some unfinished
 no_lines = refl
 
+-- the lines of a refutation begin at line 7, those of a search after its map
+pub lines_are_numbered : map (report_fault (path 3) 1)
+    (record path_3_report { body = none (empty 0 ∷ []) } ∷ record path_3_report { body = least (0 ∷ 3 ∷ 2 ∷ 1 ∷ []) (empty 0 ∷ []) } ∷ [])
+    ≡ Some (not_empty 7) ∷ Some (not_empty 11) ∷ []
+lines_are_numbered = refl
+
+pub no_decision_map_is_least : report_fault (path 3) 1 (record path_3_report { body = least (0 ∷ 3 ∷ 2 ∷ 2 ∷ []) (found ∷ []) }) ≡ Some (violates 3)
+no_decision_map_is_least = refl
+
 abbrev checked : List Line → List Line → Option Refusal
 checked before after = let p = problem_of renaming_2_2 1 in first_fault p 7 (before ++ ((canonical p (root p)).lines ++ after)) (root p ∷ [])
 
