@@ -1,5 +1,6 @@
 -- Worked examples, by computation.
 use Rattle.std.specs.Prelude.{◌≡◌, ℕ, Bool, true, false, List, [], ◌∷◌, map, length, Option, Some, None, refl}
+use Rattle.wf_model.specs.Simplex.{is_face, complex_of}
 use Rattle.wf_model.specs.Word.{words}
 use Rattle.wf_model.specs.Task.{Task}
 use Rattle.wf_model.specs.Execution.{executions}
@@ -8,9 +9,20 @@ use Rattle.wf_model.specs.ExampleTasks.{path, consensus, renaming_2_2, renaming_
 use Rattle.wf_model.specs.Problem.{Problem, problem_of}
 use Rattle.wf_model.specs.Box.{root}
 use Rattle.wf_model.specs.Refutation.{Line, remove, empty, branch, found}
-use Rattle.wf_model.specs.Closing.{canonical}
+use Rattle.wf_model.specs.Closing.{closing, canonical}
 use Rattle.wf_model.specs.Split.{split}
 use Rattle.wf_model.specs.AllSolutions.{all_solutions}
+
+-- the faces of a triangle: by size, and then as lists
+pub faces_of_a_triangle : complex_of (((0, 0) ∷ (1, 1) ∷ (2, 2) ∷ []) ∷ []) ≡ ((0, 0) ∷ []) ∷ ((1, 1) ∷ []) ∷ ((2, 2) ∷ []) ∷ ((0, 0) ∷ (1, 1) ∷ []) ∷ ((0, 0) ∷ (2, 2) ∷ []) ∷ ((1, 1) ∷ (2, 2) ∷ []) ∷ ((0, 0) ∷ (1, 1) ∷ (2, 2) ∷ []) ∷ []
+faces_of_a_triangle = refl
+
+pub vertices_by_process : complex_of (((1, 0) ∷ []) ∷ ((0, 1) ∷ []) ∷ ((0, 0) ∷ []) ∷ []) ≡ ((0, 0) ∷ []) ∷ ((0, 1) ∷ []) ∷ ((1, 0) ∷ []) ∷ []
+vertices_by_process = refl
+
+-- an edge, itself, nothing, and an edge with another value
+pub faces_of_an_edge : map (λ t. is_face t ((0, 0) ∷ (2, 5) ∷ [])) (((2, 5) ∷ []) ∷ ((0, 0) ∷ (2, 5) ∷ []) ∷ [] ∷ ((0, 0) ∷ (2, 4) ∷ []) ∷ []) ≡ true ∷ true ∷ false ∷ false ∷ []
+faces_of_an_edge = refl
 
 pub words_of_three : words 1 3 ≡ (0 ∷ 0 ∷ 0 ∷ []) ∷ (0 ∷ 0 ∷ 1 ∷ []) ∷ (0 ∷ 1 ∷ 0 ∷ []) ∷ (0 ∷ 1 ∷ 1 ∷ []) ∷ (0 ∷ 1 ∷ 2 ∷ []) ∷ (0 ∷ 2 ∷ 1 ∷ []) ∷ (1 ∷ 0 ∷ 0 ∷ []) ∷ (1 ∷ 0 ∷ 1 ∷ []) ∷ (1 ∷ 0 ∷ 2 ∷ []) ∷ (1 ∷ 1 ∷ 0 ∷ []) ∷ (1 ∷ 2 ∷ 0 ∷ []) ∷ (2 ∷ 0 ∷ 1 ∷ []) ∷ (2 ∷ 1 ∷ 0 ∷ []) ∷ []
 words_of_three = refl
@@ -66,6 +78,16 @@ path_2_has_three_branches = refl
 
 pub path_2_search : answer (path 2) 1 ≡ (remove 0 0 1 ∷ remove 0 0 2 ∷ remove 1 1 0 ∷ remove 1 1 1 ∷ remove 3 1 2 ∷ remove 4 0 0 ∷ branch 2 ∷ branch 3 ∷ found ∷ [], Some (0 ∷ 2 ∷ 1 ∷ 0 ∷ []))
 path_2_search = refl
+
+-- one point at both places of an execution: the value that both lose has one line
+abbrev one_point_twice : Problem
+one_point_twice = record { points = 1; values = 0 ∷ 1 ∷ 2 ∷ []; constraints = record { scope = (0, 0) ∷ (1, 0) ∷ []; tuples = (0 ∷ 0 ∷ []) ∷ (1 ∷ 1 ∷ []) ∷ [] } ∷ [] }
+
+pub a_candidate_has_one_line : (closing one_point_twice (root one_point_twice)).lines ≡ remove 0 0 2 ∷ []
+a_candidate_has_one_line = refl
+
+pub a_point_is_empty_at_the_start : (closing (problem_of consensus 0) ((0 ∷ []) ∷ [] ∷ [])).lines ≡ empty 1 ∷ []
+a_point_is_empty_at_the_start = refl
 
 abbrev restricted_consensus : Task
 restricted_consensus = record consensus { restriction = Some 2 }

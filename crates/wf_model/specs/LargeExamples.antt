@@ -1,5 +1,6 @@
 -- Larger worked examples, by computation.
-use Rattle.std.specs.Prelude.{◌≡◌, ℕ, Bool, true, false, List, [], ◌∷◌, map, length, Option, Some, None, refl}
+use Rattle.std.specs.Prelude.{◌≡◌, ℕ, ◌+◌, Bool, true, false, List, [], ◌∷◌, map, length, Option, Some, None, refl}
+use Rattle.wf_model.specs.Lists.{below}
 use Rattle.wf_model.specs.Task.{Task}
 use Rattle.wf_model.specs.Execution.{executions}
 use Rattle.wf_model.specs.Points.{points}
@@ -8,6 +9,7 @@ use Rattle.wf_model.specs.Problem.{Problem, problem_of}
 use Rattle.wf_model.specs.Box.{root}
 use Rattle.wf_model.specs.Refutation.{Line, remove, empty, branch, found}
 use Rattle.wf_model.specs.Closing.{canonical}
+use Rattle.wf_model.specs.Split.{split}
 
 abbrev sizes : Task → ℕ → ℕ × ℕ
 sizes t r = (length (points t r), length (executions t r))
@@ -38,3 +40,22 @@ consensus_refuted_after_two_rounds = refl
 
 pub agreement_4_points : length (points (set_agreement 4 3 own) 1) ≡ 32
 agreement_4_points = refl
+
+-- ---- where the cutting into branches stops
+
+-- at two points: the first may have any of n values, the second 0 or 1
+abbrev free_and_bit : ℕ → Problem
+free_and_bit n = record { points = 2; values = below n; constraints = record { scope = (0, 1) ∷ []; tuples = (0 ∷ []) ∷ (1 ∷ []) ∷ [] } ∷ [] }
+
+pub sixty_three_boxes_are_cut_on : length (split (free_and_bit 63)) ≡ 126
+sixty_three_boxes_are_cut_on = refl
+
+pub sixty_four_boxes_are_enough : length (split (free_and_bit 64)) ≡ 64
+sixty_four_boxes_are_enough = refl
+
+-- each of n points has 0 or 1, and no later one has more: a level decides one box, and leaves one open
+abbrev falling : ℕ → Problem
+falling n = record { points = n + 1; values = 0 ∷ 1 ∷ []; constraints = map (λ v. record { scope = (0, v) ∷ (1, v + 1) ∷ []; tuples = (0 ∷ 0 ∷ []) ∷ (1 ∷ 0 ∷ []) ∷ (1 ∷ 1 ∷ []) ∷ [] }) (below n) }
+
+pub eight_levels_are_made : length (split (falling 9)) ≡ 9
+eight_levels_are_made = refl

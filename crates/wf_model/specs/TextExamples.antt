@@ -1,14 +1,14 @@
 -- Worked reports, by computation.
 use Rattle.std.specs.Prelude.{◌≡◌, ℕ, ◌++◌, Bool, true, false, List, [], ◌∷◌, map, flat_map, length, Option, Some, None, Result, Ok, Err, option_map, codes, refl}
 use Rattle.std.specs.Fmt.{digits}
-use Rattle.wf_model.specs.ExampleTasks.{path, renaming_2_2}
+use Rattle.wf_model.specs.ExampleTasks.{path, consensus, renaming_2_2}
 use Rattle.wf_model.specs.Problem.{problem_of}
 use Rattle.wf_model.specs.Box.{root}
 use Rattle.wf_model.specs.Refutation.{Line, remove, empty, branch, found}
 use Rattle.wf_model.specs.Closing.{canonical}
-use Rattle.wf_model.specs.Report.{Report, Body, a_map, none, report_text, report_of}
+use Rattle.wf_model.specs.Report.{Report, Reading, Body, a_map, none, least, report_text, report_of}
 use Rattle.wf_model.specs.ViewsText.{views_text}
-use Rattle.wf_model.specs.Check.{first_fault, first_least_fault, map_fault, Refusal, unfinished, trailing, unsound, not_empty, no_such, violates, not_first, not_the_map}
+use Rattle.wf_model.specs.Check.{first_fault, first_least_fault, map_fault, report_fault, Refusal, wrong_header, wrong_length, unfinished, trailing, unsound, not_empty, not_open, no_such, violates, not_first, not_the_map}
 
 abbrev path_3_report : Report
 path_3_report = record { processes = 2; rounds = 1; points = 4; executions = 5; body = a_map (0 ∷ 3 ∷ 2 ∷ 1 ∷ []) }
@@ -35,6 +35,79 @@ no_feed = refl
 pub no_text : report_of 1 [] ≡ Err 1
 no_text = refl
 
+pub too_large_a_number : report_of 1 (codes "wfcheck report 1\nprocesses 2\nrounds 1\npoints 4294967296\n") ≡ Err 4
+too_large_a_number = refl
+
+pub a_carriage_return : report_of 1 (codes "wfcheck report 1\nprocesses 2\nrounds 1\npoints 4\r\n") ≡ Err 4
+a_carriage_return = refl
+
+-- what a text reads as that goes on so after line 5, by the newest version of task files
+abbrev reads : ℕ → List ℕ → Reading Report
+reads newest rest = report_of newest (codes "wfcheck report 1\nprocesses 2\nrounds 1\npoints 4\nexecutions 5\n" ++ rest)
+
+abbrev report_with : Body → Report
+report_with body = record { processes = 2; rounds = 1; points = 4; executions = 5; body = body }
+
+pub two_spaces : reads 1 (codes "answer none\nz  0\nend\n") ≡ Err 7
+two_spaces = refl
+
+pub a_value_above_63 : reads 1 (codes "answer map\nm 64\nend\n") ≡ Err 7
+a_value_above_63 = refl
+
+pub a_value_above_63_in_version_2 : reads 2 (codes "answer map\nm 64\nend\n") ≡ Ok (report_with (a_map (64 ∷ [])))
+a_value_above_63_in_version_2 = refl
+
+pub a_value_above_255_in_version_2 : reads 2 (codes "answer map\nm 256\nend\n") ≡ Err 7
+a_value_above_255_in_version_2 = refl
+
+pub a_fifth_process : reads 1 (codes "answer none\np 0 4 0\nend\n") ≡ Err 7
+a_fifth_process = refl
+
+pub a_value_in_a_refutation : reads 1 (codes "answer none\nz 0\nm 0\nend\n") ≡ Err 8
+a_value_in_a_refutation = refl
+
+pub a_step_in_a_map : reads 1 (codes "answer map\nm 0\nz 0\nend\n") ≡ Err 8
+a_step_in_a_map = refl
+
+pub least_in_version_1 : reads 1 (codes "answer least\nm 0\nf\nend\n") ≡ Err 6
+least_in_version_1 = refl
+
+pub least_in_version_2 : reads 2 (codes "answer least\nm 0\nz 0\nf\nend\n") ≡ Ok (report_with (least (0 ∷ []) (empty 0 ∷ found ∷ [])))
+least_in_version_2 = refl
+
+pub found_in_a_refutation : reads 2 (codes "answer none\nf\nend\n") ≡ Err 7
+found_in_a_refutation = refl
+
+-- ---- reports about path 3 after one round
+
+pub path_3_report_holds : report_fault (path 3) 1 path_3_report ≡ None
+path_3_report_holds = refl
+
+-- the first header line that differs
+pub other_header : map (report_fault (path 3) 1)
+    (record path_3_report { processes = 3; rounds = 2 } ∷ record path_3_report { rounds = 2; points = 5 } ∷ record path_3_report { points = 5; executions = 6 } ∷ record path_3_report { executions = 6; body = a_map [] } ∷ [])
+    ≡ Some (wrong_header 2) ∷ Some (wrong_header 3) ∷ Some (wrong_header 4) ∷ Some (wrong_header 5) ∷ []
+other_header = refl
+
+pub a_value_too_few : report_fault (path 3) 1 (record path_3_report { body = a_map (0 ∷ 2 ∷ 1 ∷ []) }) ≡ Some wrong_length
+a_value_too_few = refl
+
+-- the least execution that is violated, 2 and 3 are here
+pub the_first_violated : report_fault (path 3) 1 (record path_3_report { body = a_map (0 ∷ 3 ∷ 0 ∷ 2 ∷ []) }) ≡ Some (violates 2)
+the_first_violated = refl
+
+pub no_lines : report_fault (path 3) 1 (record path_3_report { body = none [] }) ≡ Some unfinished
+no_lines = refl
+
+-- the lines of a refutation begin at line 7, those of a search after its map
+pub lines_are_numbered : map (report_fault (path 3) 1)
+    (record path_3_report { body = none (empty 0 ∷ []) } ∷ record path_3_report { body = least (0 ∷ 3 ∷ 2 ∷ 1 ∷ []) (empty 0 ∷ []) } ∷ [])
+    ≡ Some (not_empty 7) ∷ Some (not_empty 11) ∷ []
+lines_are_numbered = refl
+
+pub no_decision_map_is_least : report_fault (path 3) 1 (record path_3_report { body = least (0 ∷ 3 ∷ 2 ∷ 2 ∷ []) (found ∷ []) }) ≡ Some (violates 3)
+no_decision_map_is_least = refl
+
 abbrev checked : List Line → List Line → Option Refusal
 checked before after = let p = problem_of renaming_2_2 1 in first_fault p 7 (before ++ ((canonical p (root p)).lines ++ after)) (root p ∷ [])
 
@@ -49,6 +122,9 @@ a_supported_value = refl
 
 pub a_point_with_candidates : checked (empty 0 ∷ []) [] ≡ Some (not_empty 7)
 a_point_with_candidates = refl
+
+pub a_branch_with_one_candidate : let p = problem_of consensus 0 in first_fault p 7 (remove 0 0 1 ∷ remove 1 1 0 ∷ branch 0 ∷ []) (root p ∷ []) ≡ Some (not_open 9)
+a_branch_with_one_candidate = refl
 
 pub no_such_execution : checked (remove 9 0 0 ∷ []) [] ≡ Some (no_such 7)
 no_such_execution = refl
