@@ -1,5 +1,8 @@
-//! Decision tasks: rows of output values, and tasks.
+//! Decision tasks, and the texts that they are read from.
 //!
+//! - [`Task`]: input and output simplices, and for each input simplex the tuples that its processes may decide.
+//!   [`Task::read_text`] reads one, or says what is wrong with the text.
+//! - [`TaskFault`]: why a text is no task, with the [`Key`] or the [`Limit`] that it is about.
 //! - [`Row`]: the output values of a tuple, one for each process of an input simplex. Copied, five bytes, no memory.
 #![tactic(auto)]
 
