@@ -7,10 +7,10 @@ use Rattle.std.proofs.lemmas.Bool.{false_from_ne_true, false≢true}
 use Rattle.std.proofs.lemmas.List.Elements.{filter-append}
 use Rattle.wf_model.specs.Lists.{below}
 use Rattle.wf_model.specs.View.{View, base, seen, Views, no_views, view, views_of, same_view, occurs, occurs_in, renamed, renamed_each, rank, normal}
+use Rattle.wf_model.proofs.Basics.{below_next}
 use Rattle.wf_model.proofs.Bridge.{same_itself, same_is}
 use Rattle.wf_oracle.specs.declared.view.Token.{Token}
 use Rattle.wf_oracle.specs.declared.view.Token.TheVariants.{Base, Seen}
-use Rattle.wf_oracle.proofs.Ranges.{below_next}
 use Rattle.wf_oracle.proofs.Steps.{map_grows, take_all}
 use Rattle.wf_oracle.specs.Token.{views_in, tokens_of, tokens_in, views_from, first_view, view_from, token_process, token_renamed}
 
