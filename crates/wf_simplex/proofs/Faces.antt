@@ -1,11 +1,10 @@
 -- The faces of simplices, and the complex of some facets.
-use Rattle.std.proofs.Common.{◌≡◌, ℕ, zero, suc, ◌+◌, ◌*◌, ◌<◌, ◌≤◌, Bool, true, false, List, [], ◌∷◌, ◌++◌, length, map, filter, flat_map, cond, ◌⊎◌, inl, inr, refl, sym, ap, ◌∙◌, subst, arith, length-append}
-use Rattle.std.proofs.lemmas.List.{length-map}
+use Rattle.std.proofs.Common.{◌≡◌, suc, ◌≤◌, Bool, true, false, List, [], ◌∷◌, ◌++◌, length, map, filter, flat_map, cond, inl, inr, refl, sym, ap, ◌∙◌, subst, arith}
 use Rattle.std.specs.List.Sorted.{IsStrictlySortedBy}
 use Rattle.wf_model.specs.Lists.{in_order}
 use Rattle.wf_model.specs.Simplex.{Simplex, is_nonempty, parts_of, faces_of, simplex_cmp, complex_of}
 use Rattle.wf_simplex.specs.Order.{simplex_cmp-total, simplex_cmp-Equal}
-use Rattle.wf_simplex.proofs.Orders.{Has, has-append, has-append_left, has-append_right, has-in_order, in_order-has, in_order-same, sorted-in_order, same_in_order, length-in_order}
+use Rattle.wf_simplex.proofs.Orders.{Has, has-append, has-append_left, has-append_right, has-in_order, in_order-has, in_order-same, sorted-in_order, same_in_order}
 
 -- ---- parts
 

@@ -1,5 +1,5 @@
 -- A simplex as a table and as a list of vertices: what the one says of the other.
-use Rattle.std.proofs.Common.{◌≡◌, ℕ, zero, suc, ◌+◌, ◌-◌, ◌<◌, ◌≤◌, Bool, true, false, ◌&&◌, ◌||◌, ◌==◌, List, [], ◌∷◌, length, map, drop, Option, None, Some, is_some, slice_index, slice_index_or, refl, sym, ap, ap₂, ◌∙◌, subst, arith, add-zero, add-one, eq-eqb, eqb-true, ne_eqb, add_assoc}
+use Rattle.std.proofs.Common.{◌≡◌, ℕ, zero, suc, ◌+◌, ◌<◌, ◌≤◌, Bool, true, false, ◌&&◌, ◌||◌, ◌==◌, List, [], ◌∷◌, length, Option, None, Some, is_some, slice_index_or, refl, sym, ap, ap₂, ◌∙◌, arith, eq-eqb, eqb-true, ne_eqb}
 use Rattle.std.specs.List.{list_any, list_all}
 use Rattle.std.specs.Bool.{Decides}
 use Rattle.std.specs.Option.{option_eq}
@@ -9,7 +9,7 @@ use Rattle.std.specs.Ordering.{nat_cmp, ordering_then}
 use Rattle.std.specs.declared.cmp.Ordering.{Ordering}
 use Rattle.std.specs.declared.cmp.Ordering.TheVariants.{Less, Equal, Greater}
 use mir.Val.{bool_byte}
-use Rattle.wf_model.specs.Simplex.{Vertex, Simplex, processes_of, same_vertex, vertex_cmp, simplex_cmp, is_face, is_nonempty, is_simplex}
+use Rattle.wf_model.specs.Simplex.{Vertex, Simplex, same_vertex, vertex_cmp, simplex_cmp, is_face, is_nonempty, is_simplex}
 use Rattle.wf_simplex.specs.Entries.{vertices_from, value_at, entries_of, entries_of-four, is_within, entry_cmp}
 use Rattle.wf_simplex.specs.Order.{same_simplex, same_simplex-decides}
 
