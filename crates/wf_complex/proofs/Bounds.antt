@@ -1,5 +1,5 @@
 -- How many views and places there are at most.
-use Rattle.std.proofs.Common.{◌≡◌, ◌≤◌, ℕ, zero, suc, ◌+◌, ◌*◌, ◌==◌, true, List, [], ◌∷◌, flat_map, length, sym, refl, ◌∙◌, subst, arith, length-append, eqb-true, lit≤}
+use Rattle.std.proofs.Common.{◌≡◌, ◌≤◌, ℕ, zero, suc, ◌+◌, ◌*◌, ◌==◌, true, List, [], ◌∷◌, flat_map, length, sym, refl, ◌∙◌, subst, arith, length-append, eqb-true}
 use Rattle.std.specs.List.{AllByRecursion, list_all}
 use Rattle.std.proofs.Math.Nat.{mul-le-mul_right, mul-le-mul_left}
 use Rattle.std.proofs.lemmas.Bool.{and_parts}
@@ -11,6 +11,7 @@ use Rattle.wf_complex.specs.Rounds.{leaves, leaves_of, cost, cost_of_each}
 use Rattle.wf_complex.specs.Layout.{turns, execution_total, place_total}
 use Rattle.wf_complex.proofs.RoundLemmas.{length-round}
 use Rattle.wf_complex.proofs.InputLemmas.{length-base_views}
+use Rattle.wf_complex.proofs.LayoutLemmas.{words_some}
 
 -- ---- views
 
@@ -34,9 +35,6 @@ cost_few n (suc k) h =
     let e : suc k ≡ k + 1 = omega arith in
     subst (λ m. length (words 1 n) * (n + cost n k) ≤ length (words 1 n) * turns n k * (n * m)) (sym e) (scaled (length (words 1 n)) (turns n k) n (cost n k) k (turns_some n k h) (cost_few n k h))
 
-some_words : (n : ℕ) → 1 ≤ n → n ≤ 4 → 1 ≤ length (words 1 n)
-some_words = each_size (λ n. 1 ≤ length (words 1 n)) (lit≤ tt) (lit≤ tt) (lit≤ tt) (lit≤ tt)
-
 -- a size from 1 to 4
 abbrev pub IsSized : Simplex → Type 0
 IsSized s = (1 ≤ length s) × (length s ≤ 4)
@@ -45,7 +43,7 @@ pub cost_bound : (rounds : ℕ) (ss : List Simplex) → rounds ≤ 8 → AllByRe
 cost_bound rounds [] few h = omega arith
 cost_bound rounds (s ∷ ss) few h =
     let n = length s in
-    let here : cost (length s) rounds ≤ turns (length s) rounds * (length s * rounds) = cost_few (length s) rounds (some_words (length s) h.0.0 h.0.1) in
+    let here : cost (length s) rounds ≤ turns (length s) rounds * (length s * rounds) = cost_few (length s) rounds (words_some (length s) h.0.0 h.0.1) in
     let small : length s * rounds ≤ 4 * 8 = omega (arith, mul-le-mul_right {m = length s} {n = 4} rounds h.0.1, mul-le-mul_left {m = rounds} {n = 8} 4 few) in
     let wide : turns (length s) rounds * (length s * rounds) ≤ turns (length s) rounds * 32 = mul-le-mul_left {m = length s * rounds} {n = 32} (turns (length s) rounds) small in
     omega (arith, here, wide, h.0.1, cost_bound rounds ss few h.1)

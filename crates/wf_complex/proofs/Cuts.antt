@@ -2,7 +2,7 @@
 use Rattle.std.proofs.Common.{◌≡◌, ◌≤◌, ℕ, zero, suc, ◌+◌, ◌*◌, ◌==◌, true, List, [], ◌∷◌, ◌++◌, map, flat_map, fold, take, drop, length, All, sym, refl, ap, ◌∙◌, subst, arith, eqb-true, append_assoc, length-append}
 use Rattle.std.specs.List.{AllByRecursion, list_all, enumerate_from}
 use Rattle.std.proofs.lemmas.Bool.{and_parts}
-use Rattle.std.proofs.lemmas.List.{map-append, take-map, drop-map}
+use Rattle.std.proofs.lemmas.List.{length-map, map-append, take-map, drop-map}
 use Rattle.std.proofs.lemmas.List.Folds.{flat_map-map}
 use Rattle.std.proofs.lemmas.List.Elements.{All-from_recursion}
 use Rattle.std.proofs.Math.Seq.{take-append_seam, drop-append_seam}
@@ -20,8 +20,8 @@ use Rattle.wf_complex.proofs.Bounds.{IsSized, words_long, suc_times}
 use Rattle.wf_complex.proofs.RoundLemmas.{length-round}
 use Rattle.wf_complex.proofs.InputLemmas.{length-base_views}
 use Rattle.wf_complex.proofs.Executions.{length-lists_of}
-use Rattle.wf_complex.proofs.Different.{each_map}
-use Rattle.wf_model.proofs.Bridge.{length_map, weaker}
+use Rattle.wf_model.proofs.Bridge.{weaker}
+use Rattle.wf_model.proofs.Headline.{each_append, each_map}
 
 -- ---- cutting
 
@@ -83,10 +83,6 @@ each_long n (w ∷ ws) h =
     let parts = and_parts (length w == n) (list_all (λ u. length u == n) ws) h in
     (eqb-true (length w) n parts.0, each_long n ws parts.1)
 
-pub each_append : {X : Type 0} (P : X → Type 0) (xs ys : List X) → AllByRecursion P xs → AllByRecursion P ys → AllByRecursion P (xs ++ ys)
-each_append P [] ys h k = k
-each_append P (x ∷ xs) ys h k = (h.0, each_append P xs ys h.1 k)
-
 AllLong : ℕ → List Word → Type 0
 AllLong n ws = AllByRecursion (λ w. length w ≡ n) ws
 
@@ -123,8 +119,8 @@ parts_long r rule h =
 
 parts_count : (r : ℕ) (rule : Rule) → length (map last_views (executions_on 1 r rule)) ≡ turns (length rule.input) r
 parts_count r rule =
-    length_map last_views (executions_on 1 r rule)
-    ∙ length_map (λ ws. record { rule = rule; words = ws }) (lists_of (words 1 (length rule.input)) r)
+    length-map (executions_on 1 r rule) last_views
+    ∙ length-map (lists_of (words 1 (length rule.input)) r) (λ ws. record { rule = rule; words = ws })
     ∙ length-lists_of (length rule.input) r
 
 pub laid_out_cut : (r k p : ℕ) (rules : List Rule) → AllByRecursion IsSized (map (λ rule. rule.input) rules) → AreCut p (laid_out r k p (map (λ rule. rule.input) rules)) (map last_views (flat_map (executions_on 1 r) rules))
@@ -174,7 +170,7 @@ on_rules : (r k p : ℕ) (rules : List Rule) →
 on_rules r k p [] = refl
 on_rules r k p (rule ∷ rules) =
     let n = length rule.input in
-    let count : length (executions_on 1 r rule) ≡ turns (length rule.input) r = sym (length_map last_views (executions_on 1 r rule)) ∙ parts_count r rule in
+    let count : length (executions_on 1 r rule) ≡ turns (length rule.input) r = sym (length-map (executions_on 1 r rule) last_views) ∙ parts_count r rule in
     map-append (λ (e : Execution). e.simplex) (laid_on k n p (turns n r)) (laid_out r (k + 1) (p + turns n r * n) (map (λ rule. rule.input) rules))
     ∙ (λ i. laid_on_simplices k n (turns n r) p (executions_on 1 r rule) count i ++ on_rules r (k + 1) (p + turns n r * n) rules i)
 

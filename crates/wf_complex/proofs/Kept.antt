@@ -2,6 +2,7 @@
 use Rattle.std.proofs.Common.{◌≡◌, ◌<◌, ◌≤◌, ℕ, Bool, List, [], ◌∷◌, map, flat_map, length, slice_index, None, unwrap_or, All, sym, refl, ap, ◌∙◌, subst, arith}
 use Rattle.std.specs.List.{AllByRecursion, enumerate_from}
 use Rattle.std.proofs.lemmas.Bool.{and_parts, false≢true}
+use Rattle.std.proofs.lemmas.List.{length-map}
 use Rattle.std.proofs.lemmas.List.Elements.{recursion_from_All}
 use Rattle.wf_model.specs.Lists.{distinct}
 use Rattle.wf_model.specs.Simplex.{Simplex, is_nonempty, is_ascending, processes_of}
@@ -23,7 +24,7 @@ use Rattle.wf_complex.proofs.RoundLemmas.{length-views}
 use Rattle.wf_complex.proofs.Cuts.{all_end, length-laid_out, laid_simplices}
 use Rattle.wf_complex.proofs.Different.{IsOnce}
 use Rattle.wf_complex.proofs.BuiltLemmas.{length-places, view_count_is, points_are, firsts_are, scopes_are}
-use Rattle.wf_model.proofs.Bridge.{length_map, weaker}
+use Rattle.wf_model.proofs.Bridge.{weaker}
 
 -- ---- words
 
@@ -66,7 +67,7 @@ module _ (r : ℕ) (ss : List Simplex) (few : execution_total r ss ≤ 500000) (
 
   module _ (f : View → View) (grown : List View) (cs : List ℕ) (classed : views_at grown cs ≡ map f (views_at table lasts)) where
     pub length-classed : length cs ≡ length lasts
-    length-classed = sym (length-views grown cs) ∙ ap length classed ∙ length_map f (views_at table lasts) ∙ length-views table lasts
+    length-classed = sym (length-views grown cs) ∙ ap length classed ∙ length-map (views_at table lasts) f ∙ length-views table lasts
 
 -- ---- what is built
 
