@@ -24,7 +24,7 @@ use Rattle.wf_complex.specs.Classes.{class_by}
 use Rattle.wf_complex.specs.Numbering.{same_at, first_places}
 use Rattle.wf_complex.specs.ProtocolMade.{pairs_of}
 use Rattle.wf_complex.specs.ProtocolSeen.{firsts_seen, scopes_seen}
-use Rattle.wf_complex.proofs.Bounds.{IsSized, suc_times}
+use Rattle.wf_complex.proofs.Bounds.{suc_times}
 use Rattle.wf_complex.proofs.Executions.{last_views-executions}
 use Rattle.wf_complex.proofs.PlaceLemmas.{length-part_of}
 use Rattle.wf_complex.proofs.Cuts.{parts-map, last_views_cut}
@@ -125,7 +125,7 @@ classes_joined t (x ∷ xs) = ap (λ vs. classes t x ++ vs) (classes_joined t xs
 
 -- ---- what is built
 
-module _ (t : Task) (r : ℕ) (whole : first_block t ≡ 1) (sized : AllByRecursion IsSized (inputs t)) (table : List View) (lasts : List ℕ) (made : views_at table lasts ≡ flat_map (leaves_of r) (inputs t)) where
+module _ (t : Task) (r : ℕ) (whole : first_block t ≡ 1) (table : List View) (lasts : List ℕ) (made : views_at table lasts ≡ flat_map (leaves_of r) (inputs t)) where
   all_lasts : flat_map last_views (executions t r) ≡ views_at table lasts
   all_lasts = last_views-executions t r whole ∙ sym made
 
@@ -133,7 +133,7 @@ module _ (t : Task) (r : ℕ) (whole : first_block t ≡ 1) (sized : AllByRecurs
   laid = laid_out r 0 0 (inputs t)
 
   cut : map (part_of (views_at table lasts)) laid ≡ map last_views (executions t r)
-  cut = ap (λ vs. map (part_of vs) (laid_out r 0 0 (inputs t))) (sym all_lasts) ∙ last_views_cut t r whole sized
+  cut = ap (λ vs. map (part_of vs) (laid_out r 0 0 (inputs t))) (sym all_lasts) ∙ last_views_cut t r whole
 
   cut_by_number : map (λ e. views_at table (part_of lasts e)) laid ≡ map last_views (executions t r)
   cut_by_number = sym (parts-map (view_at table) lasts (laid_out r 0 0 (inputs t))) ∙ cut

@@ -10,14 +10,14 @@ use Rattle.wf_model.specs.View.{View, seen, views_of, process_of, same_view, bas
 use Rattle.wf_model.proofs.Bridge.{Among, among_append_left, among_append_right, each_among_itself, weaker}
 use Rattle.wf_model.proofs.Headline.{each_append, each_distinct}
 use Rattle.wf_model.proofs.Numbers.{apart_distinct}
+use Rattle.wf_model.proofs.WellFormed.{words_long}
 use Rattle.wf_view.specs.Views.{view_at, views_within, views_within_each, count_within}
 use Rattle.wf_view.proofs.Within.{no_more}
 use Rattle.wf_complex.specs.Rounds.{views_at, leaves, leaves_of}
-use Rattle.wf_complex.proofs.Bounds.{IsSized, words_long, suc_times}
+use Rattle.wf_complex.proofs.Bounds.{IsSized, suc_times}
 use Rattle.wf_complex.proofs.LayoutLemmas.{product_small}
 use Rattle.wf_complex.proofs.InputLemmas.{length-base_views}
 use Rattle.wf_complex.proofs.RoundLemmas.{length-round}
-use Rattle.wf_complex.proofs.Cuts.{each_long}
 
 -- ---- views of which all that is inside is among some views
 
@@ -82,7 +82,7 @@ on_simplex : (r : ℕ) (s : Simplex) → r ≤ 8 → IsSized s → AllByRecursio
 on_simplex r s rounds h =
     let few : r * length s ≤ 8 * 4 = product_small r (length s) 8 4 rounds h.1 in
     weaker (λ v. count_within v ≤ length (base_views s) + r * length s) (λ v. count_within v ≤ 36) (λ v k. omega (arith, k, few, length-base_views s, h.1)) (leaves_of r s)
-    (leaves_shallow (length s) (words 1 (length s)) (each_long (length s) (words 1 (length s)) (words_long (length s) h.0 h.1)) r (base_views s) (base_views s) (length-base_views s) (held_bases (base_views s) s (each_among_itself (base_views s))))
+    (leaves_shallow (length s) (words 1 (length s)) (words_long 1 (length s)) r (base_views s) (base_views s) (length-base_views s) (held_bases (base_views s) s (each_among_itself (base_views s))))
 
 on_simplices : (r : ℕ) (ss : List Simplex) → r ≤ 8 → AllByRecursion IsSized ss → AllByRecursion (λ v. count_within v ≤ 36) (flat_map (leaves_of r) ss)
 on_simplices r [] rounds h = tt

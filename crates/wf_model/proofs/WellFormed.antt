@@ -60,7 +60,8 @@ lists_long xs (suc n) =
 pub words_long : (m n : ℕ) → AllByRecursion (λ w. length w ≡ n) (words m n)
 words_long m n = each_filter (λ w. length w ≡ n) (λ w. is_word w && is_allowed m w) (lists_of (below n) n) (lists_long (below n) n)
 
-each_of_lists : {X : Type 0} (P : X → Type 0) (xs : List X) (r : ℕ) → AllByRecursion P xs → AllByRecursion (AllByRecursion P) (lists_of xs r)
+-- what holds of each element holds of those of each list of them
+pub each_of_lists : {X : Type 0} (P : X → Type 0) (xs : List X) (r : ℕ) → AllByRecursion P xs → AllByRecursion (AllByRecursion P) (lists_of xs r)
 each_of_lists P xs zero h = (tt, tt)
 each_of_lists P xs (suc r) h =
     each_flat (AllByRecursion P) (λ x. map (λ rest. x ∷ rest) (lists_of xs r)) xs

@@ -108,7 +108,7 @@ returns c = λ t given named whole.
     c.in_ok-numbered.ensures.firsts ∙ (λ i. first_places (c.deref-3.ensures.value i) (length (c.deref-3.ensures.value i))) in
     let found : map (λ p. slice_index c.in_ok-ids.ids.ids.items (slice_index c.in_ok-numbered.numbered.firsts.items p)) c.in_ok-numbered.numbered.places.items ≡ c.in_ok-ids.ids.ids.items =
     sym (λ i. map (λ p. slice_index (c.deref-3.ensures.value i) (slice_index c.in_ok-numbered.numbered.firsts.items p)) c.in_ok-numbered.numbered.places.items) ∙ c.in_ok-numbered.ensures.numbers ∙ c.deref-3.ensures.value in
-    is_protocol t r inputs given c.args.symmetric named whole (all_sized inputs c.requires.simplices)
+    is_protocol t r inputs given c.args.symmetric named whole
     c.last_views.new.views c.in_ok-lasts.lasts.items c.in_ok-lasts.ensures.made
     c.in_ok-executions.executions.items c.in_ok-executions.ensures c.in_ok-places.places.items
     (c.in_ok-places.ensures ∙ (λ i. flat_map (places_on c.last_views.new.views (c.deref.ensures.value i)) (enumerate_from 0 (c.deref-2.ensures.value i))))
