@@ -12,6 +12,7 @@ use Rattle.wf_model.specs.Execution as model
 use Rattle.wf_model.specs.Execution.{executions, last_views}
 use Rattle.wf_model.specs.Points.{class, classes, points, Appearance, same_point, appearances_in, first_appearances}
 use Rattle.wf_model.specs.Problem.{Constraint, number_of, constraint_of, problem_of}
+use Rattle.wf_model.proofs.Basics.{by_place}
 use Rattle.wf_model.proofs.Numbers.{Apart, apart_distinct, map_same}
 use Rattle.wf_view.specs.Views.{view_at}
 use Rattle.wf_view.proofs.Ranked.{number_of-at}
@@ -28,7 +29,7 @@ use Rattle.wf_complex.proofs.Bounds.{suc_times}
 use Rattle.wf_complex.proofs.Executions.{last_views-executions}
 use Rattle.wf_complex.proofs.PlaceLemmas.{length-part_of}
 use Rattle.wf_complex.proofs.Cuts.{parts-map, last_views_cut}
-use Rattle.wf_complex.proofs.Different.{by_place, distinct_by_place, IsOnce, same_by_number, apart_once, there, distinct_views}
+use Rattle.wf_complex.proofs.Different.{distinct_by_place, IsOnce, same_by_number, apart_once, there, distinct_views}
 use Rattle.wf_model.proofs.Bridge.{weaker}
 use Rattle.std.proofs.lemmas.Simd.{map-map}
 

@@ -1,13 +1,14 @@
 -- Numbers of a table without doubles: different numbers are different views, and first places are first views.
-use Rattle.std.proofs.Common.{◌≡◌, ◌<◌, ◌≤◌, ℕ, zero, suc, ◌+◌, ◌==◌, Bool, true, not, cond, List, [], ◌∷◌, map, filter, drop, length, get_or, slice_index, All, sym, refl, ap, ◌∙◌, subst, arith, eqb-true, eq-eqb}
+use Rattle.std.proofs.Common.{◌≡◌, ◌<◌, ◌≤◌, ℕ, zero, suc, ◌+◌, ◌==◌, Bool, true, not, cond, List, [], ◌∷◌, map, filter, length, slice_index, All, sym, refl, ap, ◌∙◌, subst, arith, eqb-true, eq-eqb}
 use Rattle.std.specs.List.{AllByRecursion, range_with_len}
 use Rattle.std.specs.Cmp.{both_ways}
-use Rattle.std.proofs.lemmas.List.{drop_more, drop_all, length-map}
+use Rattle.std.proofs.lemmas.List.{length-map}
 use Rattle.std.proofs.lemmas.List.Elements.{recursion_from_All, All-from_recursion, All-get_or}
 use Rattle.std.proofs.lemmas.List.FromFn.{length-range_with_len}
 use Rattle.wf_model.specs.Lists.{distinct, below}
 use Rattle.wf_model.specs.View.{View, same_view}
 use Rattle.wf_model.specs.Problem.{number_of}
+use Rattle.wf_model.proofs.Basics.{by_place}
 use Rattle.wf_model.proofs.Bridge.{same_itself, same_is, weaker}
 use Rattle.wf_model.proofs.Headline.{each_distinct, each_map}
 use Rattle.wf_model.proofs.Numbers.{Apart, apart_distinct, map_distinct}
@@ -17,17 +18,6 @@ use Rattle.wf_complex.specs.Rounds.{views_at}
 use Rattle.wf_complex.specs.Numbering.{same_at, first_places}
 use Rattle.wf_model.proofs.Fuel.{length_filter}
 use Rattle.std.proofs.lemmas.Simd.{map-map}
-
--- ---- lists by their places
-
-rest_by_place : {X : Type 0} (xs : List X) (d : X) (n a : ℕ) → a + n ≡ length xs → map (λ j. get_or xs j d) (range_with_len a n) ≡ drop a xs
-rest_by_place xs d zero a e = sym (drop_all a xs (omega (arith, e)))
-rest_by_place xs d (suc n) a e =
-    ap (λ ys. get_or xs a d ∷ ys) (rest_by_place xs d n (a + 1) (omega (arith, e))) ∙ sym (drop_more xs a d (omega (arith, e)))
-
--- a list is what stands at its places
-pub by_place : {X : Type 0} (xs : List X) (d : X) → map (λ j. get_or xs j d) (below (length xs)) ≡ xs
-by_place xs d = rest_by_place xs d (length xs) 0 (omega arith)
 
 all_in_range : (a n m : ℕ) → a + n ≤ m → AllByRecursion (λ j. j < m) (range_with_len a n)
 all_in_range a zero m h = tt

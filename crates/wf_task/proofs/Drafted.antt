@@ -8,12 +8,12 @@ use Rattle.std.specs.Cmp.{nat_cmp_total, tied_itself}
 use Rattle.std.specs.Cmp.Lexicographic.{slice_cmp, nat_list_cmp_total}
 use Rattle.std.proofs.lemmas.List.{get_or_default, length-map}
 use Rattle.std.proofs.lemmas.List.Elements.{All-nil, All-cons, All-head, All-tail, All-get_or, All-weaker, All-map}
-use Rattle.std.proofs.lemmas.List.Sums.{sum_by-cons}
+use Rattle.std.proofs.lemmas.List.Sums.{sum_by-cons, sum_by-le-sum_by}
 use Rattle.wf_model.specs.Lists.{has, in_order}
 use Rattle.wf_model.specs.Simplex.{Simplex, processes_of, is_nonempty, is_ascending, parts_of, simplex_cmp, complex_of}
 use Rattle.wf_model.specs.Task.{Task, Rule, Tuple, IsTask, IsRule, IsSimplexWithin, IsComplexWithin, inputs}
 use Rattle.wf_simplex.specs.Order.{same_simplex, same_simplex-decides, simplex_cmp-total, nat_cmp-Equal}
-use Rattle.wf_simplex.proofs.Orders.{Has, has-in_order, in_order-has, in_order-in_order, length-in_order, has_at_place}
+use Rattle.wf_simplex.proofs.Orders.{Has, has-in_order, in_order-in_order, length-in_order, has_at_place}
 use Rattle.wf_simplex.proofs.Faces.{whole_is_part, filter-has, is_in_complex, complex_of-sorted, complex_of-complex_of}
 use Rattle.std.proofs.lemmas.Bool.{and_parts, or_parts, not-false}
 use Rattle.wf_simplex.proofs.Within.{all_of_has, has_of_all, complex_within, length-within}
@@ -218,10 +218,6 @@ sum_of_none : {X : Type 0} (xs : List X) → sum_by (λ (x : X). 0) xs ≡ 0
 sum_of_none [] = refl
 sum_of_none {X = X} (x ∷ xs) = omega (arith, sum_by-cons (λ (y : X). 0) x xs, sum_of_none xs)
 
-sum_of_less : {X : Type 0} (f g : X → ℕ) (xs : List X) → ((x : X) → f x ≤ g x) → sum_by f xs ≤ sum_by g xs
-sum_of_less f g [] each = omega arith
-sum_of_less f g (x ∷ xs) each = omega (arith, sum_by-cons f x xs, sum_by-cons g x xs, each x, sum_of_less f g xs each)
-
 -- the value lists of all entries for a simplex, and one entry more
 pub lists_more : (rule : Rule) (rules : List Rule) (s : Simplex)
     → length (flat_map (λ r. r.tuples) (entries_in (rule ∷ rules) s)) ≡ cond (same_simplex rule.input s) (length rule.tuples) 0 + length (flat_map (λ r. r.tuples) (entries_in rules s))
@@ -248,7 +244,7 @@ few_rows listed inputs h =
     omega (
       arith,
       sum_by-map (λ (r : Rule). length r.tuples) (rule_for listed) inputs,
-      sum_of_less (λ s. length (rule_for listed s).tuples) (λ s. length (tuples_for listed s)) inputs (λ s. length-in_order (slice_cmp nat_cmp) (tuples_for listed s)),
+      sum_by-le-sum_by (λ s. length (rule_for listed s).tuples) (λ s. length (tuples_for listed s)) inputs (λ s. length-in_order (slice_cmp nat_cmp) (tuples_for listed s)),
       few_lists listed.delta inputs h,
     )
 
@@ -331,10 +327,7 @@ list-has v (x ∷ xs) (inr h) = by (list-has v xs h) (x == v)
     by rest true = refl
     by rest false = rest
 
--- putting values in order keeps them
-pub has_in_order : (v : ℕ) (xs : List ℕ) → has xs v ≡ true → has (in_order nat_cmp xs) v ≡ true
-has_in_order v xs h = list-has v (in_order nat_cmp xs) (in_order-has nat_cmp nat_cmp_total nat_cmp-Equal v xs (has-list v xs h))
-
+-- values put in order are those of the list
 pub has_from_order : (v : ℕ) (xs : List ℕ) → has (in_order nat_cmp xs) v ≡ true → has xs v ≡ true
 has_from_order v xs h = list-has v xs (has-in_order nat_cmp nat_cmp_total nat_cmp-Equal v xs (has-list v (in_order nat_cmp xs) h))
 
