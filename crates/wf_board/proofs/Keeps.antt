@@ -2,14 +2,11 @@
 use Rattle.std.proofs.Common.{◌≡◌, ◌≢◌, ◌⊎◌, ℕ, ◌+◌, ◌*◌, ◌%◌, ◌^◌, ◌<◌, ◌≤◌, min, List, [], ◌∷◌, ◌++◌, length, set, refl, sym, ap, ◌∙◌, subst, ⊎_elim, arith, inl, inr, length-append, slice_index, le_refl, le_trans}
 use Rattle.std.specs.Prelude.{All, Contains}
 use Rattle.std.proofs.lemmas.List.Elements.{All-nil, All-cons, All-push, All-head, All-weaker, All-contains, Contains-push, Contains-append_left}
-use Rattle.std.proofs.Math.Nat.{min-le_left, min-le_right, min-eq_left, min-eq_right}
-use Rattle.std.proofs.Common.{lt_of_not-le, le_of_lt}
+use Rattle.std.proofs.Math.Nat.{min-le_left, min-le_right}
 use Rattle.std.proofs.Math.Nat.{mod-eq_of_lt, mul-one}
-use native.Mathlib.Decide.{dec_le}
-use mathlib.Core.Logic.{dite}
 use mathlib.Core.Option.{none}
 use Rattle.atomic_table.specs.Table.{step}
-use mathlib.Core.Option.{some, some-ne-none, some-injective}
+use mathlib.Core.Option.{some}
 use lib.ListN.{get_elem?}
 use Rattle.atomic_table.specs.Table.{State, Step, Act, keeps, Allows, Valid, carried_after, stepped}
 use Rattle.atomic_table.proofs.Lists.{at_set}
@@ -18,6 +15,7 @@ use Rattle.wf_board.specs.declared.table.Ledger.{Ledger}
 use Rattle.wf_core.specs.Count.{total}
 use Rattle.wf_core.proofs.Lists.{put_at}
 use Rattle.wf_core.proofs.Counts.{total_set, total_bound}
+use Rattle.wf_core.proofs.Kept.{min_cases}
 use Rattle.wf_board.specs.Desk.{Desk, knows, known}
 use Rattle.wf_board.specs.Rule.{Posted, AtMost, Below, Fits, Shown, Seated, looks, posts, refutes, cuts}
 use Rattle.wf_board.proofs.Views.{stands_kept}
@@ -102,9 +100,6 @@ sees_least ledger slots id m one s h _ at _ =
       )),
     )
 
-least_of_two : (a b : ℕ) → (min a b ≡ a) ⊎ (min a b ≡ b)
-least_of_two a b = dite (dec_le a b) (λ e. inl (min-eq_left e)) (λ ne. inr (min-eq_right (le_of_lt (lt_of_not-le ne))))
-
 pub posts_number : (ledger : Ledger) (slots id : ℕ) (m : Seated) (i : ℕ) → length m.0.seen ≡ 1 → i < ledger.branches → (length m.0.posted + 1) + (length m.0.refuted + length m.0.cut) ≤ ledger.branches
     → Allows (Shown ledger) slots id m 0 (λ n. min n i) (posts (step slots 0 i 0 none) m)
 posts_number ledger slots id m i one inside room s h _ at _ =
@@ -123,7 +118,7 @@ posts_number ledger slots id m i one inside room s h _ at _ =
     ⊎_elim
     (λ (e : l ≡ h.least). ⊎_elim (λ (t : h.least ≡ b). inl (e ∙ t)) (λ (p : Posted s.views h.least). inr (subst (Posted vs) (sym e) (still h.least p))) h.least_is.1)
     (λ (e : l ≡ i). inr (id, w, put_at s.views id v w at, subst (Contains (v.posted ++ i ∷ [])) (sym e) (Contains-push v.posted i)))
-    (least_of_two h.least i) in
+    (min_cases h.least i) in
     let posted_up : All (λ x. l ≤ x) (v.posted ++ i ∷ []) = All-push (λ x. l ≤ x) v.posted i (All-weaker (λ x. h.least ≤ x) (λ x. l ≤ x) (λ x k. le_trans down k) v.posted f.posts) (min-le_right h.least i) in
     let mine : Fits b l vs w = record {
       room = (let e : b * 1 ≡ b = mul-one b in omega arith);

@@ -2,7 +2,7 @@
 use Rattle.std.proofs.Common.{◌≡◌, ◌<◌, ℕ, zero, suc, ◌+◌, ◌*◌, List, [], ◌∷◌, ◌++◌, map, flat_map, zip, length, get_or, slice_index, All, sym, refl, ap, ◌∙◌, subst, arith, length-append}
 use Rattle.std.specs.List.{AllByRecursion, enumerate_from}
 use Rattle.std.proofs.Math.ListN as list
-use Rattle.std.proofs.lemmas.List.{map-append, map-id, get_or-map}
+use Rattle.std.proofs.lemmas.List.{map-append, map-id, get_or-map, length-map}
 use Rattle.std.proofs.lemmas.List.Elements.{recursion_from_All}
 use Rattle.wf_model.specs.Lists.{distinct, below}
 use Rattle.wf_model.specs.Simplex.{Simplex}
@@ -12,8 +12,10 @@ use Rattle.wf_model.specs.Execution as model
 use Rattle.wf_model.specs.Execution.{executions, last_views}
 use Rattle.wf_model.specs.Points.{class, classes, points, Appearance, same_point, appearances_in, first_appearances}
 use Rattle.wf_model.specs.Problem.{Constraint, number_of, constraint_of, problem_of}
-use Rattle.wf_model.proofs.Numbers.{Apart, apart_distinct}
+use Rattle.wf_model.proofs.Basics.{by_place}
+use Rattle.wf_model.proofs.Numbers.{Apart, apart_distinct, map_same}
 use Rattle.wf_view.specs.Views.{view_at}
+use Rattle.wf_view.proofs.Ranked.{number_of-at}
 use Rattle.wf_complex.specs.declared.layout.Execution.{Execution}
 use Rattle.wf_complex.specs.declared.places.Place.{Place}
 use Rattle.wf_complex.specs.Rounds.{views_at, leaves_of}
@@ -23,12 +25,12 @@ use Rattle.wf_complex.specs.Classes.{class_by}
 use Rattle.wf_complex.specs.Numbering.{same_at, first_places}
 use Rattle.wf_complex.specs.ProtocolMade.{pairs_of}
 use Rattle.wf_complex.specs.ProtocolSeen.{firsts_seen, scopes_seen}
-use Rattle.wf_complex.proofs.Bounds.{IsSized, suc_times}
+use Rattle.wf_complex.proofs.Bounds.{suc_times}
 use Rattle.wf_complex.proofs.Executions.{last_views-executions}
 use Rattle.wf_complex.proofs.PlaceLemmas.{length-part_of}
 use Rattle.wf_complex.proofs.Cuts.{parts-map, last_views_cut}
-use Rattle.wf_complex.proofs.Different.{map_agrees, by_place, distinct_by_place, IsOnce, number_at, same_by_number, apart_once, there, distinct_views}
-use Rattle.wf_model.proofs.Bridge.{length_map, weaker}
+use Rattle.wf_complex.proofs.Different.{distinct_by_place, IsOnce, same_by_number, apart_once, there, distinct_views}
+use Rattle.wf_model.proofs.Bridge.{weaker}
 use Rattle.std.proofs.lemmas.Simd.{map-map}
 
 -- ---- how many places there are
@@ -59,7 +61,7 @@ unfolding sizes
 length-places_on table lasts k [] h = refl
 length-places_on table lasts k (e ∷ es) h =
     length-append (places_on table lasts (k, e)) (flat_map (places_on table lasts) (enumerate_from (k + 1) es))
-    ∙ (λ i. (length_map (place_of table k) (part_of lasts e) ∙ length-part_of lasts e h.0) i + length-places_on table lasts (k + 1) es h.1 i)
+    ∙ (λ i. (length-map (part_of lasts e) (place_of table k) ∙ length-part_of lasts e h.0) i + length-places_on table lasts (k + 1) es h.1 i)
 
 pub length-places : (table : List View) (lasts : List ℕ) (r : ℕ) (ss : List Simplex) → All (EndsBy (length lasts)) (laid_out r 0 0 ss) → length (flat_map (places_on table lasts) (enumerate_from 0 (laid_out r 0 0 ss))) ≡ place_total r ss
 length-places table lasts r ss h = length-places_on table lasts 0 (laid_out r 0 0 ss) (recursion_from_All (EndsBy (length lasts)) (laid_out r 0 0 ss) h) ∙ sizes-laid_out r 0 0 ss
@@ -124,7 +126,7 @@ classes_joined t (x ∷ xs) = ap (λ vs. classes t x ++ vs) (classes_joined t xs
 
 -- ---- what is built
 
-module _ (t : Task) (r : ℕ) (whole : first_block t ≡ 1) (sized : AllByRecursion IsSized (inputs t)) (table : List View) (lasts : List ℕ) (made : views_at table lasts ≡ flat_map (leaves_of r) (inputs t)) where
+module _ (t : Task) (r : ℕ) (whole : first_block t ≡ 1) (table : List View) (lasts : List ℕ) (made : views_at table lasts ≡ flat_map (leaves_of r) (inputs t)) where
   all_lasts : flat_map last_views (executions t r) ≡ views_at table lasts
   all_lasts = last_views-executions t r whole ∙ sym made
 
@@ -132,7 +134,7 @@ module _ (t : Task) (r : ℕ) (whole : first_block t ≡ 1) (sized : AllByRecurs
   laid = laid_out r 0 0 (inputs t)
 
   cut : map (part_of (views_at table lasts)) laid ≡ map last_views (executions t r)
-  cut = ap (λ vs. map (part_of vs) (laid_out r 0 0 (inputs t))) (sym all_lasts) ∙ last_views_cut t r whole sized
+  cut = ap (λ vs. map (part_of vs) (laid_out r 0 0 (inputs t))) (sym all_lasts) ∙ last_views_cut t r whole
 
   cut_by_number : map (λ e. views_at table (part_of lasts e)) laid ≡ map last_views (executions t r)
   cut_by_number = sym (parts-map (view_at table) lasts (laid_out r 0 0 (inputs t))) ∙ cut
@@ -169,7 +171,7 @@ module _ (t : Task) (r : ℕ) (whole : first_block t ≡ 1) (sized : AllByRecurs
     appearance_points = points_along t 0 (executions t r) ∙ all_classes
 
     length-appearances : length appearances ≡ length cs
-    length-appearances = sym (length_map (λ (a : Appearance). a.point) appearances) ∙ ap length appearance_points ∙ length_map (view_at grown) cs
+    length-appearances = sym (length-map appearances (λ (a : Appearance). a.point)) ∙ ap length appearance_points ∙ length-map cs (view_at grown)
 
     point_there : (j : ℕ) → j < length cs → (get_or appearances j nowhere).point ≡ view_at grown (slice_index cs j)
     point_there j h =
@@ -204,18 +206,18 @@ module _ (t : Task) (r : ℕ) (whole : first_block t ≡ 1) (sized : AllByRecurs
 
       number_there : (p : ℕ) → p < length firsts → number_of point_views (view_at grown (slice_index cs (slice_index firsts p))) ≡ p
       number_there p h =
-          let long : length (map (λ j. slice_index cs j) firsts) ≡ length firsts = length_map (λ j. slice_index cs j) firsts in
+          let long : length (map (λ j. slice_index cs j) firsts) ≡ length firsts = length-map firsts (λ j. slice_index cs j) in
           let inside : p < length (map (λ j. slice_index cs j) firsts) = omega (arith, h, long) in
           let is : get_or point_views p (base 0 0) ≡ view_at grown (slice_index cs (slice_index firsts p)) =
           get_or-map (view_at grown) (map (λ j. slice_index cs j) firsts) p 0 (base 0 0) inside ∙ ap (view_at grown) (get_or-map (λ j. slice_index cs j) firsts p 0 0 h) in
-          ap (number_of point_views) (sym is) ∙ number_at point_views apart p (base 0 0) (omega (arith, inside, length_map (view_at grown) (map (λ j. slice_index cs j) firsts)))
+          ap (number_of point_views) (sym is) ∙ number_of-at point_views p apart (omega (arith, inside, length-map (map (λ j. slice_index cs j) firsts) (view_at grown)))
 
       numbers_found : map (number_of point_views) (views_at grown cs) ≡ numbers
       numbers_found =
           ap (λ xs. map (number_of point_views) (views_at grown xs)) (sym found)
           ∙ ap (map (number_of point_views)) (map-map (view_at grown) (λ p. slice_index cs (slice_index firsts p)) numbers)
           ∙ map-map (number_of point_views) (λ p. view_at grown (slice_index cs (slice_index firsts p))) numbers
-          ∙ map_agrees (λ p. number_of point_views (view_at grown (slice_index cs (slice_index firsts p)))) (λ p. p) numbers
+          ∙ map_same (λ p. number_of point_views (view_at grown (slice_index cs (slice_index firsts p)))) (λ p. p) numbers
           (weaker (λ p. p < length firsts) (λ p. number_of point_views (view_at grown (slice_index cs (slice_index firsts p))) ≡ p) number_there numbers (recursion_from_All (λ p. p < length firsts) numbers low))
           ∙ map-id numbers
 

@@ -1,16 +1,15 @@
 -- The classes of views.
 use Rattle.std.proofs.Common.{◌≡◌, ◌<◌, ◌≤◌, ℕ, ◌+◌, Bool, true, false, Some, List, [], ◌∷◌, ◌++◌, map, take, length, get_or, slice_get, slice_index, All, sym, refl, ap, ◌∙◌, subst, arith}
-use Rattle.std.proofs.lemmas.List.{map-append, get_or-map, take_more}
-use Rattle.std.proofs.lemmas.List.Elements.{recursion_from_All, All-from_recursion, All-get_or}
+use Rattle.std.proofs.lemmas.List.{map-append, get_or-map, length-map, take_more}
+use Rattle.std.proofs.lemmas.List.Elements.{recursion_from_All, All-from_recursion, All-get_or, All-push}
 use Rattle.std.proofs.lemmas.Option.{slice_get_within, get_or_from_slice_get}
 use Rattle.wf_model.specs.View.{View, base, normal}
 use Rattle.wf_view.specs.Views.{view_at, count_within}
 use Rattle.wf_complex.specs.Rounds.{views_at, Extends}
 use Rattle.wf_complex.specs.Classes.{class_by}
 use Rattle.wf_complex.proofs.RoundLemmas.{extends_longer, views_kept, within_kept, views_push}
-use Rattle.wf_complex.proofs.Numbers.{all_push}
-use Rattle.wf_complex.proofs.Different.{map_agrees}
-use Rattle.wf_model.proofs.Bridge.{length_map, weaker}
+use Rattle.wf_model.proofs.Numbers.{map_same}
+use Rattle.wf_model.proofs.Bridge.{weaker}
 use Rattle.std.proofs.lemmas.Simd.{map-map}
 
 -- ---- tasks that are not symmetric
@@ -45,7 +44,7 @@ module _ (old now : List View) (grown : Extends old now) (ids : List ℕ) (i : �
       let each = recursion_from_All (λ k. k < length now) normals inside in
       let is : view_at new n ≡ normal (view_at old (slice_index ids i)) = get_or_from_slice_get new n (normal (view_at now (slice_index ids i))) (base 0 0) stands ∙ ap normal same_there in
       let one : views_at old (take (i + 1) ids) ≡ views_at old (take i ids) ++ view_at old (slice_index ids i) ∷ [] = ap (views_at old) (take_more ids i 0 place) ∙ views_push old (take i ids) (slice_index ids i) in (
-        all_push (λ k. k < length new) normals n (All-from_recursion (λ k. k < length new) normals (within_kept now new normals more each)) (slice_get_within new n (normal (view_at now (slice_index ids i))) stands),
+        All-push (λ k. k < length new) normals n (All-from_recursion (λ k. k < length new) normals (within_kept now new normals more each)) (slice_get_within new n (normal (view_at now (slice_index ids i))) stands),
         views_push new normals n
             ∙ (λ k. views_kept now new normals more each k ++ is k ∷ [])
             ∙ ap (λ vs. vs ++ normal (view_at old (slice_index ids i)) ∷ []) made
@@ -58,11 +57,11 @@ module _ (old new : List View) (lasts firsts places normals : List ℕ) (low : A
     (made : views_at new normals ≡ map normal (views_at old (map (λ j. slice_index lasts j) firsts))) where
   pub length-normals : length normals ≡ length firsts
   length-normals =
-      sym (length_map (view_at new) normals)
+      sym (length-map normals (view_at new))
       ∙ ap length made
-      ∙ length_map normal (views_at old (map (λ j. slice_index lasts j) firsts))
-      ∙ length_map (view_at old) (map (λ j. slice_index lasts j) firsts)
-      ∙ length_map (λ j. slice_index lasts j) firsts
+      ∙ length-map (views_at old (map (λ j. slice_index lasts j) firsts)) normal
+      ∙ length-map (map (λ j. slice_index lasts j) firsts) (view_at old)
+      ∙ length-map firsts (λ j. slice_index lasts j)
 
   pub low_places : All (λ p. p < length normals) places
   low_places = subst (λ n. All (λ p. p < n) places) (sym length-normals) low
@@ -76,7 +75,7 @@ module _ (old new : List View) (lasts firsts places normals : List ℕ) (low : A
   all_normals : views_at new (map (λ p. slice_index normals p) places) ≡ map normal (views_at old lasts)
   all_normals =
       map-map (view_at new) (λ p. slice_index normals p) places
-      ∙ map_agrees (λ p. view_at new (slice_index normals p)) (λ p. normal (view_at old (slice_index lasts (slice_index firsts p)))) places
+      ∙ map_same (λ p. view_at new (slice_index normals p)) (λ p. normal (view_at old (slice_index lasts (slice_index firsts p)))) places
       (weaker (λ p. p < length firsts) (λ p. view_at new (slice_index normals p) ≡ normal (view_at old (slice_index lasts (slice_index firsts p)))) normal_there places (recursion_from_All (λ p. p < length firsts) places low))
       ∙ sym (map-map (λ k. normal (view_at old k)) (λ p. slice_index lasts (slice_index firsts p)) places)
       ∙ ap (map (λ k. normal (view_at old k))) found

@@ -1,8 +1,7 @@
 -- The executions that are laid out cut the list of places into the executions' parts.
-use Rattle.std.proofs.Common.{◌≡◌, ◌≤◌, ℕ, zero, suc, ◌+◌, ◌*◌, ◌==◌, true, List, [], ◌∷◌, ◌++◌, map, flat_map, fold, take, drop, length, All, sym, refl, ap, ◌∙◌, subst, arith, eqb-true, append_assoc, length-append}
-use Rattle.std.specs.List.{AllByRecursion, list_all, enumerate_from}
-use Rattle.std.proofs.lemmas.Bool.{and_parts}
-use Rattle.std.proofs.lemmas.List.{map-append, take-map, drop-map}
+use Rattle.std.proofs.Common.{◌≡◌, ◌≤◌, ℕ, zero, suc, ◌+◌, ◌*◌, List, [], ◌∷◌, ◌++◌, map, flat_map, fold, take, drop, length, All, sym, refl, ap, ◌∙◌, subst, arith, append_assoc, length-append}
+use Rattle.std.specs.List.{AllByRecursion, enumerate_from}
+use Rattle.std.proofs.lemmas.List.{length-map, map-append, take-map, drop-map}
 use Rattle.std.proofs.lemmas.List.Folds.{flat_map-map}
 use Rattle.std.proofs.lemmas.List.Elements.{All-from_recursion}
 use Rattle.std.proofs.Math.Seq.{take-append_seam, drop-append_seam}
@@ -16,12 +15,13 @@ use Rattle.wf_complex.specs.declared.layout.Execution.{Execution}
 use Rattle.wf_complex.specs.Layout.{turns, place_total, execution_total, laid_on, laid_out}
 use Rattle.wf_complex.specs.Places.{part_of, EndsBy}
 use Rattle.wf_complex.specs.Protocol.{simplices_of}
-use Rattle.wf_complex.proofs.Bounds.{IsSized, words_long, suc_times}
+use Rattle.wf_complex.proofs.Bounds.{suc_times}
 use Rattle.wf_complex.proofs.RoundLemmas.{length-round}
 use Rattle.wf_complex.proofs.InputLemmas.{length-base_views}
 use Rattle.wf_complex.proofs.Executions.{length-lists_of}
-use Rattle.wf_complex.proofs.Different.{each_map}
-use Rattle.wf_model.proofs.Bridge.{length_map, weaker}
+use Rattle.wf_model.proofs.Bridge.{weaker}
+use Rattle.wf_model.proofs.Headline.{each_append, each_map}
+use Rattle.wf_model.proofs.WellFormed.{words_long, each_of_lists}
 
 -- ---- cutting
 
@@ -77,63 +77,32 @@ laid_then k n (suc c) p (q ∷ ps) long each es qs h =
       ),
     )
 
-pub each_long : (n : ℕ) (ws : List Word) → list_all (λ w. length w == n) ws ≡ true → AllByRecursion (λ w. length w ≡ n) ws
-each_long n [] h = tt
-each_long n (w ∷ ws) h =
-    let parts = and_parts (length w == n) (list_all (λ u. length u == n) ws) h in
-    (eqb-true (length w) n parts.0, each_long n ws parts.1)
-
-pub each_append : {X : Type 0} (P : X → Type 0) (xs ys : List X) → AllByRecursion P xs → AllByRecursion P ys → AllByRecursion P (xs ++ ys)
-each_append P [] ys h k = k
-each_append P (x ∷ xs) ys h k = (h.0, each_append P xs ys h.1 k)
-
-AllLong : ℕ → List Word → Type 0
-AllLong n ws = AllByRecursion (λ w. length w ≡ n) ws
-
-lists_long : (n : ℕ) (ws : List Word) → AllLong n ws → (r : ℕ) → AllByRecursion (AllLong n) (lists_of ws r)
-unfolding AllLong
-lists_long n ws h zero = (tt, tt)
-lists_long n ws h (suc r) = onto (lists_long n ws h r) ws h
-  where
-    onto : AllByRecursion (λ xs. AllByRecursion (λ w. length w ≡ n) xs) (lists_of ws r) → (us : List Word) → AllByRecursion (λ w. length w ≡ n) us → AllByRecursion (λ xs. AllByRecursion (λ w. length w ≡ n) xs) (flat_map (λ w. map (λ rest. w ∷ rest) (lists_of ws r)) us)
-    onto rests [] k = tt
-    onto rests (w ∷ us) k =
-        each_append (λ xs. AllByRecursion (λ w. length w ≡ n) xs) (map (λ rest. w ∷ rest) (lists_of ws r)) (flat_map (λ u. map (λ rest. u ∷ rest) (lists_of ws r)) us)
-        (each_map (λ xs. AllByRecursion (λ w. length w ≡ n) xs) (λ rest. w ∷ rest) (lists_of ws r)
-        (weaker (λ xs. AllByRecursion (λ w. length w ≡ n) xs) (λ xs. AllByRecursion (λ w. length w ≡ n) (w ∷ xs)) (λ xs j. (k.0, j)) (lists_of ws r) rests))
-        (onto rests us k.1)
-
-length-folded : (n : ℕ) (ws : List Word) (vs : List View) → AllLong n ws → length vs ≡ n → length (fold round vs ws) ≡ n
-unfolding AllLong
+length-folded : (n : ℕ) (ws : List Word) (vs : List View) → AllByRecursion (λ w. length w ≡ n) ws → length vs ≡ n → length (fold round vs ws) ≡ n
 length-folded n [] vs h e = e
 length-folded n (w ∷ ws) vs h e = length-folded n ws (round vs w) h.1 (length-round vs w (e ∙ sym h.0) ∙ e)
 
-long_words : (n : ℕ) → (1 ≤ n) × (n ≤ 4) → AllLong n (words 1 n)
-unfolding AllLong
-long_words n h = each_long n (words 1 n) (words_long n h.0 h.1)
-
 -- the last views of the executions on a rule are as many as its input has processes
-parts_long : (r : ℕ) (rule : Rule) → IsSized rule.input → AllByRecursion (λ q. length q ≡ length rule.input) (map last_views (executions_on 1 r rule))
-parts_long r rule h =
+parts_long : (r : ℕ) (rule : Rule) → AllByRecursion (λ q. length q ≡ length rule.input) (map last_views (executions_on 1 r rule))
+parts_long r rule =
     let n = length rule.input in
     each_map (λ q. length q ≡ length rule.input) last_views (executions_on 1 r rule)
     (each_map (λ e. length (last_views e) ≡ length rule.input) (λ ws. record { rule = rule; words = ws }) (lists_of (words 1 n) r)
-    (weaker (AllLong (length rule.input)) (λ ws. length (fold round (base_views rule.input) ws) ≡ length rule.input) (λ ws k. length-folded (length rule.input) ws (base_views rule.input) k (length-base_views rule.input)) (lists_of (words 1 n) r)
-    (lists_long (length rule.input) (words 1 n) (long_words n h) r)))
+    (weaker (AllByRecursion (λ (w : Word). length w ≡ length rule.input)) (λ ws. length (fold round (base_views rule.input) ws) ≡ length rule.input) (λ ws k. length-folded (length rule.input) ws (base_views rule.input) k (length-base_views rule.input)) (lists_of (words 1 n) r)
+    (each_of_lists (λ (w : Word). length w ≡ length rule.input) (words 1 n) r (words_long 1 n))))
 
 parts_count : (r : ℕ) (rule : Rule) → length (map last_views (executions_on 1 r rule)) ≡ turns (length rule.input) r
 parts_count r rule =
-    length_map last_views (executions_on 1 r rule)
-    ∙ length_map (λ ws. record { rule = rule; words = ws }) (lists_of (words 1 (length rule.input)) r)
+    length-map (executions_on 1 r rule) last_views
+    ∙ length-map (lists_of (words 1 (length rule.input)) r) (λ ws. record { rule = rule; words = ws })
     ∙ length-lists_of (length rule.input) r
 
-pub laid_out_cut : (r k p : ℕ) (rules : List Rule) → AllByRecursion IsSized (map (λ rule. rule.input) rules) → AreCut p (laid_out r k p (map (λ rule. rule.input) rules)) (map last_views (flat_map (executions_on 1 r) rules))
-laid_out_cut r k p [] h = tt
-laid_out_cut r k p (rule ∷ rules) h =
+laid_out_cut : (r k p : ℕ) (rules : List Rule) → AreCut p (laid_out r k p (map (λ rule. rule.input) rules)) (map last_views (flat_map (executions_on 1 r) rules))
+laid_out_cut r k p [] = tt
+laid_out_cut r k p (rule ∷ rules) =
     let n = length rule.input in
     subst (AreCut p (laid_out r k p (map (λ rule. rule.input) (rule ∷ rules)))) (sym (map-append last_views (executions_on 1 r rule) (flat_map (executions_on 1 r) rules)))
-    (laid_then k n (turns n r) p (map last_views (executions_on 1 r rule)) (parts_count r rule) (parts_long r rule h.0) (laid_out r (k + 1) (p + turns n r * n) (map (λ rule. rule.input) rules)) (map last_views (flat_map (executions_on 1 r) rules))
-    (laid_out_cut r (k + 1) (p + turns n r * n) rules h.1))
+    (laid_then k n (turns n r) p (map last_views (executions_on 1 r rule)) (parts_count r rule) (parts_long r rule) (laid_out r (k + 1) (p + turns n r * n) (map (λ rule. rule.input) rules)) (map last_views (flat_map (executions_on 1 r) rules))
+    (laid_out_cut r (k + 1) (p + turns n r * n) rules))
 
 -- ---- where they end, and how many they are
 
@@ -174,7 +143,7 @@ on_rules : (r k p : ℕ) (rules : List Rule) →
 on_rules r k p [] = refl
 on_rules r k p (rule ∷ rules) =
     let n = length rule.input in
-    let count : length (executions_on 1 r rule) ≡ turns (length rule.input) r = sym (length_map last_views (executions_on 1 r rule)) ∙ parts_count r rule in
+    let count : length (executions_on 1 r rule) ≡ turns (length rule.input) r = sym (length-map (executions_on 1 r rule) last_views) ∙ parts_count r rule in
     map-append (λ (e : Execution). e.simplex) (laid_on k n p (turns n r)) (laid_out r (k + 1) (p + turns n r * n) (map (λ rule. rule.input) rules))
     ∙ (λ i. laid_on_simplices k n (turns n r) p (executions_on 1 r rule) count i ++ on_rules r (k + 1) (p + turns n r * n) rules i)
 
@@ -183,9 +152,9 @@ module _ (t : Task) (r : ℕ) (whole : first_block t ≡ 1) where
   laid_simplices = on_rules r 0 0 t.rules ∙ ap (λ m. flat_map (λ (at : ℕ × Rule). map (λ e. at.0) (executions_on m r at.1)) (enumerate_from 0 t.rules)) (sym whole)
 
   -- the executions cut the list of all last views into theirs
-  pub last_views_cut : AllByRecursion IsSized (inputs t) → map (part_of (flat_map last_views (executions t r))) (laid_out r 0 0 (inputs t)) ≡ map last_views (executions t r)
-  last_views_cut sized =
+  pub last_views_cut : map (part_of (flat_map last_views (executions t r))) (laid_out r 0 0 (inputs t)) ≡ map last_views (executions t r)
+  last_views_cut =
       let cut : AreCut 0 (laid_out r 0 0 (inputs t)) (map last_views (executions t r)) =
-      subst (λ m. AreCut 0 (laid_out r 0 0 (inputs t)) (map last_views (flat_map (executions_on m r) t.rules))) (sym whole) (laid_out_cut r 0 0 t.rules sized) in
+      subst (λ m. AreCut 0 (laid_out r 0 0 (inputs t)) (map last_views (flat_map (executions_on m r) t.rules))) (sym whole) (laid_out_cut r 0 0 t.rules) in
       ap (λ vs. map (part_of vs) (laid_out r 0 0 (inputs t))) (sym (flat_map-map (λ q. q) last_views (executions t r)))
       ∙ parts_cut (laid_out r 0 0 (inputs t)) (map last_views (executions t r)) cut

@@ -1,55 +1,23 @@
 -- After r rounds of n participants there are at most n * (r + 1) different views inside a view.
-use Rattle.std.proofs.Common.{◌≡◌, ◌<◌, ◌≤◌, ℕ, zero, suc, ◌+◌, ◌*◌, nat_le, false, not, All, List, [], ◌∷◌, ◌++◌, map, flat_map, filter, zip, length, sym, ◌∙◌, subst, inl, inr, arith, length-append}
-use Rattle.std.specs.List.{AllByRecursion, list_any}
-use Rattle.std.proofs.lemmas.Bool.{cases_Bool, or_cases, or_left, or_right, both_ways, false≢true}
+use Rattle.std.proofs.Common.{◌≡◌, ◌≤◌, ℕ, zero, suc, ◌+◌, ◌*◌, nat_le, All, List, [], ◌∷◌, ◌++◌, map, flat_map, zip, length, sym, ◌∙◌, subst, inl, inr, arith, length-append}
+use Rattle.std.specs.List.{AllByRecursion}
+use Rattle.std.proofs.lemmas.Bool.{cases_Bool}
 use Rattle.std.proofs.lemmas.List.Elements.{All-from_recursion}
 use Rattle.wf_model.specs.Lists.{distinct}
 use Rattle.wf_model.specs.Simplex.{Simplex}
 use Rattle.wf_model.specs.Word.{Word, words}
 use Rattle.wf_model.specs.View.{View, seen, views_of, process_of, same_view, base_views, visible, round}
-use Rattle.wf_model.proofs.Bridge.{Among, same_is, same_itself, weaker}
-use Rattle.wf_model.proofs.Headline.{both, each_distinct}
-use Rattle.wf_model.proofs.Fuel.{length_filter}
-use Rattle.wf_model.proofs.Numbers.{Apart, apart_distinct}
+use Rattle.wf_model.proofs.Bridge.{Among, among_append_left, among_append_right, each_among_itself, weaker}
+use Rattle.wf_model.proofs.Headline.{each_append, each_distinct}
+use Rattle.wf_model.proofs.Numbers.{apart_distinct}
+use Rattle.wf_model.proofs.WellFormed.{words_long}
 use Rattle.wf_view.specs.Views.{view_at, views_within, views_within_each, count_within}
-use Rattle.wf_view.proofs.Within.{among_left, among_right}
+use Rattle.wf_view.proofs.Within.{no_more}
 use Rattle.wf_complex.specs.Rounds.{views_at, leaves, leaves_of}
-use Rattle.wf_complex.proofs.Bounds.{IsSized, words_long, suc_times}
+use Rattle.wf_complex.proofs.Bounds.{IsSized, suc_times}
 use Rattle.wf_complex.proofs.LayoutLemmas.{product_small}
 use Rattle.wf_complex.proofs.InputLemmas.{length-base_views}
 use Rattle.wf_complex.proofs.RoundLemmas.{length-round}
-use Rattle.wf_complex.proofs.Cuts.{each_append, each_long}
-
--- ---- views that differ and are all among others are no more than those
-
-among_others : (w v : View) (zs : List View) → same_view w v ≡ false → Among zs v → Among (filter (λ z. not (same_view w z)) zs) v
-among_others w v [] other h = h
-among_others w v (z ∷ zs) other h =
-    elim (cases_Bool (same_view w z)) [
-      | inl same ↦ rw same (among_others w v zs other (elim (or_cases (same_view v z) (list_any (same_view v) zs) h) [
-        | inl here ↦ absurd (both_ways _ other (rw (same_is v z here) same))
-        | inr later ↦ later
-      ]))
-      | inr apart ↦ rw apart (elim (or_cases (same_view v z) (list_any (same_view v) zs) h) [
-        | inl here ↦ or_left _ _ here
-        | inr later ↦ or_right _ _ (among_others w v zs other later)
-      ])
-    ]
-
-fewer_others : (w : View) (zs : List View) → Among zs w → length (filter (λ z. not (same_view w z)) zs) < length zs
-fewer_others w [] h = absurd (false≢true h)
-fewer_others w (z ∷ zs) h =
-    elim (cases_Bool (same_view w z)) [
-      | inl same ↦ rw same (omega (arith, length_filter (λ y. not (same_view w y)) zs))
-      | inr apart ↦ rw apart (omega (arith, fewer_others w zs (elim (or_cases (same_view w z) (list_any (same_view w) zs) h) [ inl here ↦ absurd (both_ways _ apart here) | inr later ↦ later ])))
-    ]
-
-no_more : (ws zs : List View) → Apart ws → AllByRecursion (Among zs) ws → length ws ≤ length zs
-no_more [] zs h k = omega arith
-no_more (w ∷ ws) zs h k =
-    let rest = no_more ws (filter (λ z. not (same_view w z)) zs) h.1
-    (both (λ v. same_view w v ≡ false) (Among zs) (Among (filter (λ z. not (same_view w z)) zs)) (λ v other there. among_others w v zs other there) ws h.0 k.1) in
-    omega (arith, rest, fewer_others w zs k.0)
 
 -- ---- views of which all that is inside is among some views
 
@@ -58,10 +26,6 @@ IsHeld zs v = AllByRecursion (Among zs) (views_within v)
 
 few_within : (zs : List View) (v : View) → IsHeld zs v → count_within v ≤ length zs
 few_within zs v h = no_more (distinct same_view (views_within v)) zs (apart_distinct (views_within v)) (each_distinct (Among zs) same_view (views_within v) h)
-
-each_itself : (vs : List View) → AllByRecursion (Among vs) vs
-each_itself [] = tt
-each_itself (v ∷ vs) = (or_left _ _ (same_itself v), weaker (Among vs) (Among (v ∷ vs)) (λ w h. or_right _ _ h) vs (each_itself vs))
 
 within_each : (zs us : List View) → AllByRecursion (IsHeld zs) us → AllByRecursion (Among zs) (views_within_each (views_of us))
 within_each zs [] h = tt
@@ -76,7 +40,7 @@ visible_each P block (l ∷ w) (v ∷ vs) h =
 
 -- a round's views are held by those before it and its own
 held_round : (zs vs : List View) (w : Word) → AllByRecursion (IsHeld zs) vs → AllByRecursion (IsHeld (zs ++ round vs w)) (round vs w)
-held_round zs vs w h = onto w vs (weaker (Among (round vs w)) (Among (zs ++ round vs w)) (λ v k. among_right v zs (round vs w) k) (round vs w) (each_itself (round vs w)))
+held_round zs vs w h = onto w vs (weaker (Among (round vs w)) (Among (zs ++ round vs w)) (λ v k. among_append_right v zs (round vs w) k) (round vs w) (each_among_itself (round vs w)))
   where
     onto : (u : Word) (xs : List View) → AllByRecursion (Among (zs ++ round vs w)) (map (λ (q : ℕ × View). seen (process_of q.1) (views_of (visible q.0 w vs))) (zip u xs)) →
         AllByRecursion (IsHeld (zs ++ round vs w)) (map (λ (q : ℕ × View). seen (process_of q.1) (views_of (visible q.0 w vs))) (zip u xs))
@@ -86,7 +50,7 @@ held_round zs vs w h = onto w vs (weaker (Among (round vs w)) (Among (zs ++ roun
     onto (l ∷ u) (x ∷ xs) k = (
       (
         k.0,
-        weaker (Among zs) (Among (zs ++ round vs w)) (λ v a. among_left v zs (round vs w) a) (views_within_each (views_of (visible l w vs))) (within_each zs (visible l w vs) (visible_each (IsHeld zs) l w vs h)),
+        weaker (Among zs) (Among (zs ++ round vs w)) (λ v a. among_append_left v zs (round vs w) a) (views_within_each (views_of (visible l w vs))) (within_each zs (visible l w vs) (visible_each (IsHeld zs) l w vs h)),
       ),
       onto u xs k.1,
     )
@@ -118,7 +82,7 @@ on_simplex : (r : ℕ) (s : Simplex) → r ≤ 8 → IsSized s → AllByRecursio
 on_simplex r s rounds h =
     let few : r * length s ≤ 8 * 4 = product_small r (length s) 8 4 rounds h.1 in
     weaker (λ v. count_within v ≤ length (base_views s) + r * length s) (λ v. count_within v ≤ 36) (λ v k. omega (arith, k, few, length-base_views s, h.1)) (leaves_of r s)
-    (leaves_shallow (length s) (words 1 (length s)) (each_long (length s) (words 1 (length s)) (words_long (length s) h.0 h.1)) r (base_views s) (base_views s) (length-base_views s) (held_bases (base_views s) s (each_itself (base_views s))))
+    (leaves_shallow (length s) (words 1 (length s)) (words_long 1 (length s)) r (base_views s) (base_views s) (length-base_views s) (held_bases (base_views s) s (each_among_itself (base_views s))))
 
 on_simplices : (r : ℕ) (ss : List Simplex) → r ≤ 8 → AllByRecursion IsSized ss → AllByRecursion (λ v. count_within v ≤ 36) (flat_map (leaves_of r) ss)
 on_simplices r [] rounds h = tt

@@ -1,5 +1,6 @@
 -- The rounds of the code are the executions of the definitions.
 use Rattle.std.proofs.Common.{◌≡◌, ℕ, zero, suc, ◌+◌, ◌*◌, List, [], ◌∷◌, ◌++◌, map, flat_map, length, fold, sym, refl, ap, ◌∙◌, arith, append-nil, length-append}
+use Rattle.std.proofs.lemmas.List.{length-map}
 use Rattle.std.proofs.lemmas.List.Concat.{flat_map-append}
 use Rattle.wf_model.specs.Lists.{lists_of}
 use Rattle.wf_model.specs.Word.{Word, words}
@@ -8,7 +9,6 @@ use Rattle.wf_model.specs.Task.{Task, Rule, inputs, first_block}
 use Rattle.wf_model.specs.Execution.{executions_on, executions, last_views}
 use Rattle.wf_complex.specs.Rounds.{leaves, leaves_of}
 use Rattle.wf_complex.specs.Layout.{turns, execution_total}
-use Rattle.wf_model.proofs.Bridge.{length_map}
 use Rattle.wf_complex.proofs.Bounds.{suc_times}
 
 module _ {X Y : Type 0} where
@@ -54,7 +54,7 @@ length-flat f n h (x ∷ xs) = length-append (f x) (flat_map f xs) ∙ (λ i. h 
 pub length-lists_of : (n : ℕ) (r : ℕ) → length (lists_of (words 1 n) r) ≡ turns n r
 length-lists_of n zero = refl
 length-lists_of n (suc r) =
-    length-flat (λ x. map (λ rest. x ∷ rest) (lists_of (words 1 n) r)) (turns n r) (λ x. length_map (λ rest. x ∷ rest) (lists_of (words 1 n) r) ∙ length-lists_of n r) (words 1 n)
+    length-flat (λ x. map (λ rest. x ∷ rest) (lists_of (words 1 n) r)) (turns n r) (λ x. length-map (lists_of (words 1 n) r) (λ rest. x ∷ rest) ∙ length-lists_of n r) (words 1 n)
 
 pub length-executions : (t : Task) (r : ℕ) → first_block t ≡ 1 → length (executions t r) ≡ execution_total r (inputs t)
 length-executions t r all = ap (λ m. length (flat_map (executions_on m r) t.rules)) all ∙ each t.rules
@@ -62,5 +62,5 @@ length-executions t r all = ap (λ m. length (flat_map (executions_on m r) t.rul
     each : (rules : List Rule) → length (flat_map (executions_on 1 r) rules) ≡ execution_total r (map (λ rule. rule.input) rules)
     each [] = refl
     each (rule ∷ rules) =
-        let here : length (executions_on 1 r rule) ≡ turns (length rule.input) r = length_map (λ ws. record { rule = rule; words = ws }) (lists_of (words 1 (length rule.input)) r) ∙ length-lists_of (length rule.input) r in
+        let here : length (executions_on 1 r rule) ≡ turns (length rule.input) r = length-map (lists_of (words 1 (length rule.input)) r) (λ ws. record { rule = rule; words = ws }) ∙ length-lists_of (length rule.input) r in
         length-append (executions_on 1 r rule) (flat_map (executions_on 1 r) rules) ∙ (λ i. here i + each rules i)

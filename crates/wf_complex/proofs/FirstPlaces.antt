@@ -2,18 +2,14 @@
 use Rattle.std.proofs.Common.{◌≡◌, ◌<◌, ◌≤◌, ◌||◌, ℕ, suc, ◌+◌, ◌==◌, Bool, true, false, not, List, [], ◌∷◌, ◌++◌, Option, Some, None, map, filter, take, length, get_or, slice_index, set, All, sym, refl, ap, ◌∙◌, subst, inl, inr, arith, length-append}
 use Rattle.std.specs.List.{list_any, AllByRecursion}
 use Rattle.std.proofs.lemmas.Bool.{cases_Bool, both_ways, eqb-true, eq-eqb, or_cases, or_left, or_right, false≢true}
-use Rattle.std.proofs.lemmas.List.{map-append, map-id, append-nil, get_or-set_same, get_or-set_other, length-set}
-use Rattle.std.proofs.lemmas.List.Elements.{filter-append, recursion_from_All}
+use Rattle.std.proofs.lemmas.List.{map-append, append-nil, get_or-set_same, get_or-set_other, length-set}
+use Rattle.std.proofs.lemmas.List.Elements.{filter-append, recursion_from_All, All-push, All-weaker}
 use Rattle.std.proofs.lemmas.List.Folds.{list_any-append}
-use Rattle.std.proofs.lemmas.List.FromFn.{map-range_with_len_more}
 use Rattle.std.proofs.Math.Seq.{get_or-append_seam, take-suc}
 use Rattle.std.proofs.lemmas.List.{get_or_append_left}
 use Rattle.wf_model.specs.Lists.{distinct, below}
-use Rattle.wf_complex.proofs.Numbers.{all_push, all_below}
+use Rattle.wf_model.proofs.Basics.{below_next}
 use Rattle.wf_complex.specs.Numbering.{same_at, first_places, stands, Knows, AllKnown}
-
-one_more : (n : ℕ) → below (n + 1) ≡ below n ++ n ∷ []
-one_more n = sym (map-id (below (n + 1))) ∙ map-range_with_len_more (λ (x : ℕ). x) 0 n n (omega arith) ∙ ap (λ xs. xs ++ n ∷ []) (map-id (below n))
 
 distinct_new : {X : Type 0} (same : X → X → Bool) (xs : List X) (x : X) → list_any (λ y. same y x) xs ≡ false → distinct same (xs ++ x ∷ []) ≡ distinct same xs ++ x ∷ []
 distinct_new same [] x h = refl
@@ -46,15 +42,15 @@ distinct_met {X = X} same (y ∷ ys) x h =
 -- ---- the places
 
 pub places_met : (ids : List ℕ) (i : ℕ) → stands ids i (slice_index ids i) ≡ true → first_places ids (i + 1) ≡ first_places ids i
-places_met ids i h = ap (distinct (same_at ids)) (one_more i) ∙ distinct_met (same_at ids) (below i) i h
+places_met ids i h = ap (distinct (same_at ids)) (below_next i) ∙ distinct_met (same_at ids) (below i) i h
 
 pub places_new : (ids : List ℕ) (i : ℕ) → stands ids i (slice_index ids i) ≡ false → first_places ids (i + 1) ≡ first_places ids i ++ i ∷ []
-places_new ids i h = ap (distinct (same_at ids)) (one_more i) ∙ distinct_new (same_at ids) (below i) i h
+places_new ids i h = ap (distinct (same_at ids)) (below_next i) ∙ distinct_new (same_at ids) (below i) i h
 
 -- ---- what stands among one place more
 
 stands_more : (ids : List ℕ) (i id : ℕ) → stands ids (i + 1) id ≡ (stands ids i id || (slice_index ids i == id || false))
-stands_more ids i id = ap (list_any (λ j. slice_index ids j == id)) (one_more i) ∙ list_any-append (λ j. slice_index ids j == id) (below i) (i ∷ [])
+stands_more ids i id = ap (list_any (λ j. slice_index ids j == id)) (below_next i) ∙ list_any-append (λ j. slice_index ids j == id) (below i) (i ∷ [])
 
 still_stands : (ids : List ℕ) (i id : ℕ) → stands ids i id ≡ true → stands ids (i + 1) id ≡ true
 still_stands ids i id h = stands_more ids i id ∙ or_left _ _ h
@@ -151,7 +147,7 @@ met_turn ids i firsts numbers places k low inside here h =
       known = known_met ids i firsts numbers k h.known here;
       firsts = h.firsts ∙ sym (places_met ids i at.0);
       few = omega (arith, h.few);
-      places = all_push (λ p. p < length firsts) places k h.places at.1;
+      places = All-push (λ p. p < length firsts) places k h.places at.1;
       all_found = found_met ids firsts places i k inside at.2 h.all_found;
     }
 
@@ -163,7 +159,7 @@ new_turn ids i firsts numbers places low inside here h =
       known = known_new ids i firsts numbers low h.known;
       firsts = ap (λ xs. xs ++ i ∷ []) h.firsts ∙ sym (places_new ids i unmet);
       few = omega (arith, h.few, longer);
-      places = all_push (λ p. p < length (firsts ++ i ∷ [])) places (length firsts) (all_below (length firsts) (length (firsts ++ i ∷ [])) places (omega (arith, longer)) h.places) (omega (arith, longer));
+      places = All-push (λ p. p < length (firsts ++ i ∷ [])) places (length firsts) (All-weaker (λ p. p < length firsts) (λ p. p < length (firsts ++ i ∷ [])) (λ p k. omega (arith, k, longer)) places h.places) (omega (arith, longer));
       all_found = found_new ids firsts places i inside h.places h.all_found;
     }
 

@@ -1,33 +1,18 @@
 -- The views of an input simplex.
-use Rattle.std.proofs.Common.{◌++◌, flat_map, drop, append-nil, ◌≡◌, ◌<◌, ◌≤◌, ℕ, zero, suc, ◌+◌, ◌==◌, false, List, [], ◌∷◌, map, length, take, get_or, Some, All, sym, refl, ap, ◌∙◌, subst, arith, inl, inr, eqb-true, eq-eqb}
+use Rattle.std.proofs.Common.{◌++◌, flat_map, drop, append-nil, ◌≡◌, ◌<◌, ◌≤◌, ℕ, zero, suc, ◌+◌, List, [], ◌∷◌, map, length, take, get_or, All, sym, refl, ap, ◌∙◌, subst, arith}
 use Rattle.std.specs.List.{AllByRecursion}
-use Rattle.std.proofs.lemmas.Bool.{cases_Bool, and_parts}
+use Rattle.std.proofs.lemmas.Bool.{and_parts}
 use Rattle.std.proofs.lemmas.List.{take_all, take_more, drop_more}
 use Rattle.std.proofs.lemmas.List.Concat.{flat_map-append}
 use Rattle.std.proofs.lemmas.List.Elements.{recursion_from_All, All-from_recursion}
 use Rattle.wf_model.specs.Simplex.{Simplex, processes_of, values_of, is_nonempty, is_ascending}
 use Rattle.wf_model.specs.Task.{IsSimplexWithin}
 use Rattle.wf_model.specs.View.{View, base, base_views, process_of}
-use Rattle.wf_model.proofs.Ascending.{Ascends, ascends_from}
 use Rattle.wf_model.proofs.Bridge.{weaker}
-use Rattle.wf_simplex.specs.Entries.{value_at}
+use Rattle.wf_model.proofs.WellFormed.{base_processes}
 use Rattle.wf_complex.specs.Rounds.{views_at, AreViews, Extends, leaves, leaves_of, cost, cost_of_each}
 use Rattle.wf_complex.proofs.RoundLemmas.{views_kept, length-views}
 use Rattle.wf_model.specs.Word.{words}
-
--- a process that is above all of these is not among them
-later_process : (p x i : ℕ) (s : Simplex) → AllByRecursion (λ q. p < q) (processes_of s) → i < length s → (p == get_or (processes_of s) i 0) ≡ false
-later_process p x i [] h within = absurd (let none : ⊥ = omega (arith, within) in none)
-later_process p x zero (v ∷ s) h within = elim (cases_Bool (p == v.0)) [ inl same ↦ absurd (let none : ⊥ = omega (arith, h.0, eqb-true p v.0 same) in none) | inr apart ↦ apart ]
-later_process p x (suc i) (v ∷ s) h within = later_process p x i s h.1 (omega (arith, within))
-
-at_process : (s : Simplex) (i : ℕ) → Ascends (processes_of s) → i < length s → value_at s (get_or (processes_of s) i 0) ≡ Some (get_or (values_of s) i 0)
-at_process [] i h within = absurd (let none : ⊥ = omega (arith, within) in none)
-at_process (v ∷ s) zero h within = rw (eq-eqb v.0 v.0 refl) refl
-at_process (v ∷ s) (suc i) h within = rw (later_process v.0 0 i s h.0 (omega (arith, within))) (at_process s i h.1 (omega (arith, within)))
-
-pub value_there : (s : Simplex) (i : ℕ) → IsSimplexWithin 4 63 s → i < length s → value_at s (get_or (processes_of s) i 0) ≡ Some (get_or (values_of s) i 0)
-value_there s i h within = at_process s i (ascends_from (processes_of s) (and_parts (is_nonempty s) (is_ascending (processes_of s)) h.is_simplex).1) within
 
 -- the view of a place
 pub base_there : (s : Simplex) (i : ℕ) → i < length s → base (get_or (processes_of s) i 0) (get_or (values_of s) i 0) ≡ get_or (base_views s) i (base 0 0)
@@ -39,17 +24,13 @@ pub length-base_views : (s : Simplex) → length (base_views s) ≡ length s
 length-base_views [] = refl
 length-base_views (v ∷ s) = ap suc (length-base_views s)
 
-processes-base_views : (s : Simplex) → map process_of (base_views s) ≡ processes_of s
-processes-base_views [] = refl
-processes-base_views (v ∷ s) = ap (λ ps. v.0 ∷ ps) (processes-base_views s)
-
 pub first_round : (now : List View) (s : Simplex) (n : ℕ) (ids : List ℕ) → IsSimplexWithin 4 63 s → n ≤ length s → length s ≤ n → All (λ k. k < length now) (take n ids) → views_at now (take n ids) ≡ take n (base_views s) →
     AreViews now (take (length s) ids) × (views_at now (take (length s) ids) ≡ base_views s)
 first_round now s n ids h low high within made =
     let e : n ≡ length s = omega (arith, low, high) in
     let all : views_at now (take (length s) ids) ≡ base_views s =
     subst (λ k. views_at now (take k ids) ≡ take k (base_views s)) e made ∙ take_all (length s) (base_views s) (omega (arith, length-base_views s)) in
-    let same : map process_of (views_at now (take (length s) ids)) ≡ processes_of s = ap (map process_of) all ∙ processes-base_views s in (
+    let same : map process_of (views_at now (take (length s) ids)) ≡ processes_of s = ap (map process_of) all ∙ base_processes s in (
       record {
         within = subst (λ k. All (λ x. x < length now) (take k ids)) e within;
         ascending = ap is_ascending same ∙ (and_parts (is_nonempty s) (is_ascending (processes_of s)) h.is_simplex).1;

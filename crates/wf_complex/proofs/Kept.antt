@@ -1,7 +1,8 @@
 -- What is built keeps what each protocol complex keeps, and is the one of the task.
-use Rattle.std.proofs.Common.{◌≡◌, ◌<◌, ◌≤◌, ℕ, Bool, List, [], ◌∷◌, map, flat_map, length, slice_index, None, unwrap_or, All, sym, refl, ap, ◌∙◌, subst, arith}
+use Rattle.std.proofs.Common.{◌≡◌, ◌<◌, ◌≤◌, ℕ, Bool, List, [], ◌∷◌, map, flat_map, length, slice_index, None, unwrap_or, All, sym, refl, ap, ◌∙◌, arith}
 use Rattle.std.specs.List.{AllByRecursion, enumerate_from}
 use Rattle.std.proofs.lemmas.Bool.{and_parts, false≢true}
+use Rattle.std.proofs.lemmas.List.{length-map}
 use Rattle.std.proofs.lemmas.List.Elements.{recursion_from_All}
 use Rattle.wf_model.specs.Lists.{distinct}
 use Rattle.wf_model.specs.Simplex.{Simplex, is_nonempty, is_ascending, processes_of}
@@ -23,7 +24,7 @@ use Rattle.wf_complex.proofs.RoundLemmas.{length-views}
 use Rattle.wf_complex.proofs.Cuts.{all_end, length-laid_out, laid_simplices}
 use Rattle.wf_complex.proofs.Different.{IsOnce}
 use Rattle.wf_complex.proofs.BuiltLemmas.{length-places, view_count_is, points_are, firsts_are, scopes_are}
-use Rattle.wf_model.proofs.Bridge.{length_map, weaker}
+use Rattle.wf_model.proofs.Bridge.{weaker}
 
 -- ---- words
 
@@ -50,7 +51,7 @@ few_views r ss rounds few inputs h = omega (arith, cost_bound r ss rounds h, few
 
 module _ (r : ℕ) (ss : List Simplex) (few : execution_total r ss ≤ 500000) (h : AllByRecursion IsSized ss) (table : List View) (lasts : List ℕ) (made : views_at table lasts ≡ flat_map (leaves_of r) ss) where
   pub length-lasts : length lasts ≡ place_total r ss
-  length-lasts = sym (length-views table lasts) ∙ ap length made ∙ length-last_views r ss h
+  length-lasts = sym (length-views table lasts) ∙ ap length made ∙ length-last_views r ss
 
   pub few_lasts : length lasts ≤ 2000000
   few_lasts = omega (arith, length-lasts, place_few r ss (all_small ss h), few)
@@ -66,20 +67,17 @@ module _ (r : ℕ) (ss : List Simplex) (few : execution_total r ss ≤ 500000) (
 
   module _ (f : View → View) (grown : List View) (cs : List ℕ) (classed : views_at grown cs ≡ map f (views_at table lasts)) where
     pub length-classed : length cs ≡ length lasts
-    length-classed = sym (length-views grown cs) ∙ ap length classed ∙ length_map f (views_at table lasts) ∙ length-views table lasts
+    length-classed = sym (length-views grown cs) ∙ ap length classed ∙ length-map (views_at table lasts) f ∙ length-views table lasts
 
 -- ---- what is built
 
-module _ (t : Task) (r : ℕ) (ss : List Simplex) (given : inputs t ≡ ss) (symmetric : Bool) (named : t.symmetric ≡ symmetric) (whole : first_block t ≡ 1) (h : AllByRecursion IsSized ss)
+module _ (t : Task) (r : ℕ) (ss : List Simplex) (given : inputs t ≡ ss) (symmetric : Bool) (named : t.symmetric ≡ symmetric) (whole : first_block t ≡ 1)
     (table : List View) (lasts : List ℕ) (made : views_at table lasts ≡ flat_map (leaves_of r) ss)
     (es : List Execution) (laid : es ≡ laid_out r 0 0 ss) (places : List Place) (marked : places ≡ flat_map (places_on table lasts) (enumerate_from 0 es))
     (grown : List View) (once : IsOnce grown) (cs : List ℕ) (within : All (λ k. k < length grown) cs) (classed : views_at grown cs ≡ map (class_by symmetric) (views_at table lasts))
     (view_count : ℕ) (counted : view_count ≡ length (distinct same_view (views_at table lasts)))
     (firsts numbers : List ℕ) (first : firsts ≡ first_places cs (length cs)) (low : All (λ p. p < length firsts) numbers) (found : map (λ p. slice_index cs (slice_index firsts p)) numbers ≡ cs)
     (classes : List ℕ) (picked : classes ≡ map (λ j. slice_index cs j) firsts) where
-  the_inputs : AllByRecursion IsSized (inputs t)
-  the_inputs = subst (AllByRecursion IsSized) (sym given) h
-
   the_lasts : views_at table lasts ≡ flat_map (leaves_of r) (inputs t)
   the_lasts = made ∙ ap (flat_map (leaves_of r)) (sym given)
 
@@ -103,11 +101,11 @@ module _ (t : Task) (r : ℕ) (ss : List Simplex) (given : inputs t ≡ ss) (sym
   })
   is_protocol = record {
     rounds_are = refl;
-    points_are = ap (points_seen grown) picked ∙ points_are t r whole the_inputs table lasts the_lasts grown once cs within the_classes firsts first;
-    views_are = counted ∙ view_count_is t r whole the_inputs table lasts the_lasts;
-    firsts_are = ap (λ ps. firsts_seen ps firsts) the_places ∙ firsts_are t r whole the_inputs table lasts the_lasts grown once cs within the_classes firsts first;
+    points_are = ap (points_seen grown) picked ∙ points_are t r whole table lasts the_lasts grown once cs within the_classes firsts first;
+    views_are = counted ∙ view_count_is t r whole table lasts the_lasts;
+    firsts_are = ap (λ ps. firsts_seen ps firsts) the_places ∙ firsts_are t r whole table lasts the_lasts grown once cs within the_classes firsts first;
     simplices_are = ap (map (λ (e : Execution). e.simplex)) the_executions ∙ laid_simplices t r whole;
     scopes_are =
         (λ i. scopes_seen (the_places i) numbers (the_executions i))
-        ∙ scopes_are t r whole the_inputs table lasts the_lasts grown once cs within the_classes firsts first numbers low found;
+        ∙ scopes_are t r whole table lasts the_lasts grown once cs within the_classes firsts first numbers low found;
   }

@@ -1,6 +1,6 @@
 -- Places of executions: parts of the list of places, and the pairs of a process and its point.
 use Rattle.std.proofs.Common.{◌≡◌, ◌<◌, ℕ, zero, suc, ◌+◌, ◌-◌, ◌==◌, if◌then◌else◌, Some, List, [], ◌∷◌, map, zip, take, drop, length, get_or, All, subst, ◌≢◌, inl, inr, eqb-true, sym, refl, ap, ◌∙◌, arith, length-take, length-drop}
-use Rattle.std.proofs.lemmas.List.{take-map, drop-map, drop_more, get_or-map}
+use Rattle.std.proofs.lemmas.List.{take-map, drop-map, drop_more, get_or-map, length-map}
 use Rattle.std.proofs.lemmas.List.Elements.{All-get_or}
 use Rattle.std.proofs.lemmas.Bool.{cases_Bool}
 use Rattle.wf_complex.specs.declared.layout.Execution.{Execution}
@@ -9,7 +9,6 @@ use Rattle.wf_complex.specs.Places.{part_of, EndsBy}
 use Rattle.wf_complex.specs.ProtocolMade.{pairs_of}
 use Rattle.wf_complex.specs.ProtocolSeen.{scopes_seen}
 use Rattle.wf_complex.specs.Protocol.{point_in}
-use Rattle.wf_model.proofs.Bridge.{length_map}
 
 -- ---- lists side by side
 
@@ -41,7 +40,7 @@ length-part_of xs e h = omega (arith, length-take e.size (drop e.place xs), leng
 pub part_of-pairs : (places : List Place) (points : List ℕ) (e : Execution) → length places ≡ length points → part_of (pairs_of places points) e ≡ pairs_of (part_of places e) (part_of points e)
 part_of-pairs places points e long =
     let process : Place → ℕ = λ place. place.process in
-    ap (take e.size) (drop-zip e.place (map process places) points (length_map process places ∙ long))
+    ap (take e.size) (drop-zip e.place (map process places) points (length-map places process ∙ long))
     ∙ take-zip e.size (drop e.place (map process places)) (drop e.place points)
     ∙ (λ i. zip (take e.size (drop-map process e.place places i)) (take e.size (drop e.place points)))
     ∙ (λ i. zip (take-map process e.size (drop e.place places) i) (take e.size (drop e.place points)))
@@ -51,7 +50,7 @@ points-part_of places points e long h =
     let process : Place → ℕ = λ place. place.process in
     sym (ap (map (λ (at : ℕ × ℕ). at.1)) (part_of-pairs places points e long)
     ∙ seconds-zip (map process (part_of places e)) (part_of points e)
-    (length_map process (part_of places e) ∙ omega (arith, length-part_of places e (omega (arith, h, long)), length-part_of points e h)))
+    (length-map (part_of places e) process ∙ omega (arith, length-part_of places e (omega (arith, h, long)), length-part_of points e h)))
 
 -- ---- the point of a process
 
@@ -83,7 +82,7 @@ is_there places numbers es k e pointed within low is = record {
 }
 
 pub length-scopes : (places : List Place) (numbers : List ℕ) (es : List Execution) → length (scopes_seen places numbers es) ≡ length es
-length-scopes places numbers es = length_map (part_of (pairs_of places numbers)) es
+length-scopes places numbers es = length-map es (part_of (pairs_of places numbers))
 
 pub points_there : (places : List Place) (numbers : List ℕ) (es : List Execution) (k : ℕ) (e : Execution) → IsThere places numbers es k e → take (e.place + e.size - e.place) (drop e.place numbers) ≡ map (λ (at : ℕ × ℕ). at.1) (get_or (scopes_seen places numbers es) k [])
 points_there places numbers es k e h =

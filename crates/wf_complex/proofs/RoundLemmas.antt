@@ -3,13 +3,14 @@ use Rattle.std.proofs.Common.{◌≡◌, ◌<◌, ◌≤◌, ℕ, zero, suc, ◌
 use Rattle.std.specs.List.{AllByRecursion, list_any}
 use Rattle.std.proofs.lemmas.Bool.{cases_Bool, or_left, or_right, le-leb}
 use Rattle.std.proofs.lemmas.List.{take_more_set, take_more, take_all}
-use Rattle.std.proofs.lemmas.List.Elements.{recursion_from_All, All-from_recursion}
+use Rattle.std.proofs.lemmas.List.Elements.{recursion_from_All, All-from_recursion, All-get_or, All-push}
 use Rattle.std.proofs.lemmas.Option.{slice_get_within, get_or_from_slice_get}
 use Rattle.wf_model.specs.Lists.{has}
 use Rattle.wf_model.specs.Simplex.{is_ascending}
 use Rattle.wf_model.specs.View.{View, base, seen, views_of, process_of, same_view, visible, round}
 use Rattle.wf_model.specs.Word.{Word}
 use Rattle.wf_model.proofs.Bridge.{weaker}
+use Rattle.wf_model.proofs.Headline.{each_map, each_of_map}
 use Rattle.wf_model.proofs.Ascending.{Ascends, ascends_from, is_ascending_from}
 use Rattle.wf_view.specs.Views.{view_at, view_seen, with_view}
 use Rattle.wf_view.proofs.Shown.{views_at_front}
@@ -57,15 +58,6 @@ visible_all P block (l ∷ w) [] h = tt
 visible_all P block (l ∷ w) (x ∷ ids) h =
     elim (cases_Bool (nat_le l block)) [ inl sees ↦ rw sees (h.0, visible_all P block w ids h.1) | inr not_sees ↦ rw not_sees (visible_all P block w ids h.1) ]
 
--- what holds of the images of all holds of those of the visible ones
-each_of_map : (P : ℕ → Type 0) (f : ℕ → ℕ) (ids : List ℕ) → AllByRecursion P (map f ids) → AllByRecursion (λ k. P (f k)) ids
-each_of_map P f [] h = tt
-each_of_map P f (x ∷ ids) h = (h.0, each_of_map P f ids h.1)
-
-each_map : (P : ℕ → Type 0) (f : ℕ → ℕ) (ids : List ℕ) → AllByRecursion (λ k. P (f k)) ids → AllByRecursion P (map f ids)
-each_map P f [] h = tt
-each_map P f (x ∷ ids) h = (h.0, each_map P f ids h.1)
-
 visible_ascends : (f : ℕ → ℕ) (block : ℕ) (w ids : List ℕ) → Ascends (map f ids) → Ascends (map f (visible_ids block w ids))
 visible_ascends f block [] [] h = tt
 visible_ascends f block [] (x ∷ ids) h = tt
@@ -106,10 +98,6 @@ one_more now v new table =
       | inr absent ↦ (let e : new ≡ now ++ v ∷ [] = table ∙ (rw absent refl) in omega (arith, ap length e, length-append now (v ∷ [])))
     ]
 
-each_push : (P : ℕ → Type 0) (xs : List ℕ) (x : ℕ) → AllByRecursion P xs → P x → AllByRecursion P (xs ++ x ∷ [])
-each_push P [] x h p = (p, tt)
-each_push P (y ∷ xs) x h p = (h.0, each_push P xs x h.1 p)
-
 pub views_push : (table : List View) (xs : List ℕ) (x : ℕ) → views_at table (xs ++ x ∷ []) ≡ views_at table xs ++ view_at table x ∷ []
 views_push table [] x = refl
 views_push table (y ∷ xs) x = ap (λ vs. view_at table y ∷ vs) (views_push table xs x)
@@ -135,7 +123,7 @@ module _ (old now : List View) (grown : Extends old now) (wanted : List View) (i
       record {
         extends = extends_then old now new grown on;
         few = one_more now v new table;
-        within = subst (All (λ k. k < length new)) (sym set) (All-from_recursion _ (take i next ++ id ∷ []) (each_push (λ k. k < length new) (take i next) id (within_kept now new (take i next) on before_each) there));
+        within = subst (All (λ k. k < length new)) (sym set) (All-push (λ k. k < length new) (take i next) id (All-from_recursion _ (take i next) (within_kept now new (take i next) on before_each)) there);
         made =
             ap (views_at new) set
             ∙ views_push new (take i next) id
@@ -216,12 +204,7 @@ module _ (old now : List View) (ids : List ℕ) (w : Word) (views : AreViews old
       (visible_own (λ k. process_of (view_at now k)) (get_or w i 0) w ids i place long (nat_le-itself (get_or w i 0))))
 
   pub low : process ≤ 3
-  low = subst (λ p. p ≤ 3) (sym own) (at_place ids i place (each_of_map (λ p. p ≤ 3) (λ k. process_of (view_at now k)) ids (subst (AllByRecursion (λ p. p ≤ 3)) (map-map ids) (recursion_from_All _ (map process_of (views_at now ids)) still.low))))
-    where
-      at_place : (xs : List ℕ) (n : ℕ) → n < length xs → AllByRecursion (λ k. process_of (view_at now k) ≤ 3) xs → process_of (view_at now (get_or xs n 0)) ≤ 3
-      at_place [] n h a = absurd (let none : ⊥ = omega (arith, h) in none)
-      at_place (x ∷ xs) zero h a = a.0
-      at_place (x ∷ xs) (suc n) h a = at_place xs n (omega (arith, h)) a.1
+  low = subst (λ p. p ≤ 3) (sym own) (All-get_or (λ k. process_of (view_at now k) ≤ 3) ids i 0 place (All-from_recursion _ ids (each_of_map (λ p. p ≤ 3) (λ k. process_of (view_at now k)) ids (subst (AllByRecursion (λ p. p ≤ 3)) (map-map ids) (recursion_from_All _ (map process_of (views_at now ids)) still.low)))))
 
   -- the view that is asked for is the participant's after the round
   pub is_view_after : view_seen now process parts ≡ get_or (round (views_at old ids) w) i (base 0 0)

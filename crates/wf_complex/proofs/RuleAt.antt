@@ -1,16 +1,15 @@
 -- The rule and the constraint of an execution, by what a clause sees of a protocol complex.
-use Rattle.std.proofs.Common.{◌≡◌, ℕ, zero, suc, ◌+◌, ◌<◌, List, [], ◌∷◌, ◌++◌, map, flat_map, zip, length, Option, Some, None, option_map, unwrap_or, slice_get, length-append, append_assoc, sym, refl, ap, ◌∙◌, subst, arith}
+use Rattle.std.proofs.Common.{◌≡◌, ℕ, zero, suc, ◌+◌, ◌<◌, List, [], ◌∷◌, ◌++◌, map, flat_map, zip, length, Some, None, option_map, unwrap_or, slice_get, length-append, append_assoc, sym, refl, ap, ◌∙◌, arith}
 use Rattle.std.specs.List.{AllByRecursion, enumerate_from, slice_index_or}
 use Rattle.std.proofs.lemmas.Option.{slice_get-get_or, slice_get-map, slice_get_within}
-use Rattle.std.proofs.lemmas.List.{get_or-map, length-map, map-append}
+use Rattle.std.proofs.lemmas.List.{length-map, map-append}
 use Rattle.wf_model.specs.Lists.{lists_of}
 use Rattle.wf_model.specs.Simplex.{processes_of}
 use Rattle.wf_model.specs.Word.{Word, words}
-use Rattle.wf_model.specs.View.{View, process_of}
 use Rattle.wf_model.specs.Task.{Task, Rule, first_block}
 use Rattle.wf_model.specs.Execution.{Execution, executions_on, executions, last_views}
-use Rattle.wf_model.specs.Points.{points, class}
-use Rattle.wf_model.specs.Problem.{Constraint, constraint_of, number_of, problem_of}
+use Rattle.wf_model.specs.Points.{points}
+use Rattle.wf_model.specs.Problem.{Constraint, constraint_of, problem_of}
 use Rattle.wf_model.proofs.Accepting.{each_at}
 use Rattle.wf_model.proofs.Headline.{always}
 use Rattle.wf_model.proofs.WellFormed.{each_execution_with, last_processes, scope_processes}

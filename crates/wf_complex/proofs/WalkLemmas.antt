@@ -8,16 +8,13 @@ use Rattle.wf_simplex.specs.WordTable.{each_size}
 use Rattle.wf_complex.specs.Rounds.{views_at, Extends, leaves, cost}
 use Rattle.wf_complex.proofs.RoundLemmas.{views_kept, length-views, length-round}
 
-first_length : (n : ℕ) → 1 ≤ n → n ≤ 4 → (w : Word) → slice_get (words 1 n) 0 ≡ Some w → length w ≡ n
-first_length =
+pub length_first : (n : ℕ) → 1 ≤ n → n ≤ 4 → (w : Word) → slice_get (words 1 n) 0 ≡ Some w → length w ≡ n
+length_first =
     each_size (λ n. (w : Word) → slice_get (words 1 n) 0 ≡ Some w → length w ≡ n)
     (λ w h. (let e : (0 ∷ []) ≡ w = cc in sym (ap length e)))
     (λ w h. (let e : (0 ∷ 0 ∷ []) ≡ w = cc in sym (ap length e)))
     (λ w h. (let e : (0 ∷ 0 ∷ 0 ∷ []) ≡ w = cc in sym (ap length e)))
     (λ w h. (let e : (0 ∷ 0 ∷ 0 ∷ 0 ∷ []) ≡ w = cc in sym (ap length e)))
-
-pub length_first : (n : ℕ) → 1 ≤ n → n ≤ 4 → (w : Word) → slice_get (words 1 n) 0 ≡ Some w → length w ≡ n
-length_first = first_length
 
 pub cost_more : (n rounds : ℕ) → 0 < rounds → cost n rounds ≡ length (words 1 n) * (n + cost n (rounds - 1))
 cost_more n zero h = absurd (let none : ⊥ = omega (arith, h) in none)

@@ -14,7 +14,7 @@ use Rattle.wf_core.specs.Core.{State, Is, Saw, Step, Run, start}
 use Rattle.wf_core.specs.Laws.{IsLeastPosted, LeastIsPosted, SeenWasPosted, CutLiesAbove, FirstTruePlace}
 use Rattle.wf_core.proofs.Lists.{set_at, set_else, at_set, at_replicate}
 
-min_cases : (a b : ℕ) → (min a b ≡ a) ⊎ (min a b ≡ b)
+pub min_cases : (a b : ℕ) → (min a b ≡ a) ⊎ (min a b ≡ b)
 min_cases a b = dite (dec_le a b) (λ e. inl (min-eq_left e)) (λ ne. inr (min-eq_right (le_of_lt (lt_of_not-le ne))))
 
 pub record Kept (b : ℕ) (s : State) : Type 0 where

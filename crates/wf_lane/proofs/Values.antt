@@ -11,16 +11,13 @@ use Rattle.std.proofs.lemmas.List.Elements.{All-head, All-tail}
 use Rattle.std.proofs.lemmas.List.Folds.{list_any_at}
 use Rattle.std.proofs.lemmas.List.Sums.{sum_by-cons}
 use Rattle.std.proofs.lemmas.Map.Views.{any-filter_same}
+use Rattle.std.proofs.Math.Bool.{and-true}
 use Rattle.wf_model.specs.Lists.{below, has}
 use Rattle.wf_model.specs.Task.{Tuple}
 use Rattle.wf_model.specs.Box.{is_supported, is_alive, has_at}
 use Rattle.wf_lane.specs.Sets.{holds, values_in, sets_of}
 use Rattle.wf_lane.specs.Words.{Words, is_live, joined_words, meets}
 use Rattle.wf_lane.specs.Table.{IsOneHot, AreOneHot, row_of, four_values, value_of, opened}
-
-pub and_true : (b : Bool) → (b && true) ≡ b
-and_true true = refl
-and_true false = refl
 
 or_test : (m n : ℕ) → m < 2 → n < 2 → (max m n == 1) ≡ (m == 1 || n == 1)
 or_test zero zero h k = refl
@@ -65,7 +62,7 @@ pub has-values_in : (word v : ℕ) → v < 64 → has (values_in word) v ≡ hol
 unfolding values_in
 has-values_in word v h =
     any-filter_same (λ y. y == v) (holds word) (holds word v) (λ k e. ap (holds word) (eqb-true k v e)) (below 64)
-    ∙ ap (λ b. holds word v && b) (in_below 64 v h) ∙ and_true (holds word v)
+    ∙ ap (λ b. holds word v && b) (in_below 64 v h) ∙ and-true (holds word v)
 
 -- ---- a row and its four words
 value_small : (word : ℕ) → IsOneHot word → value_of word < 64
@@ -99,12 +96,12 @@ live_is (suc (suc zero)) s0 s1 s2 s3 r some narrow h =
 live_is (suc (suc (suc zero))) s0 s1 s2 s3 r some narrow h =
     same_four _ _ _ _ _ _ _ true (meets_list r.first s0 h.first) (meets_list r.second s1 h.second) (meets_list r.third s2 h.third) (every_value r.fourth h.fourth)
 live_is (suc (suc (suc (suc zero)))) s0 s1 s2 s3 r some narrow h =
-    same_four _ _ _ _ _ _ _ _ (meets_list r.first s0 h.first) (meets_list r.second s1 h.second) (meets_list r.third s2 h.third) (meets_list r.fourth s3 h.fourth ∙ sym (and_true (has (values_in s3) (value_of r.fourth))))
+    same_four _ _ _ _ _ _ _ _ (meets_list r.first s0 h.first) (meets_list r.second s1 h.second) (meets_list r.third s2 h.third) (meets_list r.fourth s3 h.fourth ∙ sym (and-true (has (values_in s3) (value_of r.fourth))))
 live_is (suc (suc (suc (suc (suc n))))) s0 s1 s2 s3 r some narrow h = absurd (omega arith)
 
 -- ---- the mask of one place
 kept_holds : (b : Bool) (w a : ℕ) → IsOneHot w → holds (cond b w 0) a ≡ ((value_of w == a) && b)
-kept_holds true w a h = word_holds w a h ∙ sym (and_true (value_of w == a))
+kept_holds true w a h = word_holds w a h ∙ sym (and-true (value_of w == a))
 kept_holds false w a h = holds_nothing a ∙ sym (and_right (value_of w == a) false refl)
 
 has_at-take : (xs : Tuple) (n place v : ℕ) → place < n → has_at (take n xs) place v ≡ has_at xs place v

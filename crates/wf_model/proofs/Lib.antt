@@ -1,3 +1,4 @@
+pub mod Basics
 pub mod Sound
 pub mod Bridge
 pub mod Headline

@@ -41,10 +41,11 @@ apart_distinct (v ∷ vs) =
       apart_filter test (distinct same_view vs) (apart_distinct vs),
     )
 
-other_way : (v w : View) → same_view v w ≡ false → same_view w v ≡ false
+-- no view differs one way only
+pub other_way : (v w : View) → same_view v w ≡ false → same_view w v ≡ false
 other_way v w h = false_from_ne_true (same_view w v) (λ same. both_ways (same_view v w) h (subst (λ x. same_view v x ≡ true) (sym (same_is w v same)) (same_itself v)))
 
-map_same : {X Y : Type 0} (f g : X → Y) (xs : List X) → AllByRecursion (λ x. f x ≡ g x) xs → map f xs ≡ map g xs
+pub map_same : {X Y : Type 0} (f g : X → Y) (xs : List X) → AllByRecursion (λ x. f x ≡ g x) xs → map f xs ≡ map g xs
 map_same f g [] h = refl
 map_same f g (x ∷ xs) h = λ i. h.0 i ∷ map_same f g xs h.1 i
 

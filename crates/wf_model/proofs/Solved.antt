@@ -3,6 +3,7 @@ use Rattle.std.proofs.Common.{◌≡◌, ℕ, zero, suc, ◌<◌, ◌≤◌, ◌
 use Rattle.std.specs.List.{AllByRecursion}
 use Rattle.std.specs.Cmp.Lexicographic.{pointwise}
 use Rattle.std.proofs.lemmas.Bool.{cases_Bool, or_cases, or_left, and_parts, not-false, false≢true, eq-eqb}
+use Rattle.std.proofs.lemmas.List.{length-map}
 use Rattle.std.proofs.lemmas.List.Elements.{recursion_from_All, All-from_recursion}
 use Rattle.std.proofs.lemmas.List.Folds.{Any-from_list_any}
 use Rattle.wf_model.specs.Lists.{has, distinct}
@@ -10,7 +11,6 @@ use Rattle.wf_model.specs.Task.{Tuple}
 use Rattle.wf_model.specs.Problem.{Problem, Constraint, IsSolution, Satisfies, values_at, IsWellFormed}
 use Rattle.wf_model.specs.Box.{Box, LiesIn, candidates, first_open, has_at, is_alive, is_supported_in, sets_of}
 use Rattle.wf_model.specs.Closing.{Loss, same_candidate, continued, take_out, take_out_each, places, lost_at, lost, sweep_from, sweep}
-use Rattle.wf_model.proofs.Bridge.{length_map}
 use Rattle.wf_model.proofs.Headline.{both}
 use Rattle.wf_model.proofs.Stable.{HasLine, line_taken, line_continued}
 use Rattle.wf_model.proofs.Order.{position_none}
@@ -139,7 +139,7 @@ satisfied box k single none some within = by_scope k.scope refl
 -- where a further sweep loses nothing, the only values are a solution
 pub single_solves : (p : Problem) → IsWellFormed p → (box : Box) → length box ≡ p.points → Single box → (sweep p box).lines ≡ [] → IsSolution p (values_in box)
 single_solves p well box long single stable = record {
-  long = length_map _ box ∙ long;
+  long = length-map box _ ∙ long;
   satisfies = All-from_recursion _ p.constraints
       (both (λ k. lost box k ≡ []) (λ (k : Constraint). (0 < length k.scope) × All (λ at. at.1 < p.points) k.scope) (Satisfies (values_in box))
       (λ k none h. satisfied box k single none h.0 (subst (λ n. AllByRecursion (λ (at : ℕ × ℕ). at.1 < n) k.scope) (sym long) (recursion_from_All _ k.scope h.1)))

@@ -2,6 +2,7 @@
 use Rattle.std.proofs.Common.{◌≡◌, ℕ, zero, suc, ◌<◌, ◌==◌, ◌&&◌, true, List, [], ◌∷◌, map, flat_map, fold, zip, length, get_or, Contains, sym, refl, ap, ◌∙◌, subst, arith}
 use Rattle.std.specs.List.{AllByRecursion}
 use Rattle.std.proofs.lemmas.Bool.{and_parts, or_left, or_right, false≢true}
+use Rattle.std.proofs.lemmas.List.{length-map}
 use Rattle.std.proofs.lemmas.List.Elements.{recursion_from_All, All-from_recursion}
 use Rattle.std.proofs.lemmas.List.Folds.{list_any-append}
 use Rattle.wf_model.specs.Lists.{has, lists_of, below}
@@ -12,7 +13,7 @@ use Rattle.wf_model.specs.Task.{Task, Tuple, Rule, IsTask, IsRule, IsSimplexWith
 use Rattle.wf_model.specs.Execution.{Execution, executions, executions_on, last_views}
 use Rattle.wf_model.specs.Points.{class, points}
 use Rattle.wf_model.specs.Problem.{Constraint, number_of, constraint_of, problem_of, IsWellFormed}
-use Rattle.wf_model.proofs.Bridge.{weaker, length_map}
+use Rattle.wf_model.proofs.Bridge.{weaker}
 use Rattle.wf_model.proofs.Headline.{each_flat, each_map, each_of_map, each_filter, both, always, problem_in_range}
 use Rattle.wf_model.proofs.Stable.{each_has}
 use Rattle.wf_model.proofs.Ascending.{in_order_ascends, has_in_order}
@@ -33,7 +34,7 @@ values_of_zip (p ∷ ps) (x ∷ tuple) h = ap (λ xs. x ∷ xs) (values_of_zip p
 tuple_listed : (t : Task) (rule : Rule) (tuple : Tuple) → length tuple ≡ length rule.input → Contains t.outputs (zip (processes_of rule.input) tuple) → AllByRecursion (λ x. has (values t) x ≡ true) tuple
 tuple_listed t rule tuple long (k, within, is) =
     let s = zip (processes_of rule.input) tuple in
-    let same : values_of s ≡ tuple = values_of_zip (processes_of rule.input) tuple (long ∙ sym (length_map (λ v. v.0) rule.input)) in
+    let same : values_of s ≡ tuple = values_of_zip (processes_of rule.input) tuple (long ∙ sym (length-map rule.input (λ v. v.0))) in
     weaker (λ x. has tuple x ≡ true) (λ x. has (values t) x ≡ true)
     (λ x h. has_in_order x (flat_map values_of t.outputs) (has_flat values_of t.outputs k x s within
     (subst (λ (o : Simplex). has (values_of o) x ≡ true) (sym is) (subst (λ xs. has xs x ≡ true) (sym same) h))))
@@ -59,7 +60,8 @@ lists_long xs (suc n) =
 pub words_long : (m n : ℕ) → AllByRecursion (λ w. length w ≡ n) (words m n)
 words_long m n = each_filter (λ w. length w ≡ n) (λ w. is_word w && is_allowed m w) (lists_of (below n) n) (lists_long (below n) n)
 
-each_of_lists : {X : Type 0} (P : X → Type 0) (xs : List X) (r : ℕ) → AllByRecursion P xs → AllByRecursion (AllByRecursion P) (lists_of xs r)
+-- what holds of each element holds of those of each list of them
+pub each_of_lists : {X : Type 0} (P : X → Type 0) (xs : List X) (r : ℕ) → AllByRecursion P xs → AllByRecursion (AllByRecursion P) (lists_of xs r)
 each_of_lists P xs zero h = (tt, tt)
 each_of_lists P xs (suc r) h =
     each_flat (AllByRecursion P) (λ x. map (λ rest. x ∷ rest) (lists_of xs r)) xs
@@ -90,16 +92,16 @@ processes_after : (ws : List Word) (old : List View) (n : ℕ) → length old �
 processes_after [] old n long h = refl
 processes_after (w ∷ ws) old n long h =
     let same = processes_after_round w old (h.0 ∙ sym long) in
-    let kept : length (round old w) ≡ n = sym (length_map process_of (round old w)) ∙ ap length same ∙ length_map process_of old ∙ long in
+    let kept : length (round old w) ≡ n = sym (length-map (round old w) process_of) ∙ ap length same ∙ length-map old process_of ∙ long in
     processes_after ws (round old w) n kept h.1 ∙ same
 
-base_processes : (s : Simplex) → map process_of (base_views s) ≡ processes_of s
+pub base_processes : (s : Simplex) → map process_of (base_views s) ≡ processes_of s
 base_processes [] = refl
 base_processes (v ∷ s) = ap (λ ps. v.0 ∷ ps) (base_processes s)
 
 -- the last views of an execution are those of the processes of its input
 pub last_processes : (e : Execution) → AllByRecursion (λ w. length w ≡ length e.rule.input) e.words → map process_of (last_views e) ≡ processes_of e.rule.input
-last_processes e long = processes_after e.words (base_views e.rule.input) (length e.rule.input) (length_map _ e.rule.input) long ∙ base_processes e.rule.input
+last_processes e long = processes_after e.words (base_views e.rule.input) (length e.rule.input) (length-map e.rule.input _) long ∙ base_processes e.rule.input
 
 pub scope_processes : (t : Task) (ps vs : List View) → map (λ (at : ℕ × ℕ). at.0) (map (λ v. (process_of v, number_of ps (class t v))) vs) ≡ map process_of vs
 scope_processes t ps [] = refl
@@ -119,7 +121,7 @@ has_places t ps e simplex long =
     let parts = and_parts (is_nonempty e.rule.input) (is_ascending (processes_of e.rule.input)) simplex in
     let processes : map (λ (at : ℕ × ℕ). at.0) (constraint_of t ps e).scope ≡ processes_of e.rule.input = scope_processes t ps (last_views e) ∙ last_processes e long in
     let as_long : length (constraint_of t ps e).scope ≡ length e.rule.input =
-    sym (length_map (λ (at : ℕ × ℕ). at.0) (constraint_of t ps e).scope) ∙ ap length processes ∙ length_map (λ v. v.0) e.rule.input in
+    sym (length-map (constraint_of t ps e).scope (λ (at : ℕ × ℕ). at.0)) ∙ ap length processes ∙ length-map e.rule.input (λ v. v.0) in
     (subst (λ n. 0 < n) (sym as_long) (nonempty_length e.rule.input parts.0), subst (λ xs. is_ascending xs ≡ true) (sym processes) parts.1)
 
 constraints_placed : (t : Task) (r : ℕ) → IsTask t → AllByRecursion HasPlaces (problem_of t r).constraints

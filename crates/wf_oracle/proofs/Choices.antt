@@ -1,11 +1,11 @@
 -- Lists of words by lists of their numbers.
-use Rattle.std.proofs.Common.{◌≡◌, ℕ, zero, suc, ◌+◌, ◌<◌, List, [], ◌∷◌, ◌++◌, map, flat_map, length, get_or, take, sym, refl, ap, ◌∙◌, arith, append_assoc}
-use Rattle.std.specs.List.{range_with_len}
+use Rattle.std.proofs.Common.{◌≡◌, ℕ, zero, suc, ◌+◌, ◌<◌, List, [], ◌∷◌, ◌++◌, map, flat_map, length, get_or, take, sym, refl, ap, ◌∙◌, append_assoc}
 use Rattle.std.proofs.lemmas.List.{map-append}
 use Rattle.wf_model.specs.Lists.{below, lists_of}
 use Rattle.wf_model.specs.Word.{Word, words}
 use Rattle.wf_model.specs.Task.{Rule}
 use Rattle.wf_model.specs.Execution.{Execution, executions_on}
+use Rattle.wf_model.proofs.Basics.{by_place}
 use Rattle.wf_oracle.proofs.Steps.{map_next}
 use Rattle.wf_oracle.specs.Chosen.{chosen_words, execution_by}
 
@@ -23,20 +23,10 @@ pub map_lists_of : {X Y : Type 0} (f : X → Y) (xs : List X) (n : ℕ) → map 
 map_lists_of f xs zero = refl
 map_lists_of f xs (suc n) = map_each_in_front f (lists_of xs n) xs ∙ ap (λ lists. flat_map (λ y. map (λ rest. y ∷ rest) lists) (map f xs)) (map_lists_of f xs n)
 
-read_from : {X : Type 0} (xs whole : List X) (d : X) (a : ℕ) → ((i : ℕ) → get_or whole (a + i) d ≡ get_or xs i d) → map (λ n. get_or whole n d) (range_with_len a (length xs)) ≡ xs
-read_from [] whole d a same = refl
-read_from (x ∷ xs) whole d a same =
-    let first : get_or whole a d ≡ x = (let e : a + 0 ≡ a = omega arith in rw e at (same 0)) in
-    λ i. first i ∷ read_from xs whole d (a + 1) (λ k. let e : (a + 1) + k ≡ a + suc k = omega arith in rw e (same (suc k))) i
-
--- reading a list by all its places gives the list
-pub read_all : {X : Type 0} (xs : List X) (d : X) → map (λ n. get_or xs n d) (below (length xs)) ≡ xs
-read_all xs d = read_from xs xs d 0 (λ i. let e : 0 + i ≡ i = omega arith in rw e refl)
-
 -- the executions by the numbers of their words are all
 pub executions_by : (rule : Rule) (ws : List Word) (r : ℕ) → map (execution_by rule ws) (lists_of (below (length ws)) r) ≡ map (λ w. record { rule = rule; words = w }) (lists_of ws r)
 executions_by rule ws r =
-    each (lists_of (below (length ws)) r) ∙ ap (map (λ w. record { rule = rule; words = w })) (map_lists_of (λ n. get_or ws n []) (below (length ws)) r ∙ ap (λ xs. lists_of xs r) (read_all ws []))
+    each (lists_of (below (length ws)) r) ∙ ap (map (λ w. record { rule = rule; words = w })) (map_lists_of (λ n. get_or ws n []) (below (length ws)) r ∙ ap (λ xs. lists_of xs r) (by_place ws []))
   where
     each : (lists : List (List ℕ)) → map (execution_by rule ws) lists ≡ map (λ w. record { rule = rule; words = w }) (map (chosen_words ws) lists)
     each [] = refl

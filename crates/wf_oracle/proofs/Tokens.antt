@@ -1,16 +1,17 @@
 -- The tokens of a view, and the view of the tokens.
 use Rattle.std.proofs.Common.{◌≡◌, ℕ, suc, ◌+◌, ◌<◌, ◌≤◌, ◌==◌, ◌||◌, ◌↔◌, IsTrue, Bool, true, false, cond, List, [], ◌∷◌, ◌++◌, map, filter, flat_map, length, length-append, get_or, take, drop, sym, refl, ap, ◌∙◌, subst, append_assoc, append-nil}
 use Rattle.std.specs.List.{list_any}
+use Rattle.std.proofs.Math.Bool.{or-false}
 use Rattle.std.proofs.lemmas.List.{map-append}
 use Rattle.std.proofs.lemmas.List.Folds.{list_any-append}
 use Rattle.std.proofs.lemmas.Bool.{false_from_ne_true, false≢true}
 use Rattle.std.proofs.lemmas.List.Elements.{filter-append}
 use Rattle.wf_model.specs.Lists.{below}
 use Rattle.wf_model.specs.View.{View, base, seen, Views, no_views, view, views_of, same_view, occurs, occurs_in, renamed, renamed_each, rank, normal}
+use Rattle.wf_model.proofs.Basics.{below_next}
 use Rattle.wf_model.proofs.Bridge.{same_itself, same_is}
 use Rattle.wf_oracle.specs.declared.view.Token.{Token}
 use Rattle.wf_oracle.specs.declared.view.Token.TheVariants.{Base, Seen}
-use Rattle.wf_oracle.proofs.Ranges.{below_next}
 use Rattle.wf_oracle.proofs.Steps.{map_grows, take_all}
 use Rattle.wf_oracle.specs.Token.{views_in, tokens_of, tokens_in, views_from, first_view, view_from, token_process, token_renamed}
 
@@ -57,13 +58,9 @@ tokens_in_of (v ∷ vs) = ap (λ ts. tokens_of v ++ ts) (tokens_in_of vs)
 pub tokens_injective : (v w : View) → tokens_of v ≡ tokens_of w → v ≡ w
 tokens_injective v w same = sym (view_back v) ∙ ap view_from same ∙ view_back w
 
-or_false : (b : Bool) → (b || false) ≡ b
-or_false true = refl
-or_false false = refl
-
 mutual
   pub occurs_tokens : (p : ℕ) (v : View) → list_any (λ t. p == token_process t) (tokens_of v) ≡ occurs p v
-  occurs_tokens p (base q x) = or_false (p == q)
+  occurs_tokens p (base q x) = or-false (p == q)
   occurs_tokens p (seen q vs) = ap (λ b. (p == q) || b) (occurs_in_tokens p vs)
 
   pub occurs_in_tokens : (p : ℕ) (vs : Views) → list_any (λ t. p == token_process t) (tokens_in vs) ≡ occurs_in p vs

@@ -1,11 +1,11 @@
 -- The faces of simplices, and the complex of some facets.
-use Rattle.std.proofs.Common.{◌≡◌, ℕ, zero, suc, ◌+◌, ◌*◌, ◌<◌, ◌≤◌, Bool, true, false, List, [], ◌∷◌, ◌++◌, length, map, filter, flat_map, cond, ◌⊎◌, inl, inr, refl, sym, ap, ◌∙◌, subst, arith, length-append}
-use Rattle.std.proofs.lemmas.List.{length-map}
+use Rattle.std.proofs.Common.{◌≡◌, ◌≤◌, Bool, true, false, List, [], ◌∷◌, ◌++◌, length, map, filter, flat_map, cond, inl, inr, refl, sym, ap, ◌∙◌, subst, arith}
 use Rattle.std.specs.List.Sorted.{IsStrictlySortedBy}
 use Rattle.wf_model.specs.Lists.{in_order}
 use Rattle.wf_model.specs.Simplex.{Simplex, is_nonempty, parts_of, faces_of, simplex_cmp, complex_of}
+use Rattle.wf_model.proofs.Fuel.{length_filter}
 use Rattle.wf_simplex.specs.Order.{simplex_cmp-total, simplex_cmp-Equal}
-use Rattle.wf_simplex.proofs.Orders.{Has, has-append, has-append_left, has-append_right, has-in_order, in_order-has, in_order-same, sorted-in_order, same_in_order, length-in_order}
+use Rattle.wf_simplex.proofs.Orders.{Has, has-append, has-append_left, has-append_right, has-in_order, in_order-has, in_order-same, sorted-in_order, same_in_order}
 
 -- ---- parts
 
@@ -140,14 +140,6 @@ complex_of-more facets f =
 
 -- ---- how many
 
-length-filter : {X : Type 0} (p : X → Bool) (xs : List X) → length (filter p xs) ≤ length xs
-length-filter p [] = omega arith
-length-filter {X = X} p (x ∷ xs) = by (length-filter p xs) (p x)
-  where
-    by : length (filter p xs) ≤ length xs → (b : Bool) → length (cond b (x ∷ filter p xs) (filter p xs)) ≤ suc (length xs)
-    by h true = omega arith
-    by h false = omega arith
-
 length-parts_of : (s : Simplex) → length s ≤ 4 → length (parts_of s) ≤ 16
 length-parts_of [] h = omega arith
 length-parts_of (a ∷ []) h = omega arith
@@ -157,4 +149,4 @@ length-parts_of (a ∷ b ∷ c ∷ d ∷ []) h = omega arith
 length-parts_of (a ∷ b ∷ c ∷ d ∷ e ∷ s) h = absurd (let none : ⊥ = omega (arith, h) in none)
 
 pub length-faces_of : (s : Simplex) → length s ≤ 4 → length (faces_of s) ≤ 16
-length-faces_of s h = omega (arith, length-filter is_nonempty (parts_of s), length-parts_of s h)
+length-faces_of s h = omega (arith, length_filter is_nonempty (parts_of s), length-parts_of s h)

@@ -1,11 +1,10 @@
 -- One facet more.
-use Rattle.std.proofs.Common.{◌≡◌, ℕ, ◌+◌, ◌*◌, ◌≤◌, ◌<◌, true, List, [], ◌∷◌, ◌++◌, length, take, All, slice_index_or, refl, sym, ap, ◌∙◌, subst, arith, Bool, false, ◌||◌, inl, inr}
+use Rattle.std.proofs.Common.{◌≡◌, ℕ, ◌+◌, ◌*◌, ◌≤◌, ◌<◌, true, List, [], ◌∷◌, ◌++◌, length, take, All, slice_index_or, refl, sym, ap, ◌∙◌, subst, arith, ◌||◌, inl, inr}
 use Rattle.std.proofs.lemmas.List.{take_more}
 use Rattle.std.specs.List.{list_any}
 use Rattle.std.specs.declared.cmp.Ordering.{Ordering}
 use Rattle.std.specs.declared.cmp.Ordering.TheVariants.{Less, Equal, Greater}
 use Rattle.std.specs.Ordering.{is_eq}
-use Rattle.wf_model.specs.Lists.{in_order}
 use Rattle.wf_model.specs.Simplex.{Simplex, faces_of, simplex_cmp, complex_of}
 use Rattle.wf_model.specs.Task.{IsSimplexWithin}
 use Rattle.wf_simplex.specs.Faces.{with_all}

@@ -1,4 +1,5 @@
 pub mod Tables
+pub mod Colours
 pub mod Reading
 pub mod Words
 pub mod Orders

@@ -1,24 +1,14 @@
 -- Reading pairs into a table.
-use Rattle.std.proofs.Common.{◌≡◌, ℕ, zero, suc, ◌+◌, ◌-◌, ◌<◌, ◌≤◌, Bool, true, false, not, ◌&&◌, nat_lt, nat_le, List, [], ◌∷◌, ◌++◌, length, map, take, drop, set, Option, None, Some, is_some, slice_index, slice_index_or, slice_set, refl, sym, ap, ◌∙◌, subst, arith, add-zero, add-one, drop-cons, drop_of_length-le, le-leb, lt-ltb, leb-true, ltb-true, ltb-false, eqb-true, All, ◌==◌, ◌||◌, ◌⊎◌, inl, inr, if◌then◌else◌, get_or-set_other, get_or-set_same}
+use Rattle.std.proofs.Common.{◌≡◌, ℕ, zero, suc, ◌+◌, ◌<◌, ◌≤◌, Bool, true, false, ◌&&◌, nat_lt, nat_le, List, [], ◌∷◌, ◌++◌, length, drop, Option, None, Some, is_some, slice_index_or, slice_set, refl, sym, ap, ◌∙◌, arith, add-zero, add-one, drop-cons, drop_of_length-le, le-leb, lt-ltb, leb-true, ltb-true, ltb-false, eqb-true, All, ◌==◌, ◌⊎◌, inl, inr}
+use Rattle.std.proofs.lemmas.Bool.{and_parts, and_from, or_parts}
 use Rattle.std.proofs.lemmas.List.Elements.{All-nil, All-cons}
-use Rattle.std.specs.List.{list_any, list_all}
-use Rattle.wf_model.specs.Simplex.{Vertex, Simplex, processes_of, values_of, is_ascending, is_nonempty, is_simplex}
+use Rattle.std.specs.List.{list_all}
+use Rattle.wf_model.specs.Simplex.{Vertex, Simplex, processes_of, values_of, is_ascending, is_nonempty}
 use Rattle.wf_model.specs.Task.{IsSimplexWithin}
 use Rattle.wf_simplex.specs.Entries.{vertices_from, ascends_from}
 use Rattle.wf_simplex.specs.Reading.{has_colours, has_large, read_fault}
-use Rattle.wf_simplex.specs.declared.simplex.SimplexFault.{SimplexFault}
 use Rattle.wf_simplex.specs.declared.simplex.SimplexFault.TheVariants.{Empty, Colour, Value}
-
-pub and_first : (a b : Bool) → (a && b) ≡ true → a ≡ true
-and_first true b h = refl
-and_first false b h = h
-
-pub and_second : (a b : Bool) → (a && b) ≡ true → b ≡ true
-and_second true b h = h
-and_second false b h = cc
-
-pub and_both : (a b : Bool) → a ≡ true → b ≡ true → (a && b) ≡ true
-and_both a b h k = rw h k
+use Rattle.wf_simplex.proofs.Colours.{ascends_below, colours_below, low_processes}
 
 -- ---- one entry after another
 
@@ -65,58 +55,13 @@ added es p x h blank = one_more 0 es p x h blank ∙ ap (λ m. vertices_from 0 e
 pub ascending_step : (m : ℕ) (v : Vertex) (s : Simplex) → m ≤ v.0 → v.0 < 4 → ascends_from m (v ∷ s) ≡ ascends_from (v.0 + 1) s
 ascending_step m v s h k = rw (le-leb m v.0 h, lt-ltb v.0 4 k) refl
 
-starts_at : ℕ → Simplex → Type 0
-starts_at m [] = Unit {0}
-starts_at m (v ∷ s) = m ≤ v.0
-
-colours_from : (m : ℕ) (s : Simplex) → ascends_from m s ≡ true → has_colours s ≡ true × starts_at m s
-unfolding starts_at
-colours_from m [] h = (refl, tt)
-colours_from m (v ∷ []) h =
-    let low = leb-true m v.0 (and_first _ _ (and_first _ _ h)) in
-    (and_both _ _ (and_second _ _ (and_first _ _ h)) refl, low)
-colours_from m (v ∷ w ∷ s) h =
-    let low : m ≤ v.0 = leb-true m v.0 (and_first (nat_le m v.0) (nat_lt v.0 4) (and_first (nat_le m v.0 && nat_lt v.0 4) (ascends_from (v.0 + 1) (w ∷ s)) h)) in
-    let small = and_second (nat_le m v.0) (nat_lt v.0 4) (and_first (nat_le m v.0 && nat_lt v.0 4) (ascends_from (v.0 + 1) (w ∷ s)) h) in
-    let rest = colours_from (v.0 + 1) (w ∷ s) (and_second (nat_le m v.0 && nat_lt v.0 4) (ascends_from (v.0 + 1) (w ∷ s)) h) in
-    let up : v.0 < w.0 = omega (arith, rest.1) in
-    (and_both _ _ (and_both _ _ (lt-ltb v.0 w.0 up) (and_first _ _ rest.0)) (and_both _ _ small (and_second _ _ rest.0)), low)
-
-pub colours_of_ascending : (s : Simplex) → ascends_from 0 s ≡ true → has_colours s ≡ true
-colours_of_ascending s h = (colours_from 0 s h).0
-
-ascending_of : (m : ℕ) (s : Simplex) → has_colours s ≡ true → starts_at m s → ascends_from m s ≡ true
-unfolding starts_at
-ascending_of m [] h low = refl
-ascending_of m (v ∷ []) h low =
-    let small = and_first (nat_lt v.0 4) true (and_second true (nat_lt v.0 4 && true) h) in
-    and_both _ _ (and_both _ _ (le-leb m v.0 low) small) refl
-ascending_of m (v ∷ w ∷ s) h low =
-    let up = and_first (is_ascending (processes_of (v ∷ w ∷ s))) (list_all (λ p. nat_lt p 4) (processes_of (v ∷ w ∷ s))) h in
-    let small = and_second (is_ascending (processes_of (v ∷ w ∷ s))) (list_all (λ p. nat_lt p 4) (processes_of (v ∷ w ∷ s))) h in
-    let next : v.0 < w.0 = ltb-true v.0 w.0 (and_first (nat_lt v.0 w.0) (is_ascending (processes_of (w ∷ s))) up) in
-    let below = and_first (nat_lt v.0 4) (list_all (λ p. nat_lt p 4) (processes_of (w ∷ s))) small in
-    let rest = and_both (is_ascending (processes_of (w ∷ s))) (list_all (λ p. nat_lt p 4) (processes_of (w ∷ s)))
-    (and_second (nat_lt v.0 w.0) (is_ascending (processes_of (w ∷ s))) up) (and_second (nat_lt v.0 4) (list_all (λ p. nat_lt p 4) (processes_of (w ∷ s))) small) in
-    and_both (nat_le m v.0 && nat_lt v.0 4) (ascends_from (v.0 + 1) (w ∷ s)) (and_both (nat_le m v.0) (nat_lt v.0 4) (le-leb m v.0 low) below)
-    (ascending_of (v.0 + 1) (w ∷ s) rest (omega arith))
-
-starts_at-zero : (s : Simplex) → starts_at 0 s
-unfolding starts_at
-starts_at-zero [] = tt
-starts_at-zero (v ∷ s) = omega arith
-
-pub ascending_of_colours : (s : Simplex) → has_colours s ≡ true → ascends_from 0 s ≡ true
-ascending_of_colours s h = ascending_of 0 s h (starts_at-zero s)
-
-colours_by : (s : Simplex) (a b : Bool) → ascends_from 0 s ≡ a → has_colours s ≡ b → a ≡ b
-colours_by s true true h k = refl
-colours_by s true false h k = sym (colours_of_ascending s h) ∙ k
-colours_by s false true h k = sym h ∙ ascending_of_colours s k
-colours_by s false false h k = refl
+-- the same by the bound
+below_four : (m : ℕ) (s : Simplex) → ascends_from m s ≡ ascends_below 4 m s
+below_four m [] = refl
+below_four m (v ∷ s) = ap (λ rest. nat_le m v.0 && nat_lt v.0 4 && rest) (below_four (v.0 + 1) s)
 
 pub colours_are : (s : Simplex) → ascends_from 0 s ≡ has_colours s
-colours_are s = colours_by s (ascends_from 0 s) (has_colours s) refl refl
+colours_are s = below_four 0 s ∙ colours_below 4 s
 
 -- ---- the faults
 
@@ -170,34 +115,20 @@ value_fault s some colours large = rw some (rw colours (rw large refl))
 pub no_fault : (s : Simplex) → is_nonempty s ≡ true → has_colours s ≡ true → has_large s ≡ false → read_fault s ≡ None
 no_fault s some colours large = rw some (rw colours (rw large refl))
 
-small_processes : (s : Simplex) → list_all (λ p. nat_lt p 4) (processes_of s) ≡ true → All (λ p. p < 4) (processes_of s)
-small_processes [] h = All-nil (λ p. p < 4)
-small_processes (v ∷ s) h =
-    All-cons (λ p. p < 4) v.0 (processes_of s) (ltb-true v.0 4 (and_first (nat_lt v.0 4) (list_all (λ p. nat_lt p 4) (processes_of s)) h))
-    (small_processes s (and_second (nat_lt v.0 4) (list_all (λ p. nat_lt p 4) (processes_of s)) h))
-
-or_first : (a b : Bool) → (a || b) ≡ false → a ≡ false
-or_first true b h = h
-or_first false b h = refl
-
-or_second : (a b : Bool) → (a || b) ≡ false → b ≡ false
-or_second true b h = cc
-or_second false b h = h
-
 small_values : (s : Simplex) → has_large s ≡ false → All (λ x. x ≤ 63) (values_of s)
 small_values [] h = All-nil (λ x. x ≤ 63)
 small_values (v ∷ s) h =
-    All-cons (λ x. x ≤ 63) v.1 (values_of s) (ltb-false 63 v.1 (or_first (nat_lt 63 v.1) (has_large s) h))
-    (small_values s (or_second (nat_lt 63 v.1) (has_large s) h))
+    All-cons (λ x. x ≤ 63) v.1 (values_of s) (ltb-false 63 v.1 (or_parts (nat_lt 63 v.1) (has_large s) h).0)
+    (small_values s (or_parts (nat_lt 63 v.1) (has_large s) h).1)
 
 -- pairs without a fault are a simplex
 pub simplex_within : (s : Simplex) → is_nonempty s ≡ true → has_colours s ≡ true → has_large s ≡ false → IsSimplexWithin 4 63 s
 simplex_within s some colours small = record {
-  is_simplex = and_both (is_nonempty s) (is_ascending (processes_of s)) some (and_first (is_ascending (processes_of s)) (list_all (λ p. nat_lt p 4) (processes_of s)) colours);
-  processes = small_processes s (and_second (is_ascending (processes_of s)) (list_all (λ p. nat_lt p 4) (processes_of s)) colours);
+  is_simplex = and_from (is_nonempty s) (is_ascending (processes_of s)) some (and_parts (is_ascending (processes_of s)) (list_all (λ p. nat_lt p 4) (processes_of s)) colours).0;
+  processes = low_processes 4 (processes_of s) (and_parts (is_ascending (processes_of s)) (list_all (λ p. nat_lt p 4) (processes_of s)) colours).1;
   values = small_values s small;
 }
 
 -- once the loop went through all pairs
 pub colours_at_end : (s : Simplex) (m i : ℕ) → length s ≤ i → ascends_from m (drop i s) ≡ ascends_from 0 s → has_colours s ≡ true
-colours_at_end s m i h same = colours_of_ascending s (sym same ∙ ap (ascends_from m) (drop_of_length-le s h))
+colours_at_end s m i h same = sym (colours_are s) ∙ sym same ∙ ap (ascends_from m) (drop_of_length-le s h)

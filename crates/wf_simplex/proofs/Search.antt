@@ -1,6 +1,5 @@
 -- What a binary search finds among simplices in order.
-use Rattle.std.proofs.Common.{◌≡◌, ℕ, ◌+◌, ◌<◌, ◌≤◌, Bool, true, false, nat_lt, ltb-true, ltb-false, ◌⊎◌, inl, inr, List, length, get_or, slice_get, slice_index_or, Some, Contains, HoldsAt, refl, sym, ap, ◌∙◌, subst, arith}
-use Rattle.std.specs.declared.cmp.Ordering.{Ordering}
+use Rattle.std.proofs.Common.{◌≡◌, ℕ, ◌+◌, ◌<◌, ◌≤◌, Bool, true, false, nat_lt, ltb-true, ltb-false, ◌⊎◌, inl, inr, List, length, get_or, slice_get, slice_index_or, Some, Contains, refl, sym, ap, ◌∙◌, subst, arith}
 use Rattle.std.specs.declared.cmp.Ordering.TheVariants.{Less, Equal, Greater}
 use Rattle.std.specs.Ordering.{ordering_index, is_lt, ordering_reverse}
 use Rattle.std.specs.Cmp.{tied_itself}

@@ -1,5 +1,5 @@
 -- Tables whose values are at most 63, and the faces that are put together from them.
-use Rattle.std.proofs.Common.{◌≡◌, ℕ, zero, suc, ◌+◌, ◌<◌, ◌≤◌, Bool, true, false, ◌&&◌, nat_lt, List, [], ◌∷◌, ◌++◌, length, map, filter, drop, All, Option, None, Some, is_some, slice_index_or, IfSome, refl, sym, ap, ◌∙◌, subst, arith, lt-ltb, append_assoc, append-nil, drop_of_length-le}
+use Rattle.std.proofs.Common.{◌≡◌, ℕ, zero, suc, ◌+◌, ◌<◌, ◌≤◌, true, nat_lt, List, [], ◌∷◌, ◌++◌, length, map, filter, All, Option, None, Some, slice_index_or, IfSome, refl, sym, ap, ◌∙◌, arith, lt-ltb, append_assoc, append-nil}
 use Rattle.std.proofs.lemmas.List.{map-append}
 use Rattle.std.proofs.lemmas.List.Elements.{All-nil, All-cons, All-head, All-tail, filter-append}
 use Rattle.wf_model.specs.Simplex.{Vertex, Simplex, processes_of, values_of, is_ascending, is_nonempty, parts_of, faces_of, simplex_cmp}
@@ -7,7 +7,7 @@ use Rattle.wf_model.specs.Task.{IsSimplexWithin}
 use Rattle.wf_simplex.specs.Entries.{vertices_from}
 use Rattle.wf_simplex.specs.Faces.{AreSmall, faces_with, with_all}
 use Rattle.wf_simplex.proofs.Orders.{with_all-append}
-use Rattle.wf_simplex.proofs.Reading.{and_both}
+use Rattle.std.proofs.lemmas.Bool.{and_from}
 
 -- ---- a table of small values is a simplex
 
@@ -20,7 +20,7 @@ ascends_after : (n : ℕ) (ps : List ℕ) → All (λ p. n + 1 ≤ p) ps → is_
 ascends_after n [] h k = refl
 ascends_after n (p ∷ ps) h k =
     let first : n + 1 ≤ p = All-head (λ p. n + 1 ≤ p) p ps h in
-    and_both (nat_lt n p) (is_ascending (p ∷ ps)) (lt-ltb n p (omega arith)) k
+    and_from (nat_lt n p) (is_ascending (p ∷ ps)) (lt-ltb n p (omega arith)) k
 
 pub vertices-ascend : (n : ℕ) (es : List (Option ℕ)) → is_ascending (processes_of (vertices_from n es)) ≡ true
 vertices-ascend n [] = refl
@@ -43,7 +43,7 @@ nonempty (v ∷ s) h = refl
 
 pub table_within : (es : List (Option ℕ)) → length es ≡ 4 → AreSmall es → 0 < length (vertices_from 0 es) → IsSimplexWithin 4 63 (vertices_from 0 es)
 table_within es four small some = record {
-  is_simplex = and_both (is_nonempty (vertices_from 0 es)) (is_ascending (processes_of (vertices_from 0 es))) (nonempty (vertices_from 0 es) some) (vertices-ascend 0 es);
+  is_simplex = and_from (is_nonempty (vertices_from 0 es)) (is_ascending (processes_of (vertices_from 0 es))) (nonempty (vertices_from 0 es) some) (vertices-ascend 0 es);
   processes = processes_below 0 4 es (omega arith);
   values = values_small 0 es small;
 }

@@ -1,5 +1,5 @@
 -- A simplex as a table and as a list of vertices: what the one says of the other.
-use Rattle.std.proofs.Common.{◌≡◌, ℕ, zero, suc, ◌+◌, ◌-◌, ◌<◌, ◌≤◌, Bool, true, false, ◌&&◌, ◌||◌, ◌==◌, List, [], ◌∷◌, length, map, drop, Option, None, Some, is_some, slice_index, slice_index_or, refl, sym, ap, ap₂, ◌∙◌, subst, arith, add-zero, add-one, eq-eqb, eqb-true, ne_eqb, add_assoc}
+use Rattle.std.proofs.Common.{◌≡◌, ℕ, zero, suc, ◌+◌, ◌<◌, ◌≤◌, Bool, true, false, ◌&&◌, ◌==◌, List, [], ◌∷◌, length, Option, None, Some, is_some, slice_index_or, refl, sym, ap, ap₂, ◌∙◌, arith, eq-eqb, eqb-true, ne_eqb}
 use Rattle.std.specs.List.{list_any, list_all}
 use Rattle.std.specs.Bool.{Decides}
 use Rattle.std.specs.Option.{option_eq}
@@ -8,8 +8,9 @@ use Rattle.std.specs.Cmp.Lexicographic.{slice_cmp, pointwise, pointwise_decides}
 use Rattle.std.specs.Ordering.{nat_cmp, ordering_then}
 use Rattle.std.specs.declared.cmp.Ordering.{Ordering}
 use Rattle.std.specs.declared.cmp.Ordering.TheVariants.{Less, Equal, Greater}
+use Rattle.std.proofs.Math.Bool.{or-false}
 use mir.Val.{bool_byte}
-use Rattle.wf_model.specs.Simplex.{Vertex, Simplex, processes_of, same_vertex, vertex_cmp, simplex_cmp, is_face, is_nonempty, is_simplex}
+use Rattle.wf_model.specs.Simplex.{Vertex, Simplex, same_vertex, vertex_cmp, simplex_cmp, is_face, is_nonempty, is_simplex}
 use Rattle.wf_simplex.specs.Entries.{vertices_from, value_at, entries_of, entries_of-four, is_within, entry_cmp}
 use Rattle.wf_simplex.specs.Order.{same_simplex, same_simplex-decides}
 
@@ -99,14 +100,10 @@ past_first y s n (Some x ∷ es) m h =
     let ne : m == n ≡ false = ne_eqb m n (λ e. omega arith) in
     rw ne (ap (λ b. list_any (same_vertex (m, x)) s && b) (past_first y s n es (m + 1) (omega arith)))
 
-or_false : (b : Bool) → (b || false) ≡ b
-or_false true = refl
-or_false false = refl
-
 first_within : (x y n : ℕ) (fs : List (Option ℕ)) → list_any (same_vertex (n, x)) ((n, y) ∷ vertices_from (n + 1) fs) ≡ x == y
 first_within x y n fs =
     let e : n == n ≡ true = eq-eqb n n refl in
-    rw (e, no_later (n, x) fs (n + 1) (omega arith)) (or_false (x == y))
+    rw (e, no_later (n, x) fs (n + 1) (omega arith)) (or-false (x == y))
 
 pub within_all : (n : ℕ) (es fs : List (Option ℕ)) → length es ≡ length fs → all_within es fs ≡ list_all (λ v. list_any (same_vertex v) (vertices_from n fs)) (vertices_from n es)
 unfolding all_within
@@ -118,13 +115,6 @@ within_all n (Some x ∷ es) (None ∷ fs) h = rw (no_later (n, x) fs (n + 1) (o
 within_all n (Some x ∷ es) (Some y ∷ fs) h =
     (λ i. sym (first_within x y n fs) i && within_all (n + 1) es fs (omega arith) i)
     ∙ ap (λ b. list_any (same_vertex (n, x)) ((n, y) ∷ vertices_from (n + 1) fs) && b) (sym (past_first y (vertices_from (n + 1) fs) n es (n + 1) (omega arith)))
-
-some_vertex : (es : List (Option ℕ)) (n : ℕ) → 0 < length (vertices_from n es) → is_nonempty (vertices_from n es) ≡ true
-some_vertex es n h = by (vertices_from n es) h
-  where
-    by : (s : Simplex) → 0 < length s → is_nonempty s ≡ true
-    by [] h = absurd (omega arith)
-    by (v ∷ s) h = refl
 
 within_four : (a b c d e f g h : Option ℕ) → (is_within a e && is_within b f && is_within c g && is_within d h) ≡ all_within (a ∷ b ∷ c ∷ d ∷ []) (e ∷ f ∷ g ∷ h ∷ [])
 unfolding all_within

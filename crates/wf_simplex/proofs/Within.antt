@@ -1,19 +1,19 @@
 -- The faces of a simplex within some bounds are within them.
-use Rattle.std.proofs.Common.{◌≡◌, ℕ, zero, suc, ◌+◌, ◌<◌, ◌≤◌, Bool, true, false, ◌&&◌, nat_lt, List, [], ◌∷◌, ◌++◌, length, map, All, ◌⊎◌, inl, inr, refl, sym, ap, ◌∙◌, subst, arith, ltb-true, lt-ltb, None}
+use Rattle.std.proofs.Common.{◌≡◌, ℕ, ◌+◌, ◌<◌, ◌≤◌, Bool, true, false, nat_lt, List, [], ◌∷◌, length, map, All, inl, inr, refl, subst, arith, ltb-true, lt-ltb, None}
 use Rattle.std.specs.declared.cmp.Ordering.{Ordering}
 use Rattle.std.specs.declared.cmp.Ordering.TheVariants.{Less, Equal, Greater}
 use Rattle.std.specs.Ordering.{match_ordering}
 use Rattle.std.specs.List.{AllByRecursion, list_all}
-use Rattle.std.proofs.lemmas.List.Elements.{All-nil, All-cons, All-head, All-tail, All-from_recursion, recursion_from_All, All-contains}
+use Rattle.std.proofs.lemmas.List.Elements.{All-nil, All-cons, All-head, All-tail, All-from_recursion}
 use Rattle.wf_model.specs.Lists.{with_element}
-use Rattle.wf_model.specs.Simplex.{Vertex, Simplex, processes_of, values_of, is_ascending, is_nonempty, is_simplex, parts_of, faces_of, simplex_cmp, complex_of}
+use Rattle.wf_model.specs.Simplex.{Simplex, processes_of, values_of, is_ascending, is_nonempty, parts_of, faces_of, complex_of}
 use Rattle.wf_model.specs.Task.{IsSimplexWithin}
 use Rattle.wf_simplex.specs.Faces.{with_all}
-use Rattle.wf_simplex.specs.Order.{simplex_cmp-total, simplex_cmp-Equal}
-use Rattle.wf_simplex.proofs.Orders.{Has, has-append, has-in_order, has_from_place, length-with_element}
-use Rattle.wf_simplex.proofs.Faces.{has-filter, of_some_facet, begins, length-faces_of}
+use Rattle.wf_simplex.proofs.Orders.{Has, has-append, length-with_element}
+use Rattle.wf_simplex.proofs.Faces.{has-filter, of_some_facet, begins}
 use Rattle.wf_simplex.specs.Reading.{has_large, read_fault}
-use Rattle.wf_simplex.proofs.Reading.{and_both, and_first, and_second, no_fault}
+use Rattle.std.proofs.lemmas.Bool.{and_from, and_parts}
+use Rattle.wf_simplex.proofs.Reading.{no_fault}
 
 -- processes from m on, below n and ascending, with values of at most the largest
 Climbs : ℕ → ℕ → ℕ → Simplex → Type 0
@@ -51,11 +51,11 @@ unfolding Climbs
 climbs_ascend n largest m [] h = refl
 climbs_ascend n largest m (v ∷ []) h = refl
 climbs_ascend n largest m (v ∷ w ∷ s) h =
-    and_both (nat_lt v.0 w.0) (is_ascending (processes_of (w ∷ s))) (lt-ltb v.0 w.0 (omega (arith, h.3.0))) (climbs_ascend n largest (v.0 + 1) (w ∷ s) h.3)
+    and_from (nat_lt v.0 w.0) (is_ascending (processes_of (w ∷ s))) (lt-ltb v.0 w.0 (omega (arith, h.3.0))) (climbs_ascend n largest (v.0 + 1) (w ∷ s) h.3)
 
 climbs_within : (n largest : ℕ) (s : Simplex) → is_nonempty s ≡ true → Climbs n largest 0 s → IsSimplexWithin n largest s
 climbs_within n largest s some h = record {
-  is_simplex = and_both (is_nonempty s) (is_ascending (processes_of s)) some (climbs_ascend n largest 0 s h);
+  is_simplex = and_from (is_nonempty s) (is_ascending (processes_of s)) some (climbs_ascend n largest 0 s h);
   processes = climbs_processes n largest 0 s h;
   values = climbs_values n largest 0 s h;
 }
@@ -63,8 +63,8 @@ climbs_within n largest s some h = record {
 above : (m p : ℕ) (ps : List ℕ) → m ≤ p → is_ascending (p ∷ ps) ≡ true → AllByRecursion (λ q. m + 1 ≤ q) ps
 above m p [] low h = tt
 above m p (q ∷ ps) low h =
-    let first : m + 1 ≤ q = omega (arith, ltb-true p q (and_first (nat_lt p q) (is_ascending (q ∷ ps)) h)) in
-    (first, above m q ps (omega arith) (and_second (nat_lt p q) (is_ascending (q ∷ ps)) h))
+    let first : m + 1 ≤ q = omega (arith, ltb-true p q (and_parts (nat_lt p q) (is_ascending (q ∷ ps)) h).0) in
+    (first, above m q ps (omega arith) (and_parts (nat_lt p q) (is_ascending (q ∷ ps)) h).1)
 
 climbs_from : (n largest m : ℕ) (s : Simplex) → is_ascending (processes_of s) ≡ true → All (λ p. p < n) (processes_of s) → All (λ x. x ≤ largest) (values_of s) → All (λ p. m ≤ p) (processes_of s) → Climbs n largest m s
 unfolding Climbs
@@ -78,7 +78,7 @@ climbs_from n largest m (v ∷ s) up below small low = (
   where
     rest_ascends : (p : ℕ) (ps : List ℕ) → is_ascending (p ∷ ps) ≡ true → is_ascending ps ≡ true
     rest_ascends p [] h = refl
-    rest_ascends p (q ∷ ps) h = and_second (nat_lt p q) (is_ascending (q ∷ ps)) h
+    rest_ascends p (q ∷ ps) h = (and_parts (nat_lt p q) (is_ascending (q ∷ ps)) h).1
 
     rest_above : (p : ℕ) (ps : List ℕ) → is_ascending (p ∷ ps) ≡ true → All (λ q. p + 1 ≤ q) ps
     rest_above p ps h = All-from_recursion (λ q. p + 1 ≤ q) ps (above p p ps (omega arith) h)
@@ -87,7 +87,7 @@ all_from_none : (s : Simplex) → All (λ p. 0 ≤ p) (processes_of s)
 all_from_none s = λ k d h. omega arith
 
 climbs : (n largest : ℕ) (s : Simplex) → IsSimplexWithin n largest s → Climbs n largest 0 s
-climbs n largest s h = climbs_from n largest 0 s (and_second (is_nonempty s) (is_ascending (processes_of s)) h.is_simplex) h.processes h.values (all_from_none s)
+climbs n largest s h = climbs_from n largest 0 s (and_parts (is_nonempty s) (is_ascending (processes_of s)) h.is_simplex).1 h.processes h.values (all_from_none s)
 
 -- a face of a simplex within some bounds is within them
 pub face_within : (n largest : ℕ) (s t : Simplex) → IsSimplexWithin n largest s → Has t (faces_of s) → IsSimplexWithin n largest t
@@ -145,7 +145,7 @@ length-within n largest s h = omega (arith, climbs_length n largest 0 s (omega a
 
 list_all-below : (n : ℕ) (ps : List ℕ) → All (λ p. p < n) ps → list_all (λ p. nat_lt p n) ps ≡ true
 list_all-below n [] h = refl
-list_all-below n (p ∷ ps) h = and_both (nat_lt p n) (list_all (λ p. nat_lt p n) ps) (lt-ltb p n (All-head (λ p. p < n) p ps h)) (list_all-below n ps (All-tail (λ p. p < n) p ps h))
+list_all-below n (p ∷ ps) h = and_from (nat_lt p n) (list_all (λ p. nat_lt p n) ps) (lt-ltb p n (All-head (λ p. p < n) p ps h)) (list_all-below n ps (All-tail (λ p. p < n) p ps h))
 
 none_large : (s : Simplex) → All (λ x. x ≤ 63) (values_of s) → has_large s ≡ false
 none_large [] h = refl
@@ -164,6 +164,6 @@ none_large (v ∷ s) h =
 -- a simplex is read without a fault
 pub read_fault-within : (s : Simplex) → IsSimplexWithin 4 63 s → read_fault s ≡ None
 read_fault-within s h =
-    no_fault s (and_first (is_nonempty s) (is_ascending (processes_of s)) h.is_simplex)
-    (and_both (is_ascending (processes_of s)) (list_all (λ p. nat_lt p 4) (processes_of s)) (and_second (is_nonempty s) (is_ascending (processes_of s)) h.is_simplex) (list_all-below 4 (processes_of s) h.processes))
+    no_fault s (and_parts (is_nonempty s) (is_ascending (processes_of s)) h.is_simplex).0
+    (and_from (is_ascending (processes_of s)) (list_all (λ p. nat_lt p 4) (processes_of s)) (and_parts (is_nonempty s) (is_ascending (processes_of s)) h.is_simplex).1 (list_all-below 4 (processes_of s) h.processes))
     (none_large s h.values)

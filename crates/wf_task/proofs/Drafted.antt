@@ -8,14 +8,14 @@ use Rattle.std.specs.Cmp.{nat_cmp_total, tied_itself}
 use Rattle.std.specs.Cmp.Lexicographic.{slice_cmp, nat_list_cmp_total}
 use Rattle.std.proofs.lemmas.List.{get_or_default, length-map}
 use Rattle.std.proofs.lemmas.List.Elements.{All-nil, All-cons, All-head, All-tail, All-get_or, All-weaker, All-map}
-use Rattle.std.proofs.lemmas.List.Sums.{sum_by-cons}
+use Rattle.std.proofs.lemmas.List.Sums.{sum_by-cons, sum_by-le-sum_by}
 use Rattle.wf_model.specs.Lists.{has, in_order}
 use Rattle.wf_model.specs.Simplex.{Simplex, processes_of, is_nonempty, is_ascending, parts_of, simplex_cmp, complex_of}
 use Rattle.wf_model.specs.Task.{Task, Rule, Tuple, IsTask, IsRule, IsSimplexWithin, IsComplexWithin, inputs}
 use Rattle.wf_simplex.specs.Order.{same_simplex, same_simplex-decides, simplex_cmp-total, nat_cmp-Equal}
-use Rattle.wf_simplex.proofs.Orders.{Has, has-in_order, in_order-has, in_order-in_order, length-in_order, has_at_place}
+use Rattle.wf_simplex.proofs.Orders.{Has, has-in_order, in_order-in_order, length-in_order, has_at_place}
 use Rattle.wf_simplex.proofs.Faces.{whole_is_part, filter-has, is_in_complex, complex_of-sorted, complex_of-complex_of}
-use Rattle.wf_simplex.proofs.Reading.{and_first, and_second}
+use Rattle.std.proofs.lemmas.Bool.{and_parts, or_parts, not-false}
 use Rattle.wf_simplex.proofs.Within.{all_of_has, has_of_all, complex_within, length-within}
 use Rattle.wf_task.specs.declared.slots.Slot.{Slot}
 use Rattle.wf_task.specs.declared.slots.Slot.TheVariants.{Missing, Once, Twice}
@@ -28,7 +28,7 @@ use Rattle.wf_task.specs.Judge.{has_large, rule_has_large, has_colours, is_among
 use Rattle.wf_task.specs.Faultless.{ListsVertices, IsFaultless}
 use Rattle.wf_task.specs.Tuples.{IsTupleOf, AreTuples, IsRow, NamesRows, rows_at}
 use Rattle.wf_task.specs.TaskSeen.{rules_seen}
-use Rattle.wf_task.proofs.Judged.{AreJudged, are_judged, passed, passed_last, not_false, or_first, or_second, within, inputs_within, outputs_within}
+use Rattle.wf_task.proofs.Judged.{AreJudged, are_judged, passed, passed_last, within, inputs_within, outputs_within}
 use Rattle.wf_task.proofs.Sizes.{sum_by-map}
 use Rattle.wf_task.proofs.TupleLemmas.{lists-only, once-only, no_answer, none_passes, are_tuples}
 use Rattle.wf_task.proofs.RowLemmas.{tuple_cmp-Equal}
@@ -51,17 +51,17 @@ entries_from n [] some small colours = All-nil (λ rule. IsSimplexWithin n 63 ru
 entries_from n (rule ∷ rules) some small colours =
     All-cons (λ rule. IsSimplexWithin n 63 rule.input) rule rules
     (within n rule.input (All-head (λ rule. is_nonempty rule.input ≡ true) rule rules some)
-    (or_first (has_large rule.input) _ (or_first (rule_has_large rule) (list_any rule_has_large rules) small))
-    (and_first (has_colours n rule.input) (list_all (λ rule. has_colours n rule.input) rules) colours))
-    (entries_from n rules (All-tail (λ rule. is_nonempty rule.input ≡ true) rule rules some) (or_second (rule_has_large rule) (list_any rule_has_large rules) small)
-    (and_second (has_colours n rule.input) (list_all (λ rule. has_colours n rule.input) rules) colours))
+    (or_parts (has_large rule.input) _ (or_parts (rule_has_large rule) (list_any rule_has_large rules) small).0).0
+    (and_parts (has_colours n rule.input) (list_all (λ rule. has_colours n rule.input) rules) colours).0)
+    (entries_from n rules (All-tail (λ rule. is_nonempty rule.input ≡ true) rule rules some) (or_parts (rule_has_large rule) (list_any rule_has_large rules) small).1
+    (and_parts (has_colours n rule.input) (list_all (λ rule. has_colours n rule.input) rules) colours).1)
 
 pub entries_within_four : (listed : Listed) → AreJudged listed → ListsVertices listed → All (λ rule. IsSimplexWithin 4 63 rule.input) listed.delta
 entries_within_four listed h some =
     All-weaker (λ rule. IsSimplexWithin listed.processes 63 rule.input) (λ rule. IsSimplexWithin 4 63 rule.input) (λ rule. within_more listed.processes 4 rule.input h.few) listed.delta
     (entries_from listed.processes listed.delta some.entries
-    (or_second (list_any has_large listed.inputs || list_any has_large listed.outputs) (list_any rule_has_large listed.delta) h.small)
-    (and_second (list_all (has_colours listed.processes) listed.inputs && list_all (has_colours listed.processes) listed.outputs) (list_all (λ rule. has_colours listed.processes rule.input) listed.delta) h.colours))
+    (or_parts (list_any has_large listed.inputs || list_any has_large listed.outputs) (list_any rule_has_large listed.delta) h.small).1
+    (and_parts (list_all (has_colours listed.processes) listed.inputs && list_all (has_colours listed.processes) listed.outputs) (list_all (λ rule. has_colours listed.processes rule.input) listed.delta) h.colours).1)
 
 -- ---- a refusal that did not come
 
@@ -113,7 +113,7 @@ some_vertices (v ∷ s) h = omega arith
 
 row_from : (s : Simplex) (t : Tuple) → IsSimplexWithin 4 63 s → IsTupleOf (length s) t → IsRow t
 row_from s t h tuple = record {
-  some = omega (arith, tuple.long, some_vertices s (and_first (is_nonempty s) (is_ascending (processes_of s)) h.is_simplex));
+  some = omega (arith, tuple.long, some_vertices s (and_parts (is_nonempty s) (is_ascending (processes_of s)) h.is_simplex).0);
   few = omega (arith, tuple.long, length-within 4 63 s h);
   small = tuple.small;
 }
@@ -174,7 +174,7 @@ rule_is listed s tuples none = record {
   long = all-in_order (λ t. length t ≡ length s) (tuples_for listed s) (All-weaker (IsTupleOf (length s)) (λ t. length t ≡ length s) (λ t h. h.long) (tuples_for listed s) tuples);
   listed = all-in_order (λ t. Contains (complex_of listed.outputs) (zip (processes_of s) t)) (tuples_for listed s)
       (All-weaker (λ t. not (is_among (complex_of listed.outputs) (zip (processes_of s) t)) ≡ false) (λ t. Contains (complex_of listed.outputs) (zip (processes_of s) t))
-      (λ t h. has_at_place (zip (processes_of s) t) (complex_of listed.outputs) (among-has (complex_of listed.outputs) (zip (processes_of s) t) (not_false (is_among (complex_of listed.outputs) (zip (processes_of s) t)) h)))
+      (λ t h. has_at_place (zip (processes_of s) t) (complex_of listed.outputs) (among-has (complex_of listed.outputs) (zip (processes_of s) t) (not-false (is_among (complex_of listed.outputs) (zip (processes_of s) t)) h)))
       (tuples_for listed s)
       (none_passes (λ t. not (is_among (complex_of listed.outputs) (zip (processes_of s) t))) 0 (tuples_for listed s) none));
 }
@@ -218,10 +218,6 @@ sum_of_none : {X : Type 0} (xs : List X) → sum_by (λ (x : X). 0) xs ≡ 0
 sum_of_none [] = refl
 sum_of_none {X = X} (x ∷ xs) = omega (arith, sum_by-cons (λ (y : X). 0) x xs, sum_of_none xs)
 
-sum_of_less : {X : Type 0} (f g : X → ℕ) (xs : List X) → ((x : X) → f x ≤ g x) → sum_by f xs ≤ sum_by g xs
-sum_of_less f g [] each = omega arith
-sum_of_less f g (x ∷ xs) each = omega (arith, sum_by-cons f x xs, sum_by-cons g x xs, each x, sum_of_less f g xs each)
-
 -- the value lists of all entries for a simplex, and one entry more
 pub lists_more : (rule : Rule) (rules : List Rule) (s : Simplex)
     → length (flat_map (λ r. r.tuples) (entries_in (rule ∷ rules) s)) ≡ cond (same_simplex rule.input s) (length rule.tuples) 0 + length (flat_map (λ r. r.tuples) (entries_in rules s))
@@ -248,7 +244,7 @@ few_rows listed inputs h =
     omega (
       arith,
       sum_by-map (λ (r : Rule). length r.tuples) (rule_for listed) inputs,
-      sum_of_less (λ s. length (rule_for listed s).tuples) (λ s. length (tuples_for listed s)) inputs (λ s. length-in_order (slice_cmp nat_cmp) (tuples_for listed s)),
+      sum_by-le-sum_by (λ s. length (rule_for listed s).tuples) (λ s. length (tuples_for listed s)) inputs (λ s. length-in_order (slice_cmp nat_cmp) (tuples_for listed s)),
       few_lists listed.delta inputs h,
     )
 
@@ -331,10 +327,7 @@ list-has v (x ∷ xs) (inr h) = by (list-has v xs h) (x == v)
     by rest true = refl
     by rest false = rest
 
--- putting values in order keeps them
-pub has_in_order : (v : ℕ) (xs : List ℕ) → has xs v ≡ true → has (in_order nat_cmp xs) v ≡ true
-has_in_order v xs h = list-has v (in_order nat_cmp xs) (in_order-has nat_cmp nat_cmp_total nat_cmp-Equal v xs (has-list v xs h))
-
+-- values put in order are those of the list
 pub has_from_order : (v : ℕ) (xs : List ℕ) → has (in_order nat_cmp xs) v ≡ true → has xs v ≡ true
 has_from_order v xs h = list-has v xs (has-in_order nat_cmp nat_cmp_total nat_cmp-Equal v xs (has-list v (in_order nat_cmp xs) h))
 

@@ -1,10 +1,11 @@
 -- What the judged numbers tell: each listed simplex is one, within the bounds.
-use Rattle.std.proofs.Common.{◌≡◌, ℕ, ◌<◌, ◌≤◌, Bool, true, false, not, ◌&&◌, ◌||◌, ◌==◌, nat_lt, nat_le, List, [], ◌∷◌, All, Result, Ok, refl, eqb-true, leb-true, ltb-true, ltb-false}
+use Rattle.std.proofs.Common.{◌≡◌, ℕ, ◌≤◌, Bool, true, false, not, ◌&&◌, ◌||◌, ◌==◌, nat_lt, nat_le, List, [], ◌∷◌, All, Result, Ok, refl, eqb-true, leb-true, ltb-false}
 use Rattle.std.specs.List.{list_any, list_all}
+use Rattle.std.proofs.lemmas.Bool.{and_parts, and_from, or_parts, not-false}
 use Rattle.std.proofs.lemmas.List.Elements.{All-nil, All-cons, All-head, All-tail}
 use Rattle.wf_model.specs.Simplex.{Simplex, processes_of, values_of, is_nonempty, is_ascending}
 use Rattle.wf_model.specs.Task.{IsSimplexWithin}
-use Rattle.wf_simplex.proofs.Reading.{and_first, and_second, and_both}
+use Rattle.wf_simplex.proofs.Colours.{low_processes}
 use Rattle.wf_task.specs.declared.fault.TaskFault.{TaskFault}
 use Rattle.wf_task.specs.declared.fault.TaskFault.TheVariants as fault
 use Rattle.wf_task.specs.Draft.{Listed, ◌>>=◌}
@@ -18,10 +19,6 @@ passed false e next x h = (refl, h)
 pub passed_last : (b : Bool) (e : TaskFault) (u : Unit {0}) → refused_if b e ≡ Ok u → b ≡ false
 passed_last true e u h = cc
 passed_last false e u h = refl
-
-pub not_false : (b : Bool) → not b ≡ false → b ≡ true
-not_false true h = refl
-not_false false h = cc
 
 -- what the numbers of a draft without a fault of 4 to 7 are
 pub record AreJudged (listed : Listed) : Type 0 where
@@ -38,39 +35,26 @@ are_judged listed u h =
     let b = passed (not (nat_le 1 listed.processes && nat_le listed.processes 4)) fault.Processes _ u a.1 in
     let c = passed (some_large listed) fault.Value _ u b.1 in
     let d = passed_last (not (all_colours listed)) fault.Colours u c.1 in
-    let within = not_false (nat_le 1 listed.processes && nat_le listed.processes 4) b.0 in
+    let within = not-false (nat_le 1 listed.processes && nat_le listed.processes 4) b.0 in
     record {
-      version = eqb-true listed.version 1 (not_false (listed.version == 1) a.0);
-      some = leb-true 1 listed.processes (and_first (nat_le 1 listed.processes) (nat_le listed.processes 4) within);
-      few = leb-true listed.processes 4 (and_second (nat_le 1 listed.processes) (nat_le listed.processes 4) within);
+      version = eqb-true listed.version 1 (not-false (listed.version == 1) a.0);
+      some = leb-true 1 listed.processes (and_parts (nat_le 1 listed.processes) (nat_le listed.processes 4) within).0;
+      few = leb-true listed.processes 4 (and_parts (nat_le 1 listed.processes) (nat_le listed.processes 4) within).1;
       small = c.0;
-      colours = not_false (all_colours listed) d;
+      colours = not-false (all_colours listed) d;
     }
 
 -- ---- one simplex
 
-pub or_first : (a b : Bool) → (a || b) ≡ false → a ≡ false
-or_first true b h = h
-or_first false b h = refl
-
-pub or_second : (a b : Bool) → (a || b) ≡ false → b ≡ false
-or_second true b h = cc
-or_second false b h = h
-
 pub small_values : (xs : List ℕ) → list_any is_large xs ≡ false → All (λ x. x ≤ 63) xs
 small_values [] h = All-nil (λ x. x ≤ 63)
 small_values (x ∷ xs) h =
-    All-cons (λ x. x ≤ 63) x xs (ltb-false 63 x (or_first (nat_lt 63 x) (list_any is_large xs) h)) (small_values xs (or_second (nat_lt 63 x) (list_any is_large xs) h))
-
-low_processes : (n : ℕ) (ps : List ℕ) → list_all (λ p. nat_lt p n) ps ≡ true → All (λ p. p < n) ps
-low_processes n [] h = All-nil (λ p. p < n)
-low_processes n (p ∷ ps) h =
-    All-cons (λ p. p < n) p ps (ltb-true p n (and_first (nat_lt p n) (list_all (λ p. nat_lt p n) ps) h)) (low_processes n ps (and_second (nat_lt p n) (list_all (λ p. nat_lt p n) ps) h))
+    All-cons (λ x. x ≤ 63) x xs (ltb-false 63 x (or_parts (nat_lt 63 x) (list_any is_large xs) h).0) (small_values xs (or_parts (nat_lt 63 x) (list_any is_large xs) h).1)
 
 pub within : (n : ℕ) (s : Simplex) → is_nonempty s ≡ true → has_large s ≡ false → has_colours n s ≡ true → IsSimplexWithin n 63 s
 within n s some small colours = record {
-  is_simplex = and_both (is_nonempty s) (is_ascending (processes_of s)) some (and_first (is_ascending (processes_of s)) (list_all (λ p. nat_lt p n) (processes_of s)) colours);
-  processes = low_processes n (processes_of s) (and_second (is_ascending (processes_of s)) (list_all (λ p. nat_lt p n) (processes_of s)) colours);
+  is_simplex = and_from (is_nonempty s) (is_ascending (processes_of s)) some (and_parts (is_ascending (processes_of s)) (list_all (λ p. nat_lt p n) (processes_of s)) colours).0;
+  processes = low_processes n (processes_of s) (and_parts (is_ascending (processes_of s)) (list_all (λ p. nat_lt p n) (processes_of s)) colours).1;
   values = small_values (values_of s) small;
 }
 
@@ -79,19 +63,19 @@ pub all_within : (n : ℕ) (ss : List Simplex) → All (λ s. is_nonempty s ≡ 
 all_within n [] some small colours = All-nil (IsSimplexWithin n 63)
 all_within n (s ∷ ss) some small colours =
     All-cons (IsSimplexWithin n 63) s ss
-    (within n s (All-head (λ s. is_nonempty s ≡ true) s ss some) (or_first (has_large s) (list_any has_large ss) small) (and_first (has_colours n s) (list_all (has_colours n) ss) colours))
-    (all_within n ss (All-tail (λ s. is_nonempty s ≡ true) s ss some) (or_second (has_large s) (list_any has_large ss) small) (and_second (has_colours n s) (list_all (has_colours n) ss) colours))
+    (within n s (All-head (λ s. is_nonempty s ≡ true) s ss some) (or_parts (has_large s) (list_any has_large ss) small).0 (and_parts (has_colours n s) (list_all (has_colours n) ss) colours).0)
+    (all_within n ss (All-tail (λ s. is_nonempty s ≡ true) s ss some) (or_parts (has_large s) (list_any has_large ss) small).1 (and_parts (has_colours n s) (list_all (has_colours n) ss) colours).1)
 
 pub inputs_within : (listed : Listed) → AreJudged listed → All (λ s. is_nonempty s ≡ true) listed.inputs → All (IsSimplexWithin listed.processes 63) listed.inputs
 inputs_within listed h some =
     all_within listed.processes listed.inputs some
-    (or_first (list_any has_large listed.inputs) (list_any has_large listed.outputs) (or_first (list_any has_large listed.inputs || list_any has_large listed.outputs) (list_any rule_has_large listed.delta) h.small))
-    (and_first (list_all (has_colours listed.processes) listed.inputs) (list_all (has_colours listed.processes) listed.outputs)
-    (and_first (list_all (has_colours listed.processes) listed.inputs && list_all (has_colours listed.processes) listed.outputs) (list_all (λ rule. has_colours listed.processes rule.input) listed.delta) h.colours))
+    (or_parts (list_any has_large listed.inputs) (list_any has_large listed.outputs) (or_parts (list_any has_large listed.inputs || list_any has_large listed.outputs) (list_any rule_has_large listed.delta) h.small).0).0
+    (and_parts (list_all (has_colours listed.processes) listed.inputs) (list_all (has_colours listed.processes) listed.outputs)
+    (and_parts (list_all (has_colours listed.processes) listed.inputs && list_all (has_colours listed.processes) listed.outputs) (list_all (λ rule. has_colours listed.processes rule.input) listed.delta) h.colours).0).0
 
 pub outputs_within : (listed : Listed) → AreJudged listed → All (λ s. is_nonempty s ≡ true) listed.outputs → All (IsSimplexWithin listed.processes 63) listed.outputs
 outputs_within listed h some =
     all_within listed.processes listed.outputs some
-    (or_second (list_any has_large listed.inputs) (list_any has_large listed.outputs) (or_first (list_any has_large listed.inputs || list_any has_large listed.outputs) (list_any rule_has_large listed.delta) h.small))
-    (and_second (list_all (has_colours listed.processes) listed.inputs) (list_all (has_colours listed.processes) listed.outputs)
-    (and_first (list_all (has_colours listed.processes) listed.inputs && list_all (has_colours listed.processes) listed.outputs) (list_all (λ rule. has_colours listed.processes rule.input) listed.delta) h.colours))
+    (or_parts (list_any has_large listed.inputs) (list_any has_large listed.outputs) (or_parts (list_any has_large listed.inputs || list_any has_large listed.outputs) (list_any rule_has_large listed.delta) h.small).0).1
+    (and_parts (list_all (has_colours listed.processes) listed.inputs) (list_all (has_colours listed.processes) listed.outputs)
+    (and_parts (list_all (has_colours listed.processes) listed.inputs && list_all (has_colours listed.processes) listed.outputs) (list_all (λ rule. has_colours listed.processes rule.input) listed.delta) h.colours).0).1

@@ -6,7 +6,7 @@ use Rattle.std.proofs.lemmas.List.Elements.{All-nil, All-cons, All-head, All-tai
 use Rattle.wf_model.specs.Simplex.{Simplex, processes_of, values_of, is_nonempty, is_ascending, complex_of}
 use Rattle.wf_model.specs.Task.{Rule, Tuple, IsSimplexWithin}
 use Rattle.wf_simplex.specs.Order.{same_simplex}
-use Rattle.wf_simplex.proofs.Reading.{and_first, and_second, and_both}
+use Rattle.std.proofs.lemmas.Bool.{and_parts, and_from, or_parts, not-false}
 use Rattle.wf_task.specs.declared.slots.Slot.{Slot}
 use Rattle.wf_task.specs.declared.slots.Slot.TheVariants.{Missing, Once, Twice}
 use Rattle.wf_task.specs.Draft.{Listed}
@@ -14,7 +14,7 @@ use Rattle.wf_task.specs.Shape.{rule_of}
 use Rattle.wf_task.specs.Slots.{entries_in, lists_at, IsOnly, IsOnceBelow, AreOnly}
 use Rattle.wf_task.specs.Judge.{is_large, has_large, rule_has_large, some_large, is_among, tuples_for, wrong_length, no_output, answer_or, first_answer}
 use Rattle.wf_task.specs.Tuples.{IsTupleOf, AreTuples}
-use Rattle.wf_task.proofs.Judged.{not_false, or_first, or_second, small_values}
+use Rattle.wf_task.proofs.Judged.{small_values}
 use Rattle.wf_task.proofs.Sizes.{copied}
 
 -- ---- the simplex on some processes with these values
@@ -44,9 +44,9 @@ nonempty-zip (v ∷ s) (x ∷ xs) h some = refl
 
 pub zip_within : (n : ℕ) (s : Simplex) (xs : List ℕ) → IsSimplexWithin n 63 s → IsTupleOf (length s) xs → IsSimplexWithin n 63 (zip (processes_of s) xs)
 zip_within n s xs h tuple = record {
-  is_simplex = and_both (is_nonempty (zip (processes_of s) xs)) (is_ascending (processes_of (zip (processes_of s) xs)))
-      (nonempty-zip s xs tuple.long (and_first (is_nonempty s) (is_ascending (processes_of s)) h.is_simplex))
-      (ap is_ascending (processes-zip s xs tuple.long) ∙ and_second (is_nonempty s) (is_ascending (processes_of s)) h.is_simplex);
+  is_simplex = and_from (is_nonempty (zip (processes_of s) xs)) (is_ascending (processes_of (zip (processes_of s) xs)))
+      (nonempty-zip s xs tuple.long (and_parts (is_nonempty s) (is_ascending (processes_of s)) h.is_simplex).0)
+      (ap is_ascending (processes-zip s xs tuple.long) ∙ (and_parts (is_nonempty s) (is_ascending (processes_of s)) h.is_simplex).1);
   processes = subst (All (λ p. p < n)) (sym (processes-zip s xs tuple.long)) h.processes;
   values = subst (All (λ x. x ≤ 63)) (sym (values-zip s xs tuple.long)) tuple.small;
 }
@@ -156,14 +156,14 @@ none_passes {X = X} p n (x ∷ xs) h = by (λ g. none_passes p (n + 1) xs g) (p 
 lists_small : (ts : List Tuple) → list_any (list_any is_large) ts ≡ false → All (All (λ x. x ≤ 63)) ts
 lists_small [] h = All-nil (All (λ x. x ≤ 63))
 lists_small (t ∷ ts) h =
-    All-cons (All (λ x. x ≤ 63)) t ts (small_values t (or_first (list_any is_large t) (list_any (list_any is_large) ts) h)) (lists_small ts (or_second (list_any is_large t) (list_any (list_any is_large) ts) h))
+    All-cons (All (λ x. x ≤ 63)) t ts (small_values t (or_parts (list_any is_large t) (list_any (list_any is_large) ts) h).0) (lists_small ts (or_parts (list_any is_large t) (list_any (list_any is_large) ts) h).1)
 
 tuples_small : (rules : List Rule) (s : Simplex) → list_any rule_has_large rules ≡ false → All (All (λ x. x ≤ 63)) (flat_map (λ rule. rule.tuples) (entries_in rules s))
 tuples_small [] s h = All-nil (All (λ x. x ≤ 63))
 tuples_small (rule ∷ rules) s h =
     by (same_simplex rule.input s)
-    (lists_small rule.tuples (or_second (has_large rule.input) (list_any (list_any is_large) rule.tuples) (or_first (rule_has_large rule) (list_any rule_has_large rules) h)))
-    (tuples_small rules s (or_second (rule_has_large rule) (list_any rule_has_large rules) h))
+    (lists_small rule.tuples (or_parts (has_large rule.input) (list_any (list_any is_large) rule.tuples) (or_parts (rule_has_large rule) (list_any rule_has_large rules) h).0).1)
+    (tuples_small rules s (or_parts (rule_has_large rule) (list_any rule_has_large rules) h).1)
   where
     by : (b : Bool) → All (All (λ x. x ≤ 63)) rule.tuples → All (All (λ x. x ≤ 63)) (flat_map (λ rule. rule.tuples) (entries_in rules s))
         → All (All (λ x. x ≤ 63)) (flat_map (λ rule. rule.tuples) (cond b (rule ∷ entries_in rules s) (entries_in rules s)))
@@ -174,12 +174,12 @@ both : (n : ℕ) (ts : List Tuple) → All (λ t. not (length t == n) ≡ false)
 both n [] long small = All-nil (IsTupleOf n)
 both n (t ∷ ts) long small =
     All-cons (IsTupleOf n) t ts
-    (record { long = eqb-true (length t) n (not_false (length t == n) (All-head (λ t. not (length t == n) ≡ false) t ts long)); small = All-head (All (λ x. x ≤ 63)) t ts small })
+    (record { long = eqb-true (length t) n (not-false (length t == n) (All-head (λ t. not (length t == n) ≡ false) t ts long)); small = All-head (All (λ x. x ≤ 63)) t ts small })
     (both n ts (All-tail (λ t. not (length t == n) ≡ false) t ts long) (All-tail (All (λ x. x ≤ 63)) t ts small))
 
 pub are_tuples : (listed : Listed) (inputs : List Simplex) → first_answer (wrong_length listed) 0 inputs ≡ None → some_large listed ≡ false → AreTuples listed inputs
 are_tuples listed inputs none small = record {
   each = λ i inside. both (length (slice_index_or inputs i [])) (tuples_for listed (slice_index_or inputs i []))
       (none_passes (λ tuple. not (length tuple == length (slice_index_or inputs i []))) 0 (tuples_for listed (slice_index_or inputs i [])) (no_answer (wrong_length listed) 0 inputs none i inside))
-      (tuples_small listed.delta (slice_index_or inputs i []) (or_second (list_any has_large listed.inputs || list_any has_large listed.outputs) (list_any rule_has_large listed.delta) small));
+      (tuples_small listed.delta (slice_index_or inputs i []) (or_parts (list_any has_large listed.inputs || list_any has_large listed.outputs) (list_any rule_has_large listed.delta) small).1);
 }

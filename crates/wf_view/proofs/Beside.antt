@@ -6,21 +6,16 @@ use Rattle.std.specs.Ordering.{nat_cmp}
 use Rattle.std.proofs.lemmas.Bool.{cases_lt, or_cases, false≢true, ne_eqb}
 use Rattle.std.proofs.lemmas.List.{get_or-take, length-take}
 use Rattle.std.proofs.lemmas.List.Sorted.{searched}
-use Rattle.std.proofs.lemmas.List.Elements.{All-get_or}
+use Rattle.std.proofs.lemmas.List.Elements.{All-get_or, All-from_recursion}
 use Rattle.wf_model.specs.Lists.{has}
 use Rattle.wf_model.specs.Simplex.{is_ascending}
 use Rattle.wf_model.proofs.Ascending.{Ascends, ascends_from}
 use Rattle.wf_view.specs.Renaming.{number_beside}
 
-at_place : (P : ℕ → Type 0) (xs : List ℕ) (i : ℕ) → AllByRecursion P xs → i < length xs → P (get_or xs i 0)
-at_place P [] i h k = absurd (let none : ⊥ = omega (arith, k) in none)
-at_place P (x ∷ xs) zero h k = h.0
-at_place P (x ∷ xs) (suc i) h k = at_place P xs i h.1 (omega (arith, k))
-
 not_falling : (xs : List ℕ) → Ascends xs → (i j : ℕ) → i ≤ j → j < length xs → get_or xs i 0 ≤ get_or xs j 0
 not_falling [] h i j low k = absurd (let none : ⊥ = omega (arith, k) in none)
 not_falling (x ∷ xs) h zero zero low k = omega arith
-not_falling (x ∷ xs) h zero (suc j) low k = omega (arith, at_place (λ y. x < y) xs j h.0 (omega (arith, k)))
+not_falling (x ∷ xs) h zero (suc j) low k = omega (arith, All-get_or (λ y. x < y) xs j 0 (omega (arith, k)) (All-from_recursion _ xs h.0))
 not_falling (x ∷ xs) h (suc i) zero low k = absurd (let none : ⊥ = omega (arith, low) in none)
 not_falling (x ∷ xs) h (suc i) (suc j) low k = not_falling xs h.1 i j (omega (arith, low)) (omega (arith, k))
 
@@ -38,7 +33,7 @@ beside_at [] (n ∷ new) i id h k few e = absurd (let none : ⊥ = omega (arith,
 beside_at (x ∷ old) [] i id h k few e = absurd (let none : ⊥ = omega (arith, k) in none)
 beside_at (x ∷ old) (n ∷ new) zero id h k few e = rw (eq-eqb x id e) refl
 beside_at (x ∷ old) (n ∷ new) (suc i) id h k few e =
-    let low : x < get_or old i 0 = at_place (λ y. x < y) old i h.0 (omega (arith, k, few)) in
+    let low : x < get_or old i 0 = All-get_or (λ y. x < y) old i 0 (omega (arith, k, few)) (All-from_recursion _ old h.0) in
     rw (ne_eqb x id (λ same. absurd (let none : ⊥ = omega (arith, low, e, same) in none))) (beside_at old new i id h.1 (omega (arith, k)) (omega (arith, few)) e)
 
 pub each_take : (P : ℕ → Type 0) (n : ℕ) (xs : List ℕ) → AllByRecursion P xs → AllByRecursion P (take n xs)

@@ -6,19 +6,18 @@ use Rattle.std.specs.List.{list_any, AllByRecursion}
 use Rattle.std.specs.Ordering.{nat_cmp}
 use Rattle.std.specs.declared.cmp.Ordering.TheVariants.{Less, Equal, Greater}
 use Rattle.std.proofs.lemmas.Bool.{cases_Bool, or_cases, or_left, or_right, false≢true}
-use Rattle.std.proofs.lemmas.List.{map-append, reverse-append}
+use Rattle.std.proofs.lemmas.List.{length-map, map-append, reverse-append}
 use Rattle.std.proofs.lemmas.List.Elements.{recursion_from_All, All-from_recursion}
 use Rattle.std.proofs.lemmas.Map.Views.{All-insert_key}
 use Rattle.wf_model.specs.Lists.{has}
 use Rattle.wf_model.specs.View.{View, same_view}
-use Rattle.wf_model.proofs.Bridge.{Among, same_itself, weaker}
+use Rattle.wf_model.proofs.Bridge.{Among, same_itself, among_append_left, among_append_right, weaker}
 use Rattle.wf_model.proofs.Headline.{each_map, each_of_map, both}
 use Rattle.wf_model.proofs.Ascending.{Ascends, is_ascending_from}
 use Rattle.wf_model.proofs.Numbers.{Apart}
 use Rattle.wf_view.specs.Views.{view_at, inner_views, views_within}
 use Rattle.wf_view.specs.Renaming.{SawAmong, SawEarlier, AreInside}
-use Rattle.wf_view.proofs.Entries.{length-map}
-use Rattle.wf_view.proofs.Within.{among_left, among_right, among_either, within_itself, within_within, at_most_within, differ}
+use Rattle.wf_view.proofs.Within.{among_either, within_itself, within_within, at_most_within, differ}
 
 -- ---- numbers put into a set
 
@@ -95,7 +94,7 @@ saw_among_more vs a b f id h =
 among_with : (vs : List View) (a b : List ℕ) (x : ℕ) → ((w : View) → Among (map (view_at vs) a) w → Among (map (view_at vs) b) w) → (w : View) → Among (map (view_at vs) (a ++ x ∷ [])) w → Among (map (view_at vs) (b ++ x ∷ [])) w
 among_with vs a b x f w h =
     rw map-append (among_either w (map (view_at vs) a) (view_at vs x ∷ []) (Among (map (view_at vs) b ++ view_at vs x ∷ []) w) (rw map-append at h)
-    (λ k. among_left w (map (view_at vs) b) (view_at vs x ∷ []) (f w k)) (λ k. among_right w (map (view_at vs) b) (view_at vs x ∷ []) k))
+    (λ k. among_append_left w (map (view_at vs) b) (view_at vs x ∷ []) (f w k)) (λ k. among_append_right w (map (view_at vs) b) (view_at vs x ∷ []) k))
 
 saw_earlier_more : (vs : List View) (a b : List ℕ) → ((w : View) → Among (map (view_at vs) a) w → Among (map (view_at vs) b) w) → (ids : List ℕ) → SawEarlier vs a ids → SawEarlier vs b ids
 saw_earlier_more vs a b f [] h = tt
@@ -209,7 +208,7 @@ module _ (vs : List View) (apart : (i j : ℕ) → i < length vs → j < length 
         few =
             let most = at_most_within (view_at vs id) (map (view_at vs) done) (apart_views done now.ascends now.numbers)
             (each_map (Among (views_within (view_at vs id))) (view_at vs) done now.done_within) in
-            omega (arith, most, length-map (view_at vs) done);
+            omega (arith, most, length-map done (view_at vs));
       }
 
 pub greatest_low : (vs : List View) (id : ℕ) (all left_ done : List ℕ) (x : ℕ) → IsCollecting vs id all done → all ≡ left_ ++ x ∷ [] → x < first_of (length vs) done

@@ -1,13 +1,13 @@
 -- What the entries of a table say of its views.
-use Rattle.std.proofs.Common.{◌≡◌, ◌<◌, ◌≤◌, ◌^◌, ℕ, zero, suc, ◌+◌, true, List, [], ◌∷◌, map, length, take, get_or, All, nat_lt, sym, refl, ap, ◌∙◌, subst, arith, ltb-true}
+use Rattle.std.proofs.Common.{◌≡◌, ◌<◌, ◌≤◌, ◌^◌, ℕ, ◌+◌, true, List, [], ◌∷◌, map, length, take, get_or, All, nat_lt, sym, refl, ap, ◌∙◌, subst, arith, ltb-true}
 use Rattle.std.specs.Int.Bits.{bit_or}
 use Rattle.std.specs.List.{AllByRecursion}
 use Rattle.std.proofs.lemmas.Bool.{and_parts, false≢true}
-use Rattle.std.proofs.lemmas.Nat.Bits.{bit_at_or, bit_at-zero, same_from_bits}
+use Rattle.std.proofs.lemmas.List.{get_or-map, length-map}
 use Rattle.std.proofs.lemmas.List.Elements.{recursion_from_All, All-from_recursion}
 use Rattle.wf_model.specs.Lists.{has}
 use Rattle.wf_model.specs.Simplex.{is_ascending}
-use Rattle.wf_model.specs.View.{View, views_of, process_of}
+use Rattle.wf_model.specs.View.{View, base, views_of, process_of}
 use Rattle.wf_view.specs.declared.node.Node.{Node}
 use Rattle.wf_view.specs.Views.{view_at, view_seen, list_of, inner_views, colours_of, colours_of_each}
 use Rattle.wf_view.specs.Table.{base_node, seen_node, padded, node_view, shown, IsEntry, is_base, is_seen, AreEntriesFrom, colours_at}
@@ -67,17 +67,13 @@ each_low : (xs : List Node) → AreEntriesFrom 0 xs → (ids : List ℕ) → All
 each_low xs entries [] h = tt
 each_low xs entries (k ∷ ids) h = (process_low xs entries k (base_node 0 0) (subst (λ n. k < n) (length-shown xs) h.0), each_low xs entries ids h.1)
 
-pub length-map : {X Y : Type 0} (f : X → Y) (xs : List X) → length (map f xs) ≡ length xs
-length-map f [] = refl
-length-map f (x ∷ xs) = ap suc (length-map f xs)
-
 short : (ps : List ℕ) → is_ascending ps ≡ true → AllByRecursion (λ q. q ≤ 3) ps → length ps ≤ 4
 short [] h low = omega arith
 short (p ∷ ps) h low = omega (arith, ascending_short p ps h low)
 
 few_parts : (xs : List Node) → AreEntriesFrom 0 xs → (ids : List ℕ) → All (λ k. k < length (shown xs)) ids → is_ascending (map (λ k. process_of (view_at (shown xs) k)) ids) ≡ true → length ids ≤ 4
 few_parts xs entries ids within h =
-    subst (λ n. n ≤ 4) (length-map (λ k. process_of (view_at (shown xs) k)) ids) (short (map (λ k. process_of (view_at (shown xs) k)) ids) h (each_low xs entries ids (recursion_from_All _ ids within)))
+    subst (λ n. n ≤ 4) (length-map ids (λ k. process_of (view_at (shown xs) k))) (short (map (λ k. process_of (view_at (shown xs) k)) ids) h (each_low xs entries ids (recursion_from_All _ ids within)))
 
 some_parts : (f : ℕ → ℕ) (ids : List ℕ) (p : ℕ) → has (map f ids) p ≡ true → 0 < length ids
 some_parts f [] p h = absurd (false≢true h)
@@ -85,20 +81,9 @@ some_parts f (k ∷ ids) p h = omega arith
 
 -- ---- processes
 
-pub or_assoc : (a b c : ℕ) → bit_or (bit_or a b) c ≡ bit_or a (bit_or b c)
-or_assoc a b c = same_from_bits _ _ (λ i. omega (arith, bit_at_or (bit_or a b) c i, bit_at_or a b i, bit_at_or a (bit_or b c) i, bit_at_or b c i))
-
-pub or_zero : (a : ℕ) → bit_or a 0 ≡ a
-or_zero a = same_from_bits _ _ (λ i. omega (arith, bit_at_or a 0 i, bit_at-zero i))
-
-pub get_or-map : (vs : List View) (n : ℕ) → n < length vs → get_or (map colours_of vs) n 0 ≡ colours_of (view_at vs n)
-get_or-map [] n h = absurd (let none : ⊥ = omega (arith, h) in none)
-get_or-map (v ∷ vs) zero h = refl
-get_or-map (v ∷ vs) (suc n) h = get_or-map vs n (omega (arith, h))
-
 colours_at-views : (vs : List View) (ids : List ℕ) → AllByRecursion (λ k. k < length vs) ids → colours_at (map colours_of vs) ids ≡ colours_of_each (views_of (map (view_at vs) ids))
 colours_at-views vs [] h = refl
-colours_at-views vs (k ∷ ids) h = λ i. bit_or (get_or-map vs k h.0 i) (colours_at-views vs ids h.1 i)
+colours_at-views vs (k ∷ ids) h = λ i. bit_or (get_or-map colours_of vs k (base 0 0) 0 h.0 i) (colours_at-views vs ids h.1 i)
 
 -- the processes in the view of one that saw these
 pub colours_of-seen : (vs : List View) (p : ℕ) (ids : List ℕ) → All (λ k. k < length vs) ids → 0 < length ids → length ids ≤ 4 → bit_or (2 ^ p) (colours_at (map colours_of vs) ids) ≡ colours_of (node_view vs (seen_node p ids))

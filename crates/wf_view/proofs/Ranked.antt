@@ -3,14 +3,17 @@ use Rattle.std.proofs.Common.{◌≡◌, ◌<◌, ◌≤◌, ◌==◌, ◌||◌,
 use Rattle.std.specs.Int.{bit_at}
 use Rattle.std.specs.List.{list_any, AllByRecursion}
 use Rattle.std.proofs.Math.ListN.{get_or-append}
-use Rattle.std.proofs.lemmas.Bool.{cases_Bool, or_parts, false_from_ne_true, both_ways}
+use Rattle.std.proofs.lemmas.Bool.{cases_Bool, or_parts, both_ways}
 use Rattle.std.proofs.lemmas.Nat.Bits.{bit_at_or, bit_at-zero, bit_at-lt, bit_at-pow_same, bit_at-pow_other}
-use Rattle.std.proofs.lemmas.List.Elements.{recursion_from_All, All-from_recursion}
+use Rattle.std.proofs.lemmas.List.{take_all}
+use Rattle.std.proofs.lemmas.Option.{slice_get_within, get_or_from_slice_get}
+use Rattle.std.proofs.lemmas.List.Elements.{recursion_from_All, All-from_recursion, All-get_or}
 use Rattle.wf_model.specs.Lists.{below, has}
 use Rattle.wf_model.specs.View.{View, base, seen, Views, no_views, view, same_view, occurs, occurs_in, renamed, rank, normal}
 use Rattle.wf_model.specs.Problem.{number_of}
-use Rattle.wf_model.proofs.Bridge.{Among, same_is, same_itself, weaker}
-use Rattle.wf_model.proofs.Numbers.{Apart}
+use Rattle.wf_model.proofs.Bridge.{Among, same_itself, weaker}
+use Rattle.wf_model.proofs.Headline.{each_append}
+use Rattle.wf_model.proofs.Numbers.{Apart, other_way}
 use Rattle.wf_view.specs.Views.{view_at, with_view, inner_views, colours_of, colours_of_each, count_within}
 use Rattle.wf_view.specs.Renaming.{rank_in, SawAmong, SawEarlier, AreInside, number_beside, AreRenamed}
 use Rattle.wf_view.proofs.Shown.{views_at_front}
@@ -59,30 +62,19 @@ renamed-normal v = λ i. renamed (λ p. ranked v p i) v
 
 -- ---- tables in which no view stands twice
 
-each_push : (P : View → Type 0) (ws : List View) (v : View) → AllByRecursion P ws → P v → AllByRecursion P (ws ++ v ∷ [])
-each_push P [] v h k = (k, tt)
-each_push P (w ∷ ws) v h k = (h.0, each_push P ws v h.1 k)
-
-other_way : (v w : View) → same_view v w ≡ false → same_view w v ≡ false
-other_way v w h = false_from_ne_true (same_view w v) (λ same. both_ways _ h (subst (λ x. same_view x w ≡ true) (same_is w v same) (same_itself w)))
-
 apart_push : (ws : List View) (v : View) → Apart ws → list_any (same_view v) ws ≡ false → Apart (ws ++ v ∷ [])
 apart_push [] v h new = (tt, tt)
 apart_push (w ∷ ws) v h new =
     let parts = or_parts (same_view v w) (list_any (same_view v) ws) new in
-    (each_push (λ x. same_view w x ≡ false) ws v h.0 (other_way v w parts.0), apart_push ws v h.1 parts.1)
+    (each_append (λ x. same_view w x ≡ false) ws (v ∷ []) h.0 (other_way v w parts.0, tt), apart_push ws v h.1 parts.1)
 
-view_of_each : (P : View → Type 0) (ws : List View) (n : ℕ) → AllByRecursion P ws → n < length ws → P (view_at ws n)
-view_of_each P [] n h k = absurd (let none : ⊥ = omega (arith, k) in none)
-view_of_each P (w ∷ ws) zero h k = h.0
-view_of_each P (w ∷ ws) (suc n) h k = view_of_each P ws n h.1 (omega (arith, k))
-
-number_of-at : (ws : List View) (n : ℕ) → Apart ws → n < length ws → number_of ws (view_at ws n) ≡ n
+-- the number of the view at a place is the place
+pub number_of-at : (ws : List View) (n : ℕ) → Apart ws → n < length ws → number_of ws (view_at ws n) ≡ n
 number_of-at [] n h k = absurd (let none : ⊥ = omega (arith, k) in none)
 number_of-at (w ∷ ws) zero h k = rw (same_itself w) refl
 number_of-at (w ∷ ws) (suc n) h k =
     let low : n < length ws = omega (arith, k) in
-    rw (other_way w (view_at ws n) (view_of_each (λ x. same_view w x ≡ false) ws n h.0 low)) (ap suc (number_of-at ws n h.1 low))
+    rw (other_way w (view_at ws n) (All-get_or (λ x. same_view w x ≡ false) ws n (base 0 0) low (All-from_recursion _ ws h.0))) (ap suc (number_of-at ws n h.1 low))
 
 -- ---- one view more
 
@@ -129,22 +121,6 @@ saw_at vs before (id ∷ ids) zero h low = subst (SawAmong vs id) (sym (append-n
 saw_at vs before (id ∷ ids) (suc k) h low =
     subst (SawAmong vs (get_or ids k 0)) (append_assoc before (id ∷ []) (take k ids)) (saw_at vs (before ++ id ∷ []) ids k h.1 (omega (arith, low)))
 
-number_at : (P : ℕ → Type 0) (xs : List ℕ) (i : ℕ) → AllByRecursion P xs → i < length xs → P (get_or xs i 0)
-number_at P [] i h k = absurd (let none : ⊥ = omega (arith, k) in none)
-number_at P (x ∷ xs) zero h k = h.0
-number_at P (x ∷ xs) (suc i) h k = number_at P xs i h.1 (omega (arith, k))
-
-slice_get-is : (ws : List View) (n : ℕ) (v : View) → slice_get ws n ≡ Some v → (n < length ws) × (view_at ws n ≡ v)
-slice_get-is [] n v h = absurd (let none : ⊥ = cc in none)
-slice_get-is (w ∷ ws) zero v h = (omega arith, (cc))
-slice_get-is (w ∷ ws) (suc n) v h = (let rest = slice_get-is ws n v h in (omega (arith, rest.0), rest.1))
-
-take_whole : (m : ℕ) (xs : List ℕ) → length xs ≤ m → take m xs ≡ xs
-take_whole zero [] h = refl
-take_whole zero (x ∷ xs) h = absurd (let none : ⊥ = omega (arith, h) in none)
-take_whole (suc m) [] h = refl
-take_whole (suc m) (x ∷ xs) h = ap (λ ys. x ∷ ys) (take_whole m xs (omega (arith, h)))
-
 -- ---- all views inside a view
 
 -- the table after k of the views inside got theirs
@@ -177,7 +153,7 @@ module _ (vs ws : List View) (processes id : ℕ) (inside numbers : List ℕ) (k
   all_there = All-from_recursion (λ j. j < length ws) inside still_there
 
   pub this_there : k < length inside → get_or inside k 0 < length ws
-  this_there h = number_at (λ j. j < length ws) inside k still_there h
+  this_there h = All-get_or (λ j. j < length ws) inside k 0 h all_there
 
   pub room_left : (count : ℕ) → k < length inside → length inside ≤ count → length vs + count ≤ 4294967295 → length ws < 4294967295
   room_left count h most room = omega (arith, longer, now.few, h, most, room)
@@ -187,7 +163,7 @@ module _ (vs ws : List View) (processes id : ℕ) (inside numbers : List ℕ) (k
       let saw : SawAmong vs (get_or inside k 0) (take k inside) = saw_at vs [] inside k are_inside.parts h in
       subst (λ n. SawAmong ws (get_or inside k 0) (take n inside)) (sym now.long)
       (subst (λ us. SawAmong us (get_or inside k 0) (take k inside)) (sym now.grown)
-      (saw_among_front vs now.more (get_or inside k 0) (take k inside) (number_at (λ j. j < length vs) inside k there h) (each_take (λ j. j < length vs) k inside there) saw))
+      (saw_among_front vs now.more (get_or inside k 0) (take k inside) (All-get_or (λ j. j < length vs) inside k 0 h are_inside.numbers) (each_take (λ j. j < length vs) k inside there) saw))
 
   pub renaming_more : (after : List View) (numbers_after : List ℕ) (n : ℕ) → k < length inside → after ≡ with_view ws (renamed (rank_in processes) (view_at ws (get_or inside k 0))) →
       slice_get after n ≡ Some (renamed (rank_in processes) (view_at ws (get_or inside k 0))) → numbers_after ≡ numbers ++ n ∷ [] → IsRenaming vs after processes inside numbers_after (k + 1)
@@ -195,10 +171,11 @@ module _ (vs ws : List View) (processes id : ℕ) (inside numbers : List ℕ) (k
       let g = rank_in processes in
       let x = get_or inside k 0 in
       let by_one = with_view_grows ws after (renamed (rank_in processes) (view_at ws (get_or inside k 0))) now.once table in
-      let at = slice_get-is after n (renamed (rank_in processes) (view_at ws (get_or inside k 0))) stands in
+      let low : n < length after = slice_get_within after n (renamed (rank_in processes) (view_at ws (get_or inside k 0))) stands in
+      let at : view_at after n ≡ renamed (rank_in processes) (view_at ws (get_or inside k 0)) = get_or_from_slice_get after n (renamed (rank_in processes) (view_at ws (get_or inside k 0))) (base 0 0) stands in
       let same : view_at after (get_or inside k 0) ≡ view_at ws (get_or inside k 0) = ap (λ us. view_at us (get_or inside k 0)) by_one.grown ∙ view_at-front ws by_one.more x (this_there h) in
       let place : view_at after n ≡ renamed (rank_in processes) (view_at after (get_or inside (length numbers) 0)) =
-      at.1 ∙ ap (renamed g) (sym same) ∙ ap (λ j. renamed g (view_at after (get_or inside j 0))) (sym now.long) in
+      at ∙ ap (renamed g) (sym same) ∙ ap (λ j. renamed g (view_at after (get_or inside j 0))) (sym now.long) in
       let old_ones : AreRenamed after (rank_in processes) inside numbers = subst (λ us. AreRenamed us (rank_in processes) inside numbers) (sym by_one.grown) (are_renamed_more ws by_one.more g inside numbers still_there now.are) in
       let short : length numbers < length inside = omega (arith, now.long, h) in
       record {
@@ -207,7 +184,7 @@ module _ (vs ws : List View) (processes id : ℕ) (inside numbers : List ℕ) (k
         few = omega (arith, length-append now.more by_one.more, now.few, by_one.few);
         long = ap length pushed ∙ length-append numbers (n ∷ []) ∙ ap (λ j. j + 1) now.long;
         once = by_one.once;
-        are = subst (AreRenamed after (rank_in processes) inside) (sym pushed) (are_renamed_push after g inside numbers n old_ones short at.0 place);
+        are = subst (AreRenamed after (rank_in processes) inside) (sym pushed) (are_renamed_push after g inside numbers n old_ones short low place);
       }
 
   -- the views that were added, which are no more than the views inside
@@ -215,7 +192,7 @@ module _ (vs ws : List View) (processes id : ℕ) (inside numbers : List ℕ) (k
   grows after same h = (now.more, same ∙ now.grown, omega (arith, now.few, h, are_inside.few))
 
   pub itself_known : length inside ≤ k → has (take (length numbers) inside) id ≡ true
-  itself_known all = ap (λ ks. has ks id) (take_whole (length numbers) inside (omega (arith, now.long, all))) ∙ are_inside.itself
+  itself_known all = ap (λ ks. has ks id) (take_all (length numbers) inside (omega (arith, now.long, all))) ∙ are_inside.itself
 
   -- the number of the normal view, when all are done
   pub renaming_all : (n : ℕ) → n ≡ number_beside inside numbers id → length inside ≤ k → id < length vs → processes ≡ colours_of (view_at vs id) →

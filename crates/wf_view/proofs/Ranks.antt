@@ -1,21 +1,15 @@
 -- Ranks of processes in a set of them.
-use Rattle.std.proofs.Common.{◌≡◌, ◌≤◌, ◌+◌, ◌==◌, ◌/◌, ◌^◌, ℕ, zero, suc, Bool, true, false, [], ◌∷◌, ◌++◌, filter, length, cond, sym, refl, ap, ◌∙◌, arith, length-append, eq-eqb}
+use Rattle.std.proofs.Common.{◌≡◌, ◌≤◌, ◌+◌, ◌==◌, ◌/◌, ◌^◌, ℕ, Bool, true, false, [], ◌∷◌, filter, length, cond, sym, refl, ap, ◌∙◌, arith, length-append, eq-eqb}
 use Rattle.std.specs.Int.Bits.{bit_and}
 use Rattle.std.proofs.lemmas.Bool.{ne_eqb}
 use Rattle.std.proofs.lemmas.Nat.Bits.{shr_and_one}
 use Rattle.std.specs.Int.{bit_at}
-use Rattle.std.specs.List.{range_with_len}
 use Rattle.std.proofs.lemmas.List.Elements.{filter-append}
+use Rattle.std.proofs.lemmas.List.FromFn.{length-range_with_len}
 use Rattle.wf_model.specs.Lists.{below}
+use Rattle.wf_model.proofs.Basics.{below_next}
 use Rattle.wf_model.proofs.Fuel.{length_filter}
 use Rattle.wf_view.specs.Renaming.{rank_in}
-
-range_next : (a n : ℕ) → range_with_len a (n + 1) ≡ range_with_len a n ++ (a + n) ∷ []
-range_next a zero = let e : a + 0 ≡ a = omega arith in rw e refl
-range_next a (suc n) = let e : suc n + 1 ≡ suc (n + 1) = omega arith in let f : (a + 1) + n ≡ a + suc n = omega arith in rw e (rw (← f) (ap (λ xs. a ∷ xs) (range_next (a + 1) n)))
-
-below_next : (n : ℕ) → below (n + 1) ≡ below n ++ n ∷ []
-below_next n = let e : 0 + n ≡ n = omega arith in range_next 0 n ∙ ap (λ x. below n ++ x ∷ []) e
 
 pub rank_in-next : (s p : ℕ) → rank_in s (p + 1) ≡ rank_in s p + cond (bit_at s p == 1) 1 0
 rank_in-next s p =
@@ -27,13 +21,9 @@ rank_in-next s p =
     last true = refl
     last false = refl
 
-length-range : (a n : ℕ) → length (range_with_len a n) ≡ n
-length-range a zero = refl
-length-range a (suc n) = ap suc (length-range (a + 1) n)
-
 -- a rank is at most the process
 pub rank_in-low : (s p : ℕ) → rank_in s p ≤ p
-rank_in-low s p = omega (arith, length_filter (λ q. bit_at s q == 1) (below p), length-range 0 p)
+rank_in-low s p = omega (arith, length_filter (λ q. bit_at s q == 1) (below p), length-range_with_len 0 p)
 
 -- one process more, which is in the set
 pub rank_in-with : (s p r after : ℕ) → r ≡ rank_in s p → after ≡ r + 1 → bit_and (s / 2 ^ p) 1 ≡ 1 → after ≡ rank_in s (p + 1)

@@ -1,8 +1,9 @@
 -- The entry of a renamed view.
 use Rattle.std.proofs.Common.{◌≡◌, ◌<◌, ◌≤◌, ◌==◌, ◌^◌, ℕ, true, List, [], ◌∷◌, map, length, take, get_or, All, sym, refl, ap, ◌∙◌, subst, inl, inr, arith, eqb-true, eq-eqb}
-use Rattle.std.specs.Int.Bits.{bit_or}
+use Rattle.std.specs.Int.Bits.{bit_or, or_zero_r}
 use Rattle.std.specs.List.{list_any, AllByRecursion}
 use Rattle.std.proofs.lemmas.Bool.{cases_Bool, or_cases, or_left, or_right, both_ways, false≢true}
+use Rattle.std.proofs.lemmas.List.{length-map}
 use Rattle.std.proofs.lemmas.List.Elements.{recursion_from_All, All-from_recursion}
 use Rattle.wf_model.specs.Lists.{has}
 use Rattle.wf_model.specs.View.{View, seen, view, views_of, same_view, renamed, renamed_each}
@@ -14,7 +15,7 @@ use Rattle.wf_view.specs.Table.{seen_node, node_view, shown, IsEntry, is_base, i
 use Rattle.wf_view.specs.Renaming.{rank_in, SawAmong, number_beside, AreRenamed, renumbered_node}
 use Rattle.wf_view.proofs.Shown.{node_view-seen}
 use Rattle.wf_view.proofs.Once.{IsOnce, apart_in_table}
-use Rattle.wf_view.proofs.Entries.{take-padded, length-map, or_zero, colours_of-seen, entry_read, view_read, parts_read, earlier_read}
+use Rattle.wf_view.proofs.Entries.{take-padded, colours_of-seen, entry_read, view_read, parts_read, earlier_read}
 use Rattle.wf_view.proofs.Ranks.{rank_in-low}
 use Rattle.wf_view.proofs.Beside.{each_take}
 
@@ -38,7 +39,7 @@ module _ (vs : List View) (g f : ℕ → ℕ) (low : (p : ℕ) → g p ≤ p) wh
       let there : AllByRecursion IsNew ids = subst (AllByRecursion IsNew) (take-padded ids few) known in
       let numbers : AllByRecursion (λ k. k < length vs) (map f ids) = each_map (λ k. k < length vs) f ids (weaker IsNew (λ k. f k < length vs) (λ k is. is.0) ids there) in
       subst (IsEntry (length vs)) (sym (renumbered-seen (g p) p f ids few))
-      (is_seen (g p) (map f ids) (omega (arith, h, low p)) (omega (arith, some, length-map f ids)) (omega (arith, few, length-map f ids)) (All-from_recursion (λ k. k < length vs) (map f ids) numbers))
+      (is_seen (g p) (map f ids) (omega (arith, h, low p)) (omega (arith, some, length-map ids f)) (omega (arith, few, length-map ids f)) (All-from_recursion (λ k. k < length vs) (map f ids) numbers))
 
   views_renamed : (ids : List ℕ) → AllByRecursion IsNew ids → views_of (map (view_at vs) (map f ids)) ≡ renamed_each g (views_of (map (view_at vs) ids))
   views_renamed [] h = refl
@@ -49,12 +50,12 @@ module _ (vs : List View) (g f : ℕ → ℕ) (low : (p : ℕ) → g p ≤ p) wh
   new_view n node (is_seen p ids h some few earlier) known =
       let there : AllByRecursion IsNew ids = subst (AllByRecursion IsNew) (take-padded ids few) known in
       ap (node_view vs) (renumbered-seen (g p) p f ids few)
-      ∙ node_view-seen vs (g p) (map f ids) (omega (arith, some, length-map f ids)) (omega (arith, few, length-map f ids))
+      ∙ node_view-seen vs (g p) (map f ids) (omega (arith, some, length-map ids f)) (omega (arith, few, length-map ids f))
       ∙ ap (seen (g p)) (views_renamed ids there)
       ∙ sym (ap (renamed g) (node_view-seen vs p ids some few))
 
 pub entry_colours : (vs : List View) (node : Node) → IsEntry (length vs) node → bit_or (2 ^ node.process) (colours_at (map colours_of vs) (take node.count node.ids)) ≡ colours_of (node_view vs node)
-entry_colours vs node (is_base p x h) = or_zero (2 ^ p)
+entry_colours vs node (is_base p x h) = or_zero_r (2 ^ p)
 entry_colours vs node (is_seen p ids h some few earlier) =
     ap (λ ks. bit_or (2 ^ p) (colours_at (map colours_of vs) ks)) (take-padded ids few) ∙ colours_of-seen vs p ids earlier some few
 

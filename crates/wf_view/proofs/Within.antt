@@ -4,22 +4,13 @@ use Rattle.std.specs.List.{list_any, AllByRecursion}
 use Rattle.std.proofs.lemmas.Bool.{cases_Bool, or_cases, or_left, or_right, both_ways, false≢true, false_from_ne_true}
 use Rattle.wf_model.specs.Lists.{distinct}
 use Rattle.wf_model.specs.View.{View, base, seen, Views, no_views, view, same_view}
-use Rattle.wf_model.proofs.Bridge.{Among, same_is, same_itself, among_distinct, weaker}
+use Rattle.wf_model.proofs.Bridge.{Among, same_is, same_itself, among_filtered, among_distinct, among_append_left, among_append_right, weaker}
 use Rattle.wf_model.proofs.Headline.{both}
 use Rattle.wf_model.proofs.Fuel.{length_filter}
-use Rattle.wf_model.proofs.Numbers.{Apart}
+use Rattle.wf_model.proofs.Numbers.{Apart, other_way}
 use Rattle.wf_view.specs.Views.{view_at, list_of, inner_views, views_within, views_within_each, count_within}
 
 -- ---- what is inside what is inside
-
-pub among_left : (v : View) (xs ys : List View) → Among xs v → Among (xs ++ ys) v
-among_left v [] ys h = absurd (false≢true h)
-among_left v (x ∷ xs) ys h =
-    elim (or_cases (same_view v x) (list_any (same_view v) xs) h) [ inl here ↦ or_left _ _ here | inr later ↦ or_right _ _ (among_left v xs ys later) ]
-
-pub among_right : (v : View) (xs ys : List View) → Among ys v → Among (xs ++ ys) v
-among_right v [] ys h = h
-among_right v (x ∷ xs) ys h = or_right _ _ (among_right v xs ys h)
 
 pub among_either : (v : View) (xs ys : List View) → (G : Type 0) → Among (xs ++ ys) v → (Among xs v → G) → (Among ys v → G) → G
 among_either v [] ys G h left right = right h
@@ -36,8 +27,8 @@ within_itself (seen p vs) = or_left _ _ (same_itself (seen p vs))
 each_within : (vs : Views) → AllByRecursion (Among (views_within_each vs)) (list_of vs)
 each_within no_views = tt
 each_within (view v vs) = (
-  among_left v (views_within v) (views_within_each vs) (within_itself v),
-  weaker (Among (views_within_each vs)) (Among (views_within v ++ views_within_each vs)) (λ w h. among_right w (views_within v) (views_within_each vs) h) (list_of vs) (each_within vs),
+  among_append_left v (views_within v) (views_within_each vs) (within_itself v),
+  weaker (Among (views_within_each vs)) (Among (views_within v ++ views_within_each vs)) (λ w h. among_append_right w (views_within v) (views_within_each vs) h) (list_of vs) (each_within vs),
 )
 
 -- the views that a view saw are inside it
@@ -61,24 +52,10 @@ mutual
   within_each no_views u h = absurd (false≢true h)
   within_each (view v vs) u h =
       among_either u (views_within v) (views_within_each vs) (AllByRecursion (Among (views_within v ++ views_within_each vs)) (inner_views u)) h
-      (λ k. weaker (Among (views_within v)) (Among (views_within v ++ views_within_each vs)) (λ w a. among_left w (views_within v) (views_within_each vs) a) (inner_views u) (within_within v u k))
-      (λ k. weaker (Among (views_within_each vs)) (Among (views_within v ++ views_within_each vs)) (λ w a. among_right w (views_within v) (views_within_each vs) a) (inner_views u) (within_each vs u k))
+      (λ k. weaker (Among (views_within v)) (Among (views_within v ++ views_within_each vs)) (λ w a. among_append_left w (views_within v) (views_within_each vs) a) (inner_views u) (within_within v u k))
+      (λ k. weaker (Among (views_within_each vs)) (Among (views_within v ++ views_within_each vs)) (λ w a. among_append_right w (views_within v) (views_within_each vs) a) (inner_views u) (within_each vs u k))
 
 -- ---- counting views that differ
-
-among_others : (w v : View) (zs : List View) → same_view w v ≡ false → Among zs v → Among (filter (λ z. not (same_view w z)) zs) v
-among_others w v [] other h = h
-among_others w v (z ∷ zs) other h =
-    elim (cases_Bool (same_view w z)) [
-      | inl same ↦ rw same (among_others w v zs other (elim (or_cases (same_view v z) (list_any (same_view v) zs) h) [
-        | inl here ↦ absurd (both_ways _ other (rw (same_is v z here) same))
-        | inr later ↦ later
-      ]))
-      | inr apart ↦ rw apart (elim (or_cases (same_view v z) (list_any (same_view v) zs) h) [
-        | inl here ↦ or_left _ _ here
-        | inr later ↦ or_right _ _ (among_others w v zs other later)
-      ])
-    ]
 
 fewer_others : (w : View) (zs : List View) → Among zs w → length (filter (λ z. not (same_view w z)) zs) < length zs
 fewer_others w [] h = absurd (false≢true h)
@@ -89,11 +66,11 @@ fewer_others w (z ∷ zs) h =
     ]
 
 -- views that differ and are all among others are no more than those
-no_more : (ws zs : List View) → Apart ws → AllByRecursion (Among zs) ws → length ws ≤ length zs
+pub no_more : (ws zs : List View) → Apart ws → AllByRecursion (Among zs) ws → length ws ≤ length zs
 no_more [] zs h k = omega arith
 no_more (w ∷ ws) zs h k =
     let rest = no_more ws (filter (λ z. not (same_view w z)) zs) h.1
-    (both (λ v. same_view w v ≡ false) (Among zs) (Among (filter (λ z. not (same_view w z)) zs)) (λ v other there. among_others w v zs other there) ws h.0 k.1) in
+    (both (λ v. same_view w v ≡ false) (Among zs) (Among (filter (λ z. not (same_view w z)) zs)) (λ v other there. among_filtered v w zs (other_way w v other) there) ws h.0 k.1) in
     omega (arith, rest, fewer_others w zs k.0)
 
 -- views that differ and are all inside v are at most so many

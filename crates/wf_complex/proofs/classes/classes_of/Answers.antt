@@ -1,4 +1,5 @@
 use Rattle.std.proofs.Common.{◌≡◌, ◌<◌, ◌≤◌, length, map, slice_index, All, ap, sym, ◌∙◌, subst, arith, rules}
+use Rattle.std.proofs.lemmas.List.{length-map}
 use Rattle.wf_model.specs.View.{normal}
 use Rattle.wf_view.specs.Views.{view_at, count_within}
 use Rattle.wf_complex.specs.Rounds.{views_at}
@@ -6,7 +7,6 @@ use Rattle.wf_complex.specs.Numbering.{first_places}
 use Rattle.wf_complex.proofs.Different.{firsts_low, few_firsts, all_picked, length-distinct_views}
 use Rattle.wf_complex.proofs.ClassLemmas.{classes_are_views, classes_are_normals, low_places}
 use Rattle.wf_complex.proofs.classes.classes_of.Goals as goal
-use Rattle.wf_model.proofs.Bridge.{length_map}
 
 pub overflow_cast-view_count : goal.overflow_cast-view_count
 overflow_cast-view_count c =
@@ -55,7 +55,7 @@ pub normals_of-requires-clause-room : goal.normals_of-requires-clause-room
 normals_of-requires-clause-room c =
     let found : c.deref-4.result.now ≡ map (λ j. slice_index c.deref-2.result.now j) c.deref-3.result.now = c.deref-4.ensures.value ∙ c.in_ok-found.ensures in
     let few = few_firsts c.deref.result.now c.in_ok-different.different.firsts.items c.in_ok-different.ensures.firsts in
-    omega (arith, ap length found, length_map (λ j. slice_index c.deref-2.result.now j) c.deref-3.result.now, ap length c.deref-3.ensures.value, few, ap length c.deref.ensures.value, c.requires.room)
+    omega (arith, ap length found, length-map c.deref-3.result.now (λ j. slice_index c.deref-2.result.now j), ap length c.deref-3.ensures.value, few, ap length c.deref.ensures.value, c.requires.room)
 
 pub returns-clause-within : goal.returns-clause-within
 returns-clause-within c =

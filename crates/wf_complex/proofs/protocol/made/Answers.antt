@@ -1,5 +1,6 @@
 use Rattle.std.proofs.Common.{◌≡◌, ◌<◌, ◌≤◌, map, flat_map, length, All, slice_index, sym, ap, ◌∙◌, subst, arith}
 use Rattle.std.specs.List.{enumerate_from}
+use Rattle.std.proofs.lemmas.List.{length-map}
 use Rattle.std.proofs.lemmas.List.Elements.{All-from_recursion}
 use Rattle.wf_complex.specs.Layout.{laid_out}
 use Rattle.wf_complex.specs.Classes.{class_by}
@@ -9,7 +10,6 @@ use Rattle.wf_complex.proofs.Different.{firsts_low, few_firsts, all_picked}
 use Rattle.wf_complex.proofs.Kept.{all_sized, all_small, few_views, few_lasts, lasts_end, few_laid, length-marked, length-classed, is_protocol}
 use Rattle.wf_complex.proofs.Depth.{lasts_shallow}
 use Rattle.wf_complex.proofs.protocol.made.Goals as goal
-use Rattle.wf_model.proofs.Bridge.{length_map}
 
 pub last_views-requires : goal.last_views-requires
 last_views-requires c =
@@ -83,11 +83,11 @@ invariant_of-result c =
     let marked : c.in_ok-places.places.items ≡ flat_map (places_on c.last_views.new.views c.in_ok-lasts.lasts.items) (enumerate_from 0 (laid_out c.args.rounds 0 0 c.args.inputs.now)) =
     c.in_ok-places.ensures ∙ (λ i. flat_map (places_on c.last_views.new.views (c.deref.ensures.value i)) (enumerate_from 0 ((c.deref-2.ensures.value ∙ c.in_ok-executions.ensures) i))) in
     let many : length c.in_ok-numbered.numbered.places.items ≡ length c.in_ok-ids.ids.ids.items =
-    sym (length_map (λ p. slice_index c.deref-3.result.now (slice_index c.in_ok-numbered.numbered.firsts.items p)) numbers) ∙ ap length (c.in_ok-numbered.ensures.numbers ∙ c.deref-3.ensures.value) in
+    sym (length-map numbers (λ p. slice_index c.deref-3.result.now (slice_index c.in_ok-numbered.numbered.firsts.items p))) ∙ ap length (c.in_ok-numbered.ensures.numbers ∙ c.deref-3.ensures.value) in
     let same = length-classed r inputs c.requires.executions sized table lasts made (class_by c.args.symmetric) c.classes_of.new.views cs c.in_ok-ids.ensures.classes in
     let few = few_lasts r inputs c.requires.executions sized table lasts made in
     let pointed : length c.in_ok-places.places.items ≡ length c.in_ok-numbered.numbered.places.items = ap length marked ∙ length-marked r inputs c.requires.executions sized table lasts made ∙ sym same ∙ sym many in
-    let views : length c.in_ok-classes.classes.items ≡ length c.in_ok-numbered.numbered.firsts.items = ap length picked ∙ length_map (λ j. slice_index c.in_ok-ids.ids.ids.items j) firsts in
+    let views : length c.in_ok-classes.classes.items ≡ length c.in_ok-numbered.numbered.firsts.items = ap length picked ∙ length-map firsts (λ j. slice_index c.in_ok-ids.ids.ids.items j) in
     record {
       pointed = pointed;
       within =
@@ -108,7 +108,7 @@ returns c = λ t given named whole.
     c.in_ok-numbered.ensures.firsts ∙ (λ i. first_places (c.deref-3.ensures.value i) (length (c.deref-3.ensures.value i))) in
     let found : map (λ p. slice_index c.in_ok-ids.ids.ids.items (slice_index c.in_ok-numbered.numbered.firsts.items p)) c.in_ok-numbered.numbered.places.items ≡ c.in_ok-ids.ids.ids.items =
     sym (λ i. map (λ p. slice_index (c.deref-3.ensures.value i) (slice_index c.in_ok-numbered.numbered.firsts.items p)) c.in_ok-numbered.numbered.places.items) ∙ c.in_ok-numbered.ensures.numbers ∙ c.deref-3.ensures.value in
-    is_protocol t r inputs given c.args.symmetric named whole (all_sized inputs c.requires.simplices)
+    is_protocol t r inputs given c.args.symmetric named whole
     c.last_views.new.views c.in_ok-lasts.lasts.items c.in_ok-lasts.ensures.made
     c.in_ok-executions.executions.items c.in_ok-executions.ensures c.in_ok-places.places.items
     (c.in_ok-places.ensures ∙ (λ i. flat_map (places_on c.last_views.new.views (c.deref.ensures.value i)) (enumerate_from 0 (c.deref-2.ensures.value i))))

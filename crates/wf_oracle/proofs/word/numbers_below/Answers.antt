@@ -1,5 +1,5 @@
 use Rattle.std.proofs.Common.{arith}
-use Rattle.wf_oracle.proofs.Ranges.{below_next}
+use Rattle.wf_model.proofs.Basics.{below_next}
 use Rattle.wf_oracle.proofs.word.numbers_below.Goals as goal
 
 pub loop-number-preserved : goal.loop-number-preserved

@@ -1,4 +1,4 @@
-use Rattle.std.proofs.Common.{◌≡◌, ◌+◌, ◌<◌, ◌≤◌, [], length, drop, None, Some, slice_index_or, slice_set, sym, ap, ◌∙◌, rules, arith, drop_of_length-le}
+use Rattle.std.proofs.Common.{◌≡◌, ◌+◌, ◌<◌, [], length, drop, slice_set, sym, ap, ◌∙◌, rules, arith, drop_of_length-le}
 use Rattle.wf_model.specs.Simplex.{simplex_cmp}
 use Rattle.wf_simplex.specs.Entries.{vertices_from}
 use Rattle.wf_simplex.specs.Faces.{with_all, faces_with}

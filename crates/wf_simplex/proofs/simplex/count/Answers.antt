@@ -1,4 +1,4 @@
-use Rattle.std.proofs.Common.{◌≡◌, length, sym, ap, ◌∙◌, rules}
+use Rattle.std.proofs.Common.{◌≡◌, length, ap, ◌∙◌, rules}
 use mir.Val.{bool_byte}
 use Rattle.wf_simplex.proofs.Tables.{counted}
 use Rattle.wf_simplex.proofs.simplex.count.Goals as goal

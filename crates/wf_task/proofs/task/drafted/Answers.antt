@@ -6,7 +6,8 @@ use Rattle.wf_task.specs.Mask.{IsMaskOf}
 use Rattle.wf_task.specs.TaskSeen.{rules_seen}
 use Rattle.wf_task.specs.Tuples.{NamesRows, rows_at}
 use Rattle.wf_task.proofs.Judged.{are_judged}
-use Rattle.wf_task.proofs.Drafted.{slots_of_faultless, rows_of_faultless, rules_of_faultless, task_is, drafted_is_task, has_in_order, has_from_order}
+use Rattle.wf_model.proofs.Ascending.{has_in_order}
+use Rattle.wf_task.proofs.Drafted.{slots_of_faultless, rows_of_faultless, rules_of_faultless, task_is, drafted_is_task, has_from_order}
 use Rattle.wf_task.proofs.task.drafted.Goals as goal
 
 pub all_rows-requires : goal.all_rows-requires

@@ -1,8 +1,8 @@
 use Rattle.std.proofs.Common.{◌+◌, get_or, drop, arith, sym, ap, ◌∙◌}
 use Rattle.std.proofs.lemmas.List.{drop_all, drop_more}
-use Rattle.std.specs.Int.Bits.{bit_or}
+use Rattle.std.specs.Int.Bits.{bit_or, or_zero_r}
 use Rattle.wf_view.specs.Table.{colours_at}
-use Rattle.wf_view.proofs.Entries.{or_assoc, or_zero}
+use Rattle.wf_model.proofs.Basics.{or_assoc}
 use Rattle.wf_view.proofs.views.colours_seen.Goals as goal
 
 pub loop-id-preserved : goal.loop-id-preserved
@@ -14,6 +14,6 @@ loop-id-preserved c =
 
 pub returns : goal.returns
 returns c =
-    sym (or_zero c.loop-id.all)
+    sym (or_zero_r c.loop-id.all)
     ∙ ap (λ ids. bit_or c.loop-id.all (colours_at c.args.colours.now ids)) (sym (drop_all c.loop-id.id-index c.args.ids.now (omega arith)))
     ∙ c.loop-id.invariant

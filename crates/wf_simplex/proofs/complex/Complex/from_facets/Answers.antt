@@ -1,13 +1,11 @@
-use Rattle.std.proofs.Common.{◌≡◌, ◌+◌, ◌*◌, ◌≤◌, ◌++◌, [], ◌∷◌, All, length, take, take_all, slice_index_or, sym, ap, ◌∙◌, subst, arith, rules}
+use Rattle.std.proofs.Common.{◌≡◌, ◌+◌, All, take_all, sym, ap, ◌∙◌, subst, arith, rules}
 use Rattle.std.specs.BTreeSet.{keys as keys_of}
 use Rattle.std.specs.List.Sorted.{IsStrictlySortedBy}
 use Rattle.std.proofs.lemmas.List.Elements.{All-nil}
-use Rattle.std.proofs.lemmas.List.{take_more}
-use Rattle.wf_model.specs.Simplex.{Simplex, faces_of, simplex_cmp, complex_of}
+use Rattle.wf_model.specs.Simplex.{simplex_cmp, complex_of}
 use Rattle.wf_model.specs.Task.{IsSimplexWithin}
-use Rattle.wf_simplex.specs.Faces.{with_all, IsComplex}
-use Rattle.wf_simplex.proofs.Faces.{complex_of-sorted, complex_of-complex_of, length-faces_of}
-use Rattle.wf_simplex.proofs.Within.{faces_within, all-with_all, length-with_all}
+use Rattle.wf_simplex.specs.Faces.{IsComplex}
+use Rattle.wf_simplex.proofs.Faces.{complex_of-sorted, complex_of-complex_of}
 use Rattle.wf_simplex.proofs.FromFacets.{added, there_already, StepOf}
 use Rattle.wf_simplex.proofs.complex.Complex.from_facets.Goals as goal
 use Rattle.wf_simplex.proofs.complex.Complex.from_facets.Goals.{then-not-contains+in_ok-add_faces, else-not-contains}

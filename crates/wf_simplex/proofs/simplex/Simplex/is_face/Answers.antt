@@ -1,5 +1,5 @@
-use Rattle.std.proofs.Common.{◌&&◌, ap, ◌∙◌}
-use Rattle.wf_model.specs.Simplex.{is_face, is_nonempty}
+use Rattle.std.proofs.Common.{◌&&◌, ◌∙◌}
+use Rattle.wf_model.specs.Simplex.{is_face}
 use Rattle.wf_simplex.proofs.Tables.{face_by_entries, nonempty_of_simplex}
 use Rattle.wf_simplex.proofs.simplex.Simplex.is_face.Goals as goal
 

@@ -1,7 +1,7 @@
-use Rattle.std.proofs.Common.{◌≡◌, ◌+◌, ◌≢◌, ◌<◌, ◌≤◌, length, None, Some, slice_index_or, sym, ap, ◌∙◌, subst, arith, [], ◌∷◌, ◌++◌, inl, inr, take, drop, length-set, get_or-set_other, add-one, take-suc, drop-cons, take_all, drop_of_length-le}
+use Rattle.std.proofs.Common.{◌+◌, ◌≢◌, ◌<◌, ◌≤◌, length, Some, slice_index_or, sym, ap, ◌∙◌, subst, arith, [], ◌∷◌, ◌++◌, inl, inr, drop, length-set, get_or-set_other, take_all}
 use Rattle.wf_model.specs.Task.{IsSimplexWithin}
 use Rattle.std.proofs.lemmas.List.{take_more}
-use Rattle.wf_simplex.specs.Entries.{vertices_from, ascends_from}
+use Rattle.wf_simplex.specs.Entries.{ascends_from}
 use Rattle.wf_simplex.proofs.Reading.{nonempty_by_length, colour_fault, value_fault, no_fault, simplex_within, added, ascending_step, colours_at_end, at_pair}
 use Rattle.wf_simplex.proofs.simplex.Simplex.read.Goals as goal
 use Rattle.wf_simplex.proofs.simplex.Simplex.read.Goals.{then-process-least-via-then-process-least, then-process-least-via-else-process-least+then-process-gt3}

@@ -1,4 +1,4 @@
-use Rattle.std.proofs.Common.{◌≡◌, None, slice_index_or, sym, ap, ◌∙◌, arith}
+use Rattle.std.proofs.Common.{sym, ap, ◌∙◌, arith}
 use Rattle.wf_simplex.specs.Entries.{value_at}
 use Rattle.wf_simplex.proofs.Tables.{value_of_entry, past_end}
 use Rattle.wf_simplex.proofs.simplex.Simplex.value.Goals as goal

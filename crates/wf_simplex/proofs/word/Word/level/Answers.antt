@@ -1,6 +1,6 @@
-use Rattle.std.proofs.Common.{◌≡◌, ◌<◌, ℕ, length, slice_index_or, sym, ap, ◌∙◌, arith, subst}
+use Rattle.std.proofs.Common.{◌<◌, length, slice_index_or, ap, ◌∙◌, arith}
 use Rattle.wf_model.specs.Word.{Word}
-use Rattle.wf_simplex.specs.WordTable.{word_at, length-word_at}
+use Rattle.wf_simplex.specs.WordTable.{length-word_at}
 use Rattle.wf_simplex.proofs.Words.{level_below, level_in_table}
 use Rattle.wf_simplex.proofs.word.Word.level.Goals as goal
 

@@ -1,5 +1,5 @@
-use Rattle.std.proofs.Common.{◌≡◌, ◌<◌, ℕ, length, slice_index_or, sym, ap, ◌∙◌, arith, subst, true}
-use Rattle.wf_simplex.specs.WordTable.{word_at, length-word_at}
+use Rattle.std.proofs.Common.{length, sym, ap, ◌∙◌}
+use Rattle.wf_simplex.specs.WordTable.{length-word_at}
 use Rattle.wf_simplex.proofs.Words.{next_word, last_word, next_in_table}
 use Rattle.wf_simplex.proofs.word.Word.next.Goals as goal
 

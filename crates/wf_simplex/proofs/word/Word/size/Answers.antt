@@ -1,6 +1,6 @@
-use Rattle.std.proofs.Common.{◌≡◌, ◌-◌, ◌<◌, ℕ, Some, length, slice_get, slice_index_or, sym, ap, ◌∙◌, arith, Contains, subst}
+use Rattle.std.proofs.Common.{length, sym, ap, ◌∙◌, Contains, subst}
 use Rattle.wf_model.specs.Word.{Word, words}
-use Rattle.wf_simplex.specs.WordTable.{start_of, word_at, length-word_at}
+use Rattle.wf_simplex.specs.WordTable.{length-word_at}
 use Rattle.wf_simplex.proofs.Words.{is_a_word}
 use Rattle.wf_simplex.proofs.word.Word.size.Goals as goal
 

@@ -1,4 +1,5 @@
 use Rattle.std.proofs.Common.{◌≡◌, ◌<◌, ◌^◌, map, length, slice_get, Some, is_ok, IfOk, if◌then◌else◌, All, take, arith, sym, ap, subst, ◌∙◌}
+use Rattle.std.proofs.lemmas.List.{length-map}
 use Rattle.wf_model.specs.View.{renamed}
 use Rattle.wf_model.specs.Problem.{number_of}
 use Rattle.wf_view.specs.declared.node.Node.{Node}
@@ -7,7 +8,7 @@ use Rattle.wf_view.specs.Table.{shown, IsEntry, node_view, colours_at}
 use Rattle.wf_view.specs.Renaming.{rank_in}
 use Rattle.std.specs.Int.Bits.{bit_or}
 use Rattle.wf_view.proofs.Shown.{length-shown}
-use Rattle.wf_view.proofs.Entries.{length-map, count_read, entry_read, entry_low, entry_earlier}
+use Rattle.wf_view.proofs.Entries.{count_read, entry_read, entry_low, entry_earlier}
 use Rattle.wf_view.proofs.Renamed.{known, renamed_entry, renamed_view, entry_colours}
 use Rattle.wf_view.proofs.views.Views.put_renamed.Goals as goal
 
@@ -45,7 +46,7 @@ colours_seen-colours-requires-clause-process c = entry_low (length c.args.self.n
 pub colours_seen-colours-requires-clause-numbers : goal.colours_seen-colours-requires-clause-numbers
 colours_seen-colours-requires-clause-numbers c =
     let long : length c.args.self.now ≡ length c.deref.result.now =
-    sym (ap length (c.deref.ensures.value ∙ c.self.invariant.coloured) ∙ length-map colours_of (shown c.self.inside.nodes.items) ∙ ap length c.self.view_is) in
+    sym (ap length (c.deref.ensures.value ∙ c.self.invariant.coloured) ∙ length-map (shown c.self.inside.nodes.items) colours_of ∙ ap length c.self.view_is) in
     subst (λ n. All (λ k. k < n) (take c.renumbered-entry.result.count c.renumbered-entry.result.ids)) long (entry_earlier (length c.args.self.now) c.renumbered-entry.result (entry_then c))
 
 entry_made : (c : goal.After-number-arg-1) → IsEntry (length c.args.self.now) c.renumbered-entry.result
