@@ -99,3 +99,9 @@ pub swept_more : (p : Problem) (n : ℕ) (old new : List Line) (before after : L
     → (m : ℕ) × (count (box_of after) < m) × (and_then (reached new None after) (sweeps m p) ≡ all)
 swept_more p zero old new before after all low fewer more is so_far = absurd (let bad : ⊥ = omega (arith, low) in bad)
 swept_more p (suc n) old new before after all low fewer more is so_far = (n, omega (arith, low, fewer), swept_on p n old new before after more is ∙ so_far)
+
+-- a sweep that lost nothing ends them
+pub swept_done : (p : Problem) (n : ℕ) (old new : List Line) (before after : List ℕ) (all : Step) → count (box_of before) < n → length new ≡ length old
+    → reached new None after ≡ and_then (reached old None before) (sweep p) → and_then (reached old None before) (sweeps n p) ≡ all → reached new None after ≡ all
+swept_done p zero old new before after all low same is so_far = absurd (let bad : ⊥ = omega (arith, low) in bad)
+swept_done p (suc n) old new before after all low same is so_far = swept_last p n old new before after same is ∙ so_far

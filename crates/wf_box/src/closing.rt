@@ -3,7 +3,7 @@
 ghost use Rattle.std.specs.Prelude.{◌≡◌, ◌<◌, ◌≤◌, ◌+◌, ◌++◌, ℕ, List, None, suc, true, length, map, IfOk, IfSome, OnOk, OnErr, IfNone, [], All, slice_index, get_or, ◌^◌, bit_and};
 ghost use Rattle.std.specs.Int.{bit_not, w64};
 ghost use Rattle.wf_model.specs.Lists.{has};
-ghost use Rattle.wf_model.specs.Problem.{IsSolution, IsWellFormed};
+ghost use Rattle.wf_model.specs.Problem.{IsSolution, IsWellFormed, Problem, constraint_at};
 ghost use Rattle.wf_model.specs.Box.{LiesIn, candidates, count, first_empty};
 ghost use Rattle.wf_model.specs.Closing.{and_then, closing, lost, sweep, sweep_from, sweeps, take_out_each};
 ghost use Rattle.wf_model.specs.Laws.{IsBoxOf};
@@ -12,8 +12,8 @@ ghost use Rattle.wf_lane.specs.Sets.{values_in};
 ghost use Rattle.wf_lane.specs.Table.{HasSupported};
 ghost use Rattle.wf_box.specs.Problems.{IsWide, IsWithin, constraint_seen, no_rule};
 ghost use Rattle.wf_box.specs.Revising.{IsRevised};
-ghost use Rattle.wf_box.specs.Steps.{EndsAt, HasRoom, IsSpent, box_of, reached};
-ghost use Rattle.wf_box.specs.Closes.{AreFew, IsEmptied, IsSupported, Leaves, emptied_by};
+ghost use Rattle.wf_box.specs.Steps.{HasRoom, IsNamed, IsSpent, box_of, reached};
+ghost use Rattle.wf_box.specs.Closes.{AreFew, EndsAt, IsEmptied, IsSupported, Leaves, emptied_by, without_named};
 
 use crate::boxed::Box0;
 use crate::problem::{Execution, Problem, Rule};
@@ -46,8 +46,9 @@ struct Revised {
 /// line for each value that is taken out, and one for the point that is emptied.
 ///
 /// In a sweep the executions come in order, and each is judged by the candidates as they stand before it. Where a point
-/// has no candidate at the start, the line of the first such point is all. Refused for want of memory alone, and box
-/// and lines are then as before.
+/// has no candidate at the start, the line of the first such point is all. The box after is the one before without the
+/// values that the new lines name, also where a point is emptied. Refused for want of memory alone, and box and lines
+/// are then as before.
 pub fn close(
     _alloc: Global,
     problem: &Problem,
@@ -58,6 +59,7 @@ pub fn close(
     ensures lines { OnOk result (map line_of lines.new.items ≡ map line_of lines.old.items ++ (closing problem.now boxed.old).lines) }
     ensures leaves { IfOk result (Leaves (closing problem.now boxed.old).left boxed.new) }
     ensures emptied { IfOk result (IsEmptied lines.new.items boxed.new) }
+    ensures named { OnOk result (boxed.new ≡ without_named problem.now (closing problem.now boxed.old).lines boxed.old) }
     ensures shape { OnOk result (IsBoxOf problem.now boxed.new) }
     ensures solutions { OnOk result ((m : List ℕ) → IsSolution problem.now m → LiesIn m boxed.old → LiesIn m boxed.new) }
     ensures supported { IfOk result (IsSupported problem.now boxed.new) }
@@ -87,6 +89,7 @@ fn close_sets(problem: &Problem, sets: &mut [u64], lines: &mut Lines) -> Closed
     ensures step { reached lines.new.items (emptied_by result) sets.new ≡ and_then (reached lines.old.items None sets.old) (closing problem.now) }
     ensures shape { IsBoxOf problem.now (box_of sets.new) }
     ensures emptied { IsEmptied lines.new.items (box_of sets.new) result }
+    ensures named { box_of sets.new ≡ without_named problem.now (closing problem.now (box_of sets.old)).lines (box_of sets.old) }
     ensures solutions { (m : List ℕ) → IsSolution problem.now m → LiesIn m (box_of sets.old) → LiesIn m (box_of sets.new) }
     ensures supported { IsSupported problem.now (box_of sets.new) result }
     ensures sweeps { AreFew (count (box_of sets.old)) (count (box_of sets.new)) result }
@@ -117,6 +120,7 @@ fn sweeps(problem: &Problem, sets: &mut [u64], lines: &mut Lines) -> Closed
     ensures step { reached lines.new.items (emptied_by result) sets.new ≡ and_then (reached lines.old.items None sets.old) (sweeps (suc (count (box_of sets.old))) problem.now) }
     ensures long { length sets.new ≡ length sets.old }
     ensures emptied { IsEmptied lines.new.items (box_of sets.new) result }
+    ensures named { IsNamed problem.now lines.old.items sets.old lines.new.items sets.new }
     ensures sweeps { AreFew (count (box_of sets.old)) (count (box_of sets.new)) result }
     ensures problem { IsWellFormed problem.now }
 {
@@ -139,7 +143,8 @@ fn sweep(problem: &Problem, sets: &mut [u64], lines: &mut Lines) -> Option<u32>
     requires room { HasRoom lines.old sets.old }
     ensures step { reached lines.new.items result sets.new ≡ and_then (reached lines.old.items None sets.old) (sweep problem.now) }
     ensures long { length sets.new ≡ length sets.old }
-    ensures emptied { IfSome result (EndsAt lines.new.items sets.new) }
+    ensures emptied { IfSome result (EndsAt lines.new.items (box_of sets.new)) }
+    ensures named { IsNamed problem.now lines.old.items sets.old lines.new.items sets.new }
     ensures room { IfNone result (HasRoom lines.new sets.new) }
     ensures spent { IfNone result (IsSpent lines.old sets.old lines.new sets.new) }
     ensures problem { IsWellFormed problem.now }
@@ -161,7 +166,8 @@ fn sweep_executions(
     ensures step { reached lines.new.items result sets.new
         ≡ and_then (reached lines.old.items None sets.old) (sweep_from 0 (map (constraint_seen rules.now) executions.now)) }
     ensures long { length sets.new ≡ length sets.old }
-    ensures emptied { IfSome result (EndsAt lines.new.items sets.new) }
+    ensures emptied { IfSome result (EndsAt lines.new.items (box_of sets.new)) }
+    ensures named { (p : Problem) → p.constraints ≡ map (constraint_seen rules.now) executions.now → IsNamed p lines.old.items sets.old lines.new.items sets.new }
     ensures room { IfNone result (HasRoom lines.new sets.new) }
     ensures spent { IfNone result (IsSpent lines.old sets.old lines.new sets.new) }
 {
@@ -193,7 +199,8 @@ fn revise(
         ≡ and_then (reached lines.old.items None sets.old) (λ box. take_out_each number (lost box (constraint_seen rules.now execution)) box) }
     ensures long { length sets.new ≡ length sets.old }
     ensures last { IsRevised rules.now last.new }
-    ensures emptied { IfSome result (EndsAt lines.new.items sets.new) }
+    ensures emptied { IfSome result (EndsAt lines.new.items (box_of sets.new)) }
+    ensures named { (p : Problem) → constraint_at p number ≡ constraint_seen rules.now execution → IsNamed p lines.old.items sets.old lines.new.items sets.new }
     ensures room { IfNone result (HasRoom lines.new sets.new) }
     ensures spent { IfNone result (IsSpent lines.old sets.old lines.new sets.new) }
 {
