@@ -13,7 +13,7 @@ ghost use Rattle.wf_lane.specs.Table.{HasSupported};
 ghost use Rattle.wf_box.specs.Problems.{IsWide, IsWithin, constraint_seen, no_rule};
 ghost use Rattle.wf_box.specs.Revising.{IsRevised};
 ghost use Rattle.wf_box.specs.Steps.{HasRoom, IsNamed, IsSpent, box_of, reached};
-ghost use Rattle.wf_box.specs.Closes.{AreFew, EndsAt, IsEmptied, IsSupported, Leaves, emptied_by, without_named};
+ghost use Rattle.wf_box.specs.Closes.{AreFew, EndsAt, IsEmptied, IsSupported, Leaves, Takes, emptied_by, sweep_count, without_named};
 
 use crate::boxed::Box0;
 use crate::problem::{Execution, Problem, Rule};
@@ -64,6 +64,7 @@ pub fn close(
     ensures solutions { OnOk result ((m : List ℕ) → IsSolution problem.now m → LiesIn m boxed.old → LiesIn m boxed.new) }
     ensures supported { IfOk result (IsSupported problem.now boxed.new) }
     ensures sweeps { IfOk result (AreFew (count boxed.old) (count boxed.new)) }
+    ensures sweep_count { IfOk result (Takes (sweep_count (suc (count boxed.old)) problem.now boxed.old)) }
     ensures refused_lines { OnErr result (lines.new.items ≡ lines.old.items) }
     ensures refused_box { OnErr result (boxed.new ≡ boxed.old) }
 {
@@ -93,6 +94,7 @@ fn close_sets(problem: &Problem, sets: &mut [u64], lines: &mut Lines) -> Closed
     ensures solutions { (m : List ℕ) → IsSolution problem.now m → LiesIn m (box_of sets.old) → LiesIn m (box_of sets.new) }
     ensures supported { IsSupported problem.now (box_of sets.new) result }
     ensures sweeps { AreFew (count (box_of sets.old)) (count (box_of sets.new)) result }
+    ensures sweep_count { Takes (sweep_count (suc (count (box_of sets.old))) problem.now (box_of sets.old)) result }
 {
     if let Some(point) = empty_point(sets) {
         put(lines, Line::Z { point });
@@ -122,6 +124,7 @@ fn sweeps(problem: &Problem, sets: &mut [u64], lines: &mut Lines) -> Closed
     ensures emptied { IsEmptied lines.new.items (box_of sets.new) result }
     ensures named { IsNamed problem.now lines.old.items sets.old lines.new.items sets.new }
     ensures sweeps { AreFew (count (box_of sets.old)) (count (box_of sets.new)) result }
+    ensures sweep_count { Takes (sweep_count (suc (count (box_of sets.old))) problem.now (box_of sets.old)) result }
     ensures problem { IsWellFormed problem.now }
 {
     let mut sweeps = 1;

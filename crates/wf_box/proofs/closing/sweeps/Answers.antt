@@ -19,14 +19,17 @@ returns-then-len-before-clause-named c = named_then c.args.problem.now _ _ _ _ _
 
 pub returns-then-len-before-clause-step : goal.returns-then-len-before-clause-step
 returns-then-len-before-clause-step c =
-    let (n, low, so_far) = c.sweeping.invariant.5 in
     let same : length c.sweep.new.lines.items ≡ length c.sweeping.lines.items = omega (arith, c.if-len-before.true, c.len.ensures, c.len-before.ensures, c.sweeping.lines.ok.0, c.sweep.new.lines.ok.0) in
-    swept_done c.args.problem.now n c.sweeping.lines.items c.sweep.new.lines.items c.sweeping.sets c.sweep.new.sets _ low same c.in_default.ensures.step so_far
+    (swept_done c.args.problem.now c.sweeping.lines.items c.sweep.new.lines.items c.sweeping.sets c.sweep.new.sets _ _ _ c.sweeping.invariant.5 same c.in_default.ensures.step).0
+
+pub returns-then-len-before-clause-sweep_count : goal.returns-then-len-before-clause-sweep_count
+returns-then-len-before-clause-sweep_count c =
+    let same : length c.sweep.new.lines.items ≡ length c.sweeping.lines.items = omega (arith, c.if-len-before.true, c.len.ensures, c.len-before.ensures, c.sweeping.lines.ok.0, c.sweep.new.lines.ok.0) in
+    (swept_done c.args.problem.now c.sweeping.lines.items c.sweep.new.lines.items c.sweeping.sets c.sweep.new.sets _ _ _ c.sweeping.invariant.5 same c.in_default.ensures.step).1
 
 pub sweeping-preserved : goal.sweeping-preserved
 sweeping-preserved c =
     let p = c.args.problem.now in
-    let (n, low, so_far) = c.sweeping.invariant.5 in
     let before = c.sweeping.lines.ok.0 in
     let after = c.sweep.new.lines.ok.0 in
     let up = grown p c.sweeping.lines.items c.sweep.new.lines.items c.sweeping.sets c.sweep.new.sets None c.in_default.ensures.step in
@@ -38,5 +41,5 @@ sweeping-preserved c =
       omega arith,
       omega (arith, fewer, c.sweeping.invariant.3),
       named_then p _ _ _ _ _ _ c.sweeping.invariant.4 c.sweep.ensures.named,
-      swept_more p n c.sweeping.lines.items c.sweep.new.lines.items c.sweeping.sets c.sweep.new.sets _ low fewer more c.in_default.ensures.step so_far,
+      swept_more p c.sweeping.lines.items c.sweep.new.lines.items c.sweeping.sets c.sweep.new.sets _ _ _ c.sweeping.invariant.5 fewer more c.in_default.ensures.step,
     )
