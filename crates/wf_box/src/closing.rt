@@ -155,7 +155,8 @@ fn sweep(problem: &Problem, sets: &mut [u64], lines: &mut Lines) -> Option<u32>
     sweep_executions(&problem.executions, &problem.rules, sets, lines)
 }
 
-/// Takes out of each of some executions in turn what is not supported there.
+/// Takes out of each of these executions in turn what is not supported there. The point that this empties, if there is
+/// one.
 fn sweep_executions(
     executions: &[Execution],
     rules: &[Rule],
