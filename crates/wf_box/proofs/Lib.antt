@@ -1,4 +1,5 @@
 pub mod StepLemmas
+pub mod NameLemmas
 pub mod TakingLemmas
 pub mod PlaceLemmas
 pub mod ProblemLemmas

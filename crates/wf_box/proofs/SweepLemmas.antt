@@ -6,11 +6,12 @@ use Rattle.wf_model.specs.Lists.{below}
 use Rattle.wf_model.specs.Problem.{Problem}
 use Rattle.wf_model.specs.Box.{Box, count}
 use Rattle.wf_model.specs.Refutation as refutation
-use Rattle.wf_model.specs.Closing.{Step, continued, and_then, sweep, sweeps, unless_none}
+use Rattle.wf_model.specs.Closing.{Step, and_then, sweep, sweeps, unless_none}
 use Rattle.wf_model.proofs.Fuel.{length_filter}
 use Rattle.wf_complex.specs.Lines.{line_of}
 use Rattle.wf_complex.specs.declared.line.Line.{Line}
 use Rattle.wf_lane.specs.Sets.{holds, values_in}
+use Rattle.wf_box.specs.Closes.{more_sweeps, sweep_count}
 use Rattle.wf_box.specs.Steps.{box_of, reached}
 use Rattle.wf_box.proofs.StepLemmas.{then_then}
 
@@ -28,11 +29,6 @@ count_few [] = omega arith
 count_few (w ∷ words) = omega (arith, values_few w, count_cons (values_in w) (box_of words), count_few words)
 
 -- ---- one sweep more
-
--- an emptied box is what sweeps leave too
-ends_with : (ls : List refutation.Line) (s : Step) (next : Box → Step) → s.left ≡ None → unless_none ls s next ≡ s
-ends_with [] s next gone = refl
-ends_with (l ∷ ls) s next gone = (λ i. continued s.lines (gone i) next) ∙ (λ i. record { lines = s.lines; left = sym gone i })
 
 -- a sweep that lost nothing is the last
 last_of : (ls : List refutation.Line) (s : Step) (next : Box → Step) → ls ≡ [] → unless_none ls s next ≡ s
@@ -52,50 +48,84 @@ longer xs ys (z ∷ zs) is same = absurd (let bad : ⊥ = omega (arith, same, ap
 added : (p : Problem) (old new : List Line) (before after : List ℕ) (emptied : Option ℕ) → reached new emptied after ≡ and_then (reached old None before) (sweep p) → map line_of new ≡ map line_of old ++ (sweep p (box_of before)).lines
 added p old new before after emptied is = ap (λ (s : Step). s.lines) is
 
-pub swept_empty : (p : Problem) (n v : ℕ) (old new : List Line) (before after : List ℕ) → reached new (Some v) after ≡ and_then (reached old None before) (sweep p)
-    → reached new (Some v) after ≡ and_then (reached old None before) (sweeps (suc n) p)
-swept_empty p n v old new before after is =
-    let gone : (sweep p (box_of before)).left ≡ None = sym (ap (λ (s : Step). s.left) is) in
-    is ∙ (λ i. record {
-      lines = map line_of old ++ (sym (ends_with (sweep p (box_of before)).lines (sweep p (box_of before)) (sweeps n p) gone) i).lines;
-      left = (sym (ends_with (sweep p (box_of before)).lines (sweep p (box_of before)) (sweeps n p) gone) i).left;
-    })
+lost_none : (p : Problem) (old new : List Line) (before after : List ℕ) → length new ≡ length old → reached new None after ≡ and_then (reached old None before) (sweep p) → (sweep p (box_of before)).lines ≡ []
+lost_none p old new before after same is =
+    longer (map line_of new) (map line_of old) (sweep p (box_of before)).lines (added p old new before after None is) (length-map new line_of ∙ same ∙ sym (length-map old line_of))
 
-pub swept_last : (p : Problem) (n : ℕ) (old new : List Line) (before after : List ℕ) → length new ≡ length old → reached new None after ≡ and_then (reached old None before) (sweep p)
+lost_some : (p : Problem) (old new : List Line) (before after : List ℕ) → (length new ≡ length old → ⊥) → reached new None after ≡ and_then (reached old None before) (sweep p) → (sweep p (box_of before)).lines ≡ [] → ⊥
+lost_some p old new before after more is none =
+    more
+    (sym (length-map new line_of) ∙ ap length (added p old new before after None is)
+    ∙ length-append (map line_of old) (sweep p (box_of before)).lines
+    ∙ (let z : length (map line_of old) + length (sweep p (box_of before)).lines ≡ length (map line_of old) = omega (arith, ap length none) in z)
+    ∙ length-map old line_of)
+
+swept_last : (p : Problem) (n : ℕ) (old new : List Line) (before after : List ℕ) → length new ≡ length old → reached new None after ≡ and_then (reached old None before) (sweep p)
     → reached new None after ≡ and_then (reached old None before) (sweeps (suc n) p)
 swept_last p n old new before after same is =
-    let none : (sweep p (box_of before)).lines ≡ [] = longer (map line_of new) (map line_of old) (sweep p (box_of before)).lines (added p old new before after None is) (length-map new line_of ∙ same ∙ sym (length-map old line_of)) in
+    let none = lost_none p old new before after same is in
     is ∙ (λ i. record {
       lines = map line_of old ++ (sym (last_of (sweep p (box_of before)).lines (sweep p (box_of before)) (sweeps n p) none) i).lines;
       left = (sym (last_of (sweep p (box_of before)).lines (sweep p (box_of before)) (sweeps n p) none) i).left;
     })
 
-pub swept_on : (p : Problem) (n : ℕ) (old new : List Line) (before after : List ℕ) → (length new ≡ length old → ⊥) → reached new None after ≡ and_then (reached old None before) (sweep p)
+swept_on : (p : Problem) (n : ℕ) (old new : List Line) (before after : List ℕ) → (length new ≡ length old → ⊥) → reached new None after ≡ and_then (reached old None before) (sweep p)
     → and_then (reached new None after) (sweeps n p) ≡ and_then (reached old None before) (sweeps (suc n) p)
 swept_on p n old new before after more is =
-    let some : (sweep p (box_of before)).lines ≡ [] → ⊥ = λ none. more (shorter none) in
+    let some = lost_some p old new before after more is in
     ap (λ s. and_then s (sweeps n p)) is
     ∙ then_then (reached old None before) (sweep p) (sweeps n p)
     ∙ (λ i. record {
       lines = map line_of old ++ (sym (goes_on (sweep p (box_of before)).lines (sweep p (box_of before)) (sweeps n p) some) i).lines;
       left = (sym (goes_on (sweep p (box_of before)).lines (sweep p (box_of before)) (sweeps n p) some) i).left;
     })
-  where
-    shorter : (sweep p (box_of before)).lines ≡ [] → length new ≡ length old
-    shorter none =
-        sym (length-map new line_of) ∙ ap length (added p old new before after None is)
-        ∙ length-append (map line_of old) (sweep p (box_of before)).lines
-        ∙ (let z : length (map line_of old) + length (sweep p (box_of before)).lines ≡ length (map line_of old) = omega (arith, ap length none) in z)
-        ∙ length-map old line_of
 
 -- lines are only added
 pub grown : (p : Problem) (old new : List Line) (before after : List ℕ) (emptied : Option ℕ) → reached new emptied after ≡ and_then (reached old None before) (sweep p) → length old ≤ length new
 grown p old new before after emptied is =
     omega (arith, ap length (added p old new before after emptied is), length-append (map line_of old) (sweep p (box_of before)).lines, length-map new line_of, length-map old line_of)
 
--- fewer sweeps are enough for what is left
-pub swept_more : (p : Problem) (n : ℕ) (old new : List Line) (before after : List ℕ) (all : Step) → count (box_of before) < n → count (box_of after) < count (box_of before) → (length new ≡ length old → ⊥)
-    → reached new None after ≡ and_then (reached old None before) (sweep p) → and_then (reached old None before) (sweeps n p) ≡ all
-    → (m : ℕ) × (count (box_of after) < m) × (and_then (reached new None after) (sweeps m p) ≡ all)
-swept_more p zero old new before after all low fewer more is so_far = absurd (let bad : ⊥ = omega (arith, low) in bad)
-swept_more p (suc n) old new before after all low fewer more is so_far = (n, omega (arith, low, fewer), swept_on p n old new before after more is ∙ so_far)
+-- ---- the sweeps that are left
+
+-- these are enough for what is left: the steps so far and they come to all, and the sweeps so far and they to one more than all
+pub record SweepsLeft (p : Problem) (lines : List Line) (words : List ℕ) (all : Step) (begun total : ℕ) : Type 0 where
+  pub number : ℕ
+  pub enough : count (box_of words) < number
+  pub steps : and_then (reached lines None words) (sweeps number p) ≡ all
+  pub counted : begun + sweep_count number p (box_of words) ≡ 1 + total
+
+no_more : (ls : List refutation.Line) (left : Option Box) (next : Box → ℕ) → ls ≡ [] → more_sweeps ls left next ≡ 0
+no_more [] left next none = refl
+no_more (l ∷ ls) left next none = absurd (let bad : ⊥ = cc in bad)
+
+some_more : (ls : List refutation.Line) (left : Option Box) (box : Box) (next : Box → ℕ) → (ls ≡ [] → ⊥) → left ≡ Some box → more_sweeps ls left next ≡ next box
+some_more [] left box next some is = absurd (some refl)
+some_more (l ∷ ls) None box next some is = absurd (let bad : ⊥ = cc in bad)
+some_more (l ∷ ls) (Some b) box next some is = let same : b ≡ box = cc in ap next same
+
+-- a sweep that lost nothing is the last
+pub swept_done : (p : Problem) (old new : List Line) (before after : List ℕ) (all : Step) (begun total : ℕ) → SweepsLeft p old before all begun total → length new ≡ length old
+    → reached new None after ≡ and_then (reached old None before) (sweep p) → (reached new None after ≡ all) × (begun ≡ total)
+swept_done p old new before after all begun total left same is = by_number left.number left.enough left.steps left.counted
+  where
+    by_number : (n : ℕ) → count (box_of before) < n → and_then (reached old None before) (sweeps n p) ≡ all → begun + sweep_count n p (box_of before) ≡ 1 + total → (reached new None after ≡ all) × (begun ≡ total)
+    by_number zero low steps counted = absurd (let bad : ⊥ = omega (arith, low) in bad)
+    by_number (suc n) low steps counted =
+        let none = no_more (sweep p (box_of before)).lines (sweep p (box_of before)).left (sweep_count n p) (lost_none p old new before after same is) in
+        (swept_last p n old new before after same is ∙ steps, omega (arith, counted, none))
+
+-- after another one there are fewer left
+pub swept_more : (p : Problem) (old new : List Line) (before after : List ℕ) (all : Step) (begun total : ℕ) → SweepsLeft p old before all begun total → count (box_of after) < count (box_of before)
+    → (length new ≡ length old → ⊥) → reached new None after ≡ and_then (reached old None before) (sweep p) → SweepsLeft p new after all (begun + 1) total
+swept_more p old new before after all begun total left fewer more is = by_number left.number left.enough left.steps left.counted
+  where
+    by_number : (n : ℕ) → count (box_of before) < n → and_then (reached old None before) (sweeps n p) ≡ all → begun + sweep_count n p (box_of before) ≡ 1 + total → SweepsLeft p new after all (begun + 1) total
+    by_number zero low steps counted = absurd (let bad : ⊥ = omega (arith, low) in bad)
+    by_number (suc n) low steps counted =
+        let next = some_more (sweep p (box_of before)).lines (sweep p (box_of before)).left (box_of after) (sweep_count n p) (lost_some p old new before after more is) (sym (ap (λ (s : Step). s.left) is)) in
+        record {
+          number = n;
+          enough = omega (arith, low, fewer);
+          steps = swept_on p n old new before after more is ∙ steps;
+          counted = omega (arith, counted, next);
+        }

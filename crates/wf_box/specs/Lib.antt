@@ -1,3 +1,4 @@
 pub mod Problems
 pub mod Steps
 pub mod Closes
+pub mod Revising

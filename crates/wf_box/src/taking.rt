@@ -1,12 +1,15 @@
 //! Values are taken out of a box, with a line for each.
 
-ghost use Rattle.std.specs.Prelude.{◌≡◌, ◌<◌, ◌≤◌, ◌+◌, ◌++◌, ◌∷◌, ◌==◌, [], None, true, not, length, filter, map, vec_len, vec_capacity};
+ghost use Rattle.std.specs.Prelude.{◌≡◌, ◌<◌, ◌≤◌, ◌+◌, ◌++◌, ◌∷◌, ◌==◌, [], None, Some, true, not, length, filter, map, vec_len, vec_capacity};
 ghost use Rattle.std.specs.Bool.{OnTrue, OnFalse};
 ghost use Rattle.wf_model.specs.Lists.{has};
+ghost use Rattle.wf_model.specs.Problem.{Problem, constraint_at};
 ghost use Rattle.wf_model.specs.Box.{candidates};
 ghost use Rattle.wf_model.specs.Closing.{and_then, take_out};
 ghost use Rattle.wf_lane.specs.Sets.{values_in};
-ghost use Rattle.wf_box.specs.Steps.{EndsAt, HasRoom, IsSpent, box_of, loss, point_if, reached, take_present};
+ghost use Rattle.wf_complex.specs.Protocol.{point_in};
+ghost use Rattle.wf_box.specs.Closes.{EndsAt};
+ghost use Rattle.wf_box.specs.Steps.{HasRoom, IsNamed, IsSpent, box_of, loss, point_if, reached, take_present};
 
 use wf_complex::{Line, Lines};
 
@@ -26,7 +29,9 @@ pub(crate) fn take_each(values: u64, place: Place, sets: &mut [u64], lines: &mut
     ensures step { reached lines.new.items (point_if result place.point) sets.new
         ≡ and_then (reached lines.old.items None sets.old) (take_present place.execution (map (loss place.process place.point) (values_in values))) }
     ensures long { length sets.new ≡ length sets.old }
-    ensures emptied { OnTrue result (EndsAt lines.new.items sets.new place.point) }
+    ensures emptied { OnTrue result (EndsAt lines.new.items (box_of sets.new) place.point) }
+    ensures named { (p : Problem) → point_in place.process (constraint_at p place.execution).scope ≡ Some place.point
+        → IsNamed p lines.old.items sets.old lines.new.items sets.new }
     ensures room { OnFalse result (HasRoom lines.new sets.new) }
     ensures spent { OnFalse result (IsSpent lines.old sets.old lines.new sets.new) }
 {
@@ -51,7 +56,9 @@ fn take_out(value: u8, place: Place, sets: &mut [u64], lines: &mut Lines) -> boo
     ensures step { reached lines.new.items (point_if result place.point) sets.new
         ≡ and_then (reached lines.old.items None sets.old) (take_out place.execution (loss place.process place.point value)) }
     ensures long { length sets.new ≡ length sets.old }
-    ensures emptied { OnTrue result (EndsAt lines.new.items sets.new place.point) }
+    ensures emptied { OnTrue result (EndsAt lines.new.items (box_of sets.new) place.point) }
+    ensures named { (p : Problem) → point_in place.process (constraint_at p place.execution).scope ≡ Some place.point
+        → IsNamed p lines.old.items sets.old lines.new.items sets.new }
     ensures room { OnFalse result (HasRoom lines.new sets.new) }
     ensures spent { OnFalse result (IsSpent lines.old sets.old lines.new sets.new) }
 {

@@ -74,6 +74,7 @@ fn a_point_is_emptied(rt: HostRuntime) -> Result<(), Fail> {
         Line::Z { point: 0 },
     ];
     assert_eq!(rt; lines.as_slice(), wanted.as_slice());
+    assert_eq!(rt; boxed.sets.as_slice(), [0, 2].as_slice());
     Ok(())
 }
 

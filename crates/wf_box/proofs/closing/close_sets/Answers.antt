@@ -3,7 +3,9 @@ use Rattle.std.proofs.lemmas.List.{map-append}
 use Rattle.wf_model.specs.Closing.{Step, and_then}
 use Rattle.wf_complex.specs.Lines.{line_of}
 use Rattle.wf_complex.specs.declared.line.Line.TheVariants as line
+use Rattle.wf_box.specs.Closes.{without_named}
 use Rattle.wf_box.specs.Steps.{box_of, reached}
+use Rattle.wf_box.proofs.NameLemmas.{named_by}
 use Rattle.wf_box.proofs.CloseLemmas.{closing_empty, empty_there, point_there, closing_sweeps, left_of, solutions_kept, supported_there, is_box}
 use Rattle.wf_box.proofs.closing.close_sets.Goals as goal
 
@@ -19,6 +21,16 @@ pub returns-in-Some-clause-emptied : goal.returns-in-Some-clause-emptied
 returns-in-Some-clause-emptied c =
     let empty = sym c.empty_point.ensures ∙ c.in-Some.is in
     (point_there (box_of c.args.sets.now) c.in-Some.point empty, empty_there (box_of c.args.sets.now) c.in-Some.point empty, (c.args.lines.now.items, c.put.ensures.lines))
+
+pub returns-in-Some-clause-named : goal.returns-in-Some-clause-named
+returns-in-Some-clause-named c =
+    ap (λ (s : Step). without_named c.args.problem.now s.lines (box_of c.args.sets.now)) (sym (closing_empty c.args.problem.now (box_of c.args.sets.now) c.in-Some.point (sym c.empty_point.ensures ∙ c.in-Some.is)))
+
+pub returns-clause-named : goal.returns-clause-named
+returns-clause-named c =
+    let closed = closing_sweeps c.args.problem.now (box_of c.args.sets.now) (sym c.empty_point.ensures ∙ c.in_default.is) in
+    let step = c.sweeps.ensures.step ∙ ap (λ s. and_then (reached c.args.lines.now.items None c.args.sets.now) (λ _. s)) (sym closed) in
+    named_by c.args.problem.now c.args.lines.now.items c.sweeps.new.lines.items c.args.sets.now c.sweeps.new.sets _ c.sweeps.ensures.named (ap (λ (s : Step). s.lines) step)
 
 pub returns-clause-step : goal.returns-clause-step
 returns-clause-step c =

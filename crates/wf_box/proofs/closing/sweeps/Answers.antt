@@ -1,7 +1,8 @@
 use Rattle.std.proofs.Common.{◌≡◌, ℕ, ◌<◌, ◌≤◌, None, length, ◌∙◌, arith}
 use Rattle.wf_model.specs.Box.{count}
 use Rattle.wf_box.specs.Steps.{box_of}
-use Rattle.wf_box.proofs.SweepLemmas.{count_few, grown, swept_more}
+use Rattle.wf_box.proofs.SweepLemmas.{count_few, grown, swept_done, swept_more}
+use Rattle.wf_box.proofs.NameLemmas.{named_then}
 use Rattle.wf_box.proofs.closing.sweeps.Goals as goal
 
 less : {m n : ℕ} → m ≤ n → (n ≡ m → ⊥) → m < n
@@ -10,10 +11,25 @@ less low other = omega (arith, low, other)
 pub overflow_add-sweeps : goal.overflow_add-sweeps
 overflow_add-sweeps c = omega (arith, c.sweeping.invariant.3, count_few c.args.sets.now, c.requires.few)
 
+pub returns-in-Some-clause-named : goal.returns-in-Some-clause-named
+returns-in-Some-clause-named c = named_then c.args.problem.now _ _ _ _ _ _ c.sweeping.invariant.4 c.sweep.ensures.named
+
+pub returns-then-len-before-clause-named : goal.returns-then-len-before-clause-named
+returns-then-len-before-clause-named c = named_then c.args.problem.now _ _ _ _ _ _ c.sweeping.invariant.4 c.sweep.ensures.named
+
+pub returns-then-len-before-clause-step : goal.returns-then-len-before-clause-step
+returns-then-len-before-clause-step c =
+    let same : length c.sweep.new.lines.items ≡ length c.sweeping.lines.items = omega (arith, c.if-len-before.true, c.len.ensures, c.len-before.ensures, c.sweeping.lines.ok.0, c.sweep.new.lines.ok.0) in
+    (swept_done c.args.problem.now c.sweeping.lines.items c.sweep.new.lines.items c.sweeping.sets c.sweep.new.sets _ _ _ c.sweeping.invariant.5 same c.in_default.ensures.step).0
+
+pub returns-then-len-before-clause-sweep_count : goal.returns-then-len-before-clause-sweep_count
+returns-then-len-before-clause-sweep_count c =
+    let same : length c.sweep.new.lines.items ≡ length c.sweeping.lines.items = omega (arith, c.if-len-before.true, c.len.ensures, c.len-before.ensures, c.sweeping.lines.ok.0, c.sweep.new.lines.ok.0) in
+    (swept_done c.args.problem.now c.sweeping.lines.items c.sweep.new.lines.items c.sweeping.sets c.sweep.new.sets _ _ _ c.sweeping.invariant.5 same c.in_default.ensures.step).1
+
 pub sweeping-preserved : goal.sweeping-preserved
 sweeping-preserved c =
     let p = c.args.problem.now in
-    let (n, low, so_far) = c.sweeping.invariant.4 in
     let before = c.sweeping.lines.ok.0 in
     let after = c.sweep.new.lines.ok.0 in
     let up = grown p c.sweeping.lines.items c.sweep.new.lines.items c.sweeping.sets c.sweep.new.sets None c.in_default.ensures.step in
@@ -24,5 +40,6 @@ sweeping-preserved c =
       c.in_default.ensures.room,
       omega arith,
       omega (arith, fewer, c.sweeping.invariant.3),
-      swept_more p n c.sweeping.lines.items c.sweep.new.lines.items c.sweeping.sets c.sweep.new.sets _ low fewer more c.in_default.ensures.step so_far,
+      named_then p _ _ _ _ _ _ c.sweeping.invariant.4 c.sweep.ensures.named,
+      swept_more p c.sweeping.lines.items c.sweep.new.lines.items c.sweeping.sets c.sweep.new.sets _ _ _ c.sweeping.invariant.5 fewer more c.in_default.ensures.step,
     )

@@ -1,7 +1,9 @@
-use Rattle.std.proofs.Common.{◌≡◌, ℕ, None, suc, ◌+◌, ◌<◌, ◌≤◌, length}
+use Rattle.std.proofs.Common.{◌≡◌, None, suc, ◌+◌, ◌≤◌, length}
 use Rattle.wf_model.specs.Box.{count}
 use Rattle.wf_model.specs.Closing.{and_then, sweeps}
-use Rattle.wf_box.specs.Steps.{HasRoom, box_of, reached}
+use Rattle.wf_box.specs.Closes.{sweep_count}
+use Rattle.wf_box.specs.Steps.{HasRoom, IsNamed, box_of, reached}
+use Rattle.wf_box.proofs.SweepLemmas.{SweepsLeft}
 use Rattle.wf_box.proofs.closing.sweeps.Given as goal
 
 abbrev pub decreases-sweeping : goal.decreases-sweeping
@@ -9,4 +11,5 @@ decreases-sweeping l = count (box_of l.sets)
 
 abbrev pub invariant-sweeping : goal.invariant-sweeping
 invariant-sweeping l = (length l.sets ≡ length l.initial.sets) × HasRoom l.lines l.sets × (1 ≤ l.sweeps) × (l.sweeps + count (box_of l.sets) ≤ 1 + count (box_of l.initial.sets))
-    × ((n : ℕ) × (count (box_of l.sets) < n) × (and_then (reached l.lines.items None l.sets) (sweeps n l.problem) ≡ and_then (reached l.initial.lines.items None l.initial.sets) (sweeps (suc (count (box_of l.initial.sets))) l.problem)))
+    × IsNamed l.problem l.initial.lines.items l.initial.sets l.lines.items l.sets
+    × SweepsLeft l.problem l.lines.items l.sets (and_then (reached l.initial.lines.items None l.initial.sets) (sweeps (suc (count (box_of l.initial.sets))) l.problem)) l.sweeps (sweep_count (suc (count (box_of l.initial.sets))) l.problem (box_of l.initial.sets))

@@ -1,7 +1,9 @@
-use Rattle.std.proofs.Common.{◌≡◌, None, length, map}
+use Rattle.std.proofs.Common.{◌≡◌, None, Some, length, map}
+use Rattle.wf_model.specs.Problem.{Problem, constraint_at}
 use Rattle.wf_model.specs.Closing.{and_then}
+use Rattle.wf_complex.specs.Protocol.{point_in}
 use Rattle.wf_lane.specs.Sets.{values_in}
-use Rattle.wf_box.specs.Steps.{HasRoom, IsSpent, loss, reached, take_present}
+use Rattle.wf_box.specs.Steps.{HasRoom, IsNamed, IsSpent, loss, reached, take_present}
 use Rattle.wf_box.proofs.taking.take_each.Given as goal
 
 abbrev pub decreases-values : goal.decreases-values
@@ -9,5 +11,6 @@ decreases-values l = l.left
 
 abbrev pub invariant-values : goal.invariant-values
 invariant-values l = (length l.sets ≡ length l.initial.sets) × HasRoom l.lines l.sets × IsSpent l.initial.lines l.initial.sets l.lines l.sets
+    × ((p : Problem) → point_in l.place.process (constraint_at p l.place.execution).scope ≡ Some l.place.point → IsNamed p l.initial.lines.items l.initial.sets l.lines.items l.sets)
     × (and_then (reached l.lines.items None l.sets) (take_present l.place.execution (map (loss l.place.process l.place.point) (values_in l.left)))
     ≡ and_then (reached l.initial.lines.items None l.initial.sets) (take_present l.place.execution (map (loss l.place.process l.place.point) (values_in l.initial.left))))

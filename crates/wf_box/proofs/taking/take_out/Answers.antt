@@ -1,10 +1,12 @@
-use Rattle.std.proofs.Common.{◌++◌, ◌∷◌, [], Some, None, ◌∙◌, ap, arith, length-set}
+use Rattle.std.proofs.Common.{◌++◌, ◌∷◌, [], Some, None, ◌∙◌, sym, ap, subst, arith, length-set}
 use Rattle.std.specs.List.{slice_set}
+use Rattle.std.proofs.lemmas.List.{length-map}
 use Rattle.wf_complex.specs.declared.line.Line.TheVariants as line
 use Rattle.wf_lane.specs.Sets.{values_in}
 use Rattle.wf_lane.proofs.SetLaws.{nothing_from_values, values_of_nothing}
-use Rattle.wf_box.specs.Steps.{reached}
-use Rattle.wf_box.proofs.TakingLemmas.{one_less, set_there, taken_on, taken_last}
+use Rattle.wf_box.specs.Steps.{IsNamed, reached}
+use Rattle.wf_box.proofs.NameLemmas.{named_empty, named_lost, named_then}
+use Rattle.wf_box.proofs.TakingLemmas.{one_less, set_there, set_without, taken_on, taken_last}
 use Rattle.wf_box.proofs.taking.take_out.Goals as goal
 
 pub put-requires-then-set-eq0 : goal.put-requires-then-set-eq0
@@ -21,10 +23,25 @@ returns-then-set-eq0-clause-step c =
 
 pub returns-then-set-eq0-clause-emptied : goal.returns-then-set-eq0-clause-emptied
 returns-then-set-eq0-clause-emptied c = (
-  omega (arith, c.requires.point, length-set c.args.sets.now c.args.place.point c.without-set.result),
+  omega (arith, c.requires.point, length-map (slice_set c.args.sets.now c.args.place.point c.without-set.result) values_in, length-set c.args.sets.now c.args.place.point c.without-set.result),
   set_there c.args.sets.now c.args.place.point c.without-set.result c.requires.point ∙ ap values_in c.if-set-eq0.true ∙ values_of_nothing,
   (c.put.new.lines.items, c.put-then-set-eq0.ensures.lines),
 )
+
+-- the line of the value, and then that of the point
+pub returns-then-set-eq0-clause-named : goal.returns-then-set-eq0-clause-named
+returns-then-set-eq0-clause-named c = λ p at.
+    let gone = named_lost p c.args.lines.now.items c.args.sets.now c.args.place.execution c.args.place.process c.args.place.point c.args.value c.without-set.result at
+    (set_without c.args.sets.now c.args.place.point c.args.value c.without-set.result c.requires.point c.without-set.ensures) in
+    subst (λ ls. IsNamed p c.args.lines.now.items c.args.sets.now ls (slice_set c.args.sets.now c.args.place.point c.without-set.result))
+    (ap (λ ls. ls ++ line.Z c.args.place.point ∷ []) (sym c.put.ensures.lines) ∙ sym c.put-then-set-eq0.ensures.lines)
+    (named_then p _ _ _ _ _ _ gone (named_empty p _ _ c.args.place.point))
+
+pub returns-clause-named : goal.returns-clause-named
+returns-clause-named c = λ p at.
+    subst (λ ls. IsNamed p c.args.lines.now.items c.args.sets.now ls (slice_set c.args.sets.now c.args.place.point c.without-set.result)) (sym c.put.ensures.lines)
+    (named_lost p c.args.lines.now.items c.args.sets.now c.args.place.execution c.args.place.process c.args.place.point c.args.value c.without-set.result at
+    (set_without c.args.sets.now c.args.place.point c.args.value c.without-set.result c.requires.point c.without-set.ensures))
 
 pub returns-clause-step : goal.returns-clause-step
 returns-clause-step c =
