@@ -8,6 +8,8 @@ use Rattle.wf_engine.specs.declared.fault.RunFault.TheVariants.{Task, Build, Out
 use Rattle.wf_engine.specs.Run.{Runs, IsSolved, IsViews}
 use Rattle.wf_words.specs.declared.Job.{Job}
 use Rattle.wf_words.specs.declared.Job.TheVariants.{Solve, Views}
+use Rattle.wf_words.specs.declared.WordsFault.{WordsFault}
+use Rattle.wf_words.specs.declared.WordsFault.TheVariants as fault
 
 -- ---- exit statuses
 
@@ -32,9 +34,15 @@ listed_status (Err e) = fault_status e
 
 -- ---- what is done
 
--- the words ask for no job, and the writer held some bytes and holds some: help was added; or the words were refused, or memory ran out, and then nothing was written
-abbrev pub Declines : Option (List ℕ) → Option (List ℕ) → ℕ → Type 0
-Declines held holds status = ((status ≡ 0) × ((help : List ℕ) × Appends held holds help)) ⊎ (((status ≡ 2) ⊎ (status ≡ 3)) × Keeps held holds)
+-- help was added to what the writer held; or memory ran out, and nothing was
+abbrev pub Helps : Option (List ℕ) → Option (List ℕ) → ℕ → Type 0
+Helps held holds status = ((status ≡ 0) × ((help : List ℕ) × Appends held holds help)) ⊎ ((status ≡ 3) × Keeps held holds)
+
+-- the words ask for help, or they are refused, or memory ran out
+abbrev pub Declines : WordsFault → Option (List ℕ) → Option (List ℕ) → ℕ → Type 0
+Declines (fault.Clap e) held holds status = Helps held holds status ⊎ ((status ≡ 2) × Keeps held holds)
+Declines fault.Words held holds status = (status ≡ 2) × Keeps held holds
+Declines fault.OutOfMemory held holds status = (status ≡ 3) × Keeps held holds
 
 -- the reader had some bytes and has some left, and the writer held some and holds some
 module _ (had left held holds : Option (List ℕ)) where
@@ -51,6 +59,6 @@ module _ (had left held holds : Option (List ℕ)) where
   Does (Solve rounds workers verdict) status = Solves rounds status
   Does (Views rounds) status = Lists rounds status
 
-  -- some job was done, or none was and nothing was read
+  -- some job was done; or there is none in the words, and nothing was read
   abbrev pub DoesOne : ℕ → Type 0
-  DoesOne status = ((job : Job) × Does job status) ⊎ (Keeps had left × Declines held holds status)
+  DoesOne status = ((job : Job) × Does job status) ⊎ (Keeps had left × ((fault : WordsFault) × Declines fault held holds status))

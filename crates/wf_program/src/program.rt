@@ -4,9 +4,10 @@ ghost use Rattle.std.specs.Prelude.{◌≡◌, ◌==◌, ◌+◌, ◌-◌, ◌^�
 ghost use Rattle.std.specs.Io.KnownBytes.{Keeps};
 ghost use Rattle.wf_io.specs.Ends.{source_failures, source_reader, source_taken, sink_failures, sink_writer};
 ghost use Rattle.wf_words.specs.Job.{IsWithinLimits};
-ghost use Rattle.wf_program.specs.Program.{fault_status, Solves, Lists, Does, Declines, DoesOne};
+ghost use Rattle.wf_program.specs.Program.{fault_status, Solves, Lists, Does, Declines, DoesOne, Helps};
 
 use std::alloc::Global;
+use std::fmt::Display;
 use std::io::{Read, Write};
 use wf_engine::{Outcome, RunFault, run_solve_one, run_views};
 use wf_io::{Sink, Source, write_whole};
@@ -157,7 +158,7 @@ fn refused<E: Write>(errors: &mut E, fault: &RunFault) -> u8
     status_of(fault)
 }
 
-/// A fault of the words: help goes to the writer, a mistake to the error stream.
+/// A fault of the words: help goes to the sink, a mistake to the error stream.
 fn words_refused<W: Write, E: Write>(
     alloc: Global,
     sink: &mut Sink<W>,
@@ -165,27 +166,44 @@ fn words_refused<W: Write, E: Write>(
     fault: &WordsFault,
 ) -> u8
     requires { sink_failures sink.old < 2 ^ 64 - 1 }
-    ensures declines { Declines (W.contents (sink_writer sink.old)) (W.contents (sink_writer sink.new)) result }
+    ensures declines { Declines fault.now (W.contents (sink_writer sink.old)) (W.contents (sink_writer sink.new)) result }
     ensures quiet { result ≤ 1 → errors.new ≡ errors.old }
 {
     match fault {
         WordsFault::Clap(error) => {
             if error.use_stderr() {
-                let _ = write!(errors, "{error}");
-                return 2;
-            }
-            match format!(in alloc; "{error}") {
-                Ok(text) => {
-                    let _ = write_whole(sink, text.as_bytes());
-                    0
-                }
-                Err(_) => refused(errors, &RunFault::OutOfMemory),
+                mistaken(errors, error)
+            } else {
+                helped(alloc, sink, errors, error)
             }
         }
-        WordsFault::Words => {
-            let _ = writeln!(errors, "wfcheck: 32 Words");
-            2
-        }
+        WordsFault::Words => mistaken(errors, &"wfcheck: 32 Words\n"),
         WordsFault::OutOfMemory => refused(errors, &RunFault::OutOfMemory),
     }
+}
+
+/// The text of a mistake in the words, on the error stream.
+fn mistaken<E: Write, T: Display>(errors: &mut E, text: &T) -> u8
+    ensures { result ≡ 2 }
+{
+    let _ = write!(errors, "{text}");
+    2
+}
+
+/// The text of the help, as much of it as the sink takes.
+fn helped<W: Write, E: Write, T: Display>(
+    alloc: Global,
+    sink: &mut Sink<W>,
+    errors: &mut E,
+    text: &T,
+) -> u8
+    requires { sink_failures sink.old < 2 ^ 64 - 1 }
+    ensures helps { Helps (W.contents (sink_writer sink.old)) (W.contents (sink_writer sink.new)) result }
+    ensures quiet { result ≤ 1 → errors.new ≡ errors.old }
+{
+    let Ok(text) = format!(in alloc; "{text}") else {
+        return refused(errors, &RunFault::OutOfMemory);
+    };
+    let _ = write_whole(sink, text.as_bytes());
+    0
 }
