@@ -1,6 +1,10 @@
 -- What a run of the program reads, writes and answers.
-use Rattle.std.specs.Prelude.{◌≡◌, ◌⊎◌, ℕ, List, Option, Result, Ok, Err}
+use Rattle.std.specs.Prelude.{◌≡◌, ◌≢◌, ◌⊎◌, ℕ, List, Option, Result, Ok, Err}
 use Rattle.std.specs.Io.KnownBytes.{Keeps, Appends}
+use Rattle.clap.specs.Words.{kind_of}
+use Rattle.clap.specs.declared.error.Error.{Error}
+use Rattle.clap.specs.declared.error.ErrorKind.TheVariants as kind
+use Rattle.wf_core.specs.declared.Account.{Account}
 use Rattle.wf_engine.specs.declared.outcome.Outcome.{Outcome}
 use Rattle.wf_engine.specs.declared.outcome.Outcome.TheVariants.{Map, Nothing}
 use Rattle.wf_engine.specs.declared.fault.RunFault.{RunFault}
@@ -22,7 +26,7 @@ fault_status Read = 4
 fault_status Write = 4
 
 -- of a search
-abbrev pub solved_status : {A : Type 0} → Result (Outcome × A) RunFault → ℕ
+abbrev pub solved_status : Result (Outcome × Account) RunFault → ℕ
 solved_status (Ok (Map, account)) = 0
 solved_status (Ok (Nothing, account)) = 1
 solved_status (Err e) = fault_status e
@@ -38,9 +42,13 @@ listed_status (Err e) = fault_status e
 abbrev pub Helps : Option (List ℕ) → Option (List ℕ) → ℕ → Type 0
 Helps held holds status = ((status ≡ 0) × ((help : List ℕ) × Appends held holds help)) ⊎ ((status ≡ 3) × Keeps held holds)
 
+-- the words don't ask for help
+abbrev pub IsMistake : Error → Type 0
+IsMistake e = (kind_of e ≢ kind.DisplayHelp) × (kind_of e ≢ kind.DisplayVersion)
+
 -- the words ask for help, or they are refused, or memory ran out
 abbrev pub Declines : WordsFault → Option (List ℕ) → Option (List ℕ) → ℕ → Type 0
-Declines (fault.Clap e) held holds status = Helps held holds status ⊎ ((status ≡ 2) × Keeps held holds)
+Declines (fault.Clap e) held holds status = ((IsMistake e → ⊥) × Helps held holds status) ⊎ (IsMistake e × (status ≡ 2) × Keeps held holds)
 Declines fault.Words held holds status = (status ≡ 2) × Keeps held holds
 Declines fault.OutOfMemory held holds status = (status ≡ 3) × Keeps held holds
 
@@ -48,7 +56,7 @@ Declines fault.OutOfMemory held holds status = (status ≡ 3) × Keeps held hold
 module _ (had left held holds : Option (List ℕ)) where
   -- the task that the reader gave was decided for some rounds
   abbrev pub Solves : ℕ → ℕ → Type 0
-  Solves rounds status = (answer : Result (Outcome × _) RunFault) × Runs (IsSolved rounds) rounds had left held holds answer × (status ≡ solved_status answer)
+  Solves rounds status = (answer : Result (Outcome × Account) RunFault) × Runs (IsSolved rounds) rounds had left held holds answer × (status ≡ solved_status answer)
 
   -- the points of its protocol complex were listed
   abbrev pub Lists : ℕ → ℕ → Type 0

@@ -3,7 +3,7 @@
 
 mod program;
 
-pub use program::{run_between, run_program};
+pub use program::run_program;
 
 #[cfg(test)]
 mod tests;

@@ -1,6 +1,6 @@
 //! From the words of a command line to the exit status.
 
-ghost use Rattle.std.specs.Prelude.{◌≡◌, ◌==◌, ◌+◌, ◌-◌, ◌^◌, ◌<◌, ◌≤◌, List, Option, ℕ, if◌then◌else◌};
+ghost use Rattle.std.specs.Prelude.{◌≡◌, ◌==◌, ◌+◌, ◌-◌, ◌^◌, ◌<◌, ◌≤◌, if◌then◌else◌};
 ghost use Rattle.wf_io.specs.Ends.{source_failures, source_reader, source_taken, sink_failures, sink_writer};
 ghost use Rattle.wf_program.specs.Program.{fault_status, Solves, Lists, Does, Declines, DoesOne, Helps};
 
@@ -15,7 +15,7 @@ use wf_words::{Job, WordsFault, read_words};
 ///
 /// 0: a map was found, or the text was written. 1: there is no map. 2: the task, the rounds or the words are refused.
 /// 3: memory ran out. 4: a read or a write failed. A refusal is one line on `errors`.
-pub fn run_between<R: Read, W: Write, E: Write>(
+pub fn run_program<R: Read, W: Write, E: Write>(
     alloc: Global,
     words: &[String],
     source: &mut Source<R>,
@@ -37,26 +37,6 @@ pub fn run_between<R: Read, W: Write, E: Write>(
         Ok(job) => do_job(alloc, source, sink, errors, &job),
         Err(fault) => words_refused(alloc, sink, errors, &fault),
     }
-}
-
-/// The same as [`run_between`], over a reader and a writer that are lent.
-///
-/// What they are left with is not said: a contract doesn't follow a `&mut` that a [`Source`] or a [`Sink`] holds.
-pub fn run_program<R: Read, W: Write, E: Write>(
-    alloc: Global,
-    words: &[String],
-    reader: &mut R,
-    writer: &mut W,
-    errors: &mut E,
-) -> u8
-    ensures does { (left : Option (List ℕ)) × (holds : Option (List ℕ))
-        × DoesOne (R.remaining reader.old) left (W.contents writer.old) holds result }
-    ensures status { result ≤ 4 }
-    ensures quiet { result ≤ 1 → errors.new ≡ errors.old }
-{
-    let mut source = Source::new(reader);
-    let mut sink = Sink::new(writer);
-    run_between(alloc, words, &mut source, &mut sink, errors)
 }
 
 /// Does what a job asks for.

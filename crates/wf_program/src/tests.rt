@@ -1,6 +1,7 @@
 use crate::run_program;
 use std::alloc::{AllocError, Global};
 use std::test::Fail;
+use wf_io::{Sink, Source};
 
 mod tasks;
 
@@ -40,8 +41,9 @@ fn run(alloc: Global, line: &str, input: &str) -> Result<Answer, AllocError> {
     let words = split(alloc, line)?;
     let mut output = Vec::new(alloc);
     let mut errors = Vec::new(alloc);
-    let mut input = input.as_bytes();
-    let status = run_program(alloc, &words, &mut input, &mut output, &mut errors);
+    let mut source = Source::new(input.as_bytes());
+    let mut sink = Sink::new(&mut output);
+    let status = run_program(alloc, &words, &mut source, &mut sink, &mut errors);
     Ok(Answer {
         output,
         errors,
