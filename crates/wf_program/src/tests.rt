@@ -1,6 +1,7 @@
 use crate::run_program;
 use std::alloc::{AllocError, Global};
 use std::test::Fail;
+use wf_io::{Sink, Source};
 
 mod tasks;
 
@@ -40,8 +41,9 @@ fn run(alloc: Global, line: &str, input: &str) -> Result<Answer, AllocError> {
     let words = split(alloc, line)?;
     let mut output = Vec::new(alloc);
     let mut errors = Vec::new(alloc);
-    let mut input = input.as_bytes();
-    let status = run_program(alloc, &words, &mut input, &mut output, &mut errors);
+    let mut source = Source::new(input.as_bytes());
+    let mut sink = Sink::new(&mut output);
+    let status = run_program(alloc, &words, &mut source, &mut sink, &mut errors);
     Ok(Answer {
         output,
         errors,
@@ -327,4 +329,65 @@ fn a_large_complex_is_listed(rt: HostRuntime) -> Result<(), Fail> {
     let last = "v 72559 430754 3\nend\n";
     assert!(rt; answer.output.ends_with(last.as_bytes()), "the last lines");
     Ok(())
+}
+
+#[test]
+fn words_ask_for_help_or_are_refused(rt: HostRuntime) -> Result<(), Fail> {
+    // how the texts begin
+    let rows = [
+        Row {
+            words: "wfcheck --help",
+            input: PATH_3,
+            output: "Decide whether a task can be solved wait-free",
+            errors: "",
+            status: 0,
+        },
+        Row {
+            words: "wfcheck solve --help",
+            input: PATH_3,
+            output: "Read a task on standard input, and write its least decision map",
+            errors: "",
+            status: 0,
+        },
+        Row {
+            words: "wfcheck draw",
+            input: PATH_3,
+            output: "",
+            errors: "error: ",
+            status: 2,
+        },
+        Row {
+            words: "wfcheck views",
+            input: PATH_3,
+            output: "",
+            errors: "error: ",
+            status: 2,
+        },
+        Row {
+            words: "wfcheck solve --rounds 1 --workers 1",
+            input: PATH_3,
+            output: "",
+            errors: "wfcheck: 32 Words\n",
+            status: 2,
+        },
+    ];
+    for row in rows {
+        let Row {
+            words,
+            input,
+            output,
+            errors,
+            status,
+        } = row;
+        let answer = run(rt.alloc(), words, input)?;
+        assert_eq!(rt; answer.status, status, "{words}");
+        assert!(rt; begins(&answer.output, output), "{words}");
+        assert!(rt; begins(&answer.errors, errors), "{words}");
+    }
+    Ok(())
+}
+
+/// Whether a text begins so, or is empty where that is.
+fn begins(text: &[u8], front: &str) -> bool {
+    text.starts_with(front.as_bytes()) && text.is_empty() == front.is_empty()
 }

@@ -7,6 +7,7 @@ use std::alloc::Global;
 use std::env::Env;
 use std::process::ExitCode;
 use std::{env, io};
+use wf_io::{Sink, Source};
 use wf_program::run_program;
 
 /// The words of the command line, the program's name first.
@@ -23,8 +24,8 @@ fn main(rt: HostRuntime) -> ExitCode {
     let status = run_program(
         rt.alloc(),
         &words,
-        &mut rt.reader(),
-        &mut io::writer(&rt),
+        &mut Source::new(rt.reader()),
+        &mut Sink::new(io::writer(&rt)),
         &mut rt.stderr(),
     );
     ExitCode::from(status)
