@@ -17,3 +17,4 @@ pub mod Closed
 pub mod Trying
 pub mod Least
 pub mod Covering
+pub mod LeastTrees
