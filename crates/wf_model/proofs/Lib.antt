@@ -18,3 +18,4 @@ pub mod Trying
 pub mod Least
 pub mod Covering
 pub mod LeastTrees
+pub mod Leading

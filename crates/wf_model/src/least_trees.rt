@@ -1,14 +1,15 @@
 //! Laws of least trees: that they lead to the least solution, that the canonical search writes one
 //! where it finds a map, and that a checker finds no fault exactly in their lines.
 
-ghost use Rattle.std.specs.Prelude.{◌≡◌, true, ℕ, List, All, slice_index};
+ghost use Rattle.std.specs.Prelude.{◌≡◌, true, ℕ, List, Some, All, slice_index};
 ghost use Rattle.wf_model.specs.Simplex.{is_ascending};
 ghost use Rattle.wf_model.specs.Task.{Task, IsTask};
 ghost use Rattle.wf_model.specs.Points.{points};
 ghost use Rattle.wf_model.specs.DecisionMap.{IsLeast};
 ghost use Rattle.wf_model.specs.Problem.{Problem, InRange, IsSolution, problem_of, number_of};
 ghost use Rattle.wf_model.specs.Box.{Box, root};
-ghost use Rattle.wf_model.specs.Refutation.{Tree};
+ghost use Rattle.wf_model.specs.Refutation.{Tree, lines};
+ghost use Rattle.wf_model.specs.Closing.{canonical};
 ghost use Rattle.wf_model.specs.LeastTree.{IsLeastTree};
 ghost use Rattle.wf_model.specs.Laws.{IsLeastIn};
 
@@ -21,4 +22,9 @@ pub fn a_least_tree_has_the_least_solution()
 /// points, the least of all decision maps.
 pub fn a_least_tree_leads_to_the_least_map()
     ensures { (t : Task) (r : ℕ) (m : List ℕ) (tree : Tree) → IsTask t → IsSolution (problem_of t r) m → IsLeastTree (problem_of t r) m tree (root (problem_of t r)) → IsLeast t r (λ v. slice_index m (number_of (points t r) v)) }
+{}
+
+/// Where the canonical search finds a map, its lines are those of a tree that leads to it.
+pub fn the_canonical_lines_lead_to_the_map()
+    ensures { (p : Problem) (box : Box) (m : List ℕ) → All (λ set. is_ascending set ≡ true) box → (canonical p box).map ≡ Some m → (t : Tree) × (lines t ≡ (canonical p box).lines) × IsLeastTree p m t box }
 {}
