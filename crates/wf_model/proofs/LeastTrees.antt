@@ -1,7 +1,7 @@
 -- The solution to which a least tree leads is the least one in its box.
-use Rattle.std.proofs.Common.{◌≡◌, ℕ, zero, suc, ◌<◌, ◌≤◌, ◌==◌, ◌⊎◌, true, List, [], ◌∷◌, length, slice_index, nat_lt, Some, All, refl, sym, subst, inl, inr, arith, eqb-true, ltb-false}
+use Rattle.std.proofs.Common.{◌≡◌, ℕ, ◌<◌, ◌≤◌, ◌==◌, ◌⊎◌, true, List, [], ◌∷◌, length, slice_index, nat_lt, Some, All, refl, sym, subst, inl, inr, eqb-true, ltb-false}
 use Rattle.std.specs.List.{AllByRecursion}
-use Rattle.std.proofs.lemmas.Bool.{or_cases, or_left, eq-eqb, false≢true}
+use Rattle.std.proofs.lemmas.Bool.{or_cases, or_left, eq-eqb}
 use Rattle.std.proofs.lemmas.List.Quantifiers.{position-Some}
 use Rattle.std.proofs.lemmas.List.Elements.{recursion_from_All}
 use Rattle.wf_model.specs.Lists.{has, IsBelow}
