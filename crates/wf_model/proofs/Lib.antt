@@ -19,3 +19,4 @@ pub mod Least
 pub mod Covering
 pub mod LeastTrees
 pub mod Leading
+pub mod LeastChecked

@@ -34,6 +34,7 @@ pub use covers::{
 };
 pub use least_trees::{
     a_least_tree_has_the_least_solution, a_least_tree_leads_to_the_least_map,
+    accepted_least_lines_lead_to_the_map, lines_of_a_least_tree_are_accepted,
     the_canonical_lines_lead_to_the_map,
 };
 pub use maps::{
