@@ -91,12 +91,11 @@ module _ (p : Problem) (m : List ℕ) where
   Fit boxes = AllByRecursion (λ b. (length b ≡ p.points) × Ascending b) boxes
 
   -- all trees but the last refute the first boxes, and the last leads to the map from the next box
-  abbrev mutual
-    LedBy : Trees → List Box → Type 0
-    LedBy no_trees boxes = ⊥
-    LedBy (tree t ts) [] = ⊥
-    LedBy (tree t no_trees) (box ∷ boxes) = IsLeastTree p m t box
-    LedBy (tree t (tree u us)) (box ∷ boxes) = Refutes p t box × BranchesFirst t box × LedBy (tree u us) boxes
+  abbrev LedBy : Trees → List Box → Type 0
+  LedBy no_trees boxes = ⊥
+  LedBy (tree t ts) [] = ⊥
+  LedBy (tree t no_trees) (box ∷ boxes) = IsLeastTree p m t box
+  LedBy (tree t (tree u us)) (box ∷ boxes) = Refutes p t box × BranchesFirst t box × LedBy (tree u us) boxes
 
   abbrev Led : List Box → List Line → Type 0
   Led boxes ls = (ts : Trees) × (lines_each ts ≡ ls) × LedBy ts boxes
