@@ -87,7 +87,8 @@ ascending_after [] v set h k = tt
 ascending_after (s ∷ box) zero set h k = (h, k.1)
 ascending_after (s ∷ box) (suc v) set h k = (k.0, ascending_after box v set h k.1)
 
-lies_with : (m : List ℕ) (box : Box) (v a : ℕ) → LiesIn m (without box v a) → LiesIn m box
+-- a map lies in a box where it lies in one with a candidate taken out
+pub lies_with : (m : List ℕ) (box : Box) (v a : ℕ) → LiesIn m (without box v a) → LiesIn m box
 lies_with m [] v a lies = lies
 lies_with [] (s ∷ box) zero a lies = absurd lies
 lies_with (x ∷ m) (s ∷ box) zero a lies = (has_filtered (λ b. not (b == a)) s x lies.0, lies.1)

@@ -16,7 +16,7 @@ use Rattle.wf_model.specs.Laws.{IsBoxOf, IsLeastIn}
 use Rattle.wf_model.proofs.Bridge.{weaker, by_number, solution_decides}
 use Rattle.wf_model.proofs.Headline.{lies_in_root, no_decision_map}
 use Rattle.wf_model.proofs.Sound.{none_refutes, value_at_point}
-use Rattle.wf_model.proofs.Fuel.{Leaves, closing_count, Few, branches_few, open_point}
+use Rattle.wf_model.proofs.Fuel.{Leaves, leaves_both, closing_count, Few, branches_few, open_point}
 use Rattle.wf_model.proofs.Canonical.{NoMap, refutes_within, canonical_none_refutes}
 use Rattle.wf_model.proofs.Stable.{each_has, closing_stable}
 use Rattle.wf_model.proofs.Ascending.{Ascends, ascends_from}
@@ -131,10 +131,6 @@ module _ (p : Problem) (well : IsWellFormed p) where
     pub inside : IsInside box b
     pub stable : (sweep p b).lines ≡ []
     pub fewer : count b ≤ count box
-
-  leaves_both : (P Q R : Box → Type 0) → ((b : Box) → P b → Q b → R b) → (o : Option Box) → Leaves P o → Leaves Q o → Leaves R o
-  leaves_both P Q R f None h k = tt
-  leaves_both P Q R f (Some b) h k = f b h k
 
   pub leaves_closed : (box : Box) → Leaves (IsClosed box) (closing p box).left
   leaves_closed box =

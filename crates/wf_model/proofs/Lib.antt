@@ -17,3 +17,6 @@ pub mod Closed
 pub mod Trying
 pub mod Least
 pub mod Covering
+pub mod LeastTrees
+pub mod Leading
+pub mod LeastChecked

@@ -79,7 +79,7 @@ position_none_from test xs h = position_from-zero test xs ∙ not_found test 0 x
 abbrev pub Before : Box → Box → Type 0
 Before early late = (m n : List ℕ) → LiesIn m early → LiesIn n late → IsBelow m n
 
-only : (a x : ℕ) → has (a ∷ []) x ≡ true → a ≡ x
+pub only : (a x : ℕ) → has (a ∷ []) x ≡ true → a ≡ x
 only a x h = elim (or_cases (a == x) false h) [ inl same ↦ eqb-true a x same | inr other ↦ absurd (false≢true other) ]
 
 one_of_few : (set : List ℕ) (x y : ℕ) → length set ≤ 1 → has set x ≡ true → has set y ≡ true → x ≡ y
@@ -87,7 +87,7 @@ one_of_few [] x y few h k = absurd (false≢true h)
 one_of_few (a ∷ []) x y few h k = sym (only a x h) ∙ only a y k
 one_of_few (a ∷ b ∷ set) x y few h k = absurd (let none : ⊥ = omega (arith, few) in none)
 
-branch_before : (box : Box) (v a b : ℕ) → a < b → v < length box → ((u : ℕ) → u < v → length (candidates box u) ≤ 1) → Before (decided box v a) (decided box v b)
+pub branch_before : (box : Box) (v a b : ℕ) → a < b → v < length box → ((u : ℕ) → u < v → length (candidates box u) ≤ 1) → Before (decided box v a) (decided box v b)
 branch_before [] v a b less within few m n h k = absurd (let none : ⊥ = omega (arith, within) in none)
 branch_before (s ∷ box) zero a b less within few [] n h k = absurd h
 branch_before (s ∷ box) zero a b less within few (x ∷ m) [] h k = absurd k

@@ -75,7 +75,7 @@ single_unless_open box full none =
 abbrev pub values_in : Box → List ℕ
 values_in box = map (λ set. slice_index set 0) box
 
-only_one : (set : List ℕ) → length set ≡ 1 → set ≡ slice_index set 0 ∷ []
+pub only_one : (set : List ℕ) → length set ≡ 1 → set ≡ slice_index set 0 ∷ []
 only_one [] h = absurd (let none : ⊥ = omega (arith, h) in none)
 only_one (a ∷ []) h = refl
 only_one (a ∷ b ∷ set) h = absurd (let none : ⊥ = omega (arith, h) in none)

@@ -20,6 +20,7 @@
 
 mod closing;
 mod covers;
+mod least_trees;
 mod maps;
 mod refutations;
 mod search;
@@ -30,6 +31,11 @@ pub use closing::{
 };
 pub use covers::{
     boxes_of_a_cover_are_in_order, split_covers_in_order, the_first_map_of_a_cover_is_the_least,
+};
+pub use least_trees::{
+    a_least_tree_has_the_least_solution, a_least_tree_leads_to_the_least_map,
+    accepted_least_lines_lead_to_the_map, lines_of_a_least_tree_are_accepted,
+    the_canonical_lines_lead_to_the_map,
 };
 pub use maps::{
     a_least_solution_is_a_least_map, all_solutions_are_found, faultless_maps_are_solutions,
