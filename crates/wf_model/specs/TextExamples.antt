@@ -147,6 +147,10 @@ least_lines_hold = refl
 pub branch_at_a_later_point : least_checked (0 ∷ 2 ∷ 1 ∷ 0 ∷ []) (branch 3 ∷ branch 2 ∷ found ∷ []) ≡ Some (not_first 17)
 branch_at_a_later_point = refl
 
+-- that a point has one candidate comes before that it is not the first open one
+pub branch_with_one_candidate_at_a_later_point : least_checked (0 ∷ 2 ∷ 1 ∷ 0 ∷ []) (branch 2 ∷ branch 2 ∷ found ∷ []) ≡ Some (not_open 18)
+branch_with_one_candidate_at_a_later_point = refl
+
 pub found_too_early : least_checked (0 ∷ 2 ∷ 1 ∷ 0 ∷ []) (branch 2 ∷ found ∷ []) ≡ Some (not_the_map 18)
 found_too_early = refl
 
