@@ -1,0 +1,28 @@
+//! Laws of whole reports: that those in which a checker finds no fault are true.
+
+ghost use Rattle.std.specs.Prelude.{◌≡◌, ℕ, List, length, None, slice_index};
+ghost use Rattle.wf_model.specs.View.{View};
+ghost use Rattle.wf_model.specs.Task.{Task, IsTask};
+ghost use Rattle.wf_model.specs.Execution.{executions};
+ghost use Rattle.wf_model.specs.Points.{points};
+ghost use Rattle.wf_model.specs.DecisionMap.{IsDecisionMap, IsLeast, listed};
+ghost use Rattle.wf_model.specs.Problem.{number_of};
+ghost use Rattle.wf_model.specs.Refutation.{Line};
+ghost use Rattle.wf_model.specs.Report.{Report, a_map, none, least};
+ghost use Rattle.wf_model.specs.Check.{report_fault};
+
+/// A report in which a checker finds no fault is true. Its numbers are those of the task and its
+/// rounds. Where its body is a list of values, they are those of a decision map over the points; with
+/// lines as well, those of the least decision map; and where its body has lines alone, no function on
+/// the views is a decision map.
+pub fn accepted_reports_are_true()
+    ensures processes { (t : Task) (r : ℕ) (report : Report) → report_fault t r report ≡ None → report.processes ≡ t.processes }
+    ensures rounds { (t : Task) (r : ℕ) (report : Report) → report_fault t r report ≡ None → report.rounds ≡ r }
+    ensures point_count { (t : Task) (r : ℕ) (report : Report) → report_fault t r report ≡ None → report.points ≡ length (points t r) }
+    ensures execution_count { (t : Task) (r : ℕ) (report : Report) → report_fault t r report ≡ None → report.executions ≡ length (executions t r) }
+    ensures map { (t : Task) (r : ℕ) (report : Report) (m : List ℕ) → report_fault t r report ≡ None → report.body ≡ a_map m → IsDecisionMap t r (λ v. slice_index m (number_of (points t r) v)) }
+    ensures listed_map { (t : Task) (r : ℕ) (report : Report) (m : List ℕ) → report_fault t r report ≡ None → report.body ≡ a_map m → listed t r (λ v. slice_index m (number_of (points t r) v)) ≡ m }
+    ensures no_map { (t : Task) (r : ℕ) (report : Report) (ls : List Line) → IsTask t → report_fault t r report ≡ None → report.body ≡ none ls → (m : View → ℕ) → IsDecisionMap t r m → ⊥ }
+    ensures least_map { (t : Task) (r : ℕ) (report : Report) (m : List ℕ) (ls : List Line) → IsTask t → report_fault t r report ≡ None → report.body ≡ least m ls → IsLeast t r (λ v. slice_index m (number_of (points t r) v)) }
+    ensures listed_least_map { (t : Task) (r : ℕ) (report : Report) (m : List ℕ) (ls : List Line) → report_fault t r report ≡ None → report.body ≡ least m ls → listed t r (λ v. slice_index m (number_of (points t r) v)) ≡ m }
+{}
