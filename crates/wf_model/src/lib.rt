@@ -47,7 +47,7 @@ pub use refutations::{
     a_refutation_leaves_no_map, accepted_lines_refute, no_tree_refutes_a_solution,
     refuting_lines_are_accepted,
 };
-pub use reports::accepted_reports_are_true;
+pub use reports::{accepted_reports_are_true, true_reports_are_accepted};
 pub use search::{
     a_box_has_one_least_solution, the_canonical_answer, the_canonical_map_is_the_least_solution,
     the_canonical_search_by_steps, the_canonical_search_refutes,
