@@ -1,5 +1,5 @@
 -- What a checker's answer about a whole report means.
-use Rattle.std.proofs.Common.{◌≡◌, ◌==◌, ℕ, ◌+◌, not, cond, List, [], ◌∷◌, length, Option, All, Some, None, refl, sym, ◌∙◌, subst, inl, inr, eqb-true, eq-eqb}
+use Rattle.std.proofs.Common.{◌≡◌, ◌==◌, ℕ, ◌+◌, not, cond, List, [], ◌∷◌, length, Option, Some, None, refl, sym, ◌∙◌, subst, inl, inr, eqb-true, eq-eqb}
 use Rattle.std.proofs.lemmas.Bool.{cases_Bool}
 use Rattle.std.proofs.lemmas.List.{length-map}
 use Rattle.wf_model.specs.View.{View}
@@ -13,8 +13,8 @@ use Rattle.wf_model.specs.Refutation.{Line, Tree, lines, Refutes}
 use Rattle.wf_model.specs.LeastTree.{IsLeastTree}
 use Rattle.wf_model.specs.Closing.{canonical}
 use Rattle.wf_model.specs.Report.{Report, Body, a_map, none, least}
-use Rattle.wf_model.specs.Check.{Refusal, map_fault, first_fault, first_least_fault, header_fault, unless_fault, body_fault, report_fault}
-use Rattle.wf_model.specs.Laws.{IsLeastIn, report_about}
+use Rattle.wf_model.specs.Check.{Refusal, map_fault, first_least_fault, header_fault, unless_fault, body_fault, report_fault}
+use Rattle.wf_model.specs.Laws.{report_about}
 use Rattle.wf_model.proofs.Bridge.{by_number, listed_solves, solution_decides}
 use Rattle.wf_model.proofs.Headline.{no_decision_map}
 use Rattle.wf_model.proofs.Checked.{root_accepted}

@@ -1,4 +1,4 @@
--- What the laws say of boxes: the least solution in a box, the branches of a box, and maps in a list of boxes. And of reports: what the right numbers are.
+-- What the laws say of boxes: the least solution in a box, the branches of a box, and maps in a list of boxes; and of reports.
 use Rattle.std.specs.Prelude.{◌≡◌, ◌<◌, ◌⊎◌, true, ℕ, List, [], length, None, All}
 use Rattle.std.specs.List.{slice_index_or}
 use Rattle.wf_model.specs.Lists.{IsBelow}

@@ -14,8 +14,9 @@
 //! examples hold by computation.
 //!
 //! The public functions below are laws: a body is empty, and the clauses are what is proved. The
-//! main one is [`the_canonical_answer`]. A crate above cites a law's lemma, or calls the law, which
-//! puts its clauses among the facts that are known there.
+//! main one is [`the_canonical_answer`], and [`accepted_reports_are_true`] is what a user of a checker
+//! reads. A crate above cites a law's lemma, or calls the law, which puts its clauses among the facts
+//! that are known there.
 #![tactic(auto)]
 
 mod closing;

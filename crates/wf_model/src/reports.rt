@@ -17,9 +17,8 @@ ghost use Rattle.wf_model.specs.Check.{report_fault};
 ghost use Rattle.wf_model.specs.Laws.{report_about};
 
 /// A report in which a checker finds no fault is true. Its numbers are those of the task and its
-/// rounds. Where its body is a list of values, they are those of a decision map over the points; with
-/// lines as well, those of the least decision map; and where its body has lines alone, no function on
-/// the views is a decision map.
+/// rounds. Where its body is a map, it is a decision map, listed over the points; a map with lines is
+/// the least one; and where its body is lines alone, no function on the views is a decision map.
 pub fn accepted_reports_are_true()
     ensures processes { (t : Task) (r : ℕ) (report : Report) → report_fault t r report ≡ None → report.processes ≡ t.processes }
     ensures rounds { (t : Task) (r : ℕ) (report : Report) → report_fault t r report ≡ None → report.rounds ≡ r }
@@ -32,14 +31,13 @@ pub fn accepted_reports_are_true()
     ensures listed_least_map { (t : Task) (r : ℕ) (report : Report) (m : List ℕ) (ls : List Line) → report_fault t r report ≡ None → report.body ≡ least m ls → listed t r (λ v. slice_index m (number_of (points t r) v)) ≡ m }
 {}
 
-/// A checker finds no fault in a true report: the values of any decision map over the points; what
-/// the canonical search of the root writes, where it finds no map and where it finds one; and, as
-/// well as these, the lines of any tree that refutes the root, and those of any tree that leads to
-/// a decision map.
+/// A checker finds no fault in a true report: any decision map, listed over the points; the lines of
+/// any refutation of the root; those of any tree that leads to a decision map, with that map; and so
+/// what the canonical search writes, where it finds no map and where it finds one.
 pub fn true_reports_are_accepted()
     ensures map { (t : Task) (r : ℕ) (m : View → ℕ) → IsDecisionMap t r m → report_fault t r (report_about t r (a_map (listed t r m))) ≡ None }
-    ensures no_map { (t : Task) (r : ℕ) → IsTask t → (canonical (problem_of t r) (root (problem_of t r))).map ≡ None → report_fault t r (report_about t r (none (canonical (problem_of t r) (root (problem_of t r))).lines)) ≡ None }
-    ensures least_map { (t : Task) (r : ℕ) (m : List ℕ) → IsTask t → (canonical (problem_of t r) (root (problem_of t r))).map ≡ Some m → report_fault t r (report_about t r (least m (canonical (problem_of t r) (root (problem_of t r))).lines)) ≡ None }
-    ensures a_refutation { (t : Task) (r : ℕ) (refutation : Tree) → IsTask t → Refutes (problem_of t r) refutation (root (problem_of t r)) → report_fault t r (report_about t r (none (lines refutation))) ≡ None }
-    ensures a_least_tree { (t : Task) (r : ℕ) (m : View → ℕ) (tree : Tree) → IsTask t → IsDecisionMap t r m → IsLeastTree (problem_of t r) (listed t r m) tree (root (problem_of t r)) → report_fault t r (report_about t r (least (listed t r m) (lines tree))) ≡ None }
+    ensures refutation { (t : Task) (r : ℕ) (refutation : Tree) → IsTask t → Refutes (problem_of t r) refutation (root (problem_of t r)) → report_fault t r (report_about t r (none (lines refutation))) ≡ None }
+    ensures least_tree { (t : Task) (r : ℕ) (m : View → ℕ) (tree : Tree) → IsTask t → IsDecisionMap t r m → IsLeastTree (problem_of t r) (listed t r m) tree (root (problem_of t r)) → report_fault t r (report_about t r (least (listed t r m) (lines tree))) ≡ None }
+    ensures canonical_none { (t : Task) (r : ℕ) → IsTask t → (canonical (problem_of t r) (root (problem_of t r))).map ≡ None → report_fault t r (report_about t r (none (canonical (problem_of t r) (root (problem_of t r))).lines)) ≡ None }
+    ensures canonical_least { (t : Task) (r : ℕ) (m : List ℕ) → IsTask t → (canonical (problem_of t r) (root (problem_of t r))).map ≡ Some m → report_fault t r (report_about t r (least m (canonical (problem_of t r) (root (problem_of t r))).lines)) ≡ None }
 {}

@@ -4,8 +4,8 @@ use Rattle.wf_model.proofs.reports.true_reports_are_accepted.Goals as goal
 pub returns : goal.returns
 returns c = record {
   map = map_accepted;
-  no_map = canonical_none_accepted;
-  least_map = canonical_least_accepted;
-  a_refutation = refutation_accepted;
-  a_least_tree = least_tree_accepted;
+  refutation = refutation_accepted;
+  least_tree = least_tree_accepted;
+  canonical_none = canonical_none_accepted;
+  canonical_least = canonical_least_accepted;
 }
