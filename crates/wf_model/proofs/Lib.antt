@@ -20,3 +20,4 @@ pub mod Covering
 pub mod LeastTrees
 pub mod Leading
 pub mod LeastChecked
+pub mod WholeReports

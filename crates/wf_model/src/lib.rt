@@ -14,8 +14,9 @@
 //! examples hold by computation.
 //!
 //! The public functions below are laws: a body is empty, and the clauses are what is proved. The
-//! main one is [`the_canonical_answer`]. A crate above cites a law's lemma, or calls the law, which
-//! puts its clauses among the facts that are known there.
+//! main one is [`the_canonical_answer`], and [`accepted_reports_are_true`] is what a user of a checker
+//! reads. A crate above cites a law's lemma, or calls the law, which puts its clauses among the facts
+//! that are known there.
 #![tactic(auto)]
 
 mod closing;
@@ -23,6 +24,7 @@ mod covers;
 mod least_trees;
 mod maps;
 mod refutations;
+mod reports;
 mod search;
 
 pub use closing::{
@@ -46,6 +48,7 @@ pub use refutations::{
     a_refutation_leaves_no_map, accepted_lines_refute, no_tree_refutes_a_solution,
     refuting_lines_are_accepted,
 };
+pub use reports::{accepted_reports_are_true, true_reports_are_accepted};
 pub use search::{
     a_box_has_one_least_solution, the_canonical_answer, the_canonical_map_is_the_least_solution,
     the_canonical_search_by_steps, the_canonical_search_refutes,
