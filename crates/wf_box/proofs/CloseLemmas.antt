@@ -1,7 +1,7 @@
 -- What the sweeps come to.
-use Rattle.std.proofs.Common.{◌≡◌, ℕ, suc, ◌<◌, ◌^◌, ◌==◌, true, List, [], ◌∷◌, length, slice_index, All, Option, Some, None, refl, sym, ap, ◌∙◌, subst, arith, eqb-true}
+use Rattle.std.proofs.Common.{◌≡◌, ℕ, suc, ◌<◌, ◌^◌, ◌==◌, true, List, [], ◌∷◌, length, slice_index, All, Option, Some, None, sym, ap, ◌∙◌, subst, eqb-true}
 use Rattle.std.specs.List.{AllByRecursion}
-use Rattle.std.proofs.lemmas.List.{get_or_default, length-map}
+use Rattle.std.proofs.lemmas.List.{get_or_default, length-map, nil_from_length}
 use Rattle.std.proofs.lemmas.List.Elements.{All-from_recursion}
 use Rattle.std.proofs.lemmas.List.Quantifiers.{position-Some}
 use Rattle.wf_model.specs.Simplex.{is_ascending}
@@ -37,12 +37,8 @@ is_box p words long = record { long = length-map words values_in ∙ long; ascen
 pub closing_empty : (p : Problem) (box : Box) (v : ℕ) → first_empty box ≡ Some v → closing p box ≡ record { lines = refutation.empty v ∷ []; left = None }
 closing_empty p box v is = ap (λ o. closing_at o p box) is
 
-no_candidate : (set : List ℕ) → (length set == 0) ≡ true → set ≡ []
-no_candidate [] h = refl
-no_candidate (a ∷ set) h = absurd (let bad : ⊥ = omega (arith, eqb-true (length (a ∷ set)) 0 h) in bad)
-
 pub empty_there : (box : Box) (v : ℕ) → first_empty box ≡ Some v → candidates box v ≡ []
-empty_there box v is = no_candidate (candidates box v) (position-Some (λ set. length set == 0) box v [] is).1
+empty_there box v is = nil_from_length (candidates box v) (eqb-true (length (candidates box v)) 0 (position-Some (λ set. length set == 0) box v [] is).1)
 
 pub point_there : (box : Box) (v : ℕ) → first_empty box ≡ Some v → v < length box
 point_there box v is = (position-Some (λ set. length set == 0) box v [] is).0

@@ -7,7 +7,7 @@ use Rattle.wf_model.specs.View.{View, base, normal}
 use Rattle.wf_view.specs.Views.{view_at, count_within}
 use Rattle.wf_complex.specs.Rounds.{views_at, Extends}
 use Rattle.wf_complex.specs.Classes.{class_by}
-use Rattle.wf_complex.proofs.RoundLemmas.{extends_longer, views_kept, within_kept, views_push}
+use Rattle.wf_complex.proofs.RoundLemmas.{views_kept, within_kept, views_push}
 use Rattle.wf_model.proofs.Numbers.{map_same}
 use Rattle.wf_model.proofs.Bridge.{weaker}
 use Rattle.std.proofs.lemmas.Simd.{map-map}
@@ -28,9 +28,6 @@ classes_are_views false h vs = own_classes vs
 module _ (old now : List View) (grown : Extends old now) (ids : List ℕ) (i : ℕ) (place : i < length ids) (within : All (λ k. k < length old) ids) where
   pub low : slice_index ids i < length old
   low = All-get_or (λ k. k < length old) ids i 0 place within
-
-  pub low_now : slice_index ids i < length now
-  low_now = omega (arith, low, extends_longer old now grown)
 
   pub same_there : view_at now (slice_index ids i) ≡ view_at old (slice_index ids i)
   same_there = (let e : views_at now (slice_index ids i ∷ []) ≡ views_at old (slice_index ids i ∷ []) = views_kept old now (slice_index ids i ∷ []) grown (low, tt) in cc)

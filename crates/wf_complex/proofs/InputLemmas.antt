@@ -49,9 +49,6 @@ module _ (rounds : ℕ) (ss : List Simplex) (i : ℕ) (s : Simplex) (place : i <
   same_cost : cost (length (take n ids)) rounds ≡ cost (length s) rounds
   same_cost = ap (λ k. cost k rounds) long
 
-  pub room_here : (m : ℕ) → length table + cost_of_each rounds (drop i ss) ≤ m → length first ≤ length table + length s → length first + cost (length (take n ids)) rounds ≤ m
-  room_here m room few = omega (arith, room, few, same_cost, ap (cost_of_each rounds) (drop_more ss i s place ∙ ap (λ x. x ∷ drop (i + 1) ss) (sym is)))
-
   pub room_after : (m : ℕ) → length table + cost_of_each rounds (drop i ss) ≤ m → length first ≤ length table + length s → length after ≤ length first + cost (length (take n ids)) rounds →
       length after + cost_of_each rounds (drop (i + 1) ss) ≤ m
   room_after m room few added = omega (arith, room, few, added, same_cost, ap (cost_of_each rounds) (drop_more ss i s place ∙ ap (λ x. x ∷ drop (i + 1) ss) (sym is)))

@@ -153,9 +153,6 @@ module _ {V : Type 0} where
       let both : b * (g x + total g xs) ≡ b * g x + b * total g xs = mul-add b (g x) (total g xs) in
       omega arith
 
-  pub times_in-append : (f : V → List ℕ) (x : ℕ) (vs : List V) (v : V) → times_in f x (vs ++ v ∷ []) ≡ times_in f x vs + times x (f v)
-  times_in-append f x vs v = let e = total-append (λ u. times x (f u)) vs (v ∷ []) in omega arith
-
   pub times_in-part : (f : V → List ℕ) (x : ℕ) (vs : List V) (i : ℕ) (d : V) → i < length vs → times x (f (slice_index_or vs i d)) ≤ times_in f x vs
   times_in-part f x [] i d h = absurd (omega arith)
   times_in-part f x (v ∷ vs) zero d h = omega arith

@@ -2,16 +2,15 @@
 use Rattle.std.proofs.Common.{◌≡◌, ℕ, zero, suc, ◌∷◌, replicate, ◌<◌, List, map, set, length, get_or, true, false, refl, sym, ap, ◌∙◌, arith, lt_of_not-le}
 use Rattle.std.specs.Prelude.{Some, None, slice_get}
 use Rattle.std.specs.Option.{option_and_then, option_map}
-use Rattle.std.proofs.lemmas.Option.{none-some, slice_get-map, slice_get_within, slice_get_past, option_and_then_some}
+use Rattle.std.proofs.lemmas.Option.{none-some, slice_get-map, slice_get_within, slice_get_past}
 use Rattle.std.proofs.lemmas.List.{map-set, length-map}
 use Rattle.std.proofs.Math.Seq.{map-set_same}
 use mathlib.Core.Logic.{dite}
 use native.Mathlib.Decide.{dec_le}
 use Rattle.wf_core.specs.declared.event.Status.{Status}
-use Rattle.wf_core.specs.declared.event.Status.TheVariants.{Free, Held}
+use Rattle.wf_core.specs.declared.event.Status.TheVariants.{Free}
 use Rattle.wf_core.specs.declared.machine.Worker.{Worker}
 use Rattle.wf_core.specs.Core.{State, IsActive, start}
-use Rattle.wf_core.proofs.Lists.{at_replicate}
 use Rattle.wf_core.specs.Fields.{shown, holding, IsTied, IsWorker}
 
 -- a worker that holds a branch is there
@@ -69,14 +68,3 @@ start_shown bs ws b w e f =
     let seen = ap (map (λ (x : Worker). x.seen)) f ∙ map_replicate (λ (x : Worker). x.seen) w k in
     let ended = ap (map (λ (x : Worker). x.ended)) f ∙ map_replicate (λ (x : Worker). x.ended) w k in
     λ j. record { branches = e j; least = b; seen = seen j; ended = ended j }
-
-not_free : (w : ℕ) → ¬ (Free ≡ Held w)
-not_free w e = cc
-
--- nobody holds a branch at the start
-pub start_ties : (bs : List Status) (ws : List Worker) (b w : ℕ) (k : Worker) → bs ≡ replicate b Free → ws ≡ replicate w k → k.holds ≡ None → IsTied bs ws
-start_ties bs ws b w k e f none = record {
-  held = λ v i h. absurd (not_free v (at_replicate b Free (Held v) i (sym (ap (λ (l : List Status). slice_get l i) e) ∙ h)));
-  named = λ v i h. option_and_then_some (λ (x : Worker). x.holds) (slice_get ws v) i h (λ x at mine.
-      absurd (none-some i (sym none ∙ (ap (λ (y : Worker). y.holds) (at_replicate w k x v (sym (ap (λ (l : List Worker). slice_get l v) f) ∙ at)) ∙ mine))));
-}

@@ -32,7 +32,7 @@ one_by_two : {X : Type 0} (p : X → Bool) (x : X) (xs : List X) (b : Bool) → 
 one_by_two p x xs true = refl
 one_by_two p x xs false = refl
 
-by_two : {X : Type 0} (p q : X → Bool) (xs : List X) → filter p (filter q xs) ≡ filter (λ x. q x && p x) xs
+pub by_two : {X : Type 0} (p q : X → Bool) (xs : List X) → filter p (filter q xs) ≡ filter (λ x. q x && p x) xs
 by_two p q [] = refl
 by_two p q (x ∷ xs) = one_by_two p x (filter q xs) (q x) ∙ ap (λ ys. cond (q x && p x) (x ∷ ys) ys) (by_two p q xs)
 

@@ -19,9 +19,6 @@ map_next f xs i x within is = ap (map f) (take_next xs i x within is) ∙ map-ap
 pub flat_map_grows : {X Y : Type 0} (f : X → List Y) (xs : List X) (i : ℕ) (x : X) (before after : List Y) → i < length xs → x ≡ get_or xs i x → before ≡ flat_map f (take i xs) → after ≡ before ++ f x → after ≡ flat_map f (take (i + 1) xs)
 flat_map_grows f xs i x before after within is so step = step ∙ ap (λ ys. ys ++ f x) so ∙ sym (flat_map_next f xs i x within is)
 
-pub map_grows : {X Y : Type 0} (f : X → Y) (xs : List X) (i : ℕ) (x : X) (before after : List Y) → i < length xs → x ≡ get_or xs i x → before ≡ map f (take i xs) → after ≡ before ++ f x ∷ [] → after ≡ map f (take (i + 1) xs)
-map_grows f xs i x before after within is so step = step ∙ ap (λ ys. ys ++ f x ∷ []) so ∙ sym (map_next f xs i x within is)
-
 pub take_all : {X : Type 0} (n : ℕ) (xs : List X) → length xs ≤ n → take n xs ≡ xs
 take_all n xs h = sym (take_min n xs) ∙ ap (λ k. take k xs) (let e : min n (length xs) ≡ length xs = omega (arith, h) in e) ∙ take-length xs
 

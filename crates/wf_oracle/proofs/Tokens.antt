@@ -1,5 +1,5 @@
 -- The tokens of a view, and the view of the tokens.
-use Rattle.std.proofs.Common.{◌≡◌, ℕ, suc, ◌+◌, ◌<◌, ◌≤◌, ◌==◌, ◌||◌, ◌↔◌, IsTrue, Bool, true, false, cond, List, [], ◌∷◌, ◌++◌, map, filter, flat_map, length, length-append, get_or, take, drop, sym, refl, ap, ◌∙◌, subst, append_assoc, append-nil}
+use Rattle.std.proofs.Common.{◌≡◌, ℕ, suc, ◌+◌, ◌≤◌, ◌==◌, ◌||◌, ◌↔◌, IsTrue, Bool, true, false, cond, List, [], ◌∷◌, ◌++◌, map, filter, flat_map, length, length-append, take, drop, sym, refl, ap, ◌∙◌, subst, append_assoc, append-nil}
 use Rattle.std.specs.List.{list_any}
 use Rattle.std.proofs.Math.Bool.{or-false}
 use Rattle.std.proofs.lemmas.List.{map-append}
@@ -11,8 +11,8 @@ use Rattle.wf_model.specs.View.{View, base, seen, Views, no_views, view, views_o
 use Rattle.wf_model.proofs.Basics.{below_next}
 use Rattle.wf_model.proofs.Bridge.{same_itself, same_is}
 use Rattle.wf_oracle.specs.declared.view.Token.{Token}
-use Rattle.wf_oracle.specs.declared.view.Token.TheVariants.{Base, Seen}
-use Rattle.wf_oracle.proofs.Steps.{map_grows, take_all}
+use Rattle.wf_oracle.specs.declared.view.Token.TheVariants.{Seen}
+use Rattle.wf_oracle.proofs.Steps.{take_all}
 use Rattle.wf_oracle.specs.Token.{views_in, tokens_of, tokens_in, views_from, first_view, view_from, token_process, token_renamed}
 
 pub views_of_views : (vs : Views) → views_of (views_in vs) ≡ vs
@@ -113,15 +113,6 @@ rank_next v p =
     last : (b : Bool) → length (cond b (p ∷ []) []) ≡ cond b 1 0
     last true = refl
     last false = refl
-
-renamed_at : (f : ℕ → ℕ) (t : Token) → token_renamed (λ _. f (token_process t)) t ≡ token_renamed f t
-renamed_at f (Base p x) = refl
-renamed_at f (Seen p n) = refl
-
-pub renamed_next : (f : ℕ → ℕ) (ts : List Token) (i : ℕ) (t u : Token) (n : ℕ) (before after : List Token) → i < length ts → t ≡ get_or ts i t → before ≡ map (token_renamed f) (take i ts) →
-    n ≡ f (token_process t) → u ≡ token_renamed (λ _. n) t → after ≡ before ++ u ∷ [] → after ≡ map (token_renamed f) (take (i + 1) ts)
-renamed_next f ts i t u n before after within is so number made step =
-    map_grows (token_renamed f) ts i t before after within is so (step ∙ ap (λ x. before ++ x ∷ []) (made ∙ ap (λ k. token_renamed (λ _. k) t) number ∙ renamed_at f t))
 
 -- the tokens of the normal view
 pub normal_tokens : (v : View) (ts items inside : List Token) (n : ℕ) → ts ≡ map (token_renamed (rank v)) (take n items) → length items ≤ n → items ≡ inside → view_from inside ≡ v → tokens_of (view_from inside) ≡ inside → ts ≡ tokens_of (normal v)

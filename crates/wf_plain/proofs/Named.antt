@@ -46,14 +46,6 @@ contains_more [] e f (i, low, is) = absurd (let none : ⊥ = omega (arith, low) 
 contains_more (x ∷ xs) e f (zero, low, is) = (0, omega arith, is)
 contains_more (x ∷ xs) e f (suc i, low, is) = let rest = contains_more xs e f (i, omega (arith, low), is) in (suc rest.0, omega (arith, rest.1), rest.2)
 
--- before any execution
-pub ends_start : (scopes : List (List (ℕ × ℕ))) (points : ℕ) (ends : List (List ℕ)) → length ends ≡ points → All (λ end. end ≡ []) ends → AreEnds scopes points 0 ends
-ends_start scopes points ends long none = record {
-  long = long;
-  lie = λ v low. subst (All (LiesBelow scopes (v + 1))) (sym (none v [] (omega (arith, low, long)))) (All-nil (LiesBelow scopes (v + 1)));
-  named = λ e low. absurd (let bad : ⊥ = omega (arith, low) in bad);
-}
-
 -- the next execution is named at a point
 pub ends_more : (scopes : List (List (ℕ × ℕ))) (points n last : ℕ) (ends : List (List ℕ)) → AreEnds scopes points n ends → LiesBelow scopes (last + 1) n → last < points
     → AreEnds scopes points (n + 1) (slice_set ends last (slice_index_or ends last [] ++ n ∷ []))

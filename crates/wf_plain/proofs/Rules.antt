@@ -1,18 +1,14 @@
 -- The scope and the tuples of an execution, by what a clause sees of a protocol complex.
-use Rattle.std.proofs.Common.{◌≡◌, ℕ, ◌+◌, ◌<◌, List, [], ◌∷◌, ◌++◌, map, flat_map, length, Option, Some, None, option_map, unwrap_or, slice_get, slice_index, ◌==◌, length-append, append_assoc, sym, refl, ap, ◌∙◌, arith}
+use Rattle.std.proofs.Common.{◌≡◌, ℕ, ◌<◌, List, [], ◌∷◌, map, length, Some, option_map, unwrap_or, slice_get, slice_index, ◌==◌, sym, refl, ap, ◌∙◌, arith}
 use Rattle.wf_complex.proofs.RuleAt.{constraint_there, got}
-use Rattle.std.specs.List.{enumerate_from, slice_index_or, list_any}
+use Rattle.std.specs.List.{slice_index_or, list_any}
 use Rattle.std.specs.Cmp.Lexicographic.{pointwise}
-use Rattle.std.proofs.lemmas.Option.{slice_get-get_or, slice_get-map, slice_get_within}
-use Rattle.std.proofs.lemmas.List.{get_or-map, length-map, map-append}
-use Rattle.wf_model.specs.Lists.{lists_of}
-use Rattle.wf_model.specs.Word.{Word, words}
-use Rattle.wf_model.specs.Task.{Task, Rule, first_block}
-use Rattle.wf_model.specs.Execution.{Execution, executions_on, executions}
-use Rattle.wf_model.specs.Points.{points}
-use Rattle.wf_model.specs.Problem.{Constraint, constraint_of, problem_of, values_at, constraint_at, no_constraint}
+use Rattle.std.proofs.lemmas.Option.{slice_get_within}
+use Rattle.std.proofs.lemmas.List.{get_or-map, length-map}
+use Rattle.wf_model.specs.Task.{Task, Rule}
+use Rattle.wf_model.specs.Problem.{Constraint, problem_of, values_at, constraint_at, no_constraint}
 use Rattle.wf_model.specs.Check.{satisfies}
-use Rattle.wf_complex.specs.Protocol.{Built, IsProtocol, simplices_of}
+use Rattle.wf_complex.specs.Protocol.{Built, IsProtocol}
 use Rattle.wf_plain.specs.Plain.{scope_at}
 
 long_scopes : (t : Task) (r : ℕ) (b : Built) → IsProtocol t r b → length b.scopes ≡ length (problem_of t r).constraints

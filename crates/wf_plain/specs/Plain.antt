@@ -2,7 +2,7 @@
 use Rattle.std.specs.Prelude.{◌≡◌, ◌<◌, ◌+◌, ℕ, List, [], length, Option, None, Some, All, Contains, Vec}
 use Rattle.std.specs.List.{slice_index_or}
 use Rattle.wf_model.specs.Lists.{IsBelow}
-use Rattle.wf_model.specs.Problem.{Problem, Constraint, IsSolution, IsLeastSolution, constraint_at}
+use Rattle.wf_model.specs.Problem.{Problem, IsSolution, IsLeastSolution}
 
 -- the least solution; or none, and then there is no solution
 abbrev pub Answers : {A : Type 0} → Problem → Option (Vec ℕ A) → Type 0

@@ -1,5 +1,5 @@
 -- Lists in order, each element once: `in_order` under an order that tells apart what differs.
-use Rattle.std.proofs.Common.{◌≡◌, ℕ, zero, suc, ◌<◌, ◌≤◌, List, [], ◌∷◌, ◌++◌, length, get_or, Contains, ◌⊎◌, inl, inr, refl, sym, ap, ◌∙◌, subst, arith}
+use Rattle.std.proofs.Common.{◌≡◌, suc, ◌≤◌, List, [], ◌∷◌, ◌++◌, length, Contains, ◌⊎◌, inl, inr, refl, sym, ap, ◌∙◌, subst, arith}
 use Rattle.std.specs.declared.cmp.Ordering.{Ordering}
 use Rattle.std.specs.declared.cmp.Ordering.TheVariants.{Less, Equal, Greater}
 use Rattle.std.specs.Ordering.{match_ordering, ordering_reverse}
@@ -63,14 +63,6 @@ pub has_at_place : {X : Type 0} (x : X) (ys : List X) → Has x ys → Contains 
 has_at_place x [] h = absurd h
 has_at_place x (y ∷ ys) (inl e) = (0, omega arith, e)
 has_at_place x (y ∷ ys) (inr h) = let at = has_at_place x ys h in (suc at.0, omega (arith, at.1), at.2)
-
-pub has_from_place : {X : Type 0} (x : X) (ys : List X) → Contains ys x → Has x ys
-has_from_place {X = X} x ys at = by ys at.0 at.1 at.2
-  where
-    by : (ys : List X) (k : ℕ) → k < length ys → get_or ys k x ≡ x → Has x ys
-    by [] k h e = absurd (let none : ⊥ = omega (arith, h) in none)
-    by (y ∷ ys) zero h e = inl e
-    by (y ∷ ys) (suc k) h e = inr (by ys k (omega (arith, h)) e)
 
 module _ {X : Type 0} (cmp : X → X → Ordering) (o : IsTotalOrder cmp) (same : (x y : X) → cmp x y ≡ Equal → x ≡ y) where
   has_with_element : (x y : X) (ys : List X) → Has x (with_element cmp y ys) → (y ≡ x) ⊎ Has x ys

@@ -1,5 +1,5 @@
 -- Reading pairs into a table.
-use Rattle.std.proofs.Common.{◌≡◌, ℕ, zero, suc, ◌+◌, ◌<◌, ◌≤◌, Bool, true, false, ◌&&◌, nat_lt, nat_le, List, [], ◌∷◌, ◌++◌, length, drop, Option, None, Some, is_some, slice_index_or, slice_set, refl, sym, ap, ◌∙◌, arith, add-zero, add-one, drop-cons, drop_of_length-le, le-leb, lt-ltb, leb-true, ltb-true, ltb-false, eqb-true, All, ◌==◌, ◌⊎◌, inl, inr}
+use Rattle.std.proofs.Common.{◌≡◌, ℕ, zero, suc, ◌+◌, ◌<◌, ◌≤◌, Bool, true, false, ◌&&◌, nat_lt, nat_le, List, [], ◌∷◌, ◌++◌, length, drop, Option, None, Some, is_some, slice_index_or, slice_set, refl, sym, ap, ◌∙◌, arith, add-zero, add-one, drop-cons, drop_of_length-le, le-leb, lt-ltb, leb-true, ltb-true, ltb-false, All, ◌==◌, ◌⊎◌, inl, inr}
 use Rattle.std.proofs.lemmas.Bool.{and_parts, and_from, or_parts}
 use Rattle.std.proofs.lemmas.List.Elements.{All-nil, All-cons}
 use Rattle.std.specs.List.{list_all}
@@ -7,7 +7,7 @@ use Rattle.wf_model.specs.Simplex.{Vertex, Simplex, processes_of, values_of, is_
 use Rattle.wf_model.specs.Task.{IsSimplexWithin}
 use Rattle.wf_simplex.specs.Entries.{vertices_from, ascends_from}
 use Rattle.wf_simplex.specs.Reading.{has_colours, has_large, read_fault}
-use Rattle.wf_simplex.specs.declared.simplex.SimplexFault.TheVariants.{Empty, Colour, Value}
+use Rattle.wf_simplex.specs.declared.simplex.SimplexFault.TheVariants.{Colour, Value}
 use Rattle.wf_simplex.proofs.Colours.{ascends_below, colours_below, low_processes}
 
 -- ---- one entry after another
@@ -68,13 +68,6 @@ colours_are s = below_four 0 s ∙ colours_below 4 s
 pub nonempty_by_length : (s : Simplex) → (length s == 0) ≡ false → is_nonempty s ≡ true
 nonempty_by_length [] h = cc
 nonempty_by_length (v ∷ s) h = refl
-
-pub empty_by_length : (s : Simplex) → (length s == 0) ≡ true → read_fault s ≡ Some Empty
-empty_by_length [] h = refl
-empty_by_length (v ∷ s) h = absurd (by (length s) h)
-  where
-    by : (n : ℕ) → (suc n == 0) ≡ true → ⊥
-    by n h = let e : suc n ≡ 0 = eqb-true (suc n) 0 h in omega arith
 
 pub at_pair : (s : Simplex) (i : ℕ) → i < length s → drop i s ≡ slice_index_or s i (0, 0) ∷ drop (i + 1) s
 at_pair s i h = rw add-one (drop-cons s i (0, 0) h)

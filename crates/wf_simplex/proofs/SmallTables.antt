@@ -91,10 +91,6 @@ faces_with-done front some = ap (λ t. filter is_nonempty (t ∷ [])) (append-ni
     by [] h = absurd (omega arith)
     by (v ∷ front) h = refl
 
-pub faces_with-none : (front : Simplex) → length front ≡ 0 → faces_with front [] ≡ []
-faces_with-none [] h = refl
-faces_with-none (v ∷ front) h = absurd (omega arith)
-
 map-same : (ps : List Simplex) → map (λ part. [] ++ part) ps ≡ ps
 map-same [] = refl
 map-same (p ∷ ps) = ap (λ qs. p ∷ qs) (map-same ps)

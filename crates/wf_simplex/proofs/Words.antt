@@ -26,9 +26,6 @@ length_4 = refl
 pub length-words_of : (n : ℕ) → 1 ≤ n → n ≤ 4 → length (words_of n) ≡ end_of n - start_of n
 length-words_of = each_size (λ n. length (words_of n) ≡ end_of n - start_of n) length_1 length_2 length_3 length_4
 
-pub ends_within : (n : ℕ) → 1 ≤ n → n ≤ 4 → end_of n ≤ 92
-ends_within = each_size (λ n. end_of n ≤ 92) (omega arith) (omega arith) (omega arith) (omega arith)
-
 pub starts_before : (n : ℕ) → 1 ≤ n → n ≤ 4 → start_of n < end_of n
 starts_before = each_size (λ n. start_of n < end_of n) (omega arith) (omega arith) (omega arith) (omega arith)
 

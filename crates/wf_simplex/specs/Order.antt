@@ -1,11 +1,11 @@
 -- The order of simplices is total, and tells apart what differs.
 use Rattle.std.specs.Prelude.{◌≡◌, ℕ, Bool, true, false, ◌==◌, List, [], ◌∷◌}
-use Rattle.std.proofs.Common.{refl, sym, ap, length, ◌∙◌, ◌&&◌, length, nat_lt, eqb-true, eq-eqb, ltb-true}
+use Rattle.std.proofs.Common.{refl, sym, ap, length, ◌∙◌, ◌&&◌, length, eqb-true, eq-eqb}
 use Rattle.std.specs.Bool.{Decides}
 use Rattle.std.specs.declared.cmp.Ordering.{Ordering}
 use Rattle.std.specs.declared.cmp.Ordering.TheVariants.{Less, Equal, Greater}
-use Rattle.std.specs.Ordering.{ordering_then, nat_cmp, is_eq, eq_by_cmp, on, then_cmp}
-use Rattle.std.specs.Cmp.{IsTotalOrder, IsEquivalence, IsPartialOrder, then_total, on_total, nat_cmp_total, ranks, ranked, decided, both_ways, Equal-is, po, tied_itself}
+use Rattle.std.specs.Ordering.{ordering_then, nat_cmp, eq_by_cmp}
+use Rattle.std.specs.Cmp.{IsTotalOrder, IsEquivalence, then_total, on_total, nat_cmp_total, ranked, decided, both_ways, Equal-is, tied_itself}
 use Rattle.std.specs.Cmp.Lexicographic.{slice_cmp, lists_total, pointwise, pointwise_decides}
 use Rattle.wf_model.specs.Simplex.{Vertex, Simplex, same_vertex, vertex_cmp, simplex_cmp}
 

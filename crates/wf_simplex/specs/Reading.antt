@@ -1,5 +1,5 @@
 -- Which lists of pairs are simplices, and the first reason where one is not.
-use Rattle.std.specs.Prelude.{ℕ, ◌&&◌, nat_lt, Bool, not, List, Option, None, Some, if◌then◌else◌}
+use Rattle.std.specs.Prelude.{◌&&◌, nat_lt, Bool, not, Option, None, Some, if◌then◌else◌}
 use Rattle.std.specs.List.{list_any, list_all}
 use Rattle.wf_simplex.specs.declared.simplex.SimplexFault.{SimplexFault}
 use Rattle.wf_simplex.specs.declared.simplex.SimplexFault.TheVariants.{Empty, Colour, Value}

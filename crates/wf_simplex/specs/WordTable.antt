@@ -1,8 +1,8 @@
 -- The table of words, and where it holds a word.
-use Rattle.std.specs.Prelude.{◌≡◌, ℕ, zero, suc, ◌+◌, ◌-◌, ◌<◌, ◌≤◌, ◌==◌, ◌&&◌, Bool, true, false, List, [], ◌∷◌, length, map, take, drop, slice_index_or, position, unwrap_or, Option, Some, None, option_map, refl}
+use Rattle.std.specs.Prelude.{◌≡◌, ℕ, zero, suc, ◌+◌, ◌-◌, ◌<◌, ◌≤◌, ◌==◌, ◌&&◌, Bool, true, false, List, [], length, map, take, drop, slice_index_or, position, unwrap_or, refl}
 use Rattle.std.specs.List.{list_all, range_with_len}
-use Rattle.std.specs.Cmp.Lexicographic.{pointwise, bytes_decides}
-use Rattle.std.proofs.Common.{arith, sym, ap, ap₂, ◌∙◌, eqb-true, subst}
+use Rattle.std.specs.Cmp.Lexicographic.{pointwise}
+use Rattle.std.proofs.Common.{arith, ap, ◌∙◌, eqb-true}
 use Rattle.wf_model.specs.Word.{Word, words}
 use Rattle.wf_model.specs.Lists.{below}
 use Rattle.wf_simplex.specs.declared.word.TheConstants.{WORDS}

@@ -24,7 +24,7 @@ use Rattle.wf_task.specs.declared.fault.TaskFault.TheVariants as fault
 use Rattle.wf_task.specs.Shape.{rule_of}
 use Rattle.wf_task.specs.Draft.{Listed, ◌>>=◌}
 use Rattle.wf_task.specs.Slots.{entries_in, Means, AreOf, IsOnly, AreOnly}
-use Rattle.wf_task.specs.Judge.{has_large, rule_has_large, has_colours, is_among, tuples_for, wrong_length, no_output, first_answer, refused_at, entries_judged, sizes_judged, tuples_judged, numbers_judged, judged, rule_for, drafted}
+use Rattle.wf_task.specs.Judge.{has_large, rule_has_large, has_colours, is_among, tuples_for, wrong_length, no_output, first_answer, refused_at, entries_judged, sizes_judged, tuples_judged, numbers_judged, rule_for, drafted}
 use Rattle.wf_task.specs.Faultless.{ListsVertices, IsFaultless}
 use Rattle.wf_task.specs.Tuples.{IsTupleOf, AreTuples, IsRow, NamesRows, rows_at}
 use Rattle.wf_task.specs.TaskSeen.{rules_seen}
@@ -284,10 +284,6 @@ some_faces (s ∷ ss) some h =
 
 complex_is : (n : ℕ) (facets : List Simplex) → All (IsSimplexWithin n 63) facets → IsComplexWithin n 63 (complex_of facets)
 complex_is n facets h = record { is_complex = complex_of-complex_of facets; within = complex_within n 63 facets h }
-
-pub judged_is : (listed : Listed) → IsFaultless listed → judged listed ≡ Ok (drafted listed)
-unfolding judged
-judged_is listed h = rw h.numbers (rw h.sizes (rw h.entries (rw h.tuples (rw h.input refl))))
 
 pub drafted_is_task : (listed : Listed) → IsFaultless listed → IsTask (drafted listed)
 drafted_is_task listed h =

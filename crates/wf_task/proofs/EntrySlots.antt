@@ -1,5 +1,5 @@
 -- One entry more.
-use Rattle.std.proofs.Common.{◌≡◌, ◌≢◌, ℕ, ◌+◌, ◌<◌, ◌≤◌, Bool, true, false, not, List, [], ◌∷◌, ◌++◌, length, map, take, cond, slice_set, slice_get, slice_index_or, Some, Contains, refl, sym, ap, ap₂, ◌∙◌, subst, subst₂, arith, append-nil, length-append, length-set, get_or-set_same, get_or-set_other, inl, inr, nat_lt, ◌==◌, zero, suc, drop, All, ◌||◌, add-one, drop-cons, length-take-le, eqb-true, ne_eqb, ltb-true, ltb-false, lt-ltb}
+use Rattle.std.proofs.Common.{◌≡◌, ◌≢◌, ℕ, ◌+◌, ◌<◌, ◌≤◌, Bool, true, false, not, List, [], ◌∷◌, ◌++◌, length, map, take, cond, slice_set, slice_get, slice_index_or, Some, Contains, refl, sym, ap, ap₂, ◌∙◌, subst, subst₂, arith, append-nil, length-append, length-set, get_or-set_same, get_or-set_other, inl, inr, nat_lt, ◌==◌, zero, suc, drop, All, add-one, drop-cons, length-take-le, eqb-true, ne_eqb, ltb-true, ltb-false, lt-ltb}
 use Rattle.std.proofs.lemmas.Bool.{eqb-false}
 use Rattle.std.specs.List.{position_from}
 use Rattle.std.specs.declared.cmp.Ordering.TheVariants.{Less, Equal}
@@ -11,7 +11,7 @@ use Rattle.std.proofs.lemmas.Map.Keys.{Less-from_sorted}
 use Rattle.std.proofs.lemmas.Option.{get_or_from_slice_get, slice_get_within}
 use Rattle.wf_model.specs.Simplex.{Simplex, simplex_cmp}
 use Rattle.wf_model.specs.Task.{Rule, IsSimplexWithin}
-use Rattle.wf_simplex.proofs.Orders.{Has, has_from_place, has_at_place}
+use Rattle.wf_simplex.proofs.Orders.{Has, has_at_place}
 use Rattle.wf_task.specs.declared.shape.Entry.{Entry}
 use Rattle.wf_task.specs.DraftSeen.{entry_seen}
 use Rattle.wf_task.specs.Judge.{is_among}
@@ -19,10 +19,7 @@ use Rattle.wf_simplex.specs.Order.{same_simplex, same_simplex-decides, simplex_c
 use Rattle.wf_task.specs.declared.slots.Slot.{Slot}
 use Rattle.wf_task.specs.declared.slots.Slot.TheVariants.{Missing, Once, Twice}
 use Rattle.wf_task.specs.Shape.{rule_of}
-use Rattle.wf_task.specs.Slots.{with_entry, entries_in, Means, AreOf, is_missing, is_twice, no_entry}
-
-is_rule : Rule → Simplex → Bool
-is_rule rule s = same_simplex rule.input s
+use Rattle.wf_task.specs.Slots.{with_entry, entries_in, Means, AreOf, is_missing, is_twice}
 
 entries-push : (rules : List Rule) (e : Rule) (s : Simplex) → entries_in (rules ++ (e ∷ [])) s ≡ entries_in rules s ++ entries_in (e ∷ []) s
 entries-push rules e s = filter-append (λ rule. same_simplex rule.input s) rules (e ∷ [])
@@ -145,22 +142,7 @@ first_twice_is slots rules inputs h =
     same_place is_twice (λ s. nat_lt 1 (length (entries_in rules s))) Missing [] 0 slots inputs h.long
     (λ i inside. twice_is (slice_index_or slots i Missing) rules (slice_index_or inputs i []) (h.each i (omega (arith, inside, h.long))))
 
-pub none-slots : (inputs : List Simplex) → AreOf (map no_entry inputs) [] inputs
-none-slots inputs = record { long = length-map inputs no_entry; each = λ i inside. rw (get_or-map no_entry inputs i [] Missing inside) refl }
-
 -- ---- entries and the complex
-
-or_true : (b : Bool) → (b || true) ≡ true
-or_true true = refl
-or_true false = refl
-
-pub among-contains : (inputs : List Simplex) (s : Simplex) → Contains inputs s → is_among inputs s ≡ true
-among-contains inputs s here = by inputs (has_from_place s inputs here)
-  where
-    by : (inputs : List Simplex) → Has s inputs → is_among inputs s ≡ true
-    by [] h = absurd h
-    by (t ∷ ts) (inl e) = let same = (same_simplex-decides s t).1 (sym e) in rw same refl
-    by (t ∷ ts) (inr h) = rw (by ts h) (or_true (same_simplex s t))
 
 pub among-absent : (inputs : List Simplex) (s : Simplex) → (Contains inputs s → ⊥) → is_among inputs s ≡ false
 among-absent inputs s none = by inputs (λ h. none (has_at_place s inputs h))

@@ -10,7 +10,7 @@ use Rattle.std.proofs.lemmas.Bool.{cases_Bool, and_parts, or_left, or_right, or_
 use Rattle.std.proofs.lemmas.List.{take_more, map-append, length-map}
 use Rattle.std.proofs.lemmas.List.Elements.{All-get_or}
 use Rattle.std.proofs.lemmas.List.Folds.{list_any-append}
-use Rattle.std.proofs.lemmas.Nat.Bits.{bit_at-zero, bit_at-lt, bit_at_or, bit_at_set_same, bit_at_set_other}
+use Rattle.std.proofs.lemmas.Nat.Bits.{bit_at-lt, bit_at_or, bit_at_set_same, bit_at_set_other}
 use Rattle.wf_model.specs.Lists.{has, in_order, with_element}
 use Rattle.wf_model.specs.Simplex.{Simplex, processes_of, values_of, is_nonempty, is_ascending}
 use Rattle.wf_model.specs.Task.{Tuple, IsSimplexWithin}
@@ -67,9 +67,6 @@ value_there s i h within = at_process s i (ascends_from (processes_of s) (and_pa
 
 has_joined : (xs ys : List ℕ) (v : ℕ) → has (xs ++ ys) v ≡ (has xs v || has ys v)
 has_joined xs ys v = list_any-append (λ y. y == v) xs ys
-
-pub mask-none : IsMaskOf 0 []
-mask-none v h = (λ e. (let none : ⊥ = omega (arith, e, bit_at-zero v) in absurd none), λ e. (let none : false ≡ true = e in cc))
 
 one_of : (a b : ℕ) → a < 2 → b < 2 → max a b ≡ 1 → (a ≡ 1) ⊎ (b ≡ 1)
 one_of zero b h k e = inr (omega arith)

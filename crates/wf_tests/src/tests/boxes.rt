@@ -1,8 +1,9 @@
 //! Closing beside the plain closing: the root of a task, and the boxes of its first branch.
 
-ghost use Rattle.std.specs.Prelude.{◌≡◌, ◌<◌, ◌≤◌, length, IfOk, IfSome};
+ghost use Rattle.std.specs.Prelude.{◌≡◌, ◌<◌, ◌≤◌, length, IfOk, IfSome, OnOk};
 ghost use Rattle.wf_model.specs.Lists.{has};
-ghost use Rattle.wf_model.specs.Box.{decided, root};
+ghost use Rattle.wf_model.specs.Problem as model;
+ghost use Rattle.wf_model.specs.Box.{decided};
 ghost use Rattle.wf_model.specs.Closing.{closing};
 ghost use Rattle.wf_model.specs.Laws.{IsBoxOf};
 ghost use Rattle.wf_lane.specs.Sets.{values_in};
@@ -32,7 +33,6 @@ pub fn first_difference(
 }
 
 /// What differs between the closings of a task after some rounds, if anything does.
-#[tactic(auto, using(crate::proofs::Boxes::root_of_task))]
 fn difference(alloc: Global, text: &str, rounds: u32) -> Result<Option<&'static str>, Fail> {
     let task = Task::read_text(alloc, text.as_bytes())?;
     let _inputs = task.inputs();
@@ -50,7 +50,6 @@ fn difference_from(
     plain: &PlainProblem,
 ) -> Result<Option<&'static str>, Fail>
     requires points { points ≡ problem.now.points }
-    requires root { IsBoxOf problem.now (root problem.now) }
 {
     let mut boxed = Box0::root(alloc, problem)?;
     let mut sets = root_sets(alloc, plain)?;
@@ -71,7 +70,6 @@ fn difference_from(
 }
 
 /// What differs between the closings of the boxes that a point's candidates give, if anything does.
-#[tactic(auto, using(crate::proofs::Boxes::decided_is_box))]
 fn branch_difference(
     alloc: Global,
     problem: &Problem,
@@ -100,7 +98,8 @@ fn branch_difference(
 fn with_value(alloc: Global, boxed: &Box0, point: u32, value: u8) -> Result<Option<Box0>, Fail>
     requires point { point < length boxed.now }
     requires value { value < 64 }
-    ensures { IfOk result (λ found. IfSome found (λ tried. tried ≡ decided boxed.now point value)) }
+    ensures decided { IfOk result (λ found. IfSome found (λ tried. tried ≡ decided boxed.now point value)) }
+    ensures shape { IfOk result (λ found. IfSome found (λ tried. (p : model.Problem) → IsBoxOf p boxed.now → IsBoxOf p tried)) }
 {
     if !holds(boxed.candidates(point), value) {
         return Ok(None);
@@ -130,7 +129,8 @@ fn close_both(
 ) -> Result<(Closed, bool), Fail>
     requires points { points ≡ problem.now.points }
     requires whole { IsBoxOf problem.now boxed.old }
-    ensures { IfOk result (λ found. Leaves (closing problem.now boxed.old).left boxed.new found.0) }
+    ensures leaves { IfOk result (λ found. Leaves (closing problem.now boxed.old).left boxed.new found.0) }
+    ensures shape { OnOk result (IsBoxOf problem.now boxed.new) }
 {
     let mut lines: Lines = Vec::new(alloc);
     let mut wanted: Lines = Vec::new(alloc);
