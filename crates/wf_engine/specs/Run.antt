@@ -4,9 +4,9 @@ use Rattle.std.specs.Io.KnownBytes.{Keeps, Appends, Consumes, IsAtEnd}
 use Rattle.wf_model.specs.Task.{Task}
 use Rattle.wf_model.specs.View.{View}
 use Rattle.wf_model.specs.Execution.{executions}
-use Rattle.wf_model.specs.Points.{points}
 use Rattle.wf_model.specs.DecisionMap.{IsDecisionMap, IsLeast, listed}
-use Rattle.wf_model.specs.Report.{Report, Body, a_map, none, report_text}
+use Rattle.wf_model.specs.Report.{Body, a_map, none, report_text}
+use Rattle.wf_model.specs.Laws.{report_about}
 use Rattle.wf_model.specs.ViewsText.{views_text}
 use Rattle.wf_core.specs.declared.Account.{Account}
 use Rattle.wf_task.specs.declared.fault.TaskFault.TheVariants as task
@@ -19,13 +19,9 @@ use Rattle.wf_engine.specs.declared.fault.RunFault.TheVariants as run
 
 -- ---- what is written
 
--- the report of this answer about a task and its r rounds
-abbrev pub report_of : Task → ℕ → Body → Report
-report_of t r body = record { processes = t.processes; rounds = r; points = length (points t r); executions = length (executions t r); body = body }
-
--- its text
+-- the text of the report with this answer about a task and its r rounds
 unfoldable pub text_of_report : Task → ℕ → Body → List ℕ
-text_of_report t r body = report_text (report_of t r body)
+text_of_report t r body = report_text (report_about t r body)
 
 -- in the verdict form: the least decision map over the points; or none, and then no function on the views is a decision map
 abbrev pub IsVerdict : ℕ → Task → Outcome → List ℕ → Type 0

@@ -2,9 +2,10 @@
 
 ghost use Rattle.std.specs.Prelude.{◌≡◌, ◌+◌, ◌-◌, ◌^◌, ◌<◌, ◌≤◌, true, IfOk, if◌then◌else◌};
 ghost use Rattle.wf_model.specs.Problem.{problem_of};
+ghost use Rattle.wf_model.specs.Laws.{report_about};
 ghost use Rattle.wf_io.specs.Ends.{source_failures, source_reader, source_taken, sink_failures, sink_writer};
 ghost use Rattle.wf_complex.specs.Protocol.{IsProtocol};
-ghost use Rattle.wf_engine.specs.Run.{Answers, IsSolved, IsVerdict, one_branch, report_of, text_of_report, Runs, is_read, is_write};
+ghost use Rattle.wf_engine.specs.Run.{Answers, IsSolved, IsVerdict, one_branch, text_of_report, Runs, is_read, is_write};
 ghost use Rattle.wf_cert.specs.Reports.{report_seen, body_of};
 
 use crate::fault::RunFault;
@@ -120,7 +121,7 @@ fn report_text(
 /// The report with this answer.
 fn report_of(task: &Task, protocol: &Protocol, body: Body) -> Report
     requires { IsProtocol task.now protocol.now.rounds protocol.now }
-    ensures { report_seen result ≡ report_of task.now protocol.now.rounds (body_of body) }
+    ensures { report_seen result ≡ report_about task.now protocol.now.rounds (body_of body) }
 {
     Report {
         processes: task.processes(),

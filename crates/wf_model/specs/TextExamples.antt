@@ -1,7 +1,7 @@
 -- Worked reports, by computation.
 use Rattle.std.specs.Prelude.{◌≡◌, ℕ, ◌++◌, Bool, true, false, List, [], ◌∷◌, map, flat_map, length, Option, Some, None, Result, Ok, Err, option_map, codes, refl}
 use Rattle.std.specs.Fmt.{digits}
-use Rattle.wf_model.specs.ExampleTasks.{path, consensus, renaming_2_2}
+use Rattle.wf_model.specs.ExampleTasks.{path, consensus, renaming_2_2, alone}
 use Rattle.wf_model.specs.Problem.{problem_of}
 use Rattle.wf_model.specs.Box.{root}
 use Rattle.wf_model.specs.Refutation.{Line, remove, empty, branch, found}
@@ -104,6 +104,10 @@ pub lines_are_numbered : map (report_fault (path 3) 1)
     (record path_3_report { body = none (empty 0 ∷ []) } ∷ record path_3_report { body = least (0 ∷ 3 ∷ 2 ∷ 1 ∷ []) (empty 0 ∷ []) } ∷ [])
     ≡ Some (not_empty 7) ∷ Some (not_empty 11) ∷ []
 lines_are_numbered = refl
+
+pub lines_after_one_value :
+    report_fault (alone ((5 ∷ []) ∷ []) (((0, 5) ∷ []) ∷ [])) 1 (record { processes = 1; rounds = 1; points = 1; executions = 1; body = least (5 ∷ []) (empty 0 ∷ []) }) ≡ Some (not_empty 8)
+lines_after_one_value = refl
 
 pub no_decision_map_is_least : report_fault (path 3) 1 (record path_3_report { body = least (0 ∷ 3 ∷ 2 ∷ 2 ∷ []) (found ∷ []) }) ≡ Some (violates 3)
 no_decision_map_is_least = refl
