@@ -7,7 +7,7 @@ mod report;
 mod writing;
 
 pub use report::{Body, Report};
-pub use writing::{put_number, put_words, write_report};
+pub use writing::write_report;
 
 #[cfg(test)]
 mod tests;

@@ -1,7 +1,7 @@
 //! The text of a report.
 
-ghost use Rattle.std.specs.Prelude.{◌≡◌, ◌∷◌, [], ◌++◌, IfOk, OnOk, string_bytes, flat_map, map};
-ghost use Rattle.wf_model.specs.Report.{line, value_line, line_text, answer_line, body_text, report_text};
+ghost use Rattle.std.specs.Prelude.{◌≡◌, ◌++◌, IfOk, OnOk, string_bytes, flat_map, map};
+ghost use Rattle.wf_model.specs.Report.{value_line, line_text, answer_line, body_text, report_text};
 ghost use Rattle.wf_complex.specs.Lines.{line_of};
 ghost use Rattle.wf_cert.specs.Reports.{body_of, report_seen};
 
@@ -9,6 +9,7 @@ use crate::report::{Body, Report};
 use std::alloc::{AllocError, Global};
 use std::fmt::Write;
 use wf_complex::Line;
+use wf_lines::{put_number, put_words};
 
 /// The text of a report: a header, the values of a map or the lines of a refutation, and `end`. Every line ends in one
 /// line feed, and numbers are decimal. Refused for want of memory alone.
@@ -24,22 +25,6 @@ pub fn write_report(alloc: Global, report: &Report) -> Result<Vec<u8>, AllocErro
     put_body(&mut text, &report.body)?;
     put_words(&mut text, "end")?;
     Ok(text.into_bytes())
-}
-
-/// Adds a line of these words.
-pub fn put_words(text: &mut String, words: &str) -> Result<(), AllocError>
-    ensures { OnOk result (string_bytes text.new ≡ string_bytes text.old ++ line words.now []) }
-{
-    writeln!(text, "{words}")?;
-    Ok(())
-}
-
-/// Adds a line of a name and a number.
-pub fn put_number(text: &mut String, name: &str, number: u32) -> Result<(), AllocError>
-    ensures { OnOk result (string_bytes text.new ≡ string_bytes text.old ++ line name.now (number ∷ [])) }
-{
-    writeln!(text, "{name} {number}")?;
-    Ok(())
 }
 
 fn put_body(text: &mut String, body: &Body) -> Result<(), AllocError>
