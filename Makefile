@@ -1,6 +1,6 @@
 # Everything needs the toolchain alone: the command `rt` on the path.
 
-.PHONY: demo build test
+.PHONY: demo build quick test
 
 # Decides the task of examples/path-3.json for one round, and prints its report. The program is run, not proved, here.
 demo:
@@ -11,6 +11,11 @@ build:
 	cd crates/wfcheck && rt run -- solve --rounds 1 --workers 1 --verdict < ../../examples/path-3.json > /dev/null
 	mkdir -p bin
 	cp crates/wfcheck/out/wfcheck bin/wfcheck
+
+# What changed since this last passed is proved over the work that is kept, and the tests that name it are run: no verdict.
+# The first time it proves every crate.
+quick:
+	checks/quick
 
 # Everything is proved from nothing, the edits that must fail are tried, and the tests are run.
 test:

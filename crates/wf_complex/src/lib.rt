@@ -16,6 +16,3 @@ mod rounds;
 pub use fault::BuildFault;
 pub use line::{Line, Lines};
 pub use protocol::Protocol;
-
-#[cfg(test)]
-mod tests;

@@ -203,6 +203,3 @@ fn point_among(places: &[Place], points: &[u32], process: u8) -> Option<u32>
     }
     None
 }
-
-#[cfg(test)]
-mod tests;

@@ -22,6 +22,3 @@ pub use solution::{all_solutions, decision_maps, satisfies};
 pub use task::{Rule, Task};
 pub use view::{View, base_views, round, tokens_tell_views_apart, views_after};
 pub use word::{is_allowed, is_word, words};
-
-#[cfg(test)]
-mod tests;

@@ -10,6 +10,3 @@ mod fits;
 mod search;
 
 pub use search::least_map;
-
-#[cfg(test)]
-mod tests;

@@ -12,6 +12,3 @@ pub mod word;
 pub use complex::Complex;
 pub use simplex::{Simplex, SimplexFault};
 pub use word::{Word, word_count};
-
-#[cfg(test)]
-mod tests;

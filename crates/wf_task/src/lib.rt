@@ -22,12 +22,3 @@ mod tuples;
 pub use fault::{Key, Limit, TaskFault};
 pub use row::Row;
 pub use task::{LONGEST, Task};
-
-#[cfg(test)]
-mod limit_tests;
-#[cfg(test)]
-mod refusal_tests;
-#[cfg(test)]
-mod tests;
-#[cfg(test)]
-mod text_tests;

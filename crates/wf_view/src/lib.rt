@@ -9,6 +9,3 @@ mod node;
 mod views;
 
 pub use views::Views;
-
-#[cfg(test)]
-mod tests;

@@ -1,7 +1,9 @@
-use crate::text_tests::{PATH_3, fault_of};
-use crate::{Limit, Task, TaskFault};
+//! The limits on the lengths of a text and its lists, each on both sides: the refusals 1 and 8.
+
+use super::{PATH_3, fault_of};
 use std::alloc::Global;
 use std::test::Fail;
+use wf_task::{Limit, Task, TaskFault};
 
 /// A list of one item, so many times.
 fn repeated(alloc: Global, item: &str, count: usize) -> Result<String, Fail> {

@@ -1,8 +1,8 @@
-//! Small tasks with their sizes and maps.
+//! The slow program of the definitions: small tasks with their sizes and maps.
 
-use crate::{Rule, Task, decision_maps, executions, is_allowed, is_word, points, words};
 use std::alloc::{AllocError, Global};
 use std::test::Fail;
+use wf_oracle::{Rule, Task, decision_maps, executions, is_allowed, is_word, points, words};
 
 /// The input of each process, by process.
 type Vertex = (usize, usize);
@@ -88,33 +88,6 @@ fn path_3(alloc: Global) -> Result<Task, AllocError> {
     )
 }
 
-/// The same with values up to 2.
-fn path_2(alloc: Global) -> Result<Task, AllocError> {
-    pair(
-        alloc,
-        (0, 0),
-        &[&[0]],
-        &[&[2]],
-        &[
-            &[0, 0],
-            &[0, 1],
-            &[1, 0],
-            &[1, 1],
-            &[1, 2],
-            &[2, 1],
-            &[2, 2],
-        ],
-        &[
-            &[(0, 0)],
-            &[(0, 1)],
-            &[(0, 2)],
-            &[(1, 0)],
-            &[(1, 1)],
-            &[(1, 2)],
-        ],
-    )
-}
-
 /// Consensus of two processes, each with its own number.
 fn consensus(alloc: Global) -> Result<Task, AllocError> {
     pair(
@@ -125,20 +98,6 @@ fn consensus(alloc: Global) -> Result<Task, AllocError> {
         &[&[0, 0], &[1, 1]],
         &[&[(0, 0)], &[(0, 1)], &[(1, 0)], &[(1, 1)]],
     )
-}
-
-/// Renaming of two processes with two names.
-fn renaming_2(alloc: Global) -> Result<Task, AllocError> {
-    let mut task = pair(
-        alloc,
-        (0, 0),
-        &[&[0], &[1]],
-        &[&[0], &[1]],
-        &[&[0, 1], &[1, 0]],
-        &[&[(0, 0)], &[(0, 1)], &[(1, 0)], &[(1, 1)]],
-    )?;
-    task.symmetric = true;
-    Ok(task)
 }
 
 /// Renaming of two processes with three names.
@@ -160,39 +119,6 @@ fn renaming_3(alloc: Global) -> Result<Task, AllocError> {
     )?;
     task.symmetric = true;
     Ok(task)
-}
-
-/// One process with these tuples and outputs.
-fn alone(alloc: Global, tuples: &[&[usize]], outputs: &[&[Vertex]]) -> Result<Task, AllocError> {
-    let mut rules = Vec::new(alloc);
-    rules.push(rule(alloc, &[(0, 0)], tuples)?)?;
-    Ok(Task {
-        processes: 1,
-        symmetric: false,
-        restriction: None,
-        rules,
-        outputs: owned(alloc, outputs)?,
-    })
-}
-
-/// Three processes, with no tuples: for the sizes alone.
-fn three(alloc: Global, inputs: [usize; 3], symmetric: bool) -> Result<Task, AllocError> {
-    let [a, b, c] = inputs;
-    let mut rules = Vec::new(alloc);
-    rules.push(rule(alloc, &[(0, a)], &[])?)?;
-    rules.push(rule(alloc, &[(1, b)], &[])?)?;
-    rules.push(rule(alloc, &[(2, c)], &[])?)?;
-    rules.push(rule(alloc, &[(0, a), (1, b)], &[])?)?;
-    rules.push(rule(alloc, &[(0, a), (2, c)], &[])?)?;
-    rules.push(rule(alloc, &[(1, b), (2, c)], &[])?)?;
-    rules.push(rule(alloc, &[(0, a), (1, b), (2, c)], &[])?)?;
-    Ok(Task {
-        processes: 3,
-        symmetric,
-        restriction: None,
-        rules,
-        outputs: Vec::new(alloc),
-    })
 }
 
 /// How many points and executions a task has.
@@ -251,22 +177,13 @@ fn numbers_of_words(rt: HostRuntime) -> Result<(), Fail> {
 }
 
 #[test]
-fn paths(rt: HostRuntime) -> Result<(), Fail> {
+fn the_path_of_three(rt: HostRuntime) -> Result<(), Fail> {
     let alloc = rt.alloc();
     let path = path_3(alloc)?;
     assert_eq!(rt; sizes(alloc, &path, 1)?, (4, 5));
     assert!(rt; has_maps(alloc, &path, 1, &[&[0, 3, 2, 1]])?);
     assert_eq!(rt; sizes(alloc, &path, 0)?, (2, 3));
     assert!(rt; has_maps(alloc, &path, 0, &[])?);
-    let path = path_2(alloc)?;
-    assert!(rt;
-        has_maps(
-            alloc,
-            &path,
-            1,
-            &[&[0, 2, 1, 0], &[0, 2, 1, 1], &[0, 2, 2, 1]]
-        )?
-    );
     Ok(())
 }
 
@@ -290,12 +207,10 @@ fn consensus_of_two(rt: HostRuntime) -> Result<(), Fail> {
 #[test]
 fn renaming_of_two(rt: HostRuntime) -> Result<(), Fail> {
     let alloc = rt.alloc();
-    let task = renaming_2(alloc)?;
-    assert_eq!(rt; sizes(alloc, &task, 1)?, (3, 5));
-    assert!(rt; has_maps(alloc, &task, 1, &[])?);
     let task = renaming_3(alloc)?;
     assert_eq!(rt; sizes(alloc, &task, 0)?, (1, 3));
     assert!(rt; has_maps(alloc, &task, 0, &[])?);
+    assert_eq!(rt; sizes(alloc, &task, 1)?, (3, 5));
     // Each point has a name of its own.
     let orders: [&[usize]; 6] = [
         &[0, 1, 2],
@@ -306,28 +221,5 @@ fn renaming_of_two(rt: HostRuntime) -> Result<(), Fail> {
         &[2, 1, 0],
     ];
     assert!(rt; has_maps(alloc, &task, 1, &orders)?);
-    Ok(())
-}
-
-#[test]
-fn one_process(rt: HostRuntime) -> Result<(), Fail> {
-    let alloc = rt.alloc();
-    let task = alone(alloc, &[&[5]], &[&[(0, 5)]])?;
-    assert_eq!(rt; sizes(alloc, &task, 8)?, (1, 1));
-    assert!(rt; has_maps(alloc, &task, 8, &[&[5]])?);
-    assert!(rt; has_maps(alloc, &alone(alloc, &[], &[&[(0, 5)]])?, 8, &[])?);
-    assert!(rt; has_maps(alloc, &alone(alloc, &[], &[])?, 8, &[])?);
-    Ok(())
-}
-
-#[test]
-fn three_processes(rt: HostRuntime) -> Result<(), Fail> {
-    let alloc = rt.alloc();
-    let own = three(alloc, [0, 1, 2], false)?;
-    assert_eq!(rt; sizes(alloc, &own, 0)?, (3, 7));
-    assert_eq!(rt; sizes(alloc, &own, 1)?, (12, 25));
-    assert_eq!(rt; sizes(alloc, &own, 2)?, (99, 199));
-    let renamed = three(alloc, [0, 0, 0], true)?;
-    assert_eq!(rt; sizes(alloc, &renamed, 1)?, (6, 25));
     Ok(())
 }

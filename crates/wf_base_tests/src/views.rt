@@ -1,5 +1,7 @@
-use crate::Views;
+//! Views by number.
+
 use std::test::Fail;
+use wf_view::Views;
 
 #[test]
 fn one_number_is_one_view(rt: HostRuntime) -> Result<(), Fail> {

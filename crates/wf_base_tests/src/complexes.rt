@@ -1,6 +1,8 @@
-use crate::{BuildFault, Protocol};
+//! The r-round protocol complex: how many executions, points and views there are, and which.
+
 use std::alloc::{AllocError, Global};
 use std::test::Fail;
+use wf_complex::{BuildFault, Protocol};
 use wf_task::Task;
 
 /// The processes of a mask, each with its own number.
@@ -70,7 +72,7 @@ fn all_points(alloc: Global, complex: &Protocol) -> Result<Vec<u32>, AllocError>
 }
 
 /// The number of each execution's input simplex.
-fn simplices(alloc: Global, complex: &Protocol) -> Result<Vec<u32>, AllocError> {
+fn simplex_numbers(alloc: Global, complex: &Protocol) -> Result<Vec<u32>, AllocError> {
     let mut simplices = Vec::new(alloc);
     for execution in 0..complex.executions() {
         simplices.push(complex.simplex_of(execution))?;
@@ -105,16 +107,25 @@ fn colours(alloc: Global, complex: &Protocol) -> Result<Vec<u8>, AllocError> {
 }
 
 #[test]
-fn four_processes_have_many_views(rt: HostRuntime) -> Result<(), Fail> {
-    let task = own_task(rt.alloc(), 4, 15)?;
-    let rows = [(0, 4, 15), (1, 32, 149), (2, 1124, 6359)];
-    for (rounds, views, executions) in rows {
+fn executions_points_and_views_are_counted(rt: HostRuntime) -> Result<(), Fail> {
+    let rows = [
+        (1, 8, 1, 1),
+        (2, 1, 4, 5),
+        (3, 0, 3, 7),
+        (3, 1, 12, 25),
+        (3, 2, 99, 199),
+        (4, 0, 4, 15),
+        (4, 1, 32, 149),
+        (4, 2, 1124, 6359),
+    ];
+    for (processes, rounds, points, executions) in rows {
+        let task = own_task(rt.alloc(), processes, (1 << processes) - 1)?;
         let complex = Protocol::build(rt.alloc(), &task, rounds)?;
         assert_eq!(rt; complex.rounds(), rounds);
         assert_eq!(rt;
             counts(&complex),
-            (views, executions, views),
-            "after {rounds}"
+            (points, executions, points),
+            "of {processes} after {rounds}"
         );
     }
     Ok(())
@@ -122,21 +133,34 @@ fn four_processes_have_many_views(rt: HostRuntime) -> Result<(), Fail> {
 
 #[test]
 fn too_much_is_refused(rt: HostRuntime) -> Result<(), Fail> {
-    let task = own_task(rt.alloc(), 4, 15)?;
-    assert_eq!(rt; refusal(rt.alloc(), &task, 1), None);
-    assert_eq!(rt;
-        refusal(rt.alloc(), &task, 4),
-        Some(BuildFault::TooManyExecutions)
-    );
-    assert_eq!(rt; refusal(rt.alloc(), &task, 9), Some(BuildFault::Rounds));
+    let rows = [
+        (1, 8, None),
+        (1, 9, Some(BuildFault::Rounds)),
+        (3, 6, Some(BuildFault::TooManyExecutions)),
+        (4, 4, Some(BuildFault::TooManyExecutions)),
+        (4, 9, Some(BuildFault::Rounds)),
+    ];
+    for (processes, rounds, fault) in rows {
+        let task = own_task(rt.alloc(), processes, (1 << processes) - 1)?;
+        assert_eq!(rt;
+            refusal(rt.alloc(), &task, rounds),
+            fault,
+            "of {processes} after {rounds}"
+        );
+    }
     Ok(())
 }
 
 #[test]
-fn three_processes_two_rounds(rt: HostRuntime) -> Result<(), Fail> {
-    let task = own_task(rt.alloc(), 3, 7)?;
-    let complex = Protocol::build(rt.alloc(), &task, 2)?;
-    assert_eq!(rt; counts(&complex), (99, 199, 99));
+fn refusals_are_printed(rt: HostRuntime) -> Result<(), Fail> {
+    let rows = [
+        (BuildFault::Rounds, "16 Rounds"),
+        (BuildFault::TooManyExecutions, "17 TooManyExecutions"),
+        (BuildFault::OutOfMemory, "15 OutOfMemory"),
+    ];
+    for (fault, text) in rows {
+        assert_eq!(rt; format!(in rt.alloc(); "{fault}")?.as_str(), text);
+    }
     Ok(())
 }
 
@@ -159,7 +183,7 @@ fn points_are_views_by_first_appearance(rt: HostRuntime) -> Result<(), Fail> {
 fn processes_have_their_points(rt: HostRuntime) -> Result<(), Fail> {
     let task = two_alike(rt.alloc(), false)?;
     let complex = Protocol::build(rt.alloc(), &task, 1)?;
-    let on = simplices(rt.alloc(), &complex)?;
+    let on = simplex_numbers(rt.alloc(), &complex)?;
     assert_eq!(rt; on.as_slice(), [0, 1, 2, 2, 2].as_slice());
     let points = points_of_process(rt.alloc(), &complex, 1)?;
     assert_eq!(rt;

@@ -1,5 +1,7 @@
-use crate::{Complex, Simplex, SimplexFault, Word, word_count};
+//! Simplices, complexes and words.
+
 use std::test::Fail;
+use wf_simplex::{Complex, Simplex, SimplexFault, Word, word_count};
 
 fn simplex(pairs: &[(u8, u8)]) -> Result<Simplex, SimplexFault> {
     Simplex::read(pairs)

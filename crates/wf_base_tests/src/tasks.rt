@@ -1,0 +1,125 @@
+//! Rows, tasks, and the texts that tasks are read from.
+
+mod limits;
+mod refusals;
+mod shapes;
+
+use std::alloc::Global;
+use std::test::Fail;
+use wf_task::{Key, Limit, Row, Task, TaskFault};
+
+/// Two processes that begin with 0. Alone, process 0 decides 0 and process 1 decides 3; together they decide
+/// values of 0 to 3 that differ by at most 1.
+pub const PATH_3: &str =
+    r#"{"version":1,"processes":2,"symmetric":false,"inputs":[[[0,0],[1,0]]],"outputs":[[[0,0],[1,0]],[[0,0],[1,1]],[[0,1],[1,0]],[[0,1],[1,1]],[[0,1],[1,2]],[[0,2],[1,1]],[[0,2],[1,2]],[[0,2],[1,3]],[[0,3],[1,2]],[[0,3],[1,3]]],"delta":[{"in":[[0,0]],"out":[[0]]},{"in":[[1,0]],"out":[[3]]},{"in":[[0,0],[1,0]],"out":[[0,0],[0,1],[1,0],[1,1],[1,2],[2,1],[2,2],[2,3],[3,2],[3,3]]}]}"#;
+
+/// The fault of a text.
+fn fault_of(alloc: Global, text: &str) -> Option<TaskFault> {
+    Task::read_text(alloc, text.as_bytes()).err()
+}
+
+/// A small task, with another value under one of its keys. Its input simplices are (0,0), (1,0) and both, its
+/// output simplices (0,0), (1,1) and both.
+fn small_with(alloc: Global, key: Key, value: &str) -> Result<String, Fail> {
+    let members = [
+        (Key::Version, r#"{"version":"#, "1"),
+        (Key::Processes, r#","processes":"#, "2"),
+        (Key::Symmetric, r#","symmetric":"#, "false"),
+        (Key::Inputs, r#","inputs":"#, "[[[0,0],[1,0]]]"),
+        (Key::Outputs, r#","outputs":"#, "[[[0,0],[1,1]]]"),
+        (
+            Key::Delta,
+            r#","delta":"#,
+            r#"[{"in":[[0,0]],"out":[[0]]},{"in":[[1,0]],"out":[[1]]},{"in":[[0,0],[1,0]],"out":[[0,1]]}]"#,
+        ),
+    ];
+    let mut text = String::new(alloc);
+    for (member, name, usual) in members {
+        text.push_str(name)?;
+        text.push_str(if member == key { value } else { usual })?;
+    }
+    text.push_str("}")?;
+    Ok(text)
+}
+
+/// The fault of the small task with another value under one of its keys.
+fn fault_with(alloc: Global, key: Key, value: &str) -> Result<Option<TaskFault>, Fail> {
+    let text = small_with(alloc, key, value)?;
+    Ok(fault_of(alloc, text.as_str()))
+}
+
+#[test]
+fn rows_are_their_values(rt: HostRuntime) {
+    let row = Row::new(&[5, 7, 11, 63]);
+    assert_eq!(rt; row.size(), 4);
+    assert_eq!(rt; row.as_slice(), [5, 7, 11, 63].as_slice());
+    assert_eq!(rt; row.value(0), 5);
+    assert_eq!(rt; row.value(3), 63);
+    let short = Row::new(&[3, 0]);
+    assert_eq!(rt; short.size(), 2);
+    assert!(rt; short < Row::new(&[3, 0, 0]), "a beginning comes first");
+    assert!(rt; Row::new(&[2, 9]) < short, "the first value decides");
+    assert!(rt; Row::new(&[3, 0]) == short);
+    assert!(rt; Row::new(&[3, 0, 0]) != short, "a zero counts");
+}
+
+#[test]
+fn path_3_is_a_task(rt: HostRuntime) -> Result<(), Fail> {
+    let task = Task::read_text(rt.alloc(), PATH_3.as_bytes())?;
+    assert_eq!(rt; task.processes(), 2);
+    assert!(rt; !task.symmetric());
+    assert_eq!(rt; task.inputs().simplices().len(), 3);
+    assert_eq!(rt; task.outputs().simplices().len(), 18);
+    assert_eq!(rt; task.values(), 15);
+    Ok(())
+}
+
+#[test]
+fn tuples_are_in_order(rt: HostRuntime) -> Result<(), Fail> {
+    let text =
+        r#"{"version":1,"processes":1,"symmetric":true,"inputs":[[[0,7]]],"outputs":[[[0,63]],[[0,0]],[[0,5]]],"delta":[{"in":[[0,7]],"out":[[63],[5],[0],[5]]}]}"#;
+    let task = Task::read_text(rt.alloc(), text.as_bytes())?;
+    assert!(rt; task.symmetric());
+    assert_eq!(rt; task.values(), 1 + 32 + (1 << 63));
+    let rows = task.tuples(0);
+    assert_eq!(rt; rows.len(), 3);
+    assert!(rt; rows[0] == Row::new(&[0]));
+    assert!(rt; rows[1] == Row::new(&[5]));
+    assert!(rt; rows[2] == Row::new(&[63]));
+    Ok(())
+}
+
+#[test]
+fn refusals_are_printed_with_what_they_carry(rt: HostRuntime) -> Result<(), Fail> {
+    let rows = [
+        (TaskFault::TooLong, "1 TooLong"),
+        (TaskFault::NotJson, "2 NotJson"),
+        (TaskFault::Shape(Key::Whole, 0), "3 Shape whole 0"),
+        (TaskFault::Shape(Key::Version, 0), "3 Shape version 0"),
+        (TaskFault::Shape(Key::Processes, 0), "3 Shape processes 0"),
+        (TaskFault::Shape(Key::Symmetric, 0), "3 Shape symmetric 0"),
+        (TaskFault::Shape(Key::Inputs, 10), "3 Shape inputs 10"),
+        (TaskFault::Shape(Key::Outputs, 7), "3 Shape outputs 7"),
+        (TaskFault::Shape(Key::Delta, 4), "3 Shape delta 4"),
+        (TaskFault::Shape(Key::Other, 0), "3 Shape other 0"),
+        (TaskFault::Version, "4 Version"),
+        (TaskFault::Processes, "5 Processes"),
+        (TaskFault::Value, "6 Value"),
+        (TaskFault::Colours, "7 Colours"),
+        (TaskFault::TooMany(Limit::Vertices), "8 TooMany vertices"),
+        (TaskFault::TooMany(Limit::Simplices), "8 TooMany simplices"),
+        (TaskFault::TooMany(Limit::Outputs), "8 TooMany outputs"),
+        (TaskFault::TooMany(Limit::Tuples), "8 TooMany tuples"),
+        (TaskFault::DeltaMissing(1), "9 DeltaMissing 1"),
+        (TaskFault::DeltaTwice(2), "10 DeltaTwice 2"),
+        (TaskFault::DeltaStray(0), "11 DeltaStray 0"),
+        (TaskFault::OutLength(3, 4), "12 OutLength 3 4"),
+        (TaskFault::OutStray(4095, 65535), "13 OutStray 4095 65535"),
+        (TaskFault::NoInput, "14 NoInput"),
+        (TaskFault::OutOfMemory, "15 OutOfMemory"),
+    ];
+    for (fault, text) in rows {
+        assert_eq!(rt; format!(in rt.alloc(); "{fault}")?.as_str(), text);
+    }
+    Ok(())
+}
