@@ -1,7 +1,7 @@
 //! The text of a report.
 
-ghost use Rattle.std.specs.Prelude.{◌≡◌, ◌∷◌, [], ◌++◌, IfOk, OnOk, string_bytes, flat_map, map};
-ghost use Rattle.wf_model.specs.Report.{line, value_line, line_text, answer_line, body_text, report_text};
+ghost use Rattle.std.specs.Prelude.{◌≡◌, ◌++◌, IfOk, OnOk, string_bytes, flat_map, map};
+ghost use Rattle.wf_model.specs.Report.{value_line, line_text, answer_line, body_text, report_text};
 ghost use Rattle.wf_complex.specs.Lines.{line_of};
 ghost use Rattle.wf_cert.specs.Reports.{body_of, report_seen};
 
@@ -9,6 +9,7 @@ use crate::report::{Body, Report};
 use std::alloc::{AllocError, Global};
 use std::fmt::Write;
 use wf_complex::Line;
+use wf_lines::{put_number, put_words};
 
 /// The text of a report: a header, the values of a map or the lines of a refutation, and `end`. Every line ends in one
 /// line feed, and numbers are decimal. Refused for want of memory alone.
@@ -17,7 +18,7 @@ pub fn write_report(alloc: Global, report: &Report) -> Result<Vec<u8>, AllocErro
 {
     let mut text = String::new(alloc);
     put_words(&mut text, "wfcheck report 1")?;
-    put_number(&mut text, "processes", report.processes as u32)?;
+    put_number(&mut text, "processes", report.processes)?;
     put_number(&mut text, "rounds", report.rounds)?;
     put_number(&mut text, "points", report.points)?;
     put_number(&mut text, "executions", report.executions)?;
@@ -26,25 +27,9 @@ pub fn write_report(alloc: Global, report: &Report) -> Result<Vec<u8>, AllocErro
     Ok(text.into_bytes())
 }
 
-/// Adds a line of these words.
-pub fn put_words(text: &mut String, words: &str) -> Result<(), AllocError>
-    ensures { OnOk result (string_bytes text.new ≡ string_bytes text.old ++ line words.now []) }
-{
-    writeln!(text, "{words}")?;
-    Ok(())
-}
-
-/// Adds a line of a name and a number.
-pub fn put_number(text: &mut String, name: &str, number: u32) -> Result<(), AllocError>
-    ensures { OnOk result (string_bytes text.new ≡ string_bytes text.old ++ line name.now (number ∷ [])) }
-{
-    writeln!(text, "{name} {number}")?;
-    Ok(())
-}
-
 fn put_body(text: &mut String, body: &Body) -> Result<(), AllocError>
-    ensures { OnOk result (string_bytes text.new
-        ≡ string_bytes text.old ++ (answer_line (body_of body.now) ++ body_text (body_of body.now))) }
+    ensures { let body = body_of body.now in OnOk result (string_bytes text.new
+        ≡ string_bytes text.old ++ (answer_line body ++ body_text body)) }
 {
     match body {
         Body::Map(values) => {
@@ -59,7 +44,8 @@ fn put_body(text: &mut String, body: &Body) -> Result<(), AllocError>
 }
 
 fn put_values(text: &mut String, values: &[u8]) -> Result<(), AllocError>
-    ensures { OnOk result (string_bytes text.new ≡ string_bytes text.old ++ flat_map value_line values.now) }
+    ensures { OnOk result (string_bytes text.new
+        ≡ string_bytes text.old ++ flat_map value_line values.now) }
 {
     for value in values {
         writeln!(text, "m {value}")?;
@@ -68,7 +54,8 @@ fn put_values(text: &mut String, values: &[u8]) -> Result<(), AllocError>
 }
 
 fn put_lines(text: &mut String, lines: &[Line]) -> Result<(), AllocError>
-    ensures { OnOk result (string_bytes text.new ≡ string_bytes text.old ++ flat_map line_text (map line_of lines.now)) }
+    ensures { OnOk result (string_bytes text.new
+        ≡ string_bytes text.old ++ flat_map line_text (map line_of lines.now)) }
 {
     for line in lines {
         put_line(text, *line)?;
@@ -77,7 +64,8 @@ fn put_lines(text: &mut String, lines: &[Line]) -> Result<(), AllocError>
 }
 
 fn put_line(text: &mut String, line: Line) -> Result<(), AllocError>
-    ensures { OnOk result (string_bytes text.new ≡ string_bytes text.old ++ line_text (line_of line)) }
+    ensures { OnOk result (string_bytes text.new
+        ≡ string_bytes text.old ++ line_text (line_of line)) }
 {
     match line {
         Line::P {

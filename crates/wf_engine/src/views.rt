@@ -14,9 +14,9 @@ use crate::fault::RunFault;
 use std::alloc::{AllocError, Global};
 use std::fmt::Write as _;
 use std::io::{Read, Write};
-use wf_cert::{put_number, put_words};
 use wf_complex::Protocol;
 use wf_io::{Sink, Source, read_all, write_whole};
+use wf_lines::{put_number, put_words};
 use wf_task::Task;
 
 /// Reads a task to the reader's end and writes the list of the points of its protocol complex after some rounds, each
