@@ -1,1 +1,17 @@
 pub mod Taken
+pub mod Words
+pub mod RootValues
+pub mod BlockLemmas
+pub mod PlaceLemmas
+pub mod ExecutionLemmas
+pub mod RootLemmas
+pub mod RightLemmas
+pub mod FirstLemmas
+pub mod ByteLemmas
+pub mod ReadLemmas
+pub mod LineLemmas
+pub mod BodyLemmas
+pub mod WrittenLemmas
+pub mod ReadBackLemmas
+pub mod GroupLemmas
+pub mod TruthLemmas

@@ -1,1 +1,11 @@
 pub mod Reports
+pub mod Faults
+pub mod Sets
+pub mod Blocks
+pub mod Places
+pub mod Reading
+pub mod Numbers
+pub mod Steps
+pub mod Grammar
+pub mod Groups
+pub mod Truth

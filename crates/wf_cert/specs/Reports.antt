@@ -1,5 +1,5 @@
 -- The reports of the code and those of the definitions.
-use Rattle.std.specs.Prelude.{map}
+use Rattle.std.specs.Prelude.{ℕ, ◌^◌, ◌<◌, length, map}
 use Rattle.wf_model.specs.Report as report
 use Rattle.wf_complex.specs.Lines.{line_of}
 use Rattle.wf_cert.specs.declared.report.Report.{Report}
@@ -12,3 +12,12 @@ body_of (Nothing lines) = report.none (map line_of lines.items)
 
 abbrev pub report_seen : Report → report.Report
 report_seen r = record { processes = r.processes; rounds = r.rounds; points = r.points; executions = r.executions; body = body_of r.body }
+
+-- how many values or lines there are
+abbrev pub body_length : Body → ℕ
+body_length (Map values) = length values.items
+body_length (Nothing lines) = length lines.items
+
+-- so few lines that each has a number
+abbrev pub AreNumbered : ℕ → Type 0
+AreNumbered count = count < 2 ^ 31

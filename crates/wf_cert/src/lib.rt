@@ -1,13 +1,25 @@
-//! Reports: what is written about a task and a number of rounds.
+//! Reports: what is written about a task and a number of rounds, and the checker of what was written.
 //!
 //! This crate stands on tasks and protocol complexes alone: what it accepts rests on nothing of the search.
 #![tactic(auto)]
 
+mod blocks;
+mod bytes;
+mod checking;
+mod fault;
+mod groups;
+mod judge;
+mod laws;
+mod maps;
+mod reading;
 mod report;
+mod sets;
+mod support;
 mod writing;
 
+pub use checking::check;
+pub use fault::CertFault;
+pub use laws::{reports_are_read_as_written, reports_are_written_as_read};
+pub use reading::{LONGEST, read_report};
 pub use report::{Body, Report};
 pub use writing::write_report;
-
-#[cfg(test)]
-mod tests;

@@ -18,7 +18,7 @@ pub fn write_report(alloc: Global, report: &Report) -> Result<Vec<u8>, AllocErro
 {
     let mut text = String::new(alloc);
     put_words(&mut text, "wfcheck report 1")?;
-    put_number(&mut text, "processes", report.processes as u32)?;
+    put_number(&mut text, "processes", report.processes)?;
     put_number(&mut text, "rounds", report.rounds)?;
     put_number(&mut text, "points", report.points)?;
     put_number(&mut text, "executions", report.executions)?;
@@ -28,8 +28,8 @@ pub fn write_report(alloc: Global, report: &Report) -> Result<Vec<u8>, AllocErro
 }
 
 fn put_body(text: &mut String, body: &Body) -> Result<(), AllocError>
-    ensures { OnOk result (string_bytes text.new
-        ≡ string_bytes text.old ++ (answer_line (body_of body.now) ++ body_text (body_of body.now))) }
+    ensures { let body = body_of body.now in OnOk result (string_bytes text.new
+        ≡ string_bytes text.old ++ (answer_line body ++ body_text body)) }
 {
     match body {
         Body::Map(values) => {
@@ -44,7 +44,8 @@ fn put_body(text: &mut String, body: &Body) -> Result<(), AllocError>
 }
 
 fn put_values(text: &mut String, values: &[u8]) -> Result<(), AllocError>
-    ensures { OnOk result (string_bytes text.new ≡ string_bytes text.old ++ flat_map value_line values.now) }
+    ensures { OnOk result (string_bytes text.new
+        ≡ string_bytes text.old ++ flat_map value_line values.now) }
 {
     for value in values {
         writeln!(text, "m {value}")?;
@@ -53,7 +54,8 @@ fn put_values(text: &mut String, values: &[u8]) -> Result<(), AllocError>
 }
 
 fn put_lines(text: &mut String, lines: &[Line]) -> Result<(), AllocError>
-    ensures { OnOk result (string_bytes text.new ≡ string_bytes text.old ++ flat_map line_text (map line_of lines.now)) }
+    ensures { OnOk result (string_bytes text.new
+        ≡ string_bytes text.old ++ flat_map line_text (map line_of lines.now)) }
 {
     for line in lines {
         put_line(text, *line)?;
@@ -62,7 +64,8 @@ fn put_lines(text: &mut String, lines: &[Line]) -> Result<(), AllocError>
 }
 
 fn put_line(text: &mut String, line: Line) -> Result<(), AllocError>
-    ensures { OnOk result (string_bytes text.new ≡ string_bytes text.old ++ line_text (line_of line)) }
+    ensures { OnOk result (string_bytes text.new
+        ≡ string_bytes text.old ++ line_text (line_of line)) }
 {
     match line {
         Line::P {

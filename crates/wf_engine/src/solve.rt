@@ -132,7 +132,7 @@ fn report_of(task: &Task, protocol: &Protocol, body: Body) -> Report
     ensures { report_seen result ≡ report_about task.now protocol.now.rounds (body_of body) }
 {
     Report {
-        processes: task.processes(),
+        processes: u32::from(task.processes()),
         rounds: protocol.rounds(),
         points: protocol.points(),
         executions: protocol.executions(),

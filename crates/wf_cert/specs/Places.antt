@@ -1,0 +1,23 @@
+-- Where a process stands, and what an execution allows.
+use Rattle.std.specs.Prelude.{ℕ, suc, ◌==◌, List, [], ◌∷◌, map, zip, get_or, Option, Some, None, if◌then◌else◌}
+use Rattle.wf_model.specs.Simplex.{Simplex, processes_of}
+use Rattle.wf_model.specs.Task.{Tuple}
+use Rattle.wf_model.specs.Problem.{Constraint}
+use Rattle.wf_model.specs.Box.{Box, candidates, is_supported, without}
+use Rattle.wf_model.specs.Check.{Verdict, fault, left, unsound}
+
+-- the place of the process in a list whose first place has this number
+abbrev pub place_in : ℕ → ℕ → List ℕ → Option ℕ
+place_in n c [] = None
+place_in n c (p ∷ ps) = if p == c then Some n else place_in (suc n) c ps
+
+-- the constraint of an execution on this simplex, with its tuples and these points
+abbrev pub constraint_on : Simplex → List Tuple → List ℕ → Constraint
+constraint_on s tuples ps = record { scope = zip (processes_of s) ps; tuples = tuples }
+
+-- what line k says of the first box, where it takes a value out at a place of these points
+abbrev pub unless_supported : List Tuple → List ℕ → ℕ → ℕ → ℕ → Box → List Box → Verdict
+unless_supported tuples ps place a k box boxes =
+    if is_supported tuples (map (candidates box) ps) place a
+    then fault (unsound k)
+    else left (without box (get_or ps place 0) a ∷ boxes)

@@ -1,0 +1,155 @@
+//! The box that the lines are about, and the way back to the boxes that are still to come.
+//!
+//! There is one box of words, one for each point. A trail has what the open blocks took out of it, and for each open
+//! block the values whose blocks are still to come. So the memory that a certificate can ask for grows with its lines
+//! and with the points, and not with their product.
+
+ghost use Rattle.std.specs.Prelude.{◌≡◌, ◌<◌, ◌++◌, ◌∷◌, [], true, nat_lt, length, map, replicate, IfOk, OnOk};
+ghost use Rattle.std.specs.List.{slice_set};
+ghost use Rattle.wf_model.specs.Box.{branches_at, candidates, decided, without};
+ghost use Rattle.wf_cert.specs.Sets.{values_in};
+ghost use Rattle.wf_cert.specs.Blocks.{box_now, boxes_later, boxes_left, HasSamePoints};
+
+use crate::sets::{has_two, has_value, split, without};
+use std::alloc::{AllocError, Global};
+
+/// A step of the way back.
+#[derive(Clone, Copy, Debug, Drop)]
+enum Entry {
+    /// The point had this set before.
+    Was {
+        /// The number of the point.
+        point: u32,
+        /// The word of its values.
+        set: u64,
+    },
+    /// The point branches, and the blocks of these values are still to come.
+    Later {
+        /// The number of the point.
+        point: u32,
+        /// The word of the values.
+        values: u64,
+    },
+}
+
+/// The box of now, and the way back to the boxes that are still to come.
+#[derive(Drop)]
+pub(crate) struct Blocks {
+    // for each point the word of its values
+    sets: Vec<u64>,
+    // the last step was taken last
+    trail: Vec<Entry>,
+}
+
+impl Blocks {
+    /// One block, about the box with these values at so many points.
+    pub(crate) fn root(alloc: Global, values: u64, points: u32) -> Result<Blocks, AllocError>
+        ensures sets { IfOk result (λ blocks. blocks.sets.items ≡ replicate points values) }
+        ensures alone { IfOk result (λ blocks. blocks.trail.items ≡ []) }
+    {
+        Ok(Blocks {
+            sets: vec![in alloc; values; points as usize]?,
+            trail: Vec::new(alloc),
+        })
+    }
+
+    /// The words of the box of now, one for each point.
+    pub(crate) fn sets(&self) -> &[u64]
+        ensures { result.now ≡ self.now.sets.items }
+    {
+        &self.sets
+    }
+
+    /// Takes a value out at a point.
+    pub(crate) fn take_out(&mut self, point: u32, value: u8) -> Result<(), AllocError>
+        requires { point < length self.old.sets.items }
+        ensures boxed { OnOk result (box_now self.new ≡ without (box_now self.old) point value) }
+        ensures later { OnOk result (boxes_later self.new ≡ boxes_later self.old) }
+        ensures points { HasSamePoints self.old self.new }
+    {
+        let set = self.sets[point as usize];
+        if has_value(set, value) {
+            self.change(point, without(set, value))?;
+        }
+        Ok(())
+    }
+
+    /// Opens a block for each value of a point, and goes into that of the least one. Answers false where the point has
+    /// fewer than two values.
+    pub(crate) fn open(&mut self, point: u32) -> Result<bool, AllocError>
+        requires { point < length self.old.sets.items }
+        ensures opened { IfOk result (λ opened.
+            opened ≡ nat_lt 1 (length (candidates (box_now self.old) point))) }
+        ensures boxes { IfOk result (λ opened. opened ≡ true
+            → box_now self.new ∷ boxes_later self.new
+            ≡ branches_at (box_now self.old) point ++ boxes_later self.old) }
+        ensures points { HasSamePoints self.old self.new }
+    {
+        let set = self.sets[point as usize];
+        if !has_two(set) {
+            return Ok(false);
+        }
+        self.enter(point, set)?;
+        Ok(true)
+    }
+
+    /// Goes back to where the last block that isn't done yet was opened, and into the block of the next value. Answers
+    /// false where all blocks are done.
+    pub(crate) fn next(&mut self) -> Result<bool, AllocError>
+        ensures boxes { IfOk result (λ going. boxes_left going self.new ≡ boxes_later self.old) }
+        ensures points { HasSamePoints self.old self.new }
+    {
+        'back: while let Some(entry) = self.trail.pop() {
+            match entry {
+                Entry::Was { point, set } => self.put_back(point, set),
+                Entry::Later { point, values } => {
+                    if values != 0 {
+                        self.enter(point, values)?;
+                        return Ok(true);
+                    }
+                }
+            }
+        }
+        Ok(false)
+    }
+
+    /// Goes into the block of the least of these values of a point; the others are still to come.
+    fn enter(&mut self, point: u32, values: u64) -> Result<(), AllocError>
+        requires values { 0 < values }
+        ensures boxes { OnOk result (box_now self.new ∷ boxes_later self.new
+            ≡ map (decided (box_now self.old) point) (values_in values) ++ boxes_later self.old) }
+        ensures points { HasSamePoints self.old self.new }
+    {
+        let (value, left) = split(values);
+        self.trail.push(Entry::Later {
+            point,
+            values: left,
+        })?;
+        self.change(point, 1 << value)?;
+        Ok(())
+    }
+
+    /// Gives a point another set, and keeps the way back.
+    fn change(&mut self, point: u32, set: u64) -> Result<(), AllocError>
+        ensures sets { OnOk result (self.new.sets.items ≡ slice_set self.old.sets.items point set) }
+        ensures later { OnOk result (boxes_later self.new ≡ boxes_later self.old) }
+        ensures points { HasSamePoints self.old self.new }
+    {
+        if (point as usize) < self.sets.len() {
+            let before = self.sets[point as usize];
+            self.trail.push(Entry::Was { point, set: before })?;
+            self.sets[point as usize] = set;
+        }
+        Ok(())
+    }
+
+    /// Gives a point its set of before.
+    fn put_back(&mut self, point: u32, set: u64)
+        ensures sets { self.new.sets.items ≡ slice_set self.old.sets.items point set }
+        ensures trail { self.new.trail ≡ self.old.trail }
+    {
+        if (point as usize) < self.sets.len() {
+            self.sets[point as usize] = set;
+        }
+    }
+}

@@ -1,0 +1,101 @@
+//! Whether a report about a task is right.
+
+ghost use Rattle.std.specs.Prelude.{◌≡◌, OnOk};
+ghost use Rattle.wf_model.specs.Problem.{problem_of};
+ghost use Rattle.wf_model.specs.Check.{body_fault, header_fault, map_fault, report_fault};
+ghost use Rattle.wf_complex.specs.Protocol.{IsProtocol};
+ghost use Rattle.wf_cert.specs.Faults.{Judges};
+ghost use Rattle.wf_cert.specs.Truth.{HoldsOf};
+ghost use Rattle.wf_cert.specs.Reports.{AreNumbered, body_length, body_of, report_seen};
+
+use crate::fault::CertFault;
+use crate::judge::judge_lines;
+use crate::maps::first_violated;
+use crate::report::{Body, Report};
+use std::alloc::Global;
+use std::thread::Threads;
+use wf_complex::Protocol;
+use wf_task::Task;
+
+/// Accepts a report about a task and its protocol complex, or answers the first reason why it is refused.
+///
+/// The protocol has to be that of the task. The header is judged first. A map is accepted where it is a decision map,
+/// and lines where they are those of a refutation of the box with all values at all points; so where lines are accepted
+/// there is no decision map. A map is looked at in several threads; lines are read one after another. Refused for out of
+/// memory only where a growth was refused.
+pub fn check<R: Threads + Sync>(
+    rt: &R,
+    alloc: Global,
+    task: &Task,
+    protocol: &Protocol,
+    report: &Report,
+) -> Result<(), CertFault>
+    requires built { IsProtocol task.now protocol.now.rounds protocol.now }
+    requires few { AreNumbered (body_length report.now.body) }
+    ensures fault { let r = protocol.now.rounds in
+        Judges result (report_fault task.now r (report_seen report.now)) }
+    ensures truth { OnOk result (HoldsOf task.now protocol.now.rounds (body_of report.now.body)) }
+{
+    let _inputs = task.inputs();
+    judge_header(task, protocol, report)?;
+    judge_body(rt, alloc, task, protocol, &report.body)
+}
+
+/// Judges the numbers of the header.
+fn judge_header(task: &Task, protocol: &Protocol, report: &Report) -> Result<(), CertFault>
+    requires built { IsProtocol task.now protocol.now.rounds protocol.now }
+    ensures { let r = protocol.now.rounds in
+        Judges result (header_fault task.now r (problem_of task.now r) (report_seen report.now)) }
+{
+    if report.processes != u32::from(task.processes()) {
+        return Err(CertFault::Header(2));
+    }
+    if report.rounds != protocol.rounds() {
+        return Err(CertFault::Header(3));
+    }
+    if report.points != protocol.points() {
+        return Err(CertFault::Header(4));
+    }
+    if report.executions != protocol.executions() {
+        return Err(CertFault::Header(5));
+    }
+    Ok(())
+}
+
+/// Judges the map or the lines.
+fn judge_body<R: Threads + Sync>(
+    rt: &R,
+    alloc: Global,
+    task: &Task,
+    protocol: &Protocol,
+    body: &Body,
+) -> Result<(), CertFault>
+    requires built { IsProtocol task.now protocol.now.rounds protocol.now }
+    requires few { AreNumbered (body_length body.now) }
+    ensures { let p = problem_of task.now protocol.now.rounds in
+        Judges result (body_fault p (body_of body.now)) }
+{
+    match body {
+        Body::Map(values) => judge_map(rt, task, protocol, values),
+        Body::Nothing(lines) => judge_lines(alloc, task, protocol, lines),
+    }
+}
+
+/// Judges a map: its length, and then the executions. The least violated one is answered.
+fn judge_map<R: Threads + Sync>(
+    rt: &R,
+    task: &Task,
+    protocol: &Protocol,
+    values: &[u8],
+) -> Result<(), CertFault>
+    requires built { IsProtocol task.now protocol.now.rounds protocol.now }
+    ensures { Judges result (map_fault (problem_of task.now protocol.now.rounds) values.now) }
+{
+    if values.len() != protocol.points() as usize {
+        return Err(CertFault::MapLength);
+    }
+    match first_violated(rt, task, protocol, values) {
+        Some(execution) => Err(CertFault::Violates(execution as u32)),
+        None => Ok(()),
+    }
+}

@@ -1,0 +1,92 @@
+//! Texts that differ from a report in one line.
+
+use std::alloc::{AllocError, Global};
+use std::fmt::Write;
+
+/// A change of one line.
+#[derive(Clone, Copy, Debug)]
+pub enum Change {
+    /// The line is left out.
+    Dropped,
+    /// The line stands twice.
+    Doubled,
+    /// The line stands behind the next one.
+    Swapped,
+    /// The number that is this word of the line, from 0, is one more.
+    Raised(usize),
+    /// The same, one less.
+    Lowered(usize),
+}
+
+/// All changes of a line; some leave it as it is.
+pub static CHANGES: [Change; 9] = [
+    Change::Dropped,
+    Change::Doubled,
+    Change::Swapped,
+    Change::Raised(1),
+    Change::Raised(2),
+    Change::Raised(3),
+    Change::Lowered(1),
+    Change::Lowered(2),
+    Change::Lowered(3),
+];
+
+/// How many lines a text has.
+pub fn line_count(text: &str) -> usize {
+    text.split_inclusive('\n').count()
+}
+
+/// The text with one line changed, the first of which is line 0.
+pub fn changed(alloc: Global, text: &str, at: usize, change: Change) -> Result<String, AllocError> {
+    let mut made = String::new(alloc);
+    let mut held = "";
+    for (number, line) in text.split_inclusive('\n').enumerate() {
+        if number != at {
+            made.push_str(line)?;
+            made.push_str(held)?;
+            held = "";
+            continue;
+        }
+        match change {
+            Change::Dropped => {}
+            Change::Doubled => {
+                made.push_str(line)?;
+                made.push_str(line)?;
+            }
+            Change::Swapped => held = line,
+            Change::Raised(word) => put_changed(&mut made, line, word, true)?,
+            Change::Lowered(word) => put_changed(&mut made, line, word, false)?,
+        }
+    }
+    made.push_str(held)?;
+    Ok(made)
+}
+
+/// Adds a line whose word at this place is the number above it, or the one below it.
+fn put_changed(
+    made: &mut String,
+    line: &str,
+    word: usize,
+    is_raised: bool,
+) -> Result<(), AllocError> {
+    for (number, piece) in line.trim_end_matches('\n').split(' ').enumerate() {
+        if number > 0 {
+            made.push_str(" ")?;
+        }
+        match neighbour(piece, is_raised) {
+            Some(neighbour) if number == word => write!(made, "{neighbour}")?,
+            _ => made.push_str(piece)?,
+        }
+    }
+    made.push_str("\n")
+}
+
+/// The number above the one that a word spells, or the one below it.
+fn neighbour(word: &str, is_raised: bool) -> Option<u64> {
+    let number = word.parse::<u64>().ok()?;
+    if is_raised {
+        number.checked_add(1)
+    } else {
+        number.checked_sub(1)
+    }
+}
