@@ -35,7 +35,7 @@ use Rattle.wf_task.proofs.RowLemmas.{tuple_cmp-Equal}
 
 -- ---- bounds on the listed simplices
 
-within_more : (n m : ℕ) (s : Simplex) → n ≤ m → IsSimplexWithin n 63 s → IsSimplexWithin m 63 s
+pub within_more : (n m : ℕ) (s : Simplex) → n ≤ m → IsSimplexWithin n 63 s → IsSimplexWithin m 63 s
 within_more n m s more h = record {
   is_simplex = h.is_simplex;
   processes = All-weaker (λ p. p < n) (λ p. p < m) (λ p low. omega (arith, low, more)) (processes_of s) h.processes;
@@ -137,7 +137,7 @@ same_maps f g d e (x ∷ xs) (y ∷ ys) h each =
     let rest = same_maps f g d e xs ys (omega (arith, h)) (λ i inside. each (suc i) (omega (arith, inside))) in
     λ j. first j ∷ rest j
 
-seen_by : (f : Simplex → List Tuple) (ss : List Simplex) → rules_seen ss (map f ss) ≡ map (λ s. rule_of s (f s)) ss
+pub seen_by : (f : Simplex → List Tuple) (ss : List Simplex) → rules_seen ss (map f ss) ≡ map (λ s. rule_of s (f s)) ss
 seen_by f [] = refl
 seen_by f (s ∷ ss) = ap (λ rest. rule_of s (f s) ∷ rest) (seen_by f ss)
 
@@ -273,7 +273,7 @@ same_inputs : (listed : Listed) (ss : List Simplex) → map (λ rule. rule.input
 same_inputs listed [] = refl
 same_inputs listed (s ∷ ss) = ap (λ rest. s ∷ rest) (same_inputs listed ss)
 
-has-some : {X : Type 0} (x : X) (xs : List X) → Has x xs → 0 < length xs
+pub has-some : {X : Type 0} (x : X) (xs : List X) → Has x xs → 0 < length xs
 has-some x [] h = absurd h
 has-some x (y ∷ ys) h = omega arith
 
@@ -282,7 +282,7 @@ some_faces [] some h = cc
 some_faces (s ∷ ss) some h =
     has-some s (complex_of (s ∷ ss)) (is_in_complex s s (s ∷ ss) (inl refl) (filter-has is_nonempty s (parts_of s) (whole_is_part s) (All-head (λ s. is_nonempty s ≡ true) s ss some)))
 
-complex_is : (n : ℕ) (facets : List Simplex) → All (IsSimplexWithin n 63) facets → IsComplexWithin n 63 (complex_of facets)
+pub complex_is : (n : ℕ) (facets : List Simplex) → All (IsSimplexWithin n 63) facets → IsComplexWithin n 63 (complex_of facets)
 complex_is n facets h = record { is_complex = complex_of-complex_of facets; within = complex_within n 63 facets h }
 
 pub drafted_is_task : (listed : Listed) → IsFaultless listed → IsTask (drafted listed)
@@ -306,7 +306,7 @@ drafted_is_task listed h =
 
 -- ---- the values
 
-has-list : (v : ℕ) (xs : List ℕ) → has xs v ≡ true → Has v xs
+pub has-list : (v : ℕ) (xs : List ℕ) → has xs v ≡ true → Has v xs
 has-list v [] h = cc
 has-list v (x ∷ xs) h = by (λ g. has-list v xs g) (x == v) refl h
   where
@@ -314,7 +314,7 @@ has-list v (x ∷ xs) h = by (λ g. has-list v xs g) (x == v) refl h
     by deeper true is h = inl (eqb-true x v is)
     by deeper false is h = inr (deeper h)
 
-list-has : (v : ℕ) (xs : List ℕ) → Has v xs → has xs v ≡ true
+pub list-has : (v : ℕ) (xs : List ℕ) → Has v xs → has xs v ≡ true
 list-has v [] h = absurd h
 list-has v (x ∷ xs) (inl e) = rw (eq-eqb x v e) refl
 list-has v (x ∷ xs) (inr h) = by (list-has v xs h) (x == v)

@@ -12,3 +12,13 @@ pub mod Drafted
 pub mod Counts
 pub mod Few
 pub mod Bounds
+pub mod Listings
+pub mod Differing
+pub mod Facets
+pub mod Extending
+pub mod Images
+pub mod Agreeing
+pub mod Naming
+pub mod FamilyTasks
+pub mod FamilyLoops
+pub mod PresetLimits

@@ -11,3 +11,6 @@ pub mod Faultless
 pub mod Mask
 pub mod TaskSeen
 pub mod Parts
+pub mod Canonical
+pub mod Family
+pub mod Preset

@@ -1,5 +1,5 @@
 -- What a clause sees of the program's tasks, and what each of them keeps.
-use Rattle.std.specs.Prelude.{◌≡◌, ℕ, ◌<◌, ◌↔◌, true, List, [], ◌∷◌, map, length, None, vec_items}
+use Rattle.std.specs.Prelude.{◌≡◌, ℕ, ◌<◌, ◌↔◌, true, Bool, List, [], ◌∷◌, map, length, None, vec_items}
 use Rattle.std.specs.Int.{bit_at}
 use Rattle.wf_model.specs.Lists.{has}
 use Rattle.wf_model.specs.Simplex.{Simplex}
@@ -13,14 +13,18 @@ rules_seen [] ts = []
 rules_seen (s ∷ ss) [] = []
 rules_seen (s ∷ ss) (t ∷ ts) = rule_of s t ∷ rules_seen ss ts
 
-abbrev pub task_seen : Inside → Task
-task_seen t = record {
-  processes = t.processes;
-  symmetric = t.symmetric;
+-- the task of these parts, all words allowed
+abbrev pub task_of_parts : ℕ → Bool → List Simplex → List (List Tuple) → List Simplex → Task
+task_of_parts n symmetric inputs tuples outputs = record {
+  processes = n;
+  symmetric = symmetric;
   restriction = None;
-  rules = rules_seen t.inputs (map vec_items t.tuples.items);
-  outputs = t.outputs;
+  rules = rules_seen inputs tuples;
+  outputs = outputs;
 }
+
+abbrev pub task_seen : Inside → Task
+task_seen t = task_of_parts t.processes t.symmetric t.inputs (map vec_items t.tuples.items) t.outputs
 
 pub record IsKept (t : Inside) : Type 0 where
   pub task : IsTask (task_seen t)

@@ -1,4 +1,4 @@
-ghost use Rattle.std.specs.Prelude.{◌≡◌, ℕ, ◌<◌, ◌↔◌, true, length, map, option_map, slice_get, Some, None, IfOk};
+ghost use Rattle.std.specs.Prelude.{◌≡◌, ℕ, ◌<◌, ◌↔◌, true, length, map, option_map, slice_get, Some, None, IfOk, vec_items};
 ghost use Rattle.std.specs.Int.{bit_at};
 ghost use Rattle.wf_model.specs.Lists.{has};
 ghost use Rattle.wf_model.specs.Simplex.{complex_of};
@@ -7,6 +7,7 @@ ghost use Rattle.wf_task.specs.Draft.{Gives};
 ghost use Rattle.wf_task.specs.DraftSeen.{draft_seen, pairs_seen, entry_seen};
 ghost use Rattle.wf_task.specs.Judge.{judged, drafted, text_of};
 ghost use Rattle.wf_task.specs.Slots.{AreOf};
+ghost use Rattle.wf_task.specs.TaskSeen.{task_of_parts};
 ghost use Rattle.wf_task.specs.Faultless.{ListsVertices, ListsFew, IsFaultless};
 
 use crate::complexes::{complex, judge_sizes};
@@ -64,6 +65,28 @@ impl Task {
         let draft = Draft::of(alloc, &value)?;
         drop(value);
         judged(alloc, &draft)
+    }
+
+    /// The task of these parts, the tuples in the order of the inputs.
+    pub(crate) fn of_parts(
+        processes: u8,
+        symmetric: bool,
+        inputs: Complex,
+        outputs: Complex,
+        tuples: Vec<Vec<Row>>,
+    ) -> Task
+        requires task { IsTask (task_of_parts processes symmetric inputs (map vec_items tuples.items) outputs) }
+        requires each { length (map vec_items tuples.items) ≡ length inputs }
+        ensures { result ≡ task_of_parts processes symmetric inputs (map vec_items tuples.items) outputs }
+    {
+        Task {
+            values: mask(outputs.simplices()),
+            processes,
+            symmetric,
+            inputs,
+            outputs,
+            tuples,
+        }
     }
 
     /// How many processes there are.
