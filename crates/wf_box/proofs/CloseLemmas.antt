@@ -13,16 +13,13 @@ use Rattle.wf_model.specs.Laws.{IsBoxOf}
 use Rattle.wf_model.proofs.Ascending.{is_ascending_from}
 use Rattle.wf_model.proofs.Closed.{solution_left, closed_branch, closed_supports}
 use Rattle.wf_complex.specs.declared.line.Line.{Line}
-use Rattle.wf_lane.specs.Sets.{values_in}
-use Rattle.wf_lane.proofs.SetLaws.{values_ascend}
-use Rattle.wf_box.specs.Steps.{box_of, left_by, reached}
+use Rattle.wf_set.specs.Sets.{values_in}
+use Rattle.wf_set.proofs.SetLaws.{values_ascend}
+use Rattle.wf_set.specs.Sets.{box_of}
+use Rattle.wf_box.specs.Steps.{left_by, reached}
 use Rattle.wf_box.specs.Closes.{IsSupported, Leaves, emptied_by}
 use Rattle.wf_box.specs.declared.closing.Closed.{Closed}
 use Rattle.wf_box.specs.declared.closing.Closed.TheVariants.{Empty, Open}
-
--- each word of a slice is one of 64 bits
-pub words_fit : (words : List ℕ) → ((k : ℕ) → slice_index words k < 2 ^ 64) → All (λ word. word < 2 ^ 64) words
-words_fit words h k d low = subst (λ w. w < 2 ^ 64) (get_or_default words k 0 d low) (h k)
 
 -- each word is an ascending set
 sets_ascend : (words : List ℕ) → AllByRecursion (λ set. is_ascending set ≡ true) (box_of words)

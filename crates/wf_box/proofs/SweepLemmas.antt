@@ -10,9 +10,10 @@ use Rattle.wf_model.specs.Closing.{Step, and_then, sweep, sweeps, unless_none}
 use Rattle.wf_model.proofs.Fuel.{length_filter}
 use Rattle.wf_complex.specs.Lines.{line_of}
 use Rattle.wf_complex.specs.declared.line.Line.{Line}
-use Rattle.wf_lane.specs.Sets.{holds, values_in}
+use Rattle.wf_set.specs.Sets.{holds, values_in}
 use Rattle.wf_box.specs.Closes.{more_sweeps, sweep_count}
-use Rattle.wf_box.specs.Steps.{box_of, reached}
+use Rattle.wf_set.specs.Sets.{box_of}
+use Rattle.wf_box.specs.Steps.{reached}
 use Rattle.wf_box.proofs.StepLemmas.{then_then}
 
 -- ---- how many candidates there can be

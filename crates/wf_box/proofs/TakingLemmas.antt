@@ -1,18 +1,20 @@
 -- One candidate is taken out, and then each of some values.
-use Rattle.std.proofs.Common.{◌≡◌, ℕ, zero, suc, ◌<◌, ◌==◌, true, not, List, [], ◌∷◌, ◌++◌, map, filter, length, get_or, Some, None, refl, sym, ap, ◌∙◌, subst, append_assoc, arith}
+use Rattle.std.proofs.Common.{◌≡◌, ℕ, zero, suc, ◌<◌, ◌==◌, true, not, List, [], ◌∷◌, ◌++◌, map, filter, length, get_or, Some, None, refl, sym, ap, ◌∙◌, subst, append_assoc, arith, false, eqb-true}
 use Rattle.std.specs.List.{slice_set}
-use Rattle.std.proofs.lemmas.List.{map-set, map-append, get_or-map}
+use Rattle.std.proofs.lemmas.List.{map-set, map-append, get_or-map, nil_from_length}
+use Rattle.std.proofs.lemmas.Bool.{eq-eqb, false≢true}
 use Rattle.wf_model.specs.Lists.{has}
 use Rattle.wf_model.specs.Box.{Box, candidates, without, count}
 use Rattle.wf_model.specs.Refutation as refutation
 use Rattle.wf_model.specs.Closing.{Step, Loss, and_then, taken_out, take_out}
 use Rattle.wf_model.proofs.Fuel.{count_set_less}
 use Rattle.wf_model.proofs.Stable.{filter_less}
-use Rattle.wf_lane.specs.Sets.{values_in}
+use Rattle.wf_set.specs.Sets.{values_in}
 use Rattle.wf_complex.specs.Lines.{line_of}
 use Rattle.wf_complex.specs.declared.line.Line.{Line}
 use Rattle.wf_complex.specs.declared.line.Line.TheVariants as line
-use Rattle.wf_box.specs.Steps.{box_of, reached, loss}
+use Rattle.wf_set.specs.Sets.{box_of}
+use Rattle.wf_box.specs.Steps.{reached, loss}
 
 -- the candidates of a point are the values of its word
 pub word_at : (words : List ℕ) (v : ℕ) → v < length words → candidates (box_of words) v ≡ values_in (get_or words v 0)
@@ -67,3 +69,11 @@ pub one_less : (words : List ℕ) (v a set : ℕ) → v < length words → value
 one_less words v a set inside is there =
     subst (λ box. count box < count (box_of words)) (sym (set_without words v a set inside is))
     (count_set_less (box_of words) v (filter (λ b. not (b == a)) (candidates (box_of words) v)) (filter_less (candidates (box_of words) v) a there))
+
+-- ---- the test for no value
+
+pub no_value : (word : ℕ) → true ≡ (length (values_in word) == 0) → values_in word ≡ []
+no_value word is = nil_from_length (values_in word) (eqb-true (length (values_in word)) 0 (sym is))
+
+pub some_value : (word : ℕ) → false ≡ (length (values_in word) == 0) → values_in word ≡ [] → ⊥
+some_value word is gone = false≢true (is ∙ eq-eqb (length (values_in word)) 0 (ap length gone))

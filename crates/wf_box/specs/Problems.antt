@@ -3,7 +3,7 @@ use Rattle.std.specs.Prelude.{◌≡◌, ◌<◌, ◌≤◌, ℕ, List, [], map,
 use Rattle.wf_model.specs.Simplex.{processes_of}
 use Rattle.wf_model.specs.Task as task
 use Rattle.wf_model.specs.Problem.{Problem, Constraint, IsWellFormed}
-use Rattle.wf_lane.specs.Sets.{values_in}
+use Rattle.wf_set.specs.Sets.{values_in}
 use Rattle.wf_box.specs.declared.problem.Rule.{Rule}
 use Rattle.wf_box.specs.declared.problem.Execution.{Execution}
 use Rattle.wf_box.specs.declared.problem.Problem.TheInside.{Inside}

@@ -5,29 +5,30 @@ ghost use Rattle.wf_model.specs.Lists.{has};
 ghost use Rattle.wf_model.specs.Box.{candidates, decided, first_empty, first_open, root};
 ghost use Rattle.wf_model.specs.Problem.{IsWellFormed, Problem};
 ghost use Rattle.wf_model.specs.Laws.{IsBoxOf};
-ghost use Rattle.wf_lane.specs.Sets.{values_in};
+ghost use Rattle.wf_set.specs.Sets.{values_in};
 ghost use Rattle.wf_box.specs.Least.{least_values};
 ghost use Rattle.wf_box.specs.Problems.{most_points};
-ghost use Rattle.wf_box.specs.Steps.{box_of};
+ghost use Rattle.wf_set.specs.Sets.{box_of};
 
 use crate::problem::Problem;
 use std::alloc::{AllocError, Global};
 use std::marker::Model;
 use wf_lane::first_open;
+use wf_set::{Mask, first, only};
 
 /// A box: a set of values, its candidates, for each point.
 ///
 /// A clause sees it as the list of the points' candidates, each ascending.
 #[derive(Debug, Drop)]
 pub struct Box0 {
-    // for each point a word in which bit v is set where v is a candidate
-    pub(crate) sets: Vec<u64>,
+    // for each point its candidates
+    pub(crate) sets: Vec<Mask>,
 }
 
 impl Model for Box0 {
     ghost use Rattle.std.specs.Prelude.{◌≤◌, ℕ, List, length};
     ghost use Rattle.wf_box.specs.Problems.{most_points};
-    ghost use Rattle.wf_box.specs.Steps.{box_of};
+    ghost use Rattle.wf_set.specs.Sets.{box_of};
 
     ghost Value = { List (List ℕ) };
 
@@ -66,8 +67,8 @@ impl Box0 {
         leave_value(&mut self.sets, point, value);
     }
 
-    /// The candidates of a point: bit v is set where v is one. It takes no memory.
-    pub fn candidates(&self, point: u32) -> u64
+    /// The candidates of a point. It takes no memory.
+    pub fn candidates(&self, point: u32) -> Mask
         requires { point < length self.now }
         ensures { values_in result ≡ candidates self.now point }
     {
@@ -108,7 +109,7 @@ impl Box0 {
 }
 
 /// The first set of two values or more.
-fn open_point(sets: &[u64]) -> Option<u32>
+fn open_point(sets: &[Mask]) -> Option<u32>
     requires { length sets.now ≤ most_points }
     ensures { result ≡ first_open (box_of sets.now) }
 {
@@ -119,30 +120,21 @@ fn open_point(sets: &[u64]) -> Option<u32>
 }
 
 /// The least value of each set.
-fn least_each(alloc: Global, sets: &[u64]) -> Result<Vec<u8>, AllocError>
+fn least_each(alloc: Global, sets: &[Mask]) -> Result<Vec<u8>, AllocError>
     requires { first_empty (box_of sets.now) ≡ None }
     ensures { IfOk result (λ values. values.items ≡ least_values (box_of sets.now)) }
 {
     let mut values = Vec::with_capacity(alloc, sets.len())?;
     for set in sets {
-        values.push(least(*set))?;
+        values.push(first(*set))?;
     }
     Ok(values)
 }
 
-/// The least value of a set.
-fn least(set: u64) -> u8
-    requires { 0 < set }
-    ensures { result ≡ slice_index (values_in set) 0 }
-{
-    set.trailing_zeros() as u8
-}
-
 /// Leaves a point one of its candidates.
-fn leave_value(sets: &mut [u64], point: u32, value: u8)
+fn leave_value(sets: &mut [Mask], point: u32, value: u8)
     requires { has (candidates (box_of sets.old) point) value ≡ true }
     ensures { box_of sets.new ≡ decided (box_of sets.old) point value }
 {
-    let word = 1 << value;
-    sets[point as usize] = word;
+    sets[point as usize] = only(value);
 }

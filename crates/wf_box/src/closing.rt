@@ -8,11 +8,12 @@ ghost use Rattle.wf_model.specs.Box.{LiesIn, candidates, count, first_empty};
 ghost use Rattle.wf_model.specs.Closing.{and_then, closing, lost, sweep, sweep_from, sweeps, take_out_each};
 ghost use Rattle.wf_model.specs.Laws.{IsBoxOf};
 ghost use Rattle.wf_complex.specs.Lines.{line_of};
-ghost use Rattle.wf_lane.specs.Sets.{values_in};
+ghost use Rattle.wf_set.specs.Sets.{values_in};
 ghost use Rattle.wf_lane.specs.Table.{HasSupported};
 ghost use Rattle.wf_box.specs.Problems.{IsWide, IsWithin, constraint_seen, no_rule};
 ghost use Rattle.wf_box.specs.Revising.{IsRevised};
-ghost use Rattle.wf_box.specs.Steps.{HasRoom, IsNamed, IsSpent, box_of, reached};
+ghost use Rattle.wf_set.specs.Sets.{box_of};
+ghost use Rattle.wf_box.specs.Steps.{HasRoom, IsNamed, IsSpent, reached};
 ghost use Rattle.wf_box.specs.Closes.{AreFew, EndsAt, IsEmptied, IsSupported, Leaves, Takes, emptied_by, sweep_count, without_named};
 
 use crate::boxed::Box0;
@@ -21,6 +22,7 @@ use crate::taking::{Place, put, take_each};
 use std::alloc::{AllocError, Global};
 use wf_complex::{Line, Lines};
 use wf_lane::{count, first_empty};
+use wf_set::{Mask, difference};
 
 /// How closing ended.
 #[derive(Clone, Copy, Debug, PartialEq, Eq)]
@@ -38,8 +40,8 @@ pub enum Closed {
 #[derive(Clone, Copy, Debug)]
 struct Revised {
     rule: u32,
-    candidates: [u64; 4],
-    supported: [u64; 4],
+    candidates: [Mask; 4],
+    supported: [Mask; 4],
 }
 
 /// Takes out what is not supported, sweep by sweep, until a sweep changes nothing or a point is emptied, and adds a
@@ -73,7 +75,7 @@ pub fn close(
 }
 
 /// How many candidates the points have in all.
-fn count_candidates(sets: &[u64]) -> usize
+fn count_candidates(sets: &[Mask]) -> usize
     requires { length sets.now ≤ 2000000 }
     ensures count { result ≡ count (box_of sets.now) }
     ensures few { result ≤ 128000000 }
@@ -82,7 +84,7 @@ fn count_candidates(sets: &[u64]) -> usize
 }
 
 /// Closes a box of words, where there is room for the lines.
-fn close_sets(problem: &Problem, sets: &mut [u64], lines: &mut Lines) -> Closed
+fn close_sets(problem: &Problem, sets: &mut [Mask], lines: &mut Lines) -> Closed
     requires boxed { IsBoxOf problem.now (box_of sets.old) }
     requires long { length sets.old ≡ problem.now.points }
     requires few { length sets.old ≤ 2000000 }
@@ -104,7 +106,7 @@ fn close_sets(problem: &Problem, sets: &mut [u64], lines: &mut Lines) -> Closed
 }
 
 /// The first point without a candidate.
-fn empty_point(sets: &[u64]) -> Option<u32>
+fn empty_point(sets: &[Mask]) -> Option<u32>
     requires { length sets.now ≤ 2000000 }
     ensures { result ≡ first_empty (box_of sets.now) }
 {
@@ -115,7 +117,7 @@ fn empty_point(sets: &[u64]) -> Option<u32>
 }
 
 /// Sweeps until one changes nothing or a point is emptied.
-fn sweeps(problem: &Problem, sets: &mut [u64], lines: &mut Lines) -> Closed
+fn sweeps(problem: &Problem, sets: &mut [Mask], lines: &mut Lines) -> Closed
     requires long { length sets.old ≡ problem.now.points }
     requires few { length sets.old ≤ 2000000 }
     requires room { HasRoom lines.old sets.old }
@@ -141,7 +143,7 @@ fn sweeps(problem: &Problem, sets: &mut [u64], lines: &mut Lines) -> Closed
 }
 
 /// Takes out of each execution in turn what is not supported there. The point that this empties, if there is one.
-fn sweep(problem: &Problem, sets: &mut [u64], lines: &mut Lines) -> Option<u32>
+fn sweep(problem: &Problem, sets: &mut [Mask], lines: &mut Lines) -> Option<u32>
     requires long { length sets.old ≡ problem.now.points }
     requires room { HasRoom lines.old sets.old }
     ensures step { reached lines.new.items result sets.new ≡ and_then (reached lines.old.items None sets.old) (sweep problem.now) }
@@ -160,7 +162,7 @@ fn sweep(problem: &Problem, sets: &mut [u64], lines: &mut Lines) -> Option<u32>
 fn sweep_executions(
     executions: &[Execution],
     rules: &[Rule],
-    sets: &mut [u64],
+    sets: &mut [Mask],
     lines: &mut Lines,
 ) -> Option<u32>
     requires few { length executions.now ≤ 500000 }
@@ -191,7 +193,7 @@ fn revise(
     number: u32,
     execution: Execution,
     rules: &[Rule],
-    sets: &mut [u64],
+    sets: &mut [Mask],
     lines: &mut Lines,
     last: &mut Option<Revised>,
 ) -> Option<u32>
@@ -229,10 +231,10 @@ fn revise(
 /// of a simplex have the same candidates.
 fn supported_at(
     rule: u32,
-    candidates: [u64; 4],
+    candidates: [Mask; 4],
     rules: &[Rule],
     last: &mut Option<Revised>,
-) -> [u64; 4]
+) -> [Mask; 4]
     requires rule { rule < length rules.now }
     requires last { IsRevised rules.now last.old }
     ensures supported { HasSupported result (get_or rules.now rule no_rule).table candidates }
@@ -253,16 +255,8 @@ fn supported_at(
     supported
 }
 
-/// The values that are not among the others.
-fn difference(values: u64, others: u64) -> u64
-    ensures difference { result ≡ bit_and values (bit_not w64 others) }
-    ensures word { others < 2 ^ 64 }
-{
-    values & !others
-}
-
 /// The candidates of the points of an execution; past their number those of the first point.
-fn candidates_at(execution: Execution, sets: &[u64]) -> [u64; 4]
+fn candidates_at(execution: Execution, sets: &[Mask]) -> [Mask; 4]
     requires long { length execution.points ≡ 4 }
     requires within { All (λ v. v < length sets.now) execution.points }
     ensures candidates { result ≡ map (λ v. slice_index sets.now v) execution.points }

@@ -14,6 +14,3 @@ mod taking;
 pub use boxed::Box0;
 pub use closing::{Closed, close};
 pub use problem::Problem;
-
-#[cfg(test)]
-mod tests;

@@ -11,6 +11,7 @@ use std::alloc::{AllocError, Global};
 use std::marker::Model;
 use wf_complex::Protocol;
 use wf_lane::TupleTable;
+use wf_set::Mask;
 use wf_simplex::Simplex;
 use wf_task::{Row, Task};
 
@@ -49,8 +50,8 @@ pub(crate) struct Execution {
 #[derive(Drop)]
 pub struct Problem {
     pub(crate) points: u32,
-    // bit v is set where v occurs in the outputs
-    pub(crate) values: u64,
+    // those that occur in the outputs
+    pub(crate) values: Mask,
     pub(crate) rules: Vec<Rule>,
     pub(crate) executions: Vec<Execution>,
 }

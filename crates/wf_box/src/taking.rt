@@ -6,12 +6,14 @@ ghost use Rattle.wf_model.specs.Lists.{has};
 ghost use Rattle.wf_model.specs.Problem.{Problem, constraint_at};
 ghost use Rattle.wf_model.specs.Box.{candidates};
 ghost use Rattle.wf_model.specs.Closing.{and_then, take_out};
-ghost use Rattle.wf_lane.specs.Sets.{values_in};
+ghost use Rattle.wf_set.specs.Sets.{value_limit, values_in};
 ghost use Rattle.wf_complex.specs.Protocol.{point_in};
 ghost use Rattle.wf_box.specs.Closes.{EndsAt};
-ghost use Rattle.wf_box.specs.Steps.{HasRoom, IsNamed, IsSpent, box_of, loss, point_if, reached, take_present};
+ghost use Rattle.wf_set.specs.Sets.{box_of};
+ghost use Rattle.wf_box.specs.Steps.{HasRoom, IsNamed, IsSpent, loss, point_if, reached, take_present};
 
 use wf_complex::{Line, Lines};
+use wf_set::{Mask, holds, is_empty, split_first, without};
 
 /// A process of an execution, and its point.
 #[derive(Clone, Copy, Debug)]
@@ -23,7 +25,7 @@ pub(crate) struct Place {
 
 /// Takes those of the values out that are still there, ascending, with their lines. Where this empties the point, that
 /// ends it, and the answer is true.
-pub(crate) fn take_each(values: u64, place: Place, sets: &mut [u64], lines: &mut Lines) -> bool
+pub(crate) fn take_each(values: Mask, place: Place, sets: &mut [Mask], lines: &mut Lines) -> bool
     requires point { place.point < length sets.old }
     requires room { HasRoom lines.old sets.old }
     ensures step { reached lines.new.items (point_if result place.point) sets.new
@@ -36,8 +38,7 @@ pub(crate) fn take_each(values: u64, place: Place, sets: &mut [u64], lines: &mut
     ensures spent { OnFalse result (IsSpent lines.old sets.old lines.new sets.new) }
 {
     let mut left = values;
-    'values: while left != 0 {
-        let (value, rest) = split(left);
+    'values: while let Some((value, rest)) = split_first(left) {
         left = rest;
         if holds(sets[place.point as usize], value) && take_out(value, place, sets, lines) {
             return true;
@@ -48,8 +49,8 @@ pub(crate) fn take_each(values: u64, place: Place, sets: &mut [u64], lines: &mut
 
 /// Takes a candidate out, and adds its line. Where this empties the point, the line for that follows, and the answer
 /// is true.
-fn take_out(value: u8, place: Place, sets: &mut [u64], lines: &mut Lines) -> bool
-    requires value { value < 64 }
+fn take_out(value: u8, place: Place, sets: &mut [Mask], lines: &mut Lines) -> bool
+    requires value { value < value_limit }
     requires point { place.point < length sets.old }
     requires present { has (candidates (box_of sets.old) place.point) value ≡ true }
     requires room { HasRoom lines.old sets.old }
@@ -73,37 +74,11 @@ fn take_out(value: u8, place: Place, sets: &mut [u64], lines: &mut Lines) -> boo
             value,
         },
     );
-    if set == 0 {
+    if is_empty(set) {
         put(lines, Line::Z { point: place.point });
         return true;
     }
     false
-}
-
-/// The least of some values, and the others.
-fn split(values: u64) -> (u8, u64)
-    requires { 0 < values }
-    ensures small { result.0 < 64 }
-    ensures values { values_in values ≡ result.0 ∷ values_in result.1 }
-    ensures fewer { result.1 < values }
-{
-    (values.trailing_zeros() as u8, values & (values - 1))
-}
-
-/// The values without this one.
-fn without(values: u64, value: u8) -> u64
-    requires { value < 64 }
-    ensures { values_in result ≡ filter (λ v. not (v == value)) (values_in values) }
-{
-    values & !(1 << value)
-}
-
-/// Whether the value is one of them.
-pub(crate) fn holds(values: u64, value: u8) -> bool
-    requires { value < 64 }
-    ensures { result ≡ has (values_in values) value }
-{
-    values >> value & 1 == 1
 }
 
 /// Adds a line, for which there is room.

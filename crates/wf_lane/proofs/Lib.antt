@@ -2,7 +2,7 @@ pub mod WordLemmas
 pub mod OrLemmas
 pub mod Values
 pub mod Building
-pub mod SetLaws
+pub mod SupportLaws
 pub mod BoxLaws
 pub mod Eights
 pub mod Revising

@@ -15,27 +15,11 @@ use Rattle.std.proofs.Math.Bool.{and-true}
 use Rattle.wf_model.specs.Lists.{below, has}
 use Rattle.wf_model.specs.Task.{Tuple}
 use Rattle.wf_model.specs.Box.{is_supported, is_alive, has_at}
-use Rattle.wf_lane.specs.Sets.{holds, values_in, sets_of}
+use Rattle.wf_set.proofs.SetLaws.{has-values_in, holds-or, holds-pow, holds_nothing}
+use Rattle.wf_set.specs.Sets.{holds, values_in}
+use Rattle.wf_lane.specs.Table.{sets_of}
 use Rattle.wf_lane.specs.Words.{Words, is_live, joined_words, meets}
 use Rattle.wf_lane.specs.Table.{IsOneHot, AreOneHot, row_of, four_values, value_of, opened}
-
-or_test : (m n : ℕ) → m < 2 → n < 2 → (max m n == 1) ≡ (m == 1 || n == 1)
-or_test zero zero h k = refl
-or_test zero (suc zero) h k = refl
-or_test (suc zero) zero h k = refl
-or_test (suc zero) (suc zero) h k = refl
-or_test (suc (suc m)) n h k = absurd (omega arith)
-or_test zero (suc (suc n)) h k = absurd (omega arith)
-or_test (suc zero) (suc (suc n)) h k = absurd (omega arith)
-
-pub holds-or : (x y a : ℕ) → holds (bit_or x y) a ≡ (holds x a || holds y a)
-holds-or x y a = ap (λ b. b == 1) (bit_at_or x y a) ∙ or_test (bit_at x a) (bit_at y a) (bit_at-lt x a) (bit_at-lt y a)
-
-pub holds_nothing : (a : ℕ) → holds 0 a ≡ false
-holds_nothing a = ap (λ b. b == 1) (bit_at-zero a)
-
-pub holds-pow : (k a : ℕ) → holds (2 ^ k) a ≡ (k == a)
-holds-pow k a = ⊎_elim (λ (e : a ≡ k). subst (λ j. holds (2 ^ k) j ≡ (k == j)) (sym e) (ap (λ b. b == 1) (bit_at-pow_same k) ∙ sym (eq-eqb k k refl))) (λ (ne : a ≡ k → ⊥). ap (λ b. b == 1) (bit_at-pow_other k a ne) ∙ sym (ne_eqb k a (λ e. ne (sym e)))) (cases_eq a k)
 
 test_bit : (b x : ℕ) → b < 2 → 0 < x → not (b * x == 0) ≡ (b == 1)
 test_bit zero x h pos = ap not (eq-eqb (0 * x) 0 (omega arith))
@@ -51,18 +35,6 @@ meets_holds w s h =
 word_holds : (w a : ℕ) → IsOneHot w → holds w a ≡ (value_of w == a)
 unfolding value_of
 word_holds w a h = ap (λ x. holds x a) h.power ∙ holds-pow (trailing_zeros w64 w) a
-
--- ---- lists of a word's values
-
-pub in_below : (n v : ℕ) → v < n → has (below n) v ≡ true
-in_below n v h = list_any_at (λ y. y == v) (below n) v 0 (rw (length-range_with_len 0 n) h) (rw (get_or-range_with_len 0 n v 0 h) (eq-eqb (0 + v) v (omega arith)))
-
--- a value is in the list where its bit is set
-pub has-values_in : (word v : ℕ) → v < 64 → has (values_in word) v ≡ holds word v
-unfolding values_in
-has-values_in word v h =
-    any-filter_same (λ y. y == v) (holds word) (holds word v) (λ k e. ap (holds word) (eqb-true k v e)) (below 64)
-    ∙ ap (λ b. holds word v && b) (in_below 64 v h) ∙ and-true (holds word v)
 
 -- ---- a row and its four words
 value_small : (word : ℕ) → IsOneHot word → value_of word < 64

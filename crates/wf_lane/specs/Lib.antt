@@ -1,3 +1,3 @@
-pub mod Sets
 pub mod Words
 pub mod Table
+pub mod Meeting

@@ -14,6 +14,3 @@ pub mod table;
 pub use lanes::Support;
 pub use sets::{count, first_empty, first_open, meet};
 pub use table::TupleTable;
-
-#[cfg(test)]
-mod tests;

@@ -1,6 +1,6 @@
 ghost use Rattle.std.specs.Prelude.{◌≡◌, ℕ, ◌<◌, ◌≤◌, ◌^◌, All, IfOk, length, map, slice_index, count_by};
 ghost use Rattle.wf_model.specs.Box.{is_alive};
-ghost use Rattle.wf_lane.specs.Sets.{sets_of};
+ghost use Rattle.wf_lane.specs.Table.{sets_of};
 ghost use Rattle.wf_lane.specs.Table.{HasSupported, word_at, opened, closed};
 
 use crate::lanes::{Support, revise_columns, word_or};

@@ -17,8 +17,7 @@ use Rattle.wf_model.proofs.Headline.{each_append}
 use Rattle.wf_model.proofs.Closed.{closed_branch}
 use Rattle.wf_complex.specs.Lines.{line_of}
 use Rattle.wf_complex.specs.declared.line.Line.{Line}
-use Rattle.wf_lane.specs.Sets.{values_in}
-use Rattle.wf_lane.proofs.SetLaws.{values_of_nothing}
+use Rattle.wf_set.specs.Sets.{values_in}
 use Rattle.wf_search.specs.declared.outline.Slot.{Slot}
 use Rattle.wf_search.specs.Cover.{each_seen}
 use Rattle.wf_search.specs.Outline.{as_written, slot_seen, slots_filled, is_to_open}
@@ -252,8 +251,8 @@ opened_last p slots none after lines old new items past same grown all seen =
 pub boxes_of_slots : (P : Box → Type 0) (slots : List Slot) (after : List Line) (items : List Item) → flat_map slot_seen slots ++ as_written after ≡ items → AllByRecursion P (boxes_left_out items) → AllByRecursion P (map (λ (s : Slot). s.boxed) slots)
 boxes_of_slots P slots after items seen all = subst (AllByRecursion P) (ap boxes_left_out (sym seen) ∙ boxes_seen slots after) all
 
-pub no_more_branches : (p : Problem) (old whole : List Item) (box : Box) (v left : ℕ) → left ≡ 0 → old ++ branches_closed p box v (values_in left) ≡ whole → old ≡ whole
-no_more_branches p old whole box v left none all = sym (append-nil old) ∙ ap (λ vs. old ++ branches_closed p box v vs) (sym (ap values_in none ∙ values_of_nothing)) ∙ all
+pub no_more_branches : (p : Problem) (old whole : List Item) (box : Box) (v left : ℕ) → values_in left ≡ [] → old ++ branches_closed p box v (values_in left) ≡ whole → old ≡ whole
+no_more_branches p old whole box v left none all = sym (append-nil old) ∙ ap (λ vs. old ++ branches_closed p box v vs) (sym none) ∙ all
 
 pub fill_last : {A : Type 0} (slots : List Slot) (after : List Line) (lists : List (Vec Line A)) (start mid new more : List Line) (items : List Item) → start ≡ [] → length lists ≡ length slots
     → map line_of mid ≡ map line_of start ++ slots_filled slots lists → new ≡ mid ++ more → more ≡ after → flat_map slot_seen slots ++ as_written after ≡ items → map line_of new ≡ filled items (each_seen lists)

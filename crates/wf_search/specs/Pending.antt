@@ -4,7 +4,7 @@ use Rattle.wf_model.specs.Lists.{has}
 use Rattle.wf_model.specs.Problem.{Problem}
 use Rattle.wf_model.specs.Box.{Box, branches_at, candidates, decided}
 use Rattle.wf_model.specs.Closing.{Step, closing}
-use Rattle.wf_lane.specs.Sets.{values_in}
+use Rattle.wf_set.specs.Sets.{values_in}
 use Rattle.wf_search.specs.declared.pending.Frame.{Frame}
 use Rattle.wf_search.specs.declared.pending.Pending.TheInside.{Inside}
 
@@ -41,7 +41,7 @@ pending_seen p = p.current ∷ all_left (take p.depth p.frames.items)
 
 -- some values are left, and they are candidates of the point
 pub record IsFrame (f : Frame) : Type 0 where
-  pub some : 0 < f.left
+  pub some : 0 < length (values_in f.left)
   pub there : (a : ℕ) → has (values_in f.left) a ≡ true → has (candidates f.boxed f.point) a ≡ true
 
 pub record IsPending (p : Inside) : Type 0 where

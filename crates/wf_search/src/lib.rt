@@ -13,7 +13,6 @@ mod outline;
 mod pending;
 mod searching;
 mod stop;
-mod values;
 
 pub use cover::{Cover, split};
 pub use searching::{Found, search};

@@ -11,12 +11,12 @@ ghost use Rattle.wf_complex.specs.Lines.{line_of};
 ghost use Rattle.wf_search.specs.Cover.{IsFilled, branch_at};
 ghost use Rattle.wf_search.specs.Outline.{Adds, as_written, branches_closed, is_to_open, slots_filled};
 
-use crate::values::split;
 use std::alloc::{AllocError, Global};
 use std::marker::Model;
 use std::mem;
 use wf_box::{Box0, Closed, Problem, close};
 use wf_complex::{Line, Lines};
+use wf_set::split_first;
 
 /// A box in the place of the lines that refute it, and the lines that come before.
 #[derive(Drop)]
@@ -143,8 +143,7 @@ impl Outline {
         ensures { OnOk result (self.new ≡ self.old ++ branches_closed problem.now boxed.now point) }
     {
         let mut left = boxed.candidates(point);
-        'values: while left != 0 {
-            let (value, others) = split(left);
+        'values: while let Some((value, others)) = split_first(left) {
             left = others;
             let mut branch = boxed.copy(alloc)?;
             branch.set(point, value);

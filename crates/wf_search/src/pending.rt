@@ -8,24 +8,24 @@ ghost use Rattle.wf_model.specs.Box.{branches_at, candidates, decided, first_emp
 ghost use Rattle.wf_model.specs.Closing.{closing};
 ghost use Rattle.wf_model.specs.Laws.{IsBoxOf};
 ghost use Rattle.wf_complex.specs.Lines.{line_of};
-ghost use Rattle.wf_lane.specs.Sets.{values_in};
+ghost use Rattle.wf_set.specs.Sets.{values_in};
 ghost use Rattle.wf_box.specs.Closes.{Leaves};
 ghost use Rattle.wf_box.specs.Least.{least_values};
 ghost use Rattle.wf_search.specs.Outline.{Adds};
 ghost use Rattle.wf_search.specs.Pending.{HasFirst, IsFrame, IsKeptAt, branches_left, closed_first, first, first_branched, frame, others};
 
-use crate::values::split;
 use std::alloc::{AllocError, Global};
 use std::marker::Model;
 use wf_box::{Box0, Closed, Problem, close};
 use wf_complex::Lines;
+use wf_set::{Mask, first, is_empty, rest};
 
 /// A point at which a box branched: the box, and the point's values whose branches are still to come.
 #[derive(Drop)]
 struct Frame {
     boxed: Box0,
     point: u32,
-    left: u64,
+    left: Mask,
 }
 
 /// The boxes that are still to be searched, in order, of which there is one at least.
@@ -102,17 +102,17 @@ impl Pending {
         ensures branches { OnOk result (self.new ≡ first_branched self.old point) }
         ensures first { HasFirst self.new }
     {
-        let (value, left) = split(self.current.candidates(point));
+        let values = self.current.candidates(point);
         keep(
             alloc,
             &mut self.frames,
             self.depth,
             &self.current,
             point,
-            left,
+            rest(values),
         )?;
         self.depth += 1;
-        self.current.set(point, value);
+        self.current.set(point, first(values));
         Ok(())
     }
 
@@ -140,7 +140,7 @@ fn keep(
     depth: usize,
     boxed: &Box0,
     point: u32,
-    left: u64,
+    left: Mask,
 ) -> Result<(), AllocError>
     requires deep { depth ≤ length frames.old.items }
     requires long { All (λ f. length f.boxed ≡ length boxed.now) frames.old.items }
@@ -174,9 +174,9 @@ fn take_next(frame: &mut Frame, boxed: &mut Box0) -> bool
     ensures long { length boxed.new ≡ length boxed.old }
     ensures frame_long { length frame.new.boxed ≡ length frame.old.boxed }
 {
-    let (value, left) = split(frame.left);
+    let left = rest(frame.left);
     boxed.assign(&frame.boxed);
-    boxed.set(frame.point, value);
+    boxed.set(frame.point, first(frame.left));
     frame.left = left;
-    left == 0
+    is_empty(left)
 }

@@ -2,7 +2,7 @@ use Rattle.std.proofs.Common.{◌≡◌, sym, subst, arith}
 use Rattle.std.specs.Vec.{with_items}
 use Rattle.std.proofs.lemmas.List.{with_items_is}
 use Rattle.wf_model.specs.Laws.{IsBoxOf}
-use Rattle.wf_box.specs.Steps.{box_of}
+use Rattle.wf_set.specs.Sets.{box_of}
 use Rattle.wf_box.specs.Closes.{IsSupported}
 use Rattle.wf_box.proofs.closing.close.Goals as goal
 

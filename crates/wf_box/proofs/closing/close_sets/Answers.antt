@@ -4,7 +4,8 @@ use Rattle.wf_model.specs.Closing.{Step, and_then}
 use Rattle.wf_complex.specs.Lines.{line_of}
 use Rattle.wf_complex.specs.declared.line.Line.TheVariants as line
 use Rattle.wf_box.specs.Closes.{without_named}
-use Rattle.wf_box.specs.Steps.{box_of, reached}
+use Rattle.wf_set.specs.Sets.{box_of}
+use Rattle.wf_box.specs.Steps.{reached}
 use Rattle.wf_box.proofs.NameLemmas.{named_by}
 use Rattle.wf_box.proofs.CloseLemmas.{closing_empty, empty_there, point_there, closing_sweeps, left_of, solutions_kept, supported_there, is_box}
 use Rattle.wf_box.proofs.closing.close_sets.Goals as goal

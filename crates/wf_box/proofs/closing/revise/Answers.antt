@@ -4,7 +4,8 @@ use Rattle.wf_model.specs.Simplex.{processes_of}
 use Rattle.wf_model.specs.Problem.{Problem, constraint_at}
 use Rattle.wf_model.specs.Closing.{Step, and_then}
 use Rattle.wf_box.specs.Problems.{constraint_seen}
-use Rattle.wf_box.specs.Steps.{IsNamed, box_of, point_if, reached}
+use Rattle.wf_set.specs.Sets.{box_of}
+use Rattle.wf_box.specs.Steps.{IsNamed, point_if, reached}
 use Rattle.wf_box.proofs.ProblemLemmas.{known_at}
 use Rattle.wf_box.proofs.StepLemmas.{lost_in_turn}
 use Rattle.wf_box.proofs.NameLemmas.{named_none, named_then, point_of_place}
@@ -38,7 +39,7 @@ returns-then-take_each-clause-step c =
     let step = ap (λ b. reached c.take_each.new.lines.items (point_if b (get_or c.args.execution.points c.places.place 0)) c.take_each.new.sets) (sym c.if-take_each.true) ∙ c.take_each.ensures.step in
     place_done c.args.rules.now c.args.execution c.index-rules-execution.result c.args.sets.now c.candidates_at-found.result c.supported_at-supported.result c.args.number c.places.place c.colour.result c.difference-lost.result
     (reached c.places.lines.items None c.places.sets) _ known c.requires.within (omega (arith, c.colours-place-end.ensures.count, c.colours-place-end.ensures.few)) (omega (arith, c.colours-place-end.ensures.count, c.places-test.true))
-    c.candidates_at-found.ensures.candidates c.supported_at-supported.ensures.supported c.difference-lost.ensures.word c.colour.ensures c.difference-lost.ensures.difference step
+    c.candidates_at-found.ensures.candidates c.supported_at-supported.ensures.supported c.colour.ensures c.difference-lost.ensures step
     ∙ c.places.invariant.4
 
 pub places-preserved : goal.places-preserved
@@ -47,7 +48,7 @@ places-preserved c =
     let step = ap (λ b. reached c.take_each.new.lines.items (point_if b (get_or c.args.execution.points c.places.place 0)) c.take_each.new.sets) (sym c.if-take_each.false) ∙ c.take_each.ensures.step in
     let done = place_done c.args.rules.now c.args.execution c.index-rules-execution.result c.args.sets.now c.candidates_at-found.result c.supported_at-supported.result c.args.number c.places.place c.colour.result c.difference-lost.result
     (reached c.places.lines.items None c.places.sets) _ known c.requires.within (omega (arith, c.colours-place-end.ensures.count, c.colours-place-end.ensures.few)) (omega (arith, c.colours-place-end.ensures.count, c.places-test.true))
-    c.candidates_at-found.ensures.candidates c.supported_at-supported.ensures.supported c.difference-lost.ensures.word c.colour.ensures c.difference-lost.ensures.difference step
+    c.candidates_at-found.ensures.candidates c.supported_at-supported.ensures.supported c.colour.ensures c.difference-lost.ensures step
     ∙ c.places.invariant.4 in
     let named : (p : Problem) → constraint_at p c.args.number ≡ constraint_seen c.args.rules.now c.args.execution → IsNamed p c.args.lines.now.items c.args.sets.now c.take_each.new.lines.items c.take_each.new.sets = λ p at.
     named_then p _ _ _ _ _ _ (c.places.invariant.3 p at)

@@ -2,7 +2,8 @@ use Rattle.std.proofs.Common.{◌≡◌, None, length, flat_map, drop}
 use Rattle.wf_model.specs.Problem.{Problem, constraint_at}
 use Rattle.wf_model.specs.Closing.{and_then, lost, lost_at, places, take_out_each}
 use Rattle.wf_box.specs.Problems.{constraint_seen}
-use Rattle.wf_box.specs.Steps.{HasRoom, IsNamed, IsSpent, box_of, reached, take_present}
+use Rattle.wf_set.specs.Sets.{box_of}
+use Rattle.wf_box.specs.Steps.{HasRoom, IsNamed, IsSpent, reached, take_present}
 use Rattle.wf_box.proofs.closing.revise.Given as goal
 
 abbrev pub invariant-places : goal.invariant-places

@@ -1,6 +1,6 @@
 use Rattle.std.proofs.Common.{◌≡◌, ℕ, ◌<◌, ◌≤◌, None, length, ◌∙◌, arith}
 use Rattle.wf_model.specs.Box.{count}
-use Rattle.wf_box.specs.Steps.{box_of}
+use Rattle.wf_set.specs.Sets.{box_of}
 use Rattle.wf_box.proofs.SweepLemmas.{count_few, grown, swept_done, swept_more}
 use Rattle.wf_box.proofs.NameLemmas.{named_then}
 use Rattle.wf_box.proofs.closing.sweeps.Goals as goal

@@ -2,7 +2,8 @@ use Rattle.std.proofs.Common.{◌≡◌, None, suc, ◌+◌, ◌≤◌, length}
 use Rattle.wf_model.specs.Box.{count}
 use Rattle.wf_model.specs.Closing.{and_then, sweeps}
 use Rattle.wf_box.specs.Closes.{sweep_count}
-use Rattle.wf_box.specs.Steps.{HasRoom, IsNamed, box_of, reached}
+use Rattle.wf_set.specs.Sets.{box_of}
+use Rattle.wf_box.specs.Steps.{HasRoom, IsNamed, reached}
 use Rattle.wf_box.proofs.SweepLemmas.{SweepsLeft}
 use Rattle.wf_box.proofs.closing.sweeps.Given as goal
 

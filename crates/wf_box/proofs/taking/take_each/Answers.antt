@@ -2,8 +2,8 @@ use Rattle.std.proofs.Common.{◌≡◌, [], None, Some, ◌∙◌, sym, ap, map
 use Rattle.std.proofs.lemmas.Grind.{common_steps}
 use Rattle.wf_model.specs.Problem.{Problem, constraint_at}
 use Rattle.wf_model.specs.Closing.{and_then}
-use Rattle.wf_lane.specs.Sets.{values_in}
-use Rattle.wf_lane.proofs.SetLaws.{values_of_nothing}
+use Rattle.wf_set.specs.Sets.{values_in}
+use Rattle.wf_set.proofs.SetLaws.{values_of_nothing}
 use Rattle.wf_complex.specs.Protocol.{point_in}
 use Rattle.wf_box.specs.Steps.{IsNamed, loss, reached, take_present}
 use Rattle.wf_box.proofs.StepLemmas.{then_keeps}
@@ -27,7 +27,6 @@ values-preserved c = (grind (arith, common_steps), grind (arith, common_steps), 
 
 pub returns-clause-step : goal.returns-clause-step
 returns-clause-step c =
-    let none_left : values_in c.values.left ≡ [] = ap values_in (let e : c.values.left ≡ 0 = omega (arith, c.values-test.false) in e) ∙ values_of_nothing in
     sym (then_keeps (reached c.values.lines.items None c.values.sets))
-    ∙ sym (ap (λ vs. and_then (reached c.values.lines.items None c.values.sets) (take_present c.args.place.execution (map (loss c.args.place.process c.args.place.point) vs))) none_left)
+    ∙ sym (ap (λ vs. and_then (reached c.values.lines.items None c.values.sets) (take_present c.args.place.execution (map (loss c.args.place.process c.args.place.point) vs))) c.in_default.ensures.split)
     ∙ c.values.invariant.4

@@ -2,12 +2,12 @@ use Rattle.std.proofs.Common.{◌≡◌, None, Some, length, map}
 use Rattle.wf_model.specs.Problem.{Problem, constraint_at}
 use Rattle.wf_model.specs.Closing.{and_then}
 use Rattle.wf_complex.specs.Protocol.{point_in}
-use Rattle.wf_lane.specs.Sets.{values_in}
+use Rattle.wf_set.specs.Sets.{values_in}
 use Rattle.wf_box.specs.Steps.{HasRoom, IsNamed, IsSpent, loss, reached, take_present}
 use Rattle.wf_box.proofs.taking.take_each.Given as goal
 
 abbrev pub decreases-values : goal.decreases-values
-decreases-values l = l.left
+decreases-values l = length (values_in l.left)
 
 abbrev pub invariant-values : goal.invariant-values
 invariant-values l = (length l.sets ≡ length l.initial.sets) × HasRoom l.lines l.sets × IsSpent l.initial.lines l.initial.sets l.lines l.sets

@@ -2,39 +2,38 @@ use Rattle.std.proofs.Common.{◌++◌, ◌∷◌, [], Some, None, ◌∙◌, sy
 use Rattle.std.specs.List.{slice_set}
 use Rattle.std.proofs.lemmas.List.{length-map}
 use Rattle.wf_complex.specs.declared.line.Line.TheVariants as line
-use Rattle.wf_lane.specs.Sets.{values_in}
-use Rattle.wf_lane.proofs.SetLaws.{nothing_from_values, values_of_nothing}
+use Rattle.wf_set.specs.Sets.{values_in}
 use Rattle.wf_box.specs.Steps.{IsNamed, reached}
 use Rattle.wf_box.proofs.NameLemmas.{named_empty, named_lost, named_then}
-use Rattle.wf_box.proofs.TakingLemmas.{one_less, set_there, set_without, taken_on, taken_last}
+use Rattle.wf_box.proofs.TakingLemmas.{no_value, one_less, set_there, some_value, set_without, taken_on, taken_last}
 use Rattle.wf_box.proofs.taking.take_out.Goals as goal
 
-pub put-requires-then-set-eq0 : goal.put-requires-then-set-eq0
-put-requires-then-set-eq0 c =
+pub put-requires-then-is_empty : goal.put-requires-then-is_empty
+put-requires-then-is_empty c =
     let fewer = one_less c.args.sets.now c.args.place.point c.args.value c.without-set.result c.requires.point c.without-set.ensures c.requires.present in
     omega (arith, fewer, c.put.ensures.len, c.put.ensures.room, c.requires.room)
 
-pub returns-then-set-eq0-clause-step : goal.returns-then-set-eq0-clause-step
-returns-then-set-eq0-clause-step c =
+pub returns-then-is_empty-clause-step : goal.returns-then-is_empty-clause-step
+returns-then-is_empty-clause-step c =
     ap (λ ls. reached ls (Some c.args.place.point) (slice_set c.args.sets.now c.args.place.point c.without-set.result))
-    (c.put-then-set-eq0.ensures.lines ∙ ap (λ ls. ls ++ line.Z c.args.place.point ∷ []) c.put.ensures.lines)
+    (c.put-then-is_empty.ensures.lines ∙ ap (λ ls. ls ++ line.Z c.args.place.point ∷ []) c.put.ensures.lines)
     ∙ taken_last c.args.lines.now.items c.args.sets.now c.args.place.execution c.args.place.process c.args.place.point c.args.value c.without-set.result c.requires.point c.without-set.ensures
-    (ap values_in c.if-set-eq0.true ∙ values_of_nothing)
+    (no_value c.without-set.result c.if-is_empty.ensures)
 
-pub returns-then-set-eq0-clause-emptied : goal.returns-then-set-eq0-clause-emptied
-returns-then-set-eq0-clause-emptied c = (
+pub returns-then-is_empty-clause-emptied : goal.returns-then-is_empty-clause-emptied
+returns-then-is_empty-clause-emptied c = (
   omega (arith, c.requires.point, length-map (slice_set c.args.sets.now c.args.place.point c.without-set.result) values_in, length-set c.args.sets.now c.args.place.point c.without-set.result),
-  set_there c.args.sets.now c.args.place.point c.without-set.result c.requires.point ∙ ap values_in c.if-set-eq0.true ∙ values_of_nothing,
-  (c.put.new.lines.items, c.put-then-set-eq0.ensures.lines),
+  set_there c.args.sets.now c.args.place.point c.without-set.result c.requires.point ∙ no_value c.without-set.result c.if-is_empty.ensures,
+  (c.put.new.lines.items, c.put-then-is_empty.ensures.lines),
 )
 
 -- the line of the value, and then that of the point
-pub returns-then-set-eq0-clause-named : goal.returns-then-set-eq0-clause-named
-returns-then-set-eq0-clause-named c = λ p at.
+pub returns-then-is_empty-clause-named : goal.returns-then-is_empty-clause-named
+returns-then-is_empty-clause-named c = λ p at.
     let gone = named_lost p c.args.lines.now.items c.args.sets.now c.args.place.execution c.args.place.process c.args.place.point c.args.value c.without-set.result at
     (set_without c.args.sets.now c.args.place.point c.args.value c.without-set.result c.requires.point c.without-set.ensures) in
     subst (λ ls. IsNamed p c.args.lines.now.items c.args.sets.now ls (slice_set c.args.sets.now c.args.place.point c.without-set.result))
-    (ap (λ ls. ls ++ line.Z c.args.place.point ∷ []) (sym c.put.ensures.lines) ∙ sym c.put-then-set-eq0.ensures.lines)
+    (ap (λ ls. ls ++ line.Z c.args.place.point ∷ []) (sym c.put.ensures.lines) ∙ sym c.put-then-is_empty.ensures.lines)
     (named_then p _ _ _ _ _ _ gone (named_empty p _ _ c.args.place.point))
 
 pub returns-clause-named : goal.returns-clause-named
@@ -47,7 +46,7 @@ pub returns-clause-step : goal.returns-clause-step
 returns-clause-step c =
     ap (λ ls. reached ls None (slice_set c.args.sets.now c.args.place.point c.without-set.result)) c.put.ensures.lines
     ∙ taken_on c.args.lines.now.items c.args.sets.now c.args.place.execution c.args.place.process c.args.place.point c.args.value c.without-set.result c.requires.point c.without-set.ensures
-    (λ gone. c.if-set-eq0.false (nothing_from_values c.without-set.result c.without-set.type_inv gone))
+    (some_value c.without-set.result c.if-is_empty.ensures)
 
 pub returns-clause-room : goal.returns-clause-room
 returns-clause-room c =

@@ -2,7 +2,7 @@ use Rattle.std.proofs.Common.{map, length, ap, ◌∙◌}
 use Rattle.std.proofs.lemmas.List.{length-replicate}
 use Rattle.wf_model.specs.Problem.{Problem}
 use Rattle.wf_model.specs.Box.{root}
-use Rattle.wf_lane.specs.Sets.{values_in}
+use Rattle.wf_set.specs.Sets.{values_in}
 use Rattle.wf_box.proofs.BoxLemmas.{same_sets}
 use Rattle.wf_box.proofs.CloseLemmas.{is_box}
 use Rattle.wf_box.proofs.boxed.Box0.root.Goals as goal

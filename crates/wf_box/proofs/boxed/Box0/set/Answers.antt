@@ -2,8 +2,8 @@ use Rattle.std.proofs.Common.{◌≡◌, length, ap, sym, subst, arith}
 use Rattle.std.specs.Vec.{with_items}
 use Rattle.std.proofs.lemmas.List.{with_items_is, length-map}
 use Rattle.wf_model.specs.Laws.{IsBoxOf}
-use Rattle.wf_lane.specs.Sets.{values_in}
-use Rattle.wf_box.specs.Steps.{box_of}
+use Rattle.wf_set.specs.Sets.{values_in}
+use Rattle.wf_set.specs.Sets.{box_of}
 use Rattle.wf_box.proofs.CloseLemmas.{is_box}
 use Rattle.wf_box.proofs.boxed.Box0.set.Goals as goal
 

@@ -1,7 +1,7 @@
 use Rattle.std.proofs.Common.{◌≡◌, ℕ, List, length, arith, subst, sym, ◌∙◌}
 use Rattle.std.specs.Prelude.{count_by}
 use Rattle.wf_model.specs.Box.{is_alive}
-use Rattle.wf_lane.specs.Sets.{sets_of}
+use Rattle.wf_lane.specs.Table.{sets_of}
 use Rattle.wf_lane.specs.Table.{Table, HasSupported, table_of}
 use Rattle.wf_lane.proofs.Revising.{supported_of, alive_of, same_rows, same_words, same_count}
 use Rattle.wf_lane.proofs.table.TupleTable.revise.Goals as goal
