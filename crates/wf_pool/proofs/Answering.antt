@@ -9,7 +9,7 @@ use Rattle.wf_model.specs.Laws.{IsLeastIn, IsClosedBranch}
 use Rattle.wf_model.proofs.Canonical.{canonical_none_refutes}
 use Rattle.wf_model.proofs.Sound.{none_refutes}
 use Rattle.wf_model.proofs.Least.{canonical_least, root_is_box}
-use Rattle.wf_model.proofs.Covering.{first_least, in_exactly_one, one_least, split_covers, split_closed}
+use Rattle.wf_model.proofs.Covering.{first_least, one_least, split_covers, split_closed}
 use Rattle.wf_core.specs.declared.event.Account.{Account}
 use Rattle.wf_pool.specs.Answers.{HasAccountOfMap, HasAccountOfNone}
 use Rattle.wf_pool.specs.Branches.{branch_of, branch_count, has_map, IsMapAt, IsMapOf, NoneBelow}

@@ -1,6 +1,6 @@
 -- What is found in a branch says whether the branch has a map.
-use Rattle.std.proofs.Common.{◌≡◌, ℕ, zero, suc, ◌<◌, length, true, false, List, [], ◌∷◌, map, ap, sym, ◌∙◌, subst, arith}
-use Rattle.std.specs.Prelude.{All, IfOk, None, Vec, Result, Ok, Err, is_some}
+use Rattle.std.proofs.Common.{◌≡◌, ℕ, zero, suc, ◌<◌, length, true, false, List, [], ◌∷◌, map, ap, sym, subst, arith}
+use Rattle.std.specs.Prelude.{All, IfOk, Vec, Result, Ok, Err, is_some}
 use Rattle.std.specs.List.{AllZip}
 use Rattle.std.proofs.lemmas.List.Elements.{All-weaker}
 use Rattle.wf_model.specs.Problem.{Problem, IsWellFormed}

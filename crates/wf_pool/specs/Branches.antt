@@ -1,5 +1,5 @@
 -- The branches of a problem, and what a search finds in them.
-use Rattle.std.specs.Prelude.{◌≡◌, ◌⊎◌, ℕ, ◌<◌, Bool, true, false, List, [], map, length, Option, Some, None, is_some, All, Vec}
+use Rattle.std.specs.Prelude.{◌≡◌, ◌⊎◌, ℕ, ◌<◌, Bool, false, List, [], map, length, Some, None, is_some, All, Vec}
 use Rattle.std.specs.List.{slice_index_or}
 use Rattle.wf_model.specs.Problem.{Problem, IsWellFormed}
 use Rattle.wf_model.specs.Box.{Box}
