@@ -1,10 +1,14 @@
 use std::test::Fail;
 
 mod boxes;
-mod closing;
+mod closings;
 mod complexes;
+mod lanes;
 mod maps;
 mod plain;
+mod plain_closing;
+mod plain_search;
+mod searches;
 mod tasks;
 
 use complexes::{OWN, ZERO};
@@ -101,7 +105,36 @@ fn closings_are_those_of_the_plain_closing(rt: HostRuntime) -> Result<(), Fail> 
         ("three that decide 000 or 201", SYMMETRIC_201, 2),
     ];
     for (name, text, most) in rows {
-        let found = boxes::first_difference(rt.alloc(), text, most)?;
+        let found = closings::first_difference(rt.alloc(), text, most)?;
+        assert_eq!(rt; found, None, "{name}");
+    }
+    Ok(())
+}
+
+#[test]
+fn searches_are_those_of_the_plain_search(rt: HostRuntime) -> Result<(), Fail> {
+    let rows = [
+        ("path 2", PATH_2, 2),
+        ("path 3", PATH_3, 2),
+        ("consensus of two", CONSENSUS_2, 2),
+        ("consensus, binary", CONSENSUS_2_BINARY, 2),
+        ("agreement of two", AGREEMENT_2_2, 2),
+        ("2-set agreement", AGREEMENT_3_2, 1),
+        ("3-set agreement", AGREEMENT_3_3, 1),
+        ("three that decide 0", ALL_ZERO_3, 2),
+        ("one process", ONE_PROCESS, 2),
+        ("one without tuple", ONE_WITHOUT_TUPLE, 2),
+        ("one without output", ONE_WITHOUT_OUTPUT, 2),
+        ("four with inputs of their own", OWN_4, 1),
+        ("two names for two", RENAMING_2_2, 2),
+        ("three names for two", RENAMING_2_3, 2),
+        ("five names for three", RENAMING_3_5, 1),
+        ("processes 0 and 2", SYMMETRIC_GAP, 2),
+        ("four processes", SYMMETRIC_4, 1),
+        ("three that decide 000 or 201", SYMMETRIC_201, 2),
+    ];
+    for (name, text, most) in rows {
+        let found = searches::first_difference(rt.alloc(), text, most)?;
         assert_eq!(rt; found, None, "{name}");
     }
     Ok(())

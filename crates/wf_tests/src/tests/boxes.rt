@@ -1,181 +1,142 @@
-//! Closing beside the plain closing: the root of a task, and the boxes of its first branch.
+//! Boxes and closing, with rows worked out by hand.
 
-ghost use Rattle.std.specs.Prelude.{◌≡◌, ◌<◌, ◌≤◌, length, IfOk, IfSome, OnOk};
-ghost use Rattle.wf_model.specs.Lists.{has};
-ghost use Rattle.wf_model.specs.Problem as model;
-ghost use Rattle.wf_model.specs.Box.{decided};
-ghost use Rattle.wf_model.specs.Closing.{closing};
+ghost use Rattle.std.specs.Prelude.{◌<◌};
 ghost use Rattle.wf_model.specs.Laws.{IsBoxOf};
-ghost use Rattle.wf_lane.specs.Sets.{values_in};
-ghost use Rattle.wf_box.specs.Closes.{Leaves};
 
-use super::closing::{close as close_plainly, root as root_sets, with_value as with_value_only};
-use super::plain::plain_task;
-use std::alloc::Global;
+use super::closings::with_value;
+use super::tasks::{CONSENSUS_2, ONE_WITHOUT_OUTPUT, PATH_2, SYMMETRIC_201, problem_of};
+use std::alloc::{AllocError, Global};
 use std::test::Fail;
 use wf_box::{Box0, Closed, Problem, close};
-use wf_complex::{Lines, Protocol};
-use wf_oracle::{Problem as PlainProblem, problem_of};
-use wf_task::Task;
+use wf_complex::{Line, Lines};
 
-/// What differs first between the closings of a task, up to this many rounds.
-pub fn first_difference(
-    alloc: Global,
-    text: &str,
-    most: u32,
-) -> Result<Option<(u32, &'static str)>, Fail> {
-    for rounds in 0..=most {
-        if let Some(what) = difference(alloc, text, rounds)? {
-            return Ok(Some((rounds, what)));
-        }
+/// The candidates of each point, a bit for each value.
+fn candidates_of(alloc: Global, boxed: &Box0) -> Result<Vec<u64>, AllocError> {
+    let mut all = Vec::new(alloc);
+    for point in 0..boxed.points() {
+        all.push(boxed.candidates(point))?;
     }
-    Ok(None)
+    Ok(all)
 }
 
-/// What differs between the closings of a task after some rounds, if anything does.
-fn difference(alloc: Global, text: &str, rounds: u32) -> Result<Option<&'static str>, Fail> {
-    let task = Task::read_text(alloc, text.as_bytes())?;
-    let _inputs = task.inputs();
-    let protocol = Protocol::build(alloc, &task, rounds)?;
-    let problem = Problem::join(alloc, &task, &protocol)?;
-    let plain = problem_of(alloc, &plain_task(alloc, &task)?, rounds as usize)?;
-    difference_from(alloc, &problem, protocol.points(), &plain)
-}
-
-/// What differs between the closings of a problem with so many points, if anything does.
-fn difference_from(
-    alloc: Global,
-    problem: &Problem,
-    points: u32,
-    plain: &PlainProblem,
-) -> Result<Option<&'static str>, Fail>
-    requires points { points ≡ problem.now.points }
-{
-    let mut boxed = Box0::root(alloc, problem)?;
-    let mut sets = root_sets(alloc, plain)?;
-    if !has_candidates(&boxed, points, &sets) {
-        return Ok(Some("the root"));
-    }
-    let (closed, same) = close_both(alloc, problem, points, &mut boxed, plain, &mut sets)?;
-    if !same {
-        return Ok(Some("the closing of the root"));
-    }
-    let Closed::Open { .. } = closed else {
-        return Ok(None);
-    };
-    match first_open(points, &sets) {
-        Some(point) => branch_difference(alloc, problem, points, &boxed, plain, &sets, point),
-        None => Ok(None),
+/// The line of a value that is lost.
+pub fn lost(execution: u32, process: u8, value: u8) -> Line {
+    Line::P {
+        execution,
+        process,
+        value,
     }
 }
 
-/// What differs between the closings of the boxes that a point's candidates give, if anything does.
-fn branch_difference(
-    alloc: Global,
-    problem: &Problem,
-    points: u32,
-    boxed: &Box0,
-    plain: &PlainProblem,
-    sets: &[Vec<usize>],
-    point: u32,
-) -> Result<Option<&'static str>, Fail>
-    requires points { points ≡ problem.now.points }
-    requires point { point < points }
-    requires whole { IsBoxOf problem.now boxed.now }
-{
-    for value in 0..64 {
-        if let Some(mut tried) = with_value(alloc, boxed, point, value)? {
-            let mut branch = with_value_only(alloc, sets, point as usize, usize::from(value))?;
-            if !close_both(alloc, problem, points, &mut tried, plain, &mut branch)?.1 {
-                return Ok(Some("the closing of a branch"));
-            }
-        }
-    }
-    Ok(None)
-}
-
-/// The box in which a point has this candidate alone, if it has it.
-fn with_value(alloc: Global, boxed: &Box0, point: u32, value: u8) -> Result<Option<Box0>, Fail>
-    requires point { point < length boxed.now }
-    requires value { value < 64 }
-    ensures decided { IfOk result (λ found. IfSome found (λ tried. tried ≡ decided boxed.now point value)) }
-    ensures shape { IfOk result (λ found. IfSome found (λ tried. (p : model.Problem) → IsBoxOf p boxed.now → IsBoxOf p tried)) }
-{
-    if !holds(boxed.candidates(point), value) {
-        return Ok(None);
-    }
-    let mut tried = boxed.copy(alloc)?;
-    tried.set(point, value);
-    Ok(Some(tried))
-}
-
-/// Whether the value is one of them.
-fn holds(values: u64, value: u8) -> bool
-    requires { value < 64 }
-    ensures { result ≡ has (values_in values) value }
-{
-    values >> value & 1 == 1
-}
-
-/// Closes both boxes. How that ends, and whether it ends alike, adds the same lines, and leaves the same candidates
-/// where it empties no point.
-fn close_both(
-    alloc: Global,
-    problem: &Problem,
-    points: u32,
-    boxed: &mut Box0,
-    plain: &PlainProblem,
-    sets: &mut [Vec<usize>],
-) -> Result<(Closed, bool), Fail>
-    requires points { points ≡ problem.now.points }
-    requires whole { IsBoxOf problem.now boxed.old }
-    ensures leaves { IfOk result (λ found. Leaves (closing problem.now boxed.old).left boxed.new found.0) }
-    ensures shape { OnOk result (IsBoxOf problem.now boxed.new) }
-{
+/// The root of a task's problem is closed: how that ends, the lines, and the candidates after it.
+fn close_root(alloc: Global, text: &str, rounds: u32) -> Result<(Closed, Lines, Vec<u64>), Fail> {
+    let problem = problem_of(alloc, text, rounds)?;
+    let mut boxed = Box0::root(alloc, &problem)?;
     let mut lines: Lines = Vec::new(alloc);
-    let mut wanted: Lines = Vec::new(alloc);
-    let closed = close(alloc, problem, boxed, &mut lines)?;
-    if closed != close_plainly(alloc, plain, sets, &mut wanted)? {
-        return Ok((closed, false));
+    let closed = close(alloc, &problem, &mut boxed, &mut lines)?;
+    Ok((closed, lines, candidates_of(alloc, &boxed)?))
+}
+
+#[test]
+fn roots_that_stay_open(rt: HostRuntime) -> Result<(), Fail> {
+    let (closed, lines, left) = close_root(rt.alloc(), PATH_2, 1)?;
+    assert_eq!(rt; closed, Closed::Open { sweeps: 2 });
+    let wanted = [
+        lost(0, 0, 1),
+        lost(0, 0, 2),
+        lost(1, 1, 0),
+        lost(1, 1, 1),
+        lost(3, 1, 2),
+        lost(4, 0, 0),
+    ];
+    assert_eq!(rt; lines.as_slice(), wanted.as_slice());
+    assert_eq!(rt; left.as_slice(), [1, 4, 6, 3].as_slice());
+    // In the execution of all three, which has number 6, process 0 can't have 1, process 1 neither 1 nor 2 and process
+    // 2 not 2. Their one point stands there three times, and each value is named once.
+    let (closed, lines, left) = close_root(rt.alloc(), SYMMETRIC_201, 0)?;
+    assert_eq!(rt; closed, Closed::Open { sweeps: 2 });
+    assert_eq!(rt; lines.as_slice(), [lost(6, 0, 1), lost(6, 1, 2)].as_slice());
+    assert_eq!(rt; left.as_slice(), [1].as_slice());
+    Ok(())
+}
+
+#[test]
+fn roots_that_are_emptied(rt: HostRuntime) -> Result<(), Fail> {
+    let (closed, lines, left) = close_root(rt.alloc(), CONSENSUS_2, 0)?;
+    assert_eq!(rt; closed, Closed::Empty(0));
+    let wanted = [
+        lost(0, 0, 1),
+        lost(1, 1, 0),
+        lost(2, 0, 0),
+        Line::Z { point: 0 },
+    ];
+    assert_eq!(rt; lines.as_slice(), wanted.as_slice());
+    assert_eq!(rt; left.as_slice(), [0, 2].as_slice());
+    // without an output the point has no candidate at the start
+    let (closed, lines, left) = close_root(rt.alloc(), ONE_WITHOUT_OUTPUT, 0)?;
+    assert_eq!(rt; closed, Closed::Empty(0));
+    assert_eq!(rt; lines.as_slice(), [Line::Z { point: 0 }].as_slice());
+    assert_eq!(rt; left.as_slice(), [0].as_slice());
+    Ok(())
+}
+
+// Of the closed root, in which point 2 has 1 and 2 left and point 3 has 0 and 1.
+#[test]
+fn each_value_of_a_point_is_tried_in_a_copy(rt: HostRuntime) -> Result<(), Fail> {
+    let problem = problem_of(rt.alloc(), PATH_2, 1)?;
+    let mut boxed = Box0::root(rt.alloc(), &problem)?;
+    let mut lines: Lines = Vec::new(rt.alloc());
+    close(rt.alloc(), &problem, &mut boxed, &mut lines)?;
+    assert_eq!(rt; boxed.points(), 4);
+    assert_eq!(rt; boxed.first_open(), Some(2));
+    let one = try_value(rt.alloc(), &problem, &boxed, 1)?;
+    assert_eq!(rt; one, Some((1, 3, 0)));
+    let two = try_value(rt.alloc(), &problem, &boxed, 2)?;
+    assert_eq!(rt; two, Some((2, 2, 1)));
+    let left = candidates_of(rt.alloc(), &boxed)?;
+    assert_eq!(rt; left.as_slice(), [1, 4, 6, 3].as_slice());
+    Ok(())
+}
+
+/// Gives point 2 the value in a copy and closes that: how many sweeps it takes, the candidates of point 3 then, and how
+/// many lines are added. None where the value is no candidate, or a point is emptied.
+fn try_value(
+    alloc: Global,
+    problem: &Problem,
+    boxed: &Box0,
+    value: u8,
+) -> Result<Option<(u32, u64, usize)>, Fail>
+    requires boxed { IsBoxOf problem.now boxed.now }
+    requires value { value < 64 }
+{
+    if boxed.points() <= 3 {
+        return Ok(None);
     }
-    let same = match closed {
-        Closed::Empty(_) => true,
-        Closed::Open { .. } => has_candidates(boxed, points, sets),
+    let Some(mut tried) = with_value(alloc, boxed, 2, value)? else {
+        return Ok(None);
     };
-    Ok((closed, same && lines.as_slice() == wanted.as_slice()))
-}
-
-/// The first point with two candidates or more.
-fn first_open(points: u32, sets: &[Vec<usize>]) -> Option<u32>
-    ensures { IfSome result (λ point. point < points) }
-{
-    for point in 0..points {
-        if sets.get(point as usize).map_or(0, |set| set.len()) > 1 {
-            return Some(point);
+    let mut lines: Lines = Vec::new(alloc);
+    match close(alloc, problem, &mut tried, &mut lines)? {
+        Closed::Open { sweeps } if tried.points() > 3 => {
+            Ok(Some((sweeps, tried.candidates(3), lines.len())))
         }
+        _ => Ok(None),
     }
-    None
 }
 
-/// Whether the points have these candidates.
-fn has_candidates(boxed: &Box0, points: u32, sets: &[Vec<usize>]) -> bool
-    requires { points ≤ length boxed.now }
-{
-    for point in 0..points {
-        let Some(set) = sets.get(point as usize) else {
-            return false;
-        };
-        if !are_values(boxed.candidates(point), set) {
-            return false;
-        }
+#[test]
+fn a_box_is_made_the_same_as_another(rt: HostRuntime) -> Result<(), Fail> {
+    let problem = problem_of(rt.alloc(), PATH_2, 1)?;
+    assert_eq!(rt; problem.points(), 4);
+    let root = Box0::root(rt.alloc(), &problem)?;
+    let mut other = root.copy(rt.alloc())?;
+    let mut lines: Lines = Vec::new(rt.alloc());
+    close(rt.alloc(), &problem, &mut other, &mut lines)?;
+    assert_eq!(rt; other.points(), root.points());
+    if other.points() == root.points() {
+        other.assign(&root);
     }
-    sets.len() == points as usize
-}
-
-/// Whether these are the values of the word, of which each stands once.
-fn are_values(word: u64, set: &[usize]) -> bool {
-    word.count_ones() as usize == set.len()
-        && set
-            .iter()
-            .all(|value| *value < 64 && word >> *value & 1 == 1)
+    let left = candidates_of(rt.alloc(), &other)?;
+    assert_eq!(rt; left.as_slice(), [7, 7, 7, 7].as_slice());
+    Ok(())
 }

@@ -44,7 +44,7 @@ fn is_first(
 }
 
 /// Whether two lists have the same values.
-fn are_values(map: &[u8], values: &[usize]) -> bool {
+pub fn are_values(map: &[u8], values: &[usize]) -> bool {
     map.len() == values.len()
         && map
             .iter()

@@ -1,4 +1,17 @@
-//! Task files, as they are read.
+//! Task files, as they are read, and their problems.
+
+use std::alloc::Global;
+use std::test::Fail;
+use wf_box::Problem;
+use wf_complex::Protocol;
+use wf_task::Task;
+
+/// The problem of a task's text after some rounds.
+pub fn problem_of(alloc: Global, text: &str, rounds: u32) -> Result<Problem, Fail> {
+    let task = Task::read_text(alloc, text.as_bytes())?;
+    let protocol = Protocol::build(alloc, &task, rounds)?;
+    Ok(Problem::join(alloc, &task, &protocol)?)
+}
 
 /// The path of length 3: process 0 alone decides 0, process 1 alone 3, both values that differ by at most 1.
 pub const PATH_3: &str =

@@ -1,0 +1,293 @@
+//! The search and the split: rows worked out by hand, and each beside the plain search.
+
+ghost use Rattle.std.proofs.Common.{rules};
+ghost use Rattle.std.specs.Prelude.{◌≡◌, ◌<◌, ◌≤◌, length};
+ghost use Rattle.wf_model.specs.Outline.{boxes_left_out, outline};
+
+use super::boxes::lost;
+use super::closings::has_candidates;
+use super::maps::are_values;
+use super::plain::plain_task;
+use super::plain_search::{Trace, search as search_plainly, split as split_plainly};
+use super::tasks::{
+    CONSENSUS_2, ONE_PROCESS, ONE_WITHOUT_OUTPUT, ONE_WITHOUT_TUPLE, PATH_2, PATH_3, RENAMING_2_2,
+    RENAMING_2_3, problem_of,
+};
+use std::alloc::{AllocError, Global};
+use std::test::Fail;
+use wf_box::{Box0, Problem};
+use wf_complex::{Line, Lines};
+use wf_oracle::{Problem as PlainProblem, problem_of as plain_problem_of};
+use wf_search::{Cover, Found, Never, Stop, search, split};
+use wf_task::Task;
+
+/// It counts its questions, and answers yes to those past so many.
+#[derive(Drop)]
+struct Limit {
+    asked: u32,
+    most: u32,
+}
+
+impl Stop for Limit {
+    ghost keeps = { λ s t. s.asked ≤ t.asked };
+
+    ghost is_stopped = { λ s. s.most < s.asked };
+
+    ghost reflexive = { Prim.search rules };
+
+    ghost transitive = { Prim.search rules };
+
+    fn stop(&mut self) -> bool {
+        self.asked = self.asked.saturating_add(1);
+        self.asked > self.most
+    }
+}
+
+/// What a search of the root of a task's problem finds.
+fn search_root(alloc: Global, text: &str, rounds: u32) -> Result<Found, Fail> {
+    let problem = problem_of(alloc, text, rounds)?;
+    let root = Box0::root(alloc, &problem)?;
+    Ok(search(alloc, &problem, root, &mut Never)?)
+}
+
+/// The lines of a refutation; none for another answer.
+fn lines_of(alloc: Global, found: Found) -> Lines {
+    match found {
+        Found::Refuted(lines) => lines,
+        _ => Vec::new(alloc),
+    }
+}
+
+/// The values of a map; none for another answer.
+fn values_of(alloc: Global, found: Found) -> Vec<u8> {
+    match found {
+        Found::Map(values) => values,
+        _ => Vec::new(alloc),
+    }
+}
+
+fn empty(point: u32) -> Line {
+    Line::Z { point }
+}
+
+#[test]
+fn roots_that_closing_refutes(rt: HostRuntime) -> Result<(), Fail> {
+    let path = [
+        lost(0, 0, 1),
+        lost(0, 0, 2),
+        lost(0, 0, 3),
+        lost(1, 1, 0),
+        lost(1, 1, 1),
+        lost(1, 1, 2),
+        lost(2, 0, 0),
+        empty(0),
+    ];
+    let at_once = [lost(0, 0, 1), lost(1, 1, 0), lost(2, 0, 0), empty(0)];
+    let later = [
+        lost(0, 0, 1),
+        lost(1, 1, 0),
+        lost(3, 1, 1),
+        lost(4, 0, 0),
+        lost(2, 0, 1),
+        empty(2),
+    ];
+    let found = lines_of(rt.alloc(), search_root(rt.alloc(), PATH_3, 0)?);
+    assert_eq!(rt; found.as_slice(), path.as_slice());
+    let found = lines_of(rt.alloc(), search_root(rt.alloc(), CONSENSUS_2, 0)?);
+    assert_eq!(rt; found.as_slice(), at_once.as_slice());
+    let found = lines_of(rt.alloc(), search_root(rt.alloc(), CONSENSUS_2, 1)?);
+    assert_eq!(rt; found.as_slice(), later.as_slice());
+    let found = lines_of(rt.alloc(), search_root(rt.alloc(), ONE_WITHOUT_TUPLE, 8)?);
+    assert_eq!(rt; found.as_slice(), [lost(0, 0, 5), empty(0)].as_slice());
+    let found = lines_of(rt.alloc(), search_root(rt.alloc(), ONE_WITHOUT_OUTPUT, 8)?);
+    assert_eq!(rt; found.as_slice(), [empty(0)].as_slice());
+    Ok(())
+}
+
+// The lines of two names for two processes after one round.
+fn lines_of_two_names() -> [Line; 9] {
+    [
+        Line::B { point: 0 },
+        lost(3, 1, 0),
+        lost(4, 0, 0),
+        lost(2, 0, 1),
+        empty(1),
+        lost(3, 1, 1),
+        lost(4, 0, 1),
+        lost(2, 0, 0),
+        empty(1),
+    ]
+}
+
+// Of three names without a round, one point stands twice in the execution of both.
+#[test]
+fn roots_that_branch(rt: HostRuntime) -> Result<(), Fail> {
+    let two = lines_of(rt.alloc(), search_root(rt.alloc(), RENAMING_2_2, 1)?);
+    assert_eq!(rt; two.as_slice(), lines_of_two_names().as_slice());
+    let at_once = lines_of(rt.alloc(), search_root(rt.alloc(), RENAMING_2_3, 0)?);
+    let wanted = [
+        Line::B { point: 0 },
+        lost(2, 0, 0),
+        empty(0),
+        lost(2, 0, 1),
+        empty(0),
+        lost(2, 0, 2),
+        empty(0),
+    ];
+    assert_eq!(rt; at_once.as_slice(), wanted.as_slice());
+    Ok(())
+}
+
+#[test]
+fn roots_with_a_map(rt: HostRuntime) -> Result<(), Fail> {
+    let path_3 = values_of(rt.alloc(), search_root(rt.alloc(), PATH_3, 1)?);
+    assert_eq!(rt; path_3.as_slice(), [0, 3, 2, 1].as_slice());
+    let path_2 = values_of(rt.alloc(), search_root(rt.alloc(), PATH_2, 1)?);
+    assert_eq!(rt; path_2.as_slice(), [0, 2, 1, 0].as_slice());
+    let names = values_of(rt.alloc(), search_root(rt.alloc(), RENAMING_2_3, 1)?);
+    assert_eq!(rt; names.as_slice(), [0, 1, 2].as_slice());
+    let one = values_of(rt.alloc(), search_root(rt.alloc(), ONE_PROCESS, 8)?);
+    assert_eq!(rt; one.as_slice(), [5].as_slice());
+    Ok(())
+}
+
+// The two names take three turns: the root's and those of its two branches. The path is stopped at once.
+#[test]
+fn a_question_before_each_turn(rt: HostRuntime) -> Result<(), Fail> {
+    let rows = [
+        (PATH_3, 0, 1, true),
+        (RENAMING_2_2, 0, 1, true),
+        (RENAMING_2_2, 2, 3, true),
+        (RENAMING_2_2, 3, 3, false),
+        (RENAMING_2_2, 9, 3, false),
+    ];
+    for (text, most, asked, stopped) in rows {
+        let problem = problem_of(rt.alloc(), text, 1)?;
+        let root = Box0::root(rt.alloc(), &problem)?;
+        let mut limit = Limit { asked: 0, most };
+        let found = search(rt.alloc(), &problem, root, &mut limit)?;
+        assert_eq!(rt; matches!(&found, Found::Stopped), stopped);
+        assert_eq!(rt; limit.asked, asked);
+    }
+    Ok(())
+}
+
+/// What a search of a branch finds.
+fn search_branch(
+    alloc: Global,
+    problem: &Problem,
+    cover: &Cover,
+    number: u32,
+) -> Result<Found, AllocError>
+    requires cover { cover.now ≡ outline problem.now }
+    requires number { number < length (boxes_left_out cover.now) }
+{
+    let _points = problem.points();
+    search(alloc, problem, cover.branch(alloc, number)?, &mut Never)
+}
+
+#[test]
+fn the_branches_of_a_path(rt: HostRuntime) -> Result<(), Fail> {
+    let problem = problem_of(rt.alloc(), PATH_2, 1)?;
+    let cover = split(rt.alloc(), &problem)?;
+    let mut maps = Vec::new(rt.alloc());
+    for number in 0..cover.branches() {
+        let found = search_branch(rt.alloc(), &problem, &cover, number)?;
+        for value in values_of(rt.alloc(), found) {
+            maps.push(value)?;
+        }
+    }
+    assert_eq!(rt; cover.branches(), 3);
+    let wanted = [0, 2, 1, 0, 0, 2, 1, 1, 0, 2, 2, 1];
+    assert_eq!(rt; maps.as_slice(), wanted.as_slice());
+    Ok(())
+}
+
+#[test]
+fn a_root_without_branches_is_filled(rt: HostRuntime) -> Result<(), Fail> {
+    let problem = problem_of(rt.alloc(), RENAMING_2_2, 1)?;
+    let cover = split(rt.alloc(), &problem)?;
+    assert_eq!(rt; cover.branches(), 0);
+    if cover.branches() == 0 {
+        let lines = cover.fill(rt.alloc(), Vec::new(rt.alloc()))?;
+        assert_eq!(rt; lines.as_slice(), lines_of_two_names().as_slice());
+    }
+    Ok(())
+}
+
+/// What differs first between the searches of a task, up to this many rounds.
+pub fn first_difference(
+    alloc: Global,
+    text: &str,
+    most: u32,
+) -> Result<Option<(u32, &'static str)>, Fail> {
+    for rounds in 0..=most {
+        if let Some(what) = difference(alloc, text, rounds)? {
+            return Ok(Some((rounds, what)));
+        }
+    }
+    Ok(None)
+}
+
+/// What differs between the searches of a task after some rounds, if anything does.
+fn difference(alloc: Global, text: &str, rounds: u32) -> Result<Option<&'static str>, Fail> {
+    let task = Task::read_text(alloc, text.as_bytes())?;
+    let plain = plain_problem_of(alloc, &plain_task(alloc, &task)?, rounds as usize)?;
+    let problem = problem_of(alloc, text, rounds)?;
+    let trace = search_plainly(alloc, &plain)?;
+    let root = Box0::root(alloc, &problem)?;
+    if !is_traced(&search(alloc, &problem, root, &mut Never)?, &trace) {
+        return Ok(Some("the search of the root"));
+    }
+    let cover = split(alloc, &problem)?;
+    if !has_branches(alloc, &cover, &plain)? {
+        return Ok(Some("the branches"));
+    }
+    let Some(found) = search_cover(alloc, &problem, &cover)? else {
+        return Ok(Some("the number of lists"));
+    };
+    if !is_traced(&found, &trace) {
+        return Ok(Some("the search branch by branch"));
+    }
+    Ok(None)
+}
+
+/// Whether this is what the plain search ended with.
+fn is_traced(found: &Found, trace: &Trace) -> bool {
+    match (found, &trace.map) {
+        (Found::Map(values), Some(map)) => are_values(values, map),
+        (Found::Refuted(lines), None) => lines.as_slice() == trace.lines.as_slice(),
+        _ => false,
+    }
+}
+
+/// Whether the branches are those of the plain split.
+fn has_branches(alloc: Global, cover: &Cover, plain: &PlainProblem) -> Result<bool, Fail> {
+    let wanted = split_plainly(alloc, plain)?;
+    for number in 0..cover.branches() {
+        let Some(sets) = wanted.get(number as usize) else {
+            return Ok(false);
+        };
+        if !has_candidates(&cover.branch(alloc, number)?, sets) {
+            return Ok(false);
+        }
+    }
+    Ok(wanted.len() == cover.branches() as usize)
+}
+
+/// The first map of a branch, or the lines of the root, filled with those of the branches.
+fn search_cover(alloc: Global, problem: &Problem, cover: &Cover) -> Result<Option<Found>, Fail>
+    requires cover { cover.now ≡ outline problem.now }
+{
+    let mut lists = Vec::new(alloc);
+    for number in 0..cover.branches() {
+        match search_branch(alloc, problem, cover, number)? {
+            Found::Refuted(lines) => lists.push(lines)?,
+            found => return Ok(Some(found)),
+        }
+    }
+    if lists.len() != cover.branches() as usize {
+        return Ok(None);
+    }
+    Ok(Some(Found::Refuted(cover.fill(alloc, lists)?)))
+}
