@@ -20,12 +20,18 @@ use wf_core::Account;
 use wf_handout::Handout;
 use wf_search::{Cover, Found, Never, search, split};
 
-/// The most workers that may be asked for.
+/// The most workers that [`solve`] takes.
 pub const MAX_WORKERS: u32 = 64;
 
-/// The answer about a problem that workers find together, and the account of their work. Each has a thread of its own
-/// where one can be had, no more are used than there are branches, and this thread is the first of them. The answer is
-/// that of `solve_one`.
+/// The answer about a problem that several workers find together, and the account of their work. It is the answer of
+/// [`solve_one`], in any schedule.
+///
+/// No more workers are used than there are branches, and this thread is always the first of them. Each other one has a
+/// thread of its own, unless the gate forbids it or none can be had: then this thread does that worker's work after its
+/// own. The handout `H` says who searches which branch, and what it leaves is searched by this thread at the end.
+///
+/// Refused out of memory alone. A worker that is refused memory stops, and the others go on; the refusal comes once all
+/// are joined.
 pub fn solve<R: Threads + Sync, H: Handout, G: Gate>(
     rt: &R,
     alloc: Global,
@@ -47,8 +53,8 @@ pub fn solve<R: Threads + Sync, H: Handout, G: Gate>(
     Ok((answer, account))
 }
 
-/// The answer about a problem, and the account of the search: the branches in order, up to the first with a map. It
-/// starts no thread.
+/// The answer about a problem, and the account of the search: the branches in order, up to the first with a map, whose
+/// map is the least of all. It starts no thread, and returns. Refused out of memory alone.
 pub fn solve_one(alloc: Global, problem: &Problem) -> Result<(Answer, Account), AllocError>
     ensures answer { IfOk result (λ r. IsAnswer problem.now r.0) }
     ensures account { IfOk result (λ r. HasAccount problem.now r.0 r.1) }
