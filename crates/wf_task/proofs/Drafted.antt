@@ -254,6 +254,7 @@ few_rows listed inputs h =
 pub record AreFew (listed : Listed) (inputs : List Simplex) : Type 0 where
   pub vertices : count_by (λ s. length s == 1) inputs ≤ 64
   pub simplices : length inputs ≤ 4096
+  pub outputs : length listed.outputs ≤ 65536
   pub tuples : sum_by (λ r. length r.tuples) listed.delta ≤ 65536
 
 pub are_few : (listed : Listed) (inputs : List Simplex) (u : Unit {0}) → sizes_judged listed inputs ≡ Ok u → AreFew listed inputs
@@ -266,6 +267,7 @@ are_few listed inputs u h =
     record {
       vertices = ltb-false 64 (count_by (λ s. length s == 1) inputs) vertices.0;
       simplices = ltb-false 4096 (length inputs) simplices.0;
+      outputs = ltb-false 65536 (length listed.outputs) outputs.0;
       tuples = ltb-false 65536 (sum_by (λ r. length r.tuples) listed.delta) tuples;
     }
 

@@ -78,13 +78,13 @@ map-part {X} {Y} f (x ∷ s) t h =
       | inr here ↦ has-append_right (map f t) (map (λ (rest : List Y). f x ∷ rest) (parts_of (map f s))) (parts_of (map f s)) (map-part f s t here)
     ]
 
-with_first : {X : Type 0} (x : X) (s t : List X) → Has t (parts_of s) → Has (x ∷ t) (parts_of (x ∷ s))
+pub with_first : {X : Type 0} (x : X) (s t : List X) → Has t (parts_of s) → Has (x ∷ t) (parts_of (x ∷ s))
 with_first {X} x s t h = has-append_left (x ∷ t) (map (λ (rest : List X). x ∷ rest) (parts_of s)) (parts_of s) (map-has (λ (rest : List X). x ∷ rest) t (parts_of s) h)
 
-without_first : {X : Type 0} (x : X) (s t : List X) → Has t (parts_of s) → Has t (parts_of (x ∷ s))
+pub without_first : {X : Type 0} (x : X) (s t : List X) → Has t (parts_of s) → Has t (parts_of (x ∷ s))
 without_first {X} x s t h = has-append_right t (map (λ (rest : List X). x ∷ rest) (parts_of s)) (parts_of s) h
 
-no_part : {X : Type 0} (s : List X) → Has [] (parts_of s)
+pub no_part : {X : Type 0} (s : List X) → Has [] (parts_of s)
 no_part [] = inl refl
 no_part (x ∷ s) = without_first x s [] (no_part s)
 

@@ -62,12 +62,12 @@ part-is_face s t some h = and_from (is_nonempty t) (list_all (λ v. list_any (sa
 
 -- ---- facets
 
-any-has : {X : Type 0} (p : X → Bool) (x : X) (xs : List X) → Has x xs → p x ≡ true → list_any p xs ≡ true
+pub any-has : {X : Type 0} (p : X → Bool) (x : X) (xs : List X) → Has x xs → p x ≡ true → list_any p xs ≡ true
 any-has p x [] h g = absurd h
 any-has p x (y ∷ ys) (inl e) g = or_left (p y) (list_any p ys) (subst (λ w. p w ≡ true) (sym e) g)
 any-has p x (y ∷ ys) (inr h) g = or_right (p y) (list_any p ys) (any-has p x ys h g)
 
-has-any : {X : Type 0} (p : X → Bool) (xs : List X) → list_any p xs ≡ true → (x : X) × Has x xs × (p x ≡ true)
+pub has-any : {X : Type 0} (p : X → Bool) (xs : List X) → list_any p xs ≡ true → (x : X) × Has x xs × (p x ≡ true)
 has-any p [] h = cc
 has-any p (x ∷ xs) h =
     elim (or_cases (p x) (list_any p xs) h) [

@@ -22,3 +22,6 @@ pub mod Naming
 pub mod FamilyTasks
 pub mod FamilyLoops
 pub mod PresetLimits
+pub mod Faceted
+pub mod Written
+pub mod CanonicalLoops

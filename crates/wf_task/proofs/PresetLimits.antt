@@ -19,8 +19,8 @@ use Rattle.wf_task.specs.declared.family.Family.{Family}
 use Rattle.wf_task.specs.declared.family.Family.TheVariants.{Agreement, Naming}
 use Rattle.wf_task.specs.Draft.{◌>>=◌, Fails}
 use Rattle.wf_task.specs.Judge.{refused_if, sizes_judged}
-use Rattle.wf_task.specs.Canonical.{facets, listed_of}
-use Rattle.wf_task.specs.Family.{tuples_for, at_most, task_for}
+use Rattle.wf_task.specs.Canonical.{facets, HasFewFacets, listed_of}
+use Rattle.wf_task.specs.Family.{tuples_for, images_of, at_most, task_for}
 use Rattle.wf_task.specs.declared.preset.Inputs.{Inputs}
 use Rattle.wf_task.specs.declared.preset.Inputs.TheVariants.{Own, All}
 use Rattle.wf_task.specs.Preset.{within_limits, inputs_judged, inputs_seen, has_processes, has_values, has_input_values, set_agreement_of, renaming_of}
@@ -203,6 +203,12 @@ module _ (n k : ℕ) (choice : model.Inputs) (made : List Simplex) (h : IsMade n
         tuples = ltb-false 65536 (sum_by (λ s. length (tuples_for (Agreement k) s)) made) none;
       }) false
 
+  pub agreement-few : HasFewFacets (complex_of (images_of (Agreement k) made))
+  agreement-few =
+      let known = accepted (agreement_inputs n choice) made h.judged in
+      let outputs = ap (λ c. complex_of (images_of (Agreement k) c)) known.same ∙ agreement-outputs n k choice h.some in
+      subst HasFewFacets (sym outputs) (few-outputs n k choice h.some h.few known.simplices)
+
 -- ---- renaming
 
 abbrev pub renaming_inputs : ℕ → List Simplex
@@ -255,6 +261,10 @@ module _ (n names : ℕ) (h : IsNamed n names) where
 
   few-facets : nat_lt 65536 (length (tuples_for (Naming names) (start n))) ≡ false → length (facets (model.renaming n names).outputs) ≤ 65536
   few-facets none = ltb-false 65536 (length (facets (model.renaming n names).outputs)) (facets-counted ∙ none)
+
+  pub renaming-few : (made : List Simplex) → made ≡ renaming_inputs n → nat_lt 65536 (length (tuples_for (Naming names) (start n))) ≡ false → HasFewFacets (complex_of (images_of (Naming names) made))
+  renaming-few made same none =
+      subst HasFewFacets (sym (ap (λ c. complex_of (images_of (Naming names) c)) same ∙ renaming-outputs n names)) (few-facets none)
 
   pub renaming-refused : (made : List Simplex) → made ≡ renaming_inputs n → nat_lt 65536 (length (tuples_for (Naming names) (start n))) ≡ false
       → nat_lt 65536 (sum_by (λ s. length (tuples_for (Naming names) s)) made) ≡ true → within_limits (model.renaming n names) ≡ Err (fault.TooMany limit.Tuples)

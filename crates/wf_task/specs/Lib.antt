@@ -12,5 +12,6 @@ pub mod Mask
 pub mod TaskSeen
 pub mod Parts
 pub mod Canonical
+pub mod Borders
 pub mod Family
 pub mod Preset

@@ -5,6 +5,7 @@ use Rattle.wf_model.specs.Lists.{has}
 use Rattle.wf_model.specs.Simplex.{Simplex}
 use Rattle.wf_model.specs.Task.{Task, Rule, Tuple, IsTask, values}
 use Rattle.wf_task.specs.declared.task.Task.TheInside.{Inside}
+use Rattle.wf_task.specs.Canonical.{HasFewFacets}
 use Rattle.wf_task.specs.Shape.{rule_of}
 
 -- each input simplex with its tuples
@@ -29,4 +30,5 @@ task_seen t = task_of_parts t.processes t.symmetric t.inputs (map vec_items t.tu
 pub record IsKept (t : Inside) : Type 0 where
   pub task : IsTask (task_seen t)
   pub each : length (map vec_items t.tuples.items) ≡ length t.inputs
+  pub few_outputs : HasFewFacets t.outputs
   pub values : (v : ℕ) → v < 64 → (bit_at t.values v ≡ 1) ↔ (has (values (task_seen t)) v ≡ true)

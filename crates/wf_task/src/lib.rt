@@ -8,6 +8,7 @@
 //! - [`Row`]: the output values of a tuple, one for each process of an input simplex. Copied, five bytes, no memory.
 #![tactic(auto)]
 
+mod canonical;
 mod complexes;
 mod draft;
 mod family;

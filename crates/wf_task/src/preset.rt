@@ -7,6 +7,7 @@ ghost use Rattle.wf_model.specs.Lists.{below, lists_of};
 ghost use Rattle.wf_model.specs.Presets.{input_facets};
 ghost use Rattle.wf_model.specs.Simplex.{processes_of, complex_of};
 ghost use Rattle.wf_model.specs.Task.{IsTask};
+ghost use Rattle.wf_task.specs.Canonical.{HasFewFacets};
 ghost use Rattle.wf_task.specs.Draft.{Gives};
 ghost use Rattle.wf_task.specs.Family.{IsFamily, AreValues, tuples_for, images_of, task_for};
 ghost use Rattle.wf_task.specs.Preset.{inputs_seen, has_processes, has_values, has_input_values, inputs_judged, set_agreement_of, renaming_of};
@@ -192,6 +193,7 @@ fn task_for(
 ) -> Result<Task, AllocError>
     requires family { IsFamily family }
     requires task { IsTask (task_for processes symmetric family inputs) }
+    requires few { HasFewFacets (complex_of (images_of family inputs)) }
     ensures { IfOk result (λ t. t ≡ task_for processes symmetric family inputs) }
 {
     let (tuples, images) = tuples_and_images(alloc, family, inputs.simplices())?;

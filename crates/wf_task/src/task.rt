@@ -3,6 +3,8 @@ ghost use Rattle.std.specs.Int.{bit_at};
 ghost use Rattle.wf_model.specs.Lists.{has};
 ghost use Rattle.wf_model.specs.Simplex.{complex_of};
 ghost use Rattle.wf_model.specs.Task.{IsTask, inputs, values};
+ghost use Rattle.serde_json.specs.View.{view};
+ghost use Rattle.wf_task.specs.Canonical.{HasFewFacets, canonical_text, task_data};
 ghost use Rattle.wf_task.specs.Draft.{Gives};
 ghost use Rattle.wf_task.specs.DraftSeen.{draft_seen, pairs_seen, entry_seen};
 ghost use Rattle.wf_task.specs.Judge.{judged, drafted, text_of};
@@ -10,6 +12,7 @@ ghost use Rattle.wf_task.specs.Slots.{AreOf};
 ghost use Rattle.wf_task.specs.TaskSeen.{task_of_parts};
 ghost use Rattle.wf_task.specs.Faultless.{ListsVertices, ListsFew, IsFaultless};
 
+use crate::canonical::{entries, facets, list, task_value};
 use crate::complexes::{complex, judge_sizes};
 use crate::draft::Draft;
 use crate::fault::TaskFault;
@@ -19,6 +22,7 @@ use crate::rows::{all_rows, mask};
 use crate::slots::{Slot, judge_entries, slots};
 use crate::text::json;
 use crate::tuples::judge_tuples;
+use serde_json::Value;
 use std::alloc::{AllocError, Global};
 use std::marker::Model;
 use wf_simplex::Complex;
@@ -77,6 +81,7 @@ impl Task {
     ) -> Task
         requires task { IsTask (task_of_parts processes symmetric inputs (map vec_items tuples.items) outputs) }
         requires each { length (map vec_items tuples.items) ≡ length inputs }
+        requires few { HasFewFacets outputs }
         ensures { result ≡ task_of_parts processes symmetric inputs (map vec_items tuples.items) outputs }
     {
         Task {
@@ -87,6 +92,28 @@ impl Task {
             outputs,
             tuples,
         }
+    }
+
+    /// The canonical text: compact JSON with its keys in alphabetical order, the facets of the input and the output
+    /// complex in order, and an entry for each input simplex in order, its tuples ascending.
+    #[tactic(auto, unfolding(crate::specs::Canonical::canonical_text), using(crate::proofs::Written::task_has_no_float))]
+    pub fn write_text(&self, alloc: Global) -> Result<Vec<u8>, AllocError>
+        ensures text { IfOk result (λ text. text.items ≡ canonical_text self.now) }
+    {
+        let text = self.value(alloc)?.to_string(alloc)?;
+        Ok(text.into_bytes())
+    }
+
+    /// The JSON value of the canonical text.
+    fn value(&self, alloc: Global) -> Result<Value, AllocError>
+        ensures { IfOk result (λ v. view v ≡ task_data self.now) }
+    {
+        let delta = entries(alloc, self.inputs.simplices(), &self.tuples)?;
+        let inputs = list(alloc, &facets(alloc, &self.inputs)?)?;
+        let outputs = list(alloc, &facets(alloc, &self.outputs)?)?;
+        let processes = self.processes;
+        let symmetric = self.symmetric;
+        task_value(alloc, processes, symmetric, inputs, outputs, delta)
     }
 
     /// How many processes there are.

@@ -3,7 +3,7 @@ use Rattle.wf_model.specs.Simplex.{complex_of}
 use Rattle.wf_task.specs.declared.family.Family.TheVariants.{Naming}
 use Rattle.wf_task.specs.Family.{tuples_for, at_most}
 use Rattle.wf_task.proofs.Naming.{start}
-use Rattle.wf_task.proofs.PresetLimits.{named-bounds, renaming-processes, renaming-value, renaming-judged, counted_more, counted_few, renaming-outputs-refused, renaming-refused, renaming-made, renaming-is-task}
+use Rattle.wf_task.proofs.PresetLimits.{named-bounds, renaming-processes, renaming-value, renaming-judged, counted_more, counted_few, renaming-outputs-refused, renaming-refused, renaming-made, renaming-is-task, renaming-few}
 use Rattle.wf_task.proofs.preset.renaming.Goals as goal
 
 pub returns-then-not-has_processes : goal.returns-then-not-has_processes
@@ -46,6 +46,18 @@ task_for-requires-clause-task c =
     let made = c.in_ok-complex.ensures ∙ ap (λ s. complex_of (s ∷ [])) c.whole-whole.ensures in
     let all = sym (c.in_ok-has_more_tuples.ensures ∙ ap (λ complex. nat_lt 65536 (sum_by (λ s. length (tuples_for (Naming names) s)) complex)) c.simplices.ensures.simplices) ∙ c.if-branch.false in
     renaming-is-task n names named c.in_ok-complex.complex made all
+
+pub task_for-requires-clause-few : goal.task_for-requires-clause-few
+task_for-requires-clause-few c =
+    let n = c.args.processes in
+    let names = c.args.names in
+    let processes = sym c.has_processes.ensures ∙ c.if-not-has_processes.false in
+    let values = sym c.has_values.ensures ∙ c.if-not-has_values.false in
+    let named = named-bounds n names processes values in
+    let counted = c.in_ok-count.ensures ∙ ap (λ s. at_most 65536 (length (tuples_for (Naming names) s))) c.whole-whole.ensures in
+    let few = counted_few c.in_ok-count.field-0 65536 (length (tuples_for (Naming names) (start n))) counted c.if-is_none.ensures in
+    let made = c.in_ok-complex.ensures ∙ ap (λ s. complex_of (s ∷ [])) c.whole-whole.ensures in
+    renaming-few n names named c.in_ok-complex.complex made few
 
 pub returns : goal.returns
 returns c =

@@ -6,7 +6,7 @@ use Rattle.wf_task.specs.declared.family.Family.TheVariants.{Agreement}
 use Rattle.wf_task.specs.Family.{tuples_for}
 use Rattle.wf_task.specs.Preset.{inputs_seen, has_input_values, set_agreement_of}
 use Rattle.wf_task.proofs.FamilyTasks.{same_inputs}
-use Rattle.wf_task.proofs.PresetLimits.{IsMade, bounds, choice_bounds, agreement_inputs, agreement-processes, agreement-value, agreement-judged, no-value, refused-through, agreement-refused, agreement-made, agreement-is-task}
+use Rattle.wf_task.proofs.PresetLimits.{IsMade, bounds, choice_bounds, agreement_inputs, agreement-processes, agreement-value, agreement-judged, no-value, refused-through, agreement-refused, agreement-made, agreement-is-task, agreement-few}
 use Rattle.wf_task.proofs.preset.set_agreement.Goals as goal
 use Rattle.wf_task.proofs.preset.set_agreement.Goals.{then-k-eq0-via-then-k-eq0, then-k-eq0-via-else-k-eq0+then-not-has_values}
 
@@ -49,6 +49,15 @@ task_for-requires-clause-task c =
     let made : IsMade n choice c.in_ok-complex.complex = record { some = (bounds n processes).0; few = (bounds n processes).1; is_choice = choice_bounds c.args.inputs values; judged = c.in_ok-complex.ensures } in
     let counted = sym (c.in_ok-has_more_tuples.ensures ∙ ap (λ complex. nat_lt 65536 (sum_by (λ s. length (tuples_for (Agreement c.args.k) s)) complex)) c.simplices.ensures.simplices) ∙ c.if-branch.false in
     agreement-is-task n c.args.k choice c.in_ok-complex.complex made counted
+
+pub task_for-requires-clause-few : goal.task_for-requires-clause-few
+task_for-requires-clause-few c =
+    let n = c.args.processes in
+    let choice = inputs_seen c.args.inputs in
+    let processes = sym c.has_processes.ensures ∙ c.if-not-has_processes.false in
+    let values = sym c.has_values.ensures ∙ c.if-not-has_values.false in
+    let made : IsMade n choice c.in_ok-complex.complex = record { some = (bounds n processes).0; few = (bounds n processes).1; is_choice = choice_bounds c.args.inputs values; judged = c.in_ok-complex.ensures } in
+    agreement-few n c.args.k choice c.in_ok-complex.complex made
 
 pub returns : goal.returns
 returns c =

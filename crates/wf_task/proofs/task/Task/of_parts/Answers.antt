@@ -11,5 +11,6 @@ invariant_of-result c =
     record {
       task = c.requires.task;
       each = c.requires.each;
+      few_outputs = c.requires.few;
       values = λ v low. (λ e. has_in_order v (flat_map values_of c.args.outputs) ((mask v low).0 e), λ e. (mask v low).1 (has_from_order v (flat_map values_of c.args.outputs) e));
     }

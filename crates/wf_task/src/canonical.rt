@@ -1,0 +1,225 @@
+ghost use Rattle.std.specs.Prelude.{
+  ◌≡◌,
+  ◌++◌,
+  ◌<◌,
+  ◌≤◌,
+  map,
+  flat_map,
+  length,
+  remove,
+  slice_index_or,
+  vec_items,
+  IfOk,
+  OnOk,
+};
+ghost use Rattle.serde_json.specs.Data.{Data};
+ghost use Rattle.serde_json.specs.View.{view};
+ghost use Rattle.wf_model.specs.Task.{IsSimplexWithin};
+ghost use Rattle.wf_task.specs.Borders.{borders_of, place_before};
+ghost use Rattle.wf_task.specs.Canonical.{
+  HasFewFacets,
+  facets,
+  number_data,
+  list_data,
+  vertex_data,
+  simplex_data,
+  tuple_data,
+  rule_data,
+  version_1,
+};
+ghost use Rattle.wf_task.specs.Shape.{rule_of};
+ghost use Rattle.wf_task.specs.TaskSeen.{rules_seen};
+
+use crate::row::Row;
+use serde_json::{Value, json};
+use std::alloc::{AllocError, Global};
+use wf_simplex::{Complex, Simplex};
+
+// ---- facets
+
+/// The simplices of a complex that are no proper face of another one. It takes n log n steps, and memory for four
+/// times the simplices.
+pub(crate) fn facets(alloc: Global, complex: &Complex) -> Result<Vec<Simplex>, AllocError>
+    requires { HasFewFacets complex.now }
+    ensures { IfOk result (λ found. found.items ≡ facets complex.now) }
+{
+    let simplices = complex.simplices();
+    let inner = Complex::from_facets(alloc, &borders(alloc, simplices)?)?;
+    let mut found = Vec::new(alloc);
+    for simplex in simplices {
+        if !inner.contains(simplex) {
+            found.push(*simplex)?;
+        }
+    }
+    Ok(found)
+}
+
+/// The faces with one vertex less, of each simplex.
+fn borders(alloc: Global, simplices: &[Simplex]) -> Result<Vec<Simplex>, AllocError>
+    ensures { IfOk result (λ borders. borders.items ≡ flat_map borders_of simplices.now) }
+{
+    let mut borders = Vec::new(alloc);
+    for simplex in simplices {
+        add_borders(&mut borders, simplex)?;
+    }
+    Ok(borders)
+}
+
+/// Adds the faces with one vertex less.
+fn add_borders(borders: &mut Vec<Simplex>, simplex: &Simplex) -> Result<(), AllocError>
+    ensures { OnOk result (borders.new.items ≡ borders.old.items ++ borders_of simplex.now) }
+{
+    let size = simplex.colours();
+    if size == 1 {
+        return Ok(());
+    }
+    for place in 0..size {
+        borders.push(without(simplex, place))?;
+    }
+    Ok(())
+}
+
+/// The simplex without the vertex at this place.
+fn without(simplex: &Simplex, left_out: u8) -> Simplex
+    requires place { left_out < length simplex.now }
+    requires others { 2 ≤ length simplex.now }
+    ensures { result ≡ remove simplex.now left_out }
+{
+    let mut pairs = [(0u8, 0u8); 4];
+    let size = simplex.colours() - 1;
+    for place in 0..size {
+        pairs[place as usize] = vertex(simplex, skipping(left_out, place));
+    }
+    match Simplex::read(&pairs[..size as usize]) {
+        Ok(simplex) => simplex,
+        Err(_) => unreachable!(),
+    }
+}
+
+/// Where the item at this place stood before one was left out.
+fn skipping(left_out: u8, place: u8) -> u8
+    requires { place < 4 }
+    ensures { result ≡ place_before left_out place }
+{
+    if place < left_out { place } else { place + 1 }
+}
+
+/// The vertex at a place: a process and its value.
+fn vertex(simplex: &Simplex, place: u8) -> (u8, u8)
+    requires place { place < length simplex.now }
+    requires simplex { IsSimplexWithin 4 63 simplex.now }
+    ensures { result ≡ slice_index_or simplex.now place (0, 0) }
+{
+    let process = simplex.colour(place);
+    let Some(value) = simplex.value(process) else {
+        unreachable!()
+    };
+    (process, value)
+}
+
+// ---- JSON values
+
+/// A value that a text shows.
+pub(crate) trait Shown {
+    // the JSON value that stands for it
+    ghost shown: { Self → Data };
+
+    fn to_json(&self, alloc: Global) -> Result<Value, AllocError>
+        ensures { IfOk result (λ v. view v ≡ shown self.now) };
+}
+
+impl Shown for u8 {
+    ghost shown = { number_data };
+
+    fn to_json(&self, _alloc: Global) -> Result<Value, AllocError> {
+        Ok(Value::from(*self))
+    }
+}
+
+impl Shown for (u8, u8) {
+    ghost shown = { vertex_data };
+
+    fn to_json(&self, alloc: Global) -> Result<Value, AllocError> {
+        let (process, value) = *self;
+        json!(in alloc; [process, value])
+    }
+}
+
+impl Shown for Simplex {
+    ghost shown = { simplex_data };
+
+    fn to_json(&self, alloc: Global) -> Result<Value, AllocError> {
+        let mut vertices = Vec::new(alloc);
+        for place in 0..self.colours() {
+            vertices.push(vertex(self, place).to_json(alloc)?)?;
+        }
+        Ok(Value::Array(vertices))
+    }
+}
+
+impl Shown for Row {
+    ghost shown = { tuple_data };
+
+    fn to_json(&self, alloc: Global) -> Result<Value, AllocError> {
+        list(alloc, self.as_slice())
+    }
+}
+
+/// The list of some values.
+pub(crate) fn list<T: Shown>(alloc: Global, values: &[T]) -> Result<Value, AllocError>
+    ensures { IfOk result (λ v. view v ≡ list_data T.shown values.now) }
+{
+    let mut items = Vec::new(alloc);
+    for value in values {
+        items.push(value.to_json(alloc)?)?;
+    }
+    Ok(Value::Array(items))
+}
+
+/// An entry: an input simplex with its tuples.
+fn entry(alloc: Global, simplex: &Simplex, rows: &[Row]) -> Result<Value, AllocError>
+    ensures { IfOk result (λ v. view v ≡ rule_data (rule_of simplex.now rows.now)) }
+{
+    let input = simplex.to_json(alloc)?;
+    let tuples = list(alloc, rows)?;
+    json!(in alloc; {"in": input, "out": tuples})
+}
+
+/// The entries of all input simplices.
+pub(crate) fn entries(
+    alloc: Global,
+    inputs: &[Simplex],
+    tuples: &[Vec<Row>],
+) -> Result<Value, AllocError>
+    requires { length tuples.now ≡ length inputs.now }
+    ensures { IfOk result (λ v. view v ≡
+        list_data rule_data (rules_seen inputs.now (map vec_items tuples.now))) }
+{
+    let mut entries = Vec::new(alloc);
+    for (place, simplex) in inputs.iter().enumerate() {
+        entries.push(entry(alloc, simplex, &tuples[place])?)?;
+    }
+    Ok(Value::Array(entries))
+}
+
+/// The value of a task, its keys in alphabetical order.
+pub(crate) fn task_value(
+    alloc: Global,
+    processes: u8,
+    symmetric: bool,
+    inputs: Value,
+    outputs: Value,
+    delta: Value,
+) -> Result<Value, AllocError>
+    ensures { IfOk result (λ v. view v ≡
+        version_1 processes symmetric (view inputs) (view outputs) (view delta)) }
+{
+    json!(in alloc; {
+        "version": 1u64,
+        "processes": processes,
+        "symmetric": symmetric,
+        "inputs": inputs,
+        "outputs": outputs,
+        "delta": delta,
+    })
+}
