@@ -7,8 +7,6 @@
 mod board;
 mod laws;
 mod table;
-#[cfg(test)]
-mod tests;
 
 pub use board::{Board, BoardSeat};
 pub use laws::calls_are_events;

@@ -5,6 +5,7 @@ pub mod PlaceLemmas
 pub mod ProblemLemmas
 pub mod SweepLemmas
 pub mod CloseLemmas
+pub mod LeastLemmas
 pub mod BoxLemmas
 pub mod JoinLemmas
 pub mod ValueLemmas

@@ -17,7 +17,7 @@ use Rattle.wf_box.proofs.StepLemmas.{then_then}
 
 -- ---- how many candidates there can be
 
-values_few : (word : ℕ) → length (values_in word) ≤ 64
+pub values_few : (word : ℕ) → length (values_in word) ≤ 64
 unfolding values_in
 values_few word = subst (λ n. length (values_in word) ≤ n) (length-range_with_len 0 64) (length_filter (holds word) (below 64))
 

@@ -8,6 +8,10 @@ use Rattle.wf_box.specs.declared.problem.Rule.{Rule}
 use Rattle.wf_box.specs.declared.problem.Execution.{Execution}
 use Rattle.wf_box.specs.declared.problem.Problem.TheInside.{Inside}
 
+-- the most points that a problem within the limits has: one for each process of each execution
+abbrev pub most_points : ℕ
+most_points = 2000000
+
 -- no input simplex at all
 abbrev pub no_rule : Rule
 no_rule = record { simplex = []; table = record { width = 0; rows = [] } }
@@ -38,7 +42,7 @@ pub record IsWithin (rules points : ℕ) (e : Execution) : Type 0 where
   pub points_within : All (λ v. v < points) e.points
 
 pub record IsKept (p : Inside) : Type 0 where
-  pub few_points : p.points ≤ 2000000
+  pub few_points : p.points ≤ most_points
   pub few_executions : length p.executions.items ≤ 500000
   pub wide : All IsWide p.rules.items
   pub within : All (IsWithin (length p.rules.items) p.points) p.executions.items

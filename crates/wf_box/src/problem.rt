@@ -2,9 +2,10 @@
 
 ghost use Rattle.std.specs.Prelude.{◌≡◌, ◌<◌, ◌≤◌, ◌^◌, ℕ, None, All, length, map, take, IfOk};
 ghost use Rattle.wf_model.specs.Task.{IsTask};
-ghost use Rattle.wf_model.specs.Problem.{problem_of};
+ghost use Rattle.wf_model.specs.Problem.{IsWellFormed, problem_of};
 ghost use Rattle.wf_complex.specs.Protocol.{IsProtocol};
-ghost use Rattle.wf_box.specs.Problems.{IsWide, IsWithin, constraint_seen, rule_seen};
+ghost use Rattle.wf_model.specs.Split.{most_values};
+ghost use Rattle.wf_box.specs.Problems.{most_points, IsWide, IsWithin, constraint_seen, rule_seen};
 
 use std::alloc::{AllocError, Global};
 use std::marker::Model;
@@ -80,6 +81,16 @@ impl Problem {
             rules,
             executions,
         })
+    }
+
+    /// How many points it has. It takes no memory.
+    pub fn points(&self) -> u32
+        ensures points { result ≡ self.now.points }
+        ensures few { result ≤ most_points }
+        ensures few_values { length self.now.values ≤ most_values }
+        ensures well_formed { IsWellFormed self.now }
+    {
+        self.points
     }
 }
 

@@ -11,8 +11,6 @@
 mod event;
 mod laws;
 mod machine;
-#[cfg(test)]
-mod tests;
 
 pub use event::{Account, CoreFault, Event, Illegal, Status};
 pub use laws::{

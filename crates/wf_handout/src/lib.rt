@@ -1,14 +1,16 @@
 //! Who searches what: each branch is handed to one worker.
 //!
-//! `Handout` is the promise: a worker takes branches with its share, and what no share took is given back at the
-//! end. `Counter` keeps it with one word that counts up.
+//! - [`Handout`]: the promise. A worker takes branches with its share, and what no share took is given back at the end.
+//! - [`Counter`]: one word that counts up. Whoever asks first gets the next branch.
+//! - [`Stealing`]: a deque for each worker, which steals from the next one's where its own is empty.
 #![tactic(auto)]
 
 mod counter;
+mod deque;
 mod handout;
+mod stealing;
 mod table;
-#[cfg(test)]
-mod tests;
 
 pub use counter::{Counter, CounterShare};
 pub use handout::Handout;
+pub use stealing::{Stealing, StealingShare};

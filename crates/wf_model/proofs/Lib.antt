@@ -21,3 +21,4 @@ pub mod LeastTrees
 pub mod Leading
 pub mod LeastChecked
 pub mod WholeReports
+pub mod Filling

@@ -1,14 +1,18 @@
--- What the laws say of boxes: the least solution in a box, the branches of a box, and maps in a list of boxes; and of reports.
+-- What the laws say of boxes: the least solution in a box, the branches of a box, and maps in a list of boxes; of lines
+-- that refute a box; and of reports.
 use Rattle.std.specs.Prelude.{◌≡◌, ◌<◌, ◌⊎◌, true, ℕ, List, [], length, None, All}
-use Rattle.std.specs.List.{slice_index_or}
+use Rattle.std.specs.List.{slice_index_or, AllZip}
 use Rattle.wf_model.specs.Lists.{IsBelow}
 use Rattle.wf_model.specs.Simplex.{is_ascending}
 use Rattle.wf_model.specs.Task.{Task}
 use Rattle.wf_model.specs.Execution.{executions}
 use Rattle.wf_model.specs.Points.{points}
 use Rattle.wf_model.specs.Problem.{Problem, IsSolution}
-use Rattle.wf_model.specs.Box.{Box, LiesIn, first_empty}
-use Rattle.wf_model.specs.Closing.{sweep}
+use Rattle.wf_model.specs.Box.{Box, LiesIn, first_empty, root}
+use Rattle.wf_model.specs.Refutation.{Line, Tree, lines, Refutes}
+use Rattle.wf_model.specs.Closing.{sweep, canonical}
+use Rattle.wf_model.specs.Split.{split}
+use Rattle.wf_model.specs.Outline.{outline, filled}
 use Rattle.wf_model.specs.Report.{Report, Body}
 
 -- a box of the problem: the candidates of each point, ascending
@@ -40,3 +44,25 @@ LiesInExactlyOne m boxes = (i : ℕ) × LiesAt m boxes i × ((j : ℕ) → LiesA
 -- the report with this body and the numbers of a task and its r rounds
 abbrev pub report_about : Task → ℕ → Body → Report
 report_about t r body = record { processes = t.processes; rounds = r; points = length (points t r); executions = length (executions t r); body = body }
+
+-- some tree with these lines refutes the box
+abbrev pub IsRefutedBy : Problem → Box → List Line → Type 0
+IsRefutedBy p box ls = (t : Tree) × (lines t ≡ ls) × Refutes p t box
+
+-- the canonical search of the box finds no map, and these are its lines
+abbrev pub HasCanonicalLines : Problem → Box → List Line → Type 0
+HasCanonicalLines p box ls = canonical p box ≡ record { lines = ls; map = None }
+
+-- one list of lines for each branch of the problem: it refutes that branch; or it is the canonical one
+abbrev pub RefuteBranches : Problem → List (List Line) → Type 0
+RefuteBranches p lists = AllZip (IsRefutedBy p) (split p) lists
+
+abbrev pub AreCanonicalForBranches : Problem → List (List Line) → Type 0
+AreCanonicalForBranches p lists = AllZip (HasCanonicalLines p) (split p) lists
+
+-- where the lists do so for the branches, the outline filled with them does so for the root
+abbrev pub RefutesOnceFilled : Problem → List (List Line) → Type 0
+RefutesOnceFilled p lists = RefuteBranches p lists → IsRefutedBy p (root p) (filled (outline p) lists)
+
+abbrev pub IsCanonicalOnceFilled : Problem → List (List Line) → Type 0
+IsCanonicalOnceFilled p lists = AreCanonicalForBranches p lists → HasCanonicalLines p (root p) (filled (outline p) lists)

@@ -11,6 +11,7 @@ pub mod Box
 pub mod Refutation
 pub mod Closing
 pub mod Split
+pub mod Outline
 pub mod Laws
 pub mod LeastTree
 pub mod Report
@@ -23,3 +24,4 @@ pub mod ExampleTasks
 pub mod Examples
 pub mod LargeExamples
 pub mod TextExamples
+pub mod OutlineExamples

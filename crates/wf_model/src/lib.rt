@@ -23,6 +23,7 @@ mod closing;
 mod covers;
 mod least_trees;
 mod maps;
+mod outlines;
 mod refutations;
 mod reports;
 mod search;
@@ -43,6 +44,9 @@ pub use maps::{
     a_least_solution_is_a_least_map, all_solutions_are_found, faultless_maps_are_solutions,
     first_appearances_are_the_points, maps_are_solutions, maps_lie_in_the_root,
     problems_of_tasks_are_well_formed, solutions_lie_in_the_root, tasks_have_listed_values,
+};
+pub use outlines::{
+    a_filled_outline_is_canonical, a_filled_outline_refutes, an_outline_leaves_out_the_branches,
 };
 pub use refutations::{
     a_refutation_leaves_no_map, accepted_lines_refute, no_tree_refutes_a_solution,

@@ -1,25 +1,27 @@
 -- What is answered about a problem, and the account of the work.
-use Rattle.std.specs.Prelude.{◌≡◌, ℕ, ◌+◌, ◌≤◌, List, [], map, length, Some, None}
-use Rattle.std.specs.List.{slice_index_or}
+use Rattle.std.specs.Prelude.{◌≡◌, ℕ, ◌+◌, ◌≤◌, List, map, length, Some, None}
 use Rattle.wf_model.specs.Problem.{Problem}
 use Rattle.wf_model.specs.Box.{root}
 use Rattle.wf_model.specs.Closing.{canonical}
 use Rattle.wf_model.specs.Split.{split}
+use Rattle.wf_model.specs.Laws.{LiesAt}
 use Rattle.wf_core.specs.declared.event.Account.{Account}
 use Rattle.wf_complex.specs.Lines.{line_of}
 use Rattle.wf_pool.specs.declared.answer.Answer.{Answer}
 use Rattle.wf_pool.specs.declared.answer.Answer.TheVariants as answer
+use Rattle.wf_pool.specs.Branches.{IsMapAt, AreLinesAt, branch_of}
 
--- the answer of the canonical search of the root: its map, or its lines where it has none
+-- The answer of the canonical search of the root: its map, or its lines where it has none
 abbrev pub IsAnswer : Problem → Answer → Type 0
 IsAnswer p (answer.Map m) = (canonical p (root p)).map ≡ Some m.items
-IsAnswer p (answer.Nothing ls) =
-    ((canonical p (root p)).map ≡ None) × (map line_of ls.items ≡ (canonical p (root p)).lines)
+IsAnswer p (answer.Nothing ls) = ((canonical p (root p)).map ≡ None) × (map line_of ls.items ≡ (canonical p (root p)).lines)
 
--- The map is that of the least branch; every branch up to it was searched, and each other one was searched or cut.
+-- The least is the branch whose box holds the map, and whose canonical search ends with it; every branch up to it was
+-- searched, and each other one was searched or cut
 pub record HasAccountOfMap (p : Problem) (m : List ℕ) (a : Account) : Type 0 where
   pub branches : a.branches ≡ length (split p)
-  pub least : (canonical p (slice_index_or (split p) a.least [])).map ≡ Some m
+  pub holds : LiesAt m (split p) a.least
+  pub least : (canonical p (branch_of p a.least)).map ≡ Some m
   pub enough : a.least + 1 ≤ a.searched
   pub all : a.searched + a.cut ≡ a.branches
 
@@ -34,7 +36,23 @@ abbrev pub HasAccount : Problem → Answer → Account → Type 0
 HasAccount p (answer.Map m) a = HasAccountOfMap p m.items a
 HasAccount p (answer.Nothing ls) a = HasAccountOfNone p a
 
--- one worker searches the branches in order, up to the first with a map
+-- the branches were searched in order, up to the first with a map
 abbrev pub IsInOrder : Answer → Account → Type 0
 IsInOrder (answer.Map m) a = a.searched ≡ a.least + 1
 IsInOrder (answer.Nothing ls) a = a.searched ≡ a.branches
+
+-- what branch i has
+abbrev pub IsAnswerAt : Problem → ℕ → Answer → Type 0
+IsAnswerAt p i (answer.Map m) = IsMapAt p i m.items
+IsAnswerAt p i (answer.Nothing ls) = AreLinesAt p i ls.items
+
+-- the same map, or the same lines
+abbrev pub IsSame : Answer → Answer → Type 0
+IsSame (answer.Map m) (answer.Map n) = m.items ≡ n.items
+IsSame (answer.Map m) (answer.Nothing ls) = ⊥
+IsSame (answer.Nothing ls) (answer.Map m) = ⊥
+IsSame (answer.Nothing ls) (answer.Nothing ks) = map line_of ls.items ≡ map line_of ks.items
+
+-- any two runs about a problem give the same answer
+abbrev pub OneAnswer : Type 0
+OneAnswer = (p : Problem) (one other : Answer) → IsAnswer p one → IsAnswer p other → IsSame one other

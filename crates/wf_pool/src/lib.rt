@@ -1,10 +1,30 @@
 //! Workers that search the branches of a problem, and the answer that they find together.
+//!
+//! [`solve_one`] searches the branches in order, in this thread. [`solve`] has workers share them out; each worker has
+//! a seat at the board, where it sees the least branch that has a map so far, and a share of the handout. Both answer
+//! what the canonical search of the whole problem finds: its least map, or the lines of why there is none.
+//!
+//! - `gate`: what a caller may watch and hold of the workers.
+//! - `worker`: a seat, and what the worker keeps of what it found.
+//! - `watch`: a worker at a branch; it looks at the board before each turn of its search.
+//! - `crew`: all workers, each in a thread of its own where one can be had.
+//! - `answer`: what the workers kept, brought together by branch.
+//! - `solving`: from a problem to its answer and the account of the work.
+//!
+//! A worker keeps one map at most, that of the least branch that it posted, and the lines of the branches that it
+//! refuted, as long as it has seen no lower branch posted. In the end the lines are moved to their places in a list of
+//! the branches, and none is copied: this takes one list for each branch, and a step for each list of lines.
 #![tactic(auto)]
 
 mod answer;
+mod crew;
 mod gate;
+mod laws;
 mod solving;
+mod watch;
+mod worker;
 
 pub use answer::Answer;
 pub use gate::{Gate, Moment, Open};
-pub use solving::{solve, solve_one};
+pub use laws::a_problem_has_one_answer;
+pub use solving::{MAX_WORKERS, solve, solve_one};

@@ -1,38 +1,243 @@
-//! From a problem to its answer and the account of the work.
+// The answer of all workers together.
+ghost use Rattle.std.specs.Prelude.{ℕ, ◌≡◌, ◌+◌, ◌*◌, ◌^◌, ◌<◌, ◌≤◌, map, length, All, IfOk};
+ghost use Rattle.wf_model.specs.Outline.{boxes_left_out};
+ghost use Rattle.wf_board.specs.Desk.{fresh_desk};
+ghost use Rattle.wf_pool.specs.Branches.{IsCoverOf, branch_count};
+ghost use Rattle.wf_pool.specs.Work.{AreAllBut, AreAllSettled, AreToSettle, AreWorkers, HasSettledEach, IsFresh, IsGround, IsWorker};
+ghost use Rattle.wf_pool.specs.Together.{Tells};
+ghost use Rattle.wf_pool.specs.Answers.{IsAnswer, IsAnswerAt, HasAccount, IsInOrder};
 
-ghost use Rattle.std.specs.Prelude.{ℕ, ◌<◌, ◌≤◌, IfOk};
-ghost use Rattle.wf_pool.specs.Answers.{IsAnswer, HasAccount, IsInOrder};
-
-use crate::answer::Answer;
+use crate::answer::{Answer, apart, in_order, map_of};
+use crate::crew::crew;
 use crate::gate::Gate;
+use crate::watch::{Site, settle};
+use crate::worker::{Finds, Worker};
 use std::alloc::{AllocError, Global};
 use std::thread::Threads;
+use wf_board::{Board, BoardSeat};
 use wf_box::Problem;
 use wf_core::Account;
 use wf_handout::Handout;
+use wf_search::{Cover, Found, Never, search, split};
 
-/// Searches the branches in order, in this thread.
+/// The most workers that may be asked for.
+pub const MAX_WORKERS: u32 = 64;
+
+/// The answer about a problem that workers find together, and the account of their work. Each has a thread of its own
+/// where one can be had, no more are used than there are branches, and this thread is the first of them. The answer is
+/// that of `solve_one`.
+pub fn solve<R: Threads + Sync, H: Handout, G: Gate>(
+    rt: &R,
+    alloc: Global,
+    problem: &Problem,
+    workers: u32,
+    gate: &G,
+) -> Result<(Answer, Account), AllocError>
+    requires { (0 < workers) × (workers ≤ MAX_WORKERS) }
+    ensures answer { IfOk result (λ r. IsAnswer problem.now r.0) }
+    ensures account { IfOk result (λ r. HasAccount problem.now r.0 r.1) }
+{
+    let cover = branches_of(alloc, problem)?;
+    let branches = cover.branches();
+    let used = workers.min(branches).max(1);
+    let (board, seats) = Board::make(alloc, branches, used)?;
+    let crew = search_all::<R, H, G>(rt, alloc, problem, &cover, &board, seats, gate)?;
+    let (account, finds) = finish(alloc, problem, board, crew)?;
+    let answer = answer_of(alloc, problem, &cover, finds, account)?;
+    Ok((answer, account))
+}
+
+/// The answer about a problem, and the account of the search: the branches in order, up to the first with a map. It
+/// starts no thread.
 pub fn solve_one(alloc: Global, problem: &Problem) -> Result<(Answer, Account), AllocError>
     ensures answer { IfOk result (λ r. IsAnswer problem.now r.0) }
     ensures account { IfOk result (λ r. HasAccount problem.now r.0 r.1) }
     ensures in_order { IfOk result (λ r. IsInOrder r.0 r.1) }
 {
-    let _alloc = alloc;
-    let _problem = problem;
-    Err(AllocError)
+    let cover = branches_of(alloc, problem)?;
+    let branches = cover.branches();
+    let mut lists = Vec::with_capacity(alloc, branches as usize)?;
+    for branch in 0..branches {
+        match search_whole(alloc, problem, &cover, branch)? {
+            Answer::Map(map) => {
+                let account = Account {
+                    branches,
+                    least: branch,
+                    searched: branch + 1,
+                    cut: branches - branch - 1,
+                };
+                return Ok((Answer::Map(map), account));
+            }
+            Answer::Nothing(lines) => lists.push(lines)?,
+        }
+    }
+    let lines = cover.fill(alloc, lists)?;
+    let account = Account {
+        branches,
+        least: branches,
+        searched: branches,
+        cut: 0,
+    };
+    Ok((Answer::Nothing(lines), account))
 }
 
-/// Has workers share out the branches.
-pub fn solve<R: Threads + Sync, H: Handout, G: Gate>(
-    _rt: &R,
-    _alloc: Global,
-    _problem: &Problem,
-    _workers: u32,
-    _gate: &G,
-) -> Result<(Answer, Account), AllocError>
-    requires { (0 < _workers) × (_workers ≤ 64) }
-    ensures answer { IfOk result (λ r. IsAnswer _problem.now r.0) }
-    ensures account { IfOk result (λ r. HasAccount _problem.now r.0 r.1) }
+/// The branches of a problem.
+fn branches_of(alloc: Global, problem: &Problem) -> Result<Cover, AllocError>
+    ensures { IfOk result (IsCoverOf problem.now) }
 {
-    Err(AllocError)
+    let _points = problem.points();
+    split(alloc, problem)
+}
+
+/// What a branch has.
+fn search_whole(
+    alloc: Global,
+    problem: &Problem,
+    cover: &Cover,
+    branch: u32,
+) -> Result<Answer, AllocError>
+    requires cover { IsCoverOf problem.now cover.now }
+    requires branch { branch < length (boxes_left_out cover.now) }
+    ensures { IfOk result (IsAnswerAt problem.now branch) }
+{
+    let boxed = cover.branch(alloc, branch)?;
+    match search(alloc, problem, boxed, &mut Never)? {
+        Found::Map(map) => Ok(Answer::Map(map)),
+        Found::Refuted(lines) => Ok(Answer::Nothing(lines)),
+        Found::Stopped => unreachable!(),
+    }
+}
+
+/// Workers with these seats settle all branches.
+fn search_all<R: Threads + Sync, H: Handout, G: Gate>(
+    rt: &R,
+    alloc: Global,
+    problem: &Problem,
+    cover: &Cover,
+    board: &Board,
+    seats: Vec<BoardSeat>,
+    gate: &G,
+) -> Result<Vec<Worker>, AllocError>
+    requires ground { IsGround problem.now cover.now board.now }
+    requires count { length seats.items ≡ board.now.workers }
+    requires seats { All (λ d. d ≡ fresh_desk board.now) seats.items }
+    requires some { (0 < board.now.workers) × (board.now.workers < 2 ^ 32) }
+    requires few { board.now.branches * board.now.workers < 2 ^ 32 }
+    ensures count { IfOk result (λ ws. length ws.items ≡ board.now.workers) }
+    ensures workers { IfOk result (λ ws. AreWorkers problem.now board.now ws.items) }
+    ensures settled { IfOk result (λ ws. AreAllSettled board.now ws.items) }
+{
+    let (handout, shares) = H::deal(alloc, cover.branches(), seats.len() as u32)?;
+    let workers = fresh_workers(alloc, problem, board, seats)?;
+    let site = Site {
+        problem,
+        cover,
+        board,
+        gate,
+    };
+    let (workers, shares) = crew(rt, alloc, &site, &handout, workers, shares)?;
+    let left = handout.finish(alloc, shares)?;
+    work_left(alloc, &site, workers, left.as_slice())
+}
+
+/// A worker for each seat.
+fn fresh_workers(
+    alloc: Global,
+    problem: &Problem,
+    board: &Board,
+    seats: Vec<BoardSeat>,
+) -> Result<Vec<Worker>, AllocError>
+    requires { All (λ d. d ≡ fresh_desk board.now) seats.items }
+    ensures count { IfOk result (λ ws. length ws.items ≡ length seats.items) }
+    ensures workers { IfOk result (λ ws. All (IsFresh problem.now board.now) ws.items) }
+{
+    let mut workers = Vec::with_capacity(alloc, seats.len())?;
+    let mut seats = seats;
+    while let Some(seat) = seats.pop() {
+        workers.push(Worker {
+            seat,
+            finds: Finds {
+                map: None,
+                lines: Vec::new(alloc),
+            },
+        })?;
+    }
+    Ok(workers)
+}
+
+/// The first worker settles the branches that are left.
+fn work_left<G: Gate>(
+    alloc: Global,
+    site: &Site<G>,
+    workers: Vec<Worker>,
+    left: &[u32],
+) -> Result<Vec<Worker>, AllocError>
+    requires some { 0 < length workers.items }
+    requires workers { AreWorkers site.now.problem.now site.now.board.now workers.items }
+    requires left { AreAllBut site.now.board.now left.now workers.items }
+    ensures count { IfOk result (λ ws. length ws.items ≡ length workers.items) }
+    ensures workers { IfOk result (λ ws. AreWorkers site.now.problem.now site.now.board.now ws.items) }
+    ensures settled { IfOk result (λ ws. AreAllSettled site.now.board.now ws.items) }
+{
+    let mut workers = workers;
+    let first = workers.remove(0);
+    workers.push(settle_each(alloc, site, first, left)?)?;
+    Ok(workers)
+}
+
+/// The first worker settles these branches.
+fn settle_each<G: Gate>(
+    alloc: Global,
+    site: &Site<G>,
+    first: Worker,
+    left: &[u32],
+) -> Result<Worker, AllocError>
+    requires worker { IsWorker site.now.problem.now site.now.board.now first }
+    requires left { AreToSettle site.now.board.now first.seat left.now }
+    ensures worker { IfOk result (IsWorker site.now.problem.now site.now.board.now) }
+    ensures settled { IfOk result (HasSettledEach left.now first) }
+{
+    let mut me = first;
+    for branch in left {
+        me = settle(alloc, site, 0, me, *branch)?;
+    }
+    Ok(me)
+}
+
+/// The account of all workers, and what they found.
+fn finish(
+    alloc: Global,
+    problem: &Problem,
+    board: Board,
+    workers: Vec<Worker>,
+) -> Result<(Account, Vec<Finds>), AllocError>
+    requires count { length workers.items ≡ board.workers }
+    requires workers { AreWorkers problem.now board workers.items }
+    requires settled { AreAllSettled board workers.items }
+    ensures branches { IfOk result (λ r. r.0.branches ≡ board.branches) }
+    ensures tells { IfOk result (λ r. Tells problem.now r.0 r.1.items) }
+{
+    let (seats, finds) = apart(alloc, workers)?;
+    Ok((board.finish(seats), finds))
+}
+
+/// The map of the least branch that has one, or the lines of all branches.
+fn answer_of(
+    alloc: Global,
+    problem: &Problem,
+    cover: &Cover,
+    finds: Vec<Finds>,
+    account: Account,
+) -> Result<Answer, AllocError>
+    requires cover { IsCoverOf problem.now cover.now }
+    requires branches { account.branches ≡ branch_count problem.now }
+    requires tells { Tells problem.now account finds.items }
+    ensures answer { IfOk result (IsAnswer problem.now) }
+    ensures account { IfOk result (λ a. HasAccount problem.now a account) }
+{
+    if account.least < account.branches {
+        return Ok(Answer::Map(map_of(problem, finds, account.least)));
+    }
+    let lists = in_order(alloc, problem, finds, account.branches)?;
+    Ok(Answer::Nothing(cover.fill(alloc, lists)?))
 }

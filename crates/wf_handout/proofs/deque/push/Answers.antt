@@ -1,0 +1,5 @@
+use Rattle.wf_handout.proofs.Moves.{pushes}
+use Rattle.wf_handout.proofs.deque.push.Goals as goal
+
+pub push_as-requires-clause-pushes : goal.push_as-requires-clause-pushes
+push_as-requires-clause-pushes c = pushes _ _ _ c.requires.whole

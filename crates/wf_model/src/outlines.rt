@@ -1,0 +1,25 @@
+//! Laws of outlines: they leave out the branches, and are filled with refutations of these.
+
+ghost use Rattle.std.specs.Prelude.{◌≡◌, ◌≤◌, List, length};
+ghost use Rattle.wf_model.specs.Problem.{Problem};
+ghost use Rattle.wf_model.specs.Refutation.{Line};
+ghost use Rattle.wf_model.specs.Split.{most_branches, most_values, split};
+ghost use Rattle.wf_model.specs.Outline.{boxes_left_out, outline};
+ghost use Rattle.wf_model.specs.Laws.{IsCanonicalOnceFilled, RefutesOnceFilled};
+
+/// What the outline of a problem leaves out are the branches of the problem, and with at most 64 values these are at
+/// most 63 times 64.
+pub fn an_outline_leaves_out_the_branches()
+    ensures branches { (p : Problem) → boxes_left_out (outline p) ≡ split p }
+    ensures few { (p : Problem) → length p.values ≤ most_values → length (split p) ≤ most_branches }
+{}
+
+/// With lines that refute the branches in their places, the outline's lines refute the root.
+pub fn a_filled_outline_refutes()
+    ensures { (p : Problem) (lists : List (List Line)) → RefutesOnceFilled p lists }
+{}
+
+/// With the canonical lines of the branches in their places, the outline's lines are the canonical ones of the root.
+pub fn a_filled_outline_is_canonical()
+    ensures { (p : Problem) (lists : List (List Line)) → IsCanonicalOnceFilled p lists }
+{}

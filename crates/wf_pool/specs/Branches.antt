@@ -1,0 +1,68 @@
+-- The branches of a problem, and what a search finds in them.
+use Rattle.std.specs.Prelude.{◌≡◌, ◌⊎◌, ℕ, ◌<◌, Bool, true, false, List, [], map, length, Option, Some, None, is_some, All, Vec}
+use Rattle.std.specs.List.{slice_index_or}
+use Rattle.wf_model.specs.Problem.{Problem, IsWellFormed}
+use Rattle.wf_model.specs.Box.{Box}
+use Rattle.wf_model.specs.Closing.{canonical}
+use Rattle.wf_model.specs.Split.{split}
+use Rattle.wf_model.specs.Outline.{Item, outline, boxes_left_out}
+use Rattle.wf_model.specs.Laws.{IsBoxOf}
+use Rattle.wf_complex.specs.declared.line.Line.{Line}
+use Rattle.wf_complex.specs.Lines.{line_of}
+
+-- the box, or the lines, at a place of a list
+abbrev pub box_at : List Box → ℕ → Box
+box_at boxes i = slice_index_or boxes i []
+
+abbrev pub lines_at : List (List Line) → ℕ → List Line
+lines_at lists i = slice_index_or lists i []
+
+-- the canonical search of the box ends with this map
+abbrev pub IsMapOf : Problem → Box → List ℕ → Type 0
+IsMapOf p box m = (canonical p box).map ≡ Some m
+
+-- the canonical search of the box ends with no map, and these are its lines
+abbrev pub AreLinesOf : Problem → Box → List Line → Type 0
+AreLinesOf p box ls = ((canonical p box).map ≡ None) × (map line_of ls ≡ (canonical p box).lines)
+
+-- branch i of the problem
+abbrev pub branch_of : Problem → ℕ → Box
+branch_of p i = box_at (split p) i
+
+unfoldable pub branch_count : Problem → ℕ
+branch_count p = length (split p)
+
+-- the canonical search of branch i ends with a map
+unfoldable pub has_map : Problem → ℕ → Bool
+has_map p i = is_some (canonical p (branch_of p i)).map
+
+-- m is what the canonical search of branch i ends with; or these are its lines, and there is no map
+unfoldable pub IsMapAt : Problem → ℕ → List ℕ → Type 0
+IsMapAt p i m = (i < branch_count p) × IsMapOf p (branch_of p i) m
+
+unfoldable pub AreLinesAt : Problem → ℕ → List Line → Type 0
+AreLinesAt p i ls = (i < branch_count p) × AreLinesOf p (branch_of p i) ls
+
+-- the list at place i is that of the lines of branch i
+abbrev pub HasLines : Problem → List (List Line) → ℕ → Type 0
+HasLines p lists i = AreLinesAt p i (lines_at lists i)
+
+-- the lines of each of so many branches stand in its place
+abbrev pub HasEachLines : {A : Type 0} → Problem → ℕ → List (Vec Line A) → Type 0
+HasEachLines p n lists = (i : ℕ) → i < n → HasLines p (map (λ l. l.items) lists) i
+
+-- the lines that were in their places still are, and so are those of these branches
+abbrev pub Places : {A : Type 0} → Problem → (ℕ → Type 0) → List (Vec Line A) → List (Vec Line A) → Type 0
+Places p branches old new =
+    (i : ℕ) → HasLines p (map (λ l. l.items) old) i ⊎ branches i → HasLines p (map (λ l. l.items) new) i
+
+-- no branch below this one has a map
+abbrev pub NoneBelow : Problem → ℕ → Type 0
+NoneBelow p i = (j : ℕ) → j < i → has_map p j ≡ false
+
+-- the outline of a problem that is well formed, with the branches of the problem
+pub record IsCoverOf (p : Problem) (c : List Item) : Type 0 where
+  pub outline : c ≡ outline p
+  pub branches : boxes_left_out c ≡ split p
+  pub boxes : All (IsBoxOf p) (boxes_left_out c)
+  pub well_formed : IsWellFormed p

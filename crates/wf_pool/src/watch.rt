@@ -1,0 +1,90 @@
+// A worker at a branch: it takes a turn only where it sees no lower branch posted.
+ghost use Rattle.std.specs.Prelude.{◌≡◌, ◌<◌, IfOk};
+ghost use Rattle.wf_pool.specs.Work.{HasLooked, HasSettled, IsGround, IsToSettle, IsWorker};
+ghost use Rattle.wf_pool.specs.Looking.{looked_itself, looked_on};
+
+use crate::gate::{Gate, Moment};
+use crate::worker::Worker;
+use std::alloc::{AllocError, Global};
+use wf_board::{Board, BoardSeat};
+use wf_box::Problem;
+use wf_search::{Cover, Found, Stop, search};
+
+/// What all workers share.
+#[derive(Drop)]
+pub(crate) struct Site<'a, G> {
+    pub(crate) problem: &'a Problem,
+    pub(crate) cover: &'a Cover,
+    pub(crate) board: &'a Board,
+    pub(crate) gate: &'a G,
+    ghost ground: { IsGround problem.now cover.now board.now },
+}
+
+/// The seat of a worker while it searches a branch. It looks before each turn, and stops where a lower branch is posted.
+#[derive(Drop)]
+struct Watch<'a, G> {
+    board: &'a Board,
+    gate: &'a G,
+    worker: u32,
+    branch: u32,
+    seat: BoardSeat,
+    ghost is_seat: { seat.table ≡ board.now.table },
+}
+
+impl<'a, G: Gate> Stop for Watch<'a, G> {
+    ghost keeps = { λ old new. (new.branch ≡ old.branch) × HasLooked old.seat new.seat };
+
+    ghost is_stopped = { λ w. w.seat.seen < w.branch };
+
+    fn stop(&mut self) -> bool {
+        if self.board.least(&mut self.seat) < self.branch {
+            return true;
+        }
+        self.gate.at(self.worker, Moment::Turn(self.branch));
+        false
+    }
+
+    ghost use Rattle.std.specs.Prelude.{refl};
+
+    ghost reflexive = { λ w. (refl, looked_itself w.seat) };
+
+    ghost use Rattle.std.proofs.Common.{◌∙◌};
+
+    ghost transitive = { λ u v w first next. (next.0 ∙ first.0, looked_on u.seat v.seat w.seat first.1 next.1) };
+}
+
+/// Settles a branch that the worker has taken.
+pub(crate) fn settle<G: Gate>(
+    alloc: Global,
+    site: &Site<G>,
+    worker: u32,
+    me: Worker,
+    branch: u32,
+) -> Result<Worker, AllocError>
+    requires me { IsWorker site.now.problem.now site.now.board.now me }
+    requires branch { IsToSettle site.now.board.now me.seat branch }
+    ensures worker { IfOk result (IsWorker site.now.problem.now site.now.board.now) }
+    ensures settled { IfOk result (HasSettled branch me) }
+{
+    site.gate.at(worker, Moment::Taken(branch));
+    let boxed = site.cover.branch(alloc, branch)?;
+    let Worker { seat, finds } = me;
+    let mut watch = Watch {
+        board: site.board,
+        gate: site.gate,
+        worker,
+        branch,
+        seat,
+    };
+    let found = search(alloc, site.problem, boxed, &mut watch)?;
+    let Watch {
+        board: _,
+        gate: _,
+        worker: _,
+        branch: _,
+        seat,
+    } = watch;
+    let settled = Worker { seat, finds }.settled(site.board, branch, found)?;
+    site.gate.at(worker, Moment::Settled(branch));
+    Ok(settled)
+}

@@ -1,0 +1,132 @@
+// A worker: its seat at the board, and what it keeps of what it found.
+ghost use Rattle.std.specs.Prelude.{◌≡◌, ◌<◌, IfOk, OnOk, filter, nat_lt};
+ghost use Rattle.wf_pool.specs.Branches.{IsMapAt, AreLinesAt};
+ghost use Rattle.wf_search.specs.Found.{OnStopped};
+ghost use Rattle.wf_pool.specs.Work.{HasSettled, IsFoundAt, IsSeat, IsToSettle, StaysHonest, StaysHonestIf};
+
+use std::alloc::AllocError;
+use wf_board::{Board, BoardSeat};
+use wf_complex::Lines;
+use wf_search::Found;
+
+/// The map of a branch.
+#[derive(Drop)]
+pub(crate) struct MapAt {
+    pub(crate) branch: u32,
+    pub(crate) map: Vec<u8>,
+}
+
+/// The lines of a branch that has no map.
+#[derive(Drop)]
+pub(crate) struct LinesAt {
+    pub(crate) branch: u32,
+    pub(crate) lines: Lines,
+}
+
+/// What a worker keeps: the map of the least branch that it posted, and the lines of the branches that it refuted.
+#[derive(Drop)]
+pub(crate) struct Finds {
+    pub(crate) map: Option<MapAt>,
+    pub(crate) lines: Vec<LinesAt>,
+}
+
+#[derive(Drop)]
+pub(crate) struct Worker {
+    pub(crate) seat: BoardSeat,
+    pub(crate) finds: Finds,
+}
+
+impl Worker {
+    // Posts a branch that has a map, and keeps the map if no lower branch is posted.
+    pub(crate) fn post(&mut self, board: &Board, branch: u32, map: Vec<u8>)
+        requires seat { IsSeat board.now self.old.seat }
+        requires branch { IsToSettle board.now self.old.seat branch }
+        ensures seat { IsSeat board.now self.new.seat }
+        ensures settled { HasSettled branch self.old self.new }
+        ensures honest { StaysHonestIf (λ p. IsMapAt p branch map.items) self.old self.new }
+    {
+        if board.post(&mut self.seat, branch) == branch {
+            self.finds.map = Some(MapAt { branch, map });
+        }
+    }
+
+    // Drops the lines that nobody will ask for: those of branches that are not below the least posted one.
+    fn forget(&mut self)
+        ensures seat { self.new.seat ≡ self.old.seat }
+        ensures honest { StaysHonest self.old self.new }
+    {
+        keep_below(&mut self.finds.lines, self.seat.seen());
+    }
+
+    // Counts a branch that has no map, and keeps its lines if no lower branch is posted.
+    pub(crate) fn refute(
+        &mut self,
+        board: &Board,
+        branch: u32,
+        lines: Lines,
+    ) -> Result<(), AllocError>
+        requires seat { IsSeat board.now self.old.seat }
+        requires branch { IsToSettle board.now self.old.seat branch }
+        ensures seat { OnOk result (IsSeat board.now self.new.seat) }
+        ensures settled { OnOk result (HasSettled branch self.old self.new) }
+        ensures honest { OnOk result (StaysHonestIf (λ p. AreLinesAt p branch lines.items) self.old self.new) }
+    {
+        board.searched(&mut self.seat, branch);
+        if branch < self.seat.seen() {
+            self.finds.lines.push(LinesAt { branch, lines })?;
+        }
+        Ok(())
+    }
+
+    // Counts a branch that needs no search: a lower one is posted.
+    pub(crate) fn cut(&mut self, board: &Board, branch: u32)
+        requires seat { IsSeat board.now self.old.seat }
+        requires branch { IsToSettle board.now self.old.seat branch }
+        requires below { self.old.seat.seen < branch }
+        ensures seat { IsSeat board.now self.new.seat }
+        ensures settled { HasSettled branch self.old self.new }
+        ensures honest { StaysHonest self.old self.new }
+    {
+        board.cut(&mut self.seat, branch);
+    }
+
+    // Settles a branch by what a search of it found.
+    pub(crate) fn settled(
+        self,
+        board: &Board,
+        branch: u32,
+        found: Found,
+    ) -> Result<Worker, AllocError>
+        requires seat { IsSeat board.now self.seat }
+        requires branch { IsToSettle board.now self.seat branch }
+        requires stopped { OnStopped (self.seat.seen < branch) found }
+        ensures seat { IfOk result (λ w. IsSeat board.now w.seat) }
+        ensures settled { IfOk result (HasSettled branch self) }
+        ensures honest { IfOk result (StaysHonestIf (λ p. IsFoundAt p branch found) self) }
+    {
+        let mut me = self;
+        match found {
+            Found::Map(map) => {
+                me.post(board, branch, map);
+                me.forget();
+                Ok(me)
+            }
+            Found::Refuted(lines) => {
+                me.refute(board, branch, lines)?;
+                Ok(me)
+            }
+            Found::Stopped => {
+                me.cut(board, branch);
+                me.forget();
+                Ok(me)
+            }
+        }
+    }
+}
+
+// Keeps the lines of the branches below this one.
+fn keep_below(lines: &mut Vec<LinesAt>, branch: u32)
+    ensures { lines.new.items ≡ filter (λ l. nat_lt l.branch branch) lines.old.items }
+{
+    lines.retain(|at| at.branch < branch);
+}

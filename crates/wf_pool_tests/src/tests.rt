@@ -1,0 +1,6 @@
+mod boards;
+mod cores;
+mod handouts;
+mod holds;
+mod pools;
+mod tasks;

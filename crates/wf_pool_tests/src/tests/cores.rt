@@ -1,0 +1,80 @@
+// Lists of events with what they leave, worked out by hand.
+use std::test::Fail;
+use wf_core::{Core, CoreFault, Event, Illegal, Status};
+
+const TAKE_0_0: Event = Event::Take {
+    worker: 0,
+    branch: 0,
+};
+
+const TAKE_1_2: Event = Event::Take {
+    worker: 1,
+    branch: 2,
+};
+
+const POST_1_2: Event = Event::Post {
+    worker: 1,
+    branch: 2,
+};
+
+const LOOK_0: Event = Event::Look { worker: 0 };
+
+const POST_0_0: Event = Event::Post {
+    worker: 0,
+    branch: 0,
+};
+
+const CUT_0_0: Event = Event::Cut {
+    worker: 0,
+    branch: 0,
+};
+
+const TAKE_0_1: Event = Event::Take {
+    worker: 0,
+    branch: 1,
+};
+
+const CUT_0_1: Event = Event::Cut {
+    worker: 0,
+    branch: 1,
+};
+
+const TAKE_1_1: Event = Event::Take {
+    worker: 1,
+    branch: 1,
+};
+
+const LOOK_2: Event = Event::Look { worker: 2 };
+
+#[test]
+fn runs_a_legal_list(rt: HostRuntime) -> Result<(), Fail> {
+    let events = [
+        TAKE_0_0, TAKE_1_2, POST_1_2, LOOK_0, POST_0_0, TAKE_0_1, CUT_0_1,
+    ];
+    let core = Core::run(rt.alloc(), 3, 2, events.as_slice())?;
+    let statuses = [core.status(0), core.status(1), core.status(2)];
+    assert_eq!(rt; statuses, [Status::Posted, Status::Cut, Status::Posted]);
+    assert_eq!(rt; core.least(), 0);
+    assert_eq!(rt; [core.seen(0), core.seen(1)], [0, 2]);
+    Ok(())
+}
+
+#[test]
+fn refuses_at_the_first_illegal_event(rt: HostRuntime) {
+    let taken_twice = [
+        TAKE_0_0, TAKE_1_2, POST_1_2, LOOK_0, POST_0_0, TAKE_0_1, CUT_0_1, TAKE_1_1,
+    ];
+    let not_below = [
+        TAKE_0_0, TAKE_1_2, POST_1_2, LOOK_0, CUT_0_0, TAKE_0_1, CUT_0_1,
+    ];
+    let no_worker = [LOOK_2];
+    let table = [
+        (taken_twice.as_slice(), 7, Illegal::NotFree),
+        (not_below.as_slice(), 4, Illegal::NotBelow),
+        (no_worker.as_slice(), 0, Illegal::NoWorker),
+    ];
+    for (events, at, why) in table {
+        let least = Core::run(rt.alloc(), 3, 2, events).map(|core| core.least());
+        assert_eq!(rt; least, Err(CoreFault::Illegal { at, why }), "{why}");
+    }
+}

@@ -1,0 +1,136 @@
+// A gate that holds workers, and notes what they reach.
+use std::sync::atomic::AtomicU64;
+use std::sync::atomic::Ordering::SeqCst;
+use wf_pool::{Gate, Moment};
+
+// A worker that is held gives up after so many turns.
+const TURNS: u32 = 1_000_000_000;
+
+const BRANCHES: usize = 3;
+
+// Who is held, and until when.
+#[derive(Clone, Copy, PartialEq, Eq)]
+pub enum Rule {
+    // Nobody.
+    Nobody,
+    // The first worker that takes a branch, until another one has settled one after that.
+    FirstTaker,
+    // Whoever takes a branch above the first, until the first is settled.
+    LaterBranches,
+    // Whoever takes a turn at one of the first two branches, until both had one.
+    FirstTurns,
+}
+
+// A gate for a problem of three branches.
+#[derive(Drop)]
+pub struct Hold {
+    rule: Rule,
+    may_start: bool,
+    asked: AtomicU64,
+    taken: AtomicU64,
+    settled: AtomicU64,
+    turns: [AtomicU64; BRANCHES],
+    settlings: [AtomicU64; BRANCHES],
+    given_up: AtomicU64,
+}
+
+fn zeros() -> [AtomicU64; BRANCHES] {
+    [AtomicU64::new(0), AtomicU64::new(0), AtomicU64::new(0)]
+}
+
+// Adds one, where there is such a branch.
+fn count(counts: &[AtomicU64; BRANCHES], branch: u32) {
+    if let Some(n) = counts.get(branch as usize) {
+        n.fetch_add(1, SeqCst);
+    }
+}
+
+impl Hold {
+    pub fn new(rule: Rule) -> Hold {
+        Hold {
+            rule,
+            may_start: true,
+            asked: AtomicU64::new(0),
+            taken: AtomicU64::new(0),
+            settled: AtomicU64::new(0),
+            turns: zeros(),
+            settlings: zeros(),
+            given_up: AtomicU64::new(0),
+        }
+    }
+
+    // A gate by which no worker may start.
+    pub fn without_starts() -> Hold {
+        let mut hold = Hold::new(Rule::Nobody);
+        hold.may_start = false;
+        hold
+    }
+
+    // Whether a worker was held until it gave up.
+    pub fn has_given_up(&self) -> bool {
+        self.given_up.load(SeqCst) > 0
+    }
+
+    // How many workers were to be started.
+    pub fn starts(&self) -> u64 {
+        self.asked.load(SeqCst)
+    }
+
+    // Whether a turn was taken at this branch.
+    pub fn had_turn(&self, branch: usize) -> bool {
+        match self.turns.get(branch) {
+            Some(n) => n.load(SeqCst) > 0,
+            None => false,
+        }
+    }
+
+    // Whether a worker that was held when so many branches were settled may go on.
+    fn is_over(&self, settled: u64) -> bool {
+        match self.rule {
+            Rule::Nobody => true,
+            Rule::FirstTaker => self.settled.load(SeqCst) > settled,
+            Rule::LaterBranches => self.settlings[0].load(SeqCst) > 0,
+            Rule::FirstTurns => self.had_turn(0) && self.had_turn(1),
+        }
+    }
+
+    fn hold(&self) {
+        let settled = self.settled.load(SeqCst);
+        for _ in 0..TURNS {
+            if self.is_over(settled) {
+                return;
+            }
+        }
+        self.given_up.store(1, SeqCst);
+    }
+}
+
+impl Gate for Hold {
+    fn at(&self, _worker: u32, moment: Moment) {
+        match moment {
+            Moment::Taken(branch) => {
+                let is_first = self.taken.fetch_add(1, SeqCst) == 0;
+                if self.rule == Rule::FirstTaker && is_first
+                    || self.rule == Rule::LaterBranches && branch > 0
+                {
+                    self.hold();
+                }
+            }
+            Moment::Turn(branch) => {
+                count(&self.turns, branch);
+                if self.rule == Rule::FirstTurns && branch < 2 {
+                    self.hold();
+                }
+            }
+            Moment::Settled(branch) => {
+                count(&self.settlings, branch);
+                self.settled.fetch_add(1, SeqCst);
+            }
+        }
+    }
+
+    fn may_start(&self, _worker: u32) -> bool {
+        self.asked.fetch_add(1, SeqCst);
+        self.may_start
+    }
+}

@@ -1,0 +1,275 @@
+-- Outlines as slots.
+use Rattle.std.proofs.Common.{◌≡◌, ℕ, zero, suc, ◌+◌, ◌-◌, ◌<◌, ◌≤◌, ◌&&◌, ◌||◌, ◌==◌, nat_lt, true, false, List, [], ◌∷◌, ◌++◌, map, flat_map, length, get_or, drop, refl, sym, ap, ◌∙◌, subst, arith, Option, Some, None, ltb-true, Vec, ◌⊎◌, inl, inr}
+use Rattle.std.specs.List.{AllByRecursion, list_any}
+use Rattle.std.proofs.lemmas.List.{append_assoc, append-nil, length-map, map-append, drop_all}
+use Rattle.std.proofs.lemmas.Grind.{flat_map-append}
+use Rattle.std.proofs.lemmas.Bool.{or_right, lt-ltb, false_from_ne_true}
+use Rattle.wf_model.specs.Lists.{has}
+use Rattle.wf_model.specs.Problem.{Problem}
+use Rattle.wf_model.specs.Box.{Box, decided, branches_at, first_open}
+use Rattle.wf_model.specs.Refutation as refutation
+use Rattle.wf_model.specs.Closing.{closing}
+use Rattle.wf_model.specs.Laws.{IsBoxOf}
+use Rattle.wf_model.specs.Split.{is_open}
+use Rattle.wf_model.specs.Outline.{Item, written, left_out, box_left, closed_to, opened_at, opened, boxes_left_out, opened_if, opened_levels, filled}
+use Rattle.wf_model.proofs.Filling.{boxes_append}
+use Rattle.wf_model.proofs.Headline.{each_append}
+use Rattle.wf_model.proofs.Closed.{closed_branch}
+use Rattle.wf_complex.specs.Lines.{line_of}
+use Rattle.wf_complex.specs.declared.line.Line.{Line}
+use Rattle.wf_lane.specs.Sets.{values_in}
+use Rattle.wf_lane.proofs.SetLaws.{values_of_nothing}
+use Rattle.wf_search.specs.declared.outline.Slot.{Slot}
+use Rattle.wf_search.specs.Cover.{each_seen}
+use Rattle.wf_search.specs.Outline.{as_written, slot_seen, slots_filled, is_to_open}
+use Rattle.wf_search.proofs.SearchLemmas.{branches_are_boxes}
+
+-- ---- the boxes
+
+boxes_written : (ls : List refutation.Line) (items : List Item) → boxes_left_out (map written ls ++ items) ≡ boxes_left_out items
+boxes_written [] items = refl
+boxes_written (l ∷ ls) items = boxes_written ls items
+
+no_boxes : (ls : List refutation.Line) → boxes_left_out (map written ls) ≡ []
+no_boxes [] = refl
+no_boxes (l ∷ ls) = no_boxes ls
+
+boxes_slots : (slots : List Slot) → boxes_left_out (flat_map slot_seen slots) ≡ map (λ (s : Slot). s.boxed) slots
+boxes_slots [] = refl
+boxes_slots (s ∷ slots) =
+    boxes_append (slot_seen s) (flat_map slot_seen slots)
+    ∙ ap (λ bs. bs ++ boxes_left_out (flat_map slot_seen slots)) (boxes_written (map line_of s.before.items) (left_out s.boxed ∷ []))
+    ∙ ap (λ bs. s.boxed ∷ bs) (boxes_slots slots)
+
+pub boxes_seen : (slots : List Slot) (after : List Line) → boxes_left_out (flat_map slot_seen slots ++ as_written after) ≡ map (λ (s : Slot). s.boxed) slots
+boxes_seen slots after =
+    boxes_append (flat_map slot_seen slots) (as_written after)
+    ∙ ap (λ bs. boxes_left_out (flat_map slot_seen slots) ++ bs) (no_boxes (map line_of after))
+    ∙ append-nil (boxes_left_out (flat_map slot_seen slots))
+    ∙ boxes_slots slots
+
+pub number_seen : (slots : List Slot) (after : List Line) → length (boxes_left_out (flat_map slot_seen slots ++ as_written after)) ≡ length slots
+number_seen slots after = ap length (boxes_seen slots after) ∙ length-map slots (λ (s : Slot). s.boxed)
+
+pub box_at : (slots : List Slot) (i : ℕ) (s : Slot) → i < length slots → s ≡ get_or slots i s → s.boxed ≡ get_or (map (λ (s : Slot). s.boxed) slots) i []
+box_at [] i s low is = absurd (let none : ⊥ = omega (arith, low) in none)
+box_at (x ∷ slots) zero s low is = ap (λ (s : Slot). s.boxed) is
+box_at (x ∷ slots) (suc i) s low is = box_at slots i s (omega (arith, low)) is
+
+pub each_box_at : (P : Box → Type 0) (slots : List Slot) (i : ℕ) (s : Slot) → AllByRecursion P (map (λ (s : Slot). s.boxed) slots) → i < length slots → s ≡ get_or slots i s → P s.boxed
+each_box_at P [] i s all low is = absurd (let none : ⊥ = omega (arith, low) in none)
+each_box_at P (x ∷ slots) zero s all low is = subst (λ (t : Slot). P t.boxed) (sym is) all.0
+each_box_at P (x ∷ slots) (suc i) s all low is = each_box_at P slots i s all.1 (omega (arith, low)) is
+
+any_slot : (slots : List Slot) → list_any is_open (map (λ (s : Slot). s.boxed) slots) ≡ list_any (λ (s : Slot). is_open s.boxed) slots
+any_slot [] = refl
+any_slot (s ∷ slots) = ap (λ b. is_open s.boxed || b) (any_slot slots)
+
+pub to_open_seen : (slots : List Slot) (after : List Line) → is_to_open (flat_map slot_seen slots ++ as_written after) ≡ (nat_lt (length slots) 64 && list_any (λ (s : Slot). is_open s.boxed) slots)
+to_open_seen slots after =
+    ap (λ n. nat_lt n 64 && list_any is_open (boxes_left_out (flat_map slot_seen slots ++ as_written after))) (number_seen slots after)
+    ∙ ap (λ bs. nat_lt (length slots) 64 && list_any is_open bs) (boxes_seen slots after)
+    ∙ ap (λ b. nat_lt (length slots) 64 && b) (any_slot slots)
+
+-- ---- adding to an outline
+
+-- what stands at this place, and what follows
+pub drop_at : {X : Type 0} (xs : List X) (i : ℕ) (d : X) → i < length xs → drop i xs ≡ get_or xs i d ∷ drop (i + 1) xs
+drop_at [] i d low = absurd (let none : ⊥ = omega (arith, low) in none)
+drop_at (x ∷ xs) zero d low = refl
+drop_at (x ∷ xs) (suc i) d low = let e : suc i + 1 ≡ suc (i + 1) = omega arith in rw e (drop_at xs i d (omega (arith, low)))
+
+pub left_out_seen : (slots : List Slot) (s : Slot) (none : List Line) → none ≡ [] → flat_map slot_seen (slots ++ s ∷ []) ++ as_written none ≡ (flat_map slot_seen slots ++ as_written s.before.items) ++ left_out s.boxed ∷ []
+left_out_seen [] s none is = ap (λ ls. ((slot_seen s ++ []) ++ as_written ls)) is ∙ append-nil (slot_seen s ++ []) ∙ append-nil (slot_seen s)
+left_out_seen (x ∷ slots) s none is =
+    append_assoc (slot_seen x) (flat_map slot_seen (slots ++ s ∷ [])) (as_written none)
+    ∙ ap (λ items. slot_seen x ++ items) (left_out_seen slots s none is)
+    ∙ sym (append_assoc (slot_seen x) (flat_map slot_seen slots ++ as_written s.before.items) (left_out s.boxed ∷ []))
+    ∙ ap (λ items. items ++ left_out s.boxed ∷ []) (sym (append_assoc (slot_seen x) (flat_map slot_seen slots) (as_written s.before.items)))
+
+-- ---- filling
+
+filled_after : (ls : List refutation.Line) (items : List Item) (lists : List (List refutation.Line)) → filled (map written ls ++ items) lists ≡ ls ++ filled items lists
+filled_after [] items lists = refl
+filled_after (l ∷ ls) items lists = ap (λ ms. l ∷ ms) (filled_after ls items lists)
+
+pub filled_slot : (s : Slot) (slots : List Slot) (list : List refutation.Line) (lists : List (List refutation.Line)) → filled (flat_map slot_seen (s ∷ slots)) (list ∷ lists) ≡ map line_of s.before.items ++ (list ++ filled (flat_map slot_seen slots) lists)
+filled_slot s slots list lists =
+    ap (λ items. filled items (list ∷ lists)) (append_assoc (as_written s.before.items) (left_out s.boxed ∷ []) (flat_map slot_seen slots))
+    ∙ filled_after (map line_of s.before.items) (left_out s.boxed ∷ flat_map slot_seen slots) (list ∷ lists)
+
+filled_end : (slots : List Slot) (lists : List (List refutation.Line)) (after : List refutation.Line) → length lists ≡ length slots
+    → filled (flat_map slot_seen slots ++ map written after) lists ≡ filled (flat_map slot_seen slots) lists ++ after
+filled_end [] [] after same = ap (λ items. filled items []) (sym (append-nil (map written after))) ∙ filled_after after [] [] ∙ append-nil after
+filled_end [] (l ∷ lists) after same = absurd (let none : ⊥ = omega (arith, same) in none)
+filled_end (s ∷ slots) [] after same = absurd (let none : ⊥ = omega (arith, same) in none)
+filled_end (s ∷ slots) (list ∷ lists) after same =
+    ap (λ items. filled items (list ∷ lists)) (append_assoc (slot_seen s) (flat_map slot_seen slots) (map written after) ∙ append_assoc (as_written s.before.items) (left_out s.boxed ∷ []) (flat_map slot_seen slots ++ map written after))
+    ∙ filled_after (map line_of s.before.items) (left_out s.boxed ∷ (flat_map slot_seen slots ++ map written after)) (list ∷ lists)
+    ∙ ap (λ ms. map line_of s.before.items ++ (list ++ ms)) (filled_end slots lists after (omega (arith, same)))
+    ∙ ap (λ ms. map line_of s.before.items ++ ms) (sym (append_assoc list (filled (flat_map slot_seen slots) lists) after))
+    ∙ sym (append_assoc (map line_of s.before.items) (list ++ filled (flat_map slot_seen slots) lists) after)
+    ∙ ap (λ ms. ms ++ after) (sym (filled_slot s slots list lists))
+
+pub filled_seen : (slots : List Slot) (lists : List (List refutation.Line)) (after : List Line) → length lists ≡ length slots
+    → filled (flat_map slot_seen slots ++ as_written after) lists ≡ filled (flat_map slot_seen slots) lists ++ map line_of after
+filled_seen slots lists after same = filled_end slots lists (map line_of after) same
+
+-- ---- opening
+
+module _ (p : Problem) where
+  open_written : (ls : List refutation.Line) (items : List Item) → flat_map (opened p) (map written ls ++ items) ≡ map written ls ++ flat_map (opened p) items
+  open_written [] items = refl
+  open_written (l ∷ ls) items = ap (λ is. written l ∷ is) (open_written ls items)
+
+  pub open_slot : (s : Slot) (items : List Item) → flat_map (opened p) (slot_seen s ++ items) ≡ as_written s.before.items ++ (opened p (left_out s.boxed) ++ flat_map (opened p) items)
+  open_slot s items =
+      ap (flat_map (opened p)) (append_assoc (as_written s.before.items) (left_out s.boxed ∷ []) items)
+      ∙ open_written (map line_of s.before.items) (left_out s.boxed ∷ items)
+
+  pub open_end : (after : List Line) → flat_map (opened p) (as_written after) ≡ as_written after
+  open_end after =
+      ap (flat_map (opened p)) (sym (append-nil (as_written after))) ∙ open_written (map line_of after) [] ∙ append-nil (as_written after)
+
+  pub opened_none : (box : Box) → first_open box ≡ None → opened p (left_out box) ≡ left_out box ∷ []
+  opened_none box is = ap (λ o. opened_at o p box) is
+
+  pub opened_some : (box : Box) (v : ℕ) → first_open box ≡ Some v → opened p (left_out box) ≡ written (refutation.branch v) ∷ flat_map (λ b. closed_to (closing p b)) (branches_at box v)
+  opened_some box v is = ap (λ o. opened_at o p box) is
+
+  -- a further level, or none
+  pub level_more : (n : ℕ) (items : List Item) → 0 < n → is_to_open items ≡ true → opened_levels n p items ≡ opened_levels (n - 1) p (flat_map (opened p) items)
+  level_more zero items some is = absurd (let none : ⊥ = omega (arith, some) in none)
+  level_more (suc n) items some is = let e : suc n - 1 ≡ n = omega arith in ap (λ b. opened_if b p items (opened_levels n p)) is ∙ ap (λ k. opened_levels k p (flat_map (opened p) items)) (sym e)
+
+  pub level_last : (n : ℕ) (items : List Item) → is_to_open items ≡ false → opened_levels n p items ≡ items
+  level_last zero items is = refl
+  level_last (suc n) items is = ap (λ b. opened_if b p items (opened_levels n p)) is
+
+  pub level_none : (n : ℕ) (items : List Item) → n ≡ 0 → opened_levels n p items ≡ items
+  level_none zero items is = refl
+  level_none (suc n) items is = absurd (let none : ⊥ = omega (arith, is) in none)
+
+  -- ---- the boxes are the problem's
+
+  closing_boxes : (box : Box) → IsBoxOf p box → (items : List Item) → AllByRecursion (IsBoxOf p) (boxes_left_out items) → AllByRecursion (IsBoxOf p) (boxes_left_out (closed_to (closing p box) ++ items))
+  closing_boxes box is items all = subst (AllByRecursion (IsBoxOf p)) (sym (boxes_append (closed_to (closing p box)) items)) (each_append (IsBoxOf p) (boxes_left_out (closed_to (closing p box))) (boxes_left_out items) (pub_closing box is) all)
+    where
+      pub_closing : (box : Box) → IsBoxOf p box → AllByRecursion (IsBoxOf p) (boxes_left_out (closed_to (closing p box)))
+      pub_closing box is = subst (AllByRecursion (IsBoxOf p)) (sym (boxes_written (closing p box).lines (box_left (closing p box).left))) (by_left (closing p box).left refl)
+        where
+          by_left : (o : Option Box) → (closing p box).left ≡ o → AllByRecursion (IsBoxOf p) (boxes_left_out (box_left o))
+          by_left None left = tt
+          by_left (Some b) left = ((closed_branch p box b is left).is_box, tt)
+
+  pub root_boxes : (box : Box) → IsBoxOf p box → (items : List Item) → items ≡ closed_to (closing p box) → AllByRecursion (IsBoxOf p) (boxes_left_out items)
+  root_boxes box is items same = subst (λ (is : List Item). AllByRecursion (IsBoxOf p) (boxes_left_out is)) (append-nil (closed_to (closing p box)) ∙ sym same) (closing_boxes box is [] tt)
+
+  each_closed : (boxes : List Box) → AllByRecursion (IsBoxOf p) boxes → AllByRecursion (IsBoxOf p) (boxes_left_out (flat_map (λ b. closed_to (closing p b)) boxes))
+  each_closed [] all = tt
+  each_closed (box ∷ boxes) all = closing_boxes box all.0 (flat_map (λ b. closed_to (closing p b)) boxes) (each_closed boxes all.1)
+
+  pub level_boxes : (items : List Item) → AllByRecursion (IsBoxOf p) (boxes_left_out items) → AllByRecursion (IsBoxOf p) (boxes_left_out (flat_map (opened p) items))
+  level_boxes [] all = tt
+  level_boxes (written l ∷ items) all = level_boxes items all
+  level_boxes (left_out box ∷ items) all =
+      subst (AllByRecursion (IsBoxOf p)) (sym (boxes_append (opened p (left_out box)) (flat_map (opened p) items)))
+      (each_append (IsBoxOf p) (boxes_left_out (opened p (left_out box))) (boxes_left_out (flat_map (opened p) items)) (by_open (first_open box)) (level_boxes items all.1))
+    where
+      by_open : (o : Option ℕ) → AllByRecursion (IsBoxOf p) (boxes_left_out (opened_at o p box))
+      by_open None = (all.0, tt)
+      by_open (Some v) = each_closed (branches_at box v) (branches_are_boxes p box v all.0)
+
+  -- ---- the branches of a point, one after another
+
+  abbrev pub branches_closed : Box → ℕ → List ℕ → List Item
+  branches_closed box v values = flat_map (λ b. closed_to (closing p b)) (map (decided box v) values)
+
+  pub one_branch : (old new whole : List Item) (box branch : Box) (v value : ℕ) (values more : List ℕ) → values ≡ value ∷ more → branch ≡ decided box v value → new ≡ old ++ closed_to (closing p branch)
+      → old ++ branches_closed box v values ≡ whole → new ++ branches_closed box v more ≡ whole
+  one_branch old new whole box branch v value values more split is grown same =
+      ap (λ items. items ++ branches_closed box v more) (grown ∙ ap (λ b. old ++ closed_to (closing p b)) is)
+      ∙ append_assoc old (closed_to (closing p (decided box v value))) (branches_closed box v more)
+      ∙ ap (λ vs. old ++ branches_closed box v vs) (sym split)
+      ∙ same
+
+pub others_there : (set : List ℕ) (value : ℕ) (values more : List ℕ) → values ≡ value ∷ more → ((a : ℕ) → has values a ≡ true → has set a ≡ true) → (a : ℕ) → has more a ≡ true → has set a ≡ true
+others_there set value values more split there a is = there a (subst (λ vs. has vs a ≡ true) (sym split) (or_right (value == a) (has more a) is))
+
+pub first_there : (set : List ℕ) (value : ℕ) (values more : List ℕ) → values ≡ value ∷ more → ((a : ℕ) → has values a ≡ true → has set a ≡ true) → has set value ≡ true
+first_there set value values more split there = there value (subst (λ vs. has vs value ≡ true) (sym split) (grind (arith)))
+
+-- ---- the loops' steps
+
+pub few_enough : (slots : List Slot) (after : List Line) (items : List Item) (n : ℕ) → n ≡ length slots → flat_map slot_seen slots ++ as_written after ≡ items → n < 64 → list_any (λ (s : Slot). is_open s.boxed) slots ≡ is_to_open items
+few_enough slots after items n same seen few =
+    sym (ap (λ b. b && list_any (λ (s : Slot). is_open s.boxed) slots) (lt-ltb (length slots) 64 (omega (arith, same, few))))
+    ∙ sym (to_open_seen slots after) ∙ ap is_to_open seen
+
+pub enough : (slots : List Slot) (after : List Line) (items : List Item) (n : ℕ) → n ≡ length slots → flat_map slot_seen slots ++ as_written after ≡ items → 64 ≤ n → nat_lt n 64 ≡ is_to_open items
+enough slots after items n same seen many =
+    let no : (m : ℕ) → 64 ≤ m → nat_lt m 64 ≡ false = λ m h. false_from_ne_true (nat_lt m 64) (λ yes'. let less = ltb-true m 64 yes' in let none : ⊥ = omega (arith, less, h) in none) in
+    no n many
+    ∙ sym (ap (λ b. b && list_any (λ (s : Slot). is_open s.boxed) slots) (no (length slots) (omega (arith, same, many))))
+    ∙ sym (to_open_seen slots after) ∙ ap is_to_open seen
+
+pub fill_step : {A : Type 0} (slots more : List Slot) (lists others : List (Vec Line A)) (s : Slot) (list : Vec Line A) (old mid new : List Line) (whole : List refutation.Line)
+    → slots ≡ s ∷ more → lists ≡ list ∷ others → mid ≡ old ++ s.before.items → new ≡ mid ++ list.items
+    → map line_of old ++ slots_filled slots lists ≡ whole → map line_of new ++ slots_filled more others ≡ whole
+fill_step slots more lists others s list old mid new whole here there first then all =
+    let rest = slots_filled more others in
+    ap (λ ls. ls ++ rest)
+    (ap (map line_of) (then ∙ ap (λ ls. ls ++ list.items) first) ∙ map-append line_of (old ++ s.before.items) list.items ∙ ap (λ ls. ls ++ map line_of list.items) (map-append line_of old s.before.items))
+    ∙ append_assoc (map line_of old ++ map line_of s.before.items) (map line_of list.items) rest
+    ∙ append_assoc (map line_of old) (map line_of s.before.items) (map line_of list.items ++ rest)
+    ∙ ap (λ ls. map line_of old ++ ls) (sym (filled_slot s more (map line_of list.items) (each_seen others)))
+    ∙ ap (λ ss. map line_of old ++ slots_filled ss (list ∷ others)) (sym here)
+    ∙ ap (λ ls. map line_of old ++ slots_filled slots ls) (sym there)
+    ∙ all
+
+pub opened_step : (p : Problem) (slots more : List Slot) (s : Slot) (old mid new whole : List Item) (lines : List Line)
+    → slots ≡ s ∷ more → lines ≡ s.before.items → mid ≡ old ++ as_written lines → new ≡ mid ++ opened p (left_out s.boxed)
+    → old ++ flat_map (opened p) (flat_map slot_seen slots) ≡ whole → new ++ flat_map (opened p) (flat_map slot_seen more) ≡ whole
+opened_step p slots more s old mid new whole lines here same first then all =
+    let rest = flat_map slot_seen more in
+    ap (λ items. items ++ flat_map (opened p) rest) (then ∙ ap (λ items. items ++ opened p (left_out s.boxed)) (first ∙ ap (λ ls. old ++ as_written ls) same))
+    ∙ append_assoc (old ++ as_written s.before.items) (opened p (left_out s.boxed)) (flat_map (opened p) rest)
+    ∙ append_assoc old (as_written s.before.items) (opened p (left_out s.boxed) ++ flat_map (opened p) rest)
+    ∙ ap (λ items. old ++ items) (sym (open_slot p s rest))
+    ∙ ap (λ ss. old ++ flat_map (opened p) (flat_map slot_seen ss)) (sym here)
+    ∙ all
+
+pub opened_last : (p : Problem) (slots none : List Slot) (after lines : List Line) (old new items : List Item) → none ≡ [] → lines ≡ after → new ≡ old ++ as_written lines
+    → old ++ flat_map (opened p) (flat_map slot_seen none) ≡ flat_map (opened p) (flat_map slot_seen slots) → flat_map slot_seen slots ++ as_written after ≡ items → new ≡ flat_map (opened p) items
+opened_last p slots none after lines old new items past same grown all seen =
+    grown ∙ ap (λ ls. old ++ as_written ls) same
+    ∙ ap (λ is. is ++ as_written after)
+    (sym (append-nil old) ∙ ap (λ ss. old ++ flat_map (opened p) (flat_map slot_seen ss)) (sym past) ∙ all)
+    ∙ ap (λ is. flat_map (opened p) (flat_map slot_seen slots) ++ is) (sym (open_end p after))
+    ∙ sym (flat_map-append (opened p) (flat_map slot_seen slots) (as_written after))
+    ∙ ap (flat_map (opened p)) seen
+
+pub boxes_of_slots : (P : Box → Type 0) (slots : List Slot) (after : List Line) (items : List Item) → flat_map slot_seen slots ++ as_written after ≡ items → AllByRecursion P (boxes_left_out items) → AllByRecursion P (map (λ (s : Slot). s.boxed) slots)
+boxes_of_slots P slots after items seen all = subst (AllByRecursion P) (ap boxes_left_out (sym seen) ∙ boxes_seen slots after) all
+
+pub no_more_branches : (p : Problem) (old whole : List Item) (box : Box) (v left : ℕ) → left ≡ 0 → old ++ branches_closed p box v (values_in left) ≡ whole → old ≡ whole
+no_more_branches p old whole box v left none all = sym (append-nil old) ∙ ap (λ vs. old ++ branches_closed p box v vs) (sym (ap values_in none ∙ values_of_nothing)) ∙ all
+
+pub fill_last : {A : Type 0} (slots : List Slot) (after : List Line) (lists : List (Vec Line A)) (start mid new more : List Line) (items : List Item) → start ≡ [] → length lists ≡ length slots
+    → map line_of mid ≡ map line_of start ++ slots_filled slots lists → new ≡ mid ++ more → more ≡ after → flat_map slot_seen slots ++ as_written after ≡ items → map line_of new ≡ filled items (each_seen lists)
+fill_last slots after lists start mid new more items none long so_far grown same seen =
+    ap (map line_of) (grown ∙ ap (λ ls. mid ++ ls) same) ∙ map-append line_of mid after
+    ∙ ap (λ ls. ls ++ map line_of after) (so_far ∙ ap (λ ls. map line_of ls ++ slots_filled slots lists) none)
+    ∙ sym (filled_seen slots (each_seen lists) after (length-map lists (λ list. map line_of list.items) ∙ long))
+    ∙ ap (λ is. filled is (each_seen lists)) seen
+
+-- no slot is left, and no list
+pub fill_end : {A : Type 0} (slots : List Slot) (lists : List (Vec Line A)) (lines whole : List refutation.Line) → length lists ≡ length slots → (slots ≡ []) ⊎ (lists ≡ []) → lines ++ slots_filled slots lists ≡ whole → lines ≡ whole
+fill_end [] [] lines whole same ends all = sym (append-nil lines) ∙ all
+fill_end [] (l ∷ lists) lines whole same ends all = absurd (let none : ⊥ = omega (arith, same) in none)
+fill_end (s ∷ slots) [] lines whole same ends all = absurd (let none : ⊥ = omega (arith, same) in none)
+fill_end (s ∷ slots) (l ∷ lists) lines whole same ends all = elim ends [ inl e ↦ absurd (let none : ⊥ = cc in none) | inr e ↦ absurd (let none : ⊥ = cc in none) ]
+
+pub none_of : {X : Type 0} (xs : List X) → length xs ≡ 0 → xs ≡ []
+none_of [] none = refl
+none_of (x ∷ xs) none = absurd (let bad : ⊥ = omega (arith, none) in bad)

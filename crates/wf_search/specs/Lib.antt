@@ -1,0 +1,4 @@
+pub mod Pending
+pub mod Found
+pub mod Outline
+pub mod Cover

@@ -1,0 +1,40 @@
+-- The outline of a problem, as the code keeps it.
+use Rattle.std.specs.Prelude.{◌≡◌, ◌&&◌, ℕ, nat_lt, Bool, List, [], ◌∷◌, ◌++◌, map, length, flat_map, Vec}
+use Rattle.std.specs.List.{list_any}
+use Rattle.wf_model.specs.Problem.{Problem}
+use Rattle.wf_model.specs.Box.{Box, branches_at}
+use Rattle.wf_model.specs.Refutation as refutation
+use Rattle.wf_model.specs.Split.{is_open}
+use Rattle.wf_model.specs.Outline.{Item, written, left_out, boxes_left_out, closed_each, filled}
+use Rattle.wf_complex.specs.Lines.{line_of}
+use Rattle.wf_complex.specs.declared.line.Line.{Line}
+use Rattle.wf_search.specs.Cover.{each_seen}
+use Rattle.wf_search.specs.declared.outline.Slot.{Slot}
+use Rattle.wf_search.specs.declared.outline.Outline.TheInside.{Inside}
+
+-- lines as they are written
+abbrev pub as_written : List Line → List Item
+as_written lines = map written (map line_of lines)
+
+-- the lines before a box, and the box in the place of its own
+abbrev pub slot_seen : Slot → List Item
+slot_seen s = as_written s.before.items ++ left_out s.boxed ∷ []
+
+abbrev pub outline_seen : Inside → List Item
+outline_seen o = flat_map slot_seen o.slots.items ++ as_written o.after.items
+
+-- whether a further level is opened
+abbrev pub is_to_open : List Item → Bool
+is_to_open items = nat_lt (length (boxes_left_out items)) 64 && list_any is_open (boxes_left_out items)
+
+-- the closed branches of a box at a point
+abbrev pub branches_closed : Problem → Box → ℕ → List Item
+branches_closed p box v = closed_each p (branches_at box v)
+
+-- the lines before each box, and those of the lists in the places of the boxes
+abbrev pub slots_filled : {A : Type 0} → List Slot → List (Vec Line A) → List refutation.Line
+slots_filled slots lists = filled (flat_map slot_seen slots) (each_seen lists)
+
+-- the new lines are the old ones and these
+abbrev pub Adds : List Line → List Line → List refutation.Line → Type 0
+Adds old new added = map line_of new ≡ map line_of old ++ added

@@ -1,0 +1,20 @@
+//! The canonical search of one box, and the split of a problem's root into branches.
+//!
+//! - [`search`]: the least decision map in a box, or the lines of a refutation. A [`Stop`] can end it.
+//! - [`split`]: the branches of a problem, in order, as a [`Cover`], which makes one refutation of the root from those
+//!   of its branches.
+//!
+//! A turn of the search closes a box, and goes on at the first point that has two candidates or more. Memory is taken
+//! only where the search goes deeper than before, one box a level, and for lines.
+#![tactic(auto)]
+
+mod cover;
+mod outline;
+mod pending;
+mod searching;
+mod stop;
+mod values;
+
+pub use cover::{Cover, split};
+pub use searching::{Found, search};
+pub use stop::{Never, Stop};

@@ -1,0 +1,204 @@
+//! The lines that are written while the root is cut into branches.
+
+ghost use Rattle.std.specs.Prelude.{◌≡◌, ◌<◌, ◌∷◌, ◌++◌, [], length, flat_map, IfOk, OnOk};
+ghost use Rattle.std.specs.List.{AllByRecursion, list_any};
+ghost use Rattle.wf_model.specs.Problem.{Problem};
+ghost use Rattle.wf_model.specs.Closing.{closing};
+ghost use Rattle.wf_model.specs.Laws.{IsBoxOf};
+ghost use Rattle.wf_model.specs.Outline.{boxes_left_out, closed_to, left_out, opened, written};
+ghost use Rattle.wf_model.specs.Split.{is_open};
+ghost use Rattle.wf_complex.specs.Lines.{line_of};
+ghost use Rattle.wf_search.specs.Cover.{IsFilled, branch_at};
+ghost use Rattle.wf_search.specs.Outline.{Adds, as_written, branches_closed, is_to_open, slots_filled};
+
+use crate::values::split;
+use std::alloc::{AllocError, Global};
+use std::marker::Model;
+use std::mem;
+use wf_box::{Box0, Closed, Problem, close};
+use wf_complex::{Line, Lines};
+
+/// A box in the place of the lines that refute it, and the lines that come before.
+#[derive(Drop)]
+struct Slot {
+    before: Lines,
+    boxed: Box0,
+}
+
+/// Lines, with boxes in the places of the lines that refute them.
+#[derive(Drop)]
+pub(crate) struct Outline {
+    slots: Vec<Slot>,
+    // the lines past the last box
+    after: Lines,
+}
+
+impl Model for Outline {
+    ghost use Rattle.std.specs.Prelude.{List};
+    ghost use Rattle.wf_model.specs.Outline.{Item};
+
+    ghost Value = { List Item };
+
+    ghost use Rattle.wf_search.specs.Outline.{outline_seen};
+
+    ghost view = { outline_seen };
+}
+
+impl Outline {
+    /// No line and no box.
+    pub(crate) fn new(alloc: Global) -> Outline
+        ensures { result ≡ [] }
+    {
+        Outline {
+            slots: Vec::new(alloc),
+            after: Vec::new(alloc),
+        }
+    }
+
+    /// How many boxes it has.
+    pub(crate) fn len(&self) -> usize
+        ensures { result ≡ length (boxes_left_out self.now) }
+    {
+        self.slots.len()
+    }
+
+    /// A copy of the box of this number.
+    pub(crate) fn copy_box(&self, alloc: Global, number: usize) -> Result<Box0, AllocError>
+        requires { number < length (boxes_left_out self.now) }
+        ensures { IfOk result (λ boxed. boxed ≡ branch_at self.now number) }
+    {
+        self.slots[number].boxed.copy(alloc)
+    }
+
+    /// Whether there are too few boxes, and one of them is open.
+    pub(crate) fn is_to_open(&self) -> bool
+        ensures { result ≡ is_to_open self.now }
+    {
+        self.slots.len() < 64 && has_open(&self.slots)
+    }
+
+    /// The lines with those of the lists in the places of the boxes.
+    pub(crate) fn filled(&self, alloc: Global, lists: Vec<Lines>) -> Result<Lines, AllocError>
+        requires { length lists.items ≡ length (boxes_left_out self.now) }
+        ensures { IfOk result (IsFilled self.now lists.items) }
+    {
+        let mut lines = Vec::new(alloc);
+        fill_slots(&self.slots, lists, &mut lines)?;
+        lines.extend_from_slice(&self.after)?;
+        Ok(lines)
+    }
+
+    /// Writes a line.
+    fn write(&mut self, line: Line) -> Result<(), AllocError>
+        ensures { OnOk result (self.new ≡ self.old ++ written (line_of line) ∷ []) }
+    {
+        self.after.push(line)?;
+        Ok(())
+    }
+
+    /// Writes some lines.
+    fn write_all(&mut self, lines: &[Line]) -> Result<(), AllocError>
+        ensures { OnOk result (self.new ≡ self.old ++ as_written lines.now) }
+    {
+        self.after.extend_from_slice(lines)?;
+        Ok(())
+    }
+
+    /// Leaves out the lines that refute a box.
+    fn leave_out(&mut self, alloc: Global, boxed: Box0) -> Result<(), AllocError>
+        ensures { OnOk result (self.new ≡ self.old ++ left_out boxed ∷ []) }
+    {
+        let before = mem::replace(&mut self.after, Vec::new(alloc));
+        self.slots.push(Slot { before, boxed })?;
+        Ok(())
+    }
+
+    /// Writes the lines of closing a box, and leaves out those that refute what it leaves.
+    pub(crate) fn close(
+        &mut self,
+        alloc: Global,
+        problem: &Problem,
+        boxed: Box0,
+    ) -> Result<(), AllocError>
+        requires { IsBoxOf problem.now boxed }
+        ensures { OnOk result (self.new ≡ self.old ++ closed_to (closing problem.now boxed)) }
+    {
+        let mut boxed = boxed;
+        match close(alloc, problem, &mut boxed, &mut self.after)? {
+            Closed::Empty(_) => Ok(()),
+            Closed::Open { .. } => self.leave_out(alloc, boxed),
+        }
+    }
+
+    /// The same for each branch of a box at a point.
+    fn close_branches(
+        &mut self,
+        alloc: Global,
+        problem: &Problem,
+        boxed: &Box0,
+        point: u32,
+    ) -> Result<(), AllocError>
+        requires boxed { IsBoxOf problem.now boxed.now }
+        requires point { point < length boxed.now }
+        ensures { OnOk result (self.new ≡ self.old ++ branches_closed problem.now boxed.now point) }
+    {
+        let mut left = boxed.candidates(point);
+        'values: while left != 0 {
+            let (value, others) = split(left);
+            left = others;
+            let mut branch = boxed.copy(alloc)?;
+            branch.set(point, value);
+            self.close(alloc, problem, branch)?;
+        }
+        Ok(())
+    }
+
+    /// Writes the branching of a closed box and the lines of closing its branches; where it has no open point, the lines
+    /// that refute it are left out.
+    fn open(&mut self, alloc: Global, problem: &Problem, boxed: Box0) -> Result<(), AllocError>
+        requires { IsBoxOf problem.now boxed }
+        ensures { OnOk result (self.new ≡ self.old ++ opened problem.now (left_out boxed)) }
+    {
+        match boxed.first_open() {
+            None => self.leave_out(alloc, boxed),
+            Some(point) => {
+                self.write(Line::B { point })?;
+                self.close_branches(alloc, problem, &boxed, point)
+            }
+        }
+    }
+
+    /// Each open box gives way to its branches, and the others stay.
+    pub(crate) fn opened(self, alloc: Global, problem: &Problem) -> Result<Outline, AllocError>
+        requires { AllByRecursion (IsBoxOf problem.now) (boxes_left_out self) }
+        ensures { IfOk result (λ outline. outline ≡ flat_map (opened problem.now) self) }
+    {
+        let Outline { slots, after } = self;
+        let mut outline = Outline::new(alloc);
+        for slot in slots {
+            outline.write_all(&slot.before)?;
+            outline.open(alloc, problem, slot.boxed)?;
+        }
+        outline.write_all(&after)?;
+        Ok(outline)
+    }
+}
+
+/// Whether one of the boxes is open.
+fn has_open(slots: &[Slot]) -> bool
+    ensures { result ≡ list_any (λ slot. is_open slot.boxed) slots.now }
+{
+    slots.iter().any(|slot| slot.boxed.first_open().is_some())
+}
+
+/// Adds the lines before each box and those of its list, which is given back then.
+fn fill_slots(slots: &[Slot], lists: Vec<Lines>, lines: &mut Lines) -> Result<(), AllocError>
+    requires { length lists.items ≡ length slots.now }
+    ensures { OnOk result (Adds lines.old.items lines.new.items (slots_filled slots.now lists.items)) }
+{
+    for (slot, list) in slots.iter().zip(lists) {
+        lines.extend_from_slice(&slot.before)?;
+        lines.extend_from_slice(&list)?;
+    }
+    Ok(())
+}
