@@ -24,14 +24,11 @@ use wf_complex::{Lines, Protocol};
 use wf_core::Account;
 use wf_handout::Counter;
 use wf_io::{Sink, Source};
-use wf_pool::{Answer, Open, solve, solve_one};
+use wf_pool::{Answer, MAX_WORKERS, Open, solve, solve_one};
 use wf_task::Task;
 
 /// How branches are handed to workers.
 type Branches = Counter;
-
-/// How many workers a run may have at most.
-pub const MOST_WORKERS: u32 = 64;
 
 /// Reads a task to the reader's end and writes the report about it for some rounds of iterated immediate snapshot: its
 /// least decision map; or that it has none, with the lines of a refutation, and then no function on the views is a
@@ -66,7 +63,7 @@ pub fn run_solve<T: Threads + Sync, R: Read, W: Write>(
     verdict: bool,
 ) -> Result<(Outcome, Account), RunFault>
     requires ends { CanCount source.old sink.old }
-    requires workers { (0 < workers) × (workers ≤ MOST_WORKERS) }
+    requires workers { (0 < workers) × (workers ≤ MAX_WORKERS) }
     ensures solves { Solves rounds verdict source.old source.new sink.old sink.new result }
     ensures in_order { workers ≡ 1 → SearchesInOrder result }
 {
@@ -102,7 +99,7 @@ fn solve_source<T: Threads + Sync, R: Read>(
     verdict: bool,
 ) -> Result<((Outcome, Account), Vec<u8>), RunFault>
     requires source { CanRead source.old }
-    requires workers { (0 < workers) × (workers ≤ MOST_WORKERS) }
+    requires workers { (0 < workers) × (workers ≤ MAX_WORKERS) }
     ensures { Asks (IsSolved rounds verdict) rounds source.old source.new (answered result) }
 {
     let task = read_task(alloc, source)?;
@@ -134,7 +131,7 @@ fn solve_task<T: Threads + Sync>(
     workers: u32,
     verdict: bool,
 ) -> Result<((Outcome, Account), Vec<u8>), RunFault>
-    requires { (0 < workers) × (workers ≤ MOST_WORKERS) }
+    requires { (0 < workers) × (workers ≤ MAX_WORKERS) }
     ensures { Answers (IsSolved rounds verdict) rounds task.now (answered result) }
 {
     let protocol = Protocol::build(alloc, task, rounds)?;
@@ -155,7 +152,8 @@ fn with_text(
     requires built { IsProtocol task.now protocol.now.rounds protocol.now }
     requires answer { IsAnswer (problem_of task.now protocol.now.rounds) answer }
     requires account { HasAccount (problem_of task.now protocol.now.rounds) answer account }
-    ensures solved { IfOk result (λ r. IsSolved protocol.now.rounds verdict task.now r.0 r.1.items) }
+    ensures solved { IfOk result (λ r.
+        IsSolved protocol.now.rounds verdict task.now r.0 r.1.items) }
     ensures in_order { pool.IsInOrder answer account → IfOk result (λ r. IsInOrder r.0) }
 {
     let _inputs = task.inputs();

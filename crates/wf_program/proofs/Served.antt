@@ -127,7 +127,7 @@ served source source' sink sink' errors errors' asked (Ok d) status does (is, to
       failures = h.failures ∙ ap (λ n. (source.failures + sink.failures) + n) (sym none);
       taken = h.taken;
       quiet = λ few. (d.account, told);
-      unwritten = λ bad. absurd (elim bad [ inl two ↦ omega arith | inr three ↦ omega arith ])
+      unwritten = λ bad. absurd (elim bad [ inl two ↦ omega arith | inr three ↦ omega arith ]);
     }
 served source source' sink sink' errors errors' asked (Err e) status does (is, told) =
     let h = did source source' sink sink' asked (Err e) does in

@@ -27,6 +27,9 @@ impl fmt::Display for AccountLine {
             cut,
             ..
         } = self.0;
-        writeln!(f, "account branches {branches} searched {searched} cut {cut}")
+        writeln!(
+            f,
+            "account branches {branches} searched {searched} cut {cut}"
+        )
     }
 }

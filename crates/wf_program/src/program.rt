@@ -56,7 +56,7 @@ fn do_job<T: Threads + Sync, R: Read, W: Write>(
     job: &Job,
 ) -> Result<Done, Refusal>
     requires ends { CanCount source.old sink.old }
-    requires today { IsWithinLimits job.now }
+    requires limits { IsWithinLimits job.now }
     ensures { Does job.now source.old source.new sink.old sink.new result }
 {
     match job {
@@ -74,10 +74,7 @@ fn do_job<T: Threads + Sync, R: Read, W: Write>(
 }
 
 /// What is answered after a search, and whether its account is told.
-fn after_solving(
-    found: Result<(Outcome, Account), RunFault>,
-    tells: bool,
-) -> Result<Done, Refusal>
+fn after_solving(found: Result<(Outcome, Account), RunFault>, tells: bool) -> Result<Done, Refusal>
     ensures { result ≡ solved tells found }
 {
     match found {

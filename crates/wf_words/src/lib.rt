@@ -8,7 +8,7 @@ use clap::error::ErrorKind;
 use clap::{Arg, ArgAction, ArgMatches, Command, value_parser};
 use std::alloc::{AllocError, Global};
 use std::io;
-use wf_engine::MOST_WORKERS;
+use wf_engine::MAX_WORKERS;
 
 /// A command, with its options.
 #[derive(Debug, Drop)]
@@ -17,7 +17,7 @@ pub enum Job {
     Solve {
         /// How many rounds.
         rounds: u32,
-        /// How many workers, from 1 to [`MOST_WORKERS`].
+        /// How many workers, from 1 to [`MAX_WORKERS`].
         workers: u32,
         /// Whether the lines of a refutation are left out.
         verdict: bool,
@@ -38,7 +38,7 @@ pub enum WordsFault {
     Clap(clap::Error),
     /// The words are read but ask for what this program refuses, or one of them is no text.
     Words,
-    /// Want of memory.
+    /// Memory ran out.
     OutOfMemory,
 }
 
@@ -54,6 +54,11 @@ impl From<AllocError> for WordsFault {
 }
 
 impl From<io::Error> for WordsFault {
+    ghost use Rattle.std.specs.IoError.{error_kind};
+    ghost use Rattle.wf_words.specs.Arguments.{IsFaultOf};
+
+    ghost from_gives = { λ x e. IsFaultOf (error_kind x) e };
+
     fn from(error: io::Error) -> WordsFault {
         match error.kind() {
             io::ErrorKind::OutOfMemory => WordsFault::OutOfMemory,
@@ -80,7 +85,7 @@ fn flag<'a>(alloc: Global, name: &'a str, help: &'a str) -> Arg<'a> {
 
 fn solve_command<'a>(alloc: Global) -> Result<Command<'a>, AllocError> {
     let workers = number(alloc, "workers", "How many workers share the search")
-        .value_parser(value_parser!(u32).range(1..=MOST_WORKERS as i64));
+        .value_parser(value_parser!(u32).range(1..=MAX_WORKERS as i64));
     let verdict = flag(alloc, "verdict", "Leave out the lines of a refutation");
     let account = flag(
         alloc,
@@ -121,7 +126,7 @@ fn solve_job(found: &ArgMatches<'_>) -> Option<Job>
 {
     let rounds = found.get_one::<u32>("rounds")?;
     let workers = found.get_one::<u32>("workers")?;
-    if workers == 0 || workers > MOST_WORKERS {
+    if workers == 0 || workers > MAX_WORKERS {
         return None;
     }
     Some(Job::Solve {
@@ -142,7 +147,7 @@ fn views_job(found: &ArgMatches<'_>) -> Option<Job>
 
 /// What the words ask for. The first is the program's own name.
 ///
-/// A fault of `clap` carries the text to be printed; want of memory is never handed out as one.
+/// A fault of `clap` carries the text to be printed; out of memory is never handed out as one.
 pub fn read_words(alloc: Global, words: &[String]) -> Result<Job, WordsFault>
     ensures ok { IfOk result IsWithinLimits }
     ensures err { IfErr result IsClapMistake }
