@@ -1,6 +1,7 @@
 //! The engines: from the bytes of a reader to the bytes of a writer.
 //!
-//! - [`run_solve_one`], [`run_solve`]: a task's text in, and the report of its least decision map or of none out.
+//! - [`run_solve_one`], [`run_solve`]: a task's text in, and the report of its least decision map or of none out, by one
+//!   worker or by up to [`MAX_WORKERS`].
 //! - [`run_views`]: a task's text in, and the list of the points of its protocol complex out.
 //! - [`hand_out`]: the last step of each run, for a text that is had without one.
 //! - [`RunFault`]: why a run is refused, with its number and its name.
@@ -23,3 +24,4 @@ pub use outcome::Outcome;
 pub use solve::{run_solve, run_solve_one};
 pub use steps::hand_out;
 pub use views::run_views;
+pub use wf_pool::MAX_WORKERS;

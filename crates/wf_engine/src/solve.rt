@@ -1,12 +1,16 @@
 //! Deciding a task.
 
-ghost use Rattle.std.specs.Prelude.{◌≡◌, true, IfOk};
+ghost use Rattle.std.specs.Prelude.{◌≡◌, ◌<◌, ◌≤◌, IfOk, map};
+ghost use Rattle.wf_model.specs.Problem.{problem_of};
 ghost use Rattle.wf_model.specs.Laws.{report_about};
 ghost use Rattle.wf_io.specs.Ends.{CanCount, CanRead};
+ghost use Rattle.wf_complex.specs.Lines.{line_of};
 ghost use Rattle.wf_complex.specs.Protocol.{IsProtocol};
+ghost use Rattle.wf_pool.specs.Answers.{HasAccount, IsAnswer};
+ghost use Rattle.wf_pool.specs.Answers as pool;
 ghost use Rattle.wf_cert.specs.Reports.{report_seen, body_of};
 ghost use Rattle.wf_engine.specs.Run.{Answers, Asks, answered};
-ghost use Rattle.wf_engine.specs.Texts.{IsAccount, IsInOrder, IsReport, IsSolved, SearchesInOrder, Solves, text_of_report};
+ghost use Rattle.wf_engine.specs.Texts.{IsInOrder, IsSolved, SearchesInOrder, Solves, shown, text_of_report};
 
 use crate::fault::RunFault;
 use crate::outcome::Outcome;
@@ -14,18 +18,24 @@ use crate::steps::{hand_out, read_task};
 use std::alloc::{AllocError, Global};
 use std::io::{Read, Write};
 use std::thread::Threads;
+use wf_box::Problem;
 use wf_cert::{Body, Report, write_report};
-use wf_complex::Protocol;
+use wf_complex::{Lines, Protocol};
 use wf_core::Account;
+use wf_handout::Counter;
 use wf_io::{Sink, Source};
-use wf_plain::least_map;
+use wf_pool::{Answer, MAX_WORKERS, Open, solve, solve_one};
 use wf_task::Task;
 
+/// How branches are handed to workers.
+type Branches = Counter;
+
 /// Reads a task to the reader's end and writes the report about it for some rounds of iterated immediate snapshot: its
-/// least decision map, or that it has none, and then no function on the views is a decision map.
+/// least decision map; or that it has none, with the lines of a refutation, and then no function on the views is a
+/// decision map. In the verdict form the lines are left out.
 ///
-/// The report is made whole before anything is written. The search is in one piece, and so its account has one branch.
-/// The lines of a refutation are not written yet, so `verdict` has to be true.
+/// The report is made whole before anything is written. The branches are searched in order, in this thread, and the
+/// call always returns.
 pub fn run_solve_one<R: Read, W: Write>(
     alloc: Global,
     source: &mut Source<R>,
@@ -33,18 +43,18 @@ pub fn run_solve_one<R: Read, W: Write>(
     rounds: u32,
     verdict: bool,
 ) -> Result<(Outcome, Account), RunFault>
-    requires ends { CanCount source.old sink.old }
-    requires brief { verdict ≡ true }
+    requires { CanCount source.old sink.old }
     ensures solves { Solves rounds verdict source.old source.new sink.old sink.new result }
     ensures in_order { SearchesInOrder result }
 {
-    let answer = solve_source(alloc, source, rounds, verdict);
+    let answer = solve_source_one(alloc, source, rounds, verdict);
     hand_out(sink, answer)
 }
 
-/// The same as [`run_solve_one`], for a number of workers. There is one worker today, and so no thread is started.
+/// The same as [`run_solve_one`], with the branches shared out among workers, which are threads where there are
+/// several. What is answered and written is the same for any number of them; which branches were searched is not.
 pub fn run_solve<T: Threads + Sync, R: Read, W: Write>(
-    _rt: &T,
+    rt: &T,
     alloc: Global,
     source: &mut Source<R>,
     sink: &mut Sink<W>,
@@ -53,62 +63,118 @@ pub fn run_solve<T: Threads + Sync, R: Read, W: Write>(
     verdict: bool,
 ) -> Result<(Outcome, Account), RunFault>
     requires ends { CanCount source.old sink.old }
-    requires alone { workers ≡ 1 }
-    requires brief { verdict ≡ true }
+    requires workers { (0 < workers) × (workers ≤ MAX_WORKERS) }
     ensures solves { Solves rounds verdict source.old source.new sink.old sink.new result }
     ensures in_order { workers ≡ 1 → SearchesInOrder result }
 {
-    run_solve_one(alloc, source, sink, rounds, verdict)
+    if workers == 1 {
+        return run_solve_one(alloc, source, sink, rounds, verdict);
+    }
+    let answer = solve_source(rt, alloc, source, rounds, workers, verdict);
+    hand_out(sink, answer)
 }
 
-/// The answer for a source's task, with the text of its report.
-fn solve_source<R: Read>(
+/// The answer for a source's task, with the text of its report, by one worker.
+fn solve_source_one<R: Read>(
     alloc: Global,
     source: &mut Source<R>,
     rounds: u32,
     verdict: bool,
 ) -> Result<((Outcome, Account), Vec<u8>), RunFault>
-    requires source { CanRead source.old }
-    requires brief { verdict ≡ true }
+    requires { CanRead source.old }
     ensures asks { Asks (IsSolved rounds verdict) rounds source.old source.new (answered result) }
     ensures in_order { IfOk result (λ answer. IsInOrder answer.0) }
 {
     let task = read_task(alloc, source)?;
-    solve_task(alloc, &task, rounds, verdict)
+    solve_task_one(alloc, &task, rounds, verdict)
 }
 
-/// The answer for a task, with the text of its report.
-fn solve_task(
+/// The answer for a source's task, with the text of its report, by some workers.
+fn solve_source<T: Threads + Sync, R: Read>(
+    rt: &T,
+    alloc: Global,
+    source: &mut Source<R>,
+    rounds: u32,
+    workers: u32,
+    verdict: bool,
+) -> Result<((Outcome, Account), Vec<u8>), RunFault>
+    requires source { CanRead source.old }
+    requires workers { (0 < workers) × (workers ≤ MAX_WORKERS) }
+    ensures { Asks (IsSolved rounds verdict) rounds source.old source.new (answered result) }
+{
+    let task = read_task(alloc, source)?;
+    solve_task(rt, alloc, &task, rounds, workers, verdict)
+}
+
+/// The answer for a task, with the text of its report, by one worker.
+fn solve_task_one(
     alloc: Global,
     task: &Task,
     rounds: u32,
-    _verdict: bool,
+    verdict: bool,
 ) -> Result<((Outcome, Account), Vec<u8>), RunFault>
-    requires { _verdict ≡ true }
-    ensures answers { Answers (IsSolved rounds _verdict) rounds task.now (answered result) }
+    ensures answers { Answers (IsSolved rounds verdict) rounds task.now (answered result) }
     ensures in_order { IfOk result (λ answer. IsInOrder answer.0) }
 {
     let protocol = Protocol::build(alloc, task, rounds)?;
-    let (outcome, report) = decide(alloc, task, &protocol)?;
-    Ok(((outcome, account_of(outcome)), report))
+    let problem = Problem::join(alloc, task, &protocol)?;
+    let (answer, account) = solve_one(alloc, &problem)?;
+    Ok(with_text(alloc, task, &protocol, answer, account, verdict)?)
 }
 
-/// The answer for a task on its protocol complex, with the text of its report.
-fn decide(alloc: Global, task: &Task, protocol: &Protocol) -> Result<(Outcome, Vec<u8>), AllocError>
-    requires { IsProtocol task.now protocol.now.rounds protocol.now }
-    ensures { IfOk result (λ answer.
-        IsReport protocol.now.rounds true task.now answer.0 answer.1.items) }
+/// The answer for a task, with the text of its report, by some workers.
+fn solve_task<T: Threads + Sync>(
+    rt: &T,
+    alloc: Global,
+    task: &Task,
+    rounds: u32,
+    workers: u32,
+    verdict: bool,
+) -> Result<((Outcome, Account), Vec<u8>), RunFault>
+    requires { (0 < workers) × (workers ≤ MAX_WORKERS) }
+    ensures { Answers (IsSolved rounds verdict) rounds task.now (answered result) }
 {
-    match least_map(alloc, task, protocol)? {
-        Some(values) => {
-            let report = report_text(alloc, task, protocol, Body::Map(values))?;
-            Ok((Outcome::Map, report))
+    let protocol = Protocol::build(alloc, task, rounds)?;
+    let problem = Problem::join(alloc, task, &protocol)?;
+    let (answer, account) = solve::<T, Branches, Open>(rt, alloc, &problem, workers, &Open)?;
+    Ok(with_text(alloc, task, &protocol, answer, account, verdict)?)
+}
+
+/// What a search answers, with the text of the report about it.
+fn with_text(
+    alloc: Global,
+    task: &Task,
+    protocol: &Protocol,
+    answer: Answer,
+    account: Account,
+    verdict: bool,
+) -> Result<((Outcome, Account), Vec<u8>), AllocError>
+    requires built { IsProtocol task.now protocol.now.rounds protocol.now }
+    requires answer { IsAnswer (problem_of task.now protocol.now.rounds) answer }
+    requires account { HasAccount (problem_of task.now protocol.now.rounds) answer account }
+    ensures solved { IfOk result (λ r.
+        IsSolved protocol.now.rounds verdict task.now r.0 r.1.items) }
+    ensures in_order { pool.IsInOrder answer account → IfOk result (λ r. IsInOrder r.0) }
+{
+    let _inputs = task.inputs();
+    match answer {
+        Answer::Map(values) => {
+            let text = report_text(alloc, task, protocol, Body::Map(values))?;
+            Ok(((Outcome::Map, account), text))
         }
-        None => {
-            let none = Body::Nothing(Vec::new(alloc));
-            Ok((Outcome::Nothing, report_text(alloc, task, protocol, none)?))
+        Answer::Nothing(lines) => {
+            let body = Body::Nothing(shown_lines(alloc, lines, verdict));
+            let text = report_text(alloc, task, protocol, body)?;
+            Ok(((Outcome::Nothing, account), text))
         }
     }
+}
+
+/// The lines that a report shows: none in the verdict form.
+fn shown_lines(alloc: Global, lines: Lines, verdict: bool) -> Lines
+    ensures { map line_of result.items ≡ shown verdict (map line_of lines.items) }
+{
+    if verdict { Vec::new(alloc) } else { lines }
 }
 
 /// The text of the report with this answer.
@@ -137,22 +203,5 @@ fn report_of(task: &Task, protocol: &Protocol, body: Body) -> Report
         points: protocol.points(),
         executions: protocol.executions(),
         body,
-    }
-}
-
-/// The account of a search in one piece.
-fn account_of(outcome: Outcome) -> Account
-    ensures account { IsAccount 1 outcome result }
-    ensures in_order { IsInOrder (outcome, result) }
-{
-    let least = match outcome {
-        Outcome::Map => 0,
-        Outcome::Nothing => 1,
-    };
-    Account {
-        branches: 1,
-        least,
-        searched: 1,
-        cut: 0,
     }
 }

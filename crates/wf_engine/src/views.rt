@@ -103,7 +103,8 @@ impl Header {
 
     /// Adds the lines.
     fn put(&self, text: &mut String) -> Result<(), AllocError>
-        ensures { OnOk result (string_bytes text.new ≡ string_bytes text.old ++ header_text self.now) }
+        ensures { OnOk result (string_bytes text.new
+            ≡ string_bytes text.old ++ header_text self.now) }
     {
         put_words(text, "wfcheck views 1")?;
         put_number(text, "processes", self.processes as u32)?;

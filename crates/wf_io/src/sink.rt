@@ -80,7 +80,8 @@ impl<W: Write> Sink<W> {
     pub fn flush(&mut self) -> io::Result<()>
         requires { CanWrite self.old }
         ensures bytes { Keeps self.old.held self.new.held }
-        ensures failures { self.new.failures ≡ self.old.failures + (if is_err result then 1 else 0) }
+        ensures failures { self.new.failures
+            ≡ self.old.failures + (if is_err result then 1 else 0) }
     {
         let answer = self.writer.flush();
         if answer.is_err() {

@@ -54,7 +54,8 @@ impl<R: Read> Source<R> {
         requires taken { self.old.taken + length piece.old < 2 ^ 64 }
         ensures bound { ReadsAtMost result piece.new }
         ensures bytes { ReadConsumes self.old.left self.new.left result piece.new }
-        ensures failures { self.new.failures ≡ self.old.failures + (if is_err result then 1 else 0) }
+        ensures failures { self.new.failures
+            ≡ self.old.failures + (if is_err result then 1 else 0) }
         ensures taken { self.new.taken ≡ self.old.taken + count_of result }
     {
         let answer = self.reader.read(piece);

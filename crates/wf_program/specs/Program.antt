@@ -1,12 +1,12 @@
 -- What a run of the program reads, writes, tells and answers.
-use Rattle.std.specs.Prelude.{◌≡◌, ◌≢◌, ◌⊎◌, ℕ, List, [], ◌∷◌, ◌++◌, Option, Some, None, Result, Ok, Err, codes}
+use Rattle.std.specs.Prelude.{◌≡◌, ◌≢◌, ◌⊎◌, ℕ, Bool, true, false, List, [], ◌∷◌, ◌++◌, Option, Some, None, Result, Ok, Err, codes}
 use Rattle.clap.specs.Words.{kind_of}
 use Rattle.clap.specs.declared.error.Error.{Error}
 use Rattle.clap.specs.declared.error.ErrorKind.TheVariants as kind
 use Rattle.wf_core.specs.declared.Account.{Account}
 use Rattle.wf_io.specs.Seen.{Reading, Writing}
 use Rattle.wf_io.specs.Ends.{CanCount, CanWrite}
-use Rattle.wf_io.specs.Texts.{Tells}
+use Rattle.wf_io.specs.Texts.{Told, Tells}
 use Rattle.wf_engine.specs.declared.outcome.Outcome.{Outcome}
 use Rattle.wf_engine.specs.declared.outcome.Outcome.TheVariants.{Map, Nothing}
 use Rattle.wf_engine.specs.declared.fault.RunFault.{RunFault}
@@ -19,6 +19,8 @@ use Rattle.wf_words.specs.declared.Job.{Job}
 use Rattle.wf_words.specs.declared.Job.TheVariants.{Solve, Views}
 use Rattle.wf_words.specs.declared.WordsFault.{WordsFault}
 use Rattle.wf_words.specs.declared.WordsFault.TheVariants as fault
+use Rattle.wf_program.specs.AccountText.{account_line}
+use Rattle.wf_program.specs.declared.done.Done.{Done}
 use Rattle.wf_program.specs.declared.refusal.Refusal.{Refusal}
 use Rattle.wf_program.specs.declared.refusal.Refusal.TheVariants.{Run, Words, Clap}
 
@@ -54,22 +56,37 @@ IsAsked (Ok words) (Ok job) = IsWithinLimits job
 IsAsked (Ok words) (Err e) = IsClapMistake e
 IsAsked (Err e) asked = asked ≡ Err e
 
--- ---- what is done: its exit status, or why it is refused
+-- ---- the account of a search
 
-abbrev pub solved : Result (Outcome × Account) RunFault → Result ℕ Refusal
-solved (Ok (Map, account)) = Ok 0
-solved (Ok (Nothing, account)) = Ok 1
-solved (Err e) = Err (Run e)
+-- an account is told, or nothing
+abbrev pub TellsAccount : Writing → Writing → Option Account → Type 0
+TellsAccount old new (Some a) = Told old new (account_line a)
+TellsAccount old new None = new ≡ old
 
-abbrev pub written : Result (Unit {0}) RunFault → Result ℕ Refusal
-written (Ok done) = Ok 0
+-- ---- what is done, or why it is refused
+
+abbrev pub outcome_status : Outcome → ℕ
+outcome_status Map = 0
+outcome_status Nothing = 1
+
+-- an account that is asked for
+abbrev pub asked_for : Bool → Account → Option Account
+asked_for true a = Some a
+asked_for false a = None
+
+abbrev pub solved : Bool → Result (Outcome × Account) RunFault → Result Done Refusal
+solved tells (Ok (outcome, a)) = Ok (record { status = outcome_status outcome; account = asked_for tells a })
+solved tells (Err e) = Err (Run e)
+
+abbrev pub written : Result (Unit {0}) RunFault → Result Done Refusal
+written (Ok done) = Ok (record { status = 0; account = None })
 written (Err e) = Err (Run e)
 
 -- what a job asks for was done
-abbrev pub Does : Job → Reading → Reading → Writing → Writing → Result ℕ Refusal → Type 0
-Does (Solve rounds workers verdict) source source' sink sink' done =
+abbrev pub Does : Job → Reading → Reading → Writing → Writing → Result Done Refusal → Type 0
+Does (Solve rounds workers verdict account) source source' sink sink' done =
     (result : Result (Outcome × Account) RunFault) × Solves rounds verdict source source' sink sink' result
-    × (workers ≡ 1 → SearchesInOrder result) × (done ≡ solved result)
+    × (workers ≡ 1 → SearchesInOrder result) × (done ≡ solved account result)
 Does (Views rounds) source source' sink sink' done =
     (result : Result (Unit {0}) RunFault) × Lists rounds source source' sink sink' result × (done ≡ written result)
 
@@ -82,33 +99,33 @@ abbrev pub IsHelp : Result (Unit {0} × List ℕ) RunFault → Type 0
 IsHelp (Ok answer) = Unit {0}
 IsHelp (Err e) = e ≡ run.OutOfMemory
 
-abbrev pub Helps : Writing → Writing → Result ℕ Refusal → Type 0
+abbrev pub Helps : Writing → Writing → Result Done Refusal → Type 0
 Helps sink sink' done =
     (result : Result (Unit {0}) RunFault) × Ran IsHelp sink sink' result × (done ≡ written result)
 
 -- the words ask for help, or they are refused, or memory ran out
-abbrev pub Declines : WordsFault → Writing → Writing → Result ℕ Refusal → Type 0
+abbrev pub Declines : WordsFault → Writing → Writing → Result Done Refusal → Type 0
 Declines (fault.Clap e) sink sink' done =
     ((IsMistake e → ⊥) × Helps sink sink' done) ⊎ (IsMistake e × (done ≡ Err (Clap e)) × (sink' ≡ sink))
 Declines fault.Words sink sink' done = (done ≡ Err Words) × (sink' ≡ sink)
 Declines fault.OutOfMemory sink sink' done = (done ≡ Err (Run run.OutOfMemory)) × (sink' ≡ sink)
 
 -- the job was done; or there is none, and nothing was read
-abbrev pub DoesAsked : Result Job WordsFault → Reading → Reading → Writing → Writing → Result ℕ Refusal → Type 0
+abbrev pub DoesAsked : Result Job WordsFault → Reading → Reading → Writing → Writing → Result Done Refusal → Type 0
 DoesAsked (Ok job) source source' sink sink' done = Does job source source' sink sink' done
 DoesAsked (Err e) source source' sink sink' done = (source' ≡ source) × Declines e sink sink' done
 
 -- ---- a whole run
 
--- the exit status; a refusal alone is told
-abbrev pub Ends : Writing → Writing → Result ℕ Refusal → ℕ → Type 0
-Ends errors errors' (Ok status) result = (result ≡ status) × (errors' ≡ errors)
+-- the exit status; an account that is asked for is told, and so is a refusal, and nothing else
+abbrev pub Ends : Writing → Writing → Result Done Refusal → ℕ → Type 0
+Ends errors errors' (Ok done) result = (result ≡ done.status) × TellsAccount errors errors' done.account
 Ends errors errors' (Err e) result = (result ≡ refusal_status e) × Tells errors errors' (refusal_text e)
 
 -- the words were judged, what they ask for was done, and it was told how that ended
 abbrev pub Serves : {X : Type 0} → Result X WordsFault → Reading → Reading → Writing → Writing → Writing → Writing → ℕ → Type 0
 Serves words source source' sink sink' errors errors' status =
-    (asked : Result Job WordsFault) × (done : Result ℕ Refusal) × IsAsked words asked
+    (asked : Result Job WordsFault) × (done : Result Done Refusal) × IsAsked words asked
     × DoesAsked asked source source' sink sink' done × Ends errors errors' done status
 
 -- all three ends can count what a run asks of them

@@ -3,8 +3,9 @@
 ghost use Rattle.std.specs.Prelude.{◌≡◌};
 ghost use Rattle.wf_io.specs.Ends.{CanCount, CanWrite};
 ghost use Rattle.wf_words.specs.Job.{IsWithinLimits};
-ghost use Rattle.wf_program.specs.Program.{CanServe, Declines, Does, Ends, Helps, IsAsked, Serves, solved, written};
+ghost use Rattle.wf_program.specs.Program.{CanServe, Declines, Does, Ends, Helps, IsAsked, Serves, outcome_status, solved, written};
 
+use crate::done::{AccountLine, Done};
 use crate::refusal::Refusal;
 use std::alloc::Global;
 use std::fmt::Display;
@@ -19,7 +20,8 @@ use wf_words::{Job, WordsFault, read_words};
 /// words could not be had, that is the refusal.
 ///
 /// 0: a map was found, or the text was written. 1: there is no map. 2: the task, the rounds or the words are refused.
-/// 3: memory ran out. 4: a read or a write failed. A refusal is one line on `errors`.
+/// 3: memory ran out. 4: a read or a write failed. A refusal is one line on `errors`, and so is the account of a search
+/// that was not refused, where the words ask for it.
 pub fn run_program<T: Threads + Sync, R: Read, W: Write, E: Write>(
     rt: &T,
     alloc: Global,
@@ -52,9 +54,9 @@ fn do_job<T: Threads + Sync, R: Read, W: Write>(
     source: &mut Source<R>,
     sink: &mut Sink<W>,
     job: &Job,
-) -> Result<u8, Refusal>
+) -> Result<Done, Refusal>
     requires ends { CanCount source.old sink.old }
-    requires today { IsWithinLimits job.now }
+    requires limits { IsWithinLimits job.now }
     ensures { Does job.now source.old source.new sink.old sink.new result }
 {
     match job {
@@ -62,34 +64,53 @@ fn do_job<T: Threads + Sync, R: Read, W: Write>(
             rounds,
             workers,
             verdict,
-        } => after_solving(run_solve(rt, alloc, source, sink, *rounds, *workers, *verdict)),
+            account,
+        } => {
+            let found = run_solve(rt, alloc, source, sink, *rounds, *workers, *verdict);
+            after_solving(found, *account)
+        }
         Job::Views { rounds } => after_writing(run_views(alloc, source, sink, *rounds)),
     }
 }
 
-/// What is answered after a search.
-fn after_solving(found: Result<(Outcome, Account), RunFault>) -> Result<u8, Refusal>
-    ensures { result ≡ solved found }
+/// What is answered after a search, and whether its account is told.
+fn after_solving(found: Result<(Outcome, Account), RunFault>, tells: bool) -> Result<Done, Refusal>
+    ensures { result ≡ solved tells found }
 {
     match found {
-        Ok((Outcome::Map, _account)) => Ok(0),
-        Ok((Outcome::Nothing, _account)) => Ok(1),
+        Ok((outcome, account)) => Ok(Done {
+            status: status_of(outcome),
+            account: if tells { Some(account) } else { None },
+        }),
         Err(fault) => Err(Refusal::Run(fault)),
     }
 }
 
+/// The exit status of a search.
+fn status_of(outcome: Outcome) -> u8
+    ensures { result ≡ outcome_status outcome }
+{
+    match outcome {
+        Outcome::Map => 0,
+        Outcome::Nothing => 1,
+    }
+}
+
 /// What is answered after a text was written.
-fn after_writing(found: Result<(), RunFault>) -> Result<u8, Refusal>
+fn after_writing(found: Result<(), RunFault>) -> Result<Done, Refusal>
     ensures { result ≡ written found }
 {
     match found {
-        Ok(()) => Ok(0),
+        Ok(()) => Ok(Done {
+            status: 0,
+            account: None,
+        }),
         Err(fault) => Err(Refusal::Run(fault)),
     }
 }
 
 /// There is no job in the words: a help goes to the sink, and the rest is refused.
-fn decline<W: Write>(alloc: Global, sink: &mut Sink<W>, fault: WordsFault) -> Result<u8, Refusal>
+fn decline<W: Write>(alloc: Global, sink: &mut Sink<W>, fault: WordsFault) -> Result<Done, Refusal>
     requires { CanWrite sink.old }
     ensures { Declines fault sink.old sink.new result }
 {
@@ -107,7 +128,7 @@ fn decline<W: Write>(alloc: Global, sink: &mut Sink<W>, fault: WordsFault) -> Re
 }
 
 /// Writes a help.
-fn help<W: Write, H: Display>(alloc: Global, sink: &mut Sink<W>, text: &H) -> Result<u8, Refusal>
+fn help<W: Write, H: Display>(alloc: Global, sink: &mut Sink<W>, text: &H) -> Result<Done, Refusal>
     requires { CanWrite sink.old }
     ensures { Helps sink.old sink.new result }
 {
@@ -118,13 +139,18 @@ fn help<W: Write, H: Display>(alloc: Global, sink: &mut Sink<W>, text: &H) -> Re
     after_writing(hand_out(sink, answer))
 }
 
-/// The exit status; a refusal is told. Nothing more can be done where that fails too.
-fn end<E: Write>(errors: &mut Sink<E>, done: Result<u8, Refusal>) -> u8
+/// The exit status; an account is told, or a refusal. Nothing more can be done where that fails too.
+fn end<E: Write>(errors: &mut Sink<E>, done: Result<Done, Refusal>) -> u8
     requires { CanWrite errors.old }
     ensures { Ends errors.old errors.new done result }
 {
     match done {
-        Ok(status) => status,
+        Ok(done) => {
+            if let Some(account) = done.account {
+                errors.put(AccountLine(account));
+            }
+            done.status
+        }
         Err(refusal) => {
             let status = refusal.status();
             errors.put(refusal);

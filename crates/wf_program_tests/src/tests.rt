@@ -2,6 +2,7 @@ mod command_line;
 mod ends;
 mod engines;
 mod failing;
+mod reports;
 mod rows;
 mod tasks;
 mod texts;

@@ -8,6 +8,7 @@ use clap::error::ErrorKind;
 use clap::{Arg, ArgAction, ArgMatches, Command, value_parser};
 use std::alloc::{AllocError, Global};
 use std::io;
+use wf_engine::MAX_WORKERS;
 
 /// A command, with its options.
 #[derive(Debug, Drop)]
@@ -16,10 +17,12 @@ pub enum Job {
     Solve {
         /// How many rounds.
         rounds: u32,
-        /// How many workers, from 1 to 64. Today it is 1.
+        /// How many workers, from 1 to [`MAX_WORKERS`].
         workers: u32,
-        /// Whether the lines of a refutation are left out. Today they are.
+        /// Whether the lines of a refutation are left out.
         verdict: bool,
+        /// Whether the account of the branches is told.
+        account: bool,
     },
     /// List the points of a task's protocol complex after some rounds.
     Views {
@@ -35,7 +38,7 @@ pub enum WordsFault {
     Clap(clap::Error),
     /// The words are read but ask for what this program refuses, or one of them is no text.
     Words,
-    /// Want of memory.
+    /// Memory ran out.
     OutOfMemory,
 }
 
@@ -51,6 +54,11 @@ impl From<AllocError> for WordsFault {
 }
 
 impl From<io::Error> for WordsFault {
+    ghost use Rattle.std.specs.IoError.{error_kind};
+    ghost use Rattle.wf_words.specs.Arguments.{IsFaultOf};
+
+    ghost from_gives = { λ x e. IsFaultOf (error_kind x) e };
+
     fn from(error: io::Error) -> WordsFault {
         match error.kind() {
             io::ErrorKind::OutOfMemory => WordsFault::OutOfMemory,
@@ -68,24 +76,30 @@ fn number<'a>(alloc: Global, name: &'a str, help: &'a str) -> Arg<'a> {
         .value_parser(value_parser!(u32))
 }
 
+fn flag<'a>(alloc: Global, name: &'a str, help: &'a str) -> Arg<'a> {
+    Arg::new(alloc, name)
+        .long(name)
+        .help(help)
+        .action(ArgAction::SetTrue)
+}
+
 fn solve_command<'a>(alloc: Global) -> Result<Command<'a>, AllocError> {
-    let workers = number(
+    let workers = number(alloc, "workers", "How many workers share the search")
+        .value_parser(value_parser!(u32).range(1..=MAX_WORKERS as i64));
+    let verdict = flag(alloc, "verdict", "Leave out the lines of a refutation");
+    let account = flag(
         alloc,
-        "workers",
-        "How many workers share the search (1 for now)",
-    )
-    .value_parser(value_parser!(u32).range(1..=64));
-    let verdict = Arg::new(alloc, "verdict")
-        .long("verdict")
-        .help("Leave out the lines of a refutation (wanted for now)")
-        .action(ArgAction::SetTrue);
+        "account",
+        "Tell on standard error how many branches were searched, and how many were cut",
+    );
     Command::new(alloc, "solve")
         .about(
-            "Read a task on standard input, and write its least decision map, or that there is none",
+            "Read a task on standard input, and write its least decision map, or a refutation that there is none",
         )
         .arg(number(alloc, "rounds", "How many rounds of immediate snapshots"))?
         .arg(workers)?
-        .arg(verdict)
+        .arg(verdict)?
+        .arg(account)
 }
 
 fn views_command<'a>(alloc: Global) -> Result<Command<'a>, AllocError> {
@@ -106,20 +120,20 @@ fn whole_command<'a>(alloc: Global) -> Result<Command<'a>, AllocError> {
         .subcommand(views_command(alloc)?)
 }
 
-/// The job of `solve`, where it asks for no more than what is there: one worker, and the verdict form.
+/// The job of `solve`, whose number of workers `clap` has judged.
 fn solve_job(found: &ArgMatches<'_>) -> Option<Job>
     ensures { IfSome result IsWithinLimits }
 {
     let rounds = found.get_one::<u32>("rounds")?;
     let workers = found.get_one::<u32>("workers")?;
-    let verdict = found.get_flag("verdict");
-    if workers != 1 || !verdict {
+    if workers == 0 || workers > MAX_WORKERS {
         return None;
     }
     Some(Job::Solve {
         rounds,
         workers,
-        verdict,
+        verdict: found.get_flag("verdict"),
+        account: found.get_flag("account"),
     })
 }
 
@@ -133,7 +147,7 @@ fn views_job(found: &ArgMatches<'_>) -> Option<Job>
 
 /// What the words ask for. The first is the program's own name.
 ///
-/// A fault of `clap` carries the text to be printed; want of memory is never handed out as one.
+/// A fault of `clap` carries the text to be printed; out of memory is never handed out as one.
 pub fn read_words(alloc: Global, words: &[String]) -> Result<Job, WordsFault>
     ensures ok { IfOk result IsWithinLimits }
     ensures err { IfErr result IsClapMistake }

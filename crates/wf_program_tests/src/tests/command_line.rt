@@ -1,7 +1,7 @@
 //! The program: each row of the command line writes, tells and answers what it is to, byte for byte.
 
 use super::ends::{Drip, Full, Narrow};
-use super::rows::{BEGINNINGS, DECIDED, LISTED, Row};
+use super::rows::{BEGINNINGS, DECIDED, FULL, LISTED, Row};
 use super::tasks::{AGREEMENT_4_3, ONE_PROCESS};
 use super::words::split;
 use std::alloc::{AllocError, Global};
@@ -61,6 +61,11 @@ fn hold(rt: &(impl Abort + Threads + Sync), alloc: Global, rows: &[Row]) -> Resu
 #[test]
 fn tasks_are_decided(rt: HostRuntime) -> Result<(), Fail> {
     hold(&rt, rt.alloc(), &DECIDED)
+}
+
+#[test]
+fn reports_are_full_and_accounts_are_told(rt: HostRuntime) -> Result<(), Fail> {
+    hold(&rt, rt.alloc(), &FULL)
 }
 
 #[test]

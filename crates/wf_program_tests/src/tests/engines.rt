@@ -26,11 +26,12 @@ const LIST: &str =
 #[derive(Clone, Copy, Debug)]
 pub enum Engine {
     Solve,
+    Share,
     Views,
 }
 
 impl Engine {
-    /// Runs it for some rounds, with one worker.
+    /// Runs it for some rounds: a search by one worker, one by three, or a listing.
     pub fn run<T: Threads + Sync, R: Read, W: Write>(
         self,
         rt: &T,
@@ -43,6 +44,7 @@ impl Engine {
     {
         match self {
             Engine::Solve => run_solve(rt, alloc, source, sink, rounds, 1, true).err(),
+            Engine::Share => run_solve(rt, alloc, source, sink, rounds, 3, false).err(),
             Engine::Views => run_views(alloc, source, sink, rounds).err(),
         }
     }
@@ -50,13 +52,13 @@ impl Engine {
     /// What it writes of the task of one process after eight rounds.
     pub fn text(self) -> &'static str {
         match self {
-            Engine::Solve => REPORT,
+            Engine::Solve | Engine::Share => REPORT,
             Engine::Views => LIST,
         }
     }
 }
 
-pub const ENGINES: [Engine; 2] = [Engine::Solve, Engine::Views];
+pub const ENGINES: [Engine; 3] = [Engine::Solve, Engine::Share, Engine::Views];
 
 #[test]
 fn a_task_is_answered(rt: HostRuntime) -> Result<(), Fail> {
@@ -78,7 +80,7 @@ fn a_task_is_answered(rt: HostRuntime) -> Result<(), Fail> {
 fn one_worker_searches_one_branch(rt: HostRuntime) -> Result<(), Fail> {
     let mut source = Source::new(ONE.as_bytes());
     let mut sink = Sink::new(Vec::new(rt.alloc()));
-    let found = run_solve_one(rt.alloc(), &mut source, &mut sink, 8, true);
+    let found = run_solve_one(rt.alloc(), &mut source, &mut sink, 8, false);
     let account = Account {
         branches: 1,
         least: 0,

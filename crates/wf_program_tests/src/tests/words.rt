@@ -18,20 +18,22 @@ fn words_are_a_job_or_a_fault(rt: HostRuntime) -> Result<(), Fail> {
     let rows = [
         (
             "wfcheck solve --rounds 1 --workers 1 --verdict",
-            "solve 1 1 true",
+            "solve 1 1 true false",
         ),
         (
-            "wfcheck solve --verdict --workers 1 --rounds 4294967295",
-            "solve 4294967295 1 true",
+            "wfcheck solve --verdict --account --workers 64 --rounds 4294967295",
+            "solve 4294967295 64 true true",
         ),
-        ("wfcheck solve --rounds 1 --workers 1", "words"),
+        (
+            "wfcheck solve --rounds 1 --workers 2",
+            "solve 1 2 false false",
+        ),
         ("wfcheck views --rounds 3", "views 3"),
         ("wfcheck views", "clap MissingRequiredArgument"),
         (
             "wfcheck views --rounds 3 --workers 1",
             "clap UnknownArgument",
         ),
-        ("wfcheck solve --rounds 1 --workers 2 --verdict", "words"),
         (
             "wfcheck solve --rounds 1 --workers 65 --verdict",
             "clap ValueValidation",
@@ -57,8 +59,9 @@ fn words_are_a_job_or_a_fault(rt: HostRuntime) -> Result<(), Fail> {
                     rounds,
                     workers,
                     verdict,
+                    account,
                 },
-            ) => format!(in rt.alloc(); "solve {rounds} {workers} {verdict}")?,
+            ) => format!(in rt.alloc(); "solve {rounds} {workers} {verdict} {account}")?,
             Ok(Job::Views { rounds }) => format!(in rt.alloc(); "views {rounds}")?,
             Err(WordsFault::Clap(error)) => {
                 let kind = error.kind();
