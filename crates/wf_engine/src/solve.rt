@@ -22,13 +22,13 @@ use wf_box::Problem;
 use wf_cert::{Body, Report, write_report};
 use wf_complex::{Lines, Protocol};
 use wf_core::Account;
-use wf_handout::Counter;
+use wf_handout::Stealing;
 use wf_io::{Sink, Source};
 use wf_pool::{Answer, MAX_WORKERS, Open, solve, solve_one};
 use wf_task::Task;
 
 /// How branches are handed to workers.
-type Branches = Counter;
+type Branches = Stealing;
 
 /// Reads a task to the reader's end and writes the report about it for some rounds of iterated immediate snapshot: its
 /// least decision map; or that it has none, with the lines of a refutation, and then no function on the views is a
