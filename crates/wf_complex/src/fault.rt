@@ -1,21 +1,21 @@
 //! Why a protocol complex is refused.
 
-ghost use Rattle.std.specs.Prelude.{◌≡◌};
-ghost use Rattle.std.specs.Prelude.{Some};
+ghost use Rattle.std.specs.Prelude.{◌≡◌, Some};
 ghost use Rattle.wf_complex.specs.Faults.{fault_text};
 ghost use Rattle.wf_complex.specs.declared.fault.BuildFault.TheVariants.{OutOfMemory};
 
 use std::alloc::AllocError;
 use std::fmt;
+use wf_task::TaskFault;
 
 /// Why there is no protocol complex.
 #[derive(Clone, Copy, Debug, PartialEq, Eq)]
 pub enum BuildFault {
-    /// There are more than 8 rounds.
+    /// 16: there are more than 8 rounds.
     Rounds,
-    /// There are more than 500,000 executions.
+    /// 17: there are more than 500,000 executions.
     TooManyExecutions,
-    /// Want of memory.
+    /// Out of memory: 15, as of a task's text.
     OutOfMemory,
 }
 
@@ -26,7 +26,7 @@ impl fmt::Display for BuildFault {
         match self {
             BuildFault::Rounds => write!(f, "16 Rounds"),
             BuildFault::TooManyExecutions => write!(f, "17 TooManyExecutions"),
-            BuildFault::OutOfMemory => write!(f, "15 OutOfMemory"),
+            BuildFault::OutOfMemory => write!(f, "{}", TaskFault::OutOfMemory),
         }
     }
 }

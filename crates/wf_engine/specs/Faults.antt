@@ -1,4 +1,4 @@
--- How the refusals of the parts become those of a run, and what is printed of one.
+-- How the refusals of the parts become those of a run, and the number and the name of each.
 use Rattle.std.specs.Prelude.{ℕ, List, codes}
 use Rattle.wf_io.specs.declared.source.ReadFault.{ReadFault}
 use Rattle.wf_io.specs.declared.source.ReadFault.TheVariants as read
@@ -9,15 +9,16 @@ use Rattle.wf_complex.specs.declared.fault.BuildFault.{BuildFault}
 use Rattle.wf_complex.specs.declared.fault.BuildFault.TheVariants as build
 use Rattle.wf_complex.specs.Faults as build_text
 use Rattle.wf_engine.specs.declared.fault.RunFault.{RunFault}
-use Rattle.wf_engine.specs.declared.fault.RunFault.TheVariants.{Task, Build, OutOfMemory, Read, Write}
+use Rattle.wf_engine.specs.declared.fault.RunFault.TheVariants.{TooLong, Task, Build, OutOfMemory, Read, Write}
 
--- want of memory is one refusal, wherever it came
+-- a text that is too long is one refusal, and so is out of memory, wherever they came
 abbrev pub of_read : ReadFault → RunFault
-of_read read.TooLong = Task task.TooLong
+of_read read.TooLong = TooLong
 of_read read.OutOfMemory = OutOfMemory
 of_read read.Read = Read
 
 abbrev pub of_task : TaskFault → RunFault
+of_task task.TooLong = TooLong
 of_task task.OutOfMemory = OutOfMemory
 of_task e = Task e
 
@@ -25,9 +26,11 @@ abbrev pub of_build : BuildFault → RunFault
 of_build build.OutOfMemory = OutOfMemory
 of_build e = Build e
 
+-- each part owns the numbers and the names of its own refusals
 abbrev pub fault_text : RunFault → List ℕ
+fault_text TooLong = task_text.fault_text task.TooLong
 fault_text (Task e) = task_text.fault_text e
+fault_text OutOfMemory = task_text.fault_text task.OutOfMemory
 fault_text (Build e) = build_text.fault_text e
-fault_text OutOfMemory = codes "15 OutOfMemory"
 fault_text Read = codes "30 Read"
 fault_text Write = codes "31 Write"

@@ -1,3 +1,5 @@
 pub mod Faults
 pub mod Run
+pub mod Texts
 pub mod Views
+pub mod Laws

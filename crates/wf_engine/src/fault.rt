@@ -1,10 +1,10 @@
 //! Why a run is refused.
 
-ghost use Rattle.std.specs.Prelude.{◌≡◌, ◌++◌, IfOk, Some, string_bytes, codes};
+ghost use Rattle.std.specs.Prelude.{◌≡◌, Some};
 ghost use Rattle.wf_engine.specs.Faults.{of_read, of_task, of_build, fault_text};
 ghost use Rattle.wf_engine.specs.declared.fault.RunFault.TheVariants.{OutOfMemory, Write};
 
-use std::alloc::{AllocError, Global};
+use std::alloc::AllocError;
 use std::fmt;
 use wf_complex::BuildFault;
 use wf_io::{ReadFault, WriteFault};
@@ -13,7 +13,9 @@ use wf_task::TaskFault;
 /// Why a run is refused.
 #[derive(Clone, Copy, Debug, PartialEq, Eq)]
 pub enum RunFault {
-    /// 1 to 14: the text is no task.
+    /// 1: a text has too many bytes.
+    TooLong,
+    /// 2 to 14: the text is no task.
     Task(TaskFault),
     /// 16, 17: there are too many rounds or executions.
     Build(BuildFault),
@@ -30,9 +32,10 @@ impl fmt::Display for RunFault {
 
     fn fmt<W: fmt::Write>(&self, f: &mut fmt::Formatter<W>) -> fmt::Result {
         match self {
+            RunFault::TooLong => write!(f, "{}", TaskFault::TooLong),
             RunFault::Task(fault) => write!(f, "{fault}"),
             RunFault::Build(fault) => write!(f, "{fault}"),
-            RunFault::OutOfMemory => write!(f, "15 OutOfMemory"),
+            RunFault::OutOfMemory => write!(f, "{}", TaskFault::OutOfMemory),
             RunFault::Read => write!(f, "30 Read"),
             RunFault::Write => write!(f, "31 Write"),
         }
@@ -46,7 +49,7 @@ impl From<ReadFault> for RunFault {
 
     fn from(fault: ReadFault) -> RunFault {
         match fault {
-            ReadFault::TooLong => RunFault::Task(TaskFault::TooLong),
+            ReadFault::TooLong => RunFault::TooLong,
             ReadFault::OutOfMemory => RunFault::OutOfMemory,
             ReadFault::Read => RunFault::Read,
         }
@@ -58,6 +61,7 @@ impl From<TaskFault> for RunFault {
 
     fn from(fault: TaskFault) -> RunFault {
         match fault {
+            TaskFault::TooLong => RunFault::TooLong,
             TaskFault::OutOfMemory => RunFault::OutOfMemory,
             fault => RunFault::Task(fault),
         }
@@ -89,12 +93,4 @@ impl From<WriteFault> for RunFault {
     fn from(_failed: WriteFault) -> RunFault {
         RunFault::Write
     }
-}
-
-/// The line that a program prints for a refusal: `wfcheck:`, the number and the name of the refusal, and what it
-/// carries.
-pub fn refusal_line(alloc: Global, fault: &RunFault) -> Result<String, AllocError>
-    ensures { IfOk result (λ line. string_bytes line ≡ codes "wfcheck: " ++ fault_text fault.now) }
-{
-    format!(in alloc; "wfcheck: {fault}")
 }

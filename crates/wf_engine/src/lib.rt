@@ -2,18 +2,24 @@
 //!
 //! - [`run_solve_one`], [`run_solve`]: a task's text in, and the report of its least decision map or of none out.
 //! - [`run_views`]: a task's text in, and the list of the points of its protocol complex out.
-//! - [`RunFault`], [`refusal_line`]: why a run is refused, and the line that tells it.
+//! - [`hand_out`]: the last step of each run, for a text that is had without one.
+//! - [`RunFault`]: why a run is refused, with its number and its name.
+//!
+//! Each engine has one condition, that source and sink can count what it asks of them, and one relation that says what
+//! it read, answered and wrote (`specs/Texts.antt`, step by step in `specs/Run.antt`). The laws say what follows from
+//! the relation alone.
 #![tactic(auto)]
 
 mod fault;
+mod laws;
 mod outcome;
 mod solve;
+mod steps;
 mod views;
 
-pub use fault::{RunFault, refusal_line};
+pub use fault::RunFault;
+pub use laws::{listing_is_counted, solving_is_counted};
 pub use outcome::Outcome;
 pub use solve::{run_solve, run_solve_one};
+pub use steps::hand_out;
 pub use views::run_views;
-
-#[cfg(test)]
-mod tests;

@@ -1,56 +1,60 @@
 //! Listing the points of a protocol complex.
 
-ghost use Rattle.std.specs.Prelude.{◌≡◌, ◌+◌, ◌-◌, ◌^◌, ◌++◌, ◌∷◌, ◌<◌, ◌≤◌, [], IfOk, OnOk, string_bytes, codes, length, if◌then◌else◌};
+ghost use Rattle.std.specs.Prelude.{◌≡◌, ◌++◌, ◌∷◌, [], IfOk, OnOk, string_bytes, codes, length};
 ghost use Rattle.wf_model.specs.Execution.{executions};
 ghost use Rattle.wf_model.specs.Points.{points, last_view_count};
 ghost use Rattle.wf_model.specs.Report.{line};
 ghost use Rattle.wf_model.specs.ViewsText.{views_text};
-ghost use Rattle.wf_io.specs.Ends.{source_failures, source_reader, source_taken, sink_failures, sink_writer};
+ghost use Rattle.wf_io.specs.Ends.{CanCount, CanRead};
 ghost use Rattle.wf_complex.specs.Protocol.{IsProtocol};
-ghost use Rattle.wf_engine.specs.Run.{Answers, IsViews, Runs, is_read, is_write};
+ghost use Rattle.wf_engine.specs.Run.{Answers, Asks, answered};
+ghost use Rattle.wf_engine.specs.Texts.{IsViews, Lists};
 ghost use Rattle.wf_engine.specs.Views.{header_text, appearances_text};
 
 use crate::fault::RunFault;
+use crate::steps::{hand_out, read_task};
 use std::alloc::{AllocError, Global};
 use std::fmt::Write as _;
 use std::io::{Read, Write};
 use wf_complex::Protocol;
-use wf_io::{Sink, Source, read_all, write_whole};
+use wf_io::{Sink, Source};
 use wf_lines::{put_number, put_words};
 use wf_task::Task;
 
 /// Reads a task to the reader's end and writes the list of the points of its protocol complex after some rounds, each
 /// with the execution and the process in which it appears first.
-///
-/// What is read and written is as for [`crate::run_solve_one`].
 pub fn run_views<R: Read, W: Write>(
     alloc: Global,
     source: &mut Source<R>,
     sink: &mut Sink<W>,
     rounds: u32,
 ) -> Result<(), RunFault>
-    requires source { source_failures source.old < 2 ^ 64 - 1 }
-    requires taken { source_taken source.old < 2 ^ 63 }
-    requires sink { sink_failures sink.old < 2 ^ 64 - 1 }
-    ensures runs { Runs (IsViews rounds) rounds (R.remaining (source_reader source.old)) (R.remaining (source_reader source.new))
-        (W.contents (sink_writer sink.old)) (W.contents (sink_writer sink.new)) result }
-    ensures at_most { source_taken source.new ≤ source_taken source.old + 16777217 }
-    ensures read { source_failures source.new ≡ source_failures source.old + (if is_read result then 1 else 0) }
-    ensures write { sink_failures sink.new ≡ sink_failures sink.old + (if is_write result then 1 else 0) }
+    requires { CanCount source.old sink.old }
+    ensures { Lists rounds source.old source.new sink.old sink.new result }
 {
-    let text = read_all(alloc, source)?;
-    let (answer, list) = list_text(alloc, &text, rounds)?;
-    write_whole(sink, &list)?;
-    Ok(answer)
+    let answer = list_source(alloc, source, rounds);
+    hand_out(sink, answer)
 }
 
-/// The list of the points of a text's task.
-fn list_text(alloc: Global, text: &[u8], rounds: u32) -> Result<((), Vec<u8>), RunFault>
-    ensures { Answers (IsViews rounds) text.now rounds result }
+/// The list of the points of a source's task.
+fn list_source<R: Read>(
+    alloc: Global,
+    source: &mut Source<R>,
+    rounds: u32,
+) -> Result<((), Vec<u8>), RunFault>
+    requires { CanRead source.old }
+    ensures { Asks (IsViews rounds) rounds source.old source.new (answered result) }
 {
-    let task = Task::read_text(alloc, text)?;
-    let protocol = Protocol::build(alloc, &task, rounds)?;
-    Ok(((), write_views(alloc, &task, &protocol)?))
+    let task = read_task(alloc, source)?;
+    list_task(alloc, &task, rounds)
+}
+
+/// The list of the points of a task.
+fn list_task(alloc: Global, task: &Task, rounds: u32) -> Result<((), Vec<u8>), RunFault>
+    ensures { Answers (IsViews rounds) rounds task.now (answered result) }
+{
+    let protocol = Protocol::build(alloc, task, rounds)?;
+    Ok(((), write_views(alloc, task, &protocol)?))
 }
 
 /// The text that lists the points of a protocol complex.
@@ -115,7 +119,8 @@ impl Header {
 /// Adds a line for each point.
 fn put_points(text: &mut String, protocol: &Protocol) -> Result<(), AllocError>
     requires { length protocol.now.firsts ≡ length protocol.now.points }
-    ensures { OnOk result (string_bytes text.new ≡ string_bytes text.old ++ appearances_text 0 protocol.now.firsts) }
+    ensures { OnOk result (string_bytes text.new
+        ≡ string_bytes text.old ++ appearances_text 0 protocol.now.firsts) }
 {
     for point in 0..protocol.points() {
         let (execution, process) = protocol.first_of(point);
@@ -126,7 +131,8 @@ fn put_points(text: &mut String, protocol: &Protocol) -> Result<(), AllocError>
 
 /// Adds the line of a point that appears first in this execution and process.
 fn put_point(text: &mut String, point: u32, execution: u32, process: u8) -> Result<(), AllocError>
-    ensures { OnOk result (string_bytes text.new ≡ string_bytes text.old ++ line (codes "v") (point ∷ execution ∷ process ∷ [])) }
+    ensures { OnOk result (string_bytes text.new
+        ≡ string_bytes text.old ++ line (codes "v") (point ∷ execution ∷ process ∷ [])) }
 {
     writeln!(text, "v {point} {execution} {process}")?;
     Ok(())

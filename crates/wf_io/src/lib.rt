@@ -9,7 +9,4 @@ pub mod sink;
 pub mod source;
 
 pub use sink::{Sink, WriteFault, write_whole};
-pub use source::{LONGEST, ReadFault, Source, read_all};
-
-#[cfg(test)]
-mod tests;
+pub use source::{ReadFault, Source, read_all};

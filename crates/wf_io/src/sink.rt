@@ -1,27 +1,37 @@
 //! Writing a whole text.
 
-ghost use Rattle.std.specs.Prelude.{◌≡◌, ℕ, ◌+◌, ◌-◌, ◌^◌, ◌<◌, ◌≤◌, ◌≢◌, ◌↔◌, length, take, if◌then◌else◌, is_err, IfOk, OnOk, OnErr, IfSome, IsErrOf, IsOk};
-ghost use Rattle.std.specs.Io.KnownBytes.{Keeps, Appends, WriteAppends};
+ghost use Rattle.std.specs.Prelude.{◌≡◌, ◌+◌, ◌-◌, ◌^◌, ◌<◌, if◌then◌else◌, is_err};
+ghost use Rattle.std.specs.Io.KnownBytes.{Keeps, WriteAppends};
 ghost use Rattle.std.specs.Io.{WritesAtMost};
-ghost use Rattle.wf_io.specs.Ends.{sink_failures, sink_writer, took_nothing};
+ghost use Rattle.wf_io.specs.Ends.{CanWrite, took_nothing};
+ghost use Rattle.wf_io.specs.Texts.{Tells, WritesText};
 
+use std::fmt::Display;
 use std::io;
 use std::io::Write;
+use std::marker::Model;
 
 /// A writer, and how many of its calls failed: they answered an error, or took no byte of a piece that had one.
 ///
-/// In contracts `sink_writer` is the writer and `sink_failures` the count.
+/// Clauses see what the writer holds, where that is known, and the count.
 #[derive(Drop)]
-pub struct Sink<W> {
+pub struct Sink<W: Write> {
     writer: W,
     failures: u64,
+}
+
+impl<W: Write> Model for Sink<W> {
+    ghost use Rattle.wf_io.specs.Seen.{Writing};
+
+    ghost Value = { Writing };
+
+    ghost view = { λ s. record { held = W.contents s.writer; failures = s.failures } };
 }
 
 impl<W: Write> Sink<W> {
     /// The writer, with no failed call yet.
     pub fn new(writer: W) -> Sink<W>
-        ensures writer { sink_writer result ≡ writer }
-        ensures none { sink_failures result ≡ 0 }
+        ensures { result ≡ record { held = W.contents writer; failures = 0 } }
     {
         Sink {
             writer,
@@ -31,19 +41,18 @@ impl<W: Write> Sink<W> {
 
     /// How many calls failed.
     pub fn failures(&self) -> u64
-        ensures { result ≡ sink_failures self.now }
+        ensures { result ≡ self.now.failures }
     {
         self.failures
     }
 
     /// One call of the writer: how many bytes of the piece it took, or its error.
     pub fn write(&mut self, piece: &[u8]) -> io::Result<usize>
-        requires { sink_failures self.old < 2 ^ 64 - 1 }
+        requires { CanWrite self.old }
         ensures bound { WritesAtMost result piece.now }
-        ensures bytes { WriteAppends (W.contents (sink_writer self.old))
-            (W.contents (sink_writer self.new)) result piece.now }
-        ensures counted { sink_failures self.new
-            ≡ sink_failures self.old + (if took_nothing result piece.now then 1 else 0) }
+        ensures bytes { WriteAppends self.old.held self.new.held result piece.now }
+        ensures failures { self.new.failures
+            ≡ self.old.failures + (if took_nothing result piece.now then 1 else 0) }
     {
         let answer = self.writer.write(piece);
         let failed = match &answer {
@@ -56,12 +65,22 @@ impl<W: Write> Sink<W> {
         answer
     }
 
+    /// Writes a value's text, and takes no memory for it. A failure counts once, and then it isn't known how much was
+    /// written.
+    pub fn put<D: Display + Drop>(&mut self, text: D)
+        requires { CanWrite self.old }
+        ensures { Tells self.old self.new (D.output text) }
+    {
+        if self.writer.write_fmt(text).is_err() {
+            self.failures += 1;
+        }
+    }
+
     /// One flush of the writer.
     pub fn flush(&mut self) -> io::Result<()>
-        requires { sink_failures self.old < 2 ^ 64 - 1 }
-        ensures bytes { Keeps (W.contents (sink_writer self.old)) (W.contents (sink_writer self.new)) }
-        ensures counted { sink_failures self.new
-            ≡ sink_failures self.old + (if is_err result then 1 else 0) }
+        requires { CanWrite self.old }
+        ensures bytes { Keeps self.old.held self.new.held }
+        ensures failures { self.new.failures ≡ self.old.failures + (if is_err result then 1 else 0) }
     {
         let answer = self.writer.flush();
         if answer.is_err() {
@@ -77,12 +96,8 @@ pub struct WriteFault;
 
 /// Writes the text and flushes. After a refusal a beginning of the text was written, and nothing else.
 pub fn write_whole<W: Write>(sink: &mut Sink<W>, text: &[u8]) -> Result<(), WriteFault>
-    requires { sink_failures sink.old < 2 ^ 64 - 1 }
-    ensures ok { OnOk result (Appends (W.contents (sink_writer sink.old))
-        (W.contents (sink_writer sink.new)) text.now) }
-    ensures beginning { OnErr result ((n : ℕ) × (n ≤ length text.now)
-        × Appends (W.contents (sink_writer sink.old)) (W.contents (sink_writer sink.new)) (take n text.now)) }
-    ensures counted { sink_failures sink.new ≡ sink_failures sink.old + (if is_err result then 1 else 0) }
+    requires { CanWrite sink.old }
+    ensures { WritesText sink.old sink.new text.now result }
 {
     let mut written = 0;
     while written < text.len() {

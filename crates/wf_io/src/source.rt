@@ -1,30 +1,38 @@
 //! Reading a whole text.
 
-ghost use Rattle.std.specs.Prelude.{◌≡◌, ℕ, ◌+◌, ◌-◌, ◌^◌, ◌<◌, ◌≤◌, ◌≢◌, ◌↔◌, length, take, if◌then◌else◌, is_err, IfOk, OnOk, OnErr, IfSome, IsErrOf, IsOk, vec_len, List};
-ghost use Rattle.std.specs.Io.KnownBytes.{Keeps, Appends, Consumes, IsAtEnd, ReadConsumes, WriteAppends};
-ghost use Rattle.std.specs.Io.{ReadsAtMost, WritesAtMost};
-ghost use Rattle.wf_io.specs.Ends.{source_failures, source_reader, ReadsText, is_read_fault, source_taken, count_of};
+ghost use Rattle.std.specs.Prelude.{◌≡◌, ◌+◌, ◌-◌, ◌^◌, ◌<◌, length, if◌then◌else◌, is_err};
+ghost use Rattle.std.specs.Io.KnownBytes.{ReadConsumes};
+ghost use Rattle.std.specs.Io.{ReadsAtMost};
+ghost use Rattle.wf_io.specs.Ends.{count_of, CanRead};
+ghost use Rattle.wf_io.specs.Texts.{ReadsText, bytes_of};
 
-use std::alloc::{AllocError, Global};
+use std::alloc::Global;
 use std::io;
 use std::io::Read;
+use std::marker::Model;
 
 /// A reader, how many of its calls answered an error, and how many bytes the others gave.
 ///
-/// In contracts `source_reader` is the reader, `source_failures` the count of errors and `source_taken` that of bytes.
+/// Clauses see what the reader has left, where that is known, and the two counts.
 #[derive(Drop)]
-pub struct Source<R> {
+pub struct Source<R: Read> {
     reader: R,
     failures: u64,
     taken: u64,
 }
 
+impl<R: Read> Model for Source<R> {
+    ghost use Rattle.wf_io.specs.Seen.{Reading};
+
+    ghost Value = { Reading };
+
+    ghost view = { λ s. record { left = R.remaining s.reader; failures = s.failures; taken = s.taken } };
+}
+
 impl<R: Read> Source<R> {
     /// The reader, before any call.
     pub fn new(reader: R) -> Source<R>
-        ensures reader { source_reader result ≡ reader }
-        ensures none { source_failures result ≡ 0 }
-        ensures taken { source_taken result ≡ 0 }
+        ensures { result ≡ record { left = R.remaining reader; failures = 0; taken = 0 } }
     {
         Source {
             reader,
@@ -35,21 +43,19 @@ impl<R: Read> Source<R> {
 
     /// How many calls answered an error.
     pub fn failures(&self) -> u64
-        ensures { result ≡ source_failures self.now }
+        ensures { result ≡ self.now.failures }
     {
         self.failures
     }
 
     /// One call of the reader: how many bytes it put at the front of the piece, 0 at the end, or its error.
     pub fn read(&mut self, piece: &mut [u8]) -> io::Result<usize>
-        requires failures { source_failures self.old < 2 ^ 64 - 1 }
-        requires taken { source_taken self.old + length piece.old < 2 ^ 64 }
+        requires failures { self.old.failures < 2 ^ 64 - 1 }
+        requires taken { self.old.taken + length piece.old < 2 ^ 64 }
         ensures bound { ReadsAtMost result piece.new }
-        ensures bytes { ReadConsumes (R.remaining (source_reader self.old))
-            (R.remaining (source_reader self.new)) result piece.new }
-        ensures counted { source_failures self.new
-            ≡ source_failures self.old + (if is_err result then 1 else 0) }
-        ensures taken { source_taken self.new ≡ source_taken self.old + count_of result }
+        ensures bytes { ReadConsumes self.old.left self.new.left result piece.new }
+        ensures failures { self.new.failures ≡ self.old.failures + (if is_err result then 1 else 0) }
+        ensures taken { self.new.taken ≡ self.old.taken + count_of result }
     {
         let answer = self.reader.read(piece);
         match &answer {
@@ -60,42 +66,37 @@ impl<R: Read> Source<R> {
     }
 }
 
-/// The most bytes that a text may have: 16 MiB.
-pub const LONGEST: usize = 16_777_216;
-
 // how many bytes are asked for at once
 const PIECE: usize = 4096;
 
 /// Why a text was not read.
 #[derive(Clone, Copy, Debug, PartialEq, Eq)]
 pub enum ReadFault {
-    /// There are more than [`LONGEST`] bytes.
+    /// There are more bytes than a text may have.
     TooLong,
-    /// Want of memory.
+    /// Memory ran out.
     OutOfMemory,
     /// A call of the reader answered an error, an interrupted one too.
     Read,
 }
 
-/// Reads all that the reader has, where that is at most [`LONGEST`] bytes.
+/// Reads all that the reader has, where that is at most this many bytes.
 ///
 /// At most one byte more than that is taken. Each call takes a byte at least or ends the reading.
-pub fn read_all<R: Read>(alloc: Global, source: &mut Source<R>) -> Result<Vec<u8>, ReadFault>
-    requires failures { source_failures source.old < 2 ^ 64 - 1 }
-    requires taken { source_taken source.old < 2 ^ 63 }
-    ensures at_most { source_taken source.new ≤ source_taken source.old + (LONGEST + 1) }
-    ensures all { IfOk result (λ text. source_taken source.new ≡ source_taken source.old + vec_len text) }
-    ensures taken { (given : List ℕ) × (length given ≤ LONGEST + 1)
-        × Consumes (R.remaining (source_reader source.old)) (R.remaining (source_reader source.new)) given
-        × ReadsText given (R.remaining (source_reader source.new)) result }
-    ensures counted { source_failures source.new
-        ≡ source_failures source.old + (if is_read_fault result then 1 else 0) }
+pub fn read_all<R: Read>(
+    alloc: Global,
+    source: &mut Source<R>,
+    most: usize,
+) -> Result<Vec<u8>, ReadFault>
+    requires source { CanRead source.old }
+    requires most { most < 2 ^ 32 }
+    ensures { ReadsText most source.old source.new (bytes_of result) }
 {
     let mut text = Vec::new(alloc);
     let mut piece = [0u8; PIECE];
-    while text.len() <= LONGEST {
-        let most = (LONGEST + 1 - text.len()).min(PIECE);
-        match source.read(&mut piece[..most]) {
+    while text.len() <= most {
+        let room = (most + 1 - text.len()).min(PIECE);
+        match source.read(&mut piece[..room]) {
             Ok(0) => return Ok(text),
             Ok(n) => {
                 if text.extend_from_slice(&piece[..n]).is_err() {

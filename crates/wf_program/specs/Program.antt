@@ -1,72 +1,116 @@
--- What a run of the program reads, writes and answers.
-use Rattle.std.specs.Prelude.{◌≡◌, ◌≢◌, ◌⊎◌, ℕ, List, Option, Result, Ok, Err}
-use Rattle.std.specs.Io.KnownBytes.{Keeps, Appends}
+-- What a run of the program reads, writes, tells and answers.
+use Rattle.std.specs.Prelude.{◌≡◌, ◌≢◌, ◌⊎◌, ℕ, List, [], ◌∷◌, ◌++◌, Option, Some, None, Result, Ok, Err, codes}
 use Rattle.clap.specs.Words.{kind_of}
 use Rattle.clap.specs.declared.error.Error.{Error}
 use Rattle.clap.specs.declared.error.ErrorKind.TheVariants as kind
 use Rattle.wf_core.specs.declared.Account.{Account}
+use Rattle.wf_io.specs.Seen.{Reading, Writing}
+use Rattle.wf_io.specs.Ends.{CanCount, CanWrite}
+use Rattle.wf_io.specs.Texts.{Tells}
 use Rattle.wf_engine.specs.declared.outcome.Outcome.{Outcome}
 use Rattle.wf_engine.specs.declared.outcome.Outcome.TheVariants.{Map, Nothing}
 use Rattle.wf_engine.specs.declared.fault.RunFault.{RunFault}
-use Rattle.wf_engine.specs.declared.fault.RunFault.TheVariants.{Task, Build, OutOfMemory, Read, Write}
-use Rattle.wf_engine.specs.Run.{Runs, IsSolved, IsViews}
+use Rattle.wf_engine.specs.declared.fault.RunFault.TheVariants as run
+use Rattle.wf_engine.specs.Faults.{fault_text}
+use Rattle.wf_engine.specs.Run.{Ran}
+use Rattle.wf_engine.specs.Texts.{Solves, Lists, SearchesInOrder}
+use Rattle.wf_words.specs.Job.{IsWithinLimits, IsClapMistake}
 use Rattle.wf_words.specs.declared.Job.{Job}
 use Rattle.wf_words.specs.declared.Job.TheVariants.{Solve, Views}
 use Rattle.wf_words.specs.declared.WordsFault.{WordsFault}
 use Rattle.wf_words.specs.declared.WordsFault.TheVariants as fault
+use Rattle.wf_program.specs.declared.refusal.Refusal.{Refusal}
+use Rattle.wf_program.specs.declared.refusal.Refusal.TheVariants.{Run, Words, Clap}
 
--- ---- exit statuses
+-- ---- refusals
 
--- of a refused run
+-- the exit status of a refused run
 abbrev pub fault_status : RunFault → ℕ
-fault_status (Task e) = 2
-fault_status (Build e) = 2
-fault_status OutOfMemory = 3
-fault_status Read = 4
-fault_status Write = 4
+fault_status run.OutOfMemory = 3
+fault_status run.Read = 4
+fault_status run.Write = 4
+fault_status e = 2
 
--- of a search
-abbrev pub solved_status : Result (Outcome × Account) RunFault → ℕ
-solved_status (Ok (Map, account)) = 0
-solved_status (Ok (Nothing, account)) = 1
-solved_status (Err e) = fault_status e
+abbrev pub refusal_status : Refusal → ℕ
+refusal_status (Run e) = fault_status e
+refusal_status Words = 2
+refusal_status (Clap e) = 2
 
--- of a list of points
-abbrev pub listed_status : Result (Unit {0}) RunFault → ℕ
-listed_status (Ok done) = 0
-listed_status (Err e) = fault_status e
+-- the line that tells a refusal's number and name, with what it carries
+abbrev pub refusal_line : List ℕ → List ℕ
+refusal_line name = codes "wfcheck: " ++ (name ++ 10 ∷ [])
 
--- ---- what is done
+-- what is told of a refusal, where it is known
+abbrev pub refusal_text : Refusal → Option (List ℕ)
+refusal_text (Run e) = Some (refusal_line (fault_text e))
+refusal_text Words = Some (refusal_line (codes "32 Words"))
+refusal_text (Clap e) = None
 
--- help was added to what the writer held; or memory ran out, and nothing was
-abbrev pub Helps : Option (List ℕ) → Option (List ℕ) → ℕ → Type 0
-Helps held holds status = ((status ≡ 0) × ((help : List ℕ) × Appends held holds help)) ⊎ ((status ≡ 3) × Keeps held holds)
+-- ---- what the words ask for
+
+-- a job or why there is none; where the words could not be had, that is why
+abbrev pub IsAsked : {X : Type 0} → Result X WordsFault → Result Job WordsFault → Type 0
+IsAsked (Ok words) (Ok job) = IsWithinLimits job
+IsAsked (Ok words) (Err e) = IsClapMistake e
+IsAsked (Err e) asked = asked ≡ Err e
+
+-- ---- what is done: its exit status, or why it is refused
+
+abbrev pub solved : Result (Outcome × Account) RunFault → Result ℕ Refusal
+solved (Ok (Map, account)) = Ok 0
+solved (Ok (Nothing, account)) = Ok 1
+solved (Err e) = Err (Run e)
+
+abbrev pub written : Result (Unit {0}) RunFault → Result ℕ Refusal
+written (Ok done) = Ok 0
+written (Err e) = Err (Run e)
+
+-- what a job asks for was done
+abbrev pub Does : Job → Reading → Reading → Writing → Writing → Result ℕ Refusal → Type 0
+Does (Solve rounds workers verdict) source source' sink sink' done =
+    (result : Result (Outcome × Account) RunFault) × Solves rounds verdict source source' sink sink' result
+    × (workers ≡ 1 → SearchesInOrder result) × (done ≡ solved result)
+Does (Views rounds) source source' sink sink' done =
+    (result : Result (Unit {0}) RunFault) × Lists rounds source source' sink sink' result × (done ≡ written result)
 
 -- the words don't ask for help
 abbrev pub IsMistake : Error → Type 0
 IsMistake e = (kind_of e ≢ kind.DisplayHelp) × (kind_of e ≢ kind.DisplayVersion)
 
+-- any text is a help
+abbrev pub IsHelp : Result (Unit {0} × List ℕ) RunFault → Type 0
+IsHelp (Ok answer) = Unit {0}
+IsHelp (Err e) = e ≡ run.OutOfMemory
+
+abbrev pub Helps : Writing → Writing → Result ℕ Refusal → Type 0
+Helps sink sink' done =
+    (result : Result (Unit {0}) RunFault) × Ran IsHelp sink sink' result × (done ≡ written result)
+
 -- the words ask for help, or they are refused, or memory ran out
-abbrev pub Declines : WordsFault → Option (List ℕ) → Option (List ℕ) → ℕ → Type 0
-Declines (fault.Clap e) held holds status = ((IsMistake e → ⊥) × Helps held holds status) ⊎ (IsMistake e × (status ≡ 2) × Keeps held holds)
-Declines fault.Words held holds status = (status ≡ 2) × Keeps held holds
-Declines fault.OutOfMemory held holds status = (status ≡ 3) × Keeps held holds
+abbrev pub Declines : WordsFault → Writing → Writing → Result ℕ Refusal → Type 0
+Declines (fault.Clap e) sink sink' done =
+    ((IsMistake e → ⊥) × Helps sink sink' done) ⊎ (IsMistake e × (done ≡ Err (Clap e)) × (sink' ≡ sink))
+Declines fault.Words sink sink' done = (done ≡ Err Words) × (sink' ≡ sink)
+Declines fault.OutOfMemory sink sink' done = (done ≡ Err (Run run.OutOfMemory)) × (sink' ≡ sink)
 
--- the reader had some bytes and has some left, and the writer held some and holds some
-module _ (had left held holds : Option (List ℕ)) where
-  -- the task that the reader gave was decided for some rounds
-  abbrev pub Solves : ℕ → ℕ → Type 0
-  Solves rounds status = (answer : Result (Outcome × Account) RunFault) × Runs (IsSolved rounds) rounds had left held holds answer × (status ≡ solved_status answer)
+-- the job was done; or there is none, and nothing was read
+abbrev pub DoesAsked : Result Job WordsFault → Reading → Reading → Writing → Writing → Result ℕ Refusal → Type 0
+DoesAsked (Ok job) source source' sink sink' done = Does job source source' sink sink' done
+DoesAsked (Err e) source source' sink sink' done = (source' ≡ source) × Declines e sink sink' done
 
-  -- the points of its protocol complex were listed
-  abbrev pub Lists : ℕ → ℕ → Type 0
-  Lists rounds status = (answer : Result (Unit {0}) RunFault) × Runs (IsViews rounds) rounds had left held holds answer × (status ≡ listed_status answer)
+-- ---- a whole run
 
-  -- what a job asks for was done
-  abbrev pub Does : Job → ℕ → Type 0
-  Does (Solve rounds workers verdict) status = Solves rounds status
-  Does (Views rounds) status = Lists rounds status
+-- the exit status; a refusal alone is told
+abbrev pub Ends : Writing → Writing → Result ℕ Refusal → ℕ → Type 0
+Ends errors errors' (Ok status) result = (result ≡ status) × (errors' ≡ errors)
+Ends errors errors' (Err e) result = (result ≡ refusal_status e) × Tells errors errors' (refusal_text e)
 
-  -- some job was done; or there is none in the words, and nothing was read
-  abbrev pub DoesOne : ℕ → Type 0
-  DoesOne status = ((job : Job) × Does job status) ⊎ (Keeps had left × ((fault : WordsFault) × Declines fault held holds status))
+-- the words were judged, what they ask for was done, and it was told how that ended
+abbrev pub Serves : {X : Type 0} → Result X WordsFault → Reading → Reading → Writing → Writing → Writing → Writing → ℕ → Type 0
+Serves words source source' sink sink' errors errors' status =
+    (asked : Result Job WordsFault) × (done : Result ℕ Refusal) × IsAsked words asked
+    × DoesAsked asked source source' sink sink' done × Ends errors errors' done status
+
+-- all three ends can count what a run asks of them
+abbrev pub CanServe : Reading → Writing → Writing → Type 0
+CanServe source sink errors = CanCount source sink × CanWrite errors

@@ -1,9 +1,13 @@
 //! The whole program, over any reader and any two writers, so that each row of its command line is a row of a test.
+//!
+//! [`run_program`] has one condition, that all three ends can count what a run asks of them, and one relation
+//! (`specs/Program.antt`): the words were judged, what they ask for was done, and a refusal, alone, was told.
 #![tactic(auto)]
 
+mod laws;
 mod program;
+mod refusal;
 
+pub use laws::serving_is_counted;
 pub use program::run_program;
-
-#[cfg(test)]
-mod tests;
+pub use refusal::Refusal;

@@ -1,191 +1,134 @@
 //! From the words of a command line to the exit status.
 
-ghost use Rattle.std.specs.Prelude.{◌≡◌, ◌==◌, ◌+◌, ◌-◌, ◌^◌, ◌<◌, ◌≤◌, if◌then◌else◌};
-ghost use Rattle.wf_io.specs.Ends.{source_failures, source_reader, source_taken, sink_failures, sink_writer};
-ghost use Rattle.wf_program.specs.Program.{fault_status, Solves, Lists, Does, Declines, DoesOne, Helps};
+ghost use Rattle.std.specs.Prelude.{◌≡◌};
+ghost use Rattle.wf_io.specs.Ends.{CanCount, CanWrite};
+ghost use Rattle.wf_words.specs.Job.{IsWithinLimits};
+ghost use Rattle.wf_program.specs.Program.{CanServe, Declines, Does, Ends, Helps, IsAsked, Serves, solved, written};
 
+use crate::refusal::Refusal;
 use std::alloc::Global;
 use std::fmt::Display;
 use std::io::{Read, Write};
-use wf_engine::{Outcome, RunFault, run_solve_one, run_views};
-use wf_io::{Sink, Source, write_whole};
+use std::thread::Threads;
+use wf_core::Account;
+use wf_engine::{Outcome, RunFault, hand_out, run_solve, run_views};
+use wf_io::{Sink, Source};
 use wf_words::{Job, WordsFault, read_words};
 
-/// Runs what the words ask for, the first of which is the program's own name, and answers the exit status.
+/// Runs what the words ask for, the first of which is the program's own name, and answers the exit status. Where the
+/// words could not be had, that is the refusal.
 ///
 /// 0: a map was found, or the text was written. 1: there is no map. 2: the task, the rounds or the words are refused.
 /// 3: memory ran out. 4: a read or a write failed. A refusal is one line on `errors`.
-pub fn run_program<R: Read, W: Write, E: Write>(
+pub fn run_program<T: Threads + Sync, R: Read, W: Write, E: Write>(
+    rt: &T,
     alloc: Global,
-    words: &[String],
+    words: Result<Vec<String>, WordsFault>,
     source: &mut Source<R>,
     sink: &mut Sink<W>,
-    errors: &mut E,
+    errors: &mut Sink<E>,
 ) -> u8
-    requires source { source_failures source.old < 2 ^ 64 - 1 }
-    requires taken { source_taken source.old < 2 ^ 63 }
-    requires sink { sink_failures sink.old < 2 ^ 64 - 1 }
-    ensures does { DoesOne (R.remaining (source_reader source.old)) (R.remaining (source_reader source.new))
-        (W.contents (sink_writer sink.old)) (W.contents (sink_writer sink.new)) result }
-    ensures status { result ≤ 4 }
-    ensures failed { result ≡ 4 → source_failures source.new + sink_failures sink.new
-        ≡ (source_failures source.old + sink_failures sink.old) + 1 }
-    ensures at_most { source_taken source.new ≤ source_taken source.old + 16777217 }
-    ensures quiet { result ≤ 1 → errors.new ≡ errors.old }
+    requires { CanServe source.old sink.old errors.old }
+    ensures { Serves words source.old source.new sink.old sink.new errors.old errors.new result }
 {
-    match read_words(alloc, words) {
-        Ok(job) => do_job(alloc, source, sink, errors, &job),
-        Err(fault) => words_refused(alloc, sink, errors, &fault),
-    }
+    let done = match job_of(alloc, words) {
+        Ok(job) => do_job(rt, alloc, source, sink, &job),
+        Err(fault) => decline(alloc, sink, fault),
+    };
+    end(errors, done)
+}
+
+/// What the words ask for, if they could be had.
+fn job_of(alloc: Global, words: Result<Vec<String>, WordsFault>) -> Result<Job, WordsFault>
+    ensures { IsAsked words result }
+{
+    read_words(alloc, &words?)
 }
 
 /// Does what a job asks for.
-fn do_job<R: Read, W: Write, E: Write>(
+fn do_job<T: Threads + Sync, R: Read, W: Write>(
+    rt: &T,
     alloc: Global,
     source: &mut Source<R>,
     sink: &mut Sink<W>,
-    errors: &mut E,
     job: &Job,
-) -> u8
-    requires source { source_failures source.old < 2 ^ 64 - 1 }
-    requires taken { source_taken source.old < 2 ^ 63 }
-    requires sink { sink_failures sink.old < 2 ^ 64 - 1 }
-    ensures does { Does (R.remaining (source_reader source.old)) (R.remaining (source_reader source.new))
-        (W.contents (sink_writer sink.old)) (W.contents (sink_writer sink.new)) job.now result }
-    ensures status { result ≤ 4 }
-    ensures failures { source_failures source.new + sink_failures sink.new
-        ≡ (source_failures source.old + sink_failures sink.old) + (if result == 4 then 1 else 0) }
-    ensures at_most { source_taken source.new ≤ source_taken source.old + 16777217 }
-    ensures quiet { result ≤ 1 → errors.new ≡ errors.old }
+) -> Result<u8, Refusal>
+    requires ends { CanCount source.old sink.old }
+    requires today { IsWithinLimits job.now }
+    ensures { Does job.now source.old source.new sink.old sink.new result }
 {
     match job {
         Job::Solve {
             rounds,
-            workers: _workers,
-            verdict: _verdict,
-        } => solve(alloc, source, sink, errors, *rounds),
-        Job::Views { rounds } => views(alloc, source, sink, errors, *rounds),
+            workers,
+            verdict,
+        } => after_solving(run_solve(rt, alloc, source, sink, *rounds, *workers, *verdict)),
+        Job::Views { rounds } => after_writing(run_views(alloc, source, sink, *rounds)),
     }
 }
 
-/// Decides a task, in the verdict form.
-fn solve<R: Read, W: Write, E: Write>(
-    alloc: Global,
-    source: &mut Source<R>,
-    sink: &mut Sink<W>,
-    errors: &mut E,
-    rounds: u32,
-) -> u8
-    requires source { source_failures source.old < 2 ^ 64 - 1 }
-    requires taken { source_taken source.old < 2 ^ 63 }
-    requires sink { sink_failures sink.old < 2 ^ 64 - 1 }
-    ensures solves { Solves (R.remaining (source_reader source.old)) (R.remaining (source_reader source.new))
-        (W.contents (sink_writer sink.old)) (W.contents (sink_writer sink.new)) rounds result }
-    ensures status { result ≤ 4 }
-    ensures failures { source_failures source.new + sink_failures sink.new
-        ≡ (source_failures source.old + sink_failures sink.old) + (if result == 4 then 1 else 0) }
-    ensures at_most { source_taken source.new ≤ source_taken source.old + 16777217 }
-    ensures quiet { result ≤ 1 → errors.new ≡ errors.old }
+/// What is answered after a search.
+fn after_solving(found: Result<(Outcome, Account), RunFault>) -> Result<u8, Refusal>
+    ensures { result ≡ solved found }
 {
-    match run_solve_one(alloc, source, sink, rounds, true) {
-        Ok((outcome, _account)) => match outcome {
-            Outcome::Map => 0,
-            Outcome::Nothing => 1,
-        },
-        Err(fault) => refused(errors, &fault),
+    match found {
+        Ok((Outcome::Map, _account)) => Ok(0),
+        Ok((Outcome::Nothing, _account)) => Ok(1),
+        Err(fault) => Err(Refusal::Run(fault)),
     }
 }
 
-/// Lists the points of a task's protocol complex.
-fn views<R: Read, W: Write, E: Write>(
-    alloc: Global,
-    source: &mut Source<R>,
-    sink: &mut Sink<W>,
-    errors: &mut E,
-    rounds: u32,
-) -> u8
-    requires source { source_failures source.old < 2 ^ 64 - 1 }
-    requires taken { source_taken source.old < 2 ^ 63 }
-    requires sink { sink_failures sink.old < 2 ^ 64 - 1 }
-    ensures lists { Lists (R.remaining (source_reader source.old)) (R.remaining (source_reader source.new))
-        (W.contents (sink_writer sink.old)) (W.contents (sink_writer sink.new)) rounds result }
-    ensures status { result ≤ 4 }
-    ensures failures { source_failures source.new + sink_failures sink.new
-        ≡ (source_failures source.old + sink_failures sink.old) + (if result == 4 then 1 else 0) }
-    ensures at_most { source_taken source.new ≤ source_taken source.old + 16777217 }
-    ensures quiet { result ≤ 1 → errors.new ≡ errors.old }
+/// What is answered after a text was written.
+fn after_writing(found: Result<(), RunFault>) -> Result<u8, Refusal>
+    ensures { result ≡ written found }
 {
-    match run_views(alloc, source, sink, rounds) {
-        Ok(()) => 0,
-        Err(fault) => refused(errors, &fault),
+    match found {
+        Ok(()) => Ok(0),
+        Err(fault) => Err(Refusal::Run(fault)),
     }
 }
 
-/// The exit status of a refusal.
-fn status_of(fault: &RunFault) -> u8
-    ensures { result ≡ fault_status fault.now }
-{
-    match fault {
-        RunFault::Task(_) | RunFault::Build(_) => 2,
-        RunFault::OutOfMemory => 3,
-        RunFault::Read | RunFault::Write => 4,
-    }
-}
-
-/// One line on the error stream. Nothing more can be done where that fails too.
-fn refused<E: Write>(errors: &mut E, fault: &RunFault) -> u8
-    ensures { result ≡ fault_status fault.now }
-{
-    let _ = writeln!(errors, "wfcheck: {fault}");
-    status_of(fault)
-}
-
-/// A fault of the words: help goes to the sink, a mistake to the error stream.
-fn words_refused<W: Write, E: Write>(
-    alloc: Global,
-    sink: &mut Sink<W>,
-    errors: &mut E,
-    fault: &WordsFault,
-) -> u8
-    requires { sink_failures sink.old < 2 ^ 64 - 1 }
-    ensures declines { Declines fault.now (W.contents (sink_writer sink.old)) (W.contents (sink_writer sink.new)) result }
-    ensures quiet { result ≤ 1 → errors.new ≡ errors.old }
+/// There is no job in the words: a help goes to the sink, and the rest is refused.
+fn decline<W: Write>(alloc: Global, sink: &mut Sink<W>, fault: WordsFault) -> Result<u8, Refusal>
+    requires { CanWrite sink.old }
+    ensures { Declines fault sink.old sink.new result }
 {
     match fault {
         WordsFault::Clap(error) => {
             if error.use_stderr() {
-                mistaken(errors, error)
+                Err(Refusal::Clap(error))
             } else {
-                helped(alloc, sink, errors, error)
+                help(alloc, sink, &error)
             }
         }
-        WordsFault::Words => mistaken(errors, &"wfcheck: 32 Words\n"),
-        WordsFault::OutOfMemory => refused(errors, &RunFault::OutOfMemory),
+        WordsFault::Words => Err(Refusal::Words),
+        WordsFault::OutOfMemory => Err(Refusal::Run(RunFault::OutOfMemory)),
     }
 }
 
-/// The text of a mistake in the words, on the error stream.
-fn mistaken<E: Write, T: Display>(errors: &mut E, text: &T) -> u8
-    ensures { result ≡ 2 }
+/// Writes a help.
+fn help<W: Write, H: Display>(alloc: Global, sink: &mut Sink<W>, text: &H) -> Result<u8, Refusal>
+    requires { CanWrite sink.old }
+    ensures { Helps sink.old sink.new result }
 {
-    let _ = write!(errors, "{text}");
-    2
+    let answer = match format!(in alloc; "{text}") {
+        Ok(text) => Ok(((), text.into_bytes())),
+        Err(_) => Err(RunFault::OutOfMemory),
+    };
+    after_writing(hand_out(sink, answer))
 }
 
-/// The text of the help, as much of it as the sink takes.
-fn helped<W: Write, E: Write, T: Display>(
-    alloc: Global,
-    sink: &mut Sink<W>,
-    errors: &mut E,
-    text: &T,
-) -> u8
-    requires { sink_failures sink.old < 2 ^ 64 - 1 }
-    ensures helps { Helps (W.contents (sink_writer sink.old)) (W.contents (sink_writer sink.new)) result }
-    ensures quiet { result ≤ 1 → errors.new ≡ errors.old }
+/// The exit status; a refusal is told. Nothing more can be done where that fails too.
+fn end<E: Write>(errors: &mut Sink<E>, done: Result<u8, Refusal>) -> u8
+    requires { CanWrite errors.old }
+    ensures { Ends errors.old errors.new done result }
 {
-    let Ok(text) = format!(in alloc; "{text}") else {
-        return refused(errors, &RunFault::OutOfMemory);
-    };
-    let _ = write_whole(sink, text.as_bytes());
-    0
+    match done {
+        Ok(status) => status,
+        Err(refusal) => {
+            let status = refusal.status();
+            errors.put(refusal);
+            status
+        }
+    }
 }

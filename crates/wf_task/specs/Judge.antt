@@ -14,6 +14,7 @@ use Rattle.wf_task.specs.declared.fault.TaskFault.TheVariants as fault
 use Rattle.wf_task.specs.Draft.{Listed, ◌>>=◌, or_fault, draft_of}
 use Rattle.wf_task.specs.Text.{json_of}
 use Rattle.wf_task.specs.Slots.{entries_in}
+use Rattle.wf_task.specs.declared.task.TheConstants.{LONGEST}
 
 -- ---- what is asked
 
@@ -138,4 +139,4 @@ task_of d = draft_of d >>= judged
 
 -- the task of a text, or the first fault
 unfoldable pub text_of : List ℕ → Result Task TaskFault
-text_of bytes = if nat_lt 16777216 (length bytes) then Err fault.TooLong else (or_fault fault.NotJson (json_of bytes) >>= task_of)
+text_of bytes = if nat_lt LONGEST (length bytes) then Err fault.TooLong else (or_fault fault.NotJson (json_of bytes) >>= task_of)

@@ -3,6 +3,7 @@
 //! - [`Task`]: input and output simplices, and for each input simplex the tuples that its processes may decide.
 //!   [`Task::read_text`] reads one, or says what is wrong with the text.
 //! - [`TaskFault`]: why a text is no task, with the [`Key`] or the [`Limit`] that it is about.
+//! - [`LONGEST`]: how many bytes a text may have.
 //! - [`Row`]: the output values of a tuple, one for each process of an input simplex. Copied, five bytes, no memory.
 #![tactic(auto)]
 
@@ -20,7 +21,7 @@ mod tuples;
 
 pub use fault::{Key, Limit, TaskFault};
 pub use row::Row;
-pub use task::Task;
+pub use task::{LONGEST, Task};
 
 #[cfg(test)]
 mod limit_tests;

@@ -22,8 +22,8 @@ use std::alloc::{AllocError, Global};
 use std::marker::Model;
 use wf_simplex::Complex;
 
-/// The longest text that is read, in bytes.
-const LONGEST: usize = 16_777_216;
+/// The most bytes that a text may have, a task's or a report's: 16 MiB.
+pub const LONGEST: usize = 16_777_216;
 
 /// A decision task (Herlihy and Shavit 1999): input simplices, output simplices, and for each input simplex
 /// the output tuples on its processes.

@@ -7,6 +7,7 @@ ghost use Rattle.wf_words.specs.Job.{IsWithinLimits, IsClapMistake};
 use clap::error::ErrorKind;
 use clap::{Arg, ArgAction, ArgMatches, Command, value_parser};
 use std::alloc::{AllocError, Global};
+use std::io;
 
 /// A command, with its options.
 #[derive(Debug, Drop)]
@@ -32,7 +33,7 @@ pub enum Job {
 pub enum WordsFault {
     /// The words are not those of the command line, or they ask for help: a text to be printed.
     Clap(clap::Error),
-    /// The words are read but ask for what this program refuses.
+    /// The words are read but ask for what this program refuses, or one of them is no text.
     Words,
     /// Want of memory.
     OutOfMemory,
@@ -46,6 +47,15 @@ impl From<AllocError> for WordsFault {
 
     fn from(_refused: AllocError) -> WordsFault {
         WordsFault::OutOfMemory
+    }
+}
+
+impl From<io::Error> for WordsFault {
+    fn from(error: io::Error) -> WordsFault {
+        match error.kind() {
+            io::ErrorKind::OutOfMemory => WordsFault::OutOfMemory,
+            _ => WordsFault::Words,
+        }
     }
 }
 
@@ -144,6 +154,3 @@ pub fn read_words(alloc: Global, words: &[String]) -> Result<Job, WordsFault>
         _ => Err(WordsFault::Words),
     }
 }
-
-#[cfg(test)]
-mod tests;

@@ -9,24 +9,22 @@ use std::process::ExitCode;
 use std::{env, io};
 use wf_io::{Sink, Source};
 use wf_program::run_program;
+use wf_words::WordsFault;
 
 /// The words of the command line, the program's name first.
-fn arguments(rt: &(impl Env + Alloc<A = Global>)) -> io::Result<Vec<String>> {
+fn arguments(rt: &(impl Env + Alloc<A = Global>)) -> Result<Vec<String>, WordsFault> {
     let words = env::args(rt)?;
     Ok(words.collect(rt.alloc())?)
 }
 
 fn main(rt: HostRuntime) -> ExitCode {
-    let Ok(words) = arguments(&rt) else {
-        let _ = eprintln!(rt; "wfcheck: 32 Words");
-        return ExitCode::from(2);
-    };
     let status = run_program(
+        &rt,
         rt.alloc(),
-        &words,
+        arguments(&rt),
         &mut Source::new(rt.reader()),
         &mut Sink::new(io::writer(&rt)),
-        &mut rt.stderr(),
+        &mut Sink::new(rt.stderr()),
     );
     ExitCode::from(status)
 }

@@ -1,0 +1,92 @@
+-- The counts of a run.
+use Rattle.std.proofs.Common.{◌≡◌, ◌≢◌, ℕ, ◌+◌, ◌≤◌, List, length, Option, Result, Ok, Err, refl, sym, ap, ◌∙◌, arith, IfErr}
+use Rattle.wf_model.specs.Task.{Task}
+use Rattle.wf_io.specs.Seen.{Reading, Writing}
+use Rattle.wf_io.specs.Texts.{IsText}
+use Rattle.wf_io.specs.Texts as io
+use Rattle.wf_io.specs.declared.source.ReadFault.{ReadFault}
+use Rattle.wf_io.specs.declared.source.ReadFault.TheVariants as read
+use Rattle.wf_task.specs.declared.fault.TaskFault.{TaskFault}
+use Rattle.wf_task.specs.declared.fault.TaskFault.TheVariants as task
+use Rattle.wf_task.specs.declared.task.TheConstants.{LONGEST}
+use Rattle.wf_engine.specs.declared.fault.RunFault.{RunFault}
+use Rattle.wf_engine.specs.declared.fault.RunFault.TheVariants as run
+use Rattle.wf_engine.specs.Faults.{of_task}
+use Rattle.wf_engine.specs.Run.{Next, Judged, IsTaskOf, IsBeyondLimits, Answers, Asks, Hands, Ran}
+use Rattle.wf_engine.specs.Laws.{failed_reads, failed_writes, by_result, IsCounted}
+
+-- a fault of a task's text counts nowhere
+quiet : (e : TaskFault) → (failed_reads (of_task e) ≡ 0) × (failed_writes (of_task e) ≡ 0)
+quiet task.TooLong = (refl, refl)
+quiet task.OutOfMemory = (refl, refl)
+quiet e = (refl, refl)
+
+few : (most : ℕ) (given : List ℕ) (left : Option (List ℕ)) (text : Result (List ℕ) ReadFault) → IsText most given left text → length given ≤ most + 1
+few most given left (Ok text) is = let few = is.1 in omega (arith, few)
+few most given left (Err read.TooLong) is = omega (arith, is)
+few most given left (Err read.OutOfMemory) is = is
+few most given left (Err read.Read) is = omega (arith, is)
+
+judged : (text : Result (List ℕ) ReadFault) (t : Result Task RunFault) → Judged IsTaskOf text t → (io.failed_reads text ≡ by_result failed_reads t) × (by_result failed_writes t ≡ 0)
+judged (Ok text) (Ok t) j = (refl, refl)
+judged (Ok text) (Err run.Read) (e, fails, is) = (sym (ap failed_reads is ∙ (quiet e).0), refl)
+judged (Ok text) (Err run.Write) (e, fails, is) = (refl, ap failed_writes is ∙ (quiet e).1)
+judged (Ok text) (Err e) j = (refl, refl)
+judged (Err read.TooLong) t j = (sym (ap (by_result failed_reads) j), ap (by_result failed_writes) j)
+judged (Err read.OutOfMemory) t j = (sym (ap (by_result failed_reads) j), ap (by_result failed_writes) j)
+judged (Err read.Read) t j = (sym (ap (by_result failed_reads) j), ap (by_result failed_writes) j)
+
+beyond : (r : ℕ) (t : Task) (e : RunFault) → IsBeyondLimits r t e → (failed_reads e ≡ 0) × (failed_writes e ≡ 0)
+beyond r t run.Read is = absurd is
+beyond r t run.Write is = absurd is
+beyond r t e is = (refl, refl)
+
+module _ {X : Type 0} (is_text : Task → X → List ℕ → Type 0) (r : ℕ) where
+  answered : (t : Result Task RunFault) (answer : Result (X × List ℕ) RunFault) → Next (Answers is_text r) t answer → by_result failed_writes t ≡ 0
+      → (by_result failed_reads t ≡ by_result failed_reads answer) × (by_result failed_writes answer ≡ 0)
+  answered (Ok t) (Ok a) n w = (refl, refl)
+  answered (Ok t) (Err e) n w = (sym (beyond r t e n).0, (beyond r t e n).1)
+  answered (Err e) answer n w = (sym (ap (by_result failed_reads) n), ap (by_result failed_writes) n ∙ w)
+
+-- what holds of a sink after an answer was handed to it
+pub record Told {X : Type 0} (old new : Writing) (answer : Result (X × List ℕ) RunFault) (result : Result X RunFault) : Type 0 where
+  pub reads : by_result failed_reads answer ≡ by_result failed_reads result
+  pub writes : new.failures ≡ old.failures + by_result failed_writes result
+  pub unwritten : IfErr result (λ e. e ≢ run.Write → new ≡ old)
+
+unwritten : {X : Type 0} (old new : Writing) (result : Result X RunFault) → new ≡ old → IfErr result (λ e. e ≢ run.Write → new ≡ old)
+unwritten old new (Ok x) same = tt
+unwritten old new (Err e) same = λ other. same
+
+pub handed : {X : Type 0} (old new : Writing) (answer : Result (X × List ℕ) RunFault) (result : Result X RunFault) → Hands old new answer result → by_result failed_writes answer ≡ 0
+    → Told old new answer result
+handed old new (Ok a) (Ok x) h w = record { reads = refl; writes = h.1.failures; unwritten = tt }
+handed old new (Ok a) (Err e) (is, begun) w =
+    let (n, short, took) = begun in
+    record {
+      reads = sym (ap failed_reads is);
+      writes = took.failures ∙ ap (λ k. old.failures + k) (sym (ap failed_writes is));
+      unwritten = λ other. absurd (other is);
+    }
+handed old new (Err e) result (is, same) w =
+    let quiet_result : by_result failed_writes result ≡ 0 = ap (by_result failed_writes) is ∙ w in
+    record {
+      reads = sym (ap (by_result failed_reads) is);
+      writes = ap (λ s. s.failures) same ∙ omega (arith, quiet_result);
+      unwritten = unwritten old new result same;
+    }
+
+-- any run over one source, whatever it answers
+pub counted : {X : Type 0} (is_text : Task → X → List ℕ → Type 0) (rounds : ℕ) (source source' : Reading) (sink sink' : Writing) (result : Result X RunFault)
+    → Ran (Asks is_text rounds source source') sink sink' result → IsCounted source source' sink sink' result
+counted is_text rounds source source' sink sink' result (answer, (t, (text, (given, gave, is), j), n), h) =
+    let a = judged text t j in
+    let b = answered is_text rounds t answer n a.1 in
+    let c = handed sink sink' answer result h b.1 in
+    let bound = few LONGEST given source'.left text is in
+    record {
+      taken = omega (arith, gave.taken, bound);
+      reads = gave.failures ∙ ap (λ k. source.failures + k) (a.0 ∙ b.0 ∙ c.reads);
+      writes = c.writes;
+      unwritten = c.unwritten;
+    }

@@ -1,0 +1,6 @@
+use Rattle.wf_engine.specs.Texts.{IsSolved}
+use Rattle.wf_engine.proofs.Counts.{counted}
+use Rattle.wf_engine.proofs.laws.solving_is_counted.Goals as goal
+
+pub returns : goal.returns
+returns c rounds verdict = counted (IsSolved rounds verdict) rounds

@@ -1,0 +1,140 @@
+-- What holds after every run of the program.
+use Rattle.std.proofs.Common.{◌≡◌, ◌≢◌, ℕ, zero, suc, ◌+◌, ◌≤◌, ◌⊎◌, inl, inr, List, Result, Ok, Err, IfOk, IfErr, refl, sym, ap, subst, ◌∙◌, arith}
+use Rattle.wf_core.specs.declared.Account.{Account}
+use Rattle.wf_io.specs.Seen.{Reading, Writing}
+use Rattle.wf_task.specs.declared.task.TheConstants.{LONGEST}
+use Rattle.wf_words.specs.declared.Job.{Job}
+use Rattle.wf_words.specs.declared.Job.TheVariants as job
+use Rattle.wf_words.specs.declared.WordsFault.{WordsFault}
+use Rattle.wf_words.specs.declared.WordsFault.TheVariants as words
+use Rattle.wf_engine.specs.declared.outcome.Outcome.{Outcome}
+use Rattle.wf_engine.specs.declared.outcome.Outcome.TheVariants.{Map, Nothing}
+use Rattle.wf_engine.specs.declared.fault.RunFault.{RunFault}
+use Rattle.wf_engine.specs.declared.fault.RunFault.TheVariants as run
+use Rattle.wf_engine.specs.Texts.{IsSolved, IsViews}
+use Rattle.wf_engine.specs.Laws.{failed_reads, failed_writes, by_result, IsCounted}
+use Rattle.wf_engine.proofs.Counts.{counted, handed}
+use Rattle.wf_program.specs.declared.refusal.Refusal.{Refusal}
+use Rattle.wf_program.specs.declared.refusal.Refusal.TheVariants as refusal
+use Rattle.wf_program.specs.Program.{fault_status, refusal_status, solved, written, IsHelp, Helps, Declines, DoesAsked, Ends}
+use Rattle.wf_program.specs.Laws.{IsServed, failed_calls}
+
+-- how many calls failed, by what was done
+failed : Result ℕ Refusal → ℕ
+failed (Ok status) = 0
+failed (Err e) = failed_calls (refusal_status e)
+
+-- what holds of source and sink after something was done
+record IsDone (source source' : Reading) (sink sink' : Writing) (done : Result ℕ Refusal) : Type 0 where
+  most : IfOk done (λ status. status ≤ 1)
+  failures : source'.failures + sink'.failures ≡ (source.failures + sink.failures) + failed done
+  taken : source'.taken ≤ source.taken + (LONGEST + 1)
+  unwritten : IfErr done (λ e. refusal_status e ≢ 4 → sink' ≡ sink)
+
+calls_of_fault : (e : RunFault) → failed_reads e + failed_writes e ≡ failed (Err (refusal.Run e))
+unfolding failed
+calls_of_fault run.OutOfMemory = refl
+calls_of_fault run.Read = refl
+calls_of_fault run.Write = refl
+calls_of_fault e = refl
+
+module _ (source source' : Reading) (sink sink' : Writing) where
+  accepted : {X : Type 0} (x : X) (status : ℕ) → status ≤ 1 → IsCounted source source' sink sink' (Ok x) → IsDone source source' sink sink' (Ok status)
+  unfolding failed
+  accepted x status most h = record { most = most; failures = omega (arith, h.reads, h.writes); taken = h.taken; unwritten = tt }
+
+  refused : {X : Type 0} (e : RunFault) → IsCounted {X = X} source source' sink sink' (Err e) → IsDone source source' sink sink' (Err (refusal.Run e))
+  refused e h =
+      let calls = calls_of_fault e in
+      record { most = tt; failures = omega (arith, h.reads, h.writes, calls); taken = h.taken; unwritten = λ other. h.unwritten (λ same. other (ap fault_status same)) }
+
+  after_solving : (result : Result (Outcome × Account) RunFault) → IsCounted source source' sink sink' result → IsDone source source' sink sink' (solved result)
+  after_solving (Ok (Map, a)) h = accepted (Map, a) 0 (omega arith) h
+  after_solving (Ok (Nothing, a)) h = accepted (Nothing, a) 1 (omega arith) h
+  after_solving (Err e) h = refused e h
+
+  after_writing : (result : Result (Unit {0}) RunFault) → IsCounted source source' sink sink' result → IsDone source source' sink sink' (written result)
+  after_writing (Ok x) h = accepted x 0 (omega arith) h
+  after_writing (Err e) h = refused e h
+
+  -- nothing was read or written
+  untouched : (e : Refusal) → failed (Err e) ≡ 0 → source' ≡ source → sink' ≡ sink → IsDone source source' sink sink' (Err e)
+  untouched e none read wrote =
+      let reads : source'.failures ≡ source.failures = ap (λ s. s.failures) read in
+      let writes : sink'.failures ≡ sink.failures = ap (λ s. s.failures) wrote in
+      let takes : source'.taken ≡ source.taken = ap (λ s. s.taken) read in
+      record { most = tt; failures = omega (arith, reads, writes, none); taken = omega (arith, takes); unwritten = λ other. wrote }
+
+  quiet : (answer : Result (Unit {0} × List ℕ) RunFault) → IsHelp answer → (by_result failed_reads answer ≡ 0) × (by_result failed_writes answer ≡ 0)
+  quiet (Ok answer) asks = (refl, refl)
+  quiet (Err e) asks = (ap failed_reads asks, ap failed_writes asks)
+
+  helped : (done : Result ℕ Refusal) → source' ≡ source → Helps sink sink' done → IsDone source source' sink sink' done
+  helped done read (result, (answer, asks, h), is) =
+      let none = quiet answer asks in
+      let told = handed sink sink' answer result h none.1 in
+      let reads : source'.failures ≡ source.failures = ap (λ s. s.failures) read in
+      let takes : source'.taken ≡ source.taken = ap (λ s. s.taken) read in
+      let same : by_result failed_reads result ≡ 0 = sym told.reads ∙ none.0 in
+      subst (IsDone source source' sink sink') (sym is)
+      (after_writing result (record { taken = omega (arith, takes); reads = omega (arith, reads, same); writes = told.writes; unwritten = told.unwritten }))
+
+  declined : (e : WordsFault) (done : Result ℕ Refusal) → source' ≡ source → Declines e sink sink' done → IsDone source source' sink sink' done
+  unfolding failed
+  declined (words.Clap e) done read (inl (asked, helps)) = helped done read helps
+  declined (words.Clap e) done read (inr (mistake, is, same)) = subst (IsDone source source' sink sink') (sym is) (untouched (refusal.Clap e) refl read same)
+  declined words.Words done read (is, same) = subst (IsDone source source' sink sink') (sym is) (untouched refusal.Words refl read same)
+  declined words.OutOfMemory done read (is, same) = subst (IsDone source source' sink sink') (sym is) (untouched (refusal.Run run.OutOfMemory) refl read same)
+
+  did : (asked : Result Job WordsFault) (done : Result ℕ Refusal) → DoesAsked asked source source' sink sink' done → IsDone source source' sink sink' done
+  did (Ok (job.Solve rounds workers verdict)) done (result, solves, ordered, is) =
+      subst (IsDone source source' sink sink') (sym is) (after_solving result (counted (IsSolved rounds verdict) rounds source source' sink sink' result solves))
+  did (Ok (job.Views rounds)) done (result, lists, is) =
+      subst (IsDone source source' sink sink') (sym is) (after_writing result (counted (IsViews rounds) rounds source source' sink sink' result lists))
+  did (Err e) done (read, declines) = declined e done read declines
+
+-- the status of a refusal is 2, 3 or 4
+of_fault : (e : RunFault) → (2 ≤ fault_status e) × (fault_status e ≤ 4)
+of_fault run.OutOfMemory = (omega arith, omega arith)
+of_fault run.Read = (omega arith, omega arith)
+of_fault run.Write = (omega arith, omega arith)
+of_fault e = (omega arith, omega arith)
+
+of_refusal : (e : Refusal) → (2 ≤ refusal_status e) × (refusal_status e ≤ 4)
+of_refusal (refusal.Run e) = of_fault e
+of_refusal refusal.Words = (omega arith, omega arith)
+of_refusal (refusal.Clap e) = (omega arith, omega arith)
+
+small : (status : ℕ) → status ≤ 1 → failed_calls status ≡ 0
+small zero h = refl
+small (suc zero) h = refl
+small (suc (suc n)) h = absurd (omega arith)
+
+two_or_three : (a b : ℕ) → a ≡ b → (a ≡ 2) ⊎ (a ≡ 3) → b ≢ 4
+two_or_three a b is (inl two) four = omega arith
+two_or_three a b is (inr three) four = omega arith
+
+pub served : (source source' : Reading) (sink sink' errors errors' : Writing) (asked : Result Job WordsFault) (done : Result ℕ Refusal) (status : ℕ)
+    → DoesAsked asked source source' sink sink' done → Ends errors errors' done status → IsServed source source' sink sink' errors errors' status
+unfolding failed
+served source source' sink sink' errors errors' asked (Ok s) status does (is, quiet) =
+    let h = did source source' sink sink' asked (Ok s) does in
+    let most : s ≤ 1 = h.most in
+    let none : failed_calls status ≡ 0 = small status (omega arith) in
+    record {
+      most = omega arith;
+      failures = h.failures ∙ ap (λ n. (source.failures + sink.failures) + n) (sym none);
+      taken = h.taken;
+      quiet = λ few. quiet;
+      unwritten = λ bad. absurd (elim bad [ inl two ↦ omega arith | inr three ↦ omega arith ]);
+    }
+served source source' sink sink' errors errors' asked (Err e) status does (is, told) =
+    let h = did source source' sink sink' asked (Err e) does in
+    let range = of_refusal e in
+    record {
+      most = omega (arith, is, range.1);
+      failures = h.failures ∙ ap (λ n. (source.failures + sink.failures) + failed_calls n) (sym is);
+      taken = h.taken;
+      quiet = λ few. absurd (omega (arith, is, range.0, few));
+      unwritten = λ other. h.unwritten (two_or_three status (refusal_status e) is other);
+    }

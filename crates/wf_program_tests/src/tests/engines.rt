@@ -1,0 +1,128 @@
+//! The engines, each on its happy path, and where it refuses a text.
+
+ghost use Rattle.wf_io.specs.Ends.{CanCount};
+
+use super::ends::LineFeeds;
+use std::alloc::Global;
+use std::io::{Read, Write};
+use std::test::Fail;
+use std::thread::Threads;
+use wf_complex::BuildFault;
+use wf_core::Account;
+use wf_engine::{Outcome, RunFault, run_solve, run_solve_one, run_views};
+use wf_io::{Sink, Source};
+use wf_task::TaskFault;
+
+pub const ONE: &str =
+    r#"{"version":1,"processes":1,"symmetric":false,"inputs":[[[0,0]]],"outputs":[[[0,5]]],"delta":[{"in":[[0,0]],"out":[[5]]}]}"#;
+
+const REPORT: &str =
+    "wfcheck report 1\nprocesses 1\nrounds 8\npoints 1\nexecutions 1\nanswer map\nm 5\nend\n";
+
+const LIST: &str =
+    "wfcheck views 1\nprocesses 1\nrounds 8\nsimplices 1\nviews 1\npoints 1\nexecutions 1\nv 0 0 0\nend\n";
+
+/// An engine over one source.
+#[derive(Clone, Copy, Debug)]
+pub enum Engine {
+    Solve,
+    Views,
+}
+
+impl Engine {
+    /// Runs it for some rounds, with one worker.
+    pub fn run<T: Threads + Sync, R: Read, W: Write>(
+        self,
+        rt: &T,
+        alloc: Global,
+        source: &mut Source<R>,
+        sink: &mut Sink<W>,
+        rounds: u32,
+    ) -> Option<RunFault>
+        requires { CanCount source.old sink.old }
+    {
+        match self {
+            Engine::Solve => run_solve(rt, alloc, source, sink, rounds, 1, true).err(),
+            Engine::Views => run_views(alloc, source, sink, rounds).err(),
+        }
+    }
+
+    /// What it writes of the task of one process after eight rounds.
+    pub fn text(self) -> &'static str {
+        match self {
+            Engine::Solve => REPORT,
+            Engine::Views => LIST,
+        }
+    }
+}
+
+pub const ENGINES: [Engine; 2] = [Engine::Solve, Engine::Views];
+
+#[test]
+fn a_task_is_answered(rt: HostRuntime) -> Result<(), Fail> {
+    for engine in ENGINES {
+        let mut source = Source::new(ONE.as_bytes());
+        let mut written = Vec::new(rt.alloc());
+        let mut sink = Sink::new(&mut written);
+        assert_eq!(rt;
+            engine.run(&rt, rt.alloc(), &mut source, &mut sink, 8),
+            None
+        );
+        drop(sink);
+        assert_eq!(rt; written.as_slice(), engine.text().as_bytes(), "{engine:?}");
+    }
+    Ok(())
+}
+
+#[test]
+fn one_worker_searches_one_branch(rt: HostRuntime) -> Result<(), Fail> {
+    let mut source = Source::new(ONE.as_bytes());
+    let mut sink = Sink::new(Vec::new(rt.alloc()));
+    let found = run_solve_one(rt.alloc(), &mut source, &mut sink, 8, true);
+    let account = Account {
+        branches: 1,
+        least: 0,
+        searched: 1,
+        cut: 0,
+    };
+    assert_eq!(rt; found, Ok((Outcome::Map, account)));
+    Ok(())
+}
+
+#[test]
+fn refusals_write_nothing(rt: HostRuntime) -> Result<(), Fail> {
+    let rows = [
+        (ONE, 9, RunFault::Build(BuildFault::Rounds)),
+        ("{", 1, RunFault::Task(TaskFault::NotJson)),
+        ("", 1, RunFault::Task(TaskFault::NotJson)),
+    ];
+    for (text, rounds, fault) in rows {
+        for engine in ENGINES {
+            let mut source = Source::new(text.as_bytes());
+            let mut written = Vec::new(rt.alloc());
+            let mut sink = Sink::new(&mut written);
+            let found = engine.run(&rt, rt.alloc(), &mut source, &mut sink, rounds);
+            assert_eq!(rt; found, Some(fault), "{engine:?} of {text}");
+            drop(sink);
+            assert!(rt; written.is_empty());
+        }
+    }
+    Ok(())
+}
+
+#[test]
+fn a_text_without_end_is_too_long(rt: HostRuntime) -> Result<(), Fail> {
+    for engine in ENGINES {
+        let mut given = 0;
+        let mut source = Source::new(LineFeeds::new(&mut given));
+        let mut written = Vec::new(rt.alloc());
+        let mut sink = Sink::new(&mut written);
+        let found = engine.run(&rt, rt.alloc(), &mut source, &mut sink, 1);
+        assert_eq!(rt; found, Some(RunFault::TooLong), "{engine:?}");
+        drop(source);
+        drop(sink);
+        assert_eq!(rt; given, 16_777_217);
+        assert!(rt; written.is_empty());
+    }
+    Ok(())
+}
