@@ -4,10 +4,12 @@
 //! (`specs/Program.antt`): the words were judged, what they ask for was done, and a refusal, alone, was told.
 #![tactic(auto)]
 
+mod files;
 mod laws;
 mod program;
 mod refusal;
 
+pub use files::Files;
 pub use laws::serving_is_counted;
 pub use program::run_program;
 pub use refusal::Refusal;

@@ -27,6 +27,9 @@ fn words_are_a_job_or_a_fault(rt: HostRuntime) -> Result<(), Fail> {
         ("wfcheck solve --rounds 1 --workers 1", "words"),
         ("wfcheck views --rounds 3", "views 3"),
         ("wfcheck views", "clap MissingRequiredArgument"),
+        ("wfcheck verify --task a/b.json", "verify a/b.json"),
+        ("wfcheck verify", "clap MissingRequiredArgument"),
+        ("wfcheck verify --task a --rounds 1", "clap UnknownArgument"),
         (
             "wfcheck views --rounds 3 --workers 1",
             "clap UnknownArgument",
@@ -59,6 +62,7 @@ fn words_are_a_job_or_a_fault(rt: HostRuntime) -> Result<(), Fail> {
                     verdict,
                 },
             ) => format!(in rt.alloc(); "solve {rounds} {workers} {verdict}")?,
+            Ok(Job::Verify { task }) => format!(in rt.alloc(); "verify {task}")?,
             Ok(Job::Views { rounds }) => format!(in rt.alloc(); "views {rounds}")?,
             Err(WordsFault::Clap(error)) => {
                 let kind = error.kind();
