@@ -12,6 +12,7 @@ use wf_program::{Files, run_program};
 use wf_words::WordsFault;
 
 /// The files of the disk.
+#[derive(Drop)]
 struct Disk<'a, R: rt::Files>(&'a R);
 
 impl<R: rt::Files> Files for Disk<'_, R> {
