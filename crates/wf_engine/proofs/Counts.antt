@@ -21,13 +21,13 @@ quiet task.TooLong = (refl, refl)
 quiet task.OutOfMemory = (refl, refl)
 quiet e = (refl, refl)
 
-few : (most : ℕ) (given : List ℕ) (left : Option (List ℕ)) (text : Result (List ℕ) ReadFault) → IsText most given left text → length given ≤ most + 1
+pub few : (most : ℕ) (given : List ℕ) (left : Option (List ℕ)) (text : Result (List ℕ) ReadFault) → IsText most given left text → length given ≤ most + 1
 few most given left (Ok text) is = let few = is.1 in omega (arith, few)
 few most given left (Err read.TooLong) is = omega (arith, is)
 few most given left (Err read.OutOfMemory) is = is
 few most given left (Err read.Read) is = omega (arith, is)
 
-judged : (text : Result (List ℕ) ReadFault) (t : Result Task RunFault) → Judged IsTaskOf text t → (io.failed_reads text ≡ by_result failed_reads t) × (by_result failed_writes t ≡ 0)
+pub judged : (text : Result (List ℕ) ReadFault) (t : Result Task RunFault) → Judged IsTaskOf text t → (io.failed_reads text ≡ by_result failed_reads t) × (by_result failed_writes t ≡ 0)
 judged (Ok text) (Ok t) j = (refl, refl)
 judged (Ok text) (Err run.Read) (e, fails, is) = (sym (ap failed_reads is ∙ (quiet e).0), refl)
 judged (Ok text) (Err run.Write) (e, fails, is) = (refl, ap failed_writes is ∙ (quiet e).1)
@@ -36,7 +36,7 @@ judged (Err read.TooLong) t j = (sym (ap (by_result failed_reads) j), ap (by_res
 judged (Err read.OutOfMemory) t j = (sym (ap (by_result failed_reads) j), ap (by_result failed_writes) j)
 judged (Err read.Read) t j = (sym (ap (by_result failed_reads) j), ap (by_result failed_writes) j)
 
-beyond : (r : ℕ) (t : Task) (e : RunFault) → IsBeyondLimits r t e → (failed_reads e ≡ 0) × (failed_writes e ≡ 0)
+pub beyond : (r : ℕ) (t : Task) (e : RunFault) → IsBeyondLimits r t e → (failed_reads e ≡ 0) × (failed_writes e ≡ 0)
 beyond r t run.Read is = absurd is
 beyond r t run.Write is = absurd is
 beyond r t e is = (refl, refl)

@@ -8,8 +8,11 @@ use Rattle.wf_task.specs.FaultText as task_text
 use Rattle.wf_complex.specs.declared.fault.BuildFault.{BuildFault}
 use Rattle.wf_complex.specs.declared.fault.BuildFault.TheVariants as build
 use Rattle.wf_complex.specs.Faults as build_text
+use Rattle.wf_cert.specs.declared.fault.CertFault.{CertFault}
+use Rattle.wf_cert.specs.declared.fault.CertFault.TheVariants as cert
+use Rattle.wf_cert.specs.Faults as cert_text
 use Rattle.wf_engine.specs.declared.fault.RunFault.{RunFault}
-use Rattle.wf_engine.specs.declared.fault.RunFault.TheVariants.{TooLong, Task, Build, OutOfMemory, Read, Write}
+use Rattle.wf_engine.specs.declared.fault.RunFault.TheVariants.{TooLong, Task, Build, Cert, OutOfMemory, Read, Write}
 
 -- a text that is too long is one refusal, and so is out of memory, wherever they came
 abbrev pub of_read : ReadFault → RunFault
@@ -26,11 +29,17 @@ abbrev pub of_build : BuildFault → RunFault
 of_build build.OutOfMemory = OutOfMemory
 of_build e = Build e
 
+abbrev pub of_cert : CertFault → RunFault
+of_cert cert.TooLong = TooLong
+of_cert cert.OutOfMemory = OutOfMemory
+of_cert e = Cert e
+
 -- each part owns the numbers and the names of its own refusals
 abbrev pub fault_text : RunFault → List ℕ
 fault_text TooLong = task_text.fault_text task.TooLong
 fault_text (Task e) = task_text.fault_text e
 fault_text OutOfMemory = task_text.fault_text task.OutOfMemory
 fault_text (Build e) = build_text.fault_text e
+fault_text (Cert e) = cert_text.fault_text e
 fault_text Read = codes "30 Read"
 fault_text Write = codes "31 Write"

@@ -1,12 +1,18 @@
--- What holds after every run over one source, whatever it answers.
-use Rattle.std.specs.Prelude.{◌≡◌, ◌≢◌, ◌+◌, ◌≤◌, ℕ, Bool, Result, Ok, Err, IfErr}
+-- What holds after every run, whatever it answers.
+use Rattle.std.specs.Prelude.{◌≡◌, ◌≢◌, ◌+◌, ◌≤◌, ℕ, List, length, Bool, false, Result, Ok, Err, IfErr}
+use Rattle.wf_model.specs.Task.{Task, IsTask}
+use Rattle.wf_model.specs.Report.{Body}
+use Rattle.wf_model.specs.Laws.{report_about}
 use Rattle.wf_core.specs.declared.Account.{Account}
 use Rattle.wf_io.specs.Seen.{Reading, Writing}
+use Rattle.wf_cert.specs.Grammar.{IsInGrammar}
 use Rattle.wf_task.specs.declared.task.TheConstants.{LONGEST}
 use Rattle.wf_engine.specs.declared.outcome.Outcome.{Outcome}
 use Rattle.wf_engine.specs.declared.fault.RunFault.{RunFault}
-use Rattle.wf_engine.specs.declared.fault.RunFault.TheVariants.{Read, Write}
-use Rattle.wf_engine.specs.Texts.{Solves, Lists}
+use Rattle.wf_engine.specs.declared.fault.RunFault.TheVariants.{OutOfMemory, Read, Write}
+use Rattle.wf_engine.specs.Run.{IsWithinLimits}
+use Rattle.wf_engine.specs.Texts.{IsReport, Solves, Lists, text_of_report}
+use Rattle.wf_engine.specs.Verify.{ChecksText, Verifies}
 
 -- how many reads, and how many writes, failed by a refusal
 abbrev pub failed_reads : RunFault → ℕ
@@ -39,3 +45,41 @@ abbrev pub ListingIsCounted : Type 0
 ListingIsCounted =
     (rounds : ℕ) (source source' : Reading) (sink sink' : Writing) (result : Result (Unit {0}) RunFault)
     → Lists rounds source source' sink sink' result → IsCounted source source' sink sink' result
+
+-- so many reads of a task's source and of a report's source failed, which is told
+pub record AreCounted (task task' cert cert' : Reading) (failed : ℕ) : Type 0 where
+  pub of_task : ℕ
+  pub of_cert : ℕ
+  pub task_failures : task'.failures ≡ task.failures + of_task
+  pub cert_failures : cert'.failures ≡ cert.failures + of_cert
+  pub all : of_task + of_cert ≡ failed
+
+-- The same over two sources, a task's and a report's: a failed read of either is told by 30.
+pub record IsChecked (task task' cert cert' : Reading) (sink sink' : Writing) (result : Result Outcome RunFault) : Type 0 where
+  pub task_taken : task'.taken ≤ task.taken + (LONGEST + 1)
+  pub cert_taken : cert'.taken ≤ cert.taken + (LONGEST + 1)
+  pub reads : AreCounted task task' cert cert' (by_result failed_reads result)
+  pub writes : sink'.failures ≡ sink.failures + by_result failed_writes result
+  pub unwritten : IfErr result (λ e. e ≢ Write → sink' ≡ sink)
+
+abbrev pub VerifyingIsCounted : Type 0
+VerifyingIsCounted =
+    (task task' cert cert' : Reading) (sink sink' : Writing) (result : Result Outcome RunFault)
+    → Verifies task task' cert cert' sink sink' result → IsChecked task task' cert cert' sink sink' result
+
+-- the answer of a check says what the search found, or memory ran out
+abbrev pub Accepts : Outcome → Result (Outcome × List ℕ) RunFault → Type 0
+Accepts outcome (Ok answer) = answer.0 ≡ outcome
+Accepts outcome (Err OutOfMemory) = Unit {0}
+Accepts outcome (Err e) = ⊥
+
+-- the numbers of the report that this text tells about a task and its r rounds are those that a line may hold
+abbrev pub IsWritable : Task → ℕ → List ℕ → Type 0
+IsWritable t r text = (body : Body) → text ≡ text_of_report t r body → IsInGrammar (report_about t r body)
+
+-- the full report of a search, of at most as many bytes as a text may have, is accepted
+abbrev pub SolvedReportsAreAccepted : Type 0
+SolvedReportsAreAccepted =
+    (t : Task) (r : ℕ) (outcome : Outcome) (text : List ℕ) (answer : Result (Outcome × List ℕ) RunFault)
+    → IsTask t → IsWithinLimits r t → IsReport r false t outcome text → IsWritable t r text → length text ≤ LONGEST
+    → ChecksText t text answer → Accepts outcome answer

@@ -2,4 +2,5 @@ pub mod Faults
 pub mod Run
 pub mod Texts
 pub mod Views
+pub mod Verify
 pub mod Laws

@@ -1,11 +1,12 @@
 //! Why a run is refused.
 
 ghost use Rattle.std.specs.Prelude.{◌≡◌, Some};
-ghost use Rattle.wf_engine.specs.Faults.{of_read, of_task, of_build, fault_text};
+ghost use Rattle.wf_engine.specs.Faults.{of_read, of_task, of_build, of_cert, fault_text};
 ghost use Rattle.wf_engine.specs.declared.fault.RunFault.TheVariants.{OutOfMemory, Write};
 
 use std::alloc::AllocError;
 use std::fmt;
+use wf_cert::CertFault;
 use wf_complex::BuildFault;
 use wf_io::{ReadFault, WriteFault};
 use wf_task::TaskFault;
@@ -19,6 +20,8 @@ pub enum RunFault {
     Task(TaskFault),
     /// 16, 17: there are too many rounds or executions.
     Build(BuildFault),
+    /// 20 to 29: the text is no report, or the report is not accepted.
+    Cert(CertFault),
     /// 15: memory ran out.
     OutOfMemory,
     /// 30: a call of the reader answered an error.
@@ -35,6 +38,7 @@ impl fmt::Display for RunFault {
             RunFault::TooLong => write!(f, "{}", TaskFault::TooLong),
             RunFault::Task(fault) => write!(f, "{fault}"),
             RunFault::Build(fault) => write!(f, "{fault}"),
+            RunFault::Cert(fault) => write!(f, "{fault}"),
             RunFault::OutOfMemory => write!(f, "{}", TaskFault::OutOfMemory),
             RunFault::Read => write!(f, "30 Read"),
             RunFault::Write => write!(f, "31 Write"),
@@ -75,6 +79,18 @@ impl From<BuildFault> for RunFault {
         match fault {
             BuildFault::OutOfMemory => RunFault::OutOfMemory,
             fault => RunFault::Build(fault),
+        }
+    }
+}
+
+impl From<CertFault> for RunFault {
+    ghost from_gives = { λ x e. e ≡ of_cert x };
+
+    fn from(fault: CertFault) -> RunFault {
+        match fault {
+            CertFault::TooLong => RunFault::TooLong,
+            CertFault::OutOfMemory => RunFault::OutOfMemory,
+            fault => RunFault::Cert(fault),
         }
     }
 }

@@ -1,6 +1,6 @@
 //! Laws of runs: what holds after each, whatever it answers.
 
-ghost use Rattle.wf_engine.specs.Laws.{ListingIsCounted, SolvingIsCounted};
+ghost use Rattle.wf_engine.specs.Laws.{ListingIsCounted, SolvedReportsAreAccepted, SolvingIsCounted, VerifyingIsCounted};
 
 /// A search takes at most one byte more than a text may have, tells each failed call, and writes nothing where it is
 /// refused for anything but a failed write.
@@ -12,4 +12,16 @@ pub fn solving_is_counted()
 /// refused for anything but a failed write.
 pub fn listing_is_counted()
     ensures { ListingIsCounted }
+{}
+
+/// A check takes at most one byte more than a text may have of each of its two sources, tells each failed call, and
+/// writes nothing where it is refused for anything but a failed write.
+pub fn verifying_is_counted()
+    ensures { VerifyingIsCounted }
+{}
+
+/// What a search writes without the verdict form is accepted where it is within the limit of bytes, with the outcome
+/// that the search had, or memory runs out.
+pub fn solved_reports_are_accepted()
+    ensures { SolvedReportsAreAccepted }
 {}

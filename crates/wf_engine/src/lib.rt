@@ -3,6 +3,7 @@
 //! - [`run_solve_one`], [`run_solve`]: a task's text in, and the report of its least decision map or of none out, by one
 //!   worker or by up to [`MAX_WORKERS`].
 //! - [`run_views`]: a task's text in, and the list of the points of its protocol complex out.
+//! - [`run_verify`]: a task's text and a report's in, and what is accepted out.
 //! - [`hand_out`]: the last step of each run, for a text that is had without one.
 //! - [`RunFault`]: why a run is refused, with its number and its name.
 //!
@@ -16,12 +17,16 @@ mod laws;
 mod outcome;
 mod solve;
 mod steps;
+mod verify;
 mod views;
 
 pub use fault::RunFault;
-pub use laws::{listing_is_counted, solving_is_counted};
+pub use laws::{
+    listing_is_counted, solved_reports_are_accepted, solving_is_counted, verifying_is_counted,
+};
 pub use outcome::Outcome;
 pub use solve::{run_solve, run_solve_one};
 pub use steps::hand_out;
+pub use verify::run_verify;
 pub use views::run_views;
 pub use wf_pool::MAX_WORKERS;

@@ -12,13 +12,14 @@ use Rattle.wf_engine.specs.declared.outcome.Outcome.TheVariants.{Map, Nothing}
 use Rattle.wf_engine.specs.declared.fault.RunFault.{RunFault}
 use Rattle.wf_engine.specs.declared.fault.RunFault.TheVariants as run
 use Rattle.wf_engine.specs.Texts.{IsSolved, IsViews}
-use Rattle.wf_engine.specs.Laws.{failed_reads, failed_writes, by_result, IsCounted}
+use Rattle.wf_engine.specs.Laws.{failed_reads, failed_writes, by_result, IsChecked, IsCounted}
+use Rattle.wf_engine.proofs.CheckCounts.{checked}
 use Rattle.wf_engine.proofs.Counts.{counted, handed}
 use Rattle.wf_program.specs.declared.done.Done.{Done}
 use Rattle.wf_program.specs.declared.refusal.Refusal.{Refusal}
 use Rattle.wf_program.specs.declared.refusal.Refusal.TheVariants as refusal
-use Rattle.wf_program.specs.Program.{fault_status, refusal_status, solved, written, IsHelp, Helps, Declines, DoesAsked, Ends}
-use Rattle.wf_program.specs.Laws.{IsServed, failed_calls}
+use Rattle.wf_program.specs.Program.{fault_status, refusal_status, solved, verified, written, IsHelp, Helps, Declines, DoesAsked, Ends}
+use Rattle.wf_program.specs.Laws.{IsServed, failed_calls, file_count}
 
 -- how many calls failed, by what was done
 failed : Result Done Refusal → ℕ
@@ -26,9 +27,9 @@ failed (Ok d) = 0
 failed (Err e) = failed_calls (refusal_status e)
 
 -- what holds of source and sink after something was done
-record IsDone (source source' : Reading) (sink sink' : Writing) (done : Result Done Refusal) : Type 0 where
+record IsDone (files : ℕ) (source source' : Reading) (sink sink' : Writing) (done : Result Done Refusal) : Type 0 where
   most : IfOk done (λ d. d.status ≤ 1)
-  failures : source'.failures + sink'.failures ≡ (source.failures + sink.failures) + failed done
+  failures : (n : ℕ) × (n ≤ files) × (source'.failures + sink'.failures + n ≡ (source.failures + sink.failures) + failed done)
   taken : source'.taken ≤ source.taken + (LONGEST + 1)
   unwritten : IfErr done (λ e. refusal_status e ≢ 4 → sink' ≡ sink)
 
@@ -39,59 +40,91 @@ calls_of_fault run.Read = refl
 calls_of_fault run.Write = refl
 calls_of_fault e = refl
 
-module _ (source source' : Reading) (sink sink' : Writing) where
-  accepted : {X : Type 0} (x : X) (d : Done) → d.status ≤ 1 → IsCounted source source' sink sink' (Ok x) → IsDone source source' sink sink' (Ok d)
-  unfolding failed
-  accepted x d most h = record { most = most; failures = omega (arith, h.reads, h.writes); taken = h.taken; unwritten = tt }
+-- at most one read failed
+one_read : (e : RunFault) → failed_reads e ≤ 1
+one_read run.Read = omega arith
+one_read e = omega arith
 
-  refused : {X : Type 0} (e : RunFault) → IsCounted {X = X} source source' sink sink' (Err e) → IsDone source source' sink sink' (Err (refusal.Run e))
+module _ (source source' : Reading) (sink sink' : Writing) where
+  accepted : {X : Type 0} (x : X) (d : Done) → d.status ≤ 1 → IsCounted source source' sink sink' (Ok x) → IsDone 0 source source' sink sink' (Ok d)
+  unfolding failed
+  accepted x d most h = record { most = most; failures = (0, omega arith, omega (arith, h.reads, h.writes)); taken = h.taken; unwritten = tt }
+
+  refused : {X : Type 0} (e : RunFault) → IsCounted {X = X} source source' sink sink' (Err e) → IsDone 0 source source' sink sink' (Err (refusal.Run e))
   refused e h =
       let calls = calls_of_fault e in
-      record { most = tt; failures = omega (arith, h.reads, h.writes, calls); taken = h.taken; unwritten = λ other. h.unwritten (λ same. other (ap fault_status same)) }
+      record { most = tt; failures = (0, omega arith, omega (arith, h.reads, h.writes, calls)); taken = h.taken; unwritten = λ other. h.unwritten (λ same. other (ap fault_status same)) }
 
-  after_solving : (tells : Bool) (result : Result (Outcome × Account) RunFault) → IsCounted source source' sink sink' result → IsDone source source' sink sink' (solved tells result)
+  after_solving : (tells : Bool) (result : Result (Outcome × Account) RunFault) → IsCounted source source' sink sink' result → IsDone 0 source source' sink sink' (solved tells result)
   after_solving tells (Ok (Map, a)) h = accepted (Map, a) _ (omega arith) h
   after_solving tells (Ok (Nothing, a)) h = accepted (Nothing, a) _ (omega arith) h
   after_solving tells (Err e) h = refused e h
 
-  after_writing : (result : Result (Unit {0}) RunFault) → IsCounted source source' sink sink' result → IsDone source source' sink sink' (written result)
+  after_writing : (result : Result (Unit {0}) RunFault) → IsCounted source source' sink sink' result → IsDone 0 source source' sink sink' (written result)
   after_writing (Ok x) h = accepted x _ (omega arith) h
   after_writing (Err e) h = refused e h
 
   -- nothing was read or written
-  untouched : (e : Refusal) → failed (Err e) ≡ 0 → source' ≡ source → sink' ≡ sink → IsDone source source' sink sink' (Err e)
+  untouched : (e : Refusal) → failed (Err e) ≡ 0 → source' ≡ source → sink' ≡ sink → IsDone 0 source source' sink sink' (Err e)
   untouched e none read wrote =
       let reads : source'.failures ≡ source.failures = ap (λ s. s.failures) read in
       let writes : sink'.failures ≡ sink.failures = ap (λ s. s.failures) wrote in
       let takes : source'.taken ≡ source.taken = ap (λ s. s.taken) read in
-      record { most = tt; failures = omega (arith, reads, writes, none); taken = omega (arith, takes); unwritten = λ other. wrote }
+      record { most = tt; failures = (0, omega arith, omega (arith, reads, writes, none)); taken = omega (arith, takes); unwritten = λ other. wrote }
 
   quiet : (answer : Result (Unit {0} × List ℕ) RunFault) → IsHelp answer → (by_result failed_reads answer ≡ 0) × (by_result failed_writes answer ≡ 0)
   quiet (Ok answer) asks = (refl, refl)
   quiet (Err e) asks = (ap failed_reads asks, ap failed_writes asks)
 
-  helped : (done : Result Done Refusal) → source' ≡ source → Helps sink sink' done → IsDone source source' sink sink' done
+  helped : (done : Result Done Refusal) → source' ≡ source → Helps sink sink' done → IsDone 0 source source' sink sink' done
   helped done read (result, (answer, asks, h), is) =
       let none = quiet answer asks in
       let told = handed sink sink' answer result h none.1 in
       let reads : source'.failures ≡ source.failures = ap (λ s. s.failures) read in
       let takes : source'.taken ≡ source.taken = ap (λ s. s.taken) read in
       let same : by_result failed_reads result ≡ 0 = sym told.reads ∙ none.0 in
-      subst (IsDone source source' sink sink') (sym is)
+      subst (IsDone 0 source source' sink sink') (sym is)
       (after_writing result (record { taken = omega (arith, takes); reads = omega (arith, reads, same); writes = told.writes; unwritten = told.unwritten }))
 
-  declined : (e : WordsFault) (done : Result Done Refusal) → source' ≡ source → Declines e sink sink' done → IsDone source source' sink sink' done
+  declined : (e : WordsFault) (done : Result Done Refusal) → source' ≡ source → Declines e sink sink' done → IsDone 0 source source' sink sink' done
   unfolding failed
   declined (words.Clap e) done read (inl (asked, helps)) = helped done read helps
-  declined (words.Clap e) done read (inr (mistake, is, same)) = subst (IsDone source source' sink sink') (sym is) (untouched (refusal.Clap e) refl read same)
-  declined words.Words done read (is, same) = subst (IsDone source source' sink sink') (sym is) (untouched refusal.Words refl read same)
-  declined words.OutOfMemory done read (is, same) = subst (IsDone source source' sink sink') (sym is) (untouched (refusal.Run run.OutOfMemory) refl read same)
+  declined (words.Clap e) done read (inr (mistake, is, same)) = subst (IsDone 0 source source' sink sink') (sym is) (untouched (refusal.Clap e) refl read same)
+  declined words.Words done read (is, same) = subst (IsDone 0 source source' sink sink') (sym is) (untouched refusal.Words refl read same)
+  declined words.OutOfMemory done read (is, same) = subst (IsDone 0 source source' sink sink') (sym is) (untouched (refusal.Run run.OutOfMemory) refl read same)
 
-  did : (asked : Result Job WordsFault) (done : Result Done Refusal) → DoesAsked asked source source' sink sink' done → IsDone source source' sink sink' done
+  -- a check of the source's report about the task of a file
+  after_verifying : (file file' : Reading) (result : Result Outcome RunFault) → IsChecked file file' source source' sink sink' result → IsDone 1 source source' sink sink' (verified result)
+  unfolding failed
+  after_verifying file file' (Ok outcome) h =
+      let all = h.reads.all in
+      let cert = h.reads.cert_failures in
+      record { most = omega arith; failures = (h.reads.of_task, omega (arith, all), omega (arith, all, cert, h.writes)); taken = h.cert_taken; unwritten = tt }
+  after_verifying file file' (Err e) h =
+      let all = h.reads.all in
+      let cert = h.reads.cert_failures in
+      let calls = calls_of_fault e in
+      let few = one_read e in
+      record { most = tt; failures = (h.reads.of_task, omega (arith, all, few), omega (arith, all, cert, h.writes, calls)); taken = h.cert_taken; unwritten = λ other. h.unwritten (λ same. other (ap fault_status same)) }
+
+  -- a file that could not be opened
+  not_opened : (done : Result Done Refusal) → done ≡ Err (refusal.Run run.Read) → source' ≡ source → sink' ≡ sink → IsDone 1 source source' sink sink' done
+  unfolding failed
+  not_opened done is read wrote =
+      let reads : source'.failures ≡ source.failures = ap (λ s. s.failures) read in
+      let writes : sink'.failures ≡ sink.failures = ap (λ s. s.failures) wrote in
+      let takes : source'.taken ≡ source.taken = ap (λ s. s.taken) read in
+      subst (IsDone 1 source source' sink sink') (sym is)
+      (record { most = tt; failures = (1, omega arith, omega (arith, reads, writes)); taken = omega (arith, takes); unwritten = λ other. wrote })
+
+  did : (asked : Result Job WordsFault) (done : Result Done Refusal) → DoesAsked asked source source' sink sink' done → IsDone (file_count asked) source source' sink sink' done
   did (Ok (job.Solve rounds workers verdict tells)) done (result, solves, ordered, is) =
-      subst (IsDone source source' sink sink') (sym is) (after_solving tells result (counted (IsSolved rounds verdict) rounds source source' sink sink' result solves))
+      subst (IsDone 0 source source' sink sink') (sym is) (after_solving tells result (counted (IsSolved rounds verdict) rounds source source' sink sink' result solves))
+  did (Ok (job.Verify task)) done (result, inl (file, file', verifies), is) =
+      subst (IsDone 1 source source' sink sink') (sym is) (after_verifying file file' result (checked file file' source source' sink sink' result verifies))
+  did (Ok (job.Verify task)) done (result, inr (none, read, wrote), is) = not_opened done (is ∙ ap verified none) read wrote
   did (Ok (job.Views rounds)) done (result, lists, is) =
-      subst (IsDone source source' sink sink') (sym is) (after_writing result (counted (IsViews rounds) rounds source source' sink sink' result lists))
+      subst (IsDone 0 source source' sink sink') (sym is) (after_writing result (counted (IsViews rounds) rounds source source' sink sink' result lists))
   did (Err e) done (read, declines) = declined e done read declines
 
 -- the status of a refusal is 2, 3 or 4
@@ -116,7 +149,7 @@ two_or_three a b is (inl two) four = omega arith
 two_or_three a b is (inr three) four = omega arith
 
 pub served : (source source' : Reading) (sink sink' errors errors' : Writing) (asked : Result Job WordsFault) (done : Result Done Refusal) (status : ℕ)
-    → DoesAsked asked source source' sink sink' done → Ends errors errors' done status → IsServed source source' sink sink' errors errors' status
+    → DoesAsked asked source source' sink sink' done → Ends errors errors' done status → IsServed asked source source' sink sink' errors errors' status
 unfolding failed
 served source source' sink sink' errors errors' asked (Ok d) status does (is, told) =
     let h = did source source' sink sink' asked (Ok d) does in
@@ -124,7 +157,7 @@ served source source' sink sink' errors errors' asked (Ok d) status does (is, to
     let none : failed_calls status ≡ 0 = small status (omega arith) in
     record {
       most = omega arith;
-      failures = h.failures ∙ ap (λ n. (source.failures + sink.failures) + n) (sym none);
+      failures = (h.failures.0, h.failures.1, h.failures.2 ∙ ap (λ n. (source.failures + sink.failures) + n) (sym none));
       taken = h.taken;
       quiet = λ few. (d.account, told);
       unwritten = λ bad. absurd (elim bad [ inl two ↦ omega arith | inr three ↦ omega arith ]);
@@ -134,7 +167,7 @@ served source source' sink sink' errors errors' asked (Err e) status does (is, t
     let range = of_refusal e in
     record {
       most = omega (arith, is, range.1);
-      failures = h.failures ∙ ap (λ n. (source.failures + sink.failures) + failed_calls n) (sym is);
+      failures = (h.failures.0, h.failures.1, h.failures.2 ∙ ap (λ n. (source.failures + sink.failures) + failed_calls n) (sym is));
       taken = h.taken;
       quiet = λ few. absurd (omega (arith, is, range.0, few));
       unwritten = λ other. h.unwritten (two_or_three status (refusal_status e) is other);

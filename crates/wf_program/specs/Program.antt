@@ -14,9 +14,10 @@ use Rattle.wf_engine.specs.declared.fault.RunFault.TheVariants as run
 use Rattle.wf_engine.specs.Faults.{fault_text}
 use Rattle.wf_engine.specs.Run.{Ran}
 use Rattle.wf_engine.specs.Texts.{Solves, Lists, SearchesInOrder}
+use Rattle.wf_engine.specs.Verify.{Verifies}
 use Rattle.wf_words.specs.Job.{IsWithinLimits, IsClapMistake}
 use Rattle.wf_words.specs.declared.Job.{Job}
-use Rattle.wf_words.specs.declared.Job.TheVariants.{Solve, Views}
+use Rattle.wf_words.specs.declared.Job.TheVariants.{Solve, Verify, Views}
 use Rattle.wf_words.specs.declared.WordsFault.{WordsFault}
 use Rattle.wf_words.specs.declared.WordsFault.TheVariants as fault
 use Rattle.wf_program.specs.AccountText.{account_line}
@@ -78,15 +79,28 @@ abbrev pub solved : Bool → Result (Outcome × Account) RunFault → Result Don
 solved tells (Ok (outcome, a)) = Ok (record { status = outcome_status outcome; account = asked_for tells a })
 solved tells (Err e) = Err (Run e)
 
+abbrev pub verified : Result Outcome RunFault → Result Done Refusal
+verified (Ok outcome) = Ok (record { status = 0; account = None })
+verified (Err e) = Err (Run e)
+
 abbrev pub written : Result (Unit {0}) RunFault → Result Done Refusal
 written (Ok done) = Ok (record { status = 0; account = None })
 written (Err e) = Err (Run e)
+
+-- A file was opened, and its task read; the source's report was checked about it. Or no file could be opened, and
+-- nothing was read or written.
+abbrev pub VerifiesFile : Reading → Reading → Writing → Writing → Result Outcome RunFault → Type 0
+VerifiesFile source source' sink sink' result =
+    ((file : Reading) × (file' : Reading) × Verifies file file' source source' sink sink' result)
+    ⊎ ((result ≡ Err run.Read) × (source' ≡ source) × (sink' ≡ sink))
 
 -- what a job asks for was done
 abbrev pub Does : Job → Reading → Reading → Writing → Writing → Result Done Refusal → Type 0
 Does (Solve rounds workers verdict account) source source' sink sink' done =
     (result : Result (Outcome × Account) RunFault) × Solves rounds verdict source source' sink sink' result
     × (workers ≡ 1 → SearchesInOrder result) × (done ≡ solved account result)
+Does (Verify task) source source' sink sink' done =
+    (result : Result Outcome RunFault) × VerifiesFile source source' sink sink' result × (done ≡ verified result)
 Does (Views rounds) source source' sink sink' done =
     (result : Result (Unit {0}) RunFault) × Lists rounds source source' sink sink' result × (done ≡ written result)
 

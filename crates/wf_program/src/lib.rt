@@ -6,10 +6,12 @@
 #![tactic(auto)]
 
 mod done;
+mod files;
 mod laws;
 mod program;
 mod refusal;
 
+pub use files::Files;
 pub use laws::serving_is_counted;
 pub use program::run_program;
 pub use refusal::Refusal;

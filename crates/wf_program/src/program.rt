@@ -3,28 +3,30 @@
 ghost use Rattle.std.specs.Prelude.{◌≡◌};
 ghost use Rattle.wf_io.specs.Ends.{CanCount, CanWrite};
 ghost use Rattle.wf_words.specs.Job.{IsWithinLimits};
-ghost use Rattle.wf_program.specs.Program.{CanServe, Declines, Does, Ends, Helps, IsAsked, Serves, outcome_status, solved, written};
+ghost use Rattle.wf_program.specs.Program.{CanServe, Declines, Does, Ends, Helps, IsAsked, Serves, VerifiesFile, outcome_status, solved, verified, written};
 
 use crate::done::{AccountLine, Done};
+use crate::files::Files;
 use crate::refusal::Refusal;
 use std::alloc::Global;
 use std::fmt::Display;
 use std::io::{Read, Write};
 use std::thread::Threads;
 use wf_core::Account;
-use wf_engine::{Outcome, RunFault, hand_out, run_solve, run_views};
+use wf_engine::{Outcome, RunFault, hand_out, run_solve, run_verify, run_views};
 use wf_io::{Sink, Source};
 use wf_words::{Job, WordsFault, read_words};
 
 /// Runs what the words ask for, the first of which is the program's own name, and answers the exit status. Where the
 /// words could not be had, that is the refusal.
 ///
-/// 0: a map was found, or the text was written. 1: there is no map. 2: the task, the rounds or the words are refused.
-/// 3: memory ran out. 4: a read or a write failed. A refusal is one line on `errors`, and so is the account of a search
-/// that was not refused, where the words ask for it.
-pub fn run_program<T: Threads + Sync, R: Read, W: Write, E: Write>(
+/// 0: a map was found, a report is accepted, or the text was written. 1: there is no map. 2: the task, the rounds, the
+/// report or the words are refused. 3: memory ran out. 4: a read or a write failed, or a file could not be opened. A
+/// refusal is one line on `errors`, and so is the account of a search that was not refused, where the words ask for it.
+pub fn run_program<T: Threads + Sync, F: Files, R: Read, W: Write, E: Write>(
     rt: &T,
     alloc: Global,
+    files: &F,
     words: Result<Vec<String>, WordsFault>,
     source: &mut Source<R>,
     sink: &mut Sink<W>,
@@ -34,7 +36,7 @@ pub fn run_program<T: Threads + Sync, R: Read, W: Write, E: Write>(
     ensures { Serves words source.old source.new sink.old sink.new errors.old errors.new result }
 {
     let done = match job_of(alloc, words) {
-        Ok(job) => do_job(rt, alloc, source, sink, &job),
+        Ok(job) => do_job(rt, alloc, files, source, sink, &job),
         Err(fault) => decline(alloc, sink, fault),
     };
     end(errors, done)
@@ -48,9 +50,10 @@ fn job_of(alloc: Global, words: Result<Vec<String>, WordsFault>) -> Result<Job, 
 }
 
 /// Does what a job asks for.
-fn do_job<T: Threads + Sync, R: Read, W: Write>(
+fn do_job<T: Threads + Sync, F: Files, R: Read, W: Write>(
     rt: &T,
     alloc: Global,
+    files: &F,
     source: &mut Source<R>,
     sink: &mut Sink<W>,
     job: &Job,
@@ -69,7 +72,39 @@ fn do_job<T: Threads + Sync, R: Read, W: Write>(
             let found = run_solve(rt, alloc, source, sink, *rounds, *workers, *verdict);
             after_solving(found, *account)
         }
+        Job::Verify { task } => after_verifying(verify_file(rt, alloc, files, task, source, sink)),
         Job::Views { rounds } => after_writing(run_views(alloc, source, sink, *rounds)),
+    }
+}
+
+/// Checks the report of the source about the task in a file. A file that can't be opened is a failed read.
+fn verify_file<T: Threads + Sync, F: Files, R: Read, W: Write>(
+    rt: &T,
+    alloc: Global,
+    files: &F,
+    path: &str,
+    source: &mut Source<R>,
+    sink: &mut Sink<W>,
+) -> Result<Outcome, RunFault>
+    requires { CanCount source.old sink.old }
+    ensures { VerifiesFile source.old source.new sink.old sink.new result }
+{
+    match files.open(path) {
+        Ok(file) => run_verify(rt, alloc, &mut Source::new(file), source, sink),
+        Err(_) => Err(RunFault::Read),
+    }
+}
+
+/// What is answered after a check.
+fn after_verifying(found: Result<Outcome, RunFault>) -> Result<Done, Refusal>
+    ensures { result ≡ verified found }
+{
+    match found {
+        Ok(_) => Ok(Done {
+            status: 0,
+            account: None,
+        }),
+        Err(fault) => Err(Refusal::Run(fault)),
     }
 }
 

@@ -1,3 +1,4 @@
+mod checked;
 mod command_line;
 mod ends;
 mod engines;

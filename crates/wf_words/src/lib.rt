@@ -24,6 +24,11 @@ pub enum Job {
         /// Whether the account of the branches is told.
         account: bool,
     },
+    /// Check a report about a task.
+    Verify {
+        /// The file that has the task.
+        task: String,
+    },
     /// List the points of a task's protocol complex after some rounds.
     Views {
         /// How many rounds.
@@ -102,6 +107,18 @@ fn solve_command<'a>(alloc: Global) -> Result<Command<'a>, AllocError> {
         .arg(account)
 }
 
+fn verify_command<'a>(alloc: Global) -> Result<Command<'a>, AllocError> {
+    let task = Arg::new(alloc, "task")
+        .long("task")
+        .value_name("FILE")
+        .help("The file that has the task")
+        .required(true)
+        .action(ArgAction::Set);
+    Command::new(alloc, "verify")
+        .about("Read a report on standard input, and check it without a search")
+        .arg(task)
+}
+
 fn views_command<'a>(alloc: Global) -> Result<Command<'a>, AllocError> {
     Command::new(alloc, "views")
         .about(
@@ -117,6 +134,7 @@ fn whole_command<'a>(alloc: Global) -> Result<Command<'a>, AllocError> {
         )
         .subcommand_required(true)
         .subcommand(solve_command(alloc)?)?
+        .subcommand(verify_command(alloc)?)?
         .subcommand(views_command(alloc)?)
 }
 
@@ -135,6 +153,19 @@ fn solve_job(found: &ArgMatches<'_>) -> Option<Job>
         verdict: found.get_flag("verdict"),
         account: found.get_flag("account"),
     })
+}
+
+/// The job of `verify`.
+fn verify_job(alloc: Global, found: &ArgMatches<'_>) -> Result<Job, WordsFault>
+    ensures ok { IfOk result IsWithinLimits }
+    ensures err { IfErr result IsClapMistake }
+{
+    match found.get_str("task") {
+        Some(task) => Ok(Job::Verify {
+            task: String::from_str(alloc, task)?,
+        }),
+        None => Err(WordsFault::Words),
+    }
 }
 
 /// The job of `views`.
@@ -164,6 +195,7 @@ pub fn read_words(alloc: Global, words: &[String]) -> Result<Job, WordsFault>
     };
     match found.subcommand() {
         Some(("solve", inner)) => solve_job(inner).ok_or(WordsFault::Words),
+        Some(("verify", inner)) => verify_job(alloc, inner),
         Some(("views", inner)) => views_job(inner).ok_or(WordsFault::Words),
         _ => Err(WordsFault::Words),
     }

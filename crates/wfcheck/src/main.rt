@@ -6,10 +6,22 @@
 use std::alloc::Global;
 use std::env::Env;
 use std::process::ExitCode;
-use std::{env, io};
+use std::{env, fs, io, rt};
 use wf_io::{Sink, Source};
-use wf_program::run_program;
+use wf_program::{Files, run_program};
 use wf_words::WordsFault;
+
+/// The files of the disk.
+#[derive(Drop)]
+struct Disk<'a, R: rt::Files>(&'a R);
+
+impl<R: rt::Files> Files for Disk<'_, R> {
+    type File = R::File;
+
+    fn open(&self, path: &str) -> io::Result<R::File> {
+        fs::open(self.0, path)
+    }
+}
 
 /// The words of the command line, the program's name first.
 fn arguments(rt: &(impl Env + Alloc<A = Global>)) -> Result<Vec<String>, WordsFault> {
@@ -21,6 +33,7 @@ fn main(rt: HostRuntime) -> ExitCode {
     let status = run_program(
         &rt,
         rt.alloc(),
+        &Disk(&rt),
         arguments(&rt),
         &mut Source::new(rt.reader()),
         &mut Sink::new(io::writer(&rt)),

@@ -1,6 +1,6 @@
 //! The program: each row of the command line writes, tells and answers what it is to, byte for byte.
 
-use super::ends::{Drip, Full, Narrow};
+use super::ends::{Drip, EMPTY, Full, Narrow};
 use super::rows::{BEGINNINGS, DECIDED, FULL, LISTED, Row};
 use super::tasks::{AGREEMENT_4_3, ONE_PROCESS};
 use super::words::split;
@@ -32,7 +32,15 @@ fn run(
     let mut source = Source::new(input.as_bytes());
     let mut sink = Sink::new(&mut output);
     let mut told = Sink::new(&mut errors);
-    let status = run_program(rt, alloc, Ok(words), &mut source, &mut sink, &mut told);
+    let status = run_program(
+        rt,
+        alloc,
+        &EMPTY,
+        Ok(words),
+        &mut source,
+        &mut sink,
+        &mut told,
+    );
     Ok(Answer {
         output,
         errors,
@@ -126,6 +134,7 @@ fn words_that_could_not_be_had_are_the_refusal(rt: HostRuntime) -> Result<(), Fa
         let found = run_program(
             &rt,
             rt.alloc(),
+            &EMPTY,
             Err(fault),
             &mut source,
             &mut sink,
@@ -169,6 +178,7 @@ fn failed_calls_are_told(rt: HostRuntime) -> Result<(), Fail> {
         let found = run_program(
             &rt,
             rt.alloc(),
+            &EMPTY,
             Ok(words),
             &mut source,
             &mut sink,
@@ -197,6 +207,7 @@ fn a_refusal_that_cannot_be_told_keeps_its_status(rt: HostRuntime) -> Result<(),
         let found = run_program(
             &rt,
             rt.alloc(),
+            &EMPTY,
             Ok(words),
             &mut source,
             &mut sink,

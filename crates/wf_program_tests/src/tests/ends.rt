@@ -2,6 +2,7 @@
 
 use std::io;
 use std::io::{Read, Write};
+use wf_program::Files;
 
 /// Gives its bytes one a call. One call, counted from 1, answers an error in place of a byte.
 #[derive(Drop)]
@@ -116,5 +117,31 @@ impl Read for LineFeeds<'_> {
         buf.fill(b'\n');
         *self.given = self.given.saturating_add(buf.len());
         Ok(buf.len())
+    }
+}
+
+/// One file under a name, one call of which may fail. Another name can't be opened.
+#[derive(Clone, Copy)]
+pub struct Shelf<'a> {
+    pub name: &'a str,
+    pub text: &'a str,
+    pub fails_at: usize,
+}
+
+/// No file.
+pub static EMPTY: Shelf<'static> = Shelf {
+    name: "",
+    text: "",
+    fails_at: 0,
+};
+
+impl<'a> Files for Shelf<'a> {
+    type File = Drip<'a>;
+
+    fn open(&self, path: &str) -> io::Result<Drip<'a>> {
+        if path.is_empty() || path != self.name {
+            return Err(io::Error::from(io::ErrorKind::NotFound));
+        }
+        Ok(Drip::new(self.text.as_bytes(), self.fails_at))
     }
 }

@@ -30,6 +30,9 @@ fn words_are_a_job_or_a_fault(rt: HostRuntime) -> Result<(), Fail> {
         ),
         ("wfcheck views --rounds 3", "views 3"),
         ("wfcheck views", "clap MissingRequiredArgument"),
+        ("wfcheck verify --task a/b.json", "verify a/b.json"),
+        ("wfcheck verify", "clap MissingRequiredArgument"),
+        ("wfcheck verify --task a --rounds 1", "clap UnknownArgument"),
         (
             "wfcheck views --rounds 3 --workers 1",
             "clap UnknownArgument",
@@ -62,6 +65,7 @@ fn words_are_a_job_or_a_fault(rt: HostRuntime) -> Result<(), Fail> {
                     account,
                 },
             ) => format!(in rt.alloc(); "solve {rounds} {workers} {verdict} {account}")?,
+            Ok(Job::Verify { task }) => format!(in rt.alloc(); "verify {task}")?,
             Ok(Job::Views { rounds }) => format!(in rt.alloc(); "views {rounds}")?,
             Err(WordsFault::Clap(error)) => {
                 let kind = error.kind();

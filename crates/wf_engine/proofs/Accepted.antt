@@ -1,0 +1,87 @@
+-- What a search writes in full is accepted.
+use Rattle.std.proofs.Common.{◌≡◌, ◌<◌, ◌≤◌, ℕ, List, [], length, Option, Some, None, Result, Ok, Err, false, refl, sym, ap, ◌∙◌, subst, arith}
+use Rattle.wf_model.specs.Task.{Task, IsTask}
+use Rattle.wf_model.specs.View.{View}
+use Rattle.wf_model.specs.DecisionMap.{IsDecisionMap, listed}
+use Rattle.wf_model.specs.Problem.{problem_of}
+use Rattle.wf_model.specs.Box.{root}
+use Rattle.wf_model.specs.Closing.{canonical}
+use Rattle.wf_model.specs.Report.{Body, Report, a_map, none, report_of, report_text}
+use Rattle.wf_model.specs.Check.{Refusal, report_fault}
+use Rattle.wf_model.specs.Laws.{report_about}
+use Rattle.wf_model.proofs.Least.{answer_least}
+use Rattle.wf_model.proofs.WholeReports.{map_accepted, canonical_none_accepted}
+use Rattle.wf_task.specs.declared.task.TheConstants.{LONGEST}
+use Rattle.wf_complex.specs.declared.fault.BuildFault.TheVariants as build
+use Rattle.wf_cert.specs.Grammar.{IsInGrammar}
+use Rattle.wf_cert.specs.Faults.{Fails}
+use Rattle.wf_cert.specs.declared.fault.CertFault.{CertFault}
+use Rattle.wf_cert.specs.declared.fault.CertFault.TheVariants as cert
+use Rattle.wf_cert.proofs.WrittenLemmas.{written_read}
+use Rattle.wf_engine.specs.declared.outcome.Outcome.{Outcome}
+use Rattle.wf_engine.specs.declared.outcome.Outcome.TheVariants.{Map, Nothing}
+use Rattle.wf_engine.specs.declared.fault.RunFault.{RunFault}
+use Rattle.wf_engine.specs.declared.fault.RunFault.TheVariants as run
+use Rattle.wf_engine.specs.Run.{Next, IsWithinLimits, IsBeyondLimits}
+use Rattle.wf_engine.specs.Texts.{IsReport, refutation, text_of_report}
+use Rattle.wf_engine.specs.Verify.{ChecksText, IsReportOf, IsVerified, outcome_of}
+use Rattle.wf_engine.specs.Laws.{Accepts, IsWritable}
+
+-- a report without a fault has none that is named
+unnamed : {P : Type 0} (found : Option Refusal) (f : Refusal) → found ≡ None → found ≡ Some f → P
+unnamed found f clear is = absurd (let bad : ⊥ = cc in bad)
+
+unrefused : {P : Type 0} (e : CertFault) (found : Option Refusal) → found ≡ None → (e ≡ cert.OutOfMemory → ⊥) → Fails e found → P
+unrefused cert.TooLong found clear other fails = absurd fails
+unrefused (cert.Syntax k) found clear other fails = absurd fails
+unrefused (cert.Header k) found clear other fails = unnamed found _ clear fails
+unrefused cert.MapLength found clear other fails = unnamed found _ clear fails
+unrefused (cert.Violates k) found clear other fails = unnamed found _ clear fails
+unrefused (cert.NoSuch k) found clear other fails = unnamed found _ clear fails
+unrefused (cert.Unsound k) found clear other fails = unnamed found _ clear fails
+unrefused (cert.NotEmpty k) found clear other fails = unnamed found _ clear fails
+unrefused (cert.NotOpen k) found clear other fails = unnamed found _ clear fails
+unrefused cert.Unfinished found clear other fails = unnamed found _ clear fails
+unrefused (cert.Trailing k) found clear other fails = unnamed found _ clear fails
+unrefused cert.OutOfMemory found clear other fails = absurd (other refl)
+
+-- the answer about a report without a fault
+faultless : (t : Task) (report : Report) (answer : Result (Outcome × List ℕ) RunFault) → IsWithinLimits report.rounds t → report_fault t report.rounds report ≡ None
+    → IsVerified t report answer → Accepts (outcome_of report.body) answer
+faultless t report (Ok answer) within clear is = is.outcome_is
+faultless t report (Err run.OutOfMemory) within clear is = tt
+faultless t report (Err (run.Cert cert.OutOfMemory)) within clear is = absurd is
+faultless t report (Err (run.Cert e)) within clear is = unrefused e (report_fault t report.rounds report) clear (λ same. let bad : ⊥ = cc in bad) is.1
+faultless t report (Err (run.Build build.Rounds)) (b, built) clear is = absurd (omega (arith, built.0, is))
+faultless t report (Err (run.Build build.TooManyExecutions)) (b, built) clear is = absurd (omega (arith, built.1, is.1))
+faultless t report (Err (run.Build build.OutOfMemory)) within clear is = absurd is
+faultless t report (Err e) within clear is = absurd is
+
+-- the answer about the text of such a report
+text_accepted : (t : Task) (report : Report) (answer : Result (Outcome × List ℕ) RunFault) → IsInGrammar report → length (report_text report) ≤ LONGEST → IsWithinLimits report.rounds t
+    → report_fault t report.rounds report ≡ None → ChecksText t (report_text report) answer → Accepts (outcome_of report.body) answer
+text_accepted t report answer grammar short within clear (Ok read, is, next) =
+    let known : report_of 1 (report_text report) ≡ Ok report = written_read report grammar in
+    let same : read ≡ report = cc in
+    faultless t report answer within clear (subst (λ r. IsVerified t r answer) same next)
+text_accepted t report answer grammar short within clear (Err (run.Cert (cert.Syntax k)), is, next) =
+    let known : report_of 1 (report_text report) ≡ Ok report = written_read report grammar in
+    absurd (let bad : ⊥ = cc in bad)
+text_accepted t report answer grammar short within clear (Err run.TooLong, is, next) = absurd (omega (arith, short, is))
+text_accepted t report answer grammar short within clear (Err run.OutOfMemory, is, next) = subst (Accepts (outcome_of report.body)) (sym next) tt
+text_accepted t report answer grammar short within clear (Err e, is, next) = absurd is
+
+pub solved_accepted : (t : Task) (r : ℕ) (outcome : Outcome) (text : List ℕ) (answer : Result (Outcome × List ℕ) RunFault)
+    → IsTask t → IsWithinLimits r t → IsReport r false t outcome text → IsWritable t r text → length text ≤ LONGEST
+    → ChecksText t text answer → Accepts outcome answer
+unfolding text_of_report
+solved_accepted t r Map text answer task within (m, least, is) writable short checks =
+    text_accepted t (report_about t r (a_map (listed t r m))) answer (writable (a_map (listed t r m)) is) (subst (λ x. length x ≤ LONGEST) is short) within
+    (map_accepted t r m least.decides) (subst (λ x. ChecksText t x answer) is checks)
+solved_accepted t r Nothing text answer task within (fails, is) writable short checks =
+    text_accepted t (report_about t r (none (refutation false r t))) answer (writable (none (refutation false r t)) is) (subst (λ x. length x ≤ LONGEST) is short) within
+    (canonical_none_accepted t r task (by_map (canonical (problem_of t r) (root (problem_of t r))).map refl)) (subst (λ x. ChecksText t x answer) is checks)
+  where
+    by_map : (o : Option (List ℕ)) → (canonical (problem_of t r) (root (problem_of t r))).map ≡ o → (canonical (problem_of t r) (root (problem_of t r))).map ≡ None
+    by_map None e = e
+    by_map (Some m) e = absurd (fails _ (answer_least t r m task e).decides)

@@ -1,0 +1,5 @@
+use Rattle.wf_engine.proofs.CheckCounts.{checked}
+use Rattle.wf_engine.proofs.laws.verifying_is_counted.Goals as goal
+
+pub returns : goal.returns
+returns c = checked

@@ -1,0 +1,248 @@
+//! The command `verify`: each row writes, tells and answers what it is to, byte for byte.
+
+use super::ends::{Drip, Narrow, Shelf};
+use super::tasks::{CONSENSUS_2, PATH_3, RENAMING_2_2};
+use super::words::split;
+use std::test::Fail;
+use wf_io::{Sink, Source};
+use wf_program::run_program;
+
+/// A task and a report about it, and what is written, told and answered.
+#[derive(Clone, Copy)]
+struct Checked {
+    task: &'static str,
+    report: &'static str,
+    output: &'static str,
+    errors: &'static str,
+    status: u8,
+}
+
+static CHECKED: [Checked; 20] = [
+    Checked {
+        task: PATH_3,
+        report: "wfcheck report 1\nprocesses 2\nrounds 1\npoints 4\nexecutions 5\nanswer map\nm 0\nm 3\nm 2\nm 1\nend\n",
+        output: "accepted map\n",
+        errors: "",
+        status: 0,
+    },
+    Checked {
+        task: PATH_3,
+        report: "wfcheck report 1\nprocesses 2\nrounds 1\npoints 4\nexecutions 5\nanswer map\nm 0\nm 3\nm 2\nm 2\nend\n",
+        output: "",
+        errors: "wfcheck: 23 Violates 3\n",
+        status: 2,
+    },
+    Checked {
+        task: PATH_3,
+        report: "wfcheck report 1\nprocesses 2\nrounds 1\npoints 5\nexecutions 5\nanswer map\nm 0\nm 3\nm 2\nm 1\nend\n",
+        output: "",
+        errors: "wfcheck: 21 Header 4\n",
+        status: 2,
+    },
+    Checked {
+        task: RENAMING_2_2,
+        report: "wfcheck report 1\nprocesses 2\nrounds 1\npoints 3\nexecutions 5\nanswer none\nb 0\np 3 1 0\np 4 0 0\np 2 0 1\nz 1\np 3 1 1\np 4 0 1\np 2 0 0\nend\n",
+        output: "",
+        errors: "wfcheck: 28 Unfinished\n",
+        status: 2,
+    },
+    Checked {
+        task: RENAMING_2_2,
+        report: "wfcheck report 1\nprocesses 2\nrounds 1\npoints 3\nexecutions 5\nanswer none\nb 0\np 3 1 0\np 4 0 0\np 2 0 1\nz 1\np 3 1 1\np 4 0 1\np 2 0 0\nz 1\nz 0\nend\n",
+        output: "",
+        errors: "wfcheck: 29 Trailing 16\n",
+        status: 2,
+    },
+    Checked {
+        task: RENAMING_2_2,
+        report: "wfcheck report 1\nprocesses 2\nrounds 1\npoints 3\nexecutions 5\nanswer none\np 2 0 0\nb 0\np 3 1 0\np 4 0 0\np 2 0 1\nz 1\np 3 1 1\np 4 0 1\np 2 0 0\nz 1\nend\n",
+        output: "",
+        errors: "wfcheck: 25 Unsound 7\n",
+        status: 2,
+    },
+    Checked {
+        task: RENAMING_2_2,
+        report: "wfcheck report 1\nprocesses 2\nrounds 1\npoints 3\nexecutions 5\nanswer none\nz 0\nb 0\np 3 1 0\np 4 0 0\np 2 0 1\nz 1\np 3 1 1\np 4 0 1\np 2 0 0\nz 1\nend\n",
+        output: "",
+        errors: "wfcheck: 26 NotEmpty 7\n",
+        status: 2,
+    },
+    Checked {
+        task: RENAMING_2_2,
+        report: "wfcheck report 1\nprocesses 2\nrounds 1\npoints 3\nexecutions 5\nanswer none\np 9 0 0\nb 0\np 3 1 0\np 4 0 0\np 2 0 1\nz 1\np 3 1 1\np 4 0 1\np 2 0 0\nz 1\nend\n",
+        output: "",
+        errors: "wfcheck: 24 NoSuch 7\n",
+        status: 2,
+    },
+    Checked {
+        task: RENAMING_2_2,
+        report: "wfcheck report 1\nprocesses 2\nrounds 1\npoints 3\nexecutions 5\nanswer none\np 03 1 0\nb 0\np 3 1 0\np 4 0 0\np 2 0 1\nz 1\np 3 1 1\np 4 0 1\np 2 0 0\nz 1\nend\n",
+        output: "",
+        errors: "wfcheck: 20 Syntax 7\n",
+        status: 2,
+    },
+    Checked {
+        task: CONSENSUS_2,
+        report: "wfcheck report 1\nprocesses 2\nrounds 0\npoints 2\nexecutions 3\nanswer none\np 0 0 1\np 1 1 0\nb 0\nz 0\nend\n",
+        output: "",
+        errors: "wfcheck: 27 NotOpen 9\n",
+        status: 2,
+    },
+    Checked {
+        task: RENAMING_2_2,
+        report: "wfcheck report 1\nprocesses 2\nrounds 1\npoints 3\nexecutions 5\nanswer none\nb 0\np 3 1 0\np 4 0 0\np 2 0 1\nz 1\np 3 1 1\np 4 0 1\np 2 0 0\nz 1\nend\n",
+        output: "accepted none\n",
+        errors: "",
+        status: 0,
+    },
+    Checked {
+        task: PATH_3,
+        report: "wfcheck report 1\nprocesses 2\nrounds 1\npoints 4\nexecutions 5\nanswer map\nm 0\nm 2\nm 1\nend\n",
+        output: "",
+        errors: "wfcheck: 22 MapLength\n",
+        status: 2,
+    },
+    Checked {
+        task: PATH_3,
+        report: "wfcheck report 1\nprocesses 2\nrounds 0\npoints 2\nexecutions 3\nanswer none\nend\n",
+        output: "",
+        errors: "wfcheck: 28 Unfinished\n",
+        status: 2,
+    },
+    Checked {
+        task: PATH_3,
+        report: "",
+        output: "",
+        errors: "wfcheck: 20 Syntax 1\n",
+        status: 2,
+    },
+    Checked {
+        task: PATH_3,
+        report: "wfcheck report 1\nprocesses 2\nrounds 1\npoints 3\nexecutions 5\nanswer none\nb 0\np 3 1 0\np 4 0 0\np 2 0 1\nz 1\np 3 1 1\np 4 0 1\np 2 0 0\nz 1\nend\n",
+        output: "",
+        errors: "wfcheck: 21 Header 4\n",
+        status: 2,
+    },
+    Checked {
+        task: PATH_3,
+        report: "wfcheck report 1\nprocesses 2\nrounds 1\npoints 4294967296\nexecutions 5\nanswer map\nm 0\nm 3\nm 2\nm 1\nend\n",
+        output: "",
+        errors: "wfcheck: 20 Syntax 4\n",
+        status: 2,
+    },
+    Checked {
+        task: PATH_3,
+        report: "wfcheck report 1\nprocesses 2\nrounds 1\npoints 4\r\nexecutions 5\nanswer map\nm 0\nm 3\nm 2\nm 1\nend\n",
+        output: "",
+        errors: "wfcheck: 20 Syntax 4\n",
+        status: 2,
+    },
+    Checked {
+        task: PATH_3,
+        report: "wfcheck report 1\nprocesses 2\nrounds 1\npoints 4\nexecutions 5\nanswer map\nm 0\nm 3\nm 2\nm 1\nend\nend\n",
+        output: "",
+        errors: "wfcheck: 20 Syntax 12\n",
+        status: 2,
+    },
+    Checked {
+        task: PATH_3,
+        report: "wfcheck report 1\nprocesses 2\nrounds 9\npoints 4\nexecutions 5\nanswer map\nm 0\nm 3\nm 2\nm 1\nend\n",
+        output: "",
+        errors: "wfcheck: 16 Rounds\n",
+        status: 2,
+    },
+    Checked {
+        task: "",
+        report: "wfcheck report 1\nprocesses 2\nrounds 1\npoints 4\nexecutions 5\nanswer map\nm 0\nm 3\nm 2\nm 1\nend\n",
+        output: "",
+        errors: "wfcheck: 2 NotJson\n",
+        status: 2,
+    },
+];
+
+/// The words of each row.
+const LINE: &str = "wfcheck verify --task task.json";
+
+#[test]
+fn reports_are_checked(rt: HostRuntime) -> Result<(), Fail> {
+    for row in CHECKED {
+        let files = Shelf {
+            name: "task.json",
+            text: row.task,
+            fails_at: 0,
+        };
+        let mut output = Vec::new(rt.alloc());
+        let mut errors = Vec::new(rt.alloc());
+        let mut source = Source::new(row.report.as_bytes());
+        let mut sink = Sink::new(&mut output);
+        let mut told = Sink::new(&mut errors);
+        let words = split(rt.alloc(), LINE)?;
+        let status = run_program(
+            &rt,
+            rt.alloc(),
+            &files,
+            Ok(words),
+            &mut source,
+            &mut sink,
+            &mut told,
+        );
+        drop(sink);
+        drop(told);
+        assert_eq!(rt;
+            errors.as_slice(),
+            row.errors.as_bytes(),
+            "{:?}",
+            row.report
+        );
+        assert_eq!(rt;
+            output.as_slice(),
+            row.output.as_bytes(),
+            "{:?}",
+            row.report
+        );
+        assert_eq!(rt; status, row.status, "{:?}", row.report);
+    }
+    Ok(())
+}
+
+#[test]
+fn failed_calls_of_a_check_are_told(rt: HostRuntime) -> Result<(), Fail> {
+    // the file that is there, and the calls of it, of the report's reader and of the writer that fail
+    let rows = [
+        ("other.json", 0, 0, 0, "wfcheck: 30 Read\n"),
+        ("task.json", 1, 0, 0, "wfcheck: 30 Read\n"),
+        ("task.json", 0, 1, 0, "wfcheck: 30 Read\n"),
+        ("task.json", 0, 0, 1, "wfcheck: 31 Write\n"),
+    ];
+    for (name, opened, read, write, text) in rows {
+        let files = Shelf {
+            name,
+            text: PATH_3,
+            fails_at: opened,
+        };
+        let Some(row) = CHECKED.first() else {
+            return Err(Fail::new("no row"));
+        };
+        let mut output = Vec::new(rt.alloc());
+        let mut errors = Vec::new(rt.alloc());
+        let mut source = Source::new(Drip::new(row.report.as_bytes(), read));
+        let mut sink = Sink::new(Narrow::new(&mut output, write));
+        let mut told = Sink::new(&mut errors);
+        let words = split(rt.alloc(), LINE)?;
+        let status = run_program(
+            &rt,
+            rt.alloc(),
+            &files,
+            Ok(words),
+            &mut source,
+            &mut sink,
+            &mut told,
+        );
+        drop(sink);
+        drop(told);
+        assert_eq!(rt; errors.as_slice(), text.as_bytes(), "{name}");
+        assert_eq!(rt; status, 4, "{name}");
+        assert_eq!(rt; output.len(), 0, "{name}");
+    }
+    Ok(())
+}
