@@ -89,8 +89,9 @@ fn flag<'a>(alloc: Global, name: &'a str, help: &'a str) -> Arg<'a> {
 }
 
 fn solve_command<'a>(alloc: Global) -> Result<Command<'a>, AllocError> {
-    let workers = number(alloc, "workers", "How many workers share the search")
-        .value_parser(value_parser!(u32).range(1..=MAX_WORKERS as i64));
+    let workers = number(alloc, "workers", "How many workers share the search").value_parser(
+        value_parser!(u32).range(1..=MAX_WORKERS as i64),
+    );
     let verdict = flag(alloc, "verdict", "Leave out the lines of a refutation");
     let account = flag(
         alloc,
