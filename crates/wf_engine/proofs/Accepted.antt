@@ -5,7 +5,9 @@ use Rattle.wf_model.specs.View.{View}
 use Rattle.wf_model.specs.DecisionMap.{IsDecisionMap, listed}
 use Rattle.wf_model.specs.Problem.{problem_of}
 use Rattle.wf_model.specs.Box.{root}
+use Rattle.wf_model.specs.Refutation.{Line}
 use Rattle.wf_model.specs.Closing.{canonical}
+use Rattle.wf_core.specs.declared.Account.{Account}
 use Rattle.wf_model.specs.Report.{Body, Report, a_map, none, report_of, report_text}
 use Rattle.wf_model.specs.Check.{Refusal, report_fault}
 use Rattle.wf_model.specs.Laws.{report_about}
@@ -23,7 +25,7 @@ use Rattle.wf_engine.specs.declared.outcome.Outcome.TheVariants.{Map, Nothing}
 use Rattle.wf_engine.specs.declared.fault.RunFault.{RunFault}
 use Rattle.wf_engine.specs.declared.fault.RunFault.TheVariants as run
 use Rattle.wf_engine.specs.Run.{Next, IsWithinLimits, IsBeyondLimits}
-use Rattle.wf_engine.specs.Texts.{IsReport, refutation, text_of_report}
+use Rattle.wf_engine.specs.Texts.{IsSolved, text_of_report}
 use Rattle.wf_engine.specs.Verify.{ChecksText, IsReportOf, IsVerified, outcome_of}
 use Rattle.wf_engine.specs.Laws.{Accepts, IsWritable}
 
@@ -71,17 +73,23 @@ text_accepted t report answer grammar short within clear (Err run.TooLong, is, n
 text_accepted t report answer grammar short within clear (Err run.OutOfMemory, is, next) = subst (Accepts (outcome_of report.body)) (sym next) tt
 text_accepted t report answer grammar short within clear (Err e, is, next) = absurd is
 
-pub solved_accepted : (t : Task) (r : ℕ) (outcome : Outcome) (text : List ℕ) (answer : Result (Outcome × List ℕ) RunFault)
-    → IsTask t → IsWithinLimits r t → IsReport r false t outcome text → IsWritable t r text → length text ≤ LONGEST
-    → ChecksText t text answer → Accepts outcome answer
-unfolding text_of_report
-solved_accepted t r Map text answer task within (m, least, is) writable short checks =
-    text_accepted t (report_about t r (a_map (listed t r m))) answer (writable (a_map (listed t r m)) is) (subst (λ x. length x ≤ LONGEST) is short) within
-    (map_accepted t r m least.decides) (subst (λ x. ChecksText t x answer) is checks)
-solved_accepted t r Nothing text answer task within (fails, is) writable short checks =
-    text_accepted t (report_about t r (none (refutation false r t))) answer (writable (none (refutation false r t)) is) (subst (λ x. length x ≤ LONGEST) is short) within
-    (canonical_none_accepted t r task (by_map (canonical (problem_of t r) (root (problem_of t r))).map refl)) (subst (λ x. ChecksText t x answer) is checks)
+-- where there is no map, the canonical search finds none
+finds_none : (t : Task) (r : ℕ) → IsTask t → ((m : View → ℕ) → IsDecisionMap t r m → ⊥) → (canonical (problem_of t r) (root (problem_of t r))).map ≡ None
+finds_none t r task fails = by_map (canonical (problem_of t r) (root (problem_of t r))).map refl
   where
     by_map : (o : Option (List ℕ)) → (canonical (problem_of t r) (root (problem_of t r))).map ≡ o → (canonical (problem_of t r) (root (problem_of t r))).map ≡ None
     by_map None e = e
     by_map (Some m) e = absurd (fails _ (answer_least t r m task e).decides)
+
+pub solved_accepted : (t : Task) (r : ℕ) (found : Outcome × Account) (text : List ℕ) (answer : Result (Outcome × List ℕ) RunFault)
+    → IsTask t → IsWithinLimits r t → IsSolved r false t found text → IsWritable t r text → length text ≤ LONGEST
+    → ChecksText t text answer → Accepts found.0 answer
+unfolding text_of_report
+solved_accepted t r (Map, a) text answer task within (m, least, account, is) writable short checks =
+    text_accepted t (report_about t r (a_map (listed t r m))) answer (writable (a_map (listed t r m)) is) (subst (λ x. length x ≤ LONGEST) is short) within
+    (map_accepted t r m least.decides) (subst (λ x. ChecksText t x answer) is checks)
+solved_accepted t r (Nothing, a) text answer task within (ls, refuted, account, is) writable short checks =
+    let lines : List Line = (canonical (problem_of t r) (root (problem_of t r))).lines in
+    let written : text ≡ text_of_report t r (none lines) = is ∙ ap (λ x. text_of_report t r (none x)) refuted.canonical_lines in
+    text_accepted t (report_about t r (none lines)) answer (writable (none lines) written) (subst (λ x. length x ≤ LONGEST) written short) within
+    (canonical_none_accepted t r task (finds_none t r task refuted.no_map)) (subst (λ x. ChecksText t x answer) written checks)

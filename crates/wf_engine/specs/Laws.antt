@@ -11,7 +11,7 @@ use Rattle.wf_engine.specs.declared.outcome.Outcome.{Outcome}
 use Rattle.wf_engine.specs.declared.fault.RunFault.{RunFault}
 use Rattle.wf_engine.specs.declared.fault.RunFault.TheVariants.{OutOfMemory, Read, Write}
 use Rattle.wf_engine.specs.Run.{IsWithinLimits}
-use Rattle.wf_engine.specs.Texts.{IsReport, Solves, Lists, text_of_report}
+use Rattle.wf_engine.specs.Texts.{IsSolved, Solves, Lists, text_of_report}
 use Rattle.wf_engine.specs.Verify.{ChecksText, Verifies}
 
 -- how many reads, and how many writes, failed by a refusal
@@ -80,6 +80,6 @@ IsWritable t r text = (body : Body) → text ≡ text_of_report t r body → IsI
 -- the full report of a search, of at most as many bytes as a text may have, is accepted
 abbrev pub SolvedReportsAreAccepted : Type 0
 SolvedReportsAreAccepted =
-    (t : Task) (r : ℕ) (outcome : Outcome) (text : List ℕ) (answer : Result (Outcome × List ℕ) RunFault)
-    → IsTask t → IsWithinLimits r t → IsReport r false t outcome text → IsWritable t r text → length text ≤ LONGEST
-    → ChecksText t text answer → Accepts outcome answer
+    (t : Task) (r : ℕ) (found : Outcome × Account) (text : List ℕ) (answer : Result (Outcome × List ℕ) RunFault)
+    → IsTask t → IsWithinLimits r t → IsSolved r false t found text → IsWritable t r text → length text ≤ LONGEST
+    → ChecksText t text answer → Accepts found.0 answer
