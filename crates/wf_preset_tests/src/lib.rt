@@ -1,0 +1,11 @@
+//! Tests of canonical texts, and of the tasks that have names.
+//!
+//! The texts were written by hand or by another program that makes these tasks, never by this one.
+#![tactic(auto)]
+
+#[cfg(test)]
+mod canonical_tests;
+#[cfg(test)]
+mod preset_tests;
+#[cfg(test)]
+mod texts;
