@@ -8,4 +8,3 @@ pub mod CloseLemmas
 pub mod LeastLemmas
 pub mod BoxLemmas
 pub mod JoinLemmas
-pub mod ValueLemmas

@@ -1,6 +1,6 @@
 //! The constraint problem of a task and its protocol complex.
 
-ghost use Rattle.std.specs.Prelude.{◌≡◌, ◌<◌, ◌≤◌, ◌^◌, ℕ, None, All, length, map, take, IfOk};
+ghost use Rattle.std.specs.Prelude.{◌≡◌, ◌<◌, ◌≤◌, ◌^◌, ℕ, All, length, map, take, IfOk};
 ghost use Rattle.wf_model.specs.Task.{IsTask};
 ghost use Rattle.wf_model.specs.Problem.{IsWellFormed, problem_of};
 ghost use Rattle.wf_complex.specs.Protocol.{IsProtocol};
@@ -100,7 +100,6 @@ fn rules(alloc: Global, task: &Task) -> Result<Vec<Rule>, AllocError>
     ensures rules { IfOk result (λ rules. map rule_seen rules.items ≡ task.now.rules) }
     ensures wide { IfOk result (λ rules. All IsWide rules.items) }
     ensures task { IsTask task.now }
-    ensures unrestricted { task.now.restriction ≡ None }
 {
     let inputs = task.inputs().simplices();
     let mut rules = Vec::with_capacity(alloc, inputs.len())?;

@@ -1,17 +1,16 @@
 -- The way back: what the entries of a trail stand for.
-use Rattle.std.proofs.Common.{◌≡◌, ℕ, zero, suc, ◌*◌, ◌%◌, ◌^◌, ◌<◌, ◌==◌, List, [], ◌∷◌, ◌++◌, map, filter, reverse, length, get_or, false, not, refl, sym, ap, ◌∙◌, arith}
+use Rattle.std.proofs.Common.{◌≡◌, ℕ, zero, suc, ◌<◌, ◌==◌, List, [], ◌∷◌, ◌++◌, map, filter, reverse, length, get_or, false, not, refl, sym, ap, ◌∙◌, arith}
 use Rattle.std.specs.List.{slice_set}
-use Rattle.std.proofs.lemmas.Nat.{one_shl}
 use Rattle.std.proofs.lemmas.List.{map-set, get_or-map, reverse-append, set-get_or}
 use Rattle.std.specs.List.{All}
 use Rattle.std.proofs.lemmas.List.Elements.{All-head, All-tail}
 use Rattle.wf_model.specs.Box.{Box, candidates, decided, without}
-use Rattle.wf_cert.specs.Sets.{values_in, box_of}
+use Rattle.wf_set.specs.Sets.{values_in, box_of}
 use Rattle.wf_cert.specs.Blocks.{later, later_from}
 use Rattle.wf_cert.specs.declared.blocks.Entry.{Entry}
 use Rattle.wf_cert.specs.declared.blocks.Entry.TheVariants.{Was, Later}
 use Rattle.wf_model.specs.Lists.{has}
-use Rattle.wf_cert.proofs.Words.{filter_nothing, values_of_one}
+use Rattle.wf_set.proofs.SetLaws.{filter_nothing}
 
 -- one more entry
 pub later_push : (trail : List Entry) (e : Entry) (words : List ℕ) → later (trail ++ e ∷ []) words ≡ later_from (e ∷ reverse trail) words
@@ -31,8 +30,8 @@ pub word_at : (words : List ℕ) (v : ℕ) → v < length words → candidates (
 word_at words v inside = get_or-map values_in words v 0 [] inside
 
 -- a point that is given one value
-pub one_value : (words : List ℕ) (v a : ℕ) → a < 64 → box_of (slice_set words v (1 * 2 ^ a % 2 ^ 64)) ≡ decided (box_of words) v a
-one_value words v a small = map-set values_in words v (1 * 2 ^ a % 2 ^ 64) ∙ ap (slice_set (box_of words) v) (ap values_in (one_shl a 64 small) ∙ values_of_one a small)
+pub one_value : (words : List ℕ) (v a set : ℕ) → values_in set ≡ a ∷ [] → box_of (slice_set words v set) ≡ decided (box_of words) v a
+one_value words v a set alone = map-set values_in words v set ∙ ap (slice_set (box_of words) v) alone
 
 -- a word that is read, whatever stands for one that is not there
 pub word_read : (words : List ℕ) (v w : ℕ) → v < length words → w ≡ get_or words v w → w ≡ get_or words v 0
@@ -47,11 +46,11 @@ set_without words v a w set inside read is =
     ∙ ap (λ s. slice_set (box_of words) v s) (is ∙ ap (λ w. filter (λ b. not (b == a)) (values_in w)) (word_read words v w inside read) ∙ ap (filter (λ b. not (b == a))) (sym (word_at words v inside)))
 
 -- the block of the least of some values is entered, and the others come later
-pub entered : (trail : List Entry) (words : List ℕ) (v values a left : ℕ) (new : List ℕ) {after : List Box} → a < 64 → values_in values ≡ a ∷ values_in left
-    → new ≡ slice_set words v (1 * 2 ^ a % 2 ^ 64) → after ≡ later (trail ++ Later v left ∷ []) words
+pub entered : (trail : List Entry) (words : List ℕ) (v values a set left : ℕ) (new : List ℕ) {after : List Box} → values_in set ≡ a ∷ [] → values_in values ≡ a ∷ values_in left
+    → new ≡ slice_set words v set → after ≡ later (trail ++ Later v left ∷ []) words
     → box_of new ∷ after ≡ map (decided (box_of words) v) (values_in values) ++ later trail words
-entered trail words v values a left new small split is so =
-    (λ i. (ap box_of is ∙ one_value words v a small) i ∷ (so ∙ later_push trail (Later v left) words) i)
+entered trail words v values a set left new alone split is so =
+    (λ i. (ap box_of is ∙ one_value words v a set alone) i ∷ (so ∙ later_push trail (Later v left) words) i)
     ∙ ap (λ vs. map (decided (box_of words) v) vs ++ later trail words) (sym split)
 
 -- where the word has no such value, nothing changes

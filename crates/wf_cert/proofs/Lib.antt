@@ -1,6 +1,4 @@
 pub mod Taken
-pub mod Words
-pub mod RootValues
 pub mod BlockLemmas
 pub mod PlaceLemmas
 pub mod ExecutionLemmas

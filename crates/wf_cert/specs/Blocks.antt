@@ -2,7 +2,7 @@
 use Rattle.std.specs.Prelude.{◌≡◌, ℕ, Bool, reverse, length, List, [], ◌∷◌, ◌++◌, map, if◌then◌else◌}
 use Rattle.std.specs.List.{slice_set}
 use Rattle.wf_model.specs.Box.{Box, decided}
-use Rattle.wf_cert.specs.Sets.{values_in, box_of}
+use Rattle.wf_set.specs.Sets.{values_in, box_of}
 use Rattle.wf_cert.specs.declared.blocks.Blocks.{Blocks}
 use Rattle.wf_cert.specs.declared.blocks.Entry.{Entry}
 use Rattle.wf_cert.specs.declared.blocks.Entry.TheVariants.{Was, Later}

@@ -1,6 +1,5 @@
 pub mod Reports
 pub mod Faults
-pub mod Sets
 pub mod Blocks
 pub mod Places
 pub mod Reading

@@ -4,7 +4,7 @@ use Rattle.std.specs.List.{list_all}
 use Rattle.wf_model.specs.Report.{Reading, report_of}
 use Rattle.wf_cert.specs.Reports.{report_seen}
 use Rattle.wf_cert.specs.declared.report.Report.{Report}
-use Rattle.wf_cert.specs.declared.reading.TheConstants.{LONGEST}
+use Rattle.wf_task.specs.declared.task.TheConstants.{LONGEST}
 use Rattle.wf_cert.specs.declared.fault.CertFault.{CertFault}
 use Rattle.wf_cert.specs.declared.fault.CertFault.TheVariants.{TooLong, Syntax, Header, MapLength, Violates, NoSuch, Unsound, NotEmpty, NotOpen, Unfinished, Trailing, OutOfMemory}
 

@@ -1,17 +1,17 @@
 //! The box that the lines are about, and the way back to the boxes that are still to come.
 //!
-//! There is one box of words, one for each point. A trail has what the open blocks took out of it, and for each open
-//! block the values whose blocks are still to come. So the memory that a certificate can ask for grows with its lines
-//! and with the points, and not with their product.
+//! There is one box, a set of candidates for each point. A trail has what the open blocks took out of it, and for each
+//! open block the values whose blocks are still to come. So the memory that a certificate can ask for grows with its
+//! lines and with the points, and not with their product.
 
 ghost use Rattle.std.specs.Prelude.{◌≡◌, ◌<◌, ◌++◌, ◌∷◌, [], true, nat_lt, length, map, replicate, IfOk, OnOk};
 ghost use Rattle.std.specs.List.{slice_set};
 ghost use Rattle.wf_model.specs.Box.{branches_at, candidates, decided, without};
-ghost use Rattle.wf_cert.specs.Sets.{values_in};
+ghost use Rattle.wf_set.specs.Sets.{values_in};
 ghost use Rattle.wf_cert.specs.Blocks.{box_now, boxes_later, boxes_left, HasSamePoints};
 
-use crate::sets::{has_two, has_value, split, without};
 use std::alloc::{AllocError, Global};
+use wf_set::{Mask, first, has_two, holds, is_empty, only, rest, without};
 
 /// A step of the way back.
 #[derive(Clone, Copy, Debug, Drop)]
@@ -20,30 +20,30 @@ enum Entry {
     Was {
         /// The number of the point.
         point: u32,
-        /// The word of its values.
-        set: u64,
+        /// Its candidates.
+        set: Mask,
     },
     /// The point branches, and the blocks of these values are still to come.
     Later {
         /// The number of the point.
         point: u32,
-        /// The word of the values.
-        values: u64,
+        /// The values.
+        values: Mask,
     },
 }
 
 /// The box of now, and the way back to the boxes that are still to come.
 #[derive(Drop)]
 pub(crate) struct Blocks {
-    // for each point the word of its values
-    sets: Vec<u64>,
+    // the candidates of each point
+    sets: Vec<Mask>,
     // the last step was taken last
     trail: Vec<Entry>,
 }
 
 impl Blocks {
     /// One block, about the box with these values at so many points.
-    pub(crate) fn root(alloc: Global, values: u64, points: u32) -> Result<Blocks, AllocError>
+    pub(crate) fn root(alloc: Global, values: Mask, points: u32) -> Result<Blocks, AllocError>
         ensures sets { IfOk result (λ blocks. blocks.sets.items ≡ replicate points values) }
         ensures alone { IfOk result (λ blocks. blocks.trail.items ≡ []) }
     {
@@ -53,8 +53,8 @@ impl Blocks {
         })
     }
 
-    /// The words of the box of now, one for each point.
-    pub(crate) fn sets(&self) -> &[u64]
+    /// The box of now, a set for each point.
+    pub(crate) fn sets(&self) -> &[Mask]
         ensures { result.now ≡ self.now.sets.items }
     {
         &self.sets
@@ -68,7 +68,7 @@ impl Blocks {
         ensures points { HasSamePoints self.old self.new }
     {
         let set = self.sets[point as usize];
-        if has_value(set, value) {
+        if holds(set, value) {
             self.change(point, without(set, value))?;
         }
         Ok(())
@@ -103,7 +103,7 @@ impl Blocks {
             match entry {
                 Entry::Was { point, set } => self.put_back(point, set),
                 Entry::Later { point, values } => {
-                    if values != 0 {
+                    if !is_empty(values) {
                         self.enter(point, values)?;
                         return Ok(true);
                     }
@@ -114,23 +114,22 @@ impl Blocks {
     }
 
     /// Goes into the block of the least of these values of a point; the others are still to come.
-    fn enter(&mut self, point: u32, values: u64) -> Result<(), AllocError>
-        requires values { 0 < values }
+    fn enter(&mut self, point: u32, values: Mask) -> Result<(), AllocError>
+        requires values { 0 < length (values_in values) }
         ensures boxes { OnOk result (box_now self.new ∷ boxes_later self.new
             ≡ map (decided (box_now self.old) point) (values_in values) ++ boxes_later self.old) }
         ensures points { HasSamePoints self.old self.new }
     {
-        let (value, left) = split(values);
         self.trail.push(Entry::Later {
             point,
-            values: left,
+            values: rest(values),
         })?;
-        self.change(point, 1 << value)?;
+        self.change(point, only(first(values)))?;
         Ok(())
     }
 
     /// Gives a point another set, and keeps the way back.
-    fn change(&mut self, point: u32, set: u64) -> Result<(), AllocError>
+    fn change(&mut self, point: u32, set: Mask) -> Result<(), AllocError>
         ensures sets { OnOk result (self.new.sets.items ≡ slice_set self.old.sets.items point set) }
         ensures later { OnOk result (boxes_later self.new ≡ boxes_later self.old) }
         ensures points { HasSamePoints self.old self.new }
@@ -144,7 +143,7 @@ impl Blocks {
     }
 
     /// Gives a point its set of before.
-    fn put_back(&mut self, point: u32, set: u64)
+    fn put_back(&mut self, point: u32, set: Mask)
         ensures sets { self.new.sets.items ≡ slice_set self.old.sets.items point set }
         ensures trail { self.new.trail ≡ self.old.trail }
     {

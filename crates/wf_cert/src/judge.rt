@@ -19,10 +19,10 @@ use crate::blocks::Blocks;
 use crate::fault::CertFault;
 use crate::groups::{group_rules, tuples_with};
 use crate::reading::FIRST_LINE;
-use crate::sets::is_empty;
 use crate::support::is_supported;
 use std::alloc::Global;
 use wf_complex::{Line, Protocol};
+use wf_set::is_empty;
 use wf_task::{Row, Task};
 
 /// A value that a line takes out.

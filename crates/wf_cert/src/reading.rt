@@ -14,9 +14,7 @@ use crate::fault::CertFault;
 use crate::report::{Body, Report};
 use std::alloc::{AllocError, Global};
 use wf_complex::{Line, Lines};
-
-/// The most bytes that a text may have: 16 MiB.
-pub const LONGEST: usize = 16_777_216;
+use wf_task::LONGEST;
 
 /// The number of the first line of a body.
 pub(crate) const FIRST_LINE: u32 = 7;

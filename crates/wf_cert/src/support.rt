@@ -2,16 +2,16 @@
 
 ghost use Rattle.std.specs.Prelude.{◌≡◌, ◌<◌, ◌≤◌, ◌&&◌, All, get_or, length, map, take};
 ghost use Rattle.wf_model.specs.Box.{candidates, has_at, is_alive, is_supported};
-ghost use Rattle.wf_cert.specs.Sets.{box_of, values_in};
+ghost use Rattle.wf_set.specs.Sets.{box_of, values_in};
 
-use crate::sets::holds;
+use wf_set::{Mask, holds};
 use wf_task::Row;
 
 /// Whether one of the tuples has the value at this place, and all its values among the candidates of these points.
 pub(crate) fn is_supported(
     tuples: &[Row],
     points: &[u32],
-    sets: &[u64],
+    sets: &[Mask],
     place: usize,
     value: u8,
 ) -> bool
@@ -25,7 +25,7 @@ pub(crate) fn is_supported(
 }
 
 /// The words of these points.
-fn words_at(points: &[u32], sets: &[u64]) -> [u64; 4]
+fn words_at(points: &[u32], sets: &[Mask]) -> [Mask; 4]
     requires few { length points.now ≤ 4 }
     requires inside { All (λ v. v < length sets.now) points.now }
     ensures words { take (length points.now) result ≡ map (λ v. get_or sets.now v 0) points.now }
@@ -39,7 +39,7 @@ fn words_at(points: &[u32], sets: &[u64]) -> [u64; 4]
 }
 
 /// Whether one of the tuples has the value at this place, and all its values in the sets of their places.
-fn has_support(tuples: &[Row], words: &[u64], place: usize, value: u8) -> bool
+fn has_support(tuples: &[Row], words: &[Mask], place: usize, value: u8) -> bool
     ensures { result ≡ is_supported tuples.now (map values_in words.now) place value }
 {
     for tuple in tuples {
@@ -51,11 +51,10 @@ fn has_support(tuples: &[Row], words: &[u64], place: usize, value: u8) -> bool
 }
 
 /// Whether the tuple has the value at this place, and all its values in the sets of their places.
-fn supports(tuple: &Row, words: &[u64], place: usize, value: u8) -> bool
+fn supports(tuple: &Row, words: &[Mask], place: usize, value: u8) -> bool
     ensures { let sets = map values_in words.now in
         result ≡ (has_at tuple.now place value && is_alive sets tuple.now) }
 {
-    let _size = tuple.size();
     let values = tuple.as_slice();
     has_at(values, place, value) && is_alive(words, values)
 }
@@ -68,8 +67,7 @@ pub(crate) fn has_at(values: &[u8], place: usize, value: u8) -> bool
 }
 
 /// Whether each value is in the set of its place.
-fn is_alive(words: &[u64], values: &[u8]) -> bool
-    requires { All (λ x. x ≤ 63) values.now }
+fn is_alive(words: &[Mask], values: &[u8]) -> bool
     ensures { result ≡ is_alive (map values_in words.now) values.now }
 {
     if words.len() != values.len() {

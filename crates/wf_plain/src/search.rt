@@ -12,6 +12,7 @@ use crate::ends::ends_of;
 use crate::fits::fits;
 use std::alloc::{AllocError, Global};
 use wf_complex::Protocol;
+use wf_set::holds;
 use wf_task::Task;
 
 /// How many values there are at most.
@@ -93,7 +94,7 @@ fn give_value(
     let all = task.values();
     let _inputs = task.inputs();
     for value in from..VALUES {
-        if all >> value & 1 == 0 {
+        if !holds(all, value) {
             continue;
         }
         values[point] = value;

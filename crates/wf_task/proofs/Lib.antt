@@ -4,6 +4,7 @@ pub mod Texts
 pub mod Sizes
 pub mod Judged
 pub mod TaskSeen
+pub mod TaskValues
 pub mod EntrySlots
 pub mod TupleLemmas
 pub mod RowLemmas

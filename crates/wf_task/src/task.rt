@@ -1,10 +1,9 @@
-ghost use Rattle.std.specs.Prelude.{◌≡◌, ℕ, ◌<◌, ◌↔◌, true, length, map, option_map, slice_get, Some, None, IfOk, vec_items};
-ghost use Rattle.std.specs.Int.{bit_at};
-ghost use Rattle.wf_model.specs.Lists.{has};
+ghost use Rattle.std.specs.Prelude.{◌≡◌, ◌<◌, length, map, option_map, slice_get, Some, None, IfOk, vec_items};
 ghost use Rattle.wf_model.specs.Simplex.{complex_of};
 ghost use Rattle.wf_model.specs.Task.{IsTask, inputs, values};
 ghost use Rattle.serde_json.specs.View.{view};
 ghost use Rattle.wf_task.specs.Canonical.{HasFewFacets, canonical_text, task_data};
+ghost use Rattle.wf_set.specs.Sets.{values_in};
 ghost use Rattle.wf_task.specs.Draft.{Gives};
 ghost use Rattle.wf_task.specs.DraftSeen.{draft_seen, pairs_seen, entry_seen};
 ghost use Rattle.wf_task.specs.Judge.{judged, drafted, text_of};
@@ -25,6 +24,7 @@ use crate::tuples::judge_tuples;
 use serde_json::Value;
 use std::alloc::{AllocError, Global};
 use std::marker::Model;
+use wf_set::Mask;
 use wf_simplex::Complex;
 
 /// The most bytes that a text may have, a task's or a report's: 16 MiB.
@@ -40,8 +40,8 @@ pub struct Task {
     outputs: Complex,
     // the tuples of each input simplex, in the order of the inputs
     tuples: Vec<Vec<Row>>,
-    // bit v is set where v occurs in the outputs
-    values: u64,
+    // those that occur in the outputs
+    values: Mask,
 }
 
 impl Model for Task {
@@ -157,9 +157,9 @@ impl Task {
         tuples[place].as_slice()
     }
 
-    /// The values that occur in the output complex: bit v is set where v does.
-    pub fn values(&self) -> u64
-        ensures { (v : ℕ) → v < 64 → (bit_at result v ≡ 1) ↔ (has (values self.now) v ≡ true) }
+    /// The values that occur in the output complex.
+    pub fn values(&self) -> Mask
+        ensures values { values_in result ≡ values self.now }
     {
         self.values
     }

@@ -13,7 +13,7 @@ loop-line-init c =
     let b = c.args.protocol.now in
     let words = c.in_ok-blocks.blocks.sets.items in
     let sets = c.in_ok-blocks.ensures.sets in (
-      (λ i. first_fault (problem_of t b.rounds) 7 (map line_of c.args.lines.now) (root_is t b.rounds b c.values.result c.points.result words c.requires.built c.inputs-inputs.ensures.task c.inputs-inputs.ensures.unrestricted c.values.ensures c.points.ensures.points sets i ∷ ap (λ es. later es words) c.in_ok-blocks.ensures.alone i)),
+      (λ i. first_fault (problem_of t b.rounds) 7 (map line_of c.args.lines.now) (root_is t b.rounds b c.values.result c.points.result words c.requires.built c.values.ensures.values c.points.ensures.points sets i ∷ ap (λ es. later es words) c.in_ok-blocks.ensures.alone i)),
       ap length sets ∙ length-replicate c.points.result c.values.result ∙ c.points.ensures.points,
       refl,
     )

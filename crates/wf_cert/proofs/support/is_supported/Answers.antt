@@ -1,6 +1,6 @@
 use Rattle.std.proofs.Common.{map, ◌∙◌, ap}
 use Rattle.wf_model.specs.Box.{is_supported}
-use Rattle.wf_cert.specs.Sets.{values_in}
+use Rattle.wf_set.specs.Sets.{values_in}
 use Rattle.wf_cert.proofs.BlockLemmas.{words_there}
 use Rattle.wf_cert.proofs.support.is_supported.Goals as goal
 

@@ -1,7 +1,8 @@
-use Rattle.std.proofs.Common.{◌≡◌, ◌<◌, ◌+◌, [], ◌∷◌, ◌++◌, length, take, slice_set, sym, ◌∙◌, subst, arith, false}
+use Rattle.std.proofs.Common.{◌≡◌, ◌<◌, ◌+◌, [], ◌∷◌, ◌++◌, length, take, slice_set, sym, ap, ◌∙◌, subst, arith, false}
 use Rattle.std.specs.List.{list_all}
 use Rattle.std.proofs.lemmas.List.{take-set}
-use Rattle.std.proofs.lemmas.Nat.Bits.{shr_and_one}
+use Rattle.std.proofs.lemmas.Bool.{false≢true}
+use Rattle.wf_model.specs.Lists.{has}
 use Rattle.wf_model.specs.Problem.{problem_of, constraint_at}
 use Rattle.wf_model.specs.Check.{satisfies}
 use Rattle.wf_plain.proofs.Tried.{Begins}
@@ -9,8 +10,8 @@ use Rattle.wf_plain.proofs.Named.{set_at, set_long}
 use Rattle.wf_plain.proofs.State.{next_tried, no_value, no_fit, take_next, lie_in_problem}
 use Rattle.wf_plain.proofs.search.give_value.Goals as goal
 
-pub loop-value-preserved-then-all-value-eq0 : goal.loop-value-preserved-then-all-value-eq0
-loop-value-preserved-then-all-value-eq0 c =
+pub loop-value-preserved-then-not-holds : goal.loop-value-preserved-then-not-holds
+loop-value-preserved-then-not-holds c =
     let t = c.args.task.now in
     let r = c.args.protocol.now.rounds in
     let ds = take c.args.point c.args.values.now in
@@ -20,7 +21,7 @@ loop-value-preserved-then-all-value-eq0 c =
       kept = c.loop-value.invariant.kept;
       tried = λ before. next_tried (problem_of t r) ds v (c.loop-value.invariant.tried before)
           (no_value t r ds v c.inputs-inputs.ensures.task
-          (λ has. let one = (c.values-all.ensures v c.loop-value-test.true).1 has in let zero = sym (shr_and_one c.values-all.result v) ∙ c.if-all-value-eq0.true in let none : ⊥ = omega (arith, one, zero) in none));
+          (λ there. let none : ⊥ = false≢true (sym c.if-not-holds.true ∙ c.holds.ensures.has ∙ ap (λ vs. has vs v) c.values-all.ensures.values ∙ there) in none));
     }
 
 pub loop-value-preserved : goal.loop-value-preserved

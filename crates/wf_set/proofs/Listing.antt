@@ -1,0 +1,50 @@
+-- A word that holds the numbers of an ascending list has that list as its values.
+use Rattle.std.proofs.Common.{◌≡◌, ℕ, zero, suc, ◌+◌, ◌<◌, ◌≤◌, ◌==◌, ◌||◌, Bool, false, cond, List, [], ◌∷◌, filter, refl, sym, ap, ◌∙◌, ⊎_elim, arith, eq-eqb, ne_eqb}
+use Rattle.std.specs.List.{AllByRecursion, range_with_len}
+use Rattle.std.proofs.lemmas.Bool.{cases_eq, or_left, or_from}
+use Rattle.wf_model.specs.Lists.{has}
+use Rattle.wf_model.proofs.Ascending.{Ascends}
+use Rattle.wf_model.proofs.Bridge.{weaker}
+use Rattle.wf_model.proofs.Headline.{always}
+use Rattle.wf_set.specs.Sets.{holds, values_in}
+
+-- ---- an ascending list as a part of a run
+
+-- a number below all of a list is not in it
+none_later : (v : ℕ) (ys : List ℕ) → AllByRecursion (λ y. v < y) ys → has ys v ≡ false
+none_later v [] h = refl
+none_later v (y ∷ ys) h = or_from (y == v) (has ys v) (ne_eqb y v (λ (e : y ≡ v). absurd (omega (arith, h.0, e)))) (none_later v ys h.1)
+
+-- of a run of numbers, a test for those of an ascending list keeps that list
+run_keeps : (p : ℕ → Bool) (xs : List ℕ) (a n : ℕ) → Ascends xs → AllByRecursion (λ x. a ≤ x) xs → AllByRecursion (λ x. x < a + n) xs → ((v : ℕ) → a ≤ v → v < a + n → p v ≡ has xs v) → filter p (range_with_len a n) ≡ xs
+run_keeps p [] a zero up low high same = refl
+run_keeps p (x ∷ xs) a zero up low high same = absurd (let none : ⊥ = omega (arith, low.0, high.0) in none)
+run_keeps p [] a (suc n) up low high same =
+    let ps = filter p (range_with_len (a + 1) n) in
+    let skips : cond (p a) (a ∷ ps) ps ≡ ps = ap (λ b. cond b (a ∷ ps) ps) (same a (omega arith) (omega arith)) in
+    skips ∙ run_keeps p [] (a + 1) n tt tt tt (λ v l h. same v (omega (arith, l)) (omega (arith, h)))
+run_keeps p (x ∷ xs) a (suc n) up low high same =
+    let ps = filter p (range_with_len (a + 1) n) in
+    ⊎_elim
+    (λ (e : a ≡ x).
+    let keeps : cond (p a) (a ∷ ps) ps ≡ a ∷ ps = ap (λ b. cond b (a ∷ ps) ps) (same a (omega arith) (omega arith) ∙ or_left (x == a) (has xs a) (eq-eqb x a (sym e))) in
+    let rest : ps ≡ xs = run_keeps p xs (a + 1) n up.1
+    (weaker (λ y. x < y) (λ y. a + 1 ≤ y) (λ y k. omega (arith, k, e)) xs up.0)
+    (weaker (λ y. y < a + suc n) (λ y. y < a + 1 + n) (λ y k. omega (arith, k)) xs high.1)
+    (λ v l h. same v (omega (arith, l)) (omega (arith, h)) ∙ ap (λ b. b || has xs v) (ne_eqb x v (λ (same_v : x ≡ v). absurd (omega (arith, l, e, same_v))))) in
+    keeps ∙ ap (λ y. y ∷ ps) e ∙ ap (λ ys. x ∷ ys) rest)
+    (λ (ne : a ≡ x → ⊥).
+    let less : a < x = omega (arith, ne, low.0) in
+    let later = weaker (λ y. x < y) (λ y. a < y) (λ y k. omega (arith, k, less)) xs up.0 in
+    let skips : cond (p a) (a ∷ ps) ps ≡ ps = ap (λ b. cond b (a ∷ ps) ps) (same a (omega arith) (omega arith) ∙ none_later a (x ∷ xs) (less, later)) in
+    skips ∙ run_keeps p (x ∷ xs) (a + 1) n up
+    (weaker (λ y. a < y) (λ y. a + 1 ≤ y) (λ y k. omega (arith, k)) (x ∷ xs) (less, later))
+    (weaker (λ y. y < a + suc n) (λ y. y < a + 1 + n) (λ y k. omega (arith, k)) (x ∷ xs) high)
+    (λ v l h. same v (omega (arith, l)) (omega (arith, h))))
+    (cases_eq a x)
+
+-- ---- a word
+
+pub values_listed : (word : ℕ) (xs : List ℕ) → Ascends xs → AllByRecursion (λ x. x < 64) xs → ((v : ℕ) → v < 64 → holds word v ≡ has xs v) → values_in word ≡ xs
+unfolding values_in
+values_listed word xs up small same = run_keeps (holds word) xs 0 64 up (always (λ x. 0 ≤ x) (λ x. omega arith) xs) small (λ v low high. same v (omega (arith, high)))
