@@ -27,7 +27,8 @@ use Rattle.wf_engine.specs.declared.fault.RunFault.TheVariants as run
 use Rattle.wf_engine.specs.Run.{Next, IsWithinLimits, IsBeyondLimits}
 use Rattle.wf_engine.specs.Texts.{IsSolved, text_of_report}
 use Rattle.wf_engine.specs.Verify.{ChecksText, IsReportOf, IsVerified, outcome_of}
-use Rattle.wf_engine.specs.Laws.{Accepts, IsWritable}
+use Rattle.wf_engine.specs.Laws.{Accepts}
+use Rattle.wf_engine.proofs.Written.{map_within, none_within}
 
 -- a report without a fault has none that is named
 unnamed : {P : Type 0} (found : Option Refusal) (f : Refusal) → found ≡ None → found ≡ Some f → P
@@ -82,14 +83,15 @@ finds_none t r task fails = by_map (canonical (problem_of t r) (root (problem_of
     by_map (Some m) e = absurd (fails _ (answer_least t r m task e).decides)
 
 pub solved_accepted : (t : Task) (r : ℕ) (found : Outcome × Account) (text : List ℕ) (answer : Result (Outcome × List ℕ) RunFault)
-    → IsTask t → IsWithinLimits r t → IsSolved r false t found text → IsWritable t r text → length text ≤ LONGEST
+    → IsTask t → t.restriction ≡ None → IsWithinLimits r t → IsSolved r false t found text → length text ≤ LONGEST
     → ChecksText t text answer → Accepts found.0 answer
 unfolding text_of_report
-solved_accepted t r (Map, a) text answer task within (m, least, account, is) writable short checks =
-    text_accepted t (report_about t r (a_map (listed t r m))) answer (writable (a_map (listed t r m)) is) (subst (λ x. length x ≤ LONGEST) is short) within
+solved_accepted t r (Map, a) text answer task free within (m, least, account, is) short checks =
+    text_accepted t (report_about t r (a_map (listed t r m))) answer (map_within t r task free within m least.decides) (subst (λ x. length x ≤ LONGEST) is short) within
     (map_accepted t r m least.decides) (subst (λ x. ChecksText t x answer) is checks)
-solved_accepted t r (Nothing, a) text answer task within (ls, refuted, account, is) writable short checks =
+solved_accepted t r (Nothing, a) text answer task free within (ls, refuted, account, is) short checks =
     let lines : List Line = (canonical (problem_of t r) (root (problem_of t r))).lines in
     let written : text ≡ text_of_report t r (none lines) = is ∙ ap (λ x. text_of_report t r (none x)) refuted.canonical_lines in
-    text_accepted t (report_about t r (none lines)) answer (writable (none lines) written) (subst (λ x. length x ≤ LONGEST) written short) within
+    let refutation = refuted.refutes in
+    text_accepted t (report_about t r (none lines)) answer (none_within t r task free within refutation.0 (refutation.1 ∙ refuted.canonical_lines) refutation.2) (subst (λ x. length x ≤ LONGEST) written short) within
     (canonical_none_accepted t r task (finds_none t r task refuted.no_map)) (subst (λ x. ChecksText t x answer) written checks)

@@ -1,17 +1,14 @@
 -- What holds after every run, whatever it answers.
-use Rattle.std.specs.Prelude.{◌≡◌, ◌≢◌, ◌+◌, ◌≤◌, ℕ, List, length, Bool, false, Result, Ok, Err, IfErr}
+use Rattle.std.specs.Prelude.{◌≡◌, ◌≢◌, ◌+◌, ◌≤◌, ℕ, List, length, Bool, false, None, Result, Ok, Err, IfErr}
 use Rattle.wf_model.specs.Task.{Task, IsTask}
-use Rattle.wf_model.specs.Report.{Body}
-use Rattle.wf_model.specs.Laws.{report_about}
 use Rattle.wf_core.specs.declared.Account.{Account}
 use Rattle.wf_io.specs.Seen.{Reading, Writing}
-use Rattle.wf_cert.specs.Grammar.{IsInGrammar}
 use Rattle.wf_task.specs.declared.task.TheConstants.{LONGEST}
 use Rattle.wf_engine.specs.declared.outcome.Outcome.{Outcome}
 use Rattle.wf_engine.specs.declared.fault.RunFault.{RunFault}
 use Rattle.wf_engine.specs.declared.fault.RunFault.TheVariants.{OutOfMemory, Read, Write}
 use Rattle.wf_engine.specs.Run.{IsWithinLimits}
-use Rattle.wf_engine.specs.Texts.{IsSolved, Solves, Lists, text_of_report}
+use Rattle.wf_engine.specs.Texts.{IsSolved, Solves, Lists}
 use Rattle.wf_engine.specs.Verify.{ChecksText, Verifies}
 
 -- how many reads, and how many writes, failed by a refusal
@@ -73,13 +70,10 @@ Accepts outcome (Ok answer) = answer.0 ≡ outcome
 Accepts outcome (Err OutOfMemory) = Unit {0}
 Accepts outcome (Err e) = ⊥
 
--- the numbers of the report that this text tells about a task and its r rounds are those that a line may hold
-abbrev pub IsWritable : Task → ℕ → List ℕ → Type 0
-IsWritable t r text = (body : Body) → text ≡ text_of_report t r body → IsInGrammar (report_about t r body)
-
--- the full report of a search, of at most as many bytes as a text may have, is accepted
+-- Of a task in which all words are allowed, as in each that is read: the full report of a search, of at most as many
+-- bytes as a text may have, is accepted.
 abbrev pub SolvedReportsAreAccepted : Type 0
 SolvedReportsAreAccepted =
     (t : Task) (r : ℕ) (found : Outcome × Account) (text : List ℕ) (answer : Result (Outcome × List ℕ) RunFault)
-    → IsTask t → IsWithinLimits r t → IsSolved r false t found text → IsWritable t r text → length text ≤ LONGEST
+    → IsTask t → t.restriction ≡ None → IsWithinLimits r t → IsSolved r false t found text → length text ≤ LONGEST
     → ChecksText t text answer → Accepts found.0 answer

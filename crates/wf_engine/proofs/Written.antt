@@ -1,0 +1,330 @@
+-- The full report of a search is in the grammar: its numbers are those that a line may hold.
+use Rattle.std.proofs.Common.{◌≡◌, ℕ, zero, suc, ◌+◌, ◌*◌, ◌<◌, ◌≤◌, ◌==◌, Bool, true, not, List, [], ◌∷◌, ◌++◌, map, filter, flat_map, length, replicate, slice_get, slice_set, nat_lt, Option, Some, None, sym, refl, ap, ◌∙◌, subst, inl, inr, arith, length-append, length-set, eqb-true}
+use Rattle.std.specs.List.{AllByRecursion}
+use Rattle.std.specs.Ordering.{nat_cmp}
+use Rattle.std.proofs.lemmas.Bool.{cases_Bool, or_cases, and_parts, false≢true}
+use Rattle.std.proofs.lemmas.List.{length-map}
+use Rattle.std.proofs.lemmas.List.Elements.{recursion_from_All}
+use Rattle.std.proofs.lemmas.Option.{slice_get_within}
+use Rattle.std.proofs.Math.ListN.{length-replicate}
+use Rattle.wf_model.specs.Lists.{has, distinct, with_element, in_order}
+use Rattle.wf_model.specs.Simplex.{Simplex, processes_of, values_of, is_ascending, is_nonempty}
+use Rattle.wf_model.specs.Task.{Task, Rule, IsTask, IsSimplexWithin, inputs, values, largest_value}
+use Rattle.wf_model.specs.View.{View, same_view, process_of}
+use Rattle.wf_model.specs.Execution.{Execution, executions, last_views}
+use Rattle.wf_model.specs.Points.{class, classes, points}
+use Rattle.wf_model.specs.DecisionMap.{IsDecisionMap, listed}
+use Rattle.wf_model.specs.Problem.{Problem, Constraint, constraint_of, problem_of}
+use Rattle.wf_model.specs.Box.{Box, LiesIn, candidates, root, without, decided, branches_at, count, first_open, first_empty, is_supported_in}
+use Rattle.wf_model.specs.Refutation.{Line, remove, empty, branch, found, Tree, emptied, removed, branched, ended, Trees, no_trees, tree, lines, lines_each, Refutes, RefutesEach, IsLost}
+use Rattle.wf_model.specs.Closing.{Step, Trace, Loss, same_candidate, continued, taken_out, take_out, take_out_each, places, lost_at, lost, sweep_from, sweep, unless_none, sweeps, closing_at, closing, before, in_turn, branching_at, branching, searched, search_within, canonical}
+use Rattle.wf_model.specs.Report.{Body, Report, a_map, none, largest, most_number}
+use Rattle.wf_model.specs.Laws.{report_about}
+use Rattle.wf_model.proofs.Bridge.{weaker}
+use Rattle.wf_model.proofs.Headline.{each_append, each_flat, each_map, each_of_map, each_filter, each_distinct, always, both, lies_in_root}
+use Rattle.wf_model.proofs.Fuel.{Leaves}
+use Rattle.wf_model.proofs.Sound.{point_within}
+use Rattle.wf_model.proofs.Ascending.{Ascends, ascends_from}
+use Rattle.wf_model.proofs.WellFormed.{task_listed, each_execution_with, last_processes, scope_processes}
+use Rattle.wf_complex.proofs.Different.{length-distinct}
+use Rattle.wf_cert.specs.Grammar.{IsLineWithin, IsBodyWithin, IsInGrammar, last_process}
+use Rattle.wf_engine.specs.Run.{IsWithinLimits}
+
+-- ---- the values of removed candidates
+
+IsSmall : ℕ → Type 0
+IsSmall a = a ≤ largest 1
+
+-- each candidate is a value that a line may hold
+abbrev AreSmall : Box → Type 0
+AreSmall box = AllByRecursion (λ set. AllByRecursion IsSmall set) box
+
+abbrev HasSmallValue : Line → Type 0
+HasSmallValue (remove e c a) = IsSmall a
+HasSmallValue (empty v) = Unit {0}
+HasSmallValue (branch v) = Unit {0}
+HasSmallValue found = Unit {0}
+
+candidates_small : (box : Box) (v : ℕ) → AreSmall box → AllByRecursion IsSmall (candidates box v)
+candidates_small [] v h = tt
+candidates_small (s ∷ box) zero h = h.0
+candidates_small (s ∷ box) (suc v) h = candidates_small box v h.1
+
+set_small : (box : Box) (v : ℕ) (set : List ℕ) → AreSmall box → AllByRecursion IsSmall set → AreSmall (slice_set box v set)
+set_small [] v set h k = tt
+set_small (s ∷ box) zero set h k = (k, h.1)
+set_small (s ∷ box) (suc v) set h k = (h.0, set_small box v set h.1 k)
+
+without_small : (box : Box) (v a : ℕ) → AreSmall box → AreSmall (without box v a)
+without_small box v a h =
+    set_small box v (filter (λ b. not (b == a)) (candidates box v)) h
+    (each_filter IsSmall (λ b. not (b == a)) (candidates box v) (candidates_small box v h))
+
+branches_small : (box : Box) (v : ℕ) → AreSmall box → AllByRecursion AreSmall (branches_at box v)
+branches_small box v h =
+    each_map AreSmall (decided box v) (candidates box v)
+    (weaker IsSmall (λ a. AreSmall (decided box v a)) (λ a k. set_small box v (a ∷ []) h (k, tt)) (candidates box v) (candidates_small box v h))
+
+abbrev IsSmallLoss : Loss → Type 0
+IsSmallLoss x = IsSmall x.value
+
+losses_small : (box : Box) (k : Constraint) → AreSmall box → AllByRecursion IsSmallLoss (lost box k)
+losses_small box k h =
+    each_distinct IsSmallLoss same_candidate (flat_map (lost_at box k) (places k.scope))
+    (each_flat IsSmallLoss (lost_at box k) (places k.scope)
+    (always (λ q. AllByRecursion IsSmallLoss (lost_at box k q))
+    (λ q. each_map IsSmallLoss (λ a. record { process = q.1; value = a; point = q.2 }) (filter (λ a. not (is_supported_in k box q.0 a)) (candidates box q.2))
+    (each_filter IsSmall (λ a. not (is_supported_in k box q.0 a)) (candidates box q.2) (candidates_small box q.2 h))) (places k.scope)))
+
+-- lines with small values, and a box with small candidates, if one is left
+abbrev KeepsSmall : List Line → Option Box → Type 0
+KeepsSmall ls left = AllByRecursion HasSmallValue ls × Leaves AreSmall left
+
+continued_small : (ls : List Line) (left : Option Box) (next : Box → Step) → KeepsSmall ls left → ((b : Box) → AreSmall b → KeepsSmall (next b).lines (next b).left) →
+    KeepsSmall (continued ls left next).lines (continued ls left next).left
+continued_small ls None next h k = h
+continued_small ls (Some b) next h k = let n = k b h.1 in (each_append HasSmallValue ls (next b).lines h.0 n.0, n.1)
+
+taken_out_small : (e : ℕ) (x : Loss) (box : Box) (set : List ℕ) → AreSmall box → IsSmallLoss x → KeepsSmall (taken_out e x box set).lines (taken_out e x box set).left
+taken_out_small e x box [] h k = ((k, (tt, tt)), tt)
+taken_out_small e x box (a ∷ set) h k = ((k, tt), h)
+
+take_out_each_small : (e : ℕ) (xs : List Loss) (box : Box) → AreSmall box → AllByRecursion IsSmallLoss xs → KeepsSmall (take_out_each e xs box).lines (take_out_each e xs box).left
+take_out_each_small e [] box h k = (tt, h)
+take_out_each_small e (x ∷ xs) box h k =
+    continued_small (take_out e x box).lines (take_out e x box).left (take_out_each e xs)
+    (taken_out_small e x (without box x.point x.value) (candidates (without box x.point x.value) x.point) (without_small box x.point x.value h) k.0)
+    (λ b s. take_out_each_small e xs b s k.1)
+
+sweep_small : (e : ℕ) (ks : List Constraint) (box : Box) → AreSmall box → KeepsSmall (sweep_from e ks box).lines (sweep_from e ks box).left
+sweep_small e [] box h = (tt, h)
+sweep_small e (k ∷ ks) box h =
+    continued_small (take_out_each e (lost box k) box).lines (take_out_each e (lost box k) box).left (sweep_from (suc e) ks)
+    (take_out_each_small e (lost box k) box h (losses_small box k h)) (sweep_small (suc e) ks)
+
+unless_none_small : (ls : List Line) (s : Step) (next : Box → Step) → KeepsSmall s.lines s.left → ((b : Box) → AreSmall b → KeepsSmall (next b).lines (next b).left) →
+    KeepsSmall (unless_none ls s next).lines (unless_none ls s next).left
+unless_none_small [] s next h k = h
+unless_none_small (l ∷ ls) s next h k = continued_small s.lines s.left next h k
+
+sweeps_small : (p : Problem) (n : ℕ) (box : Box) → AreSmall box → KeepsSmall (sweeps n p box).lines (sweeps n p box).left
+sweeps_small p zero box h = (tt, h)
+sweeps_small p (suc n) box h = unless_none_small (sweep p box).lines (sweep p box) (sweeps n p) (sweep_small 0 p.constraints box h) (sweeps_small p n)
+
+closing_small : (p : Problem) (o : Option ℕ) (box : Box) → AreSmall box → KeepsSmall (closing_at o p box).lines (closing_at o p box).left
+closing_small p None box h = sweeps_small p (suc (count box)) box h
+closing_small p (Some v) box h = ((tt, tt), tt)
+
+-- a search whose lines in boxes with small candidates have small values
+abbrev IsSmallSearch : (Box → Trace) → Type 0
+IsSmallSearch f = (b : Box) → AreSmall b → AllByRecursion HasSmallValue (f b).lines
+
+before_small : (ls : List Line) (o : Option (List ℕ)) (t : Trace) → AllByRecursion HasSmallValue ls → AllByRecursion HasSmallValue t.lines → AllByRecursion HasSmallValue (before ls o t).lines
+before_small ls None t h k = each_append HasSmallValue ls t.lines h k
+before_small ls (Some m) t h k = h
+
+in_turn_small : (f : Box → Trace) → IsSmallSearch f → (boxes : List Box) → AllByRecursion AreSmall boxes → AllByRecursion HasSmallValue (in_turn f boxes).lines
+in_turn_small f s [] h = tt
+in_turn_small f s (b ∷ boxes) h = before_small (f b).lines (f b).map (in_turn f boxes) (s b h.0) (in_turn_small f s boxes h.1)
+
+branching_small : (o : Option ℕ) (f : Box → Trace) → IsSmallSearch f → (box : Box) → AreSmall box → AllByRecursion HasSmallValue (branching_at o f box).lines
+branching_small None f s box h = (tt, tt)
+branching_small (Some v) f s box h = (tt, in_turn_small f s (branches_at box v) (branches_small box v h))
+
+searched_small : (ls : List Line) (left : Option Box) (f : Box → Trace) → KeepsSmall ls left → IsSmallSearch f → AllByRecursion HasSmallValue (searched ls left f).lines
+searched_small ls None f h s = h.0
+searched_small ls (Some b) f h s = before_small ls None (f b) h.0 (s b h.1)
+
+search_small : (p : Problem) (n : ℕ) → IsSmallSearch (search_within n p)
+search_small p zero box h = tt
+search_small p (suc n) box h =
+    searched_small (closing p box).lines (closing p box).left (branching (search_within n p)) (closing_small p (first_empty box) box h)
+    (λ b s. branching_small (first_open b) (search_within n p) (search_small p n) b s)
+
+-- ---- the numbers of executions, processes and points
+
+abbrev IsPlaced : Line → Type 0
+IsPlaced (remove e c a) = (e ≤ most_number) × (c ≤ last_process)
+IsPlaced (empty v) = v ≤ most_number
+IsPlaced (branch v) = v ≤ most_number
+IsPlaced found = ⊥
+
+each_got : {X : Type 0} (P : X → Type 0) (xs : List X) (i : ℕ) (x : X) → slice_get xs i ≡ Some x → AllByRecursion P xs → P x
+each_got P [] i x e h = absurd (let bad : ⊥ = cc in bad)
+each_got P (y ∷ xs) zero x e h = subst P (let same : y ≡ x = cc in same) h.0
+each_got P (y ∷ xs) (suc i) x e h = each_got P xs i x e h.1
+
+abbrev IsShort : Box → Type 0
+IsShort box = length box ≤ most_number
+
+branches_short : (box : Box) (v : ℕ) → IsShort box → AllByRecursion IsShort (branches_at box v)
+branches_short box v h =
+    each_map IsShort (decided box v) (candidates box v)
+    (always (λ a. IsShort (decided box v a)) (λ a. subst (λ n. n ≤ most_number) (sym (length-set box v (a ∷ []))) h) (candidates box v))
+
+-- processes that a line may hold
+abbrev HasFewProcesses : Constraint → Type 0
+HasFewProcesses k = AllByRecursion (λ at. at.0 ≤ last_process) k.scope
+
+module _ (p : Problem) (few : length p.constraints ≤ most_number) (processes : AllByRecursion HasFewProcesses p.constraints) where
+  lost_placed : (box : Box) (e c a v : ℕ) → IsLost p box e c a v → (e ≤ most_number) × (c ≤ last_process)
+  lost_placed box e c a v l =
+      let within : e < length p.constraints = slice_get_within p.constraints e l.constraint l.at in
+      let each : HasFewProcesses l.constraint = each_got HasFewProcesses p.constraints e l.constraint l.at processes in
+      (omega (arith, within, few), each_got (λ (at : ℕ × ℕ). at.0 ≤ last_process) l.constraint.scope l.place (c, v) l.point each)
+
+  mutual
+    -- the lines of a tree that refutes
+    placed : (t : Tree) (box : Box) → IsShort box → Refutes p t box → AllByRecursion IsPlaced (lines t)
+    placed (emptied v) box h r = (let within : v < length box = r.0 in omega (arith, h, within), tt)
+    placed (removed e c a v t) box h r =
+        (lost_placed box e c a v r.0, placed t (without box v a) (subst (λ n. n ≤ most_number) (sym (length-set box v _)) h) r.1)
+    placed (branched v ts) box h r =
+        (let within : v < length box = point_within box v 1 r.0 in omega (arith, h, within), placed_each ts (branches_at box v) (branches_short box v h) r.1)
+    placed ended box h r = absurd r
+
+    placed_each : (ts : Trees) (boxes : List Box) → AllByRecursion IsShort boxes → RefutesEach p ts boxes → AllByRecursion IsPlaced (lines_each ts)
+    placed_each no_trees boxes h r = tt
+    placed_each (tree t ts) [] h r = absurd r
+    placed_each (tree t ts) (box ∷ boxes) h r = each_append IsPlaced (lines t) (lines_each ts) (placed t box h.0 r.0) (placed_each ts boxes h.1 r.1)
+
+line_within : (l : Line) → IsPlaced l → HasSmallValue l → IsLineWithin l
+unfolding IsSmall
+line_within (remove e c a) h k = (h.0, h.1, k)
+line_within (empty v) h k = h
+line_within (branch v) h k = h
+line_within found h k = h
+
+-- ---- a task
+
+-- ascending numbers from low up, below high, are not more than the numbers between
+between : (xs : List ℕ) (low high : ℕ) → low ≤ high → Ascends xs → AllByRecursion (λ y. low ≤ y) xs → AllByRecursion (λ y. y < high) xs → length xs + low ≤ high
+between [] low high order h above under = omega (arith, order)
+between (x ∷ xs) low high order h above under =
+    let first : x < high = under.0 in
+    let up : low ≤ x = above.0 in
+    let rest : length xs + suc x ≤ high = between xs (suc x) high (omega (arith, first)) h.1 (weaker (λ y. x < y) (λ y. suc x ≤ y) (λ y k. omega (arith, k)) xs h.0) under.1 in
+    omega (arith, up, rest)
+
+flat_few : {X Y : Type 0} (n : ℕ) (f : X → List Y) (xs : List X) → AllByRecursion (λ x. length (f x) ≤ n) xs → length (flat_map f xs) ≤ length xs * n
+flat_few n f [] h = omega arith
+flat_few n f (x ∷ xs) h =
+    let here : length (f x) ≤ n = h.0 in
+    let joined : length (f x ++ flat_map f xs) ≡ length (f x) + length (flat_map f xs) = length-append (f x) (flat_map f xs) in
+    let e : suc (length xs) * n ≡ n + length xs * n = grind arith in
+    omega (arith, here, joined, e, flat_few n f xs h.1)
+
+module _ (t : Task) (r : ℕ) (task : IsTask t) where
+  IsInput : Simplex → Type 0
+  IsInput s = IsSimplexWithin t.processes (largest_value t.restriction) s
+
+  processes_within : (s : Simplex) → IsInput s → AllByRecursion (λ x. x ≤ last_process) (processes_of s)
+  unfolding IsInput
+  processes_within s h =
+      weaker (λ x. x < t.processes) (λ x. x ≤ last_process) (λ x k. omega (arith, k, task.process_count.1)) (processes_of s) (recursion_from_All _ (processes_of s) h.processes)
+
+  processes_few : (s : Simplex) → IsInput s → length (processes_of s) ≤ 4
+  unfolding IsInput
+  processes_few s h =
+      let up = ascends_from (processes_of s) (and_parts (is_nonempty s) (is_ascending (processes_of s)) h.is_simplex).1 in
+      let most : length (processes_of s) + 0 ≤ t.processes = between (processes_of s) 0 t.processes (omega arith) up (always (λ y. 0 ≤ y) (λ y. omega arith) (processes_of s)) (recursion_from_All _ (processes_of s) h.processes) in
+      omega (arith, most, task.process_count.1)
+
+  rules_have : AllByRecursion (λ rule. IsInput rule.input) t.rules
+  unfolding IsInput
+  rules_have = each_of_map IsInput (λ (rule : Rule). rule.input) t.rules (recursion_from_All _ (inputs t) task.input_complex.within)
+
+  executions_have : (P : Execution → Type 0) → ((e : Execution) → IsInput e.rule.input → map process_of (last_views e) ≡ processes_of e.rule.input → P e) → AllByRecursion P (executions t r)
+  executions_have P f = each_execution_with P t r (λ rule. IsInput rule.input) rules_have (λ e s long. f e s (last_processes e long))
+
+  constraints_have : AllByRecursion HasFewProcesses (problem_of t r).constraints
+  constraints_have =
+      each_map HasFewProcesses (constraint_of t (points t r)) (executions t r)
+      (executions_have (λ e. HasFewProcesses (constraint_of t (points t r) e))
+      (λ e s same. each_of_map (λ x. x ≤ last_process) (λ (at : ℕ × ℕ). at.0) (constraint_of t (points t r) e).scope
+      (subst (AllByRecursion (λ x. x ≤ last_process)) (sym (scope_processes t (points t r) (last_views e) ∙ same)) (processes_within e.rule.input s))))
+
+  -- at most four points for each execution
+  points_few : length (points t r) ≤ length (executions t r) * 4
+  points_few =
+      let all : length (flat_map (classes t) (executions t r)) ≤ length (executions t r) * 4 = flat_few 4 (classes t) (executions t r)
+      (executions_have (λ e. length (classes t e) ≤ 4)
+      (λ e s same. let long : length (classes t e) ≡ length (processes_of e.rule.input) = length-map (last_views e) (class t) ∙ sym (length-map (last_views e) process_of) ∙ ap length same in
+      omega (arith, long, processes_few e.rule.input s))) in
+      let fewer : length (points t r) ≤ length (flat_map (classes t) (executions t r)) = length-distinct same_view (flat_map (classes t) (executions t r)) in
+      omega (arith, all, fewer)
+
+-- ---- the values of a task and of a map
+
+each_with : (P : ℕ → Type 0) (x : ℕ) (ys : List ℕ) → P x → AllByRecursion P ys → AllByRecursion P (with_element nat_cmp x ys)
+each_with P x [] p h = (p, tt)
+each_with P x (y ∷ ys) p h =
+    elim (cases_Bool (nat_lt x y)) [
+      | inl less ↦ rw less (p, h)
+      | inr more ↦ rw more (elim (cases_Bool (x == y)) [ inl same ↦ rw same h | inr other ↦ rw other (h.0, each_with P x ys p h.1) ])
+    ]
+
+each_in_order : (P : ℕ → Type 0) (xs : List ℕ) → AllByRecursion P xs → AllByRecursion P (in_order nat_cmp xs)
+each_in_order P [] h = tt
+each_in_order P (x ∷ xs) h = each_with P x (in_order nat_cmp xs) h.0 (each_in_order P xs h.1)
+
+each_replicated : {X : Type 0} (P : X → Type 0) (x : X) (n : ℕ) → P x → AllByRecursion P (replicate n x)
+each_replicated P x zero h = tt
+each_replicated P x (suc n) h = (h, each_replicated P x n h)
+
+small_had : (set : List ℕ) (a : ℕ) → AllByRecursion IsSmall set → has set a ≡ true → IsSmall a
+small_had [] a h is = absurd (false≢true is)
+small_had (x ∷ set) a h is =
+    elim (or_cases (x == a) (has set a) is) [ inl same ↦ subst IsSmall (eqb-true x a same) h.0 | inr later ↦ small_had set a h.1 later ]
+
+small_map : (m : List ℕ) (box : Box) → AreSmall box → LiesIn m box → AllByRecursion IsSmall m
+small_map [] box h lies = tt
+small_map (a ∷ m) [] h lies = absurd lies
+small_map (a ∷ m) (s ∷ box) h lies = (small_had s a h.0 lies.0, small_map m box h.1 lies.1)
+
+module _ (t : Task) (r : ℕ) (task : IsTask t) (free : t.restriction ≡ None) where
+  values_small : AllByRecursion IsSmall (values t)
+  unfolding IsSmall
+  values_small =
+      let most : largest_value t.restriction ≡ largest 1 = ap largest_value free in
+      each_in_order IsSmall (flat_map values_of t.outputs)
+      (each_flat IsSmall values_of t.outputs
+      (weaker (IsSimplexWithin t.processes (largest_value t.restriction)) (λ s. AllByRecursion IsSmall (values_of s))
+      (λ s h. subst (λ n. AllByRecursion (λ x. x ≤ n) (values_of s)) most (recursion_from_All _ (values_of s) h.values))
+      t.outputs (recursion_from_All _ t.outputs task.output_complex.within)))
+
+  root_small : AreSmall (root (problem_of t r))
+  root_small = each_replicated (λ set. AllByRecursion IsSmall set) (values t) (length (points t r)) values_small
+
+  module _ (within : IsWithinLimits r t) where
+    few_points : length (points t r) ≤ most_number
+    few_points = omega (arith, points_few t r task, within.1.1)
+
+    -- the report is in the grammar where its body is
+    about_within : (body : Body) → IsBodyWithin body → IsInGrammar (report_about t r body)
+    about_within body h = record {
+      processes = omega (arith, task.process_count.1);
+      rounds = omega (arith, within.1.0);
+      points = few_points;
+      executions = omega (arith, within.1.1);
+      body = h;
+    }
+
+    -- a report of a decision map
+    pub map_within : (m : View → ℕ) → IsDecisionMap t r m → IsInGrammar (report_about t r (a_map (listed t r m)))
+    unfolding IsSmall
+    map_within m decides =
+        about_within (a_map (listed t r m)) (small_map (listed t r m) (root (problem_of t r)) root_small (lies_in_root t r m (task_listed t task) decides))
+
+    -- a report of a refutation with the lines of the canonical search
+    pub none_within : (shape : Tree) → lines shape ≡ (canonical (problem_of t r) (root (problem_of t r))).lines → Refutes (problem_of t r) shape (root (problem_of t r)) →
+        IsInGrammar (report_about t r (none (canonical (problem_of t r) (root (problem_of t r))).lines))
+    none_within shape same refutes =
+        let p = problem_of t r in
+        let ls : List Line = (canonical p (root p)).lines in
+        let as_many : length p.constraints ≤ most_number = (let e : length p.constraints ≡ length (executions t r) = length-map (executions t r) (constraint_of t (points t r)) in omega (arith, e, within.1.1)) in
+        let short : IsShort (root p) = subst (λ n. n ≤ most_number) (sym (length-replicate p.points p.values)) few_points in
+        about_within (none ls)
+        (both IsPlaced HasSmallValue IsLineWithin line_within ls
+        (subst (AllByRecursion IsPlaced) same (placed p as_many (constraints_have t r task) shape (root p) short refutes))
+        (search_small p (suc (count (root p))) (root p) root_small))
