@@ -1,9 +1,9 @@
-use Rattle.std.proofs.Common.{◌≡◌, sym, ap, subst, ◌∙◌, map}
+use Rattle.std.proofs.Common.{ap, subst, ◌∙◌, map}
 use Rattle.wf_model.specs.Problem.{problem_of}
 use Rattle.wf_model.specs.Report.{none}
 use Rattle.wf_complex.specs.Lines.{line_of}
 use Rattle.wf_pool.specs.Answers.{IsAnswer, HasAccount}
-use Rattle.wf_engine.specs.Texts.{text_of_report, shown}
+use Rattle.wf_engine.specs.Texts.{text_of_report}
 use Rattle.wf_engine.proofs.Verdicts.{map_verdict, none_verdict}
 use Rattle.wf_engine.proofs.solve.with_text.Goals as goal
 
