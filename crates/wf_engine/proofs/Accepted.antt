@@ -1,5 +1,5 @@
 -- What a search writes in full is accepted.
-use Rattle.std.proofs.Common.{◌≡◌, ◌<◌, ◌≤◌, ℕ, List, [], length, Option, Some, None, Result, Ok, Err, false, refl, sym, ap, ◌∙◌, subst, arith}
+use Rattle.std.proofs.Common.{◌≡◌, ◌≤◌, ℕ, List, length, Option, Some, None, Result, Ok, Err, false, refl, sym, ap, ◌∙◌, subst, arith}
 use Rattle.wf_model.specs.Task.{Task, IsTask}
 use Rattle.wf_model.specs.View.{View}
 use Rattle.wf_model.specs.DecisionMap.{IsDecisionMap, listed}
@@ -8,7 +8,7 @@ use Rattle.wf_model.specs.Box.{root}
 use Rattle.wf_model.specs.Refutation.{Line}
 use Rattle.wf_model.specs.Closing.{canonical}
 use Rattle.wf_core.specs.declared.Account.{Account}
-use Rattle.wf_model.specs.Report.{Body, Report, a_map, none, report_of, report_text}
+use Rattle.wf_model.specs.Report.{Report, a_map, none, report_of, report_text}
 use Rattle.wf_model.specs.Check.{Refusal, report_fault}
 use Rattle.wf_model.specs.Laws.{report_about}
 use Rattle.wf_model.proofs.Least.{answer_least}
@@ -24,9 +24,9 @@ use Rattle.wf_engine.specs.declared.outcome.Outcome.{Outcome}
 use Rattle.wf_engine.specs.declared.outcome.Outcome.TheVariants.{Map, Nothing}
 use Rattle.wf_engine.specs.declared.fault.RunFault.{RunFault}
 use Rattle.wf_engine.specs.declared.fault.RunFault.TheVariants as run
-use Rattle.wf_engine.specs.Run.{Next, IsWithinLimits, IsBeyondLimits}
+use Rattle.wf_engine.specs.Run.{IsWithinLimits}
 use Rattle.wf_engine.specs.Texts.{IsSolved, text_of_report}
-use Rattle.wf_engine.specs.Verify.{ChecksText, IsReportOf, IsVerified, outcome_of}
+use Rattle.wf_engine.specs.Verify.{ChecksText, IsVerified, outcome_of}
 use Rattle.wf_engine.specs.Laws.{Accepts}
 use Rattle.wf_engine.proofs.Written.{map_within, none_within}
 

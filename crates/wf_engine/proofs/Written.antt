@@ -1,14 +1,12 @@
 -- The full report of a search is in the grammar: its numbers are those that a line may hold.
-use Rattle.std.proofs.Common.{◌≡◌, ℕ, zero, suc, ◌+◌, ◌*◌, ◌<◌, ◌≤◌, ◌==◌, Bool, true, not, List, [], ◌∷◌, ◌++◌, map, filter, flat_map, length, replicate, slice_get, slice_set, nat_lt, Option, Some, None, sym, refl, ap, ◌∙◌, subst, inl, inr, arith, length-append, length-set, eqb-true}
+use Rattle.std.proofs.Common.{◌≡◌, ℕ, zero, suc, ◌+◌, ◌*◌, ◌<◌, ◌≤◌, ◌==◌, true, not, List, [], ◌∷◌, ◌++◌, map, filter, flat_map, length, slice_set, Option, Some, None, sym, ap, ◌∙◌, subst, arith, length-append, length-set}
 use Rattle.std.specs.List.{AllByRecursion}
-use Rattle.std.specs.Ordering.{nat_cmp}
-use Rattle.std.proofs.lemmas.Bool.{cases_Bool, or_cases, and_parts, false≢true}
 use Rattle.std.proofs.lemmas.List.{length-map}
-use Rattle.std.proofs.lemmas.List.Elements.{recursion_from_All}
+use Rattle.std.proofs.lemmas.List.Elements.{recursion_from_All, All-replicate}
 use Rattle.std.proofs.lemmas.Option.{slice_get_within}
 use Rattle.std.proofs.Math.ListN.{length-replicate}
-use Rattle.wf_model.specs.Lists.{has, distinct, with_element, in_order}
-use Rattle.wf_model.specs.Simplex.{Simplex, processes_of, values_of, is_ascending, is_nonempty}
+use Rattle.wf_model.specs.Lists.{has}
+use Rattle.wf_model.specs.Simplex.{Simplex, processes_of, values_of}
 use Rattle.wf_model.specs.Task.{Task, Rule, IsTask, IsSimplexWithin, inputs, values, largest_value}
 use Rattle.wf_model.specs.View.{View, same_view, process_of}
 use Rattle.wf_model.specs.Execution.{Execution, executions, last_views}
@@ -18,27 +16,33 @@ use Rattle.wf_model.specs.Problem.{Problem, Constraint, constraint_of, problem_o
 use Rattle.wf_model.specs.Box.{Box, LiesIn, candidates, root, without, decided, branches_at, count, first_open, first_empty, is_supported_in}
 use Rattle.wf_model.specs.Refutation.{Line, remove, empty, branch, found, Tree, emptied, removed, branched, ended, Trees, no_trees, tree, lines, lines_each, Refutes, RefutesEach, IsLost}
 use Rattle.wf_model.specs.Closing.{Step, Trace, Loss, same_candidate, continued, taken_out, take_out, take_out_each, places, lost_at, lost, sweep_from, sweep, unless_none, sweeps, closing_at, closing, before, in_turn, branching_at, branching, searched, search_within, canonical}
-use Rattle.wf_model.specs.Report.{Body, Report, a_map, none, largest, most_number}
+use Rattle.wf_model.specs.Report.{Body, a_map, none, largest, most_number}
 use Rattle.wf_model.specs.Laws.{report_about}
+use Rattle.wf_model.proofs.Accepting.{each_at}
 use Rattle.wf_model.proofs.Bridge.{weaker}
+use Rattle.wf_model.proofs.Closed.{each_with_value}
+use Rattle.wf_model.proofs.Stable.{each_has}
 use Rattle.wf_model.proofs.Headline.{each_append, each_flat, each_map, each_of_map, each_filter, each_distinct, always, both, lies_in_root}
 use Rattle.wf_model.proofs.Fuel.{Leaves}
 use Rattle.wf_model.proofs.Sound.{point_within}
-use Rattle.wf_model.proofs.Ascending.{Ascends, ascends_from}
 use Rattle.wf_model.proofs.WellFormed.{task_listed, each_execution_with, last_processes, scope_processes}
+use Rattle.wf_simplex.proofs.Within.{length-within}
+use Rattle.wf_task.proofs.Drafted.{has_from_order}
 use Rattle.wf_complex.proofs.Different.{length-distinct}
 use Rattle.wf_cert.specs.Grammar.{IsLineWithin, IsBodyWithin, IsInGrammar, last_process}
 use Rattle.wf_engine.specs.Run.{IsWithinLimits}
 
 -- ---- the values of removed candidates
 
+-- a value that a line may hold
 IsSmall : ℕ → Type 0
 IsSmall a = a ≤ largest 1
 
--- each candidate is a value that a line may hold
+-- each candidate is such a value
 abbrev AreSmall : Box → Type 0
 AreSmall box = AllByRecursion (λ set. AllByRecursion IsSmall set) box
 
+-- the value of a removal is one
 abbrev HasSmallValue : Line → Type 0
 HasSmallValue (remove e c a) = IsSmall a
 HasSmallValue (empty v) = Unit {0}
@@ -143,17 +147,14 @@ search_small p (suc n) box h =
 
 -- ---- the numbers of executions, processes and points
 
+-- the numbers of an execution, a process and a point are those that a line may hold; no map was found
 abbrev IsPlaced : Line → Type 0
 IsPlaced (remove e c a) = (e ≤ most_number) × (c ≤ last_process)
 IsPlaced (empty v) = v ≤ most_number
 IsPlaced (branch v) = v ≤ most_number
 IsPlaced found = ⊥
 
-each_got : {X : Type 0} (P : X → Type 0) (xs : List X) (i : ℕ) (x : X) → slice_get xs i ≡ Some x → AllByRecursion P xs → P x
-each_got P [] i x e h = absurd (let bad : ⊥ = cc in bad)
-each_got P (y ∷ xs) zero x e h = subst P (let same : y ≡ x = cc in same) h.0
-each_got P (y ∷ xs) (suc i) x e h = each_got P xs i x e h.1
-
+-- each point of the box has such a number
 abbrev IsShort : Box → Type 0
 IsShort box = length box ≤ most_number
 
@@ -170,8 +171,8 @@ module _ (p : Problem) (few : length p.constraints ≤ most_number) (processes :
   lost_placed : (box : Box) (e c a v : ℕ) → IsLost p box e c a v → (e ≤ most_number) × (c ≤ last_process)
   lost_placed box e c a v l =
       let within : e < length p.constraints = slice_get_within p.constraints e l.constraint l.at in
-      let each : HasFewProcesses l.constraint = each_got HasFewProcesses p.constraints e l.constraint l.at processes in
-      (omega (arith, within, few), each_got (λ (at : ℕ × ℕ). at.0 ≤ last_process) l.constraint.scope l.place (c, v) l.point each)
+      let each : HasFewProcesses l.constraint = each_at HasFewProcesses p.constraints e l.constraint processes l.at in
+      (omega (arith, within, few), each_at (λ (at : ℕ × ℕ). at.0 ≤ last_process) l.constraint.scope l.place (c, v) each l.point)
 
   mutual
     -- the lines of a tree that refutes
@@ -197,17 +198,11 @@ line_within found h k = h
 
 -- ---- a task
 
--- ascending numbers from low up, below high, are not more than the numbers between
-between : (xs : List ℕ) (low high : ℕ) → low ≤ high → Ascends xs → AllByRecursion (λ y. low ≤ y) xs → AllByRecursion (λ y. y < high) xs → length xs + low ≤ high
-between [] low high order h above under = omega (arith, order)
-between (x ∷ xs) low high order h above under =
-    let first : x < high = under.0 in
-    let up : low ≤ x = above.0 in
-    let rest : length xs + suc x ≤ high = between xs (suc x) high (omega (arith, first)) h.1 (weaker (λ y. x < y) (λ y. suc x ≤ y) (λ y k. omega (arith, k)) xs h.0) under.1 in
-    omega (arith, up, rest)
-
+-- a list of at most so many for each element
 flat_few : {X Y : Type 0} (n : ℕ) (f : X → List Y) (xs : List X) → AllByRecursion (λ x. length (f x) ≤ n) xs → length (flat_map f xs) ≤ length xs * n
+-- a list of at most so many for each element
 flat_few n f [] h = omega arith
+-- a list of at most so many for each element
 flat_few n f (x ∷ xs) h =
     let here : length (f x) ≤ n = h.0 in
     let joined : length (f x ++ flat_map f xs) ≡ length (f x) + length (flat_map f xs) = length-append (f x) (flat_map f xs) in
@@ -223,12 +218,9 @@ module _ (t : Task) (r : ℕ) (task : IsTask t) where
   processes_within s h =
       weaker (λ x. x < t.processes) (λ x. x ≤ last_process) (λ x k. omega (arith, k, task.process_count.1)) (processes_of s) (recursion_from_All _ (processes_of s) h.processes)
 
-  processes_few : (s : Simplex) → IsInput s → length (processes_of s) ≤ 4
+  inputs_few : (s : Simplex) → IsInput s → length s ≤ 4
   unfolding IsInput
-  processes_few s h =
-      let up = ascends_from (processes_of s) (and_parts (is_nonempty s) (is_ascending (processes_of s)) h.is_simplex).1 in
-      let most : length (processes_of s) + 0 ≤ t.processes = between (processes_of s) 0 t.processes (omega arith) up (always (λ y. 0 ≤ y) (λ y. omega arith) (processes_of s)) (recursion_from_All _ (processes_of s) h.processes) in
-      omega (arith, most, task.process_count.1)
+  inputs_few s h = omega (arith, length-within t.processes (largest_value t.restriction) s h, task.process_count.1)
 
   rules_have : AllByRecursion (λ rule. IsInput rule.input) t.rules
   unfolding IsInput
@@ -249,52 +241,36 @@ module _ (t : Task) (r : ℕ) (task : IsTask t) where
   points_few =
       let all : length (flat_map (classes t) (executions t r)) ≤ length (executions t r) * 4 = flat_few 4 (classes t) (executions t r)
       (executions_have (λ e. length (classes t e) ≤ 4)
-      (λ e s same. let long : length (classes t e) ≡ length (processes_of e.rule.input) = length-map (last_views e) (class t) ∙ sym (length-map (last_views e) process_of) ∙ ap length same in
-      omega (arith, long, processes_few e.rule.input s))) in
+      (λ e s same. let long : length (classes t e) ≡ length e.rule.input =
+      length-map (last_views e) (class t) ∙ sym (length-map (last_views e) process_of) ∙ ap length same ∙ length-map e.rule.input (λ v. v.0) in
+      omega (arith, long, inputs_few e.rule.input s))) in
       let fewer : length (points t r) ≤ length (flat_map (classes t) (executions t r)) = length-distinct same_view (flat_map (classes t) (executions t r)) in
       omega (arith, all, fewer)
 
 -- ---- the values of a task and of a map
 
-each_with : (P : ℕ → Type 0) (x : ℕ) (ys : List ℕ) → P x → AllByRecursion P ys → AllByRecursion P (with_element nat_cmp x ys)
-each_with P x [] p h = (p, tt)
-each_with P x (y ∷ ys) p h =
-    elim (cases_Bool (nat_lt x y)) [
-      | inl less ↦ rw less (p, h)
-      | inr more ↦ rw more (elim (cases_Bool (x == y)) [ inl same ↦ rw same h | inr other ↦ rw other (h.0, each_with P x ys p h.1) ])
-    ]
-
-each_in_order : (P : ℕ → Type 0) (xs : List ℕ) → AllByRecursion P xs → AllByRecursion P (in_order nat_cmp xs)
-each_in_order P [] h = tt
-each_in_order P (x ∷ xs) h = each_with P x (in_order nat_cmp xs) h.0 (each_in_order P xs h.1)
-
-each_replicated : {X : Type 0} (P : X → Type 0) (x : X) (n : ℕ) → P x → AllByRecursion P (replicate n x)
-each_replicated P x zero h = tt
-each_replicated P x (suc n) h = (h, each_replicated P x n h)
-
-small_had : (set : List ℕ) (a : ℕ) → AllByRecursion IsSmall set → has set a ≡ true → IsSmall a
-small_had [] a h is = absurd (false≢true is)
-small_had (x ∷ set) a h is =
-    elim (or_cases (x == a) (has set a) is) [ inl same ↦ subst IsSmall (eqb-true x a same) h.0 | inr later ↦ small_had set a h.1 later ]
-
 small_map : (m : List ℕ) (box : Box) → AreSmall box → LiesIn m box → AllByRecursion IsSmall m
 small_map [] box h lies = tt
 small_map (a ∷ m) [] h lies = absurd lies
-small_map (a ∷ m) (s ∷ box) h lies = (small_had s a h.0 lies.0, small_map m box h.1 lies.1)
+small_map (a ∷ m) (s ∷ box) h lies = (each_with_value IsSmall s a h.0 lies.0, small_map m box h.1 lies.1)
 
 module _ (t : Task) (r : ℕ) (task : IsTask t) (free : t.restriction ≡ None) where
-  values_small : AllByRecursion IsSmall (values t)
+  outputs_small : AllByRecursion IsSmall (flat_map values_of t.outputs)
   unfolding IsSmall
-  values_small =
+  outputs_small =
       let most : largest_value t.restriction ≡ largest 1 = ap largest_value free in
-      each_in_order IsSmall (flat_map values_of t.outputs)
-      (each_flat IsSmall values_of t.outputs
+      each_flat IsSmall values_of t.outputs
       (weaker (IsSimplexWithin t.processes (largest_value t.restriction)) (λ s. AllByRecursion IsSmall (values_of s))
       (λ s h. subst (λ n. AllByRecursion (λ x. x ≤ n) (values_of s)) most (recursion_from_All _ (values_of s) h.values))
-      t.outputs (recursion_from_All _ t.outputs task.output_complex.within)))
+      t.outputs (recursion_from_All _ t.outputs task.output_complex.within))
+
+  values_small : AllByRecursion IsSmall (values t)
+  values_small =
+      let all = flat_map values_of t.outputs in
+      weaker (λ a. has (values t) a ≡ true) IsSmall (λ a h. each_with_value IsSmall all a outputs_small (has_from_order a all h)) (values t) (each_has (values t))
 
   root_small : AreSmall (root (problem_of t r))
-  root_small = each_replicated (λ set. AllByRecursion IsSmall set) (values t) (length (points t r)) values_small
+  root_small = recursion_from_All _ (root (problem_of t r)) (All-replicate (λ set. AllByRecursion IsSmall set) (length (points t r)) (values t) values_small)
 
   module _ (within : IsWithinLimits r t) where
     few_points : length (points t r) ≤ most_number

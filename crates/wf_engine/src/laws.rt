@@ -20,8 +20,8 @@ pub fn verifying_is_counted()
     ensures { VerifyingIsCounted }
 {}
 
-/// What a search writes without the verdict form is accepted where it is within the limit of bytes, with the outcome
-/// that the search had, or memory runs out.
+/// What a search of a task, in which all words are allowed, writes without the verdict form is accepted where it is
+/// within the limit of bytes, with the outcome that the search had, or memory runs out.
 pub fn solved_reports_are_accepted()
     ensures { SolvedReportsAreAccepted }
 {}
