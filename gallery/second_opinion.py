@@ -1,0 +1,127 @@
+#!/usr/bin/env python3
+"""second_opinion.py TASK REPORT: whether the report about the task holds, straight from the definitions.
+
+It shares nothing with the program: it is here to be read in ten minutes, and is slow. It says `holds: map`, `holds: none`
+or `holds: none, by the header alone` (the short form has no lines to check), or says in words what is wrong and ends with
+status 1. Whether a map is the least one it doesn't look at."""
+import itertools
+import json
+import sys
+
+
+def faces(simplex):
+    return [f for n in range(1, len(simplex) + 1) for f in itertools.combinations(simplex, n)]
+
+
+def simplex_of(listed):
+    return tuple((p, v) for p, v in listed)
+
+
+def words(n):
+    """The ordered partitions of n participants, as block numbers with none left out."""
+    return [w for w in itertools.product(range(n), repeat=n) if set(w) == set(range(max(w) + 1))]
+
+
+def seen_after(views, word):
+    """Each process sees the views of its own block and of the earlier ones."""
+    return [(v[0], tuple(u for u, b in zip(views, word) if b <= word[i])) for i, v in enumerate(views)]
+
+
+def processes_in(view):
+    process, rest = view
+    return {process} if isinstance(rest, int) else {process}.union(*map(processes_in, rest))
+
+
+def ranked(view, order):
+    process, rest = view
+    return order[process], rest if isinstance(rest, int) else tuple(ranked(v, order) for v in rest)
+
+
+def point_of(view, symmetric):
+    return ranked(view, {p: i for i, p in enumerate(sorted(processes_in(view)))}) if symmetric else view
+
+
+class Complex:
+    """The executions of a task after some rounds: for each the points at its processes, and what is allowed there."""
+
+    def __init__(self, task, rounds):
+        inputs = sorted({f for s in task["inputs"] for f in faces(simplex_of(s))}, key=lambda s: (len(s), s))
+        allowed = {simplex_of(e["in"]): {tuple(t) for t in e["out"]} for e in task["delta"]}
+        numbers, self.executions = {}, []
+        for s in inputs:
+            for round_words in itertools.product(words(len(s)), repeat=rounds):
+                views = [(p, v) for p, v in s]
+                for word in round_words:
+                    views = seen_after(views, word)
+                points = [numbers.setdefault(point_of(v, task["symmetric"]), len(numbers)) for v in views]
+                self.executions.append(([p for p, _ in s], points, allowed[s]))
+        self.points = len(numbers)
+        self.values = {v for s in task["outputs"] for _, v in s}
+
+    def wrong_map(self, values):
+        if len(values) != self.points:
+            return f"{len(values)} values for {self.points} points"
+        for n, (_, points, allowed) in enumerate(self.executions):
+            if tuple(values[v] for v in points) not in allowed:
+                return f"execution {n} decides {[values[v] for v in points]}"
+        return None
+
+    def wrong_refutation(self, lines):
+        """Blocks that are still to be refuted, the next one last: each a set of candidates for every point."""
+        blocks = [[set(self.values) for _ in range(self.points)]]
+        for at, (kind, *numbers) in lines:
+            if not blocks:
+                return f"line {at}: all is refuted already"
+            box = blocks[-1]
+            if kind == "p":
+                e, process, value = numbers
+                if e >= len(self.executions) or process not in self.executions[e][0]:
+                    return f"line {at}: no such execution, or the process takes no part in it"
+                processes, points, allowed = self.executions[e]
+                place = processes.index(process)
+                if any(t[place] == value and all(x in box[v] for x, v in zip(t, points)) for t in allowed):
+                    return f"line {at}: the value can still be decided there"
+                box[points[place]].discard(value)
+            elif numbers[0] >= self.points:
+                return f"line {at}: no such point"
+            elif kind == "z":
+                if box[numbers[0]]:
+                    return f"line {at}: the point has values left"
+                blocks.pop()
+            else:
+                candidates = sorted(box[numbers[0]])
+                if len(candidates) < 2:
+                    return f"line {at}: the point has fewer than two values left"
+                blocks.pop()
+                for value in reversed(candidates):
+                    blocks.append([{value} if v == numbers[0] else set(c) for v, c in enumerate(box)])
+        return f"{len(blocks)} cases are not refuted" if blocks else None
+
+
+def judge(task, report):
+    lines = report.split("\n")
+    if lines[-2:] != ["end", ""] or lines[0] != "wfcheck report 1" or len(lines) < 8:
+        return None, "it is no report"
+    names = ["processes", "rounds", "points", "executions"]
+    header = {name: int(line.split(" ")[1]) for name, line in zip(names, lines[1:5])}
+    made = Complex(task, header["rounds"])
+    right = {"processes": task["processes"], "points": made.points, "executions": len(made.executions)}
+    for name, number in right.items():
+        if header[name] != number:
+            return None, f"{name} should be {number}"
+    body = [(i + 7, line.split(" ")) for i, line in enumerate(lines[6:-2])]
+    if lines[5] == "answer map":
+        return "map", made.wrong_map([int(words[1]) for _, words in body])
+    if not body:
+        return "none, by the header alone", None
+    return "none", made.wrong_refutation([(at, (kind, *map(int, rest))) for at, (kind, *rest) in body])
+
+
+if __name__ == "__main__":
+    if len(sys.argv) != 3:
+        sys.exit(__doc__)
+    with open(sys.argv[1]) as task_file, open(sys.argv[2]) as report_file:
+        answer, wrong = judge(json.load(task_file), report_file.read())
+    if wrong:
+        sys.exit(f"does not hold: {wrong}")
+    print(f"holds: {answer}")
