@@ -36,30 +36,41 @@ pub fn line_count(text: &str) -> usize {
     text.split_inclusive('\n').count()
 }
 
+/// The line of this number, the first of which is line 0; nothing where there is none.
+fn line_at(text: &str, number: usize) -> &str {
+    text.split_inclusive('\n').nth(number).unwrap_or("")
+}
+
 /// The text with one line changed, the first of which is line 0.
 pub fn changed(alloc: Global, text: &str, at: usize, change: Change) -> Result<String, AllocError> {
     let mut made = String::new(alloc);
-    let mut held = "";
+    let next = at.saturating_add(1);
+    let is_swapped = matches!(change, Change::Swapped);
     for (number, line) in text.split_inclusive('\n').enumerate() {
-        if number != at {
+        if number == at {
+            put_change(&mut made, line, line_at(text, next), change)?;
+        } else if !(is_swapped && number == next) {
             made.push_str(line)?;
-            made.push_str(held)?;
-            held = "";
-            continue;
-        }
-        match change {
-            Change::Dropped => {}
-            Change::Doubled => {
-                made.push_str(line)?;
-                made.push_str(line)?;
-            }
-            Change::Swapped => held = line,
-            Change::Raised(word) => put_changed(&mut made, line, word, true)?,
-            Change::Lowered(word) => put_changed(&mut made, line, word, false)?,
         }
     }
-    made.push_str(held)?;
     Ok(made)
+}
+
+/// Adds a line as a change leaves it, and the next line with it where the two are swapped.
+fn put_change(made: &mut String, line: &str, next: &str, change: Change) -> Result<(), AllocError> {
+    match change {
+        Change::Dropped => Ok(()),
+        Change::Doubled => {
+            made.push_str(line)?;
+            made.push_str(line)
+        }
+        Change::Swapped => {
+            made.push_str(next)?;
+            made.push_str(line)
+        }
+        Change::Raised(word) => put_changed(made, line, word, true),
+        Change::Lowered(word) => put_changed(made, line, word, false),
+    }
 }
 
 /// Adds a line whose word at this place is the number above it, or the one below it.

@@ -3,7 +3,9 @@
 use super::ends::{Drip, Narrow, Shelf};
 use super::tasks::{CONSENSUS_2, PATH_3, RENAMING_2_2};
 use super::words::split;
+use std::alloc::{AllocError, Global};
 use std::test::Fail;
+use std::thread::Threads;
 use wf_io::{Sink, Source};
 use wf_program::run_program;
 
@@ -163,44 +165,64 @@ static CHECKED: [Checked; 20] = [
 /// The words of each row.
 const LINE: &str = "wfcheck verify --task task.json";
 
+/// What a check wrote, told and answered.
+#[derive(Drop)]
+struct Answer {
+    output: Vec<u8>,
+    errors: Vec<u8>,
+    status: u8,
+}
+
+/// Checks a row's report about its task.
+fn check_row(
+    rt: &(impl Threads + Sync),
+    alloc: Global,
+    row: &Checked,
+) -> Result<Answer, AllocError> {
+    let files = Shelf {
+        name: "task.json",
+        text: row.task,
+        fails_at: 0,
+    };
+    let words = split(alloc, LINE)?;
+    let mut output = Vec::new(alloc);
+    let mut errors = Vec::new(alloc);
+    let mut source = Source::new(row.report.as_bytes());
+    let mut sink = Sink::new(&mut output);
+    let mut told = Sink::new(&mut errors);
+    let status = run_program(
+        rt,
+        alloc,
+        &files,
+        Ok(words),
+        &mut source,
+        &mut sink,
+        &mut told,
+    );
+    Ok(Answer {
+        output,
+        errors,
+        status,
+    })
+}
+
 #[test]
 fn reports_are_checked(rt: HostRuntime) -> Result<(), Fail> {
     for row in CHECKED {
-        let files = Shelf {
-            name: "task.json",
-            text: row.task,
-            fails_at: 0,
-        };
-        let mut output = Vec::new(rt.alloc());
-        let mut errors = Vec::new(rt.alloc());
-        let mut source = Source::new(row.report.as_bytes());
-        let mut sink = Sink::new(&mut output);
-        let mut told = Sink::new(&mut errors);
-        let words = split(rt.alloc(), LINE)?;
-        let status = run_program(
-            &rt,
-            rt.alloc(),
-            &files,
-            Ok(words),
-            &mut source,
-            &mut sink,
-            &mut told,
-        );
-        drop(sink);
-        drop(told);
+        let answer = check_row(&rt, rt.alloc(), &row)?;
         assert_eq!(rt;
-            errors.as_slice(),
+            answer.errors.as_slice(),
             row.errors.as_bytes(),
             "{:?}",
             row.report
         );
         assert_eq!(rt;
-            output.as_slice(),
+            answer.output.as_slice(),
             row.output.as_bytes(),
             "{:?}",
             row.report
         );
-        assert_eq!(rt; status, row.status, "{:?}", row.report);
+        assert_eq!(rt; answer.status, row.status, "{:?}", row.report);
     }
     Ok(())
 }
