@@ -21,8 +21,6 @@ mod reading;
 mod rows;
 mod tasks;
 
-use changes::{CHANGES, changed, line_count};
-use full::{Full, LARGE, SMALL};
 use plain::plain_task;
 use rows::ROWS;
 
@@ -82,53 +80,6 @@ fn plain_answer(
 ) -> Result<(), CertFault> {
     let report = reading::read(alloc, text)?;
     checking::check(alloc, processes, rounds, problem, &report)
-}
-
-/// The first change of every so many lines of a full report about which the plain checker answers otherwise.
-fn first_difference<R: Threads + Sync>(
-    rt: &R,
-    alloc: Global,
-    full: &Full,
-    every: usize,
-) -> Result<Option<String>, Fail>
-    requires { 0 < every }
-{
-    let task = Task::read_text(alloc, full.task.as_bytes())?;
-    let protocol = Protocol::build(alloc, &task, full.rounds)?;
-    let problem = problem_of(alloc, &plain_task(alloc, &task)?, full.rounds as usize)?;
-    let processes = u32::from(task.processes());
-    if let Err(fault) = answer(rt, alloc, &task, &protocol, full.text) {
-        return Ok(Some(format!(in alloc; "the report itself: {fault}")?));
-    }
-    for at in (0..line_count(full.text)).filter(|at| at % every == 0) {
-        for change in &CHANGES {
-            let text = changed(alloc, full.text, at, *change)?;
-            if text.as_str() == full.text {
-                continue;
-            }
-            let found = answer(rt, alloc, &task, &protocol, &text);
-            let wanted = plain_answer(alloc, processes, full.rounds, &problem, &text);
-            if found != wanted {
-                return Ok(Some(format!(in alloc;
-                    "line {at} {change:?}: {found:?} for {wanted:?}"
-                )?));
-            }
-        }
-    }
-    Ok(None)
-}
-
-#[test]
-fn changed_reports_are_answered_as_by_the_plain_checker(rt: HostRuntime) -> Result<(), Fail> {
-    for full in &SMALL {
-        let found = first_difference(&rt, rt.alloc(), full, 1)?;
-        assert_eq!(rt; found, None, "{}", full.text);
-    }
-    for full in &LARGE {
-        let found = first_difference(&rt, rt.alloc(), full, 150)?;
-        assert_eq!(rt; found, None, "{}", full.task);
-    }
-    Ok(())
 }
 
 #[test]
