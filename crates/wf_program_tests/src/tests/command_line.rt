@@ -1,7 +1,7 @@
 //! The program: each row of the command line writes, tells and answers what it is to, byte for byte.
 
 use super::ends::{Drip, EMPTY, Full, Narrow};
-use super::rows::{ACCOUNTED, BEGINNINGS, DECIDED, FULL_MAPS, FULL_NONES, LISTED, Row, SHARED};
+use super::rows::{ACCOUNTED, BEGINNINGS, DECIDED, FULL_MAPS, LISTED, Row, SHARED};
 use super::tasks::{AGREEMENT_4_3, ONE_PROCESS};
 use super::words::split;
 use std::alloc::{AllocError, Global};
@@ -74,11 +74,6 @@ fn tasks_are_decided(rt: HostRuntime) -> Result<(), Fail> {
 #[test]
 fn reports_are_full(rt: HostRuntime) -> Result<(), Fail> {
     hold(&rt, rt.alloc(), &FULL_MAPS)
-}
-
-#[test]
-fn reports_of_further_tasks_are_full(rt: HostRuntime) -> Result<(), Fail> {
-    hold(&rt, rt.alloc(), &FULL_NONES)
 }
 
 #[test]
