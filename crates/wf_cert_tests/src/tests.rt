@@ -21,6 +21,8 @@ mod reading;
 mod rows;
 mod tasks;
 
+use changes::{CHANGES, Change, changed, line_count};
+use full::{Full, LARGE, SMALL};
 use plain::plain_task;
 use rows::ROWS;
 
@@ -80,6 +82,82 @@ fn plain_answer(
 ) -> Result<(), CertFault> {
     let report = reading::read(alloc, text)?;
     checking::check(alloc, processes, rounds, problem, &report)
+}
+
+/// Whether a text is answered, on the complex of a full report, as by the plain reader and the plain checker.
+fn is_answered_alike<R: Threads + Sync>(
+    rt: &R,
+    alloc: Global,
+    full: Full,
+    text: &str,
+) -> Result<bool, Fail> {
+    let task = Task::read_text(alloc, full.task.as_bytes())?;
+    let protocol = Protocol::build(alloc, &task, full.rounds)?;
+    let problem = problem_of(alloc, &plain_task(alloc, &task)?, full.rounds as usize)?;
+    let found = answer(rt, alloc, &task, &protocol, text);
+    let processes = u32::from(task.processes());
+    Ok(found == plain_answer(alloc, processes, full.rounds, &problem, text))
+}
+
+/// The first change of a line of a full report that is answered otherwise than by the plain checker.
+fn difference<R: Threads + Sync>(
+    rt: &R,
+    alloc: Global,
+    full: Full,
+    at: usize,
+) -> Result<Option<Change>, Fail> {
+    for change in &CHANGES {
+        let text = changed(alloc, full.text, at, *change)?;
+        if !is_answered_alike(rt, alloc, full, &text)? {
+            return Ok(Some(*change));
+        }
+    }
+    Ok(None)
+}
+
+/// The first of every so many lines of a full report of which a change is answered otherwise.
+fn differing_line<R: Threads + Sync>(
+    rt: &R,
+    alloc: Global,
+    full: Full,
+    every: usize,
+) -> Result<Option<usize>, Fail>
+    requires { 0 < every }
+{
+    for at in (0..line_count(full.text)).filter(|at| at % every == 0) {
+        if difference(rt, alloc, full, at)?.is_some() {
+            return Ok(Some(at));
+        }
+    }
+    Ok(None)
+}
+
+#[test]
+fn changed_reports_are_answered_as_by_the_plain_checker(rt: HostRuntime) -> Result<(), Fail> {
+    for full in &SMALL {
+        assert_eq!(rt;
+            differing_line(&rt, rt.alloc(), *full, 1)?,
+            None,
+            "{}",
+            full.text
+        );
+    }
+    Ok(())
+}
+
+#[test]
+fn changes_of_large_reports_are_answered_as_by_the_plain_checker(
+    rt: HostRuntime,
+) -> Result<(), Fail> {
+    for full in &LARGE {
+        assert_eq!(rt;
+            differing_line(&rt, rt.alloc(), *full, 150)?,
+            None,
+            "{}",
+            full.task
+        );
+    }
+    Ok(())
 }
 
 #[test]
