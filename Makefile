@@ -1,6 +1,6 @@
 # Everything needs the toolchain alone: the command `rt` on the path.
 
-.PHONY: demo build quick test
+.PHONY: demo build quick test definitions bench
 
 # Decides the task of examples/path-3.json for one round, and prints its report. The program is run, not proved, here.
 demo:
@@ -17,6 +17,15 @@ build:
 quick:
 	checks/quick
 
-# Everything is proved from nothing, the edits that must fail are tried, and the tests are run.
+# Everything is proved from nothing, the edits that must fail are tried, and the tests and the rows of command lines are run.
 test:
-	rt ci
+	checks/gate
+
+# Mutates the definitions one by one; an example or a law has to refuse each. Some six minutes.
+definitions:
+	checks/mutate
+
+# Times the kernels, and the program beside a plain C++ of the same search. It needs a C++ compiler.
+bench:
+	bench/run
+	bench/search

@@ -1,10 +1,5 @@
-//! Rows, tasks, and the texts that tasks are read from.
+//! Rows, tasks, and how refusals are printed. Which texts are refused: checks/texts has the program read them.
 
-mod limits;
-mod refusals;
-mod shapes;
-
-use std::alloc::Global;
 use std::test::Fail;
 use wf_task::{Key, Limit, Row, Task, TaskFault};
 
@@ -12,41 +7,6 @@ use wf_task::{Key, Limit, Row, Task, TaskFault};
 /// values of 0 to 3 that differ by at most 1.
 pub const PATH_3: &str =
     r#"{"version":1,"processes":2,"symmetric":false,"inputs":[[[0,0],[1,0]]],"outputs":[[[0,0],[1,0]],[[0,0],[1,1]],[[0,1],[1,0]],[[0,1],[1,1]],[[0,1],[1,2]],[[0,2],[1,1]],[[0,2],[1,2]],[[0,2],[1,3]],[[0,3],[1,2]],[[0,3],[1,3]]],"delta":[{"in":[[0,0]],"out":[[0]]},{"in":[[1,0]],"out":[[3]]},{"in":[[0,0],[1,0]],"out":[[0,0],[0,1],[1,0],[1,1],[1,2],[2,1],[2,2],[2,3],[3,2],[3,3]]}]}"#;
-
-/// The fault of a text.
-fn fault_of(alloc: Global, text: &str) -> Option<TaskFault> {
-    Task::read_text(alloc, text.as_bytes()).err()
-}
-
-/// A small task, with another value under one of its keys. Its input simplices are (0,0), (1,0) and both, its
-/// output simplices (0,0), (1,1) and both.
-fn small_with(alloc: Global, key: Key, value: &str) -> Result<String, Fail> {
-    let members = [
-        (Key::Version, r#"{"version":"#, "1"),
-        (Key::Processes, r#","processes":"#, "2"),
-        (Key::Symmetric, r#","symmetric":"#, "false"),
-        (Key::Inputs, r#","inputs":"#, "[[[0,0],[1,0]]]"),
-        (Key::Outputs, r#","outputs":"#, "[[[0,0],[1,1]]]"),
-        (
-            Key::Delta,
-            r#","delta":"#,
-            r#"[{"in":[[0,0]],"out":[[0]]},{"in":[[1,0]],"out":[[1]]},{"in":[[0,0],[1,0]],"out":[[0,1]]}]"#,
-        ),
-    ];
-    let mut text = String::new(alloc);
-    for (member, name, usual) in members {
-        text.push_str(name)?;
-        text.push_str(if member == key { value } else { usual })?;
-    }
-    text.push_str("}")?;
-    Ok(text)
-}
-
-/// The fault of the small task with another value under one of its keys.
-fn fault_with(alloc: Global, key: Key, value: &str) -> Result<Option<TaskFault>, Fail> {
-    let text = small_with(alloc, key, value)?;
-    Ok(fault_of(alloc, text.as_str()))
-}
 
 #[test]
 fn rows_are_their_values(rt: HostRuntime) {

@@ -12,7 +12,7 @@ use wf_complex::Line;
 use wf_lines::{put_number, put_words};
 
 /// The text of a report: a header, the values of a map or the lines of a refutation, and `end`. Every line ends in one
-/// line feed, and numbers are decimal. Refused for want of memory alone.
+/// line feed, and numbers are decimal. Refused where memory runs out, and for nothing else.
 pub fn write_report(alloc: Global, report: &Report) -> Result<Vec<u8>, AllocError>
     ensures text { IfOk result (λ text. text.items ≡ report_text (report_seen report.now)) }
 {

@@ -61,7 +61,7 @@ impl Protocol {
     /// The complex of a task after these rounds.
     ///
     /// Refused where there are more than 8 rounds, then where there are more than 500,000 executions, which are counted
-    /// before anything is built, and then for want of memory.
+    /// before anything is built, and then where memory runs out.
     pub fn build(alloc: Global, task: &Task, rounds: u32) -> Result<Protocol, BuildFault>
         ensures { Builds task.now rounds result }
     {

@@ -51,7 +51,7 @@ fn visible(current: &[u32], word: &Word, i: u8) -> Ids
 
 /// The numbers of the views of an input simplex before the first round, by ascending process.
 ///
-/// Refused for want of memory; the views so far keep their numbers.
+/// Refused where memory runs out; the views so far keep their numbers.
 fn first_views(views: &mut Views, simplex: &Simplex) -> Result<[u32; 4], AllocError>
     requires room { length views.old + 4 ≤ 4294967295 }
     ensures extends { Extends views.old views.new }
@@ -72,7 +72,7 @@ fn first_views(views: &mut Views, simplex: &Simplex) -> Result<[u32; 4], AllocEr
 
 /// The numbers of the views after one more round, by ascending process. Views that are new get the next numbers.
 ///
-/// Refused for want of memory; the views so far keep their numbers.
+/// Refused where memory runs out; the views so far keep their numbers.
 fn next_views(views: &mut Views, current: &[u32], word: &Word) -> Result<[u32; 4], AllocError>
     requires long { length current.now ≡ length word.now }
     requires views { AreViews views.old current.now }
@@ -93,7 +93,7 @@ fn next_views(views: &mut Views, current: &[u32], word: &Word) -> Result<[u32; 4
 
 /// Adds the views after all rounds, execution by execution, to the last views of those before.
 ///
-/// Refused for want of memory; the views so far keep their numbers.
+/// Refused where memory runs out; the views so far keep their numbers.
 fn walk(
     views: &mut Views,
     lasts: &mut Vec<u32>,

@@ -21,7 +21,7 @@ const VALUES: u8 = 64;
 /// The least decision map of a task on its protocol complex, as the list of its values over the points; or `None`
 /// where there is none.
 ///
-/// The protocol has to be that of the task. Refused for want of memory alone. There is no bound on the turns that it
+/// The protocol has to be that of the task. Refused where memory runs out, and for nothing else. There is no bound on the turns that it
 /// takes but the number of all lists of values.
 pub fn least_map(
     alloc: Global,

@@ -3,7 +3,6 @@ mod command_line;
 mod ends;
 mod engines;
 mod failing;
-mod reports;
 mod rows;
 mod tasks;
 mod texts;

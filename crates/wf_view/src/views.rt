@@ -65,7 +65,7 @@ impl Views {
 
     /// The number of the view of a process before the first round, when it knows its input alone.
     ///
-    /// Where the view is new it gets the next number. Refused for want of memory, which leaves the table as it was.
+    /// Where the view is new it gets the next number. Refused where memory runs out, which leaves the table as it was.
     pub fn base(&mut self, colour: u8, value: u8) -> Result<u32, AllocError>
         requires colour { colour ≤ 3 }
         requires room { length self.old < 4294967295 }
@@ -80,7 +80,7 @@ impl Views {
     /// The number of the view of a process that saw these views, named by their numbers in the order of their
     /// processes, its own among them.
     ///
-    /// Where the view is new it gets the next number. Refused for want of memory, which leaves the table as it was.
+    /// Where the view is new it gets the next number. Refused where memory runs out, which leaves the table as it was.
     pub fn seen(&mut self, colour: u8, parts: &[u32]) -> Result<u32, AllocError>
         requires colour { colour ≤ 3 }
         requires numbers { All (λ k. k < length self.old) parts.now }
@@ -125,7 +125,7 @@ impl Views {
     /// The number of a view with each process replaced by its rank among those that occur in it, at every depth.
     ///
     /// The views inside it, renamed alike, get numbers too: at most one new view for each different view inside.
-    /// Refused for want of memory, which leaves each number with its view; some of the new views may stand then.
+    /// Refused where memory runs out, which leaves each number with its view; some of the new views may stand then.
     pub fn normal(&mut self, id: u32) -> Result<u32, AllocError>
         requires id { id < length self.old }
         requires room { length self.old + count_within (view_at self.old id) ≤ 4294967295 }

@@ -1,7 +1,7 @@
 //! The command `verify`: each row writes, tells and answers what it is to, byte for byte.
 
 use super::ends::{Drip, Narrow, Shelf};
-use super::tasks::{CONSENSUS_2, PATH_3, RENAMING_2_2};
+use super::tasks::{PATH_3, RENAMING_2_2};
 use super::words::split;
 use std::alloc::{AllocError, Global};
 use std::process::Abort;
@@ -20,7 +20,7 @@ struct Checked {
     status: u8,
 }
 
-static CHECKED: [Checked; 20] = [
+static CHECKED: [Checked; 3] = [
     Checked {
         task: PATH_3,
         report: "wfcheck report 1\nprocesses 2\nrounds 1\npoints 4\nexecutions 5\nanswer map\nm 0\nm 3\nm 2\nm 1\nend\n",
@@ -36,130 +36,11 @@ static CHECKED: [Checked; 20] = [
         status: 2,
     },
     Checked {
-        task: PATH_3,
-        report: "wfcheck report 1\nprocesses 2\nrounds 1\npoints 5\nexecutions 5\nanswer map\nm 0\nm 3\nm 2\nm 1\nend\n",
-        output: "",
-        errors: "wfcheck: 21 Header 4\n",
-        status: 2,
-    },
-    Checked {
-        task: RENAMING_2_2,
-        report: "wfcheck report 1\nprocesses 2\nrounds 1\npoints 3\nexecutions 5\nanswer none\nb 0\np 3 1 0\np 4 0 0\np 2 0 1\nz 1\np 3 1 1\np 4 0 1\np 2 0 0\nend\n",
-        output: "",
-        errors: "wfcheck: 28 Unfinished\n",
-        status: 2,
-    },
-    Checked {
-        task: RENAMING_2_2,
-        report: "wfcheck report 1\nprocesses 2\nrounds 1\npoints 3\nexecutions 5\nanswer none\nb 0\np 3 1 0\np 4 0 0\np 2 0 1\nz 1\np 3 1 1\np 4 0 1\np 2 0 0\nz 1\nz 0\nend\n",
-        output: "",
-        errors: "wfcheck: 29 Trailing 16\n",
-        status: 2,
-    },
-    Checked {
-        task: RENAMING_2_2,
-        report: "wfcheck report 1\nprocesses 2\nrounds 1\npoints 3\nexecutions 5\nanswer none\np 2 0 0\nb 0\np 3 1 0\np 4 0 0\np 2 0 1\nz 1\np 3 1 1\np 4 0 1\np 2 0 0\nz 1\nend\n",
-        output: "",
-        errors: "wfcheck: 25 Unsound 7\n",
-        status: 2,
-    },
-    Checked {
-        task: RENAMING_2_2,
-        report: "wfcheck report 1\nprocesses 2\nrounds 1\npoints 3\nexecutions 5\nanswer none\nz 0\nb 0\np 3 1 0\np 4 0 0\np 2 0 1\nz 1\np 3 1 1\np 4 0 1\np 2 0 0\nz 1\nend\n",
-        output: "",
-        errors: "wfcheck: 26 NotEmpty 7\n",
-        status: 2,
-    },
-    Checked {
-        task: RENAMING_2_2,
-        report: "wfcheck report 1\nprocesses 2\nrounds 1\npoints 3\nexecutions 5\nanswer none\np 9 0 0\nb 0\np 3 1 0\np 4 0 0\np 2 0 1\nz 1\np 3 1 1\np 4 0 1\np 2 0 0\nz 1\nend\n",
-        output: "",
-        errors: "wfcheck: 24 NoSuch 7\n",
-        status: 2,
-    },
-    Checked {
-        task: RENAMING_2_2,
-        report: "wfcheck report 1\nprocesses 2\nrounds 1\npoints 3\nexecutions 5\nanswer none\np 03 1 0\nb 0\np 3 1 0\np 4 0 0\np 2 0 1\nz 1\np 3 1 1\np 4 0 1\np 2 0 0\nz 1\nend\n",
-        output: "",
-        errors: "wfcheck: 20 Syntax 7\n",
-        status: 2,
-    },
-    Checked {
-        task: CONSENSUS_2,
-        report: "wfcheck report 1\nprocesses 2\nrounds 0\npoints 2\nexecutions 3\nanswer none\np 0 0 1\np 1 1 0\nb 0\nz 0\nend\n",
-        output: "",
-        errors: "wfcheck: 27 NotOpen 9\n",
-        status: 2,
-    },
-    Checked {
         task: RENAMING_2_2,
         report: "wfcheck report 1\nprocesses 2\nrounds 1\npoints 3\nexecutions 5\nanswer none\nb 0\np 3 1 0\np 4 0 0\np 2 0 1\nz 1\np 3 1 1\np 4 0 1\np 2 0 0\nz 1\nend\n",
         output: "accepted none\n",
         errors: "",
         status: 0,
-    },
-    Checked {
-        task: PATH_3,
-        report: "wfcheck report 1\nprocesses 2\nrounds 1\npoints 4\nexecutions 5\nanswer map\nm 0\nm 2\nm 1\nend\n",
-        output: "",
-        errors: "wfcheck: 22 MapLength\n",
-        status: 2,
-    },
-    Checked {
-        task: PATH_3,
-        report: "wfcheck report 1\nprocesses 2\nrounds 0\npoints 2\nexecutions 3\nanswer none\nend\n",
-        output: "",
-        errors: "wfcheck: 28 Unfinished\n",
-        status: 2,
-    },
-    Checked {
-        task: PATH_3,
-        report: "",
-        output: "",
-        errors: "wfcheck: 20 Syntax 1\n",
-        status: 2,
-    },
-    Checked {
-        task: PATH_3,
-        report: "wfcheck report 1\nprocesses 2\nrounds 1\npoints 3\nexecutions 5\nanswer none\nb 0\np 3 1 0\np 4 0 0\np 2 0 1\nz 1\np 3 1 1\np 4 0 1\np 2 0 0\nz 1\nend\n",
-        output: "",
-        errors: "wfcheck: 21 Header 4\n",
-        status: 2,
-    },
-    Checked {
-        task: PATH_3,
-        report: "wfcheck report 1\nprocesses 2\nrounds 1\npoints 4294967296\nexecutions 5\nanswer map\nm 0\nm 3\nm 2\nm 1\nend\n",
-        output: "",
-        errors: "wfcheck: 20 Syntax 4\n",
-        status: 2,
-    },
-    Checked {
-        task: PATH_3,
-        report: "wfcheck report 1\nprocesses 2\nrounds 1\npoints 4\r\nexecutions 5\nanswer map\nm 0\nm 3\nm 2\nm 1\nend\n",
-        output: "",
-        errors: "wfcheck: 20 Syntax 4\n",
-        status: 2,
-    },
-    Checked {
-        task: PATH_3,
-        report: "wfcheck report 1\nprocesses 2\nrounds 1\npoints 4\nexecutions 5\nanswer map\nm 0\nm 3\nm 2\nm 1\nend\nend\n",
-        output: "",
-        errors: "wfcheck: 20 Syntax 12\n",
-        status: 2,
-    },
-    Checked {
-        task: PATH_3,
-        report: "wfcheck report 1\nprocesses 2\nrounds 9\npoints 4\nexecutions 5\nanswer map\nm 0\nm 3\nm 2\nm 1\nend\n",
-        output: "",
-        errors: "wfcheck: 16 Rounds\n",
-        status: 2,
-    },
-    Checked {
-        task: "",
-        report: "wfcheck report 1\nprocesses 2\nrounds 1\npoints 4\nexecutions 5\nanswer map\nm 0\nm 3\nm 2\nm 1\nend\n",
-        output: "",
-        errors: "wfcheck: 2 NotJson\n",
-        status: 2,
     },
 ];
 

@@ -1,8 +1,8 @@
-//! The program: each row of the command line writes, tells and answers what it is to, byte for byte.
+//! The program over streams of its own: each command writes, tells and answers what it is to, byte for byte.
 
 use super::ends::{Drip, EMPTY, Full, Narrow};
-use super::rows::{ACCOUNTED, BEGINNINGS, DECIDED, FULL_MAPS, LISTED, Row, SHARED};
-use super::tasks::{AGREEMENT_4_3, ONE_PROCESS};
+use super::rows::{BEGINNINGS, DONE, Row};
+use super::tasks::ONE_PROCESS;
 use super::words::split;
 use std::alloc::{AllocError, Global};
 use std::process::Abort;
@@ -67,44 +67,8 @@ fn hold(rt: &(impl Abort + Threads + Sync), alloc: Global, rows: &[Row]) -> Resu
 }
 
 #[test]
-fn tasks_are_decided(rt: HostRuntime) -> Result<(), Fail> {
-    hold(&rt, rt.alloc(), &DECIDED)
-}
-
-#[test]
-fn reports_are_full(rt: HostRuntime) -> Result<(), Fail> {
-    hold(&rt, rt.alloc(), &FULL_MAPS)
-}
-
-#[test]
-fn accounts_are_told(rt: HostRuntime) -> Result<(), Fail> {
-    hold(&rt, rt.alloc(), &ACCOUNTED)
-}
-
-#[test]
-fn workers_share_the_branches(rt: HostRuntime) -> Result<(), Fail> {
-    hold(&rt, rt.alloc(), &SHARED)
-}
-
-#[test]
-fn points_are_listed(rt: HostRuntime) -> Result<(), Fail> {
-    hold(&rt, rt.alloc(), &LISTED)
-}
-
-#[test]
-fn a_large_complex_is_listed(rt: HostRuntime) -> Result<(), Fail> {
-    let answer = run(&rt, rt.alloc(), "wfcheck views --rounds 3", AGREEMENT_4_3)?;
-    assert_eq!(rt; answer.status, 0);
-    assert_eq!(rt; answer.output.len(), 1_196_628);
-    let first =
-        "wfcheck views 1\nprocesses 4\nrounds 3\nsimplices 15\nviews 72560\npoints 72560\nexecutions 430829\nv 0 0 0\n";
-    assert!(rt;
-        answer.output.starts_with(first.as_bytes()),
-        "the first lines"
-    );
-    let last = "v 72559 430754 3\nend\n";
-    assert!(rt; answer.output.ends_with(last.as_bytes()), "the last lines");
-    Ok(())
+fn jobs_are_done(rt: HostRuntime) -> Result<(), Fail> {
+    hold(&rt, rt.alloc(), &DONE)
 }
 
 #[test]
