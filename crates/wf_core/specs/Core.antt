@@ -28,6 +28,10 @@ abbrev pub start : ℕ → ℕ → State
 start branches workers =
     record { branches = replicate branches status.Free; least = branches; seen = replicate workers branches; ended = replicate workers false }
 
+-- the state is one of so many branches and workers
+abbrev pub HasSizes : ℕ → ℕ → State → Type 0
+HasSizes branches workers s = (length s.branches ≡ branches) × (length s.seen ≡ workers)
+
 -- branch i has this status
 abbrev pub Is : State → ℕ → Status → Type 0
 Is s i status = slice_get s.branches i ≡ Some status
@@ -107,6 +111,10 @@ abbrev pub first_failing : List (Bool × Illegal) → Option Illegal
 first_failing [] = None
 first_failing ((true, why) ∷ rest) = first_failing rest
 first_failing ((false, why) ∷ rest) = Some why
+
+-- why worker w can do nothing with branch i, whatever it holds
+abbrev pub out_of_reach : State → ℕ → ℕ → Option Illegal
+out_of_reach s w i = first_failing ((has_worker s w, NoWorker) ∷ (has_branch s i, NoBranch) ∷ (is_active s w, Ended) ∷ [])
 
 -- what is asked of an event, in order
 abbrev pub tests : State → Event → List (Bool × Illegal)

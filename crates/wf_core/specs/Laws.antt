@@ -1,9 +1,31 @@
 -- What holds after every list of legal events.
-use Rattle.std.specs.Prelude.{◌≡◌, ℕ, ◌<◌, ◌≤◌, ◌⊎◌, ◌↔◌, Bool, true, false, List, ◌∷◌, ◌++◌, All, slice_index_or}
+use Rattle.std.specs.Prelude.{◌≡◌, ℕ, ◌<◌, ◌≤◌, ◌⊎◌, ◌↔◌, Bool, true, false, List, ◌∷◌, ◌++◌, None, All, slice_index_or}
 use Rattle.wf_core.specs.declared.event.Status.TheVariants as status
 use Rattle.wf_core.specs.declared.event.Event.{Event}
 use Rattle.wf_core.specs.declared.event.Event.TheVariants.{Take, Post, Searched, Cut}
-use Rattle.wf_core.specs.Core.{State, Is, Saw, Run, start}
+use Rattle.wf_core.specs.declared.event.Illegal.{Illegal}
+use Rattle.wf_core.specs.Core.{State, Is, Saw, Step, Run, IsFirstIllegal, start, refusal}
+
+abbrev pub EventsThatAreNotRefusedHaveAStep : Type 0
+EventsThatAreNotRefusedHaveAStep = (s : State) (e : Event) → (refusal s e ≡ None) ↔ ((t : State) × Step s e t)
+
+abbrev pub AStepLeavesOneState : Type 0
+AStepLeavesOneState = (s t u : State) (e : Event) → Step s e t → Step s e u → t ≡ u
+
+abbrev pub ListsRunOrStop : Type 0
+ListsRunOrStop = (s : State) (es : List Event)
+    → ((t : State) × Run s es t) ⊎ ((at : ℕ) × (why : Illegal) × IsFirstIllegal s es at why)
+
+abbrev pub ListsThatRunDoNotStop : Type 0
+ListsThatRunDoNotStop = (s t : State) (es : List Event) (at : ℕ) (why : Illegal)
+    → Run s es t → ¬ (IsFirstIllegal s es at why)
+
+abbrev pub ARunLeavesOneState : Type 0
+ARunLeavesOneState = (s t u : State) (es : List Event) → Run s es t → Run s es u → t ≡ u
+
+abbrev pub ListsStopAtOnePlace : Type 0
+ListsStopAtOnePlace = (s : State) (es : List Event) (at other : ℕ) (why because : Illegal)
+    → IsFirstIllegal s es at why → IsFirstIllegal s es other because → (at ≡ other) × (why ≡ because)
 
 -- l is the least posted branch, or b where none is posted
 pub record IsLeastPosted (b : ℕ) (s : State) (l : ℕ) : Type 0 where

@@ -1,22 +1,21 @@
 // What holds after every list of legal events. Each law is the contract of a function that does nothing.
-ghost use Rattle.std.specs.Prelude.{◌≡◌, ◌↔◌, ◌⊎◌, ℕ, List, None};
-ghost use Rattle.wf_core.specs.declared.event.Event.{Event};
-ghost use Rattle.wf_core.specs.declared.event.Illegal.{Illegal};
-ghost use Rattle.wf_core.specs.Core.{State, Step, Run, IsFirstIllegal, refusal};
-ghost use Rattle.wf_core.specs.Laws.{LeastIsPosted, SeenWasPosted, CutLiesAbove, HeldIsHeld, OneWorker, OneBranch, FirstTruePlace};
+ghost use Rattle.wf_core.specs.Laws.{EventsThatAreNotRefusedHaveAStep, AStepLeavesOneState};
+ghost use Rattle.wf_core.specs.Laws.{ListsRunOrStop, ListsThatRunDoNotStop, ARunLeavesOneState, ListsStopAtOnePlace};
+ghost use Rattle.wf_core.specs.Laws.{LeastIsPosted, SeenWasPosted, CutLiesAbove, HeldIsHeld, OneWorker, OneBranch};
+ghost use Rattle.wf_core.specs.Laws.{FirstTruePlace};
 
 /// An event is refused exactly where it has no step, and a step leaves one state.
 pub fn steps_are_legal()
-    ensures legal { (s : State) (e : Event) → (refusal s e ≡ None) ↔ ((t : State) × Step s e t) }
-    ensures one { (s t u : State) (e : Event) → Step s e t → Step s e u → t ≡ u }
+    ensures legal { EventsThatAreNotRefusedHaveAStep }
+    ensures one { AStepLeavesOneState }
 {}
 
 /// A list of events either runs to one state, or has one first illegal place, with one reason.
 pub fn lists_run_or_stop()
-    ensures either { (s : State) (es : List Event) → ((t : State) × Run s es t) ⊎ ((at : ℕ) × (why : Illegal) × IsFirstIllegal s es at why) }
-    ensures not_both { (s t : State) (es : List Event) (at : ℕ) (why : Illegal) → Run s es t → ¬ (IsFirstIllegal s es at why) }
-    ensures one_state { (s t u : State) (es : List Event) → Run s es t → Run s es u → t ≡ u }
-    ensures one_place { (s : State) (es : List Event) (at other : ℕ) (why because : Illegal) → IsFirstIllegal s es at why → IsFirstIllegal s es other because → (at ≡ other) × (why ≡ because) }
+    ensures either { ListsRunOrStop }
+    ensures not_both { ListsThatRunDoNotStop }
+    ensures one_state { ARunLeavesOneState }
+    ensures one_place { ListsStopAtOnePlace }
 {}
 
 /// The least number is the least posted branch, or the number of branches. What a worker has seen was posted, or is

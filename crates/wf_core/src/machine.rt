@@ -1,8 +1,8 @@
 // The machine: its state, and its steps.
-ghost use Rattle.std.specs.Prelude.{ℕ, ◌≡◌, ◌<◌, [], ◌∷◌, Some, None, length, slice_set, IfOk, IfErr, OnOk, OnErr};
-ghost use Rattle.wf_core.specs.declared.event.Illegal.TheVariants.{NoWorker, NoBranch, Ended};
+ghost use Rattle.std.specs.Prelude.{ℕ, ◌≡◌, ◌<◌, Some, None, length, slice_set, IfOk, IfErr, OnOk, OnErr};
 ghost use Rattle.wf_core.specs.declared.event.Status.TheVariants.{Free, Held};
-ghost use Rattle.wf_core.specs.Core.{Is, Saw, IsActive, HoldsNothing, Needs, Step, Run, start, after, refusal, Explains, has_worker, has_branch, is_active, first_failing};
+ghost use Rattle.wf_core.specs.Core.{Is, Saw, IsActive, HoldsNothing, HasSizes, Needs, Step, Run};
+ghost use Rattle.wf_core.specs.Core.{start, after, refusal, out_of_reach, Explains};
 
 use crate::event::{CoreFault, Event, Illegal, Status};
 use std::alloc::{AllocError, Global};
@@ -64,7 +64,7 @@ impl Core {
         events: &[Event],
     ) -> Result<Core, CoreFault>
         ensures ok { IfOk result (Run (start branches workers) events.now) }
-        ensures sizes { IfOk result (λ c. (length c.branches ≡ branches) × (length c.seen ≡ workers)) }
+        ensures sizes { IfOk result (HasSizes branches workers) }
         ensures fault { IfErr result (Explains (start branches workers) events.now) }
     {
         let mut core = Core::start(alloc, branches, workers)?;
@@ -82,7 +82,7 @@ impl Core {
         ensures legal { OnOk result (refusal self.old event ≡ None) }
         ensures why { IfErr result (λ why. refusal self.old event ≡ Some why) }
         ensures unchanged { OnErr result (self.new ≡ self.old) }
-        ensures sizes { (length self.new.branches ≡ length self.old.branches) × (length self.new.seen ≡ length self.old.seen) }
+        ensures sizes { HasSizes (length self.old.branches) (length self.old.seen) self.new }
     {
         self.check(event)?;
         self.apply(event);
@@ -156,7 +156,7 @@ impl Core {
     // The worker, where there is one and it has not ended.
     fn active(&self, w: u32) -> Result<Worker, Illegal>
         ensures ok { IfOk result (λ k. IsWorker self.now w k × IsActive self.now w) }
-        ensures why { IfErr result (λ why. first_failing ((has_worker self.now w, NoWorker) ∷ (is_active self.now w, Ended) ∷ []) ≡ Some why) }
+        ensures why { IfErr result (λ why. refusal self.now (Event.Look w) ≡ Some why) }
     {
         let Some(worker) = self.workers.get(w as usize) else {
             return Err(Illegal::NoWorker);
@@ -170,7 +170,7 @@ impl Core {
     // The worker and the branch's status, where there are both and the worker has not ended.
     fn active_at(&self, w: u32, i: u32) -> Result<(Worker, Status), Illegal>
         ensures ok { IfOk result (λ k. IsWorker self.now w k.0 × IsActive self.now w × Is self.now i k.1) }
-        ensures why { IfErr result (λ why. first_failing ((has_worker self.now w, NoWorker) ∷ (has_branch self.now i, NoBranch) ∷ (is_active self.now w, Ended) ∷ []) ≡ Some why) }
+        ensures why { IfErr result (λ why. out_of_reach self.now w i ≡ Some why) }
     {
         let Some(worker) = self.workers.get(w as usize) else {
             return Err(Illegal::NoWorker);
