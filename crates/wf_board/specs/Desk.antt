@@ -1,5 +1,6 @@
 -- What contracts see of a board and of a seat, and what each call changes in a seat.
-use Rattle.std.specs.Prelude.{◌≡◌, ℕ, ◌≤◌, ◌⊎◌, List, [], ◌∷◌, ◌++◌, All, Contains}
+use Rattle.std.specs.Prelude.{◌≡◌, ℕ, ◌+◌, ◌*◌, ◌^◌, ◌<◌, ◌≤◌, ◌⊎◌, List, [], ◌∷◌, ◌++◌, length, All, Contains}
+use Rattle.wf_core.specs.Count.{times}
 use Rattle.atomic_table.specs.Seated.{TableId}
 use Rattle.wf_board.specs.declared.table.View.{View}
 
@@ -11,6 +12,14 @@ pub record Place : Type 0 where
 
 abbrev pub place : TableId → ℕ → ℕ → Place
 place table branches workers = record { table = table; branches = branches; workers = workers }
+
+-- the numbers of branches and workers that a board may have: at least one worker, and all that its words count fits in u32
+abbrev pub MayHave : ℕ → ℕ → Type 0
+MayHave branches workers = (0 < workers) × (branches * workers < 2 ^ 32)
+
+-- the board is of so many branches and workers
+abbrev pub HasSize : ℕ → ℕ → Place → Type 0
+HasSize branches workers p = (p.branches ≡ branches) × (p.workers ≡ workers)
 
 -- a seat: of which board, the number that it has seen, and the branches that it has posted, refuted and cut
 pub record Desk : Type 0 where
@@ -29,9 +38,25 @@ desk table branches seen posted refuted cut =
 abbrev pub fresh_desk : Place → Desk
 fresh_desk p = desk p.table p.branches p.branches [] [] []
 
+-- a seat for each worker, none of which has done anything
+abbrev pub AreFresh : Place → ℕ → List Desk → Type 0
+AreFresh p workers ds = (length ds ≡ workers) × All (λ d. d ≡ fresh_desk p) ds
+
 -- the branches that the seat has settled
 abbrev pub settled : Desk → List ℕ
 settled d = d.posted ++ (d.refuted ++ d.cut)
+
+-- a seat of this board
+abbrev pub IsSeatOf : Place → Desk → Type 0
+IsSeatOf p d = (d.table ≡ p.table) × (d.branches ≡ p.branches)
+
+-- the seat may settle the branch: the board has it, and the seat has not settled it
+abbrev pub MaySettle : Place → Desk → ℕ → Type 0
+MaySettle p d branch = (branch < p.branches) × (times branch (settled d) ≡ 0)
+
+-- the number is at most what the seat has seen, and each of its posts
+abbrev pub IsLow : Desk → ℕ → Type 0
+IsLow d least = (least ≤ d.seen) × All (λ x. least ≤ x) d.posted
 
 -- the seat after each of the calls, which found or left this least number
 
@@ -49,7 +74,7 @@ is_cut d branch = record d { cut = d.cut ++ branch ∷ [] }
 
 -- seats of this board
 abbrev pub AreSeats : Place → List Desk → Type 0
-AreSeats p ds = All (λ d. (d.table ≡ p.table) × (d.branches ≡ p.branches)) ds
+AreSeats p ds = All (IsSeatOf p) ds
 
 -- What seats know of the table
 
@@ -85,3 +110,15 @@ pub record IsLeast (b : ℕ) (xs : List ℕ) (least : ℕ) : Type 0 where
   pub bound : least ≤ b
   pub below : All (λ x. least ≤ x) xs
   pub reached : (least ≡ b) ⊎ Contains xs least
+
+-- these seats are all the workers' seats
+abbrev pub AreAllSeats : Place → List Desk → Type 0
+AreAllSeats p ds = (length ds ≡ p.workers) × AreSeats p ds
+
+-- how many branches were searched: those that were posted, and those that were refuted
+abbrev pub count_searched : List Desk → ℕ
+count_searched ds = length (all_posted ds) + length (all_refuted ds)
+
+-- what each seat has seen is the number of branches, or was posted
+abbrev pub HaveSeenPosts : Place → List Desk → Type 0
+HaveSeenPosts p ds = All (λ d. (d.seen ≡ p.branches) ⊎ Contains (all_posted ds) d.seen) ds

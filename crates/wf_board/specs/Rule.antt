@@ -2,11 +2,12 @@
 use Rattle.std.specs.Prelude.{◌≡◌, ℕ, ◌+◌, ◌*◌, ◌<◌, ◌≤◌, ◌⊎◌, min, List, [], ◌∷◌, length, replicate, All, Contains}
 use mathlib.Core.Option.{some}
 use lib.ListN.{get_elem?}
+use Rattle.atomic_table.specs.Seated.{TableId}
 use Rattle.atomic_table.specs.Table.{State, Me, Step}
 use Rattle.wf_core.specs.Count.{times, once_below, total}
 use Rattle.wf_board.specs.declared.table.View.{View}
 use Rattle.wf_board.specs.declared.table.Ledger.{Ledger}
-use Rattle.wf_board.specs.Desk.{Desk, knows, known, looked, posted, searched, is_cut, IsLeast}
+use Rattle.wf_board.specs.Desk.{Place, Desk, knows, known, looked, posted, searched, is_cut, IsLow, IsLeast}
 
 -- x stands in some seat's list
 abbrev pub Stands : (View → List ℕ) → List View → ℕ → Type 0
@@ -59,9 +60,6 @@ PlayOf = Step (Unit {0}) → Seated → ℕ → Seated → Type 0
 -- Each step of a worker's seat leaves the seat as the call of its name says. A number that the step sees is at most
 -- what the seat had seen and each of its posts.
 
-abbrev pub IsLow : Desk → ℕ → Type 0
-IsLow d least = (least ≤ d.seen) × All (λ x. least ≤ x) d.posted
-
 abbrev pub looks : PlayOf
 looks step me found after =
     (d : Desk) → me.0 ≡ known d → IsLow d found × (after ≡ (known (looked d found), me.1))
@@ -93,3 +91,7 @@ pub record Ends (branches workers : ℕ) (v : View) (least refuted cut : ℕ) : 
   pub cut_is : cut ≡ length v.cut
   pub seen : All (λ x. (x ≡ branches) ⊎ Contains v.posted x) v.seen
   pub room : length v.posted + (length v.refuted + length v.cut) ≤ branches * workers
+
+-- a seat that is still at hand holds the numbers of the workers that have no seat yet
+abbrev pub IsLeft : Place → TableId → Seated → ℕ → Type 0
+IsLeft p table me left = IsRest me left p.branches × (table ≡ p.table)

@@ -1,8 +1,10 @@
 // The board and its seats.
-ghost use Rattle.std.specs.Prelude.{ℕ, ◌≡◌, ◌+◌, ◌*◌, ◌^◌, ◌<◌, ◌≤◌, ◌⊎◌, [], ◌∷◌, ◌++◌, length, All, Contains, IfOk};
-ghost use Rattle.wf_core.specs.Count.{times};
-ghost use Rattle.wf_board.specs.Rule.{Sits, IsRest, Ends};
-ghost use Rattle.wf_board.specs.Desk.{Desk, Place, desk, place, looked, posted, searched, is_cut, settled, fresh_desk, AreSeats, gathered, all_posted, all_refuted, all_cut, IsLeast};
+ghost use Rattle.std.specs.Prelude.{◌≡◌, ◌+◌, ◌*◌, ◌^◌, ◌<◌, ◌≤◌, [], ◌∷◌, ◌++◌, length, IfOk};
+ghost use Rattle.wf_board.specs.Rule.{Sits, IsLeft, Ends};
+ghost use Rattle.wf_board.specs.Desk.{Desk, Place, desk, place, fresh_desk, gathered};
+ghost use Rattle.wf_board.specs.Desk.{MayHave, HasSize, AreFresh, IsSeatOf, MaySettle, IsLow, AreSeats, AreAllSeats};
+ghost use Rattle.wf_board.specs.Desk.{looked, posted, searched, is_cut};
+ghost use Rattle.wf_board.specs.Desk.{all_posted, all_cut, count_searched, HaveSeenPosts, IsLeast};
 
 use crate::table::{About, Cut, Gather, Hand, Ledger, Look, Post, Refute, Ruled, View};
 use atomic_table::{Seat, Table};
@@ -80,9 +82,9 @@ impl Board {
         branches: u32,
         workers: u32,
     ) -> Result<(Board, Vec<BoardSeat>), AllocError>
-        requires { (0 < workers) × (branches * workers < 2 ^ 32) }
-        ensures board { IfOk result (λ m. (m.0.branches ≡ branches) × (m.0.workers ≡ workers)) }
-        ensures seats { IfOk result (λ m. (length m.1.items ≡ workers) × All (λ d. d ≡ fresh_desk m.0) m.1.items) }
+        requires { MayHave branches workers }
+        ensures board { IfOk result (λ m. HasSize branches workers m.0) }
+        ensures seats { IfOk result (λ m. AreFresh m.0 workers m.1.items) }
     {
         let (board, rest) = Board::open(alloc, branches, workers)?;
         let seats = board.hand_all(alloc, rest)?;
@@ -93,7 +95,7 @@ impl Board {
     pub fn least(&self, seat: &mut BoardSeat) -> u32
         requires { seat.old.table ≡ self.now.table }
         ensures looked { seat.new ≡ looked seat.old result }
-        ensures low { (result ≤ seat.old.seen) × All (λ x. result ≤ x) seat.old.posted }
+        ensures low { IsLow seat.old result }
     {
         let found = self.table.shared.load::<Look>(&mut seat.seat, 0);
         seat.seen = found as u32;
@@ -102,11 +104,11 @@ impl Board {
 
     /// Posts a branch that has a map, and sees the least posted number. One atomic minimum.
     pub fn post(&self, seat: &mut BoardSeat, branch: u32) -> u32
-        requires board { (seat.old.table ≡ self.now.table) × (seat.old.branches ≡ self.now.branches) }
-        requires branch { (branch < self.now.branches) × (times branch (settled seat.old) ≡ 0) }
+        requires board { IsSeatOf self.now seat.old }
+        requires branch { MaySettle self.now seat.old branch }
         ensures posted { seat.new ≡ posted seat.old branch result }
         ensures branch { result ≤ branch }
-        ensures low { (result ≤ seat.old.seen) × All (λ x. result ≤ x) seat.old.posted }
+        ensures low { IsLow seat.old result }
     {
         let found = self
             .table
@@ -119,8 +121,8 @@ impl Board {
 
     /// Counts a branch that was searched and has no map. One atomic addition.
     pub fn searched(&self, seat: &mut BoardSeat, branch: u32)
-        requires board { (seat.old.table ≡ self.now.table) × (seat.old.branches ≡ self.now.branches) }
-        requires branch { (branch < self.now.branches) × (times branch (settled seat.old) ≡ 0) }
+        requires board { IsSeatOf self.now seat.old }
+        requires branch { MaySettle self.now seat.old branch }
         ensures { seat.new ≡ searched seat.old branch }
     {
         self.add_refuted::<Brand>(seat, branch);
@@ -128,8 +130,8 @@ impl Board {
 
     /// Counts a branch that needs no search, since the seat has seen a lower one posted. One atomic addition.
     pub fn cut(&self, seat: &mut BoardSeat, branch: u32)
-        requires board { (seat.old.table ≡ self.now.table) × (seat.old.branches ≡ self.now.branches) }
-        requires branch { (branch < self.now.branches) × (times branch (settled seat.old) ≡ 0) }
+        requires board { IsSeatOf self.now seat.old }
+        requires branch { MaySettle self.now seat.old branch }
         requires below { seat.old.seen < branch }
         ensures { seat.new ≡ is_cut seat.old branch }
     {
@@ -138,12 +140,12 @@ impl Board {
 
     /// What all workers did, exactly. It takes all seats of this board, and no memory.
     pub fn finish(self, seats: Vec<BoardSeat>) -> Account
-        requires { (length seats.items ≡ self.workers) × AreSeats self seats.items }
+        requires { AreAllSeats self seats.items }
         ensures branches { result.branches ≡ self.branches }
         ensures least { IsLeast self.branches (all_posted seats.items) result.least }
-        ensures searched { result.searched ≡ length (all_posted seats.items) + length (all_refuted seats.items) }
+        ensures searched { result.searched ≡ count_searched seats.items }
         ensures cut { result.cut ≡ length (all_cut seats.items) }
-        ensures seen { All (λ d. (d.seen ≡ self.branches) ⊎ Contains (all_posted seats.items) d.seen) seats.items }
+        ensures seen { HaveSeenPosts self seats.items }
     {
         let mut seats = seats;
         let Some(first) = seats.pop() else {
@@ -161,8 +163,10 @@ impl Board {
     }
 
     fn open(alloc: Global, branches: u32, workers: u32) -> Result<(Board, Rest), AllocError>
-        requires { (0 < workers) × (branches * workers < 2 ^ 32) }
-        ensures { IfOk result (λ m. (m.0.branches ≡ branches) × (m.0.workers ≡ workers) × (m.1.left ≡ workers) × IsRest m.1.seat.me m.1.left branches × (m.1.seat.table_id ≡ m.0.table)) }
+        requires { MayHave branches workers }
+        ensures board { IfOk result (λ m. HasSize branches workers m.0) }
+        ensures count { IfOk result (λ m. m.1.left ≡ workers) }
+        ensures rest { IfOk result (λ m. IsLeft m.0 m.1.seat.table_id m.1.seat.me m.1.left) }
     {
         let (table, seat) = Table::of_words(
             alloc,
@@ -182,8 +186,9 @@ impl Board {
     }
 
     fn hand_all(&self, alloc: Global, mut rest: Rest) -> Result<Vec<BoardSeat>, AllocError>
-        requires { (0 < rest.left) × IsRest rest.seat.me rest.left self.now.branches × (rest.seat.table_id ≡ self.now.table) }
-        ensures { IfOk result (λ s. (length s.items ≡ rest.left) × All (λ d. d ≡ fresh_desk self.now) s.items) }
+        requires some { 0 < rest.left }
+        requires rest { IsLeft self.now rest.seat.table_id rest.seat.me rest.left }
+        ensures { IfOk result (λ s. AreFresh self.now rest.left s.items) }
     {
         let mut seats = Vec::new(alloc);
         while rest.left > 1 {
@@ -196,8 +201,10 @@ impl Board {
 
     // One worker's number goes to a seat.
     fn hand(&self, rest: &mut Rest) -> BoardSeat
-        requires { (1 < rest.old.left) × IsRest rest.old.seat.me rest.old.left self.now.branches × (rest.old.seat.table_id ≡ self.now.table) }
-        ensures rest { (rest.new.left + 1 ≡ rest.old.left) × IsRest rest.new.seat.me rest.new.left self.now.branches × (rest.new.seat.table_id ≡ self.now.table) }
+        requires some { 1 < rest.old.left }
+        requires rest { IsLeft self.now rest.old.seat.table_id rest.old.seat.me rest.old.left }
+        ensures count { rest.new.left + 1 ≡ rest.old.left }
+        ensures rest { IsLeft self.now rest.new.seat.table_id rest.new.seat.me rest.new.left }
         ensures seat { result ≡ fresh_desk self.now }
     {
         let seat = self.table.shared.split_seat::<Hand>(&mut rest.seat);
@@ -206,7 +213,7 @@ impl Board {
     }
 
     fn seated(&self, seat: Seat<(), View>) -> BoardSeat
-        requires { IsRest seat.me 1 self.now.branches × (seat.table_id ≡ self.now.table) }
+        requires { IsLeft self.now seat.table_id seat.me 1 }
         ensures { result ≡ fresh_desk self.now }
     {
         BoardSeat {
@@ -219,8 +226,8 @@ impl Board {
 
     fn add_refuted<J: About>(&self, seat: &mut BoardSeat, branch: u32)
         requires picked { J.branch ≡ branch }
-        requires board { (seat.old.table ≡ self.now.table) × (seat.old.branches ≡ self.now.branches) }
-        requires branch { (branch < self.now.branches) × (times branch (settled seat.old) ≡ 0) }
+        requires board { IsSeatOf self.now seat.old }
+        requires branch { MaySettle self.now seat.old branch }
         ensures { seat.new ≡ searched seat.old branch }
     {
         self.table
@@ -230,8 +237,8 @@ impl Board {
 
     fn add_cut<J: About>(&self, seat: &mut BoardSeat, branch: u32)
         requires picked { J.branch ≡ branch }
-        requires board { (seat.old.table ≡ self.now.table) × (seat.old.branches ≡ self.now.branches) }
-        requires branch { (branch < self.now.branches) × (times branch (settled seat.old) ≡ 0) }
+        requires board { IsSeatOf self.now seat.old }
+        requires branch { MaySettle self.now seat.old branch }
         requires below { seat.old.seen < branch }
         ensures { seat.new ≡ is_cut seat.old branch }
     {

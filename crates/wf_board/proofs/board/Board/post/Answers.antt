@@ -1,6 +1,6 @@
 use Rattle.std.proofs.Common.{rules, ◌≡◌, min, [], ◌∷◌, ◌++◌, arith, ap, sym, ◌∙◌, subst}
 use Rattle.std.proofs.Math.Nat.{le-mul_of_pos_right}
-use Rattle.wf_board.specs.Rule.{IsLow}
+use Rattle.wf_board.specs.Desk.{IsLow}
 use Rattle.wf_board.specs.Desk.{Desk, Place, knows, known, posted}
 use Rattle.wf_board.proofs.Keeps.{posts_number}
 use Rattle.wf_board.proofs.Seats.{sits_room, sits_posted, one_seen, desk_at, sits_known, desk_is, inside_of, fresh_of}
