@@ -6,3 +6,6 @@ pub mod SupportLaws
 pub mod BoxLaws
 pub mod Eights
 pub mod Revising
+pub mod RowLemmas
+pub mod BlockLemmas
+pub mod ColumnLemmas

@@ -1,6 +1,6 @@
 -- Of a set, the values that a table supports, and those that it does not.
-use Rattle.std.proofs.Common.{◌≡◌, ℕ, ◌<◌, ◌^◌, List, [], ◌∷◌, Bool, true, not, cond, ◌&&◌, refl, sym, ◌∙◌, ap, inl, inr, w64}
-use Rattle.std.specs.Prelude.{bit_and, slice_index, ◌==◌}
+use Rattle.std.proofs.Common.{◌≡◌, ℕ, ◌<◌, ◌^◌, List, [], ◌∷◌, Bool, not, cond, ◌&&◌, refl, sym, ◌∙◌, ap, inl, inr, w64}
+use Rattle.std.specs.Prelude.{bit_and, slice_index}
 use Rattle.std.specs.Int.{bit_at, bit_not}
 use Rattle.std.specs.List.{filter, AllByRecursion}
 use Rattle.std.proofs.lemmas.List.Elements.{recursion_from_All}

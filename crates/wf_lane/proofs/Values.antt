@@ -1,18 +1,15 @@
 -- From one-hot words to values.
-use Rattle.std.proofs.Common.{pow_pos, ◌≡◌, ℕ, zero, suc, ◌+◌, ◌*◌, ◌<◌, ◌≤◌, ◌^◌, List, [], ◌∷◌, length, map, take, Bool, true, false, cond, not, ◌&&◌, refl, sym, ◌∙◌, ap, arith, ⊎_elim, subst, max, eqb-true}
-use Rattle.std.specs.Prelude.{bit_and, bit_or, count_by, ◌||◌, ◌==◌}
+use Rattle.std.proofs.Common.{pow_pos, ◌≡◌, ℕ, zero, suc, ◌+◌, ◌*◌, ◌<◌, ◌≤◌, ◌^◌, List, [], ◌∷◌, length, map, take, Bool, true, false, cond, not, ◌&&◌, refl, sym, ◌∙◌, ap, arith}
+use Rattle.std.specs.Prelude.{bit_and, count_by, ◌||◌, ◌==◌}
 use Rattle.std.specs.Int.{bit_at, trailing_zeros, w64}
 use Rattle.std.specs.Int.Bits.{and_comm}
 use Rattle.std.specs.List.{All}
-use Rattle.std.proofs.lemmas.Bool.{cases_eq, eq-eqb, ne_eqb, and_right}
-use Rattle.std.proofs.lemmas.Nat.Bits.{bit_at_or, bit_at-lt, and_pow, bit_at-pow_same, bit_at-pow_other, bit_at-zero, bit_at_ones}
-use Rattle.std.proofs.lemmas.List.FromFn.{get_or-range_with_len, length-range_with_len}
+use Rattle.std.proofs.lemmas.Bool.{eq-eqb, ne_eqb, and_right}
+use Rattle.std.proofs.lemmas.Nat.Bits.{bit_at-lt, and_pow, bit_at_ones}
 use Rattle.std.proofs.lemmas.List.Elements.{All-head, All-tail}
-use Rattle.std.proofs.lemmas.List.Folds.{list_any_at}
 use Rattle.std.proofs.lemmas.List.Sums.{sum_by-cons}
-use Rattle.std.proofs.lemmas.Map.Views.{any-filter_same}
 use Rattle.std.proofs.Math.Bool.{and-true}
-use Rattle.wf_model.specs.Lists.{below, has}
+use Rattle.wf_model.specs.Lists.{has}
 use Rattle.wf_model.specs.Task.{Tuple}
 use Rattle.wf_model.specs.Box.{is_supported, is_alive, has_at}
 use Rattle.wf_set.proofs.SetLaws.{has-values_in, holds-or, holds-pow, holds_nothing}
@@ -32,12 +29,12 @@ meets_holds w s h =
     let t = trailing_zeros w64 w in
     ap (λ x. not (bit_and x s == 0)) h.power ∙ ap (λ x. not (x == 0)) (and_comm (2 ^ t) s ∙ and_pow s t) ∙ test_bit (bit_at s t) (2 ^ t) (bit_at-lt s t) (pow_pos t)
 
-word_holds : (w a : ℕ) → IsOneHot w → holds w a ≡ (value_of w == a)
+pub word_holds : (w a : ℕ) → IsOneHot w → holds w a ≡ (value_of w == a)
 unfolding value_of
 word_holds w a h = ap (λ x. holds x a) h.power ∙ holds-pow (trailing_zeros w64 w) a
 
 -- ---- a row and its four words
-value_small : (word : ℕ) → IsOneHot word → value_of word < 64
+pub value_small : (word : ℕ) → IsOneHot word → value_of word < 64
 unfolding value_of
 value_small word h = h.small
 
@@ -47,7 +44,7 @@ all_held v h = ap (λ b. b == 1) (bit_at_ones 64 v h)
 every_value : (word : ℕ) → IsOneHot word → meets word 18446744073709551615 ≡ true
 every_value word h = meets_holds word 18446744073709551615 h ∙ all_held (value_of word) (value_small word h)
 
-meets_list : (word set : ℕ) → IsOneHot word → meets word set ≡ has (values_in set) (value_of word)
+pub meets_list : (word set : ℕ) → IsOneHot word → meets word set ≡ has (values_in set) (value_of word)
 meets_list word set h = meets_holds word set h ∙ sym (has-values_in set (value_of word) (value_small word h))
 
 four : (p q r s : Bool) → (p && q && r && s) ≡ (p && (q && (r && s)))

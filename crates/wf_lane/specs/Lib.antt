@@ -1,3 +1,4 @@
 pub mod Words
 pub mod Table
+pub mod Rows
 pub mod Meeting

@@ -2,11 +2,14 @@
 //!
 //! A set of values below 64 is a word, one bit a value.
 //!
-//! - [`TupleTable`]: rows of values as columns of words with one bit each. [`TupleTable::revise`] reads eight rows a
-//!   step, and the rest one by one.
+//! - [`TupleTable`]: rows of values. [`TupleTable::revise`] reads a small table as columns of words with one bit each,
+//!   eight rows a step and the rest one by one; a large one as a set of rows for each value of each place, 512 rows a
+//!   step.
 //! - [`first_open`], [`first_empty`], [`count`] and [`meet`]: the sets of a box, eight a step, and the rest one by one.
 #![tactic(auto)]
 
+mod blocks;
+mod column;
 mod lanes;
 pub mod sets;
 pub mod table;

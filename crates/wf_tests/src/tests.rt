@@ -9,6 +9,7 @@ mod plain;
 mod plain_closing;
 mod plain_search;
 mod searches;
+mod tables;
 mod tasks;
 
 use complexes::{OWN, ZERO};
