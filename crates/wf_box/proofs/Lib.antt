@@ -12,3 +12,4 @@ pub mod LeastLemmas
 pub mod BoxLemmas
 pub mod JoinLemmas
 pub mod SeenLemmas
+pub mod StandLemmas

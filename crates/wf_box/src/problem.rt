@@ -80,9 +80,10 @@ impl Problem {
     {
         let rules = rules(alloc, task)?;
         let executions = executions(alloc, task, protocol, &rules)?;
-        let users = Users::of_points(alloc, protocol.points(), &executions)?;
+        let points = protocol.points();
+        let users = Users::of_points(alloc, points, &executions)?;
         Ok(Problem {
-            points: protocol.points(),
+            points,
             values: task.values(),
             rules,
             executions,
