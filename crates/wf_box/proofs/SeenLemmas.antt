@@ -1,7 +1,8 @@
 -- Changes of words, as changes of candidates.
-use Rattle.std.proofs.Common.{◌≡◌, ℕ, ◌≤◌, List, [], ◌∷◌, ◌++◌, map, length, length-append, drop, refl, sym, ap, ◌∙◌, subst, arith, Option, Some, None, IfSome}
+use Rattle.std.proofs.Common.{◌≡◌, ℕ, ◌≤◌, List, [], ◌∷◌, ◌++◌, map, length, length-append, drop, take, refl, sym, ap, ◌∙◌, subst, arith, Option, Some, None, IfSome, Bool, true, false}
+use Rattle.std.specs.Bool.{OnTrue}
 use Rattle.std.specs.List.{slice_set}
-use Rattle.std.proofs.lemmas.List.{drop-append-le, drop-map, length-map, map-append, map-set}
+use Rattle.std.proofs.lemmas.List.{drop-append-le, drop-map, length-map, length-take-le, map-append, map-set, take-append-drop}
 use Rattle.wf_model.specs.Problem.{Problem}
 use Rattle.wf_model.specs.Box.{Box, first_empty}
 use Rattle.wf_model.specs.Closing.{sweep}
@@ -9,7 +10,7 @@ use Rattle.wf_model.specs.Laws.{IsBoxOf}
 use Rattle.wf_set.specs.Sets.{box_of, values_in}
 use Rattle.wf_box.specs.Changes.{IsGrown, taken_back, words_after}
 use Rattle.wf_box.specs.Quiet as quiet
-use Rattle.wf_box.specs.Boxes.{Grows, IsFor, Tracked, Was, WasClosed, box_after, change_seen, put_back}
+use Rattle.wf_box.specs.Boxes.{Grows, IsFor, Tracked, Was, WasClosed, box_after, change_seen, closed_if, put_back}
 use Rattle.wf_box.specs.declared.tracked.Change.{Change}
 
 -- the words as the box that a clause sees
@@ -25,7 +26,7 @@ after_seen n trail words closed = back_seen (drop n trail) words ∙ ap (λ ws. 
 
 -- ---- further changes
 
-put_more : (xs ys : List Was) (box : Box) → put_back (xs ++ ys) box ≡ put_back xs (put_back ys box)
+pub put_more : (xs ys : List Was) (box : Box) → put_back (xs ++ ys) box ≡ put_back xs (put_back ys box)
 put_more [] ys box = refl
 put_more (x ∷ xs) ys box = ap (λ b. slice_set b x.point x.set) (put_more xs ys box)
 
@@ -54,7 +55,7 @@ still_closed p old new n grown was = record {
   closed = ap (λ b. (sweep p b).lines) (after_grown old new n grown was.within) ∙ was.closed;
 }
 
-if_some : {A : Type 0} (P Q : A → Type 0) (o : Option A) → ((x : A) → P x → Q x) → IfSome o P → IfSome o Q
+pub if_some : {A : Type 0} (P Q : A → Type 0) (o : Option A) → ((x : A) → P x → Q x) → IfSome o P → IfSome o Q
 if_some P Q None f h = tt
 if_some P Q (Some x) f h = f x h
 
@@ -82,3 +83,30 @@ seen_was p trail words closed n was = record {
 
 pub if_was : (p : Problem) (trail : List Change) (words : List ℕ) (closed : Option ℕ) → IfSome closed (WasClosed p (tracked_seen words trail closed)) → IfSome closed (quiet.WasClosed p trail words)
 if_was p trail words closed was = if_some (WasClosed p (tracked_seen words trail closed)) (quiet.WasClosed p trail words) closed (λ n w. seen_was p trail words closed n w) was
+
+-- ---- taking back
+
+-- what the box was after fewer changes
+pub after_undone : (old new : Tracked) (m n : ℕ) → m ≤ n → n ≤ length old.trail → new.sets ≡ box_after n old → new.trail ≡ take n old.trail → box_after m new ≡ box_after m old
+after_undone old new m n low inside sets trail =
+    ap (λ t. put_back (drop m t) new.sets) trail
+    ∙ ap (put_back (drop m (take n old.trail))) sets
+    ∙ sym (put_more (drop m (take n old.trail)) (drop n old.trail) old.sets)
+    ∙ ap (λ ws. put_back ws old.sets) (sym (drop-append-le m (take n old.trail) (drop n old.trail) (omega (arith, low, length-take-le n old.trail inside))) ∙ ap (drop m) (take-append-drop n old.trail))
+
+pub closed_undone : (p : Problem) (old new : Tracked) (m n : ℕ) → m ≤ n → n ≤ length old.trail → new.sets ≡ box_after n old → new.trail ≡ take n old.trail → WasClosed p old m → WasClosed p new m
+closed_undone p old new m n low inside sets trail was = record {
+  within = omega (arith, low, ap length trail, length-take-le n old.trail inside);
+  filled = ap first_empty (after_undone old new m n low inside sets trail) ∙ was.filled;
+  closed = ap (λ b. (sweep p b).lines) (after_undone old new m n low inside sets trail) ∙ was.closed;
+}
+
+pub undone_for : (p : Problem) (old new : Tracked) (n : ℕ) (is_closed : Bool) → n ≤ length old.trail → new.sets ≡ box_after n old → new.trail ≡ take n old.trail → new.closed ≡ closed_if is_closed n → IsBoxOf p new.sets → OnTrue is_closed (WasClosed p old n) → IsFor p new
+undone_for p old new n is_closed inside sets trail closed is_box was = record {
+  is_box = is_box;
+  closed = subst (λ o. IfSome o (WasClosed p new)) (sym closed) (by_test is_closed was);
+}
+  where
+    by_test : (b : Bool) → OnTrue b (WasClosed p old n) → IfSome (closed_if b n) (WasClosed p new)
+    by_test true w = closed_undone p old new n n (omega arith) inside sets trail w
+    by_test false w = tt

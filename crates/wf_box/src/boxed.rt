@@ -6,7 +6,7 @@ ghost use Rattle.wf_model.specs.Lists.{has};
 ghost use Rattle.wf_model.specs.Box.{candidates, decided, first_empty, first_open, root};
 ghost use Rattle.wf_model.specs.Problem.{IsWellFormed, Problem};
 ghost use Rattle.wf_set.specs.Sets.{box_of, values_in};
-ghost use Rattle.wf_box.specs.Boxes.{Grows, IsFor, box_after, closed_if};
+ghost use Rattle.wf_box.specs.Boxes.{Grows, IsFor, WasClosed, box_after, closed_if};
 ghost use Rattle.wf_box.specs.Least.{least_values};
 ghost use Rattle.wf_box.specs.Limits.{most_points};
 
@@ -107,6 +107,7 @@ impl Box0 {
         ensures sets { self.new.sets ≡ box_after mark.changes self.old }
         ensures trail { self.new.trail ≡ take mark.changes self.old.trail }
         ensures closed { self.new.closed ≡ closed_if mark.is_closed mark.changes }
+        ensures is { (p : Problem) → IsFor p self.old → OnTrue mark.is_closed (WasClosed p self.old mark.changes) → IsFor p self.new }
     {
         self.tracked.undo(mark.changes as usize);
         self.closed = if mark.is_closed {
