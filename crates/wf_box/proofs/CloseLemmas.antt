@@ -1,21 +1,23 @@
 -- What the sweeps come to.
-use Rattle.std.proofs.Common.{◌≡◌, ℕ, suc, ◌<◌, ◌^◌, ◌==◌, true, List, [], ◌∷◌, length, slice_index, All, Option, Some, None, sym, ap, ◌∙◌, subst, eqb-true}
+use Rattle.std.proofs.Common.{◌≡◌, ℕ, suc, ◌<◌, ◌^◌, ◌==◌, true, List, [], ◌∷◌, length, slice_index, All, Option, Some, None, sym, ap, ◌∙◌, subst, eqb-true, arith}
 use Rattle.std.specs.List.{AllByRecursion}
-use Rattle.std.proofs.lemmas.List.{get_or_default, length-map, nil_from_length}
+use Rattle.std.proofs.lemmas.List.{drop_all, get_or_default, length-map, nil_from_length}
 use Rattle.std.proofs.lemmas.List.Elements.{All-from_recursion}
 use Rattle.std.proofs.lemmas.List.Quantifiers.{position-Some}
 use Rattle.wf_model.specs.Simplex.{is_ascending}
 use Rattle.wf_model.specs.Problem.{Problem, IsSolution, IsWellFormed}
 use Rattle.wf_model.specs.Box.{Box, LiesIn, candidates, count, first_empty}
 use Rattle.wf_model.specs.Refutation as refutation
-use Rattle.wf_model.specs.Closing.{Step, and_then, closing, closing_at, sweeps}
+use Rattle.wf_model.specs.Closing.{Step, and_then, closing, closing_at, sweep, sweeps}
 use Rattle.wf_model.specs.Laws.{IsBoxOf}
 use Rattle.wf_model.proofs.Ascending.{is_ascending_from}
 use Rattle.wf_model.proofs.Closed.{solution_left, closed_branch, closed_supports}
 use Rattle.wf_complex.specs.declared.line.Line.{Line}
-use Rattle.wf_set.specs.Sets.{values_in}
+use Rattle.wf_set.specs.Sets.{box_of, values_in}
 use Rattle.wf_set.proofs.SetLaws.{values_ascend}
-use Rattle.wf_set.specs.Sets.{box_of}
+use Rattle.wf_box.specs.Changes.{taken_back, words_after}
+use Rattle.wf_box.specs.Quiet.{WasClosed}
+use Rattle.wf_box.specs.declared.tracked.Change.{Change}
 use Rattle.wf_box.specs.Steps.{left_by, reached}
 use Rattle.wf_box.specs.Closes.{IsSupported, Leaves, emptied_by}
 use Rattle.wf_box.specs.declared.closing.Closed.{Closed}
@@ -64,3 +66,14 @@ solutions_kept p old new (Open n) well left m solves lies = let found = solution
 pub supported_there : (p : Problem) (old new : Box) (closed : Closed) → IsBoxOf p old → Leaves (closing p old).left new closed → IsSupported p new closed
 supported_there p old new (Empty v) is left = tt
 supported_there p old new (Open n) is left = closed_supports p new (closed_branch p old new is left).closed
+
+-- what closing left was closed after all changes
+pub was_closed : (p : Problem) (old : Box) (words : List ℕ) (trail : List Change) (n : ℕ) → IsBoxOf p old → Leaves (closing p old).left (box_of words) (Open n) → WasClosed p trail words (length trail)
+was_closed p old words trail n is left =
+    let branch = closed_branch p old (box_of words) is left in
+    let now : words ≡ words_after (length trail) trail words = sym (ap (λ cs. taken_back cs words) (drop_all (length trail) trail (omega arith))) in
+    record {
+      within = omega arith;
+      filled = subst (λ ws. first_empty (box_of ws) ≡ None) now branch.filled;
+      closed = subst (λ ws. (sweep p (box_of ws)).lines ≡ []) now branch.closed;
+    }

@@ -1,6 +1,9 @@
 pub mod StepLemmas
 pub mod NameLemmas
 pub mod TakingLemmas
+pub mod MarkLemmas
+pub mod ChangeLemmas
+pub mod QuietLemmas
 pub mod PlaceLemmas
 pub mod ProblemLemmas
 pub mod SweepLemmas
@@ -8,3 +11,5 @@ pub mod CloseLemmas
 pub mod LeastLemmas
 pub mod BoxLemmas
 pub mod JoinLemmas
+pub mod SeenLemmas
+pub mod StandLemmas

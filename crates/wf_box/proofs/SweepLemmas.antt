@@ -6,13 +6,12 @@ use Rattle.wf_model.specs.Lists.{below}
 use Rattle.wf_model.specs.Problem.{Problem}
 use Rattle.wf_model.specs.Box.{Box, count}
 use Rattle.wf_model.specs.Refutation as refutation
-use Rattle.wf_model.specs.Closing.{Step, and_then, sweep, sweeps, unless_none}
+use Rattle.wf_model.specs.Closing.{Step, and_then, continued, sweep, sweeps, unless_none}
 use Rattle.wf_model.proofs.Fuel.{length_filter}
 use Rattle.wf_complex.specs.Lines.{line_of}
 use Rattle.wf_complex.specs.declared.line.Line.{Line}
-use Rattle.wf_set.specs.Sets.{holds, values_in}
+use Rattle.wf_set.specs.Sets.{box_of, holds, values_in}
 use Rattle.wf_box.specs.Closes.{more_sweeps, sweep_count}
-use Rattle.wf_set.specs.Sets.{box_of}
 use Rattle.wf_box.specs.Steps.{reached}
 use Rattle.wf_box.proofs.StepLemmas.{then_then}
 
@@ -130,3 +129,16 @@ swept_more p old new before after all begun total left fewer more is = by_number
           steps = swept_on p n old new before after more is ∙ steps;
           counted = omega (arith, counted, next);
         }
+
+-- one that emptied a point is the last
+stopped : (ls : List refutation.Line) (s : Step) (next : Box → Step) → s.left ≡ None → unless_none ls s next ≡ s
+stopped [] s next none = refl
+stopped (l ∷ ls) s next none = ap (λ o. continued s.lines o next) none ∙ (λ i. record { lines = s.lines; left = sym none i })
+
+pub swept_out : (p : Problem) (old new : List Line) (before after : List ℕ) (v : ℕ) (all : Step) (begun total : ℕ) → SweepsLeft p old before all begun total → reached new (Some v) after ≡ and_then (reached old None before) (sweep p) → reached new (Some v) after ≡ all
+swept_out p old new before after v all begun total left is = by_number left.number left.enough left.steps
+  where
+    by_number : (n : ℕ) → count (box_of before) < n → and_then (reached old None before) (sweeps n p) ≡ all → reached new (Some v) after ≡ all
+    by_number zero low steps = absurd (let bad : ⊥ = omega (arith, low) in bad)
+    by_number (suc n) low steps =
+        is ∙ ap (λ s. and_then (reached old None before) (λ _. s)) (sym (stopped (sweep p (box_of before)).lines (sweep p (box_of before)) (sweeps n p) (sym (ap (λ (s : Step). s.left) is)))) ∙ steps

@@ -9,11 +9,10 @@ use Rattle.wf_model.specs.Refutation as refutation
 use Rattle.wf_model.specs.Closing.{Step, Loss, and_then, taken_out, take_out}
 use Rattle.wf_model.proofs.Fuel.{count_set_less}
 use Rattle.wf_model.proofs.Stable.{filter_less}
-use Rattle.wf_set.specs.Sets.{values_in}
+use Rattle.wf_set.specs.Sets.{box_of, values_in}
 use Rattle.wf_complex.specs.Lines.{line_of}
 use Rattle.wf_complex.specs.declared.line.Line.{Line}
 use Rattle.wf_complex.specs.declared.line.Line.TheVariants as line
-use Rattle.wf_set.specs.Sets.{box_of}
 use Rattle.wf_box.specs.Steps.{reached, loss}
 
 -- the candidates of a point are the values of its word
@@ -77,3 +76,12 @@ no_value word is = nil_from_length (values_in word) (eqb-true (length (values_in
 
 pub some_value : (word : ℕ) → false ≡ (length (values_in word) == 0) → values_in word ≡ [] → ⊥
 some_value word is gone = false≢true (is ∙ eq-eqb (length (values_in word)) 0 (ap length gone))
+
+-- one word is changed, and then again
+pub set_then : (words more last : List ℕ) (v : ℕ) → more ≡ slice_set words v (get_or more v 0) → last ≡ slice_set more v (get_or last v 0) → last ≡ slice_set words v (get_or last v 0)
+set_then words more last v first then = then ∙ ap (λ ws. slice_set ws v (get_or last v 0)) first ∙ set_again words v (get_or more v 0) (get_or last v 0)
+  where
+    set_again : (words : List ℕ) (v a b : ℕ) → slice_set (slice_set words v a) v b ≡ slice_set words v b
+    set_again [] v a b = refl
+    set_again (w ∷ words) zero a b = refl
+    set_again (w ∷ words) (suc v) a b = ap (λ ws. w ∷ ws) (set_again words v a b)

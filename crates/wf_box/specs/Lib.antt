@@ -1,5 +1,11 @@
+pub mod Limits
 pub mod Problems
 pub mod Steps
 pub mod Closes
 pub mod Revising
 pub mod Least
+pub mod Marks
+pub mod Changes
+pub mod Quiet
+pub mod Stands
+pub mod Boxes

@@ -4,13 +4,11 @@ use Rattle.wf_model.specs.Simplex.{processes_of}
 use Rattle.wf_model.specs.Task as task
 use Rattle.wf_model.specs.Problem.{Problem, Constraint, IsWellFormed}
 use Rattle.wf_set.specs.Sets.{values_in}
+use Rattle.wf_box.specs.Limits.{most_executions, most_points}
+use Rattle.wf_box.specs.Quiet.{AreTold, AreUsers}
 use Rattle.wf_box.specs.declared.problem.Rule.{Rule}
 use Rattle.wf_box.specs.declared.problem.Execution.{Execution}
 use Rattle.wf_box.specs.declared.problem.Problem.TheInside.{Inside}
-
--- the most points that a problem within the limits has: one for each process of each execution
-abbrev pub most_points : ℕ
-most_points = 2000000
 
 -- no input simplex at all
 abbrev pub no_rule : Rule
@@ -43,7 +41,9 @@ pub record IsWithin (rules points : ℕ) (e : Execution) : Type 0 where
 
 pub record IsKept (p : Inside) : Type 0 where
   pub few_points : p.points ≤ most_points
-  pub few_executions : length p.executions.items ≤ 500000
+  pub few_executions : length p.executions.items ≤ most_executions
   pub wide : All IsWide p.rules.items
   pub within : All (IsWithin (length p.rules.items) p.points) p.executions.items
+  pub users : AreUsers p.users p.points (length p.executions.items)
+  pub told : AreTold p.users p.executions.items
   pub well_formed : IsWellFormed (problem_seen p)

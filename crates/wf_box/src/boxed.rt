@@ -1,121 +1,171 @@
 //! Boxes.
 
-ghost use Rattle.std.specs.Prelude.{◌≡◌, ◌<◌, ◌≤◌, true, None, length, slice_index, IfOk};
+ghost use Rattle.std.specs.Prelude.{◌≡◌, ◌<◌, ◌≤◌, [], true, None, Some, length, take, IfOk};
+ghost use Rattle.std.specs.Bool.{OnTrue};
 ghost use Rattle.wf_model.specs.Lists.{has};
 ghost use Rattle.wf_model.specs.Box.{candidates, decided, first_empty, first_open, root};
 ghost use Rattle.wf_model.specs.Problem.{IsWellFormed, Problem};
-ghost use Rattle.wf_model.specs.Laws.{IsBoxOf};
-ghost use Rattle.wf_set.specs.Sets.{values_in};
+ghost use Rattle.wf_set.specs.Sets.{box_of, values_in};
+ghost use Rattle.wf_box.specs.Boxes.{Grows, IsFor, WasClosed, box_after, closed_if};
 ghost use Rattle.wf_box.specs.Least.{least_values};
-ghost use Rattle.wf_box.specs.Problems.{most_points};
-ghost use Rattle.wf_set.specs.Sets.{box_of};
+ghost use Rattle.wf_box.specs.Limits.{most_points};
 
+use crate::marks::Marks;
 use crate::problem::Problem;
+use crate::tracked::Tracked;
 use std::alloc::{AllocError, Global};
 use std::marker::Model;
-use wf_lane::first_open;
-use wf_set::{Mask, first, only};
+use wf_set::{Mask, first};
 
-/// A box: a set of values, its candidates, for each point.
+/// A box: a set of values, its candidates, for each point. It keeps a trail of its changes, so that it can be given an
+/// earlier state again: [`Box0::mark`] and [`Box0::undo`].
 ///
-/// A clause sees it as the list of the points' candidates, each ascending.
-#[derive(Debug, Drop)]
+/// A clause sees it as the list of the points' candidates, each ascending, with the changes since it was made, the last
+/// one last, and after how many of these it was closed last.
+#[derive(Drop)]
 pub struct Box0 {
-    // for each point its candidates
-    pub(crate) sets: Vec<Mask>,
+    pub(crate) tracked: Tracked,
+    // after how many changes it was closed last; none where that is not known
+    pub(crate) closed: Option<u32>,
+    // these are all clear between two calls, or it is not known that they are
+    pub(crate) marks: Marks,
 }
 
 impl Model for Box0 {
-    ghost use Rattle.std.specs.Prelude.{◌≤◌, ℕ, List, length};
-    ghost use Rattle.wf_box.specs.Problems.{most_points};
-    ghost use Rattle.wf_set.specs.Sets.{box_of};
+    ghost use Rattle.wf_box.specs.Boxes.{IsKeptBox, Tracked, box_seen};
 
-    ghost Value = { List (List ℕ) };
+    ghost Value = { Tracked };
 
-    ghost view = { λ b. box_of b.sets.items };
+    ghost view = { box_seen };
 
-    ghost invariant = { λ b. length b.sets.items ≤ most_points };
+    ghost invariant = { IsKeptBox };
+}
+
+/// A state of a box, which [`Box0::undo`] gives it again as long as no earlier one was given it in between.
+#[derive(Clone, Copy, Debug)]
+pub struct Mark {
+    /// How many changes the box had.
+    pub changes: u32,
+    /// Whether nothing had changed since it was closed.
+    pub is_closed: bool,
 }
 
 impl Box0 {
     /// The root box of a problem: each point has all values.
     pub fn root(alloc: Global, problem: &Problem) -> Result<Box0, AllocError>
-        ensures root { IfOk result (λ boxed. boxed ≡ root problem.now) }
-        ensures shape { IfOk result (IsBoxOf problem.now) }
+        ensures root { IfOk result (λ boxed. boxed.sets ≡ root problem.now) }
+        ensures fresh { IfOk result (λ boxed. boxed.trail ≡ []) }
+        ensures is { IfOk result (IsFor problem.now) }
         ensures well_formed { IsWellFormed problem.now }
     {
+        let words = vec![in alloc; problem.values; problem.points as usize]?;
         Ok(Box0 {
-            sets: vec![in alloc; problem.values; problem.points as usize]?,
+            tracked: Tracked::new(alloc, words)?,
+            closed: None,
+            marks: Marks::new(alloc),
         })
     }
 
-    /// The same box once more.
+    /// The same box once more, with no change to take back.
     pub fn copy(&self, alloc: Global) -> Result<Box0, AllocError>
-        ensures { IfOk result (λ boxed. boxed ≡ self.now) }
+        ensures sets { IfOk result (λ boxed. boxed.sets ≡ self.now.sets) }
+        ensures fresh { IfOk result (λ boxed. boxed.trail ≡ []) }
+        ensures is { IfOk result (λ boxed. (p : Problem) → IsFor p self.now → IsFor p boxed) }
     {
+        let words = self.tracked.words.as_slice().to_vec(alloc)?;
         Ok(Box0 {
-            sets: self.sets.as_slice().to_vec(alloc)?,
+            tracked: Tracked::new(alloc, words)?,
+            closed: if self.is_closed() { Some(0) } else { None },
+            marks: Marks::new(alloc),
         })
+    }
+
+    /// Whether nothing changed since it was closed.
+    fn is_closed(&self) -> bool
+        ensures closed { OnTrue result (self.now.closed ≡ Some (length self.now.trail)) }
+    {
+        match self.closed {
+            Some(changes) => changes as usize == self.tracked.trail.len(),
+            None => false,
+        }
+    }
+
+    /// The state that it has. It takes no memory.
+    pub fn mark(&self) -> Mark
+        ensures changes { result.changes ≡ length self.now.trail }
+        ensures closed { OnTrue result.is_closed (self.now.closed ≡ Some (length self.now.trail)) }
+    {
+        Mark {
+            changes: self.tracked.trail.len() as u32,
+            is_closed: self.is_closed(),
+        }
+    }
+
+    /// Takes back all changes since the mark was given. It takes no memory.
+    pub fn undo(&mut self, mark: Mark)
+        requires { mark.changes ≤ length self.old.trail }
+        ensures sets { self.new.sets ≡ box_after mark.changes self.old }
+        ensures trail { self.new.trail ≡ take mark.changes self.old.trail }
+        ensures closed { self.new.closed ≡ closed_if mark.is_closed mark.changes }
+        ensures is { (p : Problem) → IsFor p self.old → OnTrue mark.is_closed (WasClosed p self.old mark.changes) → IsFor p self.new }
+    {
+        self.tracked.undo(mark.changes as usize);
+        self.closed = if mark.is_closed {
+            Some(mark.changes)
+        } else {
+            None
+        };
+        self.marks.clear();
     }
 
     /// Leaves a point one of its candidates. It takes no memory.
     pub fn set(&mut self, point: u32, value: u8)
-        requires { has (candidates self.old point) value ≡ true }
-        ensures decided { self.new ≡ decided self.old point value }
-        ensures shape { (p : Problem) → IsBoxOf p self.old → IsBoxOf p self.new }
+        requires { has (candidates self.old.sets point) value ≡ true }
+        ensures decided { self.new.sets ≡ decided self.old.sets point value }
+        ensures grown { Grows self.old self.new }
+        ensures is { (p : Problem) → IsFor p self.old → IsFor p self.new }
     {
-        leave_value(&mut self.sets, point, value);
+        self.tracked.set(point, value);
     }
 
     /// The candidates of a point. It takes no memory.
     pub fn candidates(&self, point: u32) -> Mask
-        requires { point < length self.now }
-        ensures { values_in result ≡ candidates self.now point }
+        requires { point < length self.now.sets }
+        ensures { values_in result ≡ candidates self.now.sets point }
     {
-        self.sets[point as usize]
+        self.tracked.words[point as usize]
     }
 
     /// How many points it has. It takes no memory.
     pub fn points(&self) -> u32
-        ensures points { result ≡ length self.now }
+        ensures points { result ≡ length self.now.sets }
         ensures few { result ≤ most_points }
     {
-        self.sets.len() as u32
+        self.tracked.words.len() as u32
     }
 
     /// The first point with two candidates or more; none where each point has one at most. It takes no memory.
     pub fn first_open(&self) -> Option<u32>
-        ensures { result ≡ first_open self.now }
+        ensures { result ≡ first_open self.now.sets }
     {
-        open_point(&self.sets)
+        self.tracked.first_open()
+    }
+
+    /// The same, and the next search for it starts there. It takes no memory.
+    pub fn find_open(&mut self) -> Option<u32>
+        ensures found { result ≡ first_open self.old.sets }
+        ensures same { self.new ≡ self.old }
+    {
+        self.tracked.find_open()
     }
 
     /// The least candidate of each point, which has to have one: in a decided box its only one. Refused for want of
     /// memory alone.
     pub fn least_values(&self, alloc: Global) -> Result<Vec<u8>, AllocError>
-        requires filled { first_empty self.now ≡ None }
-        ensures values { IfOk result (λ values. values.items ≡ least_values self.now) }
+        requires filled { first_empty self.now.sets ≡ None }
+        ensures values { IfOk result (λ values. values.items ≡ least_values self.now.sets) }
     {
-        least_each(alloc, &self.sets)
-    }
-
-    /// Makes it the same as another box with as many points. It takes no memory.
-    pub fn assign(&mut self, other: &Box0)
-        requires { length self.old ≡ length other.now }
-        ensures { self.new ≡ other.now }
-    {
-        self.sets.copy_from_slice(&other.sets);
-    }
-}
-
-/// The first set of two values or more.
-fn open_point(sets: &[Mask]) -> Option<u32>
-    requires { length sets.now ≤ most_points }
-    ensures { result ≡ first_open (box_of sets.now) }
-{
-    match first_open(sets) {
-        Some(point) => Some(point as u32),
-        None => None,
+        least_each(alloc, &self.tracked.words)
     }
 }
 
@@ -129,12 +179,4 @@ fn least_each(alloc: Global, sets: &[Mask]) -> Result<Vec<u8>, AllocError>
         values.push(first(*set))?;
     }
     Ok(values)
-}
-
-/// Leaves a point one of its candidates.
-fn leave_value(sets: &mut [Mask], point: u32, value: u8)
-    requires { has (candidates (box_of sets.old) point) value ≡ true }
-    ensures { box_of sets.new ≡ decided (box_of sets.old) point value }
-{
-    sets[point as usize] = only(value);
 }

@@ -1,28 +1,37 @@
 //! Closing.
 
-ghost use Rattle.std.specs.Prelude.{◌≡◌, ◌<◌, ◌≤◌, ◌+◌, ◌++◌, ℕ, List, None, suc, true, length, map, IfOk, IfSome, OnOk, OnErr, IfNone, [], All, slice_index, get_or, ◌^◌, bit_and};
+ghost use Rattle.std.specs.Prelude.{◌≡◌, ◌<◌, ◌≤◌, ◌+◌, ◌*◌, ◌++◌, ℕ, List, None, Some, suc, true, length, map, IfOk, IfSome, OnOk, OnErr, IfNone, [], All, slice_index, get_or, ◌^◌, bit_and};
 ghost use Rattle.std.specs.Int.{bit_not, w64};
 ghost use Rattle.wf_model.specs.Lists.{has};
 ghost use Rattle.wf_model.specs.Problem.{IsSolution, IsWellFormed, Problem, constraint_at};
 ghost use Rattle.wf_model.specs.Box.{LiesIn, candidates, count, first_empty};
 ghost use Rattle.wf_model.specs.Closing.{and_then, closing, lost, sweep, sweep_from, sweeps, take_out_each};
+ghost use Rattle.std.specs.Bool.{OnTrue, OnFalse};
+ghost use Rattle.wf_complex.specs.Protocol.{point_in};
+ghost use Rattle.wf_box.specs.Limits.{most_executions, most_points};
+ghost use Rattle.wf_box.specs.Marks.{bit_of};
+ghost use Rattle.wf_box.specs.Boxes.{Grows, IsClosedNow, IsFor};
+ghost use Rattle.wf_box.specs.Changes.{IsGrown, KeepsTrack, words_after};
+ghost use Rattle.wf_box.specs.Quiet.{AreTold, AreUsers, IsQuiet, IsUntouched, IsUser, WasClosed};
 ghost use Rattle.wf_model.specs.Laws.{IsBoxOf};
 ghost use Rattle.wf_complex.specs.Lines.{line_of};
-ghost use Rattle.wf_set.specs.Sets.{values_in};
+ghost use Rattle.wf_set.specs.Sets.{box_of, values_in};
 ghost use Rattle.wf_lane.specs.Table.{HasSupported};
 ghost use Rattle.wf_box.specs.Problems.{IsWide, IsWithin, constraint_seen, no_rule};
 ghost use Rattle.wf_box.specs.Revising.{IsRevised};
-ghost use Rattle.wf_set.specs.Sets.{box_of};
-ghost use Rattle.wf_box.specs.Steps.{HasRoom, IsNamed, IsSpent, reached};
+ghost use Rattle.wf_box.specs.Steps.{HasRoom, IsNamed, IsSpent, loss, point_if, reached, take_present};
 ghost use Rattle.wf_box.specs.Closes.{AreFew, EndsAt, IsEmptied, IsSupported, Leaves, Takes, emptied_by, sweep_count, without_named};
 
 use crate::boxed::Box0;
+use crate::marks::Marks;
 use crate::problem::{Execution, Problem, Rule};
 use crate::taking::{Place, put, take_each};
+use crate::tracked::Tracked;
+use crate::users::Users;
 use std::alloc::{AllocError, Global};
 use wf_complex::{Line, Lines};
-use wf_lane::{count, first_empty};
-use wf_set::{Mask, difference};
+use wf_lane::first_empty;
+use wf_set::{Mask, difference, is_empty};
 
 /// How closing ended.
 #[derive(Clone, Copy, Debug, PartialEq, Eq)]
@@ -52,62 +61,157 @@ struct Revised {
 /// values that the new lines name, also where a point is emptied. Refused for want of memory alone, and box and lines
 /// are then as before.
 pub fn close(
-    _alloc: Global,
+    alloc: Global,
     problem: &Problem,
     boxed: &mut Box0,
     lines: &mut Lines,
 ) -> Result<Closed, AllocError>
-    requires { IsBoxOf problem.now boxed.old }
-    ensures lines { OnOk result (map line_of lines.new.items ≡ map line_of lines.old.items ++ (closing problem.now boxed.old).lines) }
-    ensures leaves { IfOk result (Leaves (closing problem.now boxed.old).left boxed.new) }
-    ensures emptied { IfOk result (IsEmptied lines.new.items boxed.new) }
-    ensures named { OnOk result (boxed.new ≡ without_named problem.now (closing problem.now boxed.old).lines boxed.old) }
-    ensures shape { OnOk result (IsBoxOf problem.now boxed.new) }
-    ensures solutions { OnOk result ((m : List ℕ) → IsSolution problem.now m → LiesIn m boxed.old → LiesIn m boxed.new) }
-    ensures supported { IfOk result (IsSupported problem.now boxed.new) }
-    ensures sweeps { IfOk result (AreFew (count boxed.old) (count boxed.new)) }
-    ensures sweep_count { IfOk result (Takes (sweep_count (suc (count boxed.old)) problem.now boxed.old)) }
+    requires { IsFor problem.now boxed.old }
+    ensures lines { OnOk result (map line_of lines.new.items ≡ map line_of lines.old.items ++ (closing problem.now boxed.old.sets).lines) }
+    ensures leaves { IfOk result (Leaves (closing problem.now boxed.old.sets).left boxed.new.sets) }
+    ensures emptied { IfOk result (IsEmptied lines.new.items boxed.new.sets) }
+    ensures named { OnOk result (boxed.new.sets ≡ without_named problem.now (closing problem.now boxed.old.sets).lines boxed.old.sets) }
+    ensures is { OnOk result (IsFor problem.now boxed.new) }
+    ensures grown { OnOk result (Grows boxed.old boxed.new) }
+    ensures closed { IfOk result (IsClosedNow boxed.new) }
+    ensures solutions { OnOk result ((m : List ℕ) → IsSolution problem.now m → LiesIn m boxed.old.sets → LiesIn m boxed.new.sets) }
+    ensures supported { IfOk result (IsSupported problem.now boxed.new.sets) }
+    ensures sweeps { IfOk result (AreFew (count boxed.old.sets) (count boxed.new.sets)) }
+    ensures sweep_count { IfOk result (Takes (sweep_count (suc (count boxed.old.sets)) problem.now boxed.old.sets)) }
     ensures refused_lines { OnErr result (lines.new.items ≡ lines.old.items) }
     ensures refused_box { OnErr result (boxed.new ≡ boxed.old) }
 {
-    lines.reserve(count_candidates(&boxed.sets) + 1)?;
-    Ok(close_sets(problem, &mut boxed.sets, lines))
+    lines.reserve(boxed.tracked.count as usize + 1)?;
+    boxed.marks.reserve(alloc, problem.executions.len() as u32)?;
+    let closed = close_tracked(
+        problem,
+        boxed.closed,
+        &mut boxed.tracked,
+        &mut boxed.marks,
+        lines,
+    );
+    boxed.closed = match closed {
+        Closed::Open { .. } => Some(boxed.tracked.trail.len() as u32),
+        Closed::Empty(_) => None,
+    };
+    Ok(closed)
 }
 
-/// How many candidates the points have in all.
-fn count_candidates(sets: &[Mask]) -> usize
-    requires { length sets.now ≤ 2000000 }
-    ensures count { result ≡ count (box_of sets.now) }
-    ensures few { result ≤ 128000000 }
+/// Closes a box, where there is room for the lines. It was closed last after so many changes, or never was.
+fn close_tracked(
+    problem: &Problem,
+    closed: Option<u32>,
+    tracked: &mut Tracked,
+    marks: &mut Marks,
+    lines: &mut Lines,
+) -> Closed
+    requires boxed { IsBoxOf problem.now (box_of tracked.old.words.items) }
+    requires kept { KeepsTrack tracked.old }
+    requires room { HasRoom lines.old tracked.old.words.items }
+    requires marks_long { length problem.now.constraints ≤ 64 * length marks.old.words.items }
+    requires closed { IfSome closed (WasClosed problem.now tracked.old.trail.items tracked.old.words.items) }
+    ensures step { reached lines.new.items (emptied_by result) tracked.new.words.items ≡ and_then (reached lines.old.items None tracked.old.words.items) (closing problem.now) }
+    ensures kept { KeepsTrack tracked.new }
+    ensures grown { IsGrown tracked.old.words.items tracked.old.trail.items tracked.new.words.items tracked.new.trail.items }
+    ensures marks_long { length marks.new.words.items ≡ length marks.old.words.items }
+    ensures shape { IsBoxOf problem.now (box_of tracked.new.words.items) }
+    ensures emptied { IsEmptied lines.new.items (box_of tracked.new.words.items) result }
+    ensures named { box_of tracked.new.words.items ≡ without_named problem.now (closing problem.now (box_of tracked.old.words.items)).lines (box_of tracked.old.words.items) }
+    ensures solutions { (m : List ℕ) → IsSolution problem.now m → LiesIn m (box_of tracked.old.words.items) → LiesIn m (box_of tracked.new.words.items) }
+    ensures supported { IsSupported problem.now (box_of tracked.new.words.items) result }
+    ensures sweeps { AreFew (count (box_of tracked.old.words.items)) (count (box_of tracked.new.words.items)) result }
+    ensures sweep_count { Takes (sweep_count (suc (count (box_of tracked.old.words.items))) problem.now (box_of tracked.old.words.items)) result }
 {
-    count(sets) as usize
-}
-
-/// Closes a box of words, where there is room for the lines.
-fn close_sets(problem: &Problem, sets: &mut [Mask], lines: &mut Lines) -> Closed
-    requires boxed { IsBoxOf problem.now (box_of sets.old) }
-    requires long { length sets.old ≡ problem.now.points }
-    requires few { length sets.old ≤ 2000000 }
-    requires room { HasRoom lines.old sets.old }
-    ensures step { reached lines.new.items (emptied_by result) sets.new ≡ and_then (reached lines.old.items None sets.old) (closing problem.now) }
-    ensures shape { IsBoxOf problem.now (box_of sets.new) }
-    ensures emptied { IsEmptied lines.new.items (box_of sets.new) result }
-    ensures named { box_of sets.new ≡ without_named problem.now (closing problem.now (box_of sets.old)).lines (box_of sets.old) }
-    ensures solutions { (m : List ℕ) → IsSolution problem.now m → LiesIn m (box_of sets.old) → LiesIn m (box_of sets.new) }
-    ensures supported { IsSupported problem.now (box_of sets.new) result }
-    ensures sweeps { AreFew (count (box_of sets.old)) (count (box_of sets.new)) result }
-    ensures sweep_count { Takes (sweep_count (suc (count (box_of sets.old))) problem.now (box_of sets.old)) result }
-{
-    if let Some(point) = empty_point(sets) {
+    if let Some(point) = prepare(problem, closed, tracked, marks) {
         put(lines, Line::Z { point });
         return Closed::Empty(point);
     }
-    sweeps(problem, sets, lines)
+    sweeps(problem, tracked, marks, lines)
+}
+
+/// Marks the executions in which something may be lost, and answers the first point without a candidate.
+fn prepare(
+    problem: &Problem,
+    closed: Option<u32>,
+    tracked: &Tracked,
+    marks: &mut Marks,
+) -> Option<u32>
+    requires boxed { IsBoxOf problem.now (box_of tracked.now.words.items) }
+    requires kept { KeepsTrack tracked.now }
+    requires marks_long { length problem.now.constraints ≤ 64 * length marks.old.words.items }
+    requires closed { IfSome closed (WasClosed problem.now tracked.now.trail.items tracked.now.words.items) }
+    ensures empty { result ≡ first_empty (box_of tracked.now.words.items) }
+    ensures quiet { IsQuiet problem.now.constraints marks.new.words.items (box_of tracked.now.words.items) }
+    ensures long { length marks.new.words.items ≡ length marks.old.words.items }
+{
+    if mark_problem(problem, closed, tracked, marks) {
+        return None;
+    }
+    empty_point(&tracked.words)
+}
+
+/// Marks the executions in which something may be lost, and says whether no point is empty for sure.
+fn mark_problem(
+    problem: &Problem,
+    closed: Option<u32>,
+    tracked: &Tracked,
+    marks: &mut Marks,
+) -> bool
+    requires boxed { IsBoxOf problem.now (box_of tracked.now.words.items) }
+    requires kept { KeepsTrack tracked.now }
+    requires marks_long { length problem.now.constraints ≤ 64 * length marks.old.words.items }
+    requires closed { IfSome closed (WasClosed problem.now tracked.now.trail.items tracked.now.words.items) }
+    ensures quiet { IsQuiet problem.now.constraints marks.new.words.items (box_of tracked.now.words.items) }
+    ensures full { OnTrue result (first_empty (box_of tracked.now.words.items) ≡ None) }
+    ensures long { length marks.new.words.items ≡ length marks.old.words.items }
+{
+    match closed {
+        None => {
+            marks.mark_all();
+            false
+        }
+        Some(changes) => mark_changed(
+            problem.executions.len() as u32,
+            &problem.users,
+            changes as usize,
+            tracked,
+            marks,
+        ),
+    }
+}
+
+/// Marks the executions of each point that changed past so many changes, and says whether each of these points has a
+/// candidate.
+fn mark_changed(
+    executions: u32,
+    users: &Users,
+    changes: usize,
+    tracked: &Tracked,
+    marks: &mut Marks,
+) -> bool
+    requires kept { KeepsTrack tracked.now }
+    requires users { AreUsers users.now (length tracked.now.words.items) executions }
+    requires marks_long { executions ≤ 64 * length marks.old.words.items }
+    requires changes { changes ≤ length tracked.now.trail.items }
+    ensures untouched { (e : ℕ) → bit_of marks.new.words.items e ≡ 0 → (v : ℕ) → IsUser users.now v e → get_or (words_after changes tracked.now.trail.items tracked.now.words.items) v 0 ≡ get_or tracked.now.words.items v 0 }
+    ensures full { OnTrue result ((v : ℕ) → values_in (get_or tracked.now.words.items v 0) ≡ [] → values_in (get_or (words_after changes tracked.now.trail.items tracked.now.words.items) v 0) ≡ []) }
+    ensures long { length marks.new.words.items ≡ length marks.old.words.items }
+{
+    let points = tracked.words.len() as u32;
+    let mut full = true;
+    for number in changes..tracked.trail.len() {
+        let point = tracked.trail[number].point;
+        marks.mark_each(users.of(point, points, executions));
+        if is_empty(tracked.words[point as usize]) {
+            full = false;
+        }
+    }
+    full
 }
 
 /// The first point without a candidate.
 fn empty_point(sets: &[Mask]) -> Option<u32>
-    requires { length sets.now ≤ 2000000 }
+    requires { length sets.now ≤ most_points }
     ensures { result ≡ first_empty (box_of sets.now) }
 {
     match first_empty(sets) {
@@ -117,22 +221,27 @@ fn empty_point(sets: &[Mask]) -> Option<u32>
 }
 
 /// Sweeps until one changes nothing or a point is emptied.
-fn sweeps(problem: &Problem, sets: &mut [Mask], lines: &mut Lines) -> Closed
-    requires long { length sets.old ≡ problem.now.points }
-    requires few { length sets.old ≤ 2000000 }
-    requires room { HasRoom lines.old sets.old }
-    ensures step { reached lines.new.items (emptied_by result) sets.new ≡ and_then (reached lines.old.items None sets.old) (sweeps (suc (count (box_of sets.old))) problem.now) }
-    ensures long { length sets.new ≡ length sets.old }
-    ensures emptied { IsEmptied lines.new.items (box_of sets.new) result }
-    ensures named { IsNamed problem.now lines.old.items sets.old lines.new.items sets.new }
-    ensures sweeps { AreFew (count (box_of sets.old)) (count (box_of sets.new)) result }
-    ensures sweep_count { Takes (sweep_count (suc (count (box_of sets.old))) problem.now (box_of sets.old)) result }
+fn sweeps(problem: &Problem, tracked: &mut Tracked, marks: &mut Marks, lines: &mut Lines) -> Closed
+    requires kept { KeepsTrack tracked.old }
+    requires long { length tracked.old.words.items ≡ problem.now.points }
+    requires room { HasRoom lines.old tracked.old.words.items }
+    requires marks_long { length problem.now.constraints ≤ 64 * length marks.old.words.items }
+    requires quiet { IsQuiet problem.now.constraints marks.old.words.items (box_of tracked.old.words.items) }
+    ensures step { reached lines.new.items (emptied_by result) tracked.new.words.items ≡ and_then (reached lines.old.items None tracked.old.words.items) (sweeps (suc (count (box_of tracked.old.words.items))) problem.now) }
+    ensures kept { KeepsTrack tracked.new }
+    ensures grown { IsGrown tracked.old.words.items tracked.old.trail.items tracked.new.words.items tracked.new.trail.items }
+    ensures long { length tracked.new.words.items ≡ length tracked.old.words.items }
+    ensures marks_long { length marks.new.words.items ≡ length marks.old.words.items }
+    ensures emptied { IsEmptied lines.new.items (box_of tracked.new.words.items) result }
+    ensures named { IsNamed problem.now lines.old.items tracked.old.words.items lines.new.items tracked.new.words.items }
+    ensures sweeps { AreFew (count (box_of tracked.old.words.items)) (count (box_of tracked.new.words.items)) result }
+    ensures sweep_count { Takes (sweep_count (suc (count (box_of tracked.old.words.items))) problem.now (box_of tracked.old.words.items)) result }
     ensures problem { IsWellFormed problem.now }
 {
     let mut sweeps = 1;
     'sweeping: loop {
         let before = lines.len();
-        if let Some(point) = sweep(problem, sets, lines) {
+        if let Some(point) = sweep(problem, tracked, marks, lines) {
             return Closed::Empty(point);
         }
         if lines.len() == before {
@@ -142,75 +251,132 @@ fn sweeps(problem: &Problem, sets: &mut [Mask], lines: &mut Lines) -> Closed
     }
 }
 
-/// Takes out of each execution in turn what is not supported there. The point that this empties, if there is one.
-fn sweep(problem: &Problem, sets: &mut [Mask], lines: &mut Lines) -> Option<u32>
-    requires long { length sets.old ≡ problem.now.points }
-    requires room { HasRoom lines.old sets.old }
-    ensures step { reached lines.new.items result sets.new ≡ and_then (reached lines.old.items None sets.old) (sweep problem.now) }
-    ensures long { length sets.new ≡ length sets.old }
-    ensures emptied { IfSome result (EndsAt lines.new.items (box_of sets.new)) }
-    ensures named { IsNamed problem.now lines.old.items sets.old lines.new.items sets.new }
-    ensures room { IfNone result (HasRoom lines.new sets.new) }
-    ensures spent { IfNone result (IsSpent lines.old sets.old lines.new sets.new) }
-    ensures problem { IsWellFormed problem.now }
-{
-    sweep_executions(&problem.executions, &problem.rules, sets, lines)
-}
-
-/// Takes out of each of these executions in turn what is not supported there. The point that this empties, if there is
-/// one.
-fn sweep_executions(
-    executions: &[Execution],
-    rules: &[Rule],
-    sets: &mut [Mask],
+/// Takes out of each execution in turn what is not supported there: of those that are marked, since the others have
+/// lost nothing. The point that this empties, if there is one.
+fn sweep(
+    problem: &Problem,
+    tracked: &mut Tracked,
+    marks: &mut Marks,
     lines: &mut Lines,
 ) -> Option<u32>
-    requires few { length executions.now ≤ 500000 }
-    requires within { All (IsWithin (length rules.now) (length sets.old)) executions.now }
+    requires kept { KeepsTrack tracked.old }
+    requires long { length tracked.old.words.items ≡ problem.now.points }
+    requires room { HasRoom lines.old tracked.old.words.items }
+    requires marks_long { length problem.now.constraints ≤ 64 * length marks.old.words.items }
+    requires quiet { IsQuiet problem.now.constraints marks.old.words.items (box_of tracked.old.words.items) }
+    ensures step { reached lines.new.items result tracked.new.words.items ≡ and_then (reached lines.old.items None tracked.old.words.items) (sweep problem.now) }
+    ensures kept { KeepsTrack tracked.new }
+    ensures grown { IsGrown tracked.old.words.items tracked.old.trail.items tracked.new.words.items tracked.new.trail.items }
+    ensures long { length tracked.new.words.items ≡ length tracked.old.words.items }
+    ensures marks_long { length marks.new.words.items ≡ length marks.old.words.items }
+    ensures quiet { IfNone result (IsQuiet problem.now.constraints marks.new.words.items (box_of tracked.new.words.items)) }
+    ensures emptied { IfSome result (EndsAt lines.new.items (box_of tracked.new.words.items)) }
+    ensures named { IsNamed problem.now lines.old.items tracked.old.words.items lines.new.items tracked.new.words.items }
+    ensures room { IfNone result (HasRoom lines.new tracked.new.words.items) }
+    ensures spent { IfNone result (IsSpent lines.old tracked.old.words.items lines.new tracked.new.words.items) }
+    ensures problem { IsWellFormed problem.now }
+{
+    sweep_marked(
+        &problem.executions,
+        &problem.rules,
+        &problem.users,
+        tracked,
+        marks,
+        lines,
+    )
+}
+
+/// Takes out of each of these executions in turn that is marked what is not supported there. The point that this
+/// empties, if there is one.
+fn sweep_marked(
+    executions: &[Execution],
+    rules: &[Rule],
+    users: &Users,
+    tracked: &mut Tracked,
+    marks: &mut Marks,
+    lines: &mut Lines,
+) -> Option<u32>
+    requires few { length executions.now ≤ most_executions }
+    requires within { All (IsWithin (length rules.now) (length tracked.old.words.items)) executions.now }
     requires wide { All IsWide rules.now }
-    requires room { HasRoom lines.old sets.old }
-    ensures step { reached lines.new.items result sets.new
-        ≡ and_then (reached lines.old.items None sets.old) (sweep_from 0 (map (constraint_seen rules.now) executions.now)) }
-    ensures long { length sets.new ≡ length sets.old }
-    ensures emptied { IfSome result (EndsAt lines.new.items (box_of sets.new)) }
-    ensures named { (p : Problem) → p.constraints ≡ map (constraint_seen rules.now) executions.now → IsNamed p lines.old.items sets.old lines.new.items sets.new }
-    ensures room { IfNone result (HasRoom lines.new sets.new) }
-    ensures spent { IfNone result (IsSpent lines.old sets.old lines.new sets.new) }
+    requires users { AreUsers users.now (length tracked.old.words.items) (length executions.now) }
+    requires told { AreTold users.now executions.now }
+    requires kept { KeepsTrack tracked.old }
+    requires room { HasRoom lines.old tracked.old.words.items }
+    requires marks_long { length executions.now ≤ 64 * length marks.old.words.items }
+    requires quiet { IsQuiet (map (constraint_seen rules.now) executions.now) marks.old.words.items (box_of tracked.old.words.items) }
+    ensures step { reached lines.new.items result tracked.new.words.items
+        ≡ and_then (reached lines.old.items None tracked.old.words.items) (sweep_from 0 (map (constraint_seen rules.now) executions.now)) }
+    ensures kept { KeepsTrack tracked.new }
+    ensures grown { IsGrown tracked.old.words.items tracked.old.trail.items tracked.new.words.items tracked.new.trail.items }
+    ensures long { length tracked.new.words.items ≡ length tracked.old.words.items }
+    ensures marks_long { length marks.new.words.items ≡ length marks.old.words.items }
+    ensures quiet { IfNone result (IsQuiet (map (constraint_seen rules.now) executions.now) marks.new.words.items (box_of tracked.new.words.items)) }
+    ensures emptied { IfSome result (EndsAt lines.new.items (box_of tracked.new.words.items)) }
+    ensures named { (p : Problem) → p.constraints ≡ map (constraint_seen rules.now) executions.now → IsNamed p lines.old.items tracked.old.words.items lines.new.items tracked.new.words.items }
+    ensures room { IfNone result (HasRoom lines.new tracked.new.words.items) }
+    ensures spent { IfNone result (IsSpent lines.old tracked.old.words.items lines.new tracked.new.words.items) }
 {
     let mut last = None;
-    for (number, execution) in executions.iter().enumerate() {
-        let emptied = revise(number as u32, *execution, rules, sets, lines, &mut last);
-        if emptied.is_some() {
-            return emptied;
+    let mut next = 0;
+    'marked: while let Some(number) = marks.take_next(next) {
+        if number as usize >= executions.len() {
+            return None;
         }
+        if let Some(point) = revise(
+            number,
+            executions[number as usize],
+            executions.len() as u32,
+            rules,
+            users,
+            tracked,
+            marks,
+            lines,
+            &mut last,
+        ) {
+            return Some(point);
+        }
+        next = number + 1;
     }
     None
 }
 
-/// Takes out what is not supported in an execution, judged by its points' candidates as they stood before. The point
-/// that this empties, if there is one.
+/// Takes out what is not supported in an execution, judged by its points' candidates as they stood before, and marks
+/// the executions of the points that lose something. The point that this empties, if there is one.
 fn revise(
     number: u32,
     execution: Execution,
+    executions: u32,
     rules: &[Rule],
-    sets: &mut [Mask],
+    users: &Users,
+    tracked: &mut Tracked,
+    marks: &mut Marks,
     lines: &mut Lines,
     last: &mut Option<Revised>,
 ) -> Option<u32>
-    requires within { IsWithin (length rules.now) (length sets.old) execution }
+    requires within { IsWithin (length rules.now) (length tracked.old.words.items) execution }
     requires wide { All IsWide rules.now }
     requires last { IsRevised rules.now last.old }
-    requires room { HasRoom lines.old sets.old }
-    ensures step { reached lines.new.items result sets.new
-        ≡ and_then (reached lines.old.items None sets.old) (λ box. take_out_each number (lost box (constraint_seen rules.now execution)) box) }
-    ensures long { length sets.new ≡ length sets.old }
+    requires users { AreUsers users.now (length tracked.old.words.items) executions }
+    requires told { (place : ℕ) → place < 4 → IsUser users.now (slice_index execution.points place) number }
+    requires kept { KeepsTrack tracked.old }
+    requires room { HasRoom lines.old tracked.old.words.items }
+    requires marks_long { executions ≤ 64 * length marks.old.words.items }
+    ensures step { reached lines.new.items result tracked.new.words.items
+        ≡ and_then (reached lines.old.items None tracked.old.words.items) (λ box. take_out_each number (lost box (constraint_seen rules.now execution)) box) }
+    ensures kept { KeepsTrack tracked.new }
+    ensures grown { IsGrown tracked.old.words.items tracked.old.trail.items tracked.new.words.items tracked.new.trail.items }
+    ensures long { length tracked.new.words.items ≡ length tracked.old.words.items }
+    ensures marks_long { length marks.new.words.items ≡ length marks.old.words.items }
+    ensures untouched { IsUntouched users.now tracked.old.words.items marks.old.words.items tracked.new.words.items marks.new.words.items }
+    ensures silent { bit_of marks.new.words.items number ≡ 0 → tracked.new.words.items ≡ tracked.old.words.items }
     ensures last { IsRevised rules.now last.new }
-    ensures emptied { IfSome result (EndsAt lines.new.items (box_of sets.new)) }
-    ensures named { (p : Problem) → constraint_at p number ≡ constraint_seen rules.now execution → IsNamed p lines.old.items sets.old lines.new.items sets.new }
-    ensures room { IfNone result (HasRoom lines.new sets.new) }
-    ensures spent { IfNone result (IsSpent lines.old sets.old lines.new sets.new) }
+    ensures emptied { IfSome result (EndsAt lines.new.items (box_of tracked.new.words.items)) }
+    ensures named { (p : Problem) → constraint_at p number ≡ constraint_seen rules.now execution → IsNamed p lines.old.items tracked.old.words.items lines.new.items tracked.new.words.items }
+    ensures room { IfNone result (HasRoom lines.new tracked.new.words.items) }
+    ensures spent { IfNone result (IsSpent lines.old tracked.old.words.items lines.new tracked.new.words.items) }
 {
-    let found = candidates_at(execution, sets);
+    let found = candidates_at(execution, &tracked.words);
     let supported = supported_at(execution.rule, found, rules, last);
     let rule = &rules[execution.rule as usize];
     'places: for place in 0..rule.simplex.colours() {
@@ -220,11 +386,52 @@ fn revise(
             point: execution.points[place as usize],
         };
         let lost = difference(found[place as usize], supported[place as usize]);
-        if take_each(lost, at, sets, lines) {
+        if take_place(lost, at, executions, users, tracked, marks, lines) {
             return Some(at.point);
         }
     }
     None
+}
+
+/// Takes those of the values out that are still there, ascending, with their lines, and marks the executions of the
+/// point where there are any. Where this empties the point, that ends it, and the answer is true.
+fn take_place(
+    lost: Mask,
+    place: Place,
+    executions: u32,
+    users: &Users,
+    tracked: &mut Tracked,
+    marks: &mut Marks,
+    lines: &mut Lines,
+) -> bool
+    requires users { AreUsers users.now (length tracked.old.words.items) executions }
+    requires marks_long { executions ≤ 64 * length marks.old.words.items }
+    requires kept { KeepsTrack tracked.old }
+    requires point { place.point < length tracked.old.words.items }
+    requires room { HasRoom lines.old tracked.old.words.items }
+    ensures step { reached lines.new.items (point_if result place.point) tracked.new.words.items
+        ≡ and_then (reached lines.old.items None tracked.old.words.items) (take_present place.execution (map (loss place.process place.point) (values_in lost))) }
+    ensures kept { KeepsTrack tracked.new }
+    ensures grown { IsGrown tracked.old.words.items tracked.old.trail.items tracked.new.words.items tracked.new.trail.items }
+    ensures long { length tracked.new.words.items ≡ length tracked.old.words.items }
+    ensures marks_long { length marks.new.words.items ≡ length marks.old.words.items }
+    ensures untouched { IsUntouched users.now tracked.old.words.items marks.old.words.items tracked.new.words.items marks.new.words.items }
+    ensures silent { (e : ℕ) → IsUser users.now place.point e → bit_of marks.new.words.items e ≡ 0 → tracked.new.words.items ≡ tracked.old.words.items }
+    ensures emptied { OnTrue result (EndsAt lines.new.items (box_of tracked.new.words.items) place.point) }
+    ensures named { (p : Problem) → point_in place.process (constraint_at p place.execution).scope ≡ Some place.point
+        → IsNamed p lines.old.items tracked.old.words.items lines.new.items tracked.new.words.items }
+    ensures room { OnFalse result (HasRoom lines.new tracked.new.words.items) }
+    ensures spent { OnFalse result (IsSpent lines.old tracked.old.words.items lines.new tracked.new.words.items) }
+{
+    let before = tracked.words[place.point as usize];
+    let emptied = take_each(lost, place, &mut tracked.words, lines);
+    if tracked.words[place.point as usize] == before {
+        return emptied;
+    }
+    let points = tracked.words.len() as u32;
+    tracked.note(place.point, before);
+    marks.mark_each(users.of(place.point, points, executions));
+    emptied
 }
 
 /// The values that a rule supports at each place for some candidates. The last answer is kept, since most executions

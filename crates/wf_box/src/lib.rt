@@ -8,9 +8,12 @@
 
 mod boxed;
 mod closing;
+mod marks;
 mod problem;
 mod taking;
+mod tracked;
+mod users;
 
-pub use boxed::Box0;
+pub use boxed::{Box0, Mark};
 pub use closing::{Closed, close};
 pub use problem::Problem;

@@ -5,8 +5,10 @@ ghost use Rattle.wf_model.specs.Task.{IsTask};
 ghost use Rattle.wf_model.specs.Problem.{IsWellFormed, problem_of};
 ghost use Rattle.wf_complex.specs.Protocol.{IsProtocol};
 ghost use Rattle.wf_model.specs.Split.{most_values};
-ghost use Rattle.wf_box.specs.Problems.{most_points, IsWide, IsWithin, constraint_seen, rule_seen};
+ghost use Rattle.wf_box.specs.Limits.{most_executions, most_points};
+ghost use Rattle.wf_box.specs.Problems.{IsWide, IsWithin, constraint_seen, rule_seen};
 
+use crate::users::Users;
 use std::alloc::{AllocError, Global};
 use std::marker::Model;
 use wf_complex::Protocol;
@@ -54,6 +56,7 @@ pub struct Problem {
     pub(crate) values: Mask,
     pub(crate) rules: Vec<Rule>,
     pub(crate) executions: Vec<Execution>,
+    pub(crate) users: Users,
 }
 
 impl Model for Problem {
@@ -61,7 +64,8 @@ impl Model for Problem {
 
     ghost Value = { Problem };
 
-    ghost use Rattle.wf_box.specs.Problems.{problem_seen, IsKept};
+    ghost use Rattle.wf_box.specs.Limits.{most_executions, most_points};
+ghost use Rattle.wf_box.specs.Problems.{problem_seen, IsKept};
 
     ghost view = { problem_seen };
 
@@ -76,11 +80,14 @@ impl Problem {
     {
         let rules = rules(alloc, task)?;
         let executions = executions(alloc, task, protocol, &rules)?;
+        let points = protocol.points();
+        let users = Users::of_points(alloc, points, &executions)?;
         Ok(Problem {
-            points: protocol.points(),
+            points,
             values: task.values(),
             rules,
             executions,
+            users,
         })
     }
 
@@ -120,7 +127,7 @@ fn executions(
     requires rules { map rule_seen rules.now ≡ task.now.rules }
     ensures constraints { IfOk result (λ executions. map (constraint_seen rules.now) executions.items ≡ (problem_of task.now protocol.now.rounds).constraints) }
     ensures within { IfOk result (λ executions. All (IsWithin (length rules.now) (length protocol.now.points)) executions.items) }
-    ensures few { IfOk result (λ executions. length executions.items ≤ 500000) }
+    ensures few { IfOk result (λ executions. length executions.items ≤ most_executions) }
 {
     let _inputs = task.inputs();
     let count = protocol.executions();

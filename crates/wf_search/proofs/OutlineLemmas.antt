@@ -1,14 +1,14 @@
 -- Outlines as slots.
-use Rattle.std.proofs.Common.{◌≡◌, ℕ, zero, suc, ◌+◌, ◌-◌, ◌<◌, ◌≤◌, ◌&&◌, ◌||◌, ◌==◌, nat_lt, true, false, List, [], ◌∷◌, ◌++◌, map, flat_map, length, get_or, drop, refl, sym, ap, ◌∙◌, subst, arith, Option, Some, None, ltb-true, Vec, ◌⊎◌, inl, inr}
+use Rattle.std.proofs.Common.{◌≡◌, ℕ, zero, suc, ◌+◌, ◌-◌, ◌<◌, ◌≤◌, ◌&&◌, ◌||◌, ◌==◌, nat_lt, true, false, List, [], ◌∷◌, ◌++◌, map, flat_map, length, get_or, drop, refl, sym, ap, ◌∙◌, subst, arith, Option, Some, None, IfSome, IfOk, Result, Ok, Err, ltb-true, Vec, ◌⊎◌, inl, inr}
 use Rattle.std.specs.List.{AllByRecursion, list_any}
 use Rattle.std.proofs.lemmas.List.{append_assoc, append-nil, length-map, map-append, drop_all}
 use Rattle.std.proofs.lemmas.Grind.{flat_map-append}
 use Rattle.std.proofs.lemmas.Bool.{or_right, lt-ltb, false_from_ne_true}
 use Rattle.wf_model.specs.Lists.{has}
 use Rattle.wf_model.specs.Problem.{Problem}
-use Rattle.wf_model.specs.Box.{Box, decided, branches_at, first_open}
+use Rattle.wf_model.specs.Box.{Box, decided, branches_at, first_empty, first_open}
 use Rattle.wf_model.specs.Refutation as refutation
-use Rattle.wf_model.specs.Closing.{closing}
+use Rattle.wf_model.specs.Closing.{closing, sweep}
 use Rattle.wf_model.specs.Laws.{IsBoxOf}
 use Rattle.wf_model.specs.Split.{is_open}
 use Rattle.wf_model.specs.Outline.{Item, written, left_out, box_left, closed_to, opened_at, opened, boxes_left_out, opened_if, opened_levels, filled}
@@ -20,7 +20,8 @@ use Rattle.wf_complex.specs.declared.line.Line.{Line}
 use Rattle.wf_set.specs.Sets.{values_in}
 use Rattle.wf_search.specs.declared.outline.Slot.{Slot}
 use Rattle.wf_search.specs.Cover.{each_seen}
-use Rattle.wf_search.specs.Outline.{as_written, slot_seen, slots_filled, is_to_open}
+use Rattle.wf_box.specs.Boxes.{IsFor, Tracked, WasClosed, box_after, put_back}
+use Rattle.wf_search.specs.Outline.{IsClosedBox, IsJustClosed, as_written, slot_seen, slots_filled, is_to_open}
 use Rattle.wf_search.proofs.SearchLemmas.{branches_are_boxes}
 
 -- ---- the boxes
@@ -33,14 +34,14 @@ no_boxes : (ls : List refutation.Line) → boxes_left_out (map written ls) ≡ [
 no_boxes [] = refl
 no_boxes (l ∷ ls) = no_boxes ls
 
-boxes_slots : (slots : List Slot) → boxes_left_out (flat_map slot_seen slots) ≡ map (λ (s : Slot). s.boxed) slots
+boxes_slots : (slots : List Slot) → boxes_left_out (flat_map slot_seen slots) ≡ map (λ (s : Slot). s.boxed.sets) slots
 boxes_slots [] = refl
 boxes_slots (s ∷ slots) =
     boxes_append (slot_seen s) (flat_map slot_seen slots)
-    ∙ ap (λ bs. bs ++ boxes_left_out (flat_map slot_seen slots)) (boxes_written (map line_of s.before.items) (left_out s.boxed ∷ []))
-    ∙ ap (λ bs. s.boxed ∷ bs) (boxes_slots slots)
+    ∙ ap (λ bs. bs ++ boxes_left_out (flat_map slot_seen slots)) (boxes_written (map line_of s.before.items) (left_out s.boxed.sets ∷ []))
+    ∙ ap (λ bs. s.boxed.sets ∷ bs) (boxes_slots slots)
 
-pub boxes_seen : (slots : List Slot) (after : List Line) → boxes_left_out (flat_map slot_seen slots ++ as_written after) ≡ map (λ (s : Slot). s.boxed) slots
+pub boxes_seen : (slots : List Slot) (after : List Line) → boxes_left_out (flat_map slot_seen slots ++ as_written after) ≡ map (λ (s : Slot). s.boxed.sets) slots
 boxes_seen slots after =
     boxes_append (flat_map slot_seen slots) (as_written after)
     ∙ ap (λ bs. boxes_left_out (flat_map slot_seen slots) ++ bs) (no_boxes (map line_of after))
@@ -48,23 +49,23 @@ boxes_seen slots after =
     ∙ boxes_slots slots
 
 pub number_seen : (slots : List Slot) (after : List Line) → length (boxes_left_out (flat_map slot_seen slots ++ as_written after)) ≡ length slots
-number_seen slots after = ap length (boxes_seen slots after) ∙ length-map slots (λ (s : Slot). s.boxed)
+number_seen slots after = ap length (boxes_seen slots after) ∙ length-map slots (λ (s : Slot). s.boxed.sets)
 
-pub box_at : (slots : List Slot) (i : ℕ) (s : Slot) → i < length slots → s ≡ get_or slots i s → s.boxed ≡ get_or (map (λ (s : Slot). s.boxed) slots) i []
+pub box_at : (slots : List Slot) (i : ℕ) (s : Slot) → i < length slots → s ≡ get_or slots i s → s.boxed.sets ≡ get_or (map (λ (s : Slot). s.boxed.sets) slots) i []
 box_at [] i s low is = absurd (let none : ⊥ = omega (arith, low) in none)
-box_at (x ∷ slots) zero s low is = ap (λ (s : Slot). s.boxed) is
+box_at (x ∷ slots) zero s low is = ap (λ (s : Slot). s.boxed.sets) is
 box_at (x ∷ slots) (suc i) s low is = box_at slots i s (omega (arith, low)) is
 
-pub each_box_at : (P : Box → Type 0) (slots : List Slot) (i : ℕ) (s : Slot) → AllByRecursion P (map (λ (s : Slot). s.boxed) slots) → i < length slots → s ≡ get_or slots i s → P s.boxed
+pub each_box_at : (P : Box → Type 0) (slots : List Slot) (i : ℕ) (s : Slot) → AllByRecursion P (map (λ (s : Slot). s.boxed.sets) slots) → i < length slots → s ≡ get_or slots i s → P s.boxed.sets
 each_box_at P [] i s all low is = absurd (let none : ⊥ = omega (arith, low) in none)
-each_box_at P (x ∷ slots) zero s all low is = subst (λ (t : Slot). P t.boxed) (sym is) all.0
+each_box_at P (x ∷ slots) zero s all low is = subst (λ (t : Slot). P t.boxed.sets) (sym is) all.0
 each_box_at P (x ∷ slots) (suc i) s all low is = each_box_at P slots i s all.1 (omega (arith, low)) is
 
-any_slot : (slots : List Slot) → list_any is_open (map (λ (s : Slot). s.boxed) slots) ≡ list_any (λ (s : Slot). is_open s.boxed) slots
+any_slot : (slots : List Slot) → list_any is_open (map (λ (s : Slot). s.boxed.sets) slots) ≡ list_any (λ (s : Slot). is_open s.boxed.sets) slots
 any_slot [] = refl
-any_slot (s ∷ slots) = ap (λ b. is_open s.boxed || b) (any_slot slots)
+any_slot (s ∷ slots) = ap (λ b. is_open s.boxed.sets || b) (any_slot slots)
 
-pub to_open_seen : (slots : List Slot) (after : List Line) → is_to_open (flat_map slot_seen slots ++ as_written after) ≡ (nat_lt (length slots) 64 && list_any (λ (s : Slot). is_open s.boxed) slots)
+pub to_open_seen : (slots : List Slot) (after : List Line) → is_to_open (flat_map slot_seen slots ++ as_written after) ≡ (nat_lt (length slots) 64 && list_any (λ (s : Slot). is_open s.boxed.sets) slots)
 to_open_seen slots after =
     ap (λ n. nat_lt n 64 && list_any is_open (boxes_left_out (flat_map slot_seen slots ++ as_written after))) (number_seen slots after)
     ∙ ap (λ bs. nat_lt (length slots) 64 && list_any is_open bs) (boxes_seen slots after)
@@ -78,13 +79,13 @@ drop_at [] i d low = absurd (let none : ⊥ = omega (arith, low) in none)
 drop_at (x ∷ xs) zero d low = refl
 drop_at (x ∷ xs) (suc i) d low = let e : suc i + 1 ≡ suc (i + 1) = omega arith in rw e (drop_at xs i d (omega (arith, low)))
 
-pub left_out_seen : (slots : List Slot) (s : Slot) (none : List Line) → none ≡ [] → flat_map slot_seen (slots ++ s ∷ []) ++ as_written none ≡ (flat_map slot_seen slots ++ as_written s.before.items) ++ left_out s.boxed ∷ []
+pub left_out_seen : (slots : List Slot) (s : Slot) (none : List Line) → none ≡ [] → flat_map slot_seen (slots ++ s ∷ []) ++ as_written none ≡ (flat_map slot_seen slots ++ as_written s.before.items) ++ left_out s.boxed.sets ∷ []
 left_out_seen [] s none is = ap (λ ls. ((slot_seen s ++ []) ++ as_written ls)) is ∙ append-nil (slot_seen s ++ []) ∙ append-nil (slot_seen s)
 left_out_seen (x ∷ slots) s none is =
     append_assoc (slot_seen x) (flat_map slot_seen (slots ++ s ∷ [])) (as_written none)
     ∙ ap (λ items. slot_seen x ++ items) (left_out_seen slots s none is)
-    ∙ sym (append_assoc (slot_seen x) (flat_map slot_seen slots ++ as_written s.before.items) (left_out s.boxed ∷ []))
-    ∙ ap (λ items. items ++ left_out s.boxed ∷ []) (sym (append_assoc (slot_seen x) (flat_map slot_seen slots) (as_written s.before.items)))
+    ∙ sym (append_assoc (slot_seen x) (flat_map slot_seen slots ++ as_written s.before.items) (left_out s.boxed.sets ∷ []))
+    ∙ ap (λ items. items ++ left_out s.boxed.sets ∷ []) (sym (append_assoc (slot_seen x) (flat_map slot_seen slots) (as_written s.before.items)))
 
 -- ---- filling
 
@@ -94,8 +95,8 @@ filled_after (l ∷ ls) items lists = ap (λ ms. l ∷ ms) (filled_after ls item
 
 pub filled_slot : (s : Slot) (slots : List Slot) (list : List refutation.Line) (lists : List (List refutation.Line)) → filled (flat_map slot_seen (s ∷ slots)) (list ∷ lists) ≡ map line_of s.before.items ++ (list ++ filled (flat_map slot_seen slots) lists)
 filled_slot s slots list lists =
-    ap (λ items. filled items (list ∷ lists)) (append_assoc (as_written s.before.items) (left_out s.boxed ∷ []) (flat_map slot_seen slots))
-    ∙ filled_after (map line_of s.before.items) (left_out s.boxed ∷ flat_map slot_seen slots) (list ∷ lists)
+    ap (λ items. filled items (list ∷ lists)) (append_assoc (as_written s.before.items) (left_out s.boxed.sets ∷ []) (flat_map slot_seen slots))
+    ∙ filled_after (map line_of s.before.items) (left_out s.boxed.sets ∷ flat_map slot_seen slots) (list ∷ lists)
 
 filled_end : (slots : List Slot) (lists : List (List refutation.Line)) (after : List refutation.Line) → length lists ≡ length slots
     → filled (flat_map slot_seen slots ++ map written after) lists ≡ filled (flat_map slot_seen slots) lists ++ after
@@ -103,8 +104,8 @@ filled_end [] [] after same = ap (λ items. filled items []) (sym (append-nil (m
 filled_end [] (l ∷ lists) after same = absurd (let none : ⊥ = omega (arith, same) in none)
 filled_end (s ∷ slots) [] after same = absurd (let none : ⊥ = omega (arith, same) in none)
 filled_end (s ∷ slots) (list ∷ lists) after same =
-    ap (λ items. filled items (list ∷ lists)) (append_assoc (slot_seen s) (flat_map slot_seen slots) (map written after) ∙ append_assoc (as_written s.before.items) (left_out s.boxed ∷ []) (flat_map slot_seen slots ++ map written after))
-    ∙ filled_after (map line_of s.before.items) (left_out s.boxed ∷ (flat_map slot_seen slots ++ map written after)) (list ∷ lists)
+    ap (λ items. filled items (list ∷ lists)) (append_assoc (slot_seen s) (flat_map slot_seen slots) (map written after) ∙ append_assoc (as_written s.before.items) (left_out s.boxed.sets ∷ []) (flat_map slot_seen slots ++ map written after))
+    ∙ filled_after (map line_of s.before.items) (left_out s.boxed.sets ∷ (flat_map slot_seen slots ++ map written after)) (list ∷ lists)
     ∙ ap (λ ms. map line_of s.before.items ++ (list ++ ms)) (filled_end slots lists after (omega (arith, same)))
     ∙ ap (λ ms. map line_of s.before.items ++ ms) (sym (append_assoc list (filled (flat_map slot_seen slots) lists) after))
     ∙ sym (append_assoc (map line_of s.before.items) (list ++ filled (flat_map slot_seen slots) lists) after)
@@ -121,10 +122,10 @@ module _ (p : Problem) where
   open_written [] items = refl
   open_written (l ∷ ls) items = ap (λ is. written l ∷ is) (open_written ls items)
 
-  pub open_slot : (s : Slot) (items : List Item) → flat_map (opened p) (slot_seen s ++ items) ≡ as_written s.before.items ++ (opened p (left_out s.boxed) ++ flat_map (opened p) items)
+  pub open_slot : (s : Slot) (items : List Item) → flat_map (opened p) (slot_seen s ++ items) ≡ as_written s.before.items ++ (opened p (left_out s.boxed.sets) ++ flat_map (opened p) items)
   open_slot s items =
-      ap (flat_map (opened p)) (append_assoc (as_written s.before.items) (left_out s.boxed ∷ []) items)
-      ∙ open_written (map line_of s.before.items) (left_out s.boxed ∷ items)
+      ap (flat_map (opened p)) (append_assoc (as_written s.before.items) (left_out s.boxed.sets ∷ []) items)
+      ∙ open_written (map line_of s.before.items) (left_out s.boxed.sets ∷ items)
 
   pub open_end : (after : List Line) → flat_map (opened p) (as_written after) ≡ as_written after
   open_end after =
@@ -151,33 +152,33 @@ module _ (p : Problem) where
 
   -- ---- the boxes are the problem's
 
-  closing_boxes : (box : Box) → IsBoxOf p box → (items : List Item) → AllByRecursion (IsBoxOf p) (boxes_left_out items) → AllByRecursion (IsBoxOf p) (boxes_left_out (closed_to (closing p box) ++ items))
-  closing_boxes box is items all = subst (AllByRecursion (IsBoxOf p)) (sym (boxes_append (closed_to (closing p box)) items)) (each_append (IsBoxOf p) (boxes_left_out (closed_to (closing p box))) (boxes_left_out items) (pub_closing box is) all)
+  closing_boxes : (box : Box) → IsBoxOf p box → (items : List Item) → AllByRecursion (IsClosedBox p) (boxes_left_out items) → AllByRecursion (IsClosedBox p) (boxes_left_out (closed_to (closing p box) ++ items))
+  closing_boxes box is items all = subst (AllByRecursion (IsClosedBox p)) (sym (boxes_append (closed_to (closing p box)) items)) (each_append (IsClosedBox p) (boxes_left_out (closed_to (closing p box))) (boxes_left_out items) (pub_closing box is) all)
     where
-      pub_closing : (box : Box) → IsBoxOf p box → AllByRecursion (IsBoxOf p) (boxes_left_out (closed_to (closing p box)))
-      pub_closing box is = subst (AllByRecursion (IsBoxOf p)) (sym (boxes_written (closing p box).lines (box_left (closing p box).left))) (by_left (closing p box).left refl)
+      pub_closing : (box : Box) → IsBoxOf p box → AllByRecursion (IsClosedBox p) (boxes_left_out (closed_to (closing p box)))
+      pub_closing box is = subst (AllByRecursion (IsClosedBox p)) (sym (boxes_written (closing p box).lines (box_left (closing p box).left))) (by_left (closing p box).left refl)
         where
-          by_left : (o : Option Box) → (closing p box).left ≡ o → AllByRecursion (IsBoxOf p) (boxes_left_out (box_left o))
+          by_left : (o : Option Box) → (closing p box).left ≡ o → AllByRecursion (IsClosedBox p) (boxes_left_out (box_left o))
           by_left None left = tt
-          by_left (Some b) left = ((closed_branch p box b is left).is_box, tt)
+          by_left (Some b) left = let branch = closed_branch p box b is left in (record { is_box = branch.is_box; closed = branch.closed; filled = branch.filled }, tt)
 
-  pub root_boxes : (box : Box) → IsBoxOf p box → (items : List Item) → items ≡ closed_to (closing p box) → AllByRecursion (IsBoxOf p) (boxes_left_out items)
-  root_boxes box is items same = subst (λ (is : List Item). AllByRecursion (IsBoxOf p) (boxes_left_out is)) (append-nil (closed_to (closing p box)) ∙ sym same) (closing_boxes box is [] tt)
+  pub root_boxes : (box : Box) → IsBoxOf p box → (items : List Item) → items ≡ closed_to (closing p box) → AllByRecursion (IsClosedBox p) (boxes_left_out items)
+  root_boxes box is items same = subst (λ (is : List Item). AllByRecursion (IsClosedBox p) (boxes_left_out is)) (append-nil (closed_to (closing p box)) ∙ sym same) (closing_boxes box is [] tt)
 
-  each_closed : (boxes : List Box) → AllByRecursion (IsBoxOf p) boxes → AllByRecursion (IsBoxOf p) (boxes_left_out (flat_map (λ b. closed_to (closing p b)) boxes))
+  each_closed : (boxes : List Box) → AllByRecursion (IsBoxOf p) boxes → AllByRecursion (IsClosedBox p) (boxes_left_out (flat_map (λ b. closed_to (closing p b)) boxes))
   each_closed [] all = tt
   each_closed (box ∷ boxes) all = closing_boxes box all.0 (flat_map (λ b. closed_to (closing p b)) boxes) (each_closed boxes all.1)
 
-  pub level_boxes : (items : List Item) → AllByRecursion (IsBoxOf p) (boxes_left_out items) → AllByRecursion (IsBoxOf p) (boxes_left_out (flat_map (opened p) items))
+  pub level_boxes : (items : List Item) → AllByRecursion (IsClosedBox p) (boxes_left_out items) → AllByRecursion (IsClosedBox p) (boxes_left_out (flat_map (opened p) items))
   level_boxes [] all = tt
   level_boxes (written l ∷ items) all = level_boxes items all
   level_boxes (left_out box ∷ items) all =
-      subst (AllByRecursion (IsBoxOf p)) (sym (boxes_append (opened p (left_out box)) (flat_map (opened p) items)))
-      (each_append (IsBoxOf p) (boxes_left_out (opened p (left_out box))) (boxes_left_out (flat_map (opened p) items)) (by_open (first_open box)) (level_boxes items all.1))
+      subst (AllByRecursion (IsClosedBox p)) (sym (boxes_append (opened p (left_out box)) (flat_map (opened p) items)))
+      (each_append (IsClosedBox p) (boxes_left_out (opened p (left_out box))) (boxes_left_out (flat_map (opened p) items)) (by_open (first_open box)) (level_boxes items all.1))
     where
-      by_open : (o : Option ℕ) → AllByRecursion (IsBoxOf p) (boxes_left_out (opened_at o p box))
+      by_open : (o : Option ℕ) → AllByRecursion (IsClosedBox p) (boxes_left_out (opened_at o p box))
       by_open None = (all.0, tt)
-      by_open (Some v) = each_closed (branches_at box v) (branches_are_boxes p box v all.0)
+      by_open (Some v) = each_closed (branches_at box v) (branches_are_boxes p box v all.0.is_box)
 
   -- ---- the branches of a point, one after another
 
@@ -198,18 +199,40 @@ others_there set value values more split there a is = there a (subst (λ vs. has
 pub first_there : (set : List ℕ) (value : ℕ) (values more : List ℕ) → values ≡ value ∷ more → ((a : ℕ) → has values a ≡ true → has set a ≡ true) → has set value ≡ true
 first_there set value values more split there = there value (subst (λ vs. has vs value ≡ true) (sym split) (grind (arith)))
 
+-- ---- closed boxes
+
+pub if_ok_both : {X E : Type 0} (r : Result X E) (P Q R : X → Type 0) → ((x : X) → P x → Q x → R x) → IfOk r P → IfOk r Q → IfOk r R
+if_ok_both (Ok x) P Q R f some more = f x some more
+if_ok_both (Err e) P Q R f some more = tt
+
+-- a box that was closed just now is of each problem in which its candidates are closed
+pub closed_for : (p : Problem) (b : Tracked) → IsJustClosed b → IsClosedBox p b.sets → IsFor p b
+closed_for p b now closed =
+    let last : box_after (length b.trail) b ≡ b.sets = ap (λ ws. put_back ws b.sets) (drop_all (length b.trail) b.trail (omega arith)) in
+    let was : WasClosed p b (length b.trail) = record {
+      within = omega arith;
+      filled = ap first_empty last ∙ closed.filled;
+      closed = ap (λ box. (sweep p box).lines) last ∙ closed.closed;
+    } in
+    record { is_box = closed.is_box; closed = subst (λ o. IfSome o (WasClosed p b)) (sym now) was }
+
+pub slot_closed : (slots : List Slot) (i : ℕ) (s : Slot) → AllByRecursion (λ (s : Slot). IsJustClosed s.boxed) slots → i < length slots → s ≡ get_or slots i s → IsJustClosed s.boxed
+slot_closed [] i s all low is = absurd (let none : ⊥ = omega (arith, low) in none)
+slot_closed (x ∷ slots) zero s all low is = subst (λ (t : Slot). IsJustClosed t.boxed) (sym is) all.0
+slot_closed (x ∷ slots) (suc i) s all low is = slot_closed slots i s all.1 (omega (arith, low)) is
+
 -- ---- the loops' steps
 
-pub few_enough : (slots : List Slot) (after : List Line) (items : List Item) (n : ℕ) → n ≡ length slots → flat_map slot_seen slots ++ as_written after ≡ items → n < 64 → list_any (λ (s : Slot). is_open s.boxed) slots ≡ is_to_open items
+pub few_enough : (slots : List Slot) (after : List Line) (items : List Item) (n : ℕ) → n ≡ length slots → flat_map slot_seen slots ++ as_written after ≡ items → n < 64 → list_any (λ (s : Slot). is_open s.boxed.sets) slots ≡ is_to_open items
 few_enough slots after items n same seen few =
-    sym (ap (λ b. b && list_any (λ (s : Slot). is_open s.boxed) slots) (lt-ltb (length slots) 64 (omega (arith, same, few))))
+    sym (ap (λ b. b && list_any (λ (s : Slot). is_open s.boxed.sets) slots) (lt-ltb (length slots) 64 (omega (arith, same, few))))
     ∙ sym (to_open_seen slots after) ∙ ap is_to_open seen
 
 pub enough : (slots : List Slot) (after : List Line) (items : List Item) (n : ℕ) → n ≡ length slots → flat_map slot_seen slots ++ as_written after ≡ items → 64 ≤ n → nat_lt n 64 ≡ is_to_open items
 enough slots after items n same seen many =
     let no : (m : ℕ) → 64 ≤ m → nat_lt m 64 ≡ false = λ m h. false_from_ne_true (nat_lt m 64) (λ yes'. let less = ltb-true m 64 yes' in let none : ⊥ = omega (arith, less, h) in none) in
     no n many
-    ∙ sym (ap (λ b. b && list_any (λ (s : Slot). is_open s.boxed) slots) (no (length slots) (omega (arith, same, many))))
+    ∙ sym (ap (λ b. b && list_any (λ (s : Slot). is_open s.boxed.sets) slots) (no (length slots) (omega (arith, same, many))))
     ∙ sym (to_open_seen slots after) ∙ ap is_to_open seen
 
 pub fill_step : {A : Type 0} (slots more : List Slot) (lists others : List (Vec Line A)) (s : Slot) (list : Vec Line A) (old mid new : List Line) (whole : List refutation.Line)
@@ -227,13 +250,13 @@ fill_step slots more lists others s list old mid new whole here there first then
     ∙ all
 
 pub opened_step : (p : Problem) (slots more : List Slot) (s : Slot) (old mid new whole : List Item) (lines : List Line)
-    → slots ≡ s ∷ more → lines ≡ s.before.items → mid ≡ old ++ as_written lines → new ≡ mid ++ opened p (left_out s.boxed)
+    → slots ≡ s ∷ more → lines ≡ s.before.items → mid ≡ old ++ as_written lines → new ≡ mid ++ opened p (left_out s.boxed.sets)
     → old ++ flat_map (opened p) (flat_map slot_seen slots) ≡ whole → new ++ flat_map (opened p) (flat_map slot_seen more) ≡ whole
 opened_step p slots more s old mid new whole lines here same first then all =
     let rest = flat_map slot_seen more in
-    ap (λ items. items ++ flat_map (opened p) rest) (then ∙ ap (λ items. items ++ opened p (left_out s.boxed)) (first ∙ ap (λ ls. old ++ as_written ls) same))
-    ∙ append_assoc (old ++ as_written s.before.items) (opened p (left_out s.boxed)) (flat_map (opened p) rest)
-    ∙ append_assoc old (as_written s.before.items) (opened p (left_out s.boxed) ++ flat_map (opened p) rest)
+    ap (λ items. items ++ flat_map (opened p) rest) (then ∙ ap (λ items. items ++ opened p (left_out s.boxed.sets)) (first ∙ ap (λ ls. old ++ as_written ls) same))
+    ∙ append_assoc (old ++ as_written s.before.items) (opened p (left_out s.boxed.sets)) (flat_map (opened p) rest)
+    ∙ append_assoc old (as_written s.before.items) (opened p (left_out s.boxed.sets) ++ flat_map (opened p) rest)
     ∙ ap (λ items. old ++ items) (sym (open_slot p s rest))
     ∙ ap (λ ss. old ++ flat_map (opened p) (flat_map slot_seen ss)) (sym here)
     ∙ all
@@ -248,7 +271,7 @@ opened_last p slots none after lines old new items past same grown all seen =
     ∙ sym (flat_map-append (opened p) (flat_map slot_seen slots) (as_written after))
     ∙ ap (flat_map (opened p)) seen
 
-pub boxes_of_slots : (P : Box → Type 0) (slots : List Slot) (after : List Line) (items : List Item) → flat_map slot_seen slots ++ as_written after ≡ items → AllByRecursion P (boxes_left_out items) → AllByRecursion P (map (λ (s : Slot). s.boxed) slots)
+pub boxes_of_slots : (P : Box → Type 0) (slots : List Slot) (after : List Line) (items : List Item) → flat_map slot_seen slots ++ as_written after ≡ items → AllByRecursion P (boxes_left_out items) → AllByRecursion P (map (λ (s : Slot). s.boxed.sets) slots)
 boxes_of_slots P slots after items seen all = subst (AllByRecursion P) (ap boxes_left_out (sym seen) ∙ boxes_seen slots after) all
 
 pub no_more_branches : (p : Problem) (old whole : List Item) (box : Box) (v left : ℕ) → values_in left ≡ [] → old ++ branches_closed p box v (values_in left) ≡ whole → old ≡ whole

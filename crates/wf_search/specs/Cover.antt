@@ -7,6 +7,7 @@ use Rattle.wf_model.specs.Refutation as refutation
 use Rattle.wf_model.specs.Split.{IsOrderedCover}
 use Rattle.wf_model.specs.Outline.{Item, boxes_left_out, filled, outline}
 use Rattle.wf_model.specs.Laws.{AreCanonicalForBranches, HasCanonicalLines, IsClosedBranch, IsRefutedBy, RefuteBranches}
+use Rattle.wf_box.specs.Boxes.{IsFor, Tracked}
 use Rattle.wf_complex.specs.Lines.{line_of}
 use Rattle.wf_complex.specs.declared.line.Line.{Line}
 
@@ -31,6 +32,10 @@ AreClosedBranches p cover = All (IsClosedBranch p (root p)) (boxes_left_out cove
 -- the box is such a branch of each problem whose cover this is
 abbrev pub IsClosedIn : List Item → Box → Type 0
 IsClosedIn cover box = (p : Problem) → IsWellFormed p → cover ≡ outline p → IsClosedBranch p (root p) box
+
+-- and it is a box of each such problem
+abbrev pub IsForIn : List Item → Tracked → Type 0
+IsForIn cover boxed = (p : Problem) → IsWellFormed p → cover ≡ outline p → IsFor p boxed
 
 -- ---- filling
 

@@ -1,13 +1,16 @@
 -- The outline of a problem, as the code keeps it.
-use Rattle.std.specs.Prelude.{◌≡◌, ◌&&◌, ℕ, nat_lt, Bool, List, [], ◌∷◌, ◌++◌, map, length, flat_map, Vec}
-use Rattle.std.specs.List.{list_any}
+use Rattle.std.specs.Prelude.{◌≡◌, ◌&&◌, ℕ, nat_lt, Bool, List, [], ◌∷◌, ◌++◌, map, length, flat_map, Vec, Some, None}
+use Rattle.std.specs.List.{AllByRecursion, list_any}
 use Rattle.wf_model.specs.Problem.{Problem}
-use Rattle.wf_model.specs.Box.{Box, branches_at}
+use Rattle.wf_model.specs.Box.{Box, branches_at, first_empty}
+use Rattle.wf_model.specs.Closing.{sweep}
+use Rattle.wf_model.specs.Laws.{IsBoxOf}
 use Rattle.wf_model.specs.Refutation as refutation
 use Rattle.wf_model.specs.Split.{is_open}
 use Rattle.wf_model.specs.Outline.{Item, written, left_out, boxes_left_out, closed_each, filled}
 use Rattle.wf_complex.specs.Lines.{line_of}
 use Rattle.wf_complex.specs.declared.line.Line.{Line}
+use Rattle.wf_box.specs.Boxes.{IsFor, Tracked}
 use Rattle.wf_search.specs.Cover.{each_seen}
 use Rattle.wf_search.specs.declared.outline.Slot.{Slot}
 use Rattle.wf_search.specs.declared.outline.Outline.TheInside.{Inside}
@@ -18,10 +21,27 @@ as_written lines = map written (map line_of lines)
 
 -- the lines before a box, and the box in the place of its own
 abbrev pub slot_seen : Slot → List Item
-slot_seen s = as_written s.before.items ++ left_out s.boxed ∷ []
+slot_seen s = as_written s.before.items ++ left_out s.boxed.sets ∷ []
 
 abbrev pub outline_seen : Inside → List Item
 outline_seen o = flat_map slot_seen o.slots.items ++ as_written o.after.items
+
+-- a box of the problem in which a sweep loses nothing and no point is without a candidate
+pub record IsClosedBox (p : Problem) (box : Box) : Type 0 where
+  pub is_box : IsBoxOf p box
+  pub closed : (sweep p box).lines ≡ []
+  pub filled : first_empty box ≡ None
+
+-- the box was closed, and has not changed since
+abbrev pub IsJustClosed : Tracked → Type 0
+IsJustClosed b = b.closed ≡ Some (length b.trail)
+
+-- it is the problem's if its candidates are those of a closed box
+abbrev pub IsForIfClosed : Tracked → Type 0
+IsForIfClosed b = (p : Problem) → IsClosedBox p b.sets → IsFor p b
+
+abbrev pub AreJustClosed : Inside → Type 0
+AreJustClosed o = AllByRecursion (λ (s : Slot). IsJustClosed s.boxed) o.slots.items
 
 -- whether a further level is opened
 abbrev pub is_to_open : List Item → Bool

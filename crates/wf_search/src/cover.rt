@@ -3,7 +3,7 @@
 ghost use Rattle.std.specs.Prelude.{◌≡◌, ◌<◌, ◌≤◌, length, IfOk};
 ghost use Rattle.wf_model.specs.Outline.{boxes_left_out, outline};
 ghost use Rattle.wf_model.specs.Split.{most_branches, split};
-ghost use Rattle.wf_search.specs.Cover.{AreClosedBranches, CoversRoot, IsCanonicalInRoot, IsClosedIn, IsFilled, RefutesRoot, branch_at};
+ghost use Rattle.wf_search.specs.Cover.{AreClosedBranches, CoversRoot, IsCanonicalInRoot, IsClosedIn, IsFilled, IsForIn, RefutesRoot, branch_at};
 
 use crate::outline::Outline;
 use std::alloc::{AllocError, Global};
@@ -47,8 +47,9 @@ impl Cover {
     /// A copy of the branch of this number. Refused for want of memory alone.
     pub fn branch(&self, alloc: Global, number: u32) -> Result<Box0, AllocError>
         requires { number < length (boxes_left_out self.now) }
-        ensures branch { IfOk result (λ boxed. boxed ≡ branch_at self.now number) }
-        ensures closed { IfOk result (IsClosedIn self.now) }
+        ensures branch { IfOk result (λ boxed. boxed.sets ≡ branch_at self.now number) }
+        ensures closed { IfOk result (λ boxed. IsClosedIn self.now boxed.sets) }
+        ensures is { IfOk result (IsForIn self.now) }
     {
         self.outline.copy_box(alloc, number as usize)
     }

@@ -4,12 +4,12 @@ ghost use Rattle.std.specs.Prelude.{◌≡◌, ◌<◌, ◌∷◌, ◌++◌, [],
 ghost use Rattle.std.specs.List.{AllByRecursion, list_any};
 ghost use Rattle.wf_model.specs.Problem.{Problem};
 ghost use Rattle.wf_model.specs.Closing.{closing};
-ghost use Rattle.wf_model.specs.Laws.{IsBoxOf};
 ghost use Rattle.wf_model.specs.Outline.{boxes_left_out, closed_to, left_out, opened, written};
 ghost use Rattle.wf_model.specs.Split.{is_open};
 ghost use Rattle.wf_complex.specs.Lines.{line_of};
+ghost use Rattle.wf_box.specs.Boxes.{IsFor};
 ghost use Rattle.wf_search.specs.Cover.{IsFilled, branch_at};
-ghost use Rattle.wf_search.specs.Outline.{Adds, as_written, branches_closed, is_to_open, slots_filled};
+ghost use Rattle.wf_search.specs.Outline.{Adds, IsClosedBox, IsForIfClosed, IsJustClosed, as_written, branches_closed, is_to_open, slots_filled};
 
 use std::alloc::{AllocError, Global};
 use std::marker::Model;
@@ -39,9 +39,11 @@ impl Model for Outline {
 
     ghost Value = { List Item };
 
-    ghost use Rattle.wf_search.specs.Outline.{outline_seen};
+    ghost use Rattle.wf_search.specs.Outline.{AreJustClosed, outline_seen};
 
     ghost view = { outline_seen };
+
+    ghost invariant = { AreJustClosed };
 }
 
 impl Outline {
@@ -65,7 +67,8 @@ impl Outline {
     /// A copy of the box of this number.
     pub(crate) fn copy_box(&self, alloc: Global, number: usize) -> Result<Box0, AllocError>
         requires { number < length (boxes_left_out self.now) }
-        ensures { IfOk result (λ boxed. boxed ≡ branch_at self.now number) }
+        ensures branch { IfOk result (λ boxed. boxed.sets ≡ branch_at self.now number) }
+        ensures is { IfOk result IsForIfClosed }
     {
         self.slots[number].boxed.copy(alloc)
     }
@@ -104,9 +107,10 @@ impl Outline {
         Ok(())
     }
 
-    /// Leaves out the lines that refute a box.
+    /// Leaves out the lines that refute a box, which was closed just now.
     fn leave_out(&mut self, alloc: Global, boxed: Box0) -> Result<(), AllocError>
-        ensures { OnOk result (self.new ≡ self.old ++ left_out boxed ∷ []) }
+        requires { IsJustClosed boxed }
+        ensures { OnOk result (self.new ≡ self.old ++ left_out boxed.sets ∷ []) }
     {
         let before = mem::replace(&mut self.after, Vec::new(alloc));
         self.slots.push(Slot { before, boxed })?;
@@ -120,8 +124,8 @@ impl Outline {
         problem: &Problem,
         boxed: Box0,
     ) -> Result<(), AllocError>
-        requires { IsBoxOf problem.now boxed }
-        ensures { OnOk result (self.new ≡ self.old ++ closed_to (closing problem.now boxed)) }
+        requires { IsFor problem.now boxed }
+        ensures { OnOk result (self.new ≡ self.old ++ closed_to (closing problem.now boxed.sets)) }
     {
         let mut boxed = boxed;
         match close(alloc, problem, &mut boxed, &mut self.after)? {
@@ -138,9 +142,9 @@ impl Outline {
         boxed: &Box0,
         point: u32,
     ) -> Result<(), AllocError>
-        requires boxed { IsBoxOf problem.now boxed.now }
-        requires point { point < length boxed.now }
-        ensures { OnOk result (self.new ≡ self.old ++ branches_closed problem.now boxed.now point) }
+        requires boxed { IsFor problem.now boxed.now }
+        requires point { point < length boxed.now.sets }
+        ensures { OnOk result (self.new ≡ self.old ++ branches_closed problem.now boxed.now.sets point) }
     {
         let mut left = boxed.candidates(point);
         'values: while let Some((value, others)) = split_first(left) {
@@ -155,8 +159,9 @@ impl Outline {
     /// Writes the branching of a closed box and the lines of closing its branches; where it has no open point, the lines
     /// that refute it are left out.
     fn open(&mut self, alloc: Global, problem: &Problem, boxed: Box0) -> Result<(), AllocError>
-        requires { IsBoxOf problem.now boxed }
-        ensures { OnOk result (self.new ≡ self.old ++ opened problem.now (left_out boxed)) }
+        requires boxed { IsFor problem.now boxed }
+        requires closed { IsJustClosed boxed }
+        ensures { OnOk result (self.new ≡ self.old ++ opened problem.now (left_out boxed.sets)) }
     {
         match boxed.first_open() {
             None => self.leave_out(alloc, boxed),
@@ -169,7 +174,7 @@ impl Outline {
 
     /// Each open box gives way to its branches, and the others stay.
     pub(crate) fn opened(self, alloc: Global, problem: &Problem) -> Result<Outline, AllocError>
-        requires { AllByRecursion (IsBoxOf problem.now) (boxes_left_out self) }
+        requires { AllByRecursion (IsClosedBox problem.now) (boxes_left_out self) }
         ensures { IfOk result (λ outline. outline ≡ flat_map (opened problem.now) self) }
     {
         let Outline { slots, after } = self;
@@ -185,7 +190,7 @@ impl Outline {
 
 /// Whether one of the boxes is open.
 fn has_open(slots: &[Slot]) -> bool
-    ensures { result ≡ list_any (λ slot. is_open slot.boxed) slots.now }
+    ensures { result ≡ list_any (λ slot. is_open slot.boxed.sets) slots.now }
 {
     slots.iter().any(|slot| slot.boxed.first_open().is_some())
 }

@@ -57,3 +57,15 @@ pub returns-clause-spent : goal.returns-clause-spent
 returns-clause-spent c =
     let fewer = one_less c.args.sets.now c.args.place.point c.args.value c.without-set.result c.requires.point c.without-set.ensures c.requires.present in
     omega (arith, fewer, c.put.ensures.len)
+
+pub returns-then-is_empty-clause-fewer : goal.returns-then-is_empty-clause-fewer
+returns-then-is_empty-clause-fewer c = let fewer = one_less c.args.sets.now c.args.place.point c.args.value c.without-set.result c.requires.point c.without-set.ensures c.requires.present in omega (arith, fewer)
+
+pub returns-then-is_empty-clause-same : goal.returns-then-is_empty-clause-same
+returns-then-is_empty-clause-same c = λ is. let fewer = one_less c.args.sets.now c.args.place.point c.args.value c.without-set.result c.requires.point c.without-set.ensures c.requires.present in absurd (let none : ⊥ = omega (arith, fewer, is) in none)
+
+pub returns-clause-fewer : goal.returns-clause-fewer
+returns-clause-fewer c = let fewer = one_less c.args.sets.now c.args.place.point c.args.value c.without-set.result c.requires.point c.without-set.ensures c.requires.present in omega (arith, fewer)
+
+pub returns-clause-same : goal.returns-clause-same
+returns-clause-same c = λ is. let fewer = one_less c.args.sets.now c.args.place.point c.args.value c.without-set.result c.requires.point c.without-set.ensures c.requires.present in absurd (let none : ⊥ = omega (arith, fewer, is) in none)

@@ -1,15 +1,22 @@
-use Rattle.std.proofs.Common.{◌≡◌, length, ap, sym, subst, arith}
-use Rattle.std.specs.Vec.{with_items}
-use Rattle.std.proofs.lemmas.List.{with_items_is, length-map}
+use Rattle.std.proofs.Common.{◌≡◌, Some, ap, sym, ◌∙◌, ◌∷◌, [], refl, length, subst, length-set}
+use Rattle.std.proofs.lemmas.List.{length-map}
 use Rattle.wf_model.specs.Laws.{IsBoxOf}
-use Rattle.wf_set.specs.Sets.{values_in}
-use Rattle.wf_set.specs.Sets.{box_of}
+use Rattle.wf_set.specs.Sets.{box_of, values_in}
+use Rattle.wf_box.specs.Boxes.{Grows, IsFor, Tracked}
 use Rattle.wf_box.proofs.CloseLemmas.{is_box}
+use Rattle.wf_box.proofs.SeenLemmas.{grown_seen, still_for, tracked_seen}
 use Rattle.wf_box.proofs.boxed.Box0.set.Goals as goal
 
-pub returns-clause-shape : goal.returns-clause-shape
-returns-clause-shape c = λ p is.
-    let same : (with_items c.self.inside.sets c.leave_value.new.sets).items ≡ c.leave_value.new.sets =
-    with_items_is c.self.inside.sets c.leave_value.new.sets (omega (arith, c.leave_value.auto.sets, c.deref_mut.ensures.len, c.deref_mut.ensures.value, c.self.inside.sets.ok.0)) in
-    subst (λ xs. IsBoxOf p (box_of xs)) (sym same)
-    (is_box p c.leave_value.new.sets (omega (arith, c.leave_value.auto.sets, ap length c.deref_mut.ensures.value, is.long, ap length c.self.view_is, length-map c.self.inside.sets.items values_in)))
+pub returns-clause-grown : goal.returns-clause-grown
+returns-clause-grown c =
+    let seen = grown_seen c.self.inside.tracked.words.items c.self.inside.tracked.trail.items c.set.new.self.words.items c.set.new.self.trail.items c.self.inside.closed c.self.inside.closed c.set.ensures.grown in
+    subst (λ (b : Tracked). Grows b (tracked_seen c.set.new.self.words.items c.set.new.self.trail.items c.self.inside.closed)) c.self.view_is seen
+
+pub returns-clause-is : goal.returns-clause-is
+returns-clause-is c = λ p is.
+    let old = tracked_seen c.self.inside.tracked.words.items c.self.inside.tracked.trail.items c.self.inside.closed in
+    let new = tracked_seen c.set.new.self.words.items c.set.new.self.trail.items c.self.inside.closed in
+    let seen = grown_seen c.self.inside.tracked.words.items c.self.inside.tracked.trail.items c.set.new.self.words.items c.set.new.self.trail.items c.self.inside.closed c.self.inside.closed c.set.ensures.grown in
+    let is_old : IsFor p old = subst (IsFor p) (sym c.self.view_is) is in
+    let long = sym (length-map c.set.new.self.words.items values_in) ∙ ap length c.set.ensures.decided ∙ length-set (box_of c.self.inside.tracked.words.items) c.args.point (c.args.value ∷ []) ∙ is_old.is_box.long in
+    still_for p old new seen refl (is_box p c.set.new.self.words.items long) is_old

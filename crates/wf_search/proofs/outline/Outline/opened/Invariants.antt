@@ -1,13 +1,13 @@
 use Rattle.std.proofs.Common.{◌≡◌, ◌++◌, flat_map, map}
 use Rattle.std.specs.List.{AllByRecursion}
-use Rattle.wf_model.specs.Laws.{IsBoxOf}
 use Rattle.wf_model.specs.Outline.{opened}
-use Rattle.wf_search.specs.Outline.{slot_seen}
+use Rattle.wf_search.specs.Outline.{IsClosedBox, IsJustClosed, slot_seen}
 use Rattle.wf_search.proofs.outline.Outline.opened.Given as goal
 
 abbrev pub invariant-loop-slot : goal.invariant-loop-slot
 invariant-loop-slot l = record {
-  boxes : AllByRecursion (IsBoxOf l.problem) (map (λ slot. slot.boxed) l.slot-iterator.rest.items);
+  boxes : AllByRecursion (IsClosedBox l.problem) (map (λ slot. slot.boxed.sets) l.slot-iterator.rest.items);
+  closed : AllByRecursion (λ slot. IsJustClosed slot.boxed) l.slot-iterator.rest.items;
   items : l.outline ++ flat_map (opened l.problem) (flat_map slot_seen l.slot-iterator.rest.items)
       ≡ flat_map (opened l.problem) (flat_map slot_seen l.initial.slot-iterator.rest.items);
 }

@@ -1,0 +1,51 @@
+-- What executions without a mark keep.
+use Rattle.std.specs.Prelude.{◌≡◌, ◌≢◌, ◌<◌, ◌≤◌, ◌+◌, ◌-◌, ◌*◌, ℕ, List, [], ◌∷◌, length, get_or, slice_index, take, drop, All, None}
+use Rattle.wf_model.specs.Problem.{Problem, Constraint, no_constraint}
+use Rattle.wf_model.specs.Box.{Box, first_empty}
+use Rattle.wf_model.specs.Closing.{lost, sweep}
+use Rattle.wf_box.specs.Marks.{bit_of}
+use Rattle.wf_set.specs.Sets.{box_of}
+use Rattle.wf_box.specs.Changes.{words_after}
+use Rattle.wf_box.specs.declared.tracked.Change.{Change}
+use Rattle.wf_box.specs.declared.problem.Execution.{Execution}
+use Rattle.wf_box.specs.declared.users.Users.{Users}
+
+-- an execution without a mark has lost nothing
+abbrev pub IsQuiet : List Constraint → List ℕ → Box → Type 0
+IsQuiet ks marks box = (e : ℕ) → e < length ks → bit_of marks e ≡ 0 → lost box (get_or ks e no_constraint) ≡ []
+
+-- and this one may have
+abbrev pub IsQuietBut : ℕ → List Constraint → List ℕ → Box → Type 0
+IsQuietBut number ks marks box = (e : ℕ) → e ≢ number → e < length ks → bit_of marks e ≡ 0 → lost box (get_or ks e no_constraint) ≡ []
+
+-- the executions in which a point stands
+abbrev pub users_of : Users → ℕ → List ℕ
+users_of u v = take (slice_index u.starts.items (v + 1) - slice_index u.starts.items v) (drop (slice_index u.starts.items v) u.executions.items)
+
+abbrev pub IsUser : Users → ℕ → ℕ → Type 0
+IsUser u v e = (i : ℕ) × (i < length (users_of u v)) × (slice_index (users_of u v) i ≡ e)
+
+-- so many points and executions have users
+pub record AreUsers (u : Users) (points executions : ℕ) : Type 0 where
+  pub long : length u.starts.items ≡ points + 1
+  pub ordered : (v : ℕ) → v < points → slice_index u.starts.items v ≤ slice_index u.starts.items (v + 1)
+  pub within : (v : ℕ) → v < points → slice_index u.starts.items (v + 1) ≤ length u.executions.items
+  pub below : All (λ e. e < executions) u.executions.items
+
+-- an execution without a mark had none before, and its points have the words that they had
+abbrev pub IsUntouched : Users → List ℕ → List ℕ → List ℕ → List ℕ → Type 0
+IsUntouched u words marks fewer more = (e : ℕ) → bit_of more e ≡ 0 → (bit_of marks e ≡ 0) × ((v : ℕ) → IsUser u v e → get_or fewer v 0 ≡ get_or words v 0)
+
+-- no execution
+abbrev pub no_execution : Execution
+no_execution = record { rule = 0; points = [] }
+
+-- each of its four points knows an execution
+abbrev pub AreTold : Users → List Execution → Type 0
+AreTold u es = (e place : ℕ) → e < length es → place < 4 → IsUser u (slice_index (get_or es e no_execution).points place) e
+
+-- after so many changes the words were those of a closed box without an empty point
+pub record WasClosed (p : Problem) (trail : List Change) (words : List ℕ) (n : ℕ) : Type 0 where
+  pub within : n ≤ length trail
+  pub filled : first_empty (box_of (words_after n trail words)) ≡ None
+  pub closed : (sweep p (box_of (words_after n trail words))).lines ≡ []

@@ -1,0 +1,179 @@
+//! Marks on executions.
+
+ghost use Rattle.std.specs.Prelude.{◌≡◌, ◌≢◌, ◌<◌, ◌≤◌, ◌*◌, ◌/◌, ◌+◌, ◌^◌, ℕ, false, All, length, slice_index, vec_len, OnOk, IfSome, IfNone};
+ghost use Rattle.wf_box.specs.Limits.{most_executions, most_words};
+ghost use Rattle.wf_box.specs.Marks.{IsLast, IsMore, IsNext, TopsTell, bit_of};
+
+use std::alloc::{AllocError, Global};
+
+/// Marks on executions, of which the next one is found fast.
+#[derive(Drop)]
+pub(crate) struct Marks {
+    // bit n % 64 of word n / 64 is set where execution n is marked
+    pub(crate) words: Vec<u64>,
+    // bit n % 64 of word n / 64 is set where the words' word n is not 0
+    pub(crate) tops: Vec<u64>,
+    ghost few: { length words.items ≤ most_words },
+    ghost few_tops: { length tops.items ≤ most_words },
+    ghost tops_within: { length words.items ≤ 64 * length tops.items },
+    ghost tops_tell: { TopsTell words.items tops.items },
+}
+
+impl Marks {
+    /// No marks, and room for none.
+    pub(crate) fn new(alloc: Global) -> Marks {
+        Marks {
+            words: Vec::new(alloc),
+            tops: Vec::new(alloc),
+        }
+    }
+
+    /// Makes room for the marks of so many executions. Where there was too little, none is marked then.
+    pub(crate) fn reserve(&mut self, alloc: Global, executions: u32) -> Result<(), AllocError>
+        requires { executions ≤ most_executions }
+        ensures { OnOk result (executions ≤ 64 * length self.new.words.items) }
+    {
+        let words = executions as usize / 64 + 1;
+        if self.words.len() < words {
+            *self = Marks {
+                words: vec![in alloc; 0; words]?,
+                tops: vec![in alloc; 0; words / 64 + 1]?,
+            };
+        }
+        Ok(())
+    }
+
+    /// Marks an execution.
+    pub(crate) fn mark(&mut self, number: u32)
+        requires { number < 64 * length self.old.words.items }
+        ensures marked { bit_of self.new.words.items number ≡ 1 }
+        ensures kept { IsMore self.old.words.items self.new.words.items }
+        ensures long { length self.new.words.items ≡ length self.old.words.items }
+    {
+        add_bit(&mut self.words, number as usize);
+        add_bit(&mut self.tops, number as usize / 64);
+    }
+
+    /// Marks these executions.
+    pub(crate) fn mark_each(&mut self, numbers: &[u32])
+        requires { All (λ n. n < 64 * length self.old.words.items) numbers.now }
+        ensures marked { (i : ℕ) → i < length numbers.now → bit_of self.new.words.items (slice_index numbers.now i) ≡ 1 }
+        ensures kept { IsMore self.old.words.items self.new.words.items }
+        ensures long { length self.new.words.items ≡ length self.old.words.items }
+    {
+        for number in numbers {
+            self.mark(*number);
+        }
+    }
+
+    /// Marks all executions.
+    pub(crate) fn mark_all(&mut self)
+        ensures marked { (n : ℕ) → n < 64 * length self.old.words.items → bit_of self.new.words.items n ≡ 1 }
+        ensures long { length self.new.words.items ≡ length self.old.words.items }
+    {
+        self.words.fill(u64::MAX);
+        self.tops.fill(u64::MAX);
+    }
+
+    /// Takes all marks away.
+    pub(crate) fn clear(&mut self)
+        ensures long { length self.new.words.items ≡ length self.old.words.items }
+    {
+        let mut next = 0;
+        'words: while let Some(word) = next_bit(&self.tops, next) {
+            if word >= self.words.len() {
+                return;
+            }
+            self.words[word] = 0;
+            take_bit(&mut self.tops, word);
+            next = word + 1;
+        }
+    }
+
+    /// Takes the mark of the first marked execution from this one on away.
+    pub(crate) fn take_next(&mut self, from: u32) -> Option<u32>
+        ensures next { IfSome result (IsNext self.old.words.items from) }
+        ensures others { IfSome result (λ number. (n : ℕ) → n ≢ number → bit_of self.new.words.items n ≡ bit_of self.old.words.items n) }
+        ensures last { IfNone result (IsLast self.old.words.items from) }
+        ensures same { IfNone result (self.new.words.items ≡ self.old.words.items) }
+        ensures long { length self.new.words.items ≡ length self.old.words.items }
+    {
+        let number = self.next(from as usize)?;
+        take_bit(&mut self.words, number);
+        if self.words[number / 64] == 0 {
+            take_bit(&mut self.tops, number / 64);
+        }
+        Some(number as u32)
+    }
+
+    /// The first marked execution from this one on.
+    fn next(&self, from: usize) -> Option<usize>
+        requires { from < 2 ^ 32 }
+        ensures next { IfSome result (IsNext self.now.words.items from) }
+        ensures last { IfNone result (IsLast self.now.words.items from) }
+    {
+        let mut from = from;
+        'words: while from / 64 < self.words.len() {
+            let found = first_here(&self.words, from);
+            if found.is_some() {
+                return found;
+            }
+            from = 64 * next_bit(&self.tops, from / 64 + 1)?;
+        }
+        None
+    }
+}
+
+/// The first bit that is set, from this one on.
+fn next_bit(words: &[u64], from: usize) -> Option<usize>
+    requires few { length words.now ≤ most_words }
+    requires low { from < 2 ^ 33 }
+    ensures next { IfSome result (IsNext words.now from) }
+    ensures last { IfNone result (IsLast words.now from) }
+{
+    let mut from = from;
+    'words: while from / 64 < words.len() {
+        let found = first_here(words, from);
+        if found.is_some() {
+            return found;
+        }
+        from = (from / 64 + 1) * 64;
+    }
+    None
+}
+
+/// The first bit that is set in the word of this one, from this one on.
+fn first_here(words: &[u64], from: usize) -> Option<usize>
+    requires within { from / 64 < length words.now }
+    requires low { from < 2 ^ 34 }
+    ensures next { IfSome result (IsNext words.now from) }
+    ensures last { IfNone result ((m : ℕ) → from ≤ m → m / 64 ≡ from / 64 → bit_of words.now m ≡ 0) }
+{
+    let here = words[from / 64] >> (from % 64);
+    if here == 0 {
+        return None;
+    }
+    Some(from + here.trailing_zeros() as usize)
+}
+
+/// Sets a bit.
+fn add_bit(words: &mut Vec<u64>, bit: usize)
+    requires { bit < 64 * length words.old.items }
+    ensures added { bit_of words.new.items bit ≡ 1 }
+    ensures others { (n : ℕ) → n ≢ bit → bit_of words.new.items n ≡ bit_of words.old.items n }
+    ensures long { length words.new.items ≡ length words.old.items }
+    ensures words { (i : ℕ) → i ≢ bit / 64 → slice_index words.new.items i ≡ slice_index words.old.items i }
+{
+    words[bit / 64] |= 1 << (bit % 64);
+}
+
+/// Takes a bit away.
+fn take_bit(words: &mut Vec<u64>, bit: usize)
+    requires { bit < 64 * length words.old.items }
+    ensures taken { bit_of words.new.items bit ≡ 0 }
+    ensures others { (n : ℕ) → n ≢ bit → bit_of words.new.items n ≡ bit_of words.old.items n }
+    ensures long { length words.new.items ≡ length words.old.items }
+    ensures words { (i : ℕ) → i ≢ bit / 64 → slice_index words.new.items i ≡ slice_index words.old.items i }
+{
+    words[bit / 64] &= !(1 << (bit % 64));
+}

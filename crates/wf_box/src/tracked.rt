@@ -1,0 +1,155 @@
+//! The candidates of each point, and what they were.
+
+ghost use Rattle.std.specs.Prelude.{◌≡◌, ◌<◌, ◌≤◌, ◌++◌, ◌∷◌, [], true, length, take, get_or, vec_capacity, IfOk};
+ghost use Rattle.std.specs.List.{slice_set};
+ghost use Rattle.wf_model.specs.Lists.{has};
+ghost use Rattle.wf_model.specs.Box.{candidates, count, decided, first_open};
+ghost use Rattle.wf_set.specs.Sets.{box_of, values_in};
+ghost use Rattle.wf_box.specs.Changes.{IsGrown, IsTracked, IsUndone, KeepsTrack, words_after};
+ghost use Rattle.wf_box.specs.Limits.{most_candidates, most_points};
+
+use std::alloc::{AllocError, Global};
+use wf_lane::{count, first_open};
+use wf_set::{Mask, count as size, has_two, only};
+
+/// A point's candidates as they were before a change.
+#[derive(Clone, Copy, Debug)]
+pub(crate) struct Change {
+    pub(crate) point: u32,
+    pub(crate) before: Mask,
+}
+
+/// The candidates of each point, and the changes that made them so.
+#[derive(Drop)]
+pub(crate) struct Tracked {
+    // for each point its candidates
+    pub(crate) words: Vec<Mask>,
+    // there is room for as many changes as there were candidates at first
+    pub(crate) trail: Vec<Change>,
+    // how many candidates there are in all
+    pub(crate) count: u32,
+    // no point before this one has two candidates
+    pub(crate) open_from: u32,
+}
+
+impl Tracked {
+    /// These candidates, which have not changed yet.
+    pub(crate) fn new(alloc: Global, words: Vec<Mask>) -> Result<Tracked, AllocError>
+        requires { length words.items ≤ most_points }
+        ensures kept { IfOk result KeepsTrack }
+        ensures words { IfOk result (λ tracked. tracked.words.items ≡ words.items) }
+        ensures trail { IfOk result (λ tracked. tracked.trail.items ≡ []) }
+    {
+        let count = count_candidates(&words);
+        Ok(Tracked {
+            words,
+            trail: Vec::with_capacity(alloc, count as usize)?,
+            count,
+            open_from: 0,
+        })
+    }
+
+    /// Leaves a point one of its candidates.
+    pub(crate) fn set(&mut self, point: u32, value: u8)
+        requires kept { KeepsTrack self.old }
+        requires there { has (candidates (box_of self.old.words.items) point) value ≡ true }
+        ensures kept { KeepsTrack self.new }
+        ensures decided { box_of self.new.words.items ≡ decided (box_of self.old.words.items) point value }
+        ensures grown { IsGrown self.old.words.items self.old.trail.items self.new.words.items self.new.trail.items }
+    {
+        let before = self.words[point as usize];
+        if has_two(before) {
+            self.words[point as usize] = only(value);
+            self.note(point, before);
+        }
+    }
+
+    /// Keeps what a point's candidates were before they became fewer.
+    pub(crate) fn note(&mut self, point: u32, before: Mask)
+        requires kept { IsTracked (slice_set self.old.words.items point before) self.old.trail.items (vec_capacity self.old.trail) self.old.count self.old.open_from }
+        requires within { point < length self.old.words.items }
+        requires fewer { length (values_in (get_or self.old.words.items point 0)) < length (values_in before) }
+        ensures kept { KeepsTrack self.new }
+        ensures words { self.new.words.items ≡ self.old.words.items }
+        ensures trail { self.new.trail.items ≡ self.old.trail.items ++ record { point = point; before = before } ∷ [] }
+    {
+        let now = self.words[point as usize];
+        self.count = self.count + size(now) - size(before);
+        self.trail.push_reserved(Change { point, before });
+    }
+
+    /// Takes the changes past so many back, the last first.
+    pub(crate) fn undo(&mut self, len: usize)
+        requires kept { KeepsTrack self.old }
+        requires within { len ≤ length self.old.trail.items }
+        ensures kept { KeepsTrack self.new }
+        ensures words { self.new.words.items ≡ words_after len self.old.trail.items self.old.words.items }
+        ensures trail { self.new.trail.items ≡ take len self.old.trail.items }
+    {
+        'changes: while self.trail.len() > len {
+            self.undo_last();
+        }
+    }
+
+    /// Takes the last change back.
+    fn undo_last(&mut self)
+        requires kept { KeepsTrack self.old }
+        requires some { 0 < length self.old.trail.items }
+        ensures kept { KeepsTrack self.new }
+        ensures undone { IsUndone self.old.words.items self.old.trail.items self.new.words.items self.new.trail.items }
+    {
+        if let Some(change) = self.trail.pop() {
+            let now = self.words[change.point as usize];
+            self.count = self.count + size(change.before) - size(now);
+            self.words[change.point as usize] = change.before;
+            self.open_from = open_from_with(self.open_from, change);
+        }
+    }
+
+    /// The first point with two candidates or more.
+    pub(crate) fn first_open(&self) -> Option<u32>
+        requires { KeepsTrack self.now }
+        ensures { result ≡ first_open (box_of self.now.words.items) }
+    {
+        match first_open(&self.words[self.open_from as usize..]) {
+            Some(later) => Some(self.open_from + later as u32),
+            None => None,
+        }
+    }
+
+    /// The same, and the next time the search starts there.
+    pub(crate) fn find_open(&mut self) -> Option<u32>
+        requires { KeepsTrack self.old }
+        ensures found { result ≡ first_open (box_of self.old.words.items) }
+        ensures kept { KeepsTrack self.new }
+        ensures words { self.new.words.items ≡ self.old.words.items }
+        ensures trail { self.new.trail.items ≡ self.old.trail.items }
+    {
+        let found = self.first_open();
+        if let Some(point) = found {
+            self.open_from = point;
+        }
+        found
+    }
+}
+
+/// Up to where no point has two candidates, once a change is taken back.
+fn open_from_with(open_from: u32, undone: Change) -> u32
+    ensures low { result ≤ open_from }
+    ensures open { undone.point < result → length (values_in undone.before) ≤ 1 }
+{
+    if has_two(undone.before) {
+        open_from.min(undone.point)
+    } else {
+        open_from
+    }
+}
+
+/// How many candidates the points have in all.
+fn count_candidates(sets: &[Mask]) -> u32
+    requires { length sets.now ≤ most_points }
+    ensures count { result ≡ count (box_of sets.now) }
+    ensures few { result ≤ most_candidates }
+{
+    count(sets) as u32
+}
