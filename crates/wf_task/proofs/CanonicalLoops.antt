@@ -17,7 +17,7 @@ use Rattle.wf_task.specs.Canonical.{is_inner, facets, HasFewFacets, list_data, s
 use Rattle.wf_task.specs.Shape.{rule_of}
 use Rattle.wf_task.specs.TaskSeen.{rules_seen, task_of_parts}
 use Rattle.wf_model.proofs.Fuel.{length_filter}
-use Rattle.wf_task.proofs.FamilyLoops.{filter-passes, filter-fails}
+use Rattle.wf_task.proofs.OneMore.{filter-passes, filter-fails}
 use Rattle.wf_task.proofs.Faceted.{inner-border, border-inner, length-complex, within-complex, removed-part}
 use Rattle.wf_task.proofs.Images.{nonempty-long, part-face}
 use Rattle.wf_task.proofs.TaskSeen.{inputs-rules_seen}

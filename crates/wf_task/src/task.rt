@@ -71,8 +71,8 @@ impl Task {
         judged(alloc, &draft)
     }
 
-    /// The task of these parts, the tuples in the order of the inputs.
-    pub(crate) fn of_parts(
+    /// The task of these parts, the tuples of each input simplex in the order of the inputs.
+    pub fn of_parts(
         processes: u8,
         symmetric: bool,
         inputs: Complex,

@@ -6,7 +6,7 @@ use Rattle.std.specs.declared.cmp.Ordering.TheVariants.{Less, Equal}
 use Rattle.std.specs.Ordering.{nat_cmp}
 use Rattle.std.specs.Cmp.{tied_itself}
 use Rattle.std.specs.Cmp.Lexicographic.{slice_cmp}
-use Rattle.std.proofs.lemmas.Bool.{and_parts, and_from}
+use Rattle.std.proofs.lemmas.Bool.{and_parts, and_from, le-ltb}
 use Rattle.std.proofs.lemmas.List.{length-map}
 use Rattle.serde_json.specs.Data.{Data, boolean, object, member, no_members}
 use Rattle.serde_json.specs.View.{items_of}
@@ -30,7 +30,6 @@ use Rattle.wf_task.proofs.Extending.{values-zip-same}
 use Rattle.wf_task.proofs.Faceted.{complex_of-facets}
 use Rattle.wf_task.proofs.Facets.{any-has}
 use Rattle.wf_task.proofs.Listings.{map-has, has-map, each_has}
-use Rattle.wf_task.proofs.PresetLimits.{not_above}
 use Rattle.wf_task_laws.specs.ReadBack.{IsListable}
 
 -- ---- reading the value
@@ -113,7 +112,7 @@ not_none n = by (suc n == 0) refl
 -- ---- numbers
 
 small-list : (xs : List ℕ) → All (λ x. x ≤ 63) xs → list_any is_large xs ≡ false
-small-list xs h = any_false is_large xs (λ x k. not_above 63 x (has_of_all (λ x. x ≤ 63) x xs h k))
+small-list xs h = any_false is_large xs (λ x k. le-ltb 63 x (has_of_all (λ x. x ≤ 63) x xs h k))
 
 simplex-small : (n : ℕ) (s : Simplex) → IsSimplexWithin n 63 s → has_large s ≡ false
 simplex-small n s h = small-list (values_of s) h.values
@@ -242,10 +241,10 @@ module _ (t : Task) (h : IsListable t) where
   sizes-pass : sizes_judged (listed_of t) (inputs t) ≡ Ok tt
   unfolding sizes_judged
   sizes-pass =
-      rw (not_above 64 (count_by (λ s. length s == 1) (inputs t)) h.task.few_vertices)
-      (rw (not_above 4096 (length (inputs t)) input_count)
-      (rw (not_above 65536 (length (facets t.outputs)) h.few)
-      (rw (not_above 65536 (sum_by (λ rule. length rule.tuples) t.rules) h.task.few_tuples) refl)))
+      rw (le-ltb 64 (count_by (λ s. length s == 1) (inputs t)) h.task.few_vertices)
+      (rw (le-ltb 4096 (length (inputs t)) input_count)
+      (rw (le-ltb 65536 (length (facets t.outputs)) h.few)
+      (rw (le-ltb 65536 (sum_by (λ rule. length rule.tuples) t.rules) h.task.few_tuples) refl)))
 
   entry : (s : Simplex) → Has s (inputs t) → (rule : Rule) × Has rule t.rules × (rule.input ≡ s) × (entries_in t.rules s ≡ rule ∷ [])
   entry s k =

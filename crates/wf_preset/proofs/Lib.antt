@@ -1,0 +1,5 @@
+pub mod Agreeing
+pub mod Naming
+pub mod FamilyTasks
+pub mod FamilyLoops
+pub mod PresetLimits
