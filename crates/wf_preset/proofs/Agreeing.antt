@@ -1,8 +1,7 @@
 -- The outputs of set agreement: the decisions of all participants, and what they decide in any part of them.
-use Rattle.std.proofs.Common.{◌≡◌, ℕ, zero, suc, ◌+◌, ◌*◌, ◌^◌, ◌<◌, ◌≤◌, ◌==◌, true, nat_le, List, [], ◌∷◌, length, map, filter, flat_map, zip, count_by, inl, inr, refl, sym, ap, ◌∙◌, subst, arith, le-leb, leb-true, eq-eqb, eqb-true}
+use Rattle.std.proofs.Common.{◌≡◌, ℕ, zero, suc, ◌*◌, ◌^◌, ◌<◌, ◌≤◌, ◌==◌, true, nat_le, List, [], ◌∷◌, length, map, filter, flat_map, zip, count_by, inl, inr, refl, sym, ap, ◌∙◌, subst, arith, le-leb, leb-true, eqb-true}
 use Rattle.std.specs.List.{AllByRecursion}
 use Rattle.std.specs.List.Sorted.{IsStrictlySortedBy}
-use Rattle.std.specs.declared.cmp.Ordering.{Ordering}
 use Rattle.std.specs.declared.cmp.Ordering.TheVariants.{Less}
 use Rattle.std.specs.Ordering.{nat_cmp, ordering_then}
 use Rattle.std.specs.Cmp.{nat_cmp_total, tied_itself}
@@ -13,16 +12,16 @@ use Rattle.std.proofs.lemmas.List.Sums.{length-filter}
 use Rattle.std.proofs.lemmas.List.FromFn.{length-range_with_len}
 use Rattle.wf_model.specs.Lists.{below, lists_of, in_order}
 use Rattle.wf_model.specs.Presets.{Inputs, own, all, input_facets, input_values, agreeing, different}
-use Rattle.wf_model.specs.Simplex.{Simplex, Vertex, processes_of, values_of, is_nonempty, parts_of, faces_of, simplex_cmp, vertex_cmp, complex_of}
+use Rattle.wf_model.specs.Simplex.{Simplex, Vertex, processes_of, values_of, is_nonempty, parts_of, simplex_cmp, vertex_cmp, complex_of}
 use Rattle.wf_model.specs.Task.{Tuple}
 use Rattle.wf_model.proofs.Fuel.{length_filter}
 use Rattle.wf_simplex.specs.Order.{simplex_cmp-total, simplex_cmp-Equal, nat_cmp-Equal}
 use Rattle.wf_simplex.proofs.Orders.{Has, has-in_order, in_order-has, same_in_order}
 use Rattle.wf_simplex.proofs.Faces.{has-filter, filter-has, has-flat_map, flat_map-has, of_some_facet, is_in_complex, complex_of-sorted}
 use Rattle.wf_task.specs.Canonical.{facets}
-use Rattle.wf_task.proofs.Listings.{length-lists_of, sorted-lists_of, sorted-pairs, sorted-below, map-has, has-map, has-lists_of, lists_of-has, has-below, below-has, length-among, length-pieces, each_has, has_each, nat_cmp-Less}
+use Rattle.wf_task.proofs.Listings.{length-lists_of, sorted-lists_of, sorted-pairs, sorted-below, map-has, has-map, has-lists_of, lists_of-has, has-below, below-has, length-among, length-pieces, each_has, has_each}
 use Rattle.wf_task.proofs.Differing.{different-among}
-use Rattle.wf_task.proofs.Facets.{vertex_of_part, IsPure, facets-pure}
+use Rattle.wf_task.proofs.Facets.{vertex_of_part, facets-pure}
 use Rattle.wf_task.proofs.Extending.{length-zip-same, processes-zip-same, values-zip-same, sorted-zips, map-part, single-part, repeated}
 use Rattle.wf_task.proofs.Images.{nonempty-long, long-nonempty, part-face, facet-in, complex_of-same, images, has-images, images-has}
 
@@ -90,7 +89,7 @@ has-agreed k s tuple h =
       values = λ x g. has-in_order nat_cmp nat_cmp_total nat_cmp-Equal x (values_of s) (each_has (λ y. Has y (in_order nat_cmp (values_of s))) x tuple list.1 g);
     }
 
-agreeing-has : (k n : ℕ) (vals : List ℕ) (tuple : Tuple) → length tuple ≡ n → different tuple ≤ k → ((x : ℕ) → Has x tuple → Has x vals) → Has tuple (agreeing k vals n)
+pub agreeing-has : (k n : ℕ) (vals : List ℕ) (tuple : Tuple) → length tuple ≡ n → different tuple ≤ k → ((x : ℕ) → Has x tuple → Has x vals) → Has tuple (agreeing k vals n)
 agreeing-has k n vals tuple long few values =
     filter-has (λ t. nat_le (different t) k) tuple (lists_of vals n)
     (subst (λ m. Has tuple (lists_of vals m)) long (lists_of-has tuple vals (has_each (λ x. Has x vals) tuple values)))

@@ -1,15 +1,14 @@
 -- One list, value or simplex more.
-use Rattle.std.proofs.Common.{◌≡◌, ℕ, zero, suc, ◌+◌, ◌-◌, ◌*◌, ◌/◌, ◌%◌, ◌^◌, ◌<◌, ◌≤◌, Bool, true, false, cond, nat_lt, List, [], ◌∷◌, ◌++◌, length, map, filter, take, drop, get_or, Option, None, Some, All, slice_set, inl, inr, drop-cons, add-one, append_assoc, refl, sym, ap, ◌∙◌, subst, arith, take_all, append-nil, ltb-true}
+use Rattle.std.proofs.Common.{◌≡◌, ℕ, zero, suc, ◌+◌, ◌-◌, ◌/◌, ◌%◌, ◌^◌, ◌<◌, ◌≤◌, Bool, true, false, cond, nat_lt, List, [], ◌∷◌, ◌++◌, length, filter, take, drop, get_or, None, Some, All, slice_set, inl, inr, drop-cons, add-one, append_assoc, refl, sym, ap, ◌∙◌, subst, arith, take_all, append-nil, ltb-true}
 use Rattle.std.proofs.lemmas.Bool.{lt-ltb, ltb-false}
-use Rattle.std.specs.List.{range_with_len}
 use Rattle.std.specs.BTreeSet.{insert_key}
 use Rattle.std.specs.Ordering.{nat_cmp}
 use Rattle.std.specs.Cmp.{nat_cmp_total}
 use Rattle.std.proofs.lemmas.List.{take_more, take_more_set, take_rest, get_or_past}
-use Rattle.std.proofs.lemmas.List.Elements.{All-nil, All-cons, All-get_or, filter-append}
+use Rattle.std.proofs.lemmas.List.Elements.{All-nil, All-cons, All-get_or}
 use Rattle.std.proofs.lemmas.List.Filters.{length-filter_more}
 use Rattle.std.proofs.Math.Nat.{pow-le-pow_left, pow-le-pow_right, pow-succ', div-lt_iff_lt-mul, mod-lt}
-use Rattle.wf_model.specs.Lists.{below, has, lists_of, in_order, with_element}
+use Rattle.wf_model.specs.Lists.{has, lists_of, in_order, with_element}
 use Rattle.wf_model.specs.Presets.{different}
 use Rattle.wf_simplex.specs.Order.{nat_cmp-Equal}
 use Rattle.wf_simplex.proofs.Orders.{Has, has-append, has-append_left, has-append_right, in_order-same, insert_key-with_element}

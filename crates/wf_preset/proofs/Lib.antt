@@ -3,3 +3,4 @@ pub mod Naming
 pub mod FamilyTasks
 pub mod FamilyLoops
 pub mod PresetLimits
+pub mod Decided

@@ -1,13 +1,11 @@
 -- The outputs of renaming: different names for any of the processes.
-use Rattle.std.proofs.Common.{◌≡◌, ℕ, zero, suc, ◌+◌, ◌<◌, ◌≤◌, ◌==◌, Bool, true, false, not, nat_lt, List, [], ◌∷◌, length, map, filter, flat_map, zip, inl, inr, refl, sym, ap, ◌∙◌, subst, arith, lit≤, ltb-true}
-use Rattle.std.specs.List.{AllByRecursion}
-use Rattle.std.specs.List.Sorted.{IsStrictlySortedBy}
+use Rattle.std.proofs.Common.{◌≡◌, ℕ, zero, suc, ◌+◌, ◌<◌, ◌≤◌, Bool, true, false, not, nat_lt, List, [], ◌∷◌, length, map, filter, flat_map, zip, inl, inr, refl, sym, ap, ◌∙◌, subst, arith, lit≤, ltb-true}
 use Rattle.std.specs.Ordering.{nat_cmp}
 use Rattle.std.specs.Cmp.Lexicographic.{slice_cmp}
 use Rattle.std.proofs.lemmas.List.{length-map}
 use Rattle.std.proofs.lemmas.List.Kept.{IsStrictlySortedBy-filter}
 use Rattle.std.proofs.lemmas.List.FromFn.{length-range_with_len}
-use Rattle.std.proofs.lemmas.Bool.{lt-leb, ltb-false}
+use Rattle.std.proofs.lemmas.Bool.{ltb-false}
 use Rattle.wf_model.specs.Lists.{below, lists_of, in_order}
 use Rattle.wf_model.specs.Presets.{namings, all_different}
 use Rattle.wf_model.specs.Simplex.{Simplex, Vertex, processes_of, is_nonempty, parts_of, faces_of, simplex_cmp, complex_of}
@@ -17,10 +15,10 @@ use Rattle.wf_simplex.specs.Order.{simplex_cmp-total, simplex_cmp-Equal}
 use Rattle.wf_simplex.proofs.Orders.{Has, has-append, has-in_order, in_order-has, sorted-in_order, same_in_order, length-in_order}
 use Rattle.wf_simplex.proofs.Faces.{begins, has-filter, filter-has, has-flat_map, flat_map-has, whole_is_part, part_of_part, of_some_facet, is_in_complex, complex_of-sorted}
 use Rattle.wf_task.specs.Canonical.{is_inner, facets}
-use Rattle.wf_task.proofs.Listings.{length-lists_of, sorted-lists_of, sorted-below, map-has, has-map, has-lists_of, lists_of-has, has-below, below-has, each_has, has_each}
+use Rattle.wf_task.proofs.Listings.{sorted-lists_of, sorted-below, map-has, has-map, has-lists_of, lists_of-has, has-below, below-has, each_has, has_each}
 use Rattle.wf_task.proofs.Differing.{Differ, differ, all_different-from}
-use Rattle.wf_task.proofs.Facets.{vertex_of_part, IsPure, facets-pure}
-use Rattle.wf_task.proofs.Extending.{length-zip-same, processes-zip-same, sorted-zips, map-part, named, unzipped}
+use Rattle.wf_task.proofs.Facets.{vertex_of_part, facets-pure}
+use Rattle.wf_task.proofs.Extending.{length-zip-same, sorted-zips, map-part, named, unzipped}
 use Rattle.wf_task.proofs.Images.{nonempty-long, long-nonempty, part-face, facet-in, images, has-images, images-has}
 
 length-below : (n : ℕ) → length (below n) ≡ n
@@ -52,7 +50,7 @@ has-namings names size ys h =
     let list = has-lists_of ys (below names) size passes.0 in
     (list.0, differ ys passes.1, λ z g. has-below z names (each_has (λ y. Has y (below names)) z ys list.1 g))
 
-namings-has : (names size : ℕ) (ys : Tuple) → length ys ≡ size → Differ ys → ((z : ℕ) → Has z ys → z < names) → Has ys (namings names size)
+pub namings-has : (names size : ℕ) (ys : Tuple) → length ys ≡ size → Differ ys → ((z : ℕ) → Has z ys → z < names) → Has ys (namings names size)
 namings-has names size ys long differs low =
     filter-has all_different ys (lists_of (below names) size)
     (subst (λ k. Has ys (lists_of (below names) k)) long (lists_of-has ys (below names) (has_each (λ z. Has z (below names)) ys (λ z h. below-has z names (low z h)))))

@@ -1,25 +1,24 @@
 -- Which limits set agreement and renaming break.
-use Rattle.std.proofs.Common.{◌≡◌, ℕ, zero, suc, ◌+◌, ◌*◌, ◌^◌, ◌<◌, ◌≤◌, ◌==◌, Bool, true, false, not, nat_lt, nat_le, List, [], ◌∷◌, length, map, zip, sum_by, count_by, All as Each, Result, Ok, Err, Option, None, Some, is_some, cond, take, ◌||◌, eqb-true, refl, sym, ap, ◌∙◌, subst, inl, inr, arith, ltb-true, lit≤}
+use Rattle.std.proofs.Common.{◌≡◌, ℕ, zero, suc, ◌^◌, ◌<◌, ◌≤◌, ◌==◌, Bool, true, false, not, nat_lt, nat_le, List, [], ◌∷◌, length, map, zip, sum_by, count_by, All as Each, Result, Ok, Err, Option, None, Some, is_some, cond, take, ◌||◌, eqb-true, refl, sym, ap, ◌∙◌, subst, inl, inr, arith, ltb-true, lit≤}
 use Rattle.std.proofs.Math.Nat.{one-le-pow}
 use Rattle.std.proofs.lemmas.Bool.{lt-ltb, le-ltb, ltb-false, leb-true, and_from, and_parts}
 use Rattle.std.proofs.lemmas.List.{length-map}
 use Rattle.std.proofs.lemmas.List.FromFn.{length-range_with_len}
-use Rattle.wf_model.specs.Lists.{below, lists_of, in_order}
+use Rattle.wf_model.specs.Lists.{below}
 use Rattle.wf_model.specs.Presets as model
 use Rattle.wf_model.specs.Presets.{input_facets, input_values, namings}
 use Rattle.wf_model.specs.Simplex.{Simplex, Vertex, processes_of, values_of, is_nonempty, is_ascending, complex_of}
-use Rattle.wf_model.specs.Task.{Task, Rule, IsTask, IsSimplexWithin, inputs}
+use Rattle.wf_model.specs.Task.{Task, IsTask, IsSimplexWithin, inputs}
 use Rattle.wf_simplex.proofs.Orders.{Has}
 use Rattle.wf_simplex.proofs.Faces.{complex_of-complex_of}
 use Rattle.wf_simplex.proofs.Within.{all_of_has, complex_within}
 use Rattle.wf_task.specs.declared.fault.Limit.TheVariants as limit
 use Rattle.wf_task.specs.declared.fault.TaskFault.{TaskFault}
 use Rattle.wf_task.specs.declared.fault.TaskFault.TheVariants as fault
-use Rattle.wf_preset.specs.declared.family.Family.{Family}
 use Rattle.wf_preset.specs.declared.family.Family.TheVariants.{Agreement, Naming}
 use Rattle.wf_task.specs.Draft.{◌>>=◌, Fails}
 use Rattle.wf_task.specs.Judge.{refused_if, sizes_judged}
-use Rattle.wf_task.specs.Canonical.{facets, HasFewFacets, listed_of}
+use Rattle.wf_task.specs.Canonical.{facets, HasFewFacets}
 use Rattle.wf_preset.specs.Family.{tuples_for, images_of, at_most, task_for}
 use Rattle.wf_preset.specs.declared.preset.Inputs.{Inputs}
 use Rattle.wf_preset.specs.declared.preset.Inputs.TheVariants.{Own, All}
@@ -32,7 +31,6 @@ use Rattle.wf_task.proofs.Images.{nonempty-long, facet-in}
 use Rattle.wf_preset.proofs.FamilyLoops.{few_lists}
 use Rattle.wf_task.proofs.Listings.{has-map, has-below}
 use Rattle.wf_preset.proofs.Naming.{start, processes-start, renaming-outputs, many-facets}
-use Rattle.wf_task.proofs.Sizes.{sum_by-map}
 
 -- ---- the limits of a task, one after another
 

@@ -1,10 +1,10 @@
 -- Families of tasks: which values the processes of an input simplex may decide together.
-use Rattle.std.specs.Prelude.{◌≡◌, ℕ, ◌≤◌, nat_le, nat_lt, Bool, List, All, map, filter, flat_map, length, zip, None, Some, Option, if◌then◌else◌}
+use Rattle.std.specs.Prelude.{ℕ, ◌≤◌, nat_le, nat_lt, Bool, List, All, map, filter, flat_map, length, zip, None, Some, Option, if◌then◌else◌}
 use Rattle.std.specs.Ordering.{nat_cmp}
 use Rattle.wf_model.specs.Lists.{below, lists_of, in_order}
 use Rattle.wf_model.specs.Presets.{different, all_different}
 use Rattle.wf_model.specs.Simplex.{Simplex, processes_of, values_of, complex_of}
-use Rattle.wf_model.specs.Task.{Task, Rule, Tuple}
+use Rattle.wf_model.specs.Task.{Task, Tuple}
 use Rattle.wf_preset.specs.declared.family.Family.{Family}
 use Rattle.wf_preset.specs.declared.family.Family.TheVariants.{Agreement, Naming}
 

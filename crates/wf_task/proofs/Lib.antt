@@ -22,3 +22,5 @@ pub mod Faceted
 pub mod Written
 pub mod CanonicalLoops
 pub mod OneMore
+pub mod Lengths
+pub mod Back

@@ -1,5 +1,5 @@
-use Rattle.std.proofs.Common.{◌≡◌, ◌<◌, ◌≤◌, All, length, take, sym, ◌∙◌, subst, arith, length-set}
-use Rattle.wf_task.proofs.Listings.{get_or-lists_of, list_at}
+use Rattle.std.proofs.Common.{◌≤◌, All, length, sym, ◌∙◌, subst, arith, length-set}
+use Rattle.wf_task.proofs.Listings.{get_or-lists_of}
 use Rattle.wf_preset.proofs.FamilyLoops.{step_some, step_place, step_below, step_made, list_made, small_list}
 use Rattle.wf_preset.proofs.family.list_at.Goals as goal
 

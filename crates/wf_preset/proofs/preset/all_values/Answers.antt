@@ -1,4 +1,4 @@
-use Rattle.std.proofs.Common.{◌^◌, ◌<◌, length, map, zip, ap, sym, ◌∙◌, subst, arith, take_all}
+use Rattle.std.proofs.Common.{◌^◌, ◌<◌, length, map, zip, ap, ◌∙◌, subst, arith, take_all}
 use Rattle.wf_model.specs.Lists.{lists_of}
 use Rattle.wf_model.specs.Simplex.{processes_of}
 use Rattle.wf_task.proofs.Listings.{length-lists_of}

@@ -1,8 +1,7 @@
-use Rattle.std.proofs.Common.{◌≡◌, Ok, length, sym, ap, ◌∙◌, arith}
-use Rattle.wf_model.specs.Presets.{input_facets}
+use Rattle.std.proofs.Common.{Ok, length, sym, ap, ◌∙◌, arith}
 use Rattle.wf_model.specs.Simplex.{complex_of}
 use Rattle.wf_preset.specs.Preset.{inputs_seen}
-use Rattle.wf_preset.proofs.PresetLimits.{vertex_count, agreement_inputs, vertices-refused, simplices-refused, inputs-accepted, facets-within}
+use Rattle.wf_preset.proofs.PresetLimits.{agreement_inputs, vertices-refused, simplices-refused, inputs-accepted, facets-within}
 use Rattle.wf_preset.proofs.preset.input_complex.Goals as goal
 
 pub returns-then-vertex_count-gt-VERTICES : goal.returns-then-vertex_count-gt-VERTICES

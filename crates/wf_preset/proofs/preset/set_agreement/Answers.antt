@@ -1,4 +1,4 @@
-use Rattle.std.proofs.Common.{◌≡◌, ◌==◌, ◌||◌, not, nat_lt, sum_by, length, Ok, sym, ap, ◌∙◌, eq-eqb}
+use Rattle.std.proofs.Common.{◌==◌, not, nat_lt, sum_by, length, Ok, sym, ap, ◌∙◌, eq-eqb}
 use Rattle.std.proofs.lemmas.Result.{err_from_is_err_and}
 use Rattle.std.proofs.lemmas.Bool.{or_left, or_right}
 use Rattle.wf_model.specs.Presets as model

@@ -1,4 +1,4 @@
-use Rattle.std.proofs.Common.{◌≡◌, length, map, vec_items, sym, ap, ◌∙◌, subst, arith}
+use Rattle.std.proofs.Common.{length, map, vec_items, sym, ap, ◌∙◌, subst, arith}
 use Rattle.wf_model.specs.Simplex.{complex_of}
 use Rattle.wf_model.specs.Task.{IsTask}
 use Rattle.wf_task.specs.Canonical.{HasFewFacets}

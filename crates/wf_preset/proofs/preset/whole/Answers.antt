@@ -1,4 +1,4 @@
-use Rattle.std.proofs.Common.{◌≡◌, None, ap, ◌∙◌, sym}
+use Rattle.std.proofs.Common.{ap, ◌∙◌}
 use Rattle.wf_simplex.specs.Reading.{read_fault}
 use Rattle.wf_simplex.proofs.Within.{read_fault-within}
 use Rattle.wf_task.proofs.Drafted.{within_more}

@@ -1,4 +1,4 @@
-use Rattle.std.proofs.Common.{◌≡◌, ◌<◌, ◌≤◌, ℕ, List, None, length, take, zip, sym, ap, ◌∙◌, arith, refl, length-set, take_all}
+use Rattle.std.proofs.Common.{◌≡◌, ◌<◌, ◌≤◌, ℕ, List, None, length, take, zip, sym, ap, ◌∙◌, arith, length-set, take_all}
 use Rattle.wf_model.specs.Simplex.{Simplex, processes_of}
 use Rattle.wf_simplex.specs.Reading.{read_fault}
 use Rattle.wf_simplex.proofs.Within.{read_fault-within}

@@ -1,36 +1,42 @@
 -- What a canonical text lists is judged without a fault, and is the task.
-use Rattle.std.proofs.Common.{◌≡◌, ℕ, zero, suc, ◌+◌, ◌^◌, ◌<◌, ◌≤◌, ◌==◌, ◌&&◌, ◌||◌, Bool, true, false, not, nat_lt, nat_le, IsTrue, Contains, List, [], ◌∷◌, ◌++◌, length, map, filter, flat_map, zip, All, sum_by, count_by, Option, None, Some, Result, Ok, Err, cond, get_or, slice_index_or, refl, sym, ap, ◌∙◌, subst, inl, inr, arith, lt-ltb, le-leb, ltb-true, eqb-true, eq-eqb, append-nil, codes}
+use Rattle.std.proofs.Common.{◌≡◌, ℕ, suc, ◌+◌, ◌*◌, ◌^◌, ◌<◌, ◌≤◌, ◌==◌, ◌&&◌, ◌||◌, Bool, true, false, not, nat_lt, Contains, List, [], ◌∷◌, length, map, flat_map, zip, All, sum_by, count_by, Option, None, Some, Result, Ok, cond, refl, sym, ap, ◌∙◌, subst, inl, inr, arith, lt-ltb, le-leb, eqb-true, eq-eqb, append-nil}
 use Rattle.std.specs.List.{AllByRecursion, list_any, list_all, position_from}
 use Rattle.std.specs.List.Sorted.{IsStrictlySortedBy}
 use Rattle.std.specs.declared.cmp.Ordering.TheVariants.{Less, Equal}
 use Rattle.std.specs.Ordering.{nat_cmp}
+use Rattle.std.specs.Str.{IsUtf8}
 use Rattle.std.specs.Cmp.{tied_itself}
 use Rattle.std.specs.Cmp.Lexicographic.{slice_cmp}
 use Rattle.std.proofs.lemmas.Bool.{and_parts, and_from, le-ltb}
 use Rattle.std.proofs.lemmas.List.{length-map}
-use Rattle.serde_json.specs.Data.{Data, boolean, object, member, no_members}
+use Rattle.serde_json.specs.Data.{Data, depth}
+use Rattle.serde_json.specs.Read.{read, max_depth}
+use Rattle.serde_json.specs.Written.{compact_text, has_float}
+use Rattle.wf_task.proofs.Written.{task_has_no_float}
 use Rattle.serde_json.specs.View.{items_of}
 use Rattle.wf_model.specs.Lists.{in_order}
 use Rattle.wf_model.specs.Simplex.{Simplex, Vertex, processes_of, values_of, is_nonempty, is_ascending, simplex_cmp, complex_of}
-use Rattle.wf_model.specs.Task.{Task, Rule, Tuple, IsTask, IsRule, IsSimplexWithin, IsComplexWithin, largest_value, inputs}
+use Rattle.wf_model.specs.Task.{Task, Rule, Tuple, IsRule, IsSimplexWithin, IsComplexWithin, largest_value, inputs}
 use Rattle.wf_model.proofs.Fuel.{length_filter}
 use Rattle.wf_simplex.specs.Faces.{IsComplex}
 use Rattle.wf_simplex.specs.Order.{same_simplex, same_simplex-decides, simplex_cmp-total}
 use Rattle.wf_simplex.proofs.Orders.{Has}
 use Rattle.wf_simplex.proofs.Faces.{has-filter, complex_of-sorted}
-use Rattle.wf_simplex.proofs.Within.{has_of_all, all_of_has}
+use Rattle.wf_simplex.proofs.Within.{has_of_all, all_of_has, length-within}
 use Rattle.wf_task.specs.declared.fault.TaskFault.{TaskFault}
-use Rattle.wf_task.specs.Shape.{each, whole_of, pair_of, simplex_of, tuples_of, rule_of, entry_of, with_first, list_of}
+use Rattle.wf_task.specs.Shape.{each, whole_of, pair_of, simplex_of, tuples_of, rule_of, entry_of, list_of}
 use Rattle.wf_task.specs.Draft.{Listed, ◌>>=◌, draft_of}
 use Rattle.wf_task.specs.Slots.{entries_in}
-use Rattle.wf_task.specs.Judge.{is_large, has_large, rule_has_large, some_large, has_colours, all_colours, is_among, entries_for, tuples_for, wrong_length, no_output, first_answer, refused_at, refused_if, numbers_judged, sizes_judged, entries_judged, tuples_judged, rule_for, drafted, judged, task_of}
-use Rattle.wf_task.specs.Canonical.{is_inner, facets, HasFewFacets, listed_of, number_data, list_data, vertex_data, simplex_data, tuple_data, rule_data, with_first_block, version_of, task_data}
+use Rattle.wf_task.specs.Judge.{is_large, has_large, rule_has_large, some_large, has_colours, all_colours, is_among, tuples_for, wrong_length, no_output, first_answer, numbers_judged, sizes_judged, entries_judged, tuples_judged, rule_for, drafted, judged, task_of, text_of}
+use Rattle.wf_task.specs.declared.task.TheConstants.{LONGEST}
+use Rattle.wf_task.proofs.Texts.{json_of-some}
+use Rattle.wf_task.specs.Canonical.{is_inner, facets, IsListable, listed_of, number_data, list_data, vertex_data, simplex_data, tuple_data, rule_data, task_data}
 use Rattle.wf_task.proofs.Drafted.{within_more}
+use Rattle.wf_task.proofs.Lengths.{HasShortParts, simplex-long, tuple-long as tuple-short, rule-long, value_at, task-long, task-deep}
 use Rattle.wf_task.proofs.Extending.{values-zip-same}
 use Rattle.wf_task.proofs.Faceted.{complex_of-facets}
 use Rattle.wf_task.proofs.Facets.{any-has}
-use Rattle.wf_task.proofs.Listings.{map-has, has-map, each_has}
-use Rattle.wf_task_laws.specs.ReadBack.{IsListable}
+use Rattle.wf_task.proofs.Listings.{contains-has, map-has, has-map, each_has}
 
 -- ---- reading the value
 
@@ -53,17 +59,6 @@ tuples-read ts = rw (each-read tuple_data (list_of whole_of) ts (λ t k. tuple-r
 
 entry-read : (rule : Rule) → is_nonempty rule.input ≡ true → entry_of (rule_data rule) ≡ Some rule
 entry-read rule h = rw (tuples-read rule.tuples) (rw (simplex-read rule.input h) refl)
-
--- the value of a task, its restriction by itself
-abbrev value_at : Option ℕ → Task → Data
-value_at restriction t =
-    object (member (codes "delta") (list_data rule_data t.rules)
-    (with_first_block restriction
-    (member (codes "inputs") (list_data simplex_data (facets (inputs t)))
-    (member (codes "outputs") (list_data simplex_data (facets t.outputs))
-    (member (codes "processes") (number_data t.processes)
-    (member (codes "symmetric") (boolean t.symmetric)
-    (member (codes "version") (number_data (version_of restriction)) no_members)))))))
 
 draft-read : (t : Task) → ((s : Simplex) → Has s (facets (inputs t)) → is_nonempty s ≡ true) → ((s : Simplex) → Has s (facets t.outputs) → is_nonempty s ≡ true) → ((rule : Rule) → Has rule t.rules → is_nonempty rule.input ≡ true)
     → t.processes < 2 ^ 64 → draft_of (value_at None t) ≡ Ok (listed_of t)
@@ -90,14 +85,6 @@ none_from p n (x ∷ xs) h = rw (h x (inl refl)) (none_from p (n + 1) xs (λ y k
 no_answers : (f : Simplex → Option ℕ) (n : ℕ) (ss : List Simplex) → ((s : Simplex) → Has s ss → f s ≡ None) → first_answer f n ss ≡ None
 no_answers f n [] h = refl
 no_answers f n (s ∷ ss) h = rw (h s (inl refl)) (no_answers f (n + 1) ss (λ u k. h u (inr k)))
-
-contains-has : (x : Simplex) (xs : List Simplex) → Contains xs x → Has x xs
-contains-has x xs h = at xs h.0 h.1 h.2
-  where
-    at : (ys : List Simplex) (k : ℕ) → k < length ys → get_or ys k x ≡ x → Has x ys
-    at [] k low is = absurd (let none : ⊥ = omega (arith, low) in none)
-    at (y ∷ ys) zero low is = inl is
-    at (y ∷ ys) (suc k) low is = inr (at ys k (omega (arith, low)) is)
 
 has-among : (complex : List Simplex) (s : Simplex) → Has s complex → is_among complex s ≡ true
 has-among complex s h = any-has (same_simplex s) s complex h ((same_simplex-decides s s).1 refl)
@@ -177,7 +164,7 @@ module _ (t : Task) (h : IsListable t) where
   inputs-complex = complex-is (inputs t) input_within (omega (arith, input_count))
 
   outputs-complex : IsComplex t.outputs
-  outputs-complex = complex-is t.outputs output_within h.countable
+  outputs-complex = h.outputs
 
   inputs-back : complex_of (facets (inputs t)) ≡ inputs t
   inputs-back = complex_of-facets (inputs t) inputs-complex
@@ -207,10 +194,13 @@ module _ (t : Task) (h : IsListable t) where
   tuple-long : (rule : Rule) (tuple : Tuple) → Has rule t.rules → Has tuple rule.tuples → length tuple ≡ length rule.input
   tuple-long rule tuple k j = has_of_all (λ u. length u ≡ length rule.input) tuple rule.tuples (rule-is rule k).long j
 
-  tuple-small : (rule : Rule) (tuple : Tuple) → Has rule t.rules → Has tuple rule.tuples → list_any is_large tuple ≡ false
-  tuple-small rule tuple k j =
+  tuple-values : (rule : Rule) (tuple : Tuple) → Has rule t.rules → Has tuple rule.tuples → All (λ x. x ≤ 63) tuple
+  tuple-values rule tuple k j =
       let long : length tuple ≡ length (processes_of rule.input) = tuple-long rule tuple k j ∙ sym (length-map rule.input (λ (v : Vertex). v.0)) in
-      small-list tuple (subst (All (λ x. x ≤ 63)) (values-zip-same (processes_of rule.input) tuple long) (output-is (zip (processes_of rule.input) tuple) (tuple-there rule tuple k j)).values)
+      subst (All (λ x. x ≤ 63)) (values-zip-same (processes_of rule.input) tuple long) (output-is (zip (processes_of rule.input) tuple) (tuple-there rule tuple k j)).values
+
+  tuple-small : (rule : Rule) (tuple : Tuple) → Has rule t.rules → Has tuple rule.tuples → list_any is_large tuple ≡ false
+  tuple-small rule tuple k j = small-list tuple (tuple-values rule tuple k j)
 
   rule-small : (rule : Rule) → Has rule t.rules → rule_has_large rule ≡ false
   rule-small rule k =
@@ -320,3 +310,48 @@ module _ (t : Task) (h : IsListable t) where
       (draft-read t (λ s k. vertex-some s (input-is s (facet-of (inputs t) s k))) (λ s k. vertex-some s (output-is s (facet-of t.outputs s k))) (λ rule k. vertex-some rule.input (input-is rule.input (rule-input rule k)))
       (let low : t.processes < 2 ^ 64 = omega (arith, h.task.process_count.1) in low)) in
       ap (λ (r : Result Listed TaskFault). r >>= judged) read ∙ judged-back
+
+  -- ---- the length of the canonical text
+
+  simplex-short : (s : Simplex) → IsSimplexWithin t.processes 63 s → length (compact_text (simplex_data s)) ≤ 38
+  simplex-short s k =
+      simplex-long s (length-within 4 63 s (within_more t.processes 4 s h.task.process_count.1 k)) (λ v j.
+      let process : v.0 < t.processes = has_of_all (λ p. p < t.processes) v.0 (processes_of s) k.processes (map-has (λ (w : Vertex). w.0) v s j) in
+      (omega (arith, process, h.task.process_count.1), has_of_all (λ x. x ≤ 63) v.1 (values_of s) k.values (map-has (λ (w : Vertex). w.1) v s j)))
+
+  rule-short : (rule : Rule) → Has rule t.rules → length (compact_text (rule_data rule)) ≤ 55 + 15 * length rule.tuples
+  rule-short rule k =
+      let within = input-is rule.input (rule-input rule k) in
+      let few = length-within 4 63 rule.input (within_more t.processes 4 rule.input h.task.process_count.1 within) in
+      rule-long rule (simplex-short rule.input within) (λ tuple j.
+      tuple-short tuple (omega (arith, tuple-long rule tuple k j, few)) (λ x i. has_of_all (λ y. y ≤ 63) x tuple (tuple-values rule tuple k j) i))
+
+  short-parts : HasShortParts t
+  short-parts = record {
+    processes = omega (arith, h.task.process_count.1);
+    input_count = omega (arith, length_filter (λ s. not (is_inner (inputs t) s)) (inputs t), input_count);
+    output_count = h.few;
+    rule_count = h.task.few_inputs;
+    tuple_count = h.task.few_tuples;
+    input_parts = λ s k. simplex-short s (input-is s (facet-of (inputs t) s k));
+    output_parts = λ s k. simplex-short s (output-is s (facet-of t.outputs s k));
+    rule_parts = rule-short;
+  }
+
+  text-short : length (compact_text (task_data t)) ≤ LONGEST
+  text-short = subst (λ r. length (compact_text (value_at r t)) ≤ 16777216) (sym h.unrestricted) (task-long t short-parts)
+
+  -- its value nests no deeper than a reading follows
+  pub value-shallow : depth (task_data t) ≤ max_depth
+  value-shallow = subst (λ r. depth (value_at r t) ≤ 127) (sym h.unrestricted) (task-deep t)
+
+  -- bytes that are the canonical text and are read as its value are read as the task
+  pub text-back : (text : List ℕ) → text ≡ compact_text (task_data t) → IsUtf8 text → read text ≡ Some (task_data t) → text_of text ≡ Ok t
+  unfolding text_of
+  text-back text is utf8 reads =
+      rw (le-ltb LONGEST (length text) (subst (λ w. length w ≤ LONGEST) (sym is) text-short))
+      (rw (json_of-some text (task_data t) utf8 reads) read-back)
+
+-- the text of a value that is the task's
+pub whole-text : (t : Task) {d : Data} {text : List ℕ} → d ≡ task_data t → (has_float d ≡ false → text ≡ compact_text d) → text ≡ compact_text (task_data t)
+whole-text t is written = written (ap has_float is ∙ task_has_no_float t) ∙ ap compact_text is
