@@ -7,7 +7,9 @@ use Rattle.wf_task.specs.declared.task.TheConstants.{LONGEST}
 use Rattle.wf_engine.specs.declared.outcome.Outcome.{Outcome}
 use Rattle.wf_engine.specs.declared.fault.RunFault.{RunFault}
 use Rattle.wf_engine.specs.declared.fault.RunFault.TheVariants.{OutOfMemory, Read, Write}
+use Rattle.wf_engine.specs.declared.preset.Preset.{Preset}
 use Rattle.wf_engine.specs.Run.{IsWithinLimits}
+use Rattle.wf_engine.specs.Presets.{WritesPreset}
 use Rattle.wf_engine.specs.Texts.{IsSolved, Solves, Lists}
 use Rattle.wf_engine.specs.Verify.{ChecksText, Verifies}
 
@@ -42,6 +44,17 @@ abbrev pub ListingIsCounted : Type 0
 ListingIsCounted =
     (rounds : ℕ) (source source' : Reading) (sink sink' : Writing) (result : Result (Unit {0}) RunFault)
     → Lists rounds source source' sink sink' result → IsCounted source source' sink sink' result
+
+-- A failed write is told by 31, and no failed read is told. After any other refusal the sink is as it was.
+pub record IsWritten {X : Type 0} (sink sink' : Writing) (result : Result X RunFault) : Type 0 where
+  pub reads : by_result failed_reads result ≡ 0
+  pub writes : sink'.failures ≡ sink.failures + by_result failed_writes result
+  pub unwritten : IfErr result (λ e. e ≢ Write → sink' ≡ sink)
+
+abbrev pub PresetsAreCounted : Type 0
+PresetsAreCounted =
+    (preset : Preset) (sink sink' : Writing) (result : Result (Unit {0}) RunFault)
+    → WritesPreset preset sink sink' result → IsWritten sink sink' result
 
 -- so many reads of a task's source and of a report's source failed, which is told
 pub record AreCounted (task task' cert cert' : Reading) (failed : ℕ) : Type 0 where

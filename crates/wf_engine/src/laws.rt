@@ -1,6 +1,6 @@
 //! Laws of runs: what holds after each, whatever it answers.
 
-ghost use Rattle.wf_engine.specs.Laws.{ListingIsCounted, SolvedReportsAreAccepted, SolvingIsCounted, VerifyingIsCounted};
+ghost use Rattle.wf_engine.specs.Laws.{ListingIsCounted, PresetsAreCounted, SolvedReportsAreAccepted, SolvingIsCounted, VerifyingIsCounted};
 
 /// A search takes at most one byte more than a text may have, tells each failed call, and writes nothing where it is
 /// refused for anything but a failed write.
@@ -18,6 +18,12 @@ pub fn listing_is_counted()
 /// writes nothing where it is refused for anything but a failed write.
 pub fn verifying_is_counted()
     ensures { VerifyingIsCounted }
+{}
+
+/// The writing of a preset tells a failed write, tells no failed read, and writes nothing where it is refused for anything
+/// but a failed write.
+pub fn presets_are_counted()
+    ensures { PresetsAreCounted }
 {}
 
 /// What a search of a task, in which all words are allowed, writes without the verdict form is accepted where it is

@@ -4,6 +4,7 @@
 //!   worker or by up to [`MAX_WORKERS`].
 //! - [`run_views`]: a task's text in, and the list of the points of its protocol complex out.
 //! - [`run_verify`]: a task's text and a report's in, and what is accepted out.
+//! - [`run_preset`]: the canonical text of a [`Preset`] out.
 //! - [`hand_out`]: the last step of each run, for a text that is had without one.
 //! - [`RunFault`]: why a run is refused, with its number and its name.
 //!
@@ -15,6 +16,7 @@
 mod fault;
 mod laws;
 mod outcome;
+mod preset;
 mod solve;
 mod steps;
 mod verify;
@@ -22,11 +24,14 @@ mod views;
 
 pub use fault::RunFault;
 pub use laws::{
-    listing_is_counted, solved_reports_are_accepted, solving_is_counted, verifying_is_counted,
+    listing_is_counted, presets_are_counted, solved_reports_are_accepted, solving_is_counted,
+    verifying_is_counted,
 };
 pub use outcome::Outcome;
+pub use preset::{Preset, run_preset};
 pub use solve::{run_solve, run_solve_one};
 pub use steps::hand_out;
 pub use verify::run_verify;
 pub use views::run_views;
 pub use wf_pool::MAX_WORKERS;
+pub use wf_preset::Inputs;

@@ -4,7 +4,7 @@ use crate::texts::{
 };
 use std::alloc::Global;
 use std::test::Fail;
-use wf_task::preset::{Inputs, renaming, set_agreement};
+use wf_preset::{Inputs, renaming, set_agreement};
 use wf_task::{Limit, TaskFault};
 
 /// The text of a set agreement task.

@@ -12,9 +12,9 @@ use Rattle.wf_engine.specs.declared.outcome.Outcome.TheVariants.{Map, Nothing}
 use Rattle.wf_engine.specs.declared.fault.RunFault.{RunFault}
 use Rattle.wf_engine.specs.declared.fault.RunFault.TheVariants as run
 use Rattle.wf_engine.specs.Texts.{IsSolved, IsViews}
-use Rattle.wf_engine.specs.Laws.{failed_reads, failed_writes, by_result, IsChecked, IsCounted}
+use Rattle.wf_engine.specs.Laws.{failed_reads, failed_writes, by_result, IsChecked, IsCounted, IsWritten}
 use Rattle.wf_engine.proofs.CheckCounts.{checked}
-use Rattle.wf_engine.proofs.Counts.{counted, handed}
+use Rattle.wf_engine.proofs.Counts.{counted, handed, preset_counted}
 use Rattle.wf_program.specs.declared.done.Done.{Done}
 use Rattle.wf_program.specs.declared.refusal.Refusal.{Refusal}
 use Rattle.wf_program.specs.declared.refusal.Refusal.TheVariants as refusal
@@ -63,6 +63,14 @@ module _ (source source' : Reading) (sink sink' : Writing) where
   after_writing : (result : Result (Unit {0}) RunFault) → IsCounted source source' sink sink' result → IsDone 0 source source' sink sink' (written result)
   after_writing (Ok x) h = accepted x _ (omega arith) h
   after_writing (Err e) h = refused e h
+
+  -- a text was written and nothing was read
+  after_preset : (result : Result (Unit {0}) RunFault) → source' ≡ source → IsWritten sink sink' result → IsDone 0 source source' sink sink' (written result)
+  after_preset result read h =
+      let reads : source'.failures ≡ source.failures = ap (λ s. s.failures) read in
+      let takes : source'.taken ≡ source.taken = ap (λ s. s.taken) read in
+      let none = h.reads in
+      after_writing result (record { taken = omega (arith, takes); reads = omega (arith, reads, none); writes = h.writes; unwritten = h.unwritten })
 
   -- nothing was read or written
   untouched : (e : Refusal) → failed (Err e) ≡ 0 → source' ≡ source → sink' ≡ sink → IsDone 0 source source' sink sink' (Err e)
@@ -125,6 +133,8 @@ module _ (source source' : Reading) (sink sink' : Writing) where
   did (Ok (job.Verify task)) done (result, inr (none, read, wrote), is) = not_opened done (is ∙ ap verified none) read wrote
   did (Ok (job.Views rounds)) done (result, lists, is) =
       subst (IsDone 0 source source' sink sink') (sym is) (after_writing result (counted (IsViews rounds) rounds source source' sink sink' result lists))
+  did (Ok (job.Preset preset)) done (result, writes, read, is) =
+      subst (IsDone 0 source source' sink sink') (sym is) (after_preset result read (preset_counted preset sink sink' result writes))
   did (Err e) done (read, declines) = declined e done read declines
 
 -- the status of a refusal is 2, 3 or 4

@@ -15,9 +15,10 @@ use Rattle.wf_engine.specs.Faults.{fault_text}
 use Rattle.wf_engine.specs.Run.{Ran}
 use Rattle.wf_engine.specs.Texts.{Solves, Lists, SearchesInOrder}
 use Rattle.wf_engine.specs.Verify.{Verifies}
+use Rattle.wf_engine.specs.Presets.{WritesPreset}
 use Rattle.wf_words.specs.Job.{IsWithinLimits, IsClapMistake}
 use Rattle.wf_words.specs.declared.Job.{Job}
-use Rattle.wf_words.specs.declared.Job.TheVariants.{Solve, Verify, Views}
+use Rattle.wf_words.specs.declared.Job.TheVariants.{Solve, Verify, Views, Preset}
 use Rattle.wf_words.specs.declared.WordsFault.{WordsFault}
 use Rattle.wf_words.specs.declared.WordsFault.TheVariants as fault
 use Rattle.wf_program.specs.AccountText.{account_line}
@@ -103,6 +104,9 @@ Does (Verify task) source source' sink sink' done =
     (result : Result Outcome RunFault) × VerifiesFile source source' sink sink' result × (done ≡ verified result)
 Does (Views rounds) source source' sink sink' done =
     (result : Result (Unit {0}) RunFault) × Lists rounds source source' sink sink' result × (done ≡ written result)
+Does (Preset preset) source source' sink sink' done =
+    (result : Result (Unit {0}) RunFault) × WritesPreset preset sink sink' result × (source' ≡ source)
+    × (done ≡ written result)
 
 -- the words don't ask for help
 abbrev pub IsMistake : Error → Type 0

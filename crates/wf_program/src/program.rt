@@ -13,7 +13,7 @@ use std::fmt::Display;
 use std::io::{Read, Write};
 use std::thread::Threads;
 use wf_core::Account;
-use wf_engine::{Outcome, RunFault, hand_out, run_solve, run_verify, run_views};
+use wf_engine::{Outcome, RunFault, hand_out, run_preset, run_solve, run_verify, run_views};
 use wf_io::{Sink, Source};
 use wf_words::{Job, WordsFault, read_words};
 
@@ -74,6 +74,7 @@ fn do_job<T: Threads + Sync, F: Files, R: Read, W: Write>(
         }
         Job::Verify { task } => after_verifying(verify_file(rt, alloc, files, task, source, sink)),
         Job::Views { rounds } => after_writing(run_views(alloc, source, sink, *rounds)),
+        Job::Preset(preset) => after_writing(run_preset(alloc, sink, *preset)),
     }
 }
 

@@ -1,7 +1,7 @@
 -- One simplex, vertex or entry more.
-use Rattle.std.proofs.Common.{◌≡◌, ℕ, zero, suc, ◌+◌, ◌-◌, ◌*◌, ◌<◌, ◌≤◌, Bool, true, false, not, IsTrue, Contains, ◌↔◌, nat_lt, List, [], ◌∷◌, ◌++◌, length, map, filter, flat_map, take, get_or, slice_set, Some, cond, Vec, Global, vec_items, take_all, inl, inr, refl, sym, ap, ◌∙◌, subst, arith, length-append, ltb-true}
+use Rattle.std.proofs.Common.{◌≡◌, ℕ, zero, suc, ◌+◌, ◌-◌, ◌*◌, ◌<◌, ◌≤◌, Bool, true, false, not, IsTrue, Contains, ◌↔◌, nat_lt, List, [], ◌∷◌, ◌++◌, length, map, filter, flat_map, take, get_or, slice_set, cond, Vec, Global, vec_items, take_all, inl, inr, refl, sym, ap, ◌∙◌, subst, arith, length-append, ltb-true}
 use Rattle.std.specs.Prelude.{remove}
-use Rattle.std.proofs.lemmas.Bool.{lt-ltb, ltb-false}
+use Rattle.std.proofs.lemmas.Bool.{ltb-false}
 use Rattle.std.proofs.lemmas.List.{length-map, map-append, take_more, take_more_set}
 use Rattle.std.proofs.lemmas.List.Edits.{get_or-remove_below, get_or-remove_above, length-remove}
 use Rattle.std.proofs.lemmas.List.FromFn.{length-range_with_len}
@@ -17,18 +17,11 @@ use Rattle.wf_task.specs.Canonical.{is_inner, facets, HasFewFacets, list_data, s
 use Rattle.wf_task.specs.Shape.{rule_of}
 use Rattle.wf_task.specs.TaskSeen.{rules_seen, task_of_parts}
 use Rattle.wf_model.proofs.Fuel.{length_filter}
-use Rattle.wf_task.proofs.FamilyLoops.{filter-passes, filter-fails}
+use Rattle.wf_task.proofs.OneMore.{filter-passes, filter-fails}
 use Rattle.wf_task.proofs.Faceted.{inner-border, border-inner, length-complex, within-complex, removed-part}
+use Rattle.wf_task.proofs.Listings.{contains-has}
 use Rattle.wf_task.proofs.Images.{nonempty-long, part-face}
 use Rattle.wf_task.proofs.TaskSeen.{inputs-rules_seen}
-
-contains-has : (x : Simplex) (xs : List Simplex) → Contains xs x → Has x xs
-contains-has x xs h = at xs h.0 h.1 h.2
-  where
-    at : (ys : List Simplex) (k : ℕ) → k < length ys → get_or ys k x ≡ x → Has x ys
-    at [] k low is = absurd (let none : ⊥ = omega (arith, low) in none)
-    at (y ∷ ys) zero low is = inl is
-    at (y ∷ ys) (suc k) low is = inr (at ys k (omega (arith, low)) is)
 
 -- a simplex is inner where the complex of the borders has it
 pub inner_is : (complex inner : List Simplex) (s : Simplex) (b : Bool) → IsComplex complex → Has s complex → inner ≡ complex_of (flat_map borders_of complex) → (IsTrue b ↔ Contains inner s) → is_inner complex s ≡ b

@@ -1,12 +1,10 @@
 -- How many different numbers a list has.
-use Rattle.std.proofs.Common.{◌≡◌, ℕ, zero, suc, ◌+◌, ◌<◌, ◌≤◌, ◌==◌, Bool, true, false, List, [], ◌∷◌, ◌++◌, length, inl, inr, ◌⊎◌, refl, sym, ap, ◌∙◌, subst, arith, eqb-true, eq-eqb, nat_lt}
-use Rattle.std.specs.List.{AllByRecursion}
-use Rattle.std.specs.List.Sorted.{IsStrictlySortedBy}
+use Rattle.std.proofs.Common.{◌≡◌, ℕ, suc, ◌≤◌, ◌==◌, Bool, true, false, List, [], ◌∷◌, length, inl, inr, ◌⊎◌, refl, sym, ap, ◌∙◌, subst, arith, eqb-true, eq-eqb}
 use Rattle.std.specs.declared.cmp.Ordering.{Ordering}
 use Rattle.std.specs.declared.cmp.Ordering.TheVariants.{Less, Equal, Greater}
 use Rattle.std.specs.Ordering.{nat_cmp, match_ordering}
 use Rattle.std.specs.Cmp.{nat_cmp_total}
-use Rattle.wf_model.specs.Lists.{below, in_order, with_element}
+use Rattle.wf_model.specs.Lists.{in_order, with_element}
 use Rattle.wf_model.specs.Presets.{different, all_different}
 use Rattle.wf_simplex.specs.Order.{nat_cmp-Equal}
 use Rattle.wf_simplex.proofs.Orders.{Has, has-in_order, in_order-has, sorted-in_order, in_order-same, length-in_order}

@@ -1,20 +1,17 @@
 -- Values for some of the processes, extended to all of them; and simplices on the same processes in order.
-use Rattle.std.proofs.Common.{◌≡◌, ℕ, zero, suc, ◌+◌, ◌<◌, ◌≤◌, List, [], ◌∷◌, ◌++◌, length, map, zip, inl, inr, ◌⊎◌, refl, sym, ap, ◌∙◌, subst, arith, length-append}
+use Rattle.std.proofs.Common.{◌≡◌, ℕ, suc, ◌+◌, ◌<◌, ◌≤◌, List, [], ◌∷◌, ◌++◌, length, map, zip, inl, inr, ◌⊎◌, refl, sym, ap, ◌∙◌, subst, arith, length-append}
 use Rattle.std.specs.List.{AllByRecursion}
 use Rattle.std.specs.List.Sorted.{IsStrictlySortedBy}
-use Rattle.std.specs.declared.cmp.Ordering.{Ordering}
-use Rattle.std.specs.declared.cmp.Ordering.TheVariants.{Less, Equal, Greater}
+use Rattle.std.specs.declared.cmp.Ordering.TheVariants.{Less}
 use Rattle.std.specs.Ordering.{nat_cmp, ordering_then}
 use Rattle.std.specs.Cmp.{nat_cmp_total, tied_itself}
 use Rattle.std.specs.Cmp.Lexicographic.{slice_cmp}
-use Rattle.std.proofs.lemmas.List.{length-map}
 use Rattle.wf_model.specs.Lists.{below}
-use Rattle.wf_model.specs.Simplex.{Simplex, Vertex, processes_of, values_of, parts_of, vertex_cmp, simplex_cmp}
-use Rattle.wf_model.proofs.Headline.{each_map}
+use Rattle.wf_model.specs.Simplex.{Simplex, processes_of, values_of, parts_of, vertex_cmp, simplex_cmp}
 use Rattle.wf_simplex.proofs.Orders.{Has, has-append, has-append_left, has-append_right}
 use Rattle.wf_simplex.proofs.Faces.{begins}
 use Rattle.std.proofs.lemmas.List.FromFn.{length-range_with_len}
-use Rattle.wf_task.proofs.Listings.{map-has, has-map, has-below, below-has, sorted-below, length-among, has_each, each_has}
+use Rattle.wf_task.proofs.Listings.{map-has, has-below, sorted-below, length-among}
 use Rattle.wf_task.proofs.Differing.{Differ, has_or_not}
 use Rattle.wf_task.proofs.Facets.{length-part}
 

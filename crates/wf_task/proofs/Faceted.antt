@@ -1,9 +1,8 @@
 -- A complex is that of its facets, and a simplex is inner where it lies in a border.
-use Rattle.std.proofs.Common.{◌≡◌, ℕ, zero, suc, ◌+◌, ◌*◌, ◌<◌, ◌≤◌, ◌==◌, ◌&&◌, Bool, true, false, not, nat_lt, IsTrue, Contains, List, [], ◌∷◌, ◌++◌, length, map, filter, flat_map, take, drop, All, inl, inr, ◌⊎◌, ◌↔◌, refl, sym, ap, ◌∙◌, subst, arith, ltb-true, eqb-true, length-append, slice_index_or, get_or}
+use Rattle.std.proofs.Common.{◌≡◌, ℕ, zero, suc, ◌+◌, ◌*◌, ◌<◌, ◌≤◌, ◌==◌, ◌&&◌, Bool, true, false, not, nat_lt, List, [], ◌∷◌, length, map, flat_map, inl, inr, refl, sym, ap, ◌∙◌, subst, arith, ltb-true, eqb-true, length-append}
 use Rattle.std.specs.Prelude.{remove}
 use Rattle.std.specs.List.{AllByRecursion, list_any, list_all}
-use Rattle.std.specs.List.Sorted.{IsStrictlySortedBy}
-use Rattle.std.proofs.lemmas.Bool.{and_parts, and_from, lt-ltb, ltb-false, not-true, cases_Bool}
+use Rattle.std.proofs.lemmas.Bool.{and_parts, and_from, lt-ltb, not-true}
 use Rattle.std.proofs.lemmas.List.Kept.{IsStrictlySortedBy-filter}
 use Rattle.wf_model.specs.Lists.{below}
 use Rattle.wf_model.specs.Simplex.{Simplex, Vertex, processes_of, same_vertex, is_face, is_nonempty, is_ascending, parts_of, faces_of, simplex_cmp, complex_of}
@@ -11,13 +10,13 @@ use Rattle.wf_model.specs.Task.{IsSimplexWithin}
 use Rattle.wf_model.proofs.Ascending.{Ascends, ascends_from}
 use Rattle.wf_simplex.specs.Faces.{IsComplex}
 use Rattle.wf_simplex.specs.Order.{simplex_cmp-total}
-use Rattle.wf_simplex.proofs.Orders.{Has, has-append, has_at_place, length-in_order}
+use Rattle.wf_simplex.proofs.Orders.{Has, has-append, length-in_order}
 use Rattle.wf_simplex.proofs.Faces.{begins, has-filter, filter-has, has-flat_map, flat_map-has, of_some_facet, is_in_complex, complex_of-sorted, part_of_part, length-faces_of}
 use Rattle.wf_simplex.proofs.Within.{has_of_all, length-within}
 use Rattle.wf_task.specs.Borders.{borders_if, borders_of}
 use Rattle.wf_task.proofs.Listings.{has-map, map-has, has-below, below-has, length-among, each_has}
 use Rattle.wf_task.specs.Canonical.{is_inner, facets}
-use Rattle.wf_task.proofs.Facets.{vertex_of_part, length-part, whole-part, part-is_face, any-has, has-any}
+use Rattle.wf_task.proofs.Facets.{length-part, whole-part, part-is_face, any-has, has-any}
 use Rattle.wf_task.proofs.Extending.{with_first, without_first, no_part}
 use Rattle.wf_task.proofs.Images.{nonempty-long, long-nonempty, part-face, facet-in, complex_of-same}
 

@@ -1,10 +1,10 @@
 -- Complexes of the images of input simplices.
-use Rattle.std.proofs.Common.{◌≡◌, ℕ, ◌<◌, ◌≤◌, true, List, [], ◌∷◌, length, map, flat_map, zip, refl, sym, ap, subst, arith}
+use Rattle.std.proofs.Common.{◌≡◌, ◌<◌, true, List, [], ◌∷◌, length, map, flat_map, zip, refl, arith}
 use Rattle.wf_model.specs.Simplex.{Simplex, processes_of, is_nonempty, parts_of, faces_of, simplex_cmp, complex_of}
 use Rattle.wf_model.specs.Task.{Tuple}
 use Rattle.wf_simplex.specs.Order.{simplex_cmp-total, simplex_cmp-Equal}
 use Rattle.wf_simplex.proofs.Orders.{Has, same_in_order}
-use Rattle.wf_simplex.proofs.Faces.{has-filter, filter-has, has-flat_map, flat_map-has, whole_is_part, is_in_complex, of_some_facet, complex_closed, complex_of-sorted}
+use Rattle.wf_simplex.proofs.Faces.{filter-has, has-flat_map, flat_map-has, whole_is_part, is_in_complex, of_some_facet, complex_closed, complex_of-sorted}
 use Rattle.wf_task.proofs.Listings.{map-has, has-map}
 
 pub nonempty-long : {X : Type 0} (s : List X) → 0 < length s → is_nonempty s ≡ true

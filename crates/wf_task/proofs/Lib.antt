@@ -18,11 +18,9 @@ pub mod Differing
 pub mod Facets
 pub mod Extending
 pub mod Images
-pub mod Agreeing
-pub mod Naming
-pub mod FamilyTasks
-pub mod FamilyLoops
-pub mod PresetLimits
 pub mod Faceted
 pub mod Written
 pub mod CanonicalLoops
+pub mod OneMore
+pub mod Lengths
+pub mod Back

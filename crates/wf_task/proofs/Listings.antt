@@ -1,20 +1,20 @@
 -- Lists of so many elements: how many, in which order, and which.
-use Rattle.std.proofs.Common.{◌≡◌, ℕ, zero, suc, ◌+◌, ◌*◌, ◌/◌, ◌%◌, ◌^◌, ◌<◌, ◌≤◌, ◌==◌, Bool, true, false, List, [], ◌∷◌, ◌++◌, length, map, filter, flat_map, take, get_or, cond, nat_lt, inl, inr, refl, sym, ap, ◌∙◌, subst, arith, ltb-true, length-append}
+use Rattle.std.proofs.Common.{Contains, ◌≡◌, ℕ, zero, suc, ◌+◌, ◌*◌, ◌/◌, ◌%◌, ◌^◌, ◌<◌, ◌≤◌, Bool, true, false, List, [], ◌∷◌, ◌++◌, length, map, flat_map, take, get_or, nat_lt, inl, inr, refl, sym, ap, ◌∙◌, subst, arith, ltb-true, length-append}
 use Rattle.std.specs.List.{AllByRecursion, range_with_len}
 use Rattle.std.specs.List.Sorted.{IsStrictlySortedBy}
 use Rattle.std.specs.declared.cmp.Ordering.{Ordering}
-use Rattle.std.specs.declared.cmp.Ordering.TheVariants.{Less, Equal, Greater}
+use Rattle.std.specs.declared.cmp.Ordering.TheVariants.{Less, Equal}
 use Rattle.std.specs.Ordering.{nat_cmp, ordering_then}
 use Rattle.std.specs.Cmp.{IsTotalOrder, nat_cmp_total, tied_itself}
 use Rattle.std.specs.Cmp.Lexicographic.{slice_cmp}
-use Rattle.std.proofs.Math.Nat.{zero-mul, suc-mul, pow-zero, pow-suc, pow-succ', div-lt_iff_lt-mul, div-add-mod', mod-lt}
+use Rattle.std.proofs.Math.Nat.{zero-mul, suc-mul, pow-zero, pow-succ', div-lt_iff_lt-mul, div-add-mod', mod-lt}
 use Rattle.std.proofs.lemmas.Bool.{lt-ltb}
 use Rattle.std.proofs.lemmas.List.{length-map, get_or-map, length-take-le}
 use Rattle.std.proofs.lemmas.List.Concat.{get_or-flat_map}
-use Rattle.wf_model.specs.Lists.{below, lists_of, in_order}
+use Rattle.wf_model.specs.Lists.{below, lists_of}
 use Rattle.wf_model.proofs.Bridge.{weaker}
 use Rattle.wf_model.proofs.Headline.{each_append, each_map, each_flat}
-use Rattle.wf_simplex.proofs.Orders.{Has, same_in_order}
+use Rattle.wf_simplex.proofs.Orders.{Has}
 use Rattle.wf_simplex.proofs.Faces.{begins, has-flat_map, flat_map-has}
 
 -- ---- how many
@@ -206,3 +206,13 @@ module _ {X : Type 0} (cmp : X → X → Ordering) (o : IsTotalOrder cmp) where
       apart : (z : X) → Has z xs → z ≡ x → ⊥
       apart z g e = let less : cmp x x ≡ Less = subst (λ w. cmp x w ≡ Less) e (each_has (λ w. cmp x w ≡ Less) z xs h.0 g) in
           let same : Less ≡ Equal = sym less ∙ tied_itself o x in cc
+
+-- ---- what a list contains
+
+pub contains-has : {X : Type 0} (x : X) (xs : List X) → Contains xs x → Has x xs
+contains-has {X} x xs h = at xs h.0 h.1 h.2
+  where
+    at : (ys : List X) (k : ℕ) → k < length ys → get_or ys k x ≡ x → Has x ys
+    at [] k low is = absurd (let none : ⊥ = omega (arith, low) in none)
+    at (y ∷ ys) zero low is = inl is
+    at (y ∷ ys) (suc k) low is = inr (at ys k (omega (arith, low)) is)

@@ -1,11 +1,12 @@
 -- The canonical text of a task.
-use Rattle.std.specs.Prelude.{ℕ, ◌≤◌, ◌&&◌, nat_lt, Bool, not, List, [], ◌∷◌, map, filter, length, Option, Some, None, codes}
+use Rattle.std.specs.Prelude.{◌≡◌, ℕ, ◌≤◌, ◌&&◌, nat_lt, Bool, not, List, [], ◌∷◌, map, filter, length, Option, Some, None, codes}
 use Rattle.std.specs.List.{list_any}
-use Rattle.serde_json.specs.Data.{Data, number, unsigned, boolean, array, object, Items, no_items, item, Members, no_members, member}
+use Rattle.serde_json.specs.Data.{Data, number, unsigned, boolean, array, object, Members, no_members, member}
 use Rattle.serde_json.specs.View.{items_of}
 use Rattle.serde_json.specs.Written.{compact_text}
 use Rattle.wf_model.specs.Simplex.{Simplex, Vertex, is_face}
-use Rattle.wf_model.specs.Task.{Task, Rule, Tuple, inputs}
+use Rattle.wf_model.specs.Task.{Task, Rule, Tuple, IsTask, inputs}
+use Rattle.wf_simplex.specs.Faces.{IsComplex}
 use Rattle.wf_task.specs.Draft.{Listed}
 
 -- ---- what it lists
@@ -86,3 +87,10 @@ task_data t =
 -- compact JSON: no space anywhere
 unfoldable pub canonical_text : Task → List ℕ
 canonical_text t = compact_text (task_data t)
+
+-- a task that a text can list: of version 1, with no more outputs than a text may list
+pub record IsListable (t : Task) : Type 0 where
+  pub task : IsTask t
+  pub unrestricted : t.restriction ≡ None
+  pub few : HasFewFacets t.outputs
+  pub outputs : IsComplex t.outputs

@@ -13,5 +13,3 @@ pub mod TaskSeen
 pub mod Parts
 pub mod Canonical
 pub mod Borders
-pub mod Family
-pub mod Preset

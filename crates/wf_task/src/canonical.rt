@@ -15,6 +15,7 @@ ghost use Rattle.std.specs.Prelude.{
 ghost use Rattle.serde_json.specs.Data.{Data};
 ghost use Rattle.serde_json.specs.View.{view};
 ghost use Rattle.wf_model.specs.Task.{IsSimplexWithin};
+ghost use Rattle.wf_simplex.specs.Faces.{IsComplex};
 ghost use Rattle.wf_task.specs.Borders.{borders_of, place_before};
 ghost use Rattle.wf_task.specs.Canonical.{
   HasFewFacets,
@@ -41,7 +42,8 @@ use wf_simplex::{Complex, Simplex};
 /// times the simplices.
 pub(crate) fn facets(alloc: Global, complex: &Complex) -> Result<Vec<Simplex>, AllocError>
     requires { HasFewFacets complex.now }
-    ensures { IfOk result (λ found. found.items ≡ facets complex.now) }
+    ensures facets { IfOk result (λ found. found.items ≡ facets complex.now) }
+    ensures complex { IsComplex complex.now }
 {
     let simplices = complex.simplices();
     let inner = Complex::from_facets(alloc, &borders(alloc, simplices)?)?;

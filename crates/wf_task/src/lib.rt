@@ -2,7 +2,6 @@
 //!
 //! - [`Task`]: input and output simplices, and for each input simplex the tuples that its processes may decide.
 //!   [`Task::read_text`] reads one, or says what is wrong with the text.
-//! - [`preset`]: the set agreement and renaming tasks.
 //! - [`TaskFault`]: why a text is no task, with the [`Key`] or the [`Limit`] that it is about.
 //! - [`LONGEST`]: how many bytes a text may have.
 //! - [`Row`]: the output values of a tuple, one for each process of an input simplex. Copied, five bytes, no memory.
@@ -11,10 +10,8 @@
 mod canonical;
 mod complexes;
 mod draft;
-mod family;
 pub mod fault;
 mod judge;
-pub mod preset;
 pub mod row;
 mod rows;
 mod shape;

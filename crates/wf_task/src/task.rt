@@ -1,8 +1,8 @@
-ghost use Rattle.std.specs.Prelude.{◌≡◌, ◌<◌, length, map, option_map, slice_get, Some, None, IfOk, vec_items};
+ghost use Rattle.std.specs.Prelude.{◌≡◌, ◌<◌, length, map, option_map, slice_get, Some, None, Ok, IfOk, OnOk, vec_items};
 ghost use Rattle.wf_model.specs.Simplex.{complex_of};
 ghost use Rattle.wf_model.specs.Task.{IsTask, inputs, values};
 ghost use Rattle.serde_json.specs.View.{view};
-ghost use Rattle.wf_task.specs.Canonical.{HasFewFacets, canonical_text, task_data};
+ghost use Rattle.wf_task.specs.Canonical.{HasFewFacets, IsListable, canonical_text, task_data};
 ghost use Rattle.wf_set.specs.Sets.{values_in};
 ghost use Rattle.wf_task.specs.Draft.{Gives};
 ghost use Rattle.wf_task.specs.DraftSeen.{draft_seen, pairs_seen, entry_seen};
@@ -71,8 +71,8 @@ impl Task {
         judged(alloc, &draft)
     }
 
-    /// The task of these parts, the tuples in the order of the inputs.
-    pub(crate) fn of_parts(
+    /// The task of these parts, the tuples of each input simplex in the order of the inputs.
+    pub fn of_parts(
         processes: u8,
         symmetric: bool,
         inputs: Complex,
@@ -95,10 +95,12 @@ impl Task {
     }
 
     /// The canonical text: compact JSON with its keys in alphabetical order, the facets of the input and the output
-    /// complex in order, and an entry for each input simplex in order, its tuples ascending.
+    /// complex in order, and an entry for each input simplex in order, its tuples ascending. Reading it gives the same
+    /// task.
     #[tactic(auto, unfolding(crate::specs::Canonical::canonical_text), using(crate::proofs::Written::task_has_no_float))]
     pub fn write_text(&self, alloc: Global) -> Result<Vec<u8>, AllocError>
         ensures text { IfOk result (λ text. text.items ≡ canonical_text self.now) }
+        ensures reads_back { IfOk result (λ text. text_of text.items ≡ Ok self.now) }
     {
         let text = self.value(alloc)?.to_string(alloc)?;
         Ok(text.into_bytes())
@@ -106,7 +108,8 @@ impl Task {
 
     /// The JSON value of the canonical text.
     fn value(&self, alloc: Global) -> Result<Value, AllocError>
-        ensures { IfOk result (λ v. view v ≡ task_data self.now) }
+        ensures value { IfOk result (λ v. view v ≡ task_data self.now) }
+        ensures listable { OnOk result (IsListable self.now) }
     {
         let delta = entries(alloc, self.inputs.simplices(), &self.tuples)?;
         let inputs = list(alloc, &facets(alloc, &self.inputs)?)?;

@@ -4,11 +4,18 @@
 ghost use Rattle.std.specs.Prelude.{IfOk, IfErr, IfSome};
 ghost use Rattle.wf_words.specs.Job.{IsWithinLimits, IsClapMistake};
 
+mod presets;
+
+use crate::presets::Options;
 use clap::error::ErrorKind;
 use clap::{Arg, ArgAction, ArgMatches, Command, value_parser};
 use std::alloc::{AllocError, Global};
 use std::io;
-use wf_engine::MAX_WORKERS;
+use wf_engine::{MAX_WORKERS, Preset};
+
+/// What the help of `preset` says of the kinds.
+const KINDS: &str =
+    "Kinds:\n  set-agreement  Each process decides the input of some participant, and at most K different values are\n                 decided (k-set agreement: Chaudhuri 1993)\n  renaming       The processes decide different names (Attiya, Bar-Noy, Dolev, Peleg and Reischuk 1990)";
 
 /// A command, with its options.
 #[derive(Debug, Drop)]
@@ -34,6 +41,8 @@ pub enum Job {
         /// How many rounds.
         rounds: u32,
     },
+    /// Write the canonical text of a task that has a name.
+    Preset(Preset),
 }
 
 /// Why words are no job.
@@ -73,10 +82,13 @@ impl From<io::Error> for WordsFault {
 }
 
 fn number<'a>(alloc: Global, name: &'a str, help: &'a str) -> Arg<'a> {
+    optional(alloc, name, help).required(true)
+}
+
+fn optional<'a>(alloc: Global, name: &'a str, help: &'a str) -> Arg<'a> {
     Arg::new(alloc, name)
         .long(name)
         .help(help)
-        .required(true)
         .action(ArgAction::Set)
         .value_parser(value_parser!(u32))
 }
@@ -128,6 +140,29 @@ fn views_command<'a>(alloc: Global) -> Result<Command<'a>, AllocError> {
         .arg(number(alloc, "rounds", "How many rounds of immediate snapshots"))
 }
 
+fn preset_command<'a>(alloc: Global) -> Result<Command<'a>, AllocError> {
+    let kind = Arg::new(alloc, "kind")
+        .value_name("KIND")
+        .help("set-agreement, with --k and perhaps --values, or renaming, with --names")
+        .required(true)
+        .action(ArgAction::Set);
+    let k = optional(alloc, "k", "How many different values may be decided");
+    let values = optional(
+        alloc,
+        "values",
+        "How many values each process may have as input; without it each has its own number",
+    );
+    let names = optional(alloc, "names", "How many names there are, 1 to 64");
+    Command::new(alloc, "preset")
+        .about("Write the text of a task that has a name")
+        .after_help(KINDS)
+        .arg(kind)?
+        .arg(number(alloc, "processes", "How many processes there are, 1 to 4"))?
+        .arg(k)?
+        .arg(values)?
+        .arg(names)
+}
+
 fn whole_command<'a>(alloc: Global) -> Result<Command<'a>, AllocError> {
     Command::new(alloc, "wfcheck")
         .about(
@@ -136,7 +171,8 @@ fn whole_command<'a>(alloc: Global) -> Result<Command<'a>, AllocError> {
         .subcommand_required(true)
         .subcommand(solve_command(alloc)?)?
         .subcommand(verify_command(alloc)?)?
-        .subcommand(views_command(alloc)?)
+        .subcommand(views_command(alloc)?)?
+        .subcommand(preset_command(alloc)?)
 }
 
 /// The job of `solve`, whose number of workers `clap` has judged.
@@ -177,6 +213,20 @@ fn views_job(found: &ArgMatches<'_>) -> Option<Job>
     Some(Job::Views { rounds })
 }
 
+/// The job of `preset`.
+fn preset_job(found: &ArgMatches<'_>) -> Option<Job>
+    ensures { IfSome result IsWithinLimits }
+{
+    let kind = found.get_str("kind")?;
+    let options = Options {
+        processes: found.get_one::<u32>("processes")?,
+        k: found.get_one::<u32>("k"),
+        values: found.get_one::<u32>("values"),
+        names: found.get_one::<u32>("names"),
+    };
+    Some(Job::Preset(options.preset(kind)?))
+}
+
 /// What the words ask for. The first is the program's own name.
 ///
 /// A fault of `clap` carries the text to be printed; out of memory is never handed out as one.
@@ -198,6 +248,7 @@ pub fn read_words(alloc: Global, words: &[String]) -> Result<Job, WordsFault>
         Some(("solve", inner)) => solve_job(inner).ok_or(WordsFault::Words),
         Some(("verify", inner)) => verify_job(alloc, inner),
         Some(("views", inner)) => views_job(inner).ok_or(WordsFault::Words),
+        Some(("preset", inner)) => preset_job(inner).ok_or(WordsFault::Words),
         _ => Err(WordsFault::Words),
     }
 }

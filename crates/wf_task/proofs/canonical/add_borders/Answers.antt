@@ -2,7 +2,7 @@ use Rattle.std.specs.Prelude.{remove}
 use Rattle.std.proofs.Common.{◌≡◌, ◌+◌, ◌++◌, ◌∷◌, [], map, sym, ap, ◌∙◌, append_assoc}
 use Rattle.std.proofs.lemmas.List.{map-append}
 use Rattle.wf_model.specs.Lists.{below}
-use Rattle.wf_task.proofs.FamilyLoops.{below_more}
+use Rattle.wf_task.proofs.OneMore.{below_more}
 use Rattle.wf_task.proofs.canonical.add_borders.Goals as goal
 
 pub loop-place-preserved : goal.loop-place-preserved

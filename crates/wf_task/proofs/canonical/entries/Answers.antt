@@ -1,4 +1,4 @@
-use Rattle.std.proofs.Common.{◌≡◌, ◌+◌, length, map, take, vec_items, ap, ◌∙◌, arith, take_all}
+use Rattle.std.proofs.Common.{◌+◌, map, take, vec_items, ap, ◌∙◌, arith, take_all}
 use Rattle.std.proofs.lemmas.List.{length-map}
 use Rattle.serde_json.specs.Data.{array}
 use Rattle.serde_json.specs.View.{view, items_of}

@@ -1,4 +1,4 @@
-use Rattle.std.proofs.Common.{◌≡◌, ◌++◌, ◌∷◌, [], cond, length, sym, ap, ◌∙◌, subst, arith}
+use Rattle.std.proofs.Common.{◌++◌, ◌∷◌, [], cond, length, sym, ap, ◌∙◌, subst, arith}
 use Rattle.std.specs.Vec.{vec_items}
 use Rattle.wf_model.specs.Simplex.{complex_of}
 use Rattle.wf_simplex.specs.Faces.{IsComplex}

@@ -1,0 +1,150 @@
+-- The task of a family is a task.
+use Rattle.std.proofs.Common.{◌≡◌, Bool, true, ℕ, ◌<◌, ◌≤◌, ◌==◌, List, [], ◌∷◌, length, map, zip, sum_by, count_by, All, Contains, None, refl, sym, ap, ◌∙◌, subst, arith}
+use Rattle.std.specs.List.Sorted.{IsStrictlySortedBy}
+use Rattle.std.specs.Ordering.{nat_cmp}
+use Rattle.std.specs.Cmp.{nat_cmp_total}
+use Rattle.std.specs.Cmp.Lexicographic.{slice_cmp, nat_list_cmp_total}
+use Rattle.std.proofs.lemmas.Bool.{and_parts}
+use Rattle.std.proofs.lemmas.List.{length-map}
+use Rattle.std.proofs.lemmas.List.Concat.{length-flat_map}
+use Rattle.std.proofs.lemmas.List.Elements.{All-map}
+use Rattle.std.proofs.lemmas.List.FromFn.{length-range_with_len}
+use Rattle.std.proofs.lemmas.List.Kept.{IsStrictlySortedBy-filter}
+use Rattle.std.proofs.lemmas.List.Sums.{sum_by-le-sum_by}
+use Rattle.wf_model.specs.Lists.{below, lists_of, in_order}
+use Rattle.wf_model.specs.Simplex.{Simplex, Vertex, processes_of, values_of, is_nonempty, is_ascending, is_simplex, complex_of}
+use Rattle.wf_model.specs.Task.{Rule, Tuple, IsTask, IsRule, IsSimplexWithin, IsComplexWithin}
+use Rattle.wf_simplex.specs.Order.{nat_cmp-Equal}
+use Rattle.wf_simplex.proofs.Orders.{Has, has-in_order, sorted-in_order, in_order-sorted, length-in_order, has_at_place}
+use Rattle.wf_simplex.proofs.Faces.{has-filter}
+use Rattle.wf_simplex.proofs.Within.{all_of_has, has_of_all, length-within}
+use Rattle.wf_preset.specs.declared.family.Family.{Family}
+use Rattle.wf_preset.specs.declared.family.Family.TheVariants.{Agreement, Naming}
+use Rattle.wf_preset.specs.Family.{values_for, allows, tuples_for, IsFamily, AreValues, images_of, task_for}
+use Rattle.wf_task.specs.Tuples.{IsTupleOf}
+use Rattle.wf_task.specs.TaskSeen.{rules_seen, task_of_parts}
+use Rattle.wf_task.proofs.Drafted.{complex_is, seen_by}
+use Rattle.wf_task.proofs.Images.{facet-in, has-images, images-has}
+use Rattle.wf_task.proofs.Listings.{sorted-lists_of, sorted-below, has-lists_of, has-below, each_has}
+use Rattle.wf_task.proofs.RowLemmas.{tuple_cmp-Equal}
+use Rattle.wf_task.proofs.Sizes.{sum_by-map}
+use Rattle.wf_task.proofs.TupleLemmas.{zip_within}
+
+-- ---- values
+
+pub numbers-are : (n : ℕ) → n ≤ 64 → AreValues (below n)
+numbers-are n h = record {
+  few = omega (arith, length-range_with_len 0 n, h);
+  small = all_of_has (λ x. x ≤ 63) (below n) (λ x here. omega (arith, has-below x n here, h));
+}
+
+pub values-are : (family : Family) (n : ℕ) (s : Simplex) → n ≤ 4 → IsFamily family → IsSimplexWithin n 63 s → AreValues (values_for family s)
+values-are (Agreement k) n s low h within = record {
+  few = omega (arith, length-in_order nat_cmp (values_of s), length-map s (λ (v : Vertex). v.1), length-within n 63 s within, low);
+  small = all_of_has (λ x. x ≤ 63) (in_order nat_cmp (values_of s))
+      (λ x here. has_of_all (λ x. x ≤ 63) x (values_of s) within.values (has-in_order nat_cmp nat_cmp_total nat_cmp-Equal x (values_of s) here));
+}
+values-are (Naming names) n s low h within = numbers-are names h
+
+values-sorted : (family : Family) (s : Simplex) → IsStrictlySortedBy nat_cmp (values_for family s)
+values-sorted (Agreement k) s = sorted-in_order nat_cmp nat_cmp_total nat_cmp-Equal (values_of s)
+values-sorted (Naming names) s = sorted-below names
+
+-- ---- tuples
+
+pub tuple-is : (family : Family) (s : Simplex) (t : Tuple) → AreValues (values_for family s) → Has t (tuples_for family s) → IsTupleOf (length s) t
+tuple-is family s t values h =
+    let list = has-lists_of t (values_for family s) (length s) (has-filter (allows family) t (lists_of (values_for family s) (length s)) h).0 in
+    record {
+      long = list.0;
+      small = all_of_has (λ x. x ≤ 63) t (λ x here. has_of_all (λ x. x ≤ 63) x (values_for family s) values.small (each_has (λ y. Has y (values_for family s)) x t list.1 here));
+    }
+
+tuples-sorted : (family : Family) (s : Simplex) → IsStrictlySortedBy (slice_cmp nat_cmp) (tuples_for family s)
+tuples-sorted family s = IsStrictlySortedBy-filter (slice_cmp nat_cmp) (allows family) (lists_of (values_for family s) (length s)) (sorted-lists_of (values_for family s) (length s) (values-sorted family s))
+
+-- ---- the task
+
+abbrev pub rule_of_family : Family → Simplex → Rule
+rule_of_family family s = record { input = s; tuples = tuples_for family s }
+
+pub same_inputs : (family : Family) (ss : List Simplex) → map (λ (rule : Rule). rule.input) (map (rule_of_family family) ss) ≡ ss
+same_inputs family [] = refl
+same_inputs family (s ∷ ss) = ap (λ rest. s ∷ rest) (same_inputs family ss)
+
+some_vertex : (s : Simplex) → is_simplex s ≡ true → is_nonempty s ≡ true
+some_vertex s h = (and_parts (is_nonempty s) (is_ascending (processes_of s)) h).0
+
+-- inputs of so many processes, and no more tuples than a task may have
+pub record IsReady (n : ℕ) (family : Family) (inputs : List Simplex) : Type 0 where
+  pub some : 1 ≤ n
+  pub few : n ≤ 4
+  pub is_family : IsFamily family
+  pub complex : complex_of inputs ≡ inputs
+  pub within : All (IsSimplexWithin n 63) inputs
+  pub some_input : 0 < length inputs
+  pub vertices : count_by (λ s. length s == 1) inputs ≤ 64
+  pub simplices : length inputs ≤ 4096
+  pub tuples : sum_by (λ s. length (tuples_for family s)) inputs ≤ 65536
+
+module _ (n : ℕ) (family : Family) (inputs : List Simplex) (h : IsReady n family inputs) where
+  tuple-of : (s : Simplex) (t : Tuple) → Has s inputs → Has t (tuples_for family s) → IsTupleOf (length s) t
+  tuple-of s t here g = tuple-is family s t (values-are family n s h.few h.is_family (has_of_all (IsSimplexWithin n 63) s inputs h.within here)) g
+
+  images-within : All (IsSimplexWithin n 63) (images_of family inputs)
+  images-within = all_of_has (IsSimplexWithin n 63) (images_of family inputs)
+      (λ u here. (let i = has-images (tuples_for family) inputs u here in
+      subst (IsSimplexWithin n 63) i.2.same (zip_within n i.0 i.1 (has_of_all (IsSimplexWithin n 63) i.0 inputs h.within i.2.input) (tuple-of i.0 i.1 i.2.input i.2.decided))))
+
+  rule-is : (s : Simplex) → Has s inputs → IsRule (complex_of (images_of family inputs)) (rule_of_family family s)
+  rule-is s here = record {
+    ascending = in_order-sorted (slice_cmp nat_cmp) nat_list_cmp_total tuple_cmp-Equal (tuples_for family s) (tuples-sorted family s);
+    long = all_of_has (λ t. length t ≡ length s) (tuples_for family s) (λ t g. (tuple-of s t here g).long);
+    listed = all_of_has (λ t. Contains (complex_of (images_of family inputs)) (zip (processes_of s) t)) (tuples_for family s)
+        (λ t g. has_at_place (zip (processes_of s) t) (complex_of (images_of family inputs)) (listed t g));
+  }
+    where
+      listed : (t : Tuple) → Has t (tuples_for family s) → Has (zip (processes_of s) t) (complex_of (images_of family inputs))
+      listed t g =
+          let image = images-has (tuples_for family) inputs s t here g in
+          let within = has_of_all (IsSimplexWithin n 63) (zip (processes_of s) t) (images_of family inputs) images-within image in
+          facet-in (zip (processes_of s) t) (images_of family inputs) image (some_vertex (zip (processes_of s) t) within.is_simplex)
+
+  pub task-is : (symmetric : Bool) → IsTask (task_for n symmetric family inputs)
+  task-is symmetric = record {
+    process_count = (h.some, h.few);
+    restriction_within = tt;
+    input_complex = subst (IsComplexWithin n 63) (sym (same_inputs family inputs)) (record { is_complex = h.complex; within = h.within });
+    output_complex = complex_is n (images_of family inputs) images-within;
+    rules_within = All-map (IsRule (complex_of (images_of family inputs))) (rule_of_family family) inputs (all_of_has (λ s. IsRule (complex_of (images_of family inputs)) (rule_of_family family s)) inputs rule-is);
+    some_input = omega (arith, h.some_input, length-map inputs (rule_of_family family));
+    few_vertices = omega (arith, ap (count_by (λ (s : Simplex). length s == 1)) (same_inputs family inputs), h.vertices);
+    few_inputs = omega (arith, h.simplices, length-map inputs (rule_of_family family));
+    few_tuples = omega (arith, h.tuples, sum_by-map (λ (r : Rule). length r.tuples) (rule_of_family family) inputs);
+  }
+
+-- ---- the parts of the task
+
+pub few-images : (family : Family) (inputs : List Simplex) → sum_by (λ s. length (tuples_for family s)) inputs ≤ 65536 → length (images_of family inputs) ≤ 65536
+few-images family inputs few =
+    omega (
+      arith,
+      length-flat_map (λ s. map (zip (processes_of s)) (tuples_for family s)) inputs,
+      sum_by-le-sum_by (λ s. length (map (zip (processes_of s)) (tuples_for family s))) (λ s. length (tuples_for family s)) inputs (λ s. omega (arith, length-map (tuples_for family s) (zip (processes_of s)))),
+      few,
+    )
+
+-- the tuples of the rules are those of the inputs
+pub counted : (family : Family) (inputs : List Simplex) → sum_by (λ (rule : Rule). length rule.tuples) (map (rule_of_family family) inputs) ≡ sum_by (λ s. length (tuples_for family s)) inputs
+counted family inputs = sum_by-map (λ (rule : Rule). length rule.tuples) (rule_of_family family) inputs
+
+pub parts-task : (n : ℕ) (symmetric : Bool) (family : Family) (inputs images outputs : List Simplex) (tuples : List (List Tuple)) → tuples ≡ map (tuples_for family) inputs → images ≡ images_of family inputs → outputs ≡ complex_of images
+    → task_of_parts n symmetric inputs tuples outputs ≡ task_for n symmetric family inputs
+parts-task n symmetric family inputs images outputs tuples rows all complex =
+    let rules = ap (rules_seen inputs) rows ∙ seen_by (tuples_for family) inputs in
+    let faces = complex ∙ ap complex_of all in
+    λ j. record { processes = n; symmetric = symmetric; restriction = None; rules = rules j; outputs = faces j }
+
+pub rows-long : (family : Family) (s : Simplex) → All (λ t. length t ≡ length s) (tuples_for family s)
+rows-long family s = all_of_has (λ t. length t ≡ length s) (tuples_for family s)
+    (λ t here. (has-lists_of t (values_for family s) (length s) (has-filter (allows family) t (lists_of (values_for family s) (length s)) here).0).0)

@@ -1,0 +1,6 @@
+pub mod Agreeing
+pub mod Naming
+pub mod FamilyTasks
+pub mod FamilyLoops
+pub mod PresetLimits
+pub mod Decided

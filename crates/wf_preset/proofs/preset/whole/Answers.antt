@@ -1,0 +1,17 @@
+use Rattle.std.proofs.Common.{ap, ◌∙◌}
+use Rattle.wf_simplex.specs.Reading.{read_fault}
+use Rattle.wf_simplex.proofs.Within.{read_fault-within}
+use Rattle.wf_task.proofs.Drafted.{within_more}
+use Rattle.wf_preset.proofs.Naming.{start}
+use Rattle.wf_preset.proofs.PresetLimits.{first_four, start-within}
+use Rattle.wf_preset.proofs.preset.whole.Goals as goal
+
+pub unreachable-requires : goal.unreachable-requires
+unreachable-requires c =
+    let n = c.args.processes in
+    let none = ap read_fault (first_four n c.requires.few) ∙ read_fault-within (start n) (within_more n 4 (start n) c.requires.few (start-within n c.requires.some c.requires.few)) in
+    let some = c.in-Err.ensures in
+    cc (none, some)
+
+pub returns : goal.returns
+returns c = c.in-Ok.ensures.1 ∙ first_four c.args.processes c.requires.few

@@ -1,0 +1,51 @@
+-- Families of tasks: which values the processes of an input simplex may decide together.
+use Rattle.std.specs.Prelude.{ℕ, ◌≤◌, nat_le, nat_lt, Bool, List, All, map, filter, flat_map, length, zip, None, Some, Option, if◌then◌else◌}
+use Rattle.std.specs.Ordering.{nat_cmp}
+use Rattle.wf_model.specs.Lists.{below, lists_of, in_order}
+use Rattle.wf_model.specs.Presets.{different, all_different}
+use Rattle.wf_model.specs.Simplex.{Simplex, processes_of, values_of, complex_of}
+use Rattle.wf_model.specs.Task.{Task, Tuple}
+use Rattle.wf_preset.specs.declared.family.Family.{Family}
+use Rattle.wf_preset.specs.declared.family.Family.TheVariants.{Agreement, Naming}
+
+-- the values that some process of an input simplex may decide, ascending
+abbrev pub values_for : Family → Simplex → List ℕ
+values_for (Agreement k) s = in_order nat_cmp (values_of s)
+values_for (Naming names) s = below names
+
+-- whether the processes may decide these values together
+abbrev pub allows : Family → Tuple → Bool
+allows (Agreement k) tuple = nat_le (different tuple) k
+allows (Naming names) tuple = all_different tuple
+
+-- the tuples of an input simplex
+abbrev pub tuples_for : Family → Simplex → List Tuple
+tuples_for family s = filter (allows family) (lists_of (values_for family s) (length s))
+
+-- names are values of a task
+abbrev pub IsFamily : Family → Type 0
+IsFamily (Agreement k) = Unit {0}
+IsFamily (Naming names) = names ≤ 64
+
+-- so few values that their lists can be numbered, each a value of a task
+pub record AreValues (xs : List ℕ) : Type 0 where
+  pub few : length xs ≤ 64
+  pub small : All (λ x. x ≤ 63) xs
+
+-- the number, unless it is above the bound
+abbrev pub at_most : ℕ → ℕ → Option ℕ
+at_most most n = if nat_lt most n then None else Some n
+
+-- the tuples of all input simplices, on their processes
+abbrev pub images_of : Family → List Simplex → List Simplex
+images_of family inputs = flat_map (λ s. map (zip (processes_of s)) (tuples_for family s)) inputs
+
+-- the task of a family with these inputs: its outputs are the tuples of the inputs, with their faces
+abbrev pub task_for : ℕ → Bool → Family → List Simplex → Task
+task_for n symmetric family inputs = record {
+  processes = n;
+  symmetric = symmetric;
+  restriction = None;
+  rules = map (λ s. record { input = s; tuples = tuples_for family s }) inputs;
+  outputs = complex_of (images_of family inputs);
+}
