@@ -1,7 +1,7 @@
 //! Boxes and closing, with rows worked out by hand.
 
-ghost use Rattle.std.specs.Prelude.{◌<◌};
-ghost use Rattle.wf_model.specs.Laws.{IsBoxOf};
+ghost use Rattle.std.specs.Prelude.{◌<◌, OnOk};
+ghost use Rattle.wf_box.specs.Boxes.{IsFor};
 
 use super::closings::with_value;
 use super::tasks::{CONSENSUS_2, ONE_WITHOUT_OUTPUT, PATH_2, SYMMETRIC_201, problem_of};
@@ -9,6 +9,7 @@ use std::alloc::{AllocError, Global};
 use std::test::Fail;
 use wf_box::{Box0, Closed, Problem, close};
 use wf_complex::{Line, Lines};
+use wf_set::holds;
 
 /// The candidates of each point, a bit for each value.
 fn candidates_of(alloc: Global, boxed: &Box0) -> Result<Vec<u64>, AllocError> {
@@ -106,7 +107,7 @@ fn try_value(
     boxed: &Box0,
     value: u8,
 ) -> Result<Option<(u32, u64, usize)>, Fail>
-    requires boxed { IsBoxOf problem.now boxed.now }
+    requires boxed { IsFor problem.now boxed.now }
     requires value { value < 64 }
 {
     if boxed.points() <= 3 {
@@ -124,19 +125,47 @@ fn try_value(
     }
 }
 
+// The same values of the same box, one after the other in the box itself.
 #[test]
-fn a_box_is_made_the_same_as_another(rt: HostRuntime) -> Result<(), Fail> {
+fn a_box_is_given_an_earlier_state(rt: HostRuntime) -> Result<(), Fail> {
     let problem = problem_of(rt.alloc(), PATH_2, 1)?;
-    assert_eq!(rt; problem.points(), 4);
-    let root = Box0::root(rt.alloc(), &problem)?;
-    let mut other = root.copy(rt.alloc())?;
+    let mut boxed = Box0::root(rt.alloc(), &problem)?;
     let mut lines: Lines = Vec::new(rt.alloc());
-    close(rt.alloc(), &problem, &mut other, &mut lines)?;
-    assert_eq!(rt; other.points(), root.points());
-    if other.points() == root.points() {
-        other.assign(&root);
-    }
-    let left = candidates_of(rt.alloc(), &other)?;
-    assert_eq!(rt; left.as_slice(), [7, 7, 7, 7].as_slice());
+    close(rt.alloc(), &problem, &mut boxed, &mut lines)?;
+    let (sweeps, lines) = try_in_place(rt.alloc(), &problem, &mut boxed, 1)?;
+    assert_eq!(rt; sweeps, 1);
+    assert_eq!(rt; lines.len(), 0);
+    let left = candidates_of(rt.alloc(), &boxed)?;
+    assert_eq!(rt; left.as_slice(), [1, 4, 6, 3].as_slice());
+    let (sweeps, lines) = try_in_place(rt.alloc(), &problem, &mut boxed, 2)?;
+    assert_eq!(rt; sweeps, 2);
+    assert_eq!(rt; lines.as_slice(), [lost(2, 1, 0)].as_slice());
+    let left = candidates_of(rt.alloc(), &boxed)?;
+    assert_eq!(rt; left.as_slice(), [1, 4, 6, 3].as_slice());
     Ok(())
+}
+
+/// Gives point 2 the value, closes the box, and takes that back: how many sweeps it took, and the lines. No sweep where
+/// the value is no candidate, or a point is emptied.
+fn try_in_place(
+    alloc: Global,
+    problem: &Problem,
+    boxed: &mut Box0,
+    value: u8,
+) -> Result<(u32, Lines), Fail>
+    requires boxed { IsFor problem.now boxed.old }
+    ensures boxed { OnOk result (IsFor problem.now boxed.new) }
+{
+    let mut lines: Lines = Vec::new(alloc);
+    if boxed.points() <= 3 || !holds(boxed.candidates(2), value) {
+        return Ok((0, lines));
+    }
+    let mark = boxed.mark();
+    boxed.set(2, value);
+    let closed = close(alloc, problem, boxed, &mut lines)?;
+    boxed.undo(mark);
+    match closed {
+        Closed::Open { sweeps } => Ok((sweeps, lines)),
+        Closed::Empty(_) => Ok((0, lines)),
+    }
 }

@@ -1,11 +1,10 @@
-//! Closing beside the plain closing: the root of a task, and the boxes of its first branch.
+//! Closing beside the plain closing: the root of a task, and then the box in which a point has one candidate, for each
+//! candidate of each point in turn.
 
 ghost use Rattle.std.specs.Prelude.{◌≡◌, ◌<◌, ◌≤◌, length, IfOk, IfSome, OnOk};
 ghost use Rattle.wf_model.specs.Problem as model;
 ghost use Rattle.wf_model.specs.Box.{decided};
-ghost use Rattle.wf_model.specs.Closing.{closing};
-ghost use Rattle.wf_model.specs.Laws.{IsBoxOf};
-ghost use Rattle.wf_box.specs.Closes.{Leaves};
+ghost use Rattle.wf_box.specs.Boxes.{Grows, IsFor};
 
 use super::plain::plain_task;
 use super::plain_closing::{
@@ -64,43 +63,77 @@ fn difference_from(
     let Closed::Open { .. } = closed else {
         return Ok(None);
     };
-    match first_open(points, &sets) {
-        Some(point) => branch_difference(alloc, problem, points, &boxed, plain, &sets, point),
-        None => Ok(None),
-    }
-}
-
-/// What differs between the closings of the boxes that a point's candidates give, if anything does.
-fn branch_difference(
-    alloc: Global,
-    problem: &Problem,
-    points: u32,
-    boxed: &Box0,
-    plain: &PlainProblem,
-    sets: &[Vec<usize>],
-    point: u32,
-) -> Result<Option<&'static str>, Fail>
-    requires points { points ≡ problem.now.points }
-    requires point { point < points }
-    requires whole { IsBoxOf problem.now boxed.now }
-{
-    for value in 0..64 {
-        if let Some(mut tried) = with_value(alloc, boxed, point, value)? {
-            let mut branch = with_value_only(alloc, sets, point as usize, usize::from(value))?;
-            if !close_both(alloc, problem, &mut tried, plain, &mut branch)?.1 {
-                return Ok(Some("the closing of a branch"));
-            }
+    for point in 0..tried_points(points, plain) {
+        if !is_same_after(alloc, problem, &mut boxed, plain, &sets, point)? {
+            return Ok(Some("the closing of a branch"));
         }
     }
     Ok(None)
 }
 
+/// How many points are tried: all, or a few where the plain closing takes long.
+fn tried_points(points: u32, plain: &PlainProblem) -> u32
+    ensures { result ≤ points }
+{
+    if plain.constraints.len() > 400 {
+        points.min(4)
+    } else {
+        points
+    }
+}
+
+/// Whether both boxes close alike after each candidate of a point is set, and taken back before the next.
+fn is_same_after(
+    alloc: Global,
+    problem: &Problem,
+    boxed: &mut Box0,
+    plain: &PlainProblem,
+    sets: &[Vec<usize>],
+    point: u32,
+) -> Result<bool, Fail>
+    requires boxed { IsFor problem.now boxed.old }
+    requires point { point < problem.now.points }
+    ensures boxed { OnOk result (IsFor problem.now boxed.new) }
+{
+    for value in 0..64 {
+        if !is_same_with(alloc, problem, boxed, plain, sets, point, value)? {
+            return Ok(false);
+        }
+    }
+    Ok(true)
+}
+
+/// The same for one value.
+fn is_same_with(
+    alloc: Global,
+    problem: &Problem,
+    boxed: &mut Box0,
+    plain: &PlainProblem,
+    sets: &[Vec<usize>],
+    point: u32,
+    value: u8,
+) -> Result<bool, Fail>
+    requires boxed { IsFor problem.now boxed.old }
+    requires point { point < problem.now.points }
+    ensures boxed { OnOk result (IsFor problem.now boxed.new) }
+{
+    if !holds(boxed.candidates(point), value) {
+        return Ok(true);
+    }
+    let mut branch = with_value_only(alloc, sets, point as usize, usize::from(value))?;
+    let mark = boxed.mark();
+    boxed.set(point, value);
+    let (_, is_same) = close_both(alloc, problem, boxed, plain, &mut branch)?;
+    boxed.undo(mark);
+    Ok(is_same && has_candidates(boxed, sets))
+}
+
 /// The box in which a point has this candidate alone, if it has it.
 pub fn with_value(alloc: Global, boxed: &Box0, point: u32, value: u8) -> Result<Option<Box0>, Fail>
-    requires point { point < length boxed.now }
+    requires point { point < length boxed.now.sets }
     requires value { value < 64 }
-    ensures decided { IfOk result (λ found. IfSome found (λ tried. tried ≡ decided boxed.now point value)) }
-    ensures shape { IfOk result (λ found. IfSome found (λ tried. (p : model.Problem) → IsBoxOf p boxed.now → IsBoxOf p tried)) }
+    ensures decided { IfOk result (λ found. IfSome found (λ tried. tried.sets ≡ decided boxed.now.sets point value)) }
+    ensures is { IfOk result (λ found. IfSome found (λ tried. (p : model.Problem) → IsFor p boxed.now → IsFor p tried)) }
 {
     if !holds(boxed.candidates(point), value) {
         return Ok(None);
@@ -119,9 +152,9 @@ fn close_both(
     plain: &PlainProblem,
     sets: &mut [Vec<usize>],
 ) -> Result<(Closed, bool), Fail>
-    requires { IsBoxOf problem.now boxed.old }
-    ensures leaves { IfOk result (λ found. Leaves (closing problem.now boxed.old).left boxed.new found.0) }
-    ensures shape { OnOk result (IsBoxOf problem.now boxed.new) }
+    requires { IsFor problem.now boxed.old }
+    ensures is { OnOk result (IsFor problem.now boxed.new) }
+    ensures grown { OnOk result (Grows boxed.old boxed.new) }
 {
     let mut lines: Lines = Vec::new(alloc);
     let mut wanted: Lines = Vec::new(alloc);
@@ -134,18 +167,6 @@ fn close_both(
         Closed::Open { .. } => has_candidates(boxed, sets),
     };
     Ok((closed, same && lines.as_slice() == wanted.as_slice()))
-}
-
-/// The first point with two candidates or more.
-pub fn first_open(points: u32, sets: &[Vec<usize>]) -> Option<u32>
-    ensures { IfSome result (λ point. point < points) }
-{
-    for point in 0..points {
-        if sets.get(point as usize).map_or(0, |set| set.len()) > 1 {
-            return Some(point);
-        }
-    }
-    None
 }
 
 /// Whether the points have these candidates.

@@ -5,8 +5,8 @@ use Rattle.wf_pool.proofs.solving.search_whole.Goals as goal
 
 pub returns-in-Map : goal.returns-in-Map
 returns-in-Map c = subst (IsFoundAt c.args.problem.now c.args.branch) c.in-Map.is
-    (found_at c.args.problem.now c.args.cover.now c.args.branch c.in_ok-boxed.boxed c.in_ok-map.field-0 c.requires.cover c.requires.branch c.in_ok-boxed.ensures.branch c.in_ok-map.ensures.canonical)
+    (found_at c.args.problem.now c.args.cover.now c.args.branch c.in_ok-boxed.boxed.sets c.in_ok-map.field-0 c.requires.cover c.requires.branch c.in_ok-boxed.ensures.branch c.in_ok-map.ensures.canonical)
 
 pub returns-in-Refuted : goal.returns-in-Refuted
 returns-in-Refuted c = subst (IsFoundAt c.args.problem.now c.args.branch) c.in-Refuted.is
-    (found_at c.args.problem.now c.args.cover.now c.args.branch c.in_ok-boxed.boxed c.in_ok-map.field-0 c.requires.cover c.requires.branch c.in_ok-boxed.ensures.branch c.in_ok-map.ensures.canonical)
+    (found_at c.args.problem.now c.args.cover.now c.args.branch c.in_ok-boxed.boxed.sets c.in_ok-map.field-0 c.requires.cover c.requires.branch c.in_ok-boxed.ensures.branch c.in_ok-map.ensures.canonical)

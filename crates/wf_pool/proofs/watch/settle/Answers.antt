@@ -11,5 +11,5 @@ returns-clause-worker g c =
       w.seat,
       w.honest site.problem.now
           (looked_honest site.problem.now c.args.me.seat _ c.args.me.finds look c.requires.me.1)
-          (found_at site.problem.now site.cover.now c.args.branch c.in_ok-boxed.boxed c.in_ok-found.found site.ground.cover (subst (λ (n : ℕ). c.args.branch < n) (sym site.ground.count) c.requires.branch.0) c.in_ok-boxed.ensures.branch c.in_ok-found.ensures.canonical),
+          (found_at site.problem.now site.cover.now c.args.branch c.in_ok-boxed.boxed.sets c.in_ok-found.found site.ground.cover (subst (λ (n : ℕ). c.args.branch < n) (sym site.ground.count) c.requires.branch.0) c.in_ok-boxed.ensures.branch c.in_ok-found.ensures.canonical),
     )
