@@ -1,7 +1,9 @@
 //! The program: each row of the command line writes, tells and answers what it is to, byte for byte.
 
 use super::ends::{Drip, EMPTY, Full, Narrow};
-use super::rows::{ACCOUNTED, BEGINNINGS, DECIDED, FULL_MAPS, LISTED, Row, SHARED};
+use super::rows::{
+    ACCOUNTED, BEGINNINGS, DECIDED, FULL_MAPS, LISTED, PRESETS, REFUSED_PRESETS, Row, SHARED,
+};
 use super::tasks::{AGREEMENT_4_3, ONE_PROCESS};
 use super::words::split;
 use std::alloc::{AllocError, Global};
@@ -108,6 +110,36 @@ fn a_large_complex_is_listed(rt: HostRuntime) -> Result<(), Fail> {
 }
 
 #[test]
+fn presets_are_written(rt: HostRuntime) -> Result<(), Fail> {
+    for (words, text) in PRESETS {
+        let answer = run(&rt, rt.alloc(), words, "")?;
+        assert_eq!(rt; answer.status, 0, "{words}");
+        assert!(rt; is_line(&answer.output, text), "{words}");
+        assert!(rt; answer.errors.is_empty(), "{words}");
+    }
+    Ok(())
+}
+
+/// Whether a text is this one and a line feed.
+fn is_line(text: &[u8], line: &str) -> bool {
+    text.strip_suffix(b"\n".as_slice()) == Some(line.as_bytes())
+}
+
+#[test]
+fn the_largest_consensus_is_written(rt: HostRuntime) -> Result<(), Fail> {
+    let words = "wfcheck preset set-agreement --processes 4 --k 1 --values 7";
+    let answer = run(&rt, rt.alloc(), words, "")?;
+    assert_eq!(rt; answer.status, 0);
+    assert_eq!(rt; answer.output.len(), 327_504);
+    Ok(())
+}
+
+#[test]
+fn presets_are_refused(rt: HostRuntime) -> Result<(), Fail> {
+    hold(&rt, rt.alloc(), &REFUSED_PRESETS)
+}
+
+#[test]
 fn words_ask_for_help_or_are_refused(rt: HostRuntime) -> Result<(), Fail> {
     for row in BEGINNINGS {
         let Row {
@@ -177,6 +209,13 @@ fn failed_calls_are_told(rt: HostRuntime) -> Result<(), Fail> {
         ),
         ("wfcheck views --rounds 8", 0, 11, "wfcheck: 31 Write\n", 4),
         ("wfcheck --help", 1, 11, "wfcheck: 31 Write\n", 4),
+        (
+            "wfcheck preset renaming --processes 2 --names 2",
+            1,
+            11,
+            "wfcheck: 31 Write\n",
+            4,
+        ),
     ];
     for (line, read, write, text, status) in rows {
         let words = split(rt.alloc(), line)?;
