@@ -2,7 +2,7 @@
 
 use super::ends::{Drip, EMPTY, Full, Narrow};
 use super::rows::{BEGINNINGS, DONE, Row};
-use super::tasks::ONE_PROCESS;
+use super::tasks::{ONE_PROCESS, RENAMING_2_2};
 use super::words::split;
 use std::alloc::{AllocError, Global};
 use std::process::Abort;
@@ -69,6 +69,19 @@ fn hold(rt: &(impl Abort + Threads + Sync), alloc: Global, rows: &[Row]) -> Resu
 #[test]
 fn jobs_are_done(rt: HostRuntime) -> Result<(), Fail> {
     hold(&rt, rt.alloc(), &DONE)
+}
+
+#[test]
+fn a_preset_is_written(rt: HostRuntime) -> Result<(), Fail> {
+    let words = "wfcheck preset renaming --processes 2 --names 2";
+    let answer = run(&rt, rt.alloc(), words, "")?;
+    assert_eq!(rt; answer.status, 0);
+    assert_eq!(rt;
+        answer.output.strip_suffix(b"\n".as_slice()),
+        Some(RENAMING_2_2.as_bytes())
+    );
+    assert!(rt; answer.errors.is_empty(), "nothing is told");
+    Ok(())
 }
 
 #[test]
@@ -141,6 +154,13 @@ fn failed_calls_are_told(rt: HostRuntime) -> Result<(), Fail> {
         ),
         ("wfcheck views --rounds 8", 0, 11, "wfcheck: 31 Write\n", 4),
         ("wfcheck --help", 1, 11, "wfcheck: 31 Write\n", 4),
+        (
+            "wfcheck preset renaming --processes 2 --names 2",
+            1,
+            11,
+            "wfcheck: 31 Write\n",
+            4,
+        ),
     ];
     for (line, read, write, text, status) in rows {
         let words = split(rt.alloc(), line)?;

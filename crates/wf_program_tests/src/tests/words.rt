@@ -2,6 +2,7 @@
 
 use std::alloc::{AllocError, Global};
 use std::test::Fail;
+use wf_engine::{Inputs, Preset};
 use wf_words::{Job, WordsFault, read_words};
 
 /// The words of a line, which are parted by one space.
@@ -55,26 +56,86 @@ fn words_are_a_job_or_a_fault(rt: HostRuntime) -> Result<(), Fail> {
         ("wfcheck draw", "clap InvalidSubcommand"),
     ];
     for (line, want) in rows {
-        let words = split(rt.alloc(), line)?;
-        let got = match read_words(rt.alloc(), &words) {
-            Ok(
-                Job::Solve {
-                    rounds,
-                    workers,
-                    verdict,
-                    account,
-                },
-            ) => format!(in rt.alloc(); "solve {rounds} {workers} {verdict} {account}")?,
-            Ok(Job::Verify { task }) => format!(in rt.alloc(); "verify {task}")?,
-            Ok(Job::Views { rounds }) => format!(in rt.alloc(); "views {rounds}")?,
-            Err(WordsFault::Clap(error)) => {
-                let kind = error.kind();
-                format!(in rt.alloc(); "clap {kind:?}")?
-            }
-            Err(WordsFault::Words) => String::from_str(rt.alloc(), "words")?,
-            Err(WordsFault::OutOfMemory) => String::from_str(rt.alloc(), "memory")?,
-        };
+        let got = judged(rt.alloc(), line)?;
         assert_eq!(rt; got.as_str(), want, "at {line}");
     }
     Ok(())
+}
+
+#[test]
+fn presets_are_a_job_or_a_fault(rt: HostRuntime) -> Result<(), Fail> {
+    let rows = [
+        (
+            "wfcheck preset set-agreement --processes 2 --k 1",
+            "agreement 2 1",
+        ),
+        (
+            "wfcheck preset --values 7 --k 3 set-agreement --processes 4",
+            "agreement 4 3 of 7",
+        ),
+        (
+            "wfcheck preset renaming --processes 4294967295 --names 0",
+            "renaming 4294967295 0",
+        ),
+        ("wfcheck preset set-agreement --processes 2", "words"),
+        (
+            "wfcheck preset set-agreement --processes 2 --k 1 --names 2",
+            "words",
+        ),
+        (
+            "wfcheck preset renaming --processes 2 --names 2 --values 2",
+            "words",
+        ),
+        ("wfcheck preset consensus --processes 2 --k 1", "words"),
+        (
+            "wfcheck preset renaming --names 2",
+            "clap MissingRequiredArgument",
+        ),
+    ];
+    for (line, want) in rows {
+        let got = judged(rt.alloc(), line)?;
+        assert_eq!(rt; got.as_str(), want, "at {line}");
+    }
+    Ok(())
+}
+
+/// What a line asks for, or why it is no job.
+fn judged(alloc: Global, line: &str) -> Result<String, AllocError> {
+    let words = split(alloc, line)?;
+    match read_words(alloc, &words) {
+        Ok(
+            Job::Solve {
+                rounds,
+                workers,
+                verdict,
+                account,
+            },
+        ) => format!(in alloc; "solve {rounds} {workers} {verdict} {account}"),
+        Ok(Job::Verify { task }) => format!(in alloc; "verify {task}"),
+        Ok(Job::Views { rounds }) => format!(in alloc; "views {rounds}"),
+        Ok(Job::Preset(preset)) => shown(alloc, preset),
+        Err(WordsFault::Clap(error)) => {
+            let kind = error.kind();
+            format!(in alloc; "clap {kind:?}")
+        }
+        Err(WordsFault::Words) => String::from_str(alloc, "words"),
+        Err(WordsFault::OutOfMemory) => String::from_str(alloc, "memory"),
+    }
+}
+
+/// The numbers of a preset.
+fn shown(alloc: Global, preset: Preset) -> Result<String, AllocError> {
+    match preset {
+        Preset::SetAgreement {
+            processes,
+            k,
+            inputs: Inputs::Own,
+        } => format!(in alloc; "agreement {processes} {k}"),
+        Preset::SetAgreement {
+            processes,
+            k,
+            inputs: Inputs::All(values),
+        } => format!(in alloc; "agreement {processes} {k} of {values}"),
+        Preset::Renaming { processes, names } => format!(in alloc; "renaming {processes} {names}"),
+    }
 }
