@@ -260,10 +260,11 @@ def slips(value, rules):
 def main():
     if len(sys.argv) != 2:
         sys.exit(__doc__)
-    with open(sys.argv[1], "rb") as file:
-        text = file.read()
     try:
-        value, rules = read(text)
+        with open(sys.argv[1], "rb") as file:
+            value, rules = read(file.read())
+    except OSError as error:
+        sys.exit(f"lint.py: {error}")
     except Refused as refused:
         print(f"refused, {refused.line}: {refused.words}")
         return 2
