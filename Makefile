@@ -3,7 +3,7 @@
 .PHONY: demo build quick test
 
 # Three questions that the field knows the answers to, or with TASK=FILE ROUNDS=R a task of one's own. Where `make build` hasn't
-# left a program yet, it is run from its sources, without its proofs, in about a minute.
+# left a program yet, it is run from its sources, without its proofs, in a minute or two.
 demo:
 	@gallery/demo $(if $(TASK),"$(TASK)" "$(ROUNDS)")
 
