@@ -2,9 +2,10 @@
 
 .PHONY: demo build quick test definitions bench
 
-# Decides the task of examples/path-3.json for one round, and prints its report. The program is run, not proved, here.
+# Three questions that the field knows the answers to, or with TASK=FILE ROUNDS=R a task of one's own. Where `make build` hasn't
+# left a program yet, it is run from its sources, without its proofs, in a minute or two.
 demo:
-	cd crates/wfcheck && rt try -- solve --rounds 1 --workers 1 --verdict < ../../examples/path-3.json
+	@gallery/demo $(if $(TASK),"$(TASK)" "$(ROUNDS)")
 
 # The proved program, at bin/wfcheck. Whatever it stands on is proved first.
 build:

@@ -1,0 +1,277 @@
+#!/usr/bin/env python3
+"""lint.py TASK.json: where a task file is refused, in words; or what in it most likely is a slip.
+
+A refused file has the number that `wfcheck` would answer, and the place that it means: which simplex, which key, which item.
+Of a file that is accepted it names what the definitions allow, but hardly anybody means:
+
+  - a rule that allows nothing: then there is no decision map for any number of rounds;
+  - a value list that those who take part may decide, but no larger simplex can go on from: no map ever uses it, since the
+    others may all come later (the rules are not monotone there);
+  - in a symmetric task two simplices with the same values, rank by rank, and different rules;
+  - processes that no input has, and outputs that no rule uses.
+
+The status is 0 where there is nothing to say, 1 where it is likely a slip, 2 where the file is refused."""
+import collections
+import itertools
+import json
+import re
+import sys
+
+LONGEST, DEEPEST = 16_777_216, 127
+MOST = {"vertices": 64, "simplices": 4096, "outputs": 65536, "tuples": 65536}
+KEYS = ["version", "processes", "symmetric", "inputs", "outputs", "delta"]
+STRING = re.compile(r'"(?:[^"\\]|\\.)*"', re.S)
+
+
+class Refused(Exception):
+    """The line that wfcheck answers after its name, and the same in words."""
+
+    def __init__(self, line, words):
+        super().__init__(line)
+        self.line, self.words = line, words
+
+
+def value_of(text):
+    """The JSON value of a text of bytes."""
+    if len(text) > LONGEST:
+        raise Refused("1 TooLong", f"the file has {len(text)} bytes, and {LONGEST} are read")
+    try:
+        decoded = text.decode("utf-8")
+        value = json.loads(decoded, parse_int=whole_or_not, parse_float=finite, parse_constant=no_json)
+    except UnicodeDecodeError as error:
+        raise Refused("2 NotJson", f"byte {error.start} is not UTF-8")
+    except RecursionError:
+        raise Refused("2 NotJson", f"it is nested deeper than {DEEPEST}")
+    except ValueError as error:
+        raise Refused("2 NotJson", str(error))
+    if deepest(decoded) > DEEPEST:
+        raise Refused("2 NotJson", f"it is nested deeper than {DEEPEST}")
+    if any("\ud800" <= c <= "\udfff" for found in STRING.findall(decoded) if "\\u" in found for c in json.loads(found)):
+        raise Refused("2 NotJson", "half of a surrogate pair is written by \\u")
+    return value
+
+
+def finite(digits):
+    """A number that is not whole: what it is doesn't matter, but it has to be finite."""
+    if float(digits) in (float("inf"), float("-inf")):
+        raise ValueError(f"the number {digits[:20]}.. is too large")
+    return 0.5
+
+
+def whole_or_not(digits):
+    """A whole number has a value below 2^64 and no minus sign."""
+    if len(digits) > 20 or digits[0] == "-" or int(digits) >= 2**64:
+        return finite(digits)
+    return int(digits)
+
+
+def no_json(word):
+    raise ValueError(f"{word} is no JSON")
+
+
+def deepest(text):
+    """How deep brackets are nested in a JSON text, strings aside."""
+    depth = most = 0
+    for c in re.findall(r"[][{}]", STRING.sub("", text)):
+        depth += 1 if c in "[{" else -1
+        most = max(most, depth)
+    return most
+
+
+def is_whole(it):
+    return type(it) is int
+
+
+def is_simplex(it):
+    return is_list(it, lambda pair: is_list(pair, is_whole) and len(pair) == 2) and len(it) > 0
+
+
+def is_entry(it):
+    return isinstance(it, dict) and it.keys() == {"in", "out"} and is_simplex(it["in"]) and \
+        is_list(it["out"], lambda each: is_list(each, is_whole))
+
+
+def is_list(it, is_item):
+    return isinstance(it, list) and all(map(is_item, it))
+
+
+SHAPES = {
+    "version": ("a whole number", is_whole), "processes": ("a whole number", is_whole),
+    "symmetric": ("true or false", lambda it: isinstance(it, bool)),
+    "inputs": ("a simplex, a non-empty list of pairs [process, value]", is_simplex),
+    "outputs": ("a simplex, a non-empty list of pairs [process, value]", is_simplex),
+    "delta": ('{"in": simplex, "out": [[value, ..], ..]}', is_entry),
+}
+
+
+def judge_shape(value):
+    if not isinstance(value, dict):
+        raise Refused("3 Shape whole 0", "the file is not one object { .. }")
+    for key, (shape, has_shape) in SHAPES.items():
+        if key not in value:
+            raise Refused(f"3 Shape {key} 0", f'the key "{key}" is missing')
+        it = value[key]
+        if key in KEYS[:3]:
+            if not has_shape(it):
+                raise Refused(f"3 Shape {key} 0", f'"{key}" is not {shape}: {shown(it)}')
+        elif not isinstance(it, list):
+            raise Refused(f"3 Shape {key} 0", f'"{key}" is not a list: {shown(it)}')
+        else:
+            for place, item in enumerate(it):
+                if not has_shape(item):
+                    raise Refused(f"3 Shape {key} {place}", f'in "{key}", item {place} is not {shape}: {shown(item)}')
+    others = sorted(value.keys() - KEYS)
+    if others:
+        raise Refused("3 Shape other 0", f"there is no key {shown(others[0])}")
+
+
+def shown(it):
+    text = json.dumps(it)
+    return text if len(text) <= 60 else text[:57] + ".."
+
+
+def places(value):
+    """Each simplex that is listed, and each value list, with where it stands."""
+    for key in ("inputs", "outputs"):
+        for place, simplex in enumerate(value[key]):
+            yield f'in "{key}", item {place}', simplex, [v for _, v in simplex]
+    for place, entry in enumerate(value["delta"]):
+        yield f'in "delta", the "in" of item {place}', entry["in"], [v for _, v in entry["in"]]
+        for at, values in enumerate(entry["out"]):
+            yield f'in "delta", item {place}, value list {at} of "out"', None, values
+
+
+def faces(simplex):
+    return [f for size in range(1, len(simplex) + 1) for f in itertools.combinations(simplex, size)]
+
+
+def complex_of(listed):
+    return sorted({f for s in listed for f in faces(simplex_of(s))}, key=lambda s: (len(s), s))
+
+
+def simplex_of(listed):
+    return tuple((p, v) for p, v in listed)
+
+
+def judge_numbers(value):
+    processes = value["processes"]
+    if value["version"] != 1:
+        raise Refused("4 Version", f'"version" is {value["version"]}')
+    if not 1 <= processes <= 4:
+        raise Refused("5 Processes", f'"processes" is {processes}')
+    for where, _, values in places(value):
+        for v in values:
+            if v > 63:
+                raise Refused("6 Value", f"{where}: the value {v} is above 63")
+    for where, simplex, _ in places(value):
+        listed = [p for p, _ in simplex or []]
+        if listed != sorted(set(listed)) or any(p >= processes for p in listed):
+            why = f"is not below {processes}" if listed == sorted(set(listed)) else "comes after one that isn't smaller"
+            raise Refused("7 Colours", f"{where}: {shown(simplex)} has a process that {why}")
+
+
+def judge_sizes(value, inputs):
+    found = {
+        "vertices": len([s for s in inputs if len(s) == 1]), "simplices": len(inputs),
+        "outputs": len(value["outputs"]), "tuples": sum(len(entry["out"]) for entry in value["delta"]),
+    }
+    what = {"vertices": "input vertices", "simplices": "input simplices, with their faces", "outputs": "listed outputs",
+            "tuples": "value lists"}
+    for word, most in MOST.items():
+        if found[word] > most:
+            raise Refused(f"8 TooMany {word}", f"there are {found[word]} {what[word]}, and at most {most} are read")
+
+
+def judge_delta(value, inputs):
+    entries = collections.defaultdict(list)
+    for place, entry in enumerate(value["delta"]):
+        entries[simplex_of(entry["in"])].append(place)
+    for number, s in enumerate(inputs):
+        if s not in entries:
+            facet = next(at for at, listed in enumerate(value["inputs"]) if s in faces(simplex_of(listed)))
+            raise Refused(f"9 DeltaMissing {number}", f"input simplex {number} is {shown(s)}, of input {facet}: \"delta\" has no entry for it")
+    for number, s in enumerate(inputs):
+        if len(entries[s]) > 1:
+            raise Refused(f"10 DeltaTwice {number}", f"input simplex {number} is {shown(s)}: items {entries[s]} of \"delta\" are for it")
+    known = {s: number for number, s in enumerate(inputs)}
+    for place, entry in enumerate(value["delta"]):
+        if simplex_of(entry["in"]) not in known:
+            raise Refused(f"11 DeltaStray {place}", f'item {place} of "delta" is for {shown(entry["in"])}, which is no input, nor a face of one')
+    lists = [(number, place, s, values) for number, s in enumerate(inputs)
+             for place, values in enumerate(value["delta"][entries[s][0]]["out"])]
+    for number, place, s, values in lists:
+        if len(values) != len(s):
+            raise Refused(f"12 OutLength {number} {place}", f"at input simplex {number}, {shown(s)}, value list {place} is {shown(values)}")
+    outputs = {f for listed in value["outputs"] for f in faces(simplex_of(listed))}
+    for number, place, s, values in lists:
+        decided = tuple((p, v) for (p, _), v in zip(s, values))
+        if decided not in outputs:
+            raise Refused(f"13 OutStray {number} {place}",
+                          f"at input simplex {number}, {shown(s)}, value list {place} is {shown(values)}: {shown(decided)} is no output, nor a face of one")
+    if not inputs:
+        raise Refused("14 NoInput", '"inputs" is empty')
+
+
+def read(text):
+    """The value of a task file's bytes, its input simplices, and the tuples of each. Raises Refused."""
+    value = value_of(text)
+    judge_shape(value)
+    judge_numbers(value)
+    inputs = complex_of(value["inputs"])
+    judge_sizes(value, inputs)
+    judge_delta(value, inputs)
+    return value, {simplex_of(entry["in"]): {tuple(t) for t in entry["out"]} for entry in value["delta"]}
+
+
+def slips(value, rules):
+    inputs = complex_of(value["inputs"])
+    number = {s: n for n, s in enumerate(inputs)}
+    named = lambda s: f"input simplex {number[s]}, {shown(s)},"
+    for s in inputs:
+        if not rules[s]:
+            yield f"{named(s)} allows nothing: there is no decision map for any number of rounds"
+    for s in inputs:
+        for face in faces(s)[:-1]:
+            at = [s.index(v) for v in face]
+            gone_on = {tuple(t[i] for i in at) for t in rules[s]}
+            lost = sorted(rules[face] - gone_on)
+            if rules[s] and lost:
+                more = f", and {len(lost) - 1} more" if len(lost) > 1 else ""
+                yield f"{named(face)} allows {shown(lost[0])}{more}, from which {named(s)} can't go on"
+    if value["symmetric"]:
+        by_rank = collections.defaultdict(list)
+        for s in inputs:
+            by_rank[tuple(v for _, v in s)].append(s)
+        for first, *others in by_rank.values():
+            for s in others:
+                for here, there in ((first, s), (s, first)):
+                    only = sorted(rules[here] - rules[there])
+                    if only:
+                        yield f"symmetric, but {named(here)} allows {shown(only[0])}, and {named(there)} with the same values doesn't"
+    for p in range(value["processes"]):
+        if all(q != p for s in inputs for q, _ in s):
+            yield f"no input has process {p}"
+    used = {f for s, rule in rules.items() for t in rule for f in faces(tuple((p, v) for (p, _), v in zip(s, t)))}
+    for place, listed in enumerate(value["outputs"]):
+        if simplex_of(listed) not in used:
+            yield f"output {place}, {shown(listed)}, is used by no rule"
+
+
+def main():
+    if len(sys.argv) != 2:
+        sys.exit(__doc__)
+    try:
+        with open(sys.argv[1], "rb") as file:
+            value, rules = read(file.read())
+    except OSError as error:
+        sys.exit(f"lint.py: {error}")
+    except Refused as refused:
+        print(f"refused, {refused.line}: {refused.words}")
+        return 2
+    found = list(slips(value, rules))
+    print("\n".join(found) or "nothing to say")
+    return 1 if found else 0
+
+
+if __name__ == "__main__":
+    sys.exit(main())

@@ -1,0 +1,285 @@
+#!/usr/bin/env python3
+"""Task files from one predicate each.
+
+    tasks.py            writes the files of this folder
+    tasks.py NAME..     writes some of them
+    tasks.py --list     says their names
+
+A task of your own, in a file beside this one:
+
+    from tasks import task, write
+
+    def legal(start, end):      # what the processes that take part begin with, and what they decide: by process
+        return len(set(end.values())) == 1 and set(end.values()) <= set(start.values())
+
+    write(task("mine", 2, [(0, 1)], legal, values=[0, 1]))      # mine.json
+"""
+import collections
+import itertools
+import json
+import pathlib
+import sys
+
+HERE = pathlib.Path(__file__).resolve().parent
+Task = collections.namedtuple("Task", "name text")
+
+
+def faces(items):
+    """The non-empty parts of a list, in its order."""
+    return [part for size in range(1, len(items) + 1) for part in itertools.combinations(items, size)]
+
+
+def task(name, processes, inputs, legal, values, symmetric=False):
+    """The task in which some processes begin as one of the inputs says, and may decide what is legal.
+
+    An input is one value for each process, in their order, or a dictionary where some take no part. Each part of an input
+    is one too, of processes that alone take part. `legal(start, end)` is asked for every choice of the values by those that
+    take part. Outputs are whatever is legal somewhere. In a symmetric task a process doesn't know its name."""
+    listed = [tuple(sorted(dict(each if isinstance(each, dict) else enumerate(each)).items())) for each in inputs]
+    if any(p not in range(processes) for simplex in listed for p, _ in simplex):
+        raise ValueError(f"{name}: an input is of a process that is not there")
+    starts = sorted({face for simplex in listed for face in faces(simplex)}, key=by_size)
+    rules = {start: sorted(tuples(start, legal, set(values))) for start in starts}
+    ends = {tuple(zip((p for p, _ in start), each)) for start, rule in rules.items() for each in rule}
+    whole = {
+        "version": 1, "processes": processes, "symmetric": symmetric,
+        "inputs": facets(starts), "outputs": facets(ends),
+        "delta": [{"in": start, "out": rule} for start, rule in rules.items()],
+    }
+    return Task(name, json.dumps(whole, separators=(",", ":"), sort_keys=True) + "\n")
+
+
+def by_size(simplex):
+    return len(simplex), simplex
+
+
+def tuples(start, legal, values):
+    """The values that those who take part may decide, in the order of the processes."""
+    processes = [p for p, _ in start]
+    choices = itertools.product(sorted(values), repeat=len(processes))
+    return [choice for choice in choices if legal(dict(start), dict(zip(processes, choice)))]
+
+
+def facets(simplices):
+    """Those that are no part of another one, by size and then as lists."""
+    parts = {face for simplex in simplices for face in faces(simplex) if len(face) < len(simplex)}
+    return sorted(set(simplices) - parts, key=by_size)
+
+
+def write(made, folder="."):
+    path = pathlib.Path(folder) / f"{made.name}.json"
+    path.write_text(made.text)
+    return path
+
+
+# Inputs
+
+
+def own(n):
+    """Each process begins with its number."""
+    return [tuple(range(n))]
+
+
+def all_of(n, values):
+    """Each process begins with any of the values."""
+    return list(itertools.product(values, repeat=n))
+
+
+def same(n):
+    """There is nothing to begin with: all have 0."""
+    return [(0,) * n]
+
+
+# Predicates
+
+
+def agreement(k):
+    """Each decides what some participant began with, and there are at most k different decisions."""
+    return lambda start, end: set(end.values()) <= set(start.values()) and len(set(end.values())) <= k
+
+
+def all_differ(_start, end):
+    return len(set(end.values())) == len(end)
+
+
+def symmetry_broken(n):
+    """Where all n take part, they don't all decide the same."""
+    return lambda _start, end: len(end) < n or len(set(end.values())) > 1
+
+
+def one_leader(n):
+    """Nowhere are there two leaders (1), and where all n take part there is one."""
+    return lambda _start, end: sum(end.values()) == 1 if len(end) == n else sum(end.values()) <= 1
+
+
+def one_winner(_start, end):
+    """One of those that take part wins (0), whoever they are."""
+    return list(end.values()).count(0) == 1
+
+
+def splitter(_start, end):
+    """Stop is 0, right 1, down 2: at most one stops, who is alone does, and neither all go right nor all go down."""
+    decided = list(end.values())
+    alone = len(decided) > 1 or decided == [0]
+    return alone and decided.count(0) <= 1 and set(decided) not in ({1}, {2})
+
+
+def near(whole):
+    """Inputs 0 and 1, and decisions between them in steps of 1/whole: within the inputs, and at most one step apart."""
+    def legal(start, end):
+        low, high = whole * min(start.values()), whole * max(start.values())
+        return low <= min(end.values()) and max(end.values()) <= min(high, min(end.values()) + 1)
+    return legal
+
+
+def quasi_consensus(start, end):
+    """Two processes decide as in consensus, or process 0 decides 1 and process 1 decides 0."""
+    return set(end.values()) <= set(start.values()) and (len(set(end.values())) == 1 or end == {0: 1, 1: 0})
+
+
+def commit_adopt(start, end):
+    """Value v is adopted as 2v, and committed to as 2v + 1. Who sees v alone about commits; with a commitment all have v."""
+    taken = {a // 2 for a in end.values()}
+    committed = {a // 2 for a in end.values() if a % 2}
+    one_input = len(set(start.values())) > 1 or all(a % 2 for a in end.values())
+    return taken <= set(start.values()) and one_input and (not committed or len(taken) == 1)
+
+
+def comparable_sets(_start, end):
+    """Sets of participants as bits: each has its owner, and of two one holds the other."""
+    everyone = sum(1 << p for p in end)
+    owned = all(a >> p & 1 and a | everyone == everyone for p, a in end.items())
+    return owned and all(a & b in (a, b) for a in end.values() for b in end.values())
+
+
+def majority(start, end):
+    """Where all three take part, they decide the input that most have; else each some participant's."""
+    most = {int(sum(start.values()) >= 2)} if len(start) == 3 else set(start.values())
+    return set(end.values()) <= most
+
+
+def no_minority(start, end):
+    """Each decides a participant's input, and where all three take part, not all of them the one that fewer have."""
+    most = int(sum(start.values()) >= 2)
+    return set(end.values()) <= set(start.values()) and (len(start) < 3 or most in end.values())
+
+
+def on_loop(triangles, paths):
+    """Inputs 0, 1, 2 are three corners of a loop. With one input all decide its corner, with two they stay on one edge of
+    the path between, with three in one triangle. paths[i] goes from corner i to the next one."""
+    cells = {1: [{path[0]} for path in paths], 3: [set(each) for each in triangles]}
+
+    def legal(start, end):
+        inputs = sorted(set(start.values()))
+        if len(inputs) == 2:
+            path = paths[2 if inputs == [0, 2] else inputs[0]]
+            allowed = [set(edge) for edge in zip(path, path[1:])]
+        else:
+            allowed = cells[3] if len(inputs) == 3 else [cells[1][inputs[0]]]
+        return any(set(end.values()) <= cell for cell in allowed)
+    return legal
+
+
+# Subdivisions and surfaces
+
+
+def blocks(n):
+    """The ordered partitions of n processes, as the number of each one's block."""
+    return [word for word in itertools.product(range(n), repeat=n) if set(word) == set(range(max(word) + 1))]
+
+
+def subdivision(n, rounds):
+    """The simplices of the chromatic subdivision, made so many times, of the simplex of n processes and of its faces.
+    Its vertices are numbered for each process by itself."""
+    numbers = [{} for _ in range(n)]
+    simplices = set()
+    for some in faces(range(n)):
+        for run in itertools.product(blocks(len(some)), repeat=rounds):
+            views = some
+            for word in run:
+                views = [tuple(v for v, b in zip(views, word) if b <= mine) for mine in word]
+            simplices.add(tuple((p, numbers[p].setdefault(v, len(numbers[p]))) for p, v in zip(some, views)))
+    return simplices
+
+
+def simplex_agreement(name, n, rounds):
+    """Those that take part decide vertices of one simplex of the subdivision of their face."""
+    simplices = subdivision(n, rounds)
+    values = {v for simplex in simplices for _, v in simplex}
+    return task(name, n, same(n), lambda _start, end: tuple(sorted(end.items())) in simplices, values)
+
+
+def loop_agreement(name, inputs, triangles, paths):
+    return task(name, 3, inputs, on_loop(triangles, paths), {v for each in triangles for v in each})
+
+
+SIDES = [(0, 1), (1, 2), (2, 0)]
+HOLLOW = SIDES
+# A triangle with a vertex 3, 4, 5 in the middle of each side and 6 in the middle: six triangles about 6.
+DISC_SIDES = [(0, 3, 1), (1, 4, 2), (2, 5, 0)]
+DISC = [(6, a, b) for side in DISC_SIDES for a, b in zip(side, side[1:])]
+# Outside 0, 1, 2 and inside 3, 4, 5: six triangles with a hole.
+ANNULUS = [(0, 1, 3), (1, 3, 4), (1, 2, 4), (2, 4, 5), (2, 0, 5), (0, 5, 3)]
+# A sock: the annulus with its hole closed, and one that is twice as long.
+CAPPED = ANNULUS + [(3, 4, 5)]
+SOCK = ANNULUS + [tuple(v + 3 for v in each) for each in CAPPED]
+# The projective plane with six vertices: each two are an edge. 0, 1, 2 is no triangle of it, and 0, 1, 4 is one.
+PLANE = [(0, 1, 4), (0, 1, 5), (0, 2, 3), (0, 2, 4), (0, 3, 5), (1, 2, 3), (1, 2, 5), (1, 3, 4), (2, 4, 5), (3, 4, 5)]
+
+
+def gallery():
+    bits = (0, 1)
+    for n in (2, 3, 4):
+        yield task(f"consensus-{n}", n, own(n), agreement(1), range(n))
+        yield task(f"consensus-{n}-bits", n, all_of(n, bits), agreement(1), bits)
+    yield task("quasi-consensus-2", 2, all_of(2, bits), quasi_consensus, bits)
+    for n, k in [(3, 2), (3, 3), (4, 2), (4, 3), (4, 4)]:
+        yield task(f"set-agreement-{n}-{k}", n, own(n), agreement(k), range(n))
+    for k in (2, 3):
+        yield task(f"set-agreement-3-{k}-all", 3, all_of(3, range(3)), agreement(k), range(3))
+    for n, names in [(2, 2), (2, 3), (3, 3), (3, 4), (3, 5), (3, 6), (4, 6), (4, 7), (4, 8), (4, 9), (4, 10)]:
+        yield task(f"renaming-{n}-names-{names}", n, same(n), all_differ, range(names), symmetric=True)
+    for n in (3, 4):
+        yield task(f"renaming-{n}-names-{n}-named", n, same(n), all_differ, range(n))
+    for n in (2, 3, 4):
+        yield task(f"symmetry-breaking-{n}", n, same(n), symmetry_broken(n), bits, symmetric=True)
+    yield task("symmetry-breaking-3-named", 3, same(3), symmetry_broken(3), bits)
+    yield task("symmetry-breaking-3-values-3", 3, same(3), symmetry_broken(3), range(3), symmetric=True)
+    for n in (2, 3):
+        yield task(f"leader-election-{n}", n, same(n), one_leader(n), bits, symmetric=True)
+    yield task("leader-election-3-named", 3, same(3), one_leader(3), bits)
+    for n in (2, 3):
+        yield task(f"test-and-set-{n}", n, same(n), one_winner, bits)
+        yield task(f"splitter-{n}", n, same(n), splitter, range(3), symmetric=True)
+    for n, whole in [(2, 3), (2, 9), (2, 27), (3, 2), (3, 3), (3, 9), (3, 27)]:
+        yield task(f"approximate-{n}-by-{whole}", n, all_of(n, bits), near(whole), range(whole + 1))
+    yield task("approximate-3-by-27-mixed", 3, [(0, 0, 1)], near(27), range(28))
+    for n in (2, 3):
+        yield task(f"commit-adopt-{n}", n, all_of(n, bits), commit_adopt, range(4))
+    for n in (3, 4):
+        yield task(f"lattice-agreement-{n}", n, same(n), comparable_sets, range(1, 1 << n))
+    for n, rounds in [(2, 1), (2, 2), (3, 1), (3, 2)]:
+        yield simplex_agreement(f"simplex-agreement-{n}-level-{rounds}", n, rounds)
+    yield loop_agreement("loop-disc", own(3), DISC, DISC_SIDES)
+    yield loop_agreement("loop-disc-all", all_of(3, range(3)), DISC, DISC_SIDES)
+    yield loop_agreement("loop-annulus", own(3), ANNULUS, SIDES)
+    yield loop_agreement("loop-annulus-capped", own(3), CAPPED, SIDES)
+    yield loop_agreement("loop-sock", own(3), SOCK, SIDES)
+    yield loop_agreement("loop-hollow", own(3), HOLLOW, SIDES)
+    yield loop_agreement("loop-projective", own(3), PLANE, SIDES)
+    yield loop_agreement("loop-projective-face", own(3), PLANE, [(0, 1), (1, 4), (4, 0)])
+    yield task("majority-3", 3, all_of(3, bits), majority, bits)
+    yield task("no-minority-3", 3, all_of(3, bits), no_minority, bits)
+
+
+def main():
+    wanted = sys.argv[1:]
+    for made in gallery():
+        if wanted == ["--list"]:
+            print(made.name)
+        elif not wanted or made.name in wanted:
+            print(write(made, HERE).name)
+
+
+if __name__ == "__main__":
+    main()
