@@ -189,25 +189,29 @@ def judge_delta(value, inputs):
     for number, s in enumerate(inputs):
         if s not in entries:
             facet = next(at for at, listed in enumerate(value["inputs"]) if s in faces(simplex_of(listed)))
-            raise Refused(f"9 DeltaMissing {number}", f"input simplex {number} is {shown(s)}, of input {facet}: \"delta\" has no entry for it")
+            words = f'input simplex {number} is {shown(s)}, of input {facet}: "delta" has no entry for it'
+            raise Refused(f"9 DeltaMissing {number}", words)
     for number, s in enumerate(inputs):
         if len(entries[s]) > 1:
-            raise Refused(f"10 DeltaTwice {number}", f"input simplex {number} is {shown(s)}: items {entries[s]} of \"delta\" are for it")
+            words = f'input simplex {number} is {shown(s)}: items {entries[s]} of "delta" are for it'
+            raise Refused(f"10 DeltaTwice {number}", words)
     known = {s: number for number, s in enumerate(inputs)}
     for place, entry in enumerate(value["delta"]):
         if simplex_of(entry["in"]) not in known:
-            raise Refused(f"11 DeltaStray {place}", f'item {place} of "delta" is for {shown(entry["in"])}, which is no input, nor a face of one')
+            words = f'item {place} of "delta" is for {shown(entry["in"])}, which is no input, nor a face of one'
+            raise Refused(f"11 DeltaStray {place}", words)
     lists = [(number, place, s, values) for number, s in enumerate(inputs)
              for place, values in enumerate(value["delta"][entries[s][0]]["out"])]
     for number, place, s, values in lists:
         if len(values) != len(s):
-            raise Refused(f"12 OutLength {number} {place}", f"at input simplex {number}, {shown(s)}, value list {place} is {shown(values)}")
+            words = f"at input simplex {number}, {shown(s)}, value list {place} is {shown(values)}"
+            raise Refused(f"12 OutLength {number} {place}", words)
     outputs = {f for listed in value["outputs"] for f in faces(simplex_of(listed))}
     for number, place, s, values in lists:
         decided = tuple((p, v) for (p, _), v in zip(s, values))
         if decided not in outputs:
-            raise Refused(f"13 OutStray {number} {place}",
-                          f"at input simplex {number}, {shown(s)}, value list {place} is {shown(values)}: {shown(decided)} is no output, nor a face of one")
+            words = f"at input simplex {number}, {shown(s)}, value list {place} is {shown(values)}"
+            raise Refused(f"13 OutStray {number} {place}", f"{words}: {shown(decided)} is no output, nor a face of one")
     if not inputs:
         raise Refused("14 NoInput", '"inputs" is empty')
 
@@ -247,7 +251,8 @@ def slips(value, rules):
                 for here, there in ((first, s), (s, first)):
                     only = sorted(rules[here] - rules[there])
                     if only:
-                        yield f"symmetric, but {named(here)} allows {shown(only[0])}, and {named(there)} with the same values doesn't"
+                        allows = f"{named(here)} allows {shown(only[0])}"
+                        yield f"symmetric, but {allows}, and {named(there)} with the same values doesn't"
     for p in range(value["processes"]):
         if all(q != p for s in inputs for q, _ in s):
             yield f"no input has process {p}"
