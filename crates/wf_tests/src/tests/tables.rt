@@ -106,11 +106,15 @@ fn many_rows_support_what_a_scan_finds(rt: HostRuntime) -> Result<(), Fail> {
 // The pairs of a value below 40 and one below 30.
 fn pairs(alloc: Global) -> Result<Vec<Row>, AllocError>
     ensures long { IfOk result (λ rows. All (λ row. length row ≡ 2) rows.items) }
-    ensures few { IfOk result (λ rows. length rows.items ≤ 1200) }
+    ensures few { IfOk result (λ rows. length rows.items ≤ 4096) }
 {
     let mut rows = Vec::new(alloc);
-    for code in 0..1200u32 {
-        rows.push(Row::new(&[(code / 30) as u8, (code % 30) as u8]))?;
+    for code in 0..4096u32 {
+        let first = (code / 64) as u8;
+        let second = (code % 64) as u8;
+        if first < 40 && second < 30 {
+            rows.push(Row::new(&[first, second]))?;
+        }
     }
     Ok(rows)
 }
