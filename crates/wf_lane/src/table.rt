@@ -9,9 +9,7 @@ use std::alloc::{AllocError, Global};
 use std::marker::Model;
 use wf_task::Row;
 
-// What a call over blocks takes at least, in rows that are gone through eight a step.
-const ROWS_OF_A_CALL: usize = 32;
-// What a block takes for each value of each place, in such rows.
+// A block takes for each value of each place about as long as so many rows take eight a step.
 const ROWS_OF_A_VALUE: usize = 2;
 
 /// Rows of values of one width, from one to four, each value at most 63.
@@ -67,7 +65,7 @@ fn blocks_of(rows: usize, values: usize) -> usize
     ensures all { 0 < result → rows ≤ block_rows * result }
 {
     let blocks = rows.div_ceil(64 * BLOCK_WORDS);
-    if rows < ROWS_OF_A_CALL + ROWS_OF_A_VALUE * values * blocks {
+    if rows < ROWS_OF_A_VALUE * values * blocks {
         0
     } else {
         blocks
