@@ -37,7 +37,8 @@ fn count_rows(rows: u64x8) -> u32
 // The set, without the value where it was met.
 fn without_met(set: Mask, value: u8, is_met: bool) -> Mask
     requires { value < value_limit }
-    ensures { values_in result ≡ cond is_met (filter (λ v. not (v == value)) (values_in set)) (values_in set) }
+    ensures { values_in result
+        ≡ cond is_met (filter (λ v. not (v == value)) (values_in set)) (values_in set) }
 {
     if is_met { without(set, value) } else { set }
 }
@@ -89,7 +90,8 @@ impl Column {
 
     // The candidates that occur.
     fn wanted(&self, candidates: Mask) -> Mask
-        ensures wanted { values_in result ≡ filter (has (values_in self.now.values)) (values_in candidates) }
+        ensures wanted { values_in result
+            ≡ filter (has (values_in self.now.values)) (values_in candidates) }
         ensures occur { OccurIn self.now result }
     {
         meet(candidates, self.values)

@@ -72,7 +72,8 @@ fn push_rows(words: &[u64], value: u8, blocks: usize, sets: &mut Vec<u64>) -> Re
     requires value { value < value_limit }
     requires one_hot { All IsOneHot words.now }
     requires few { blocks ≤ block_limit }
-    ensures { OnOk result (sets.new.items ≡ sets.old.items ++ row_sets (is_value value) words.now 0 (block_words * blocks)) }
+    ensures { OnOk result (sets.new.items
+        ≡ sets.old.items ++ row_sets (is_value value) words.now 0 (block_words * blocks)) }
 {
     for k in 0..BLOCK_WORDS * blocks {
         sets.push(row_set(words, value, 64 * k))?;
@@ -91,7 +92,8 @@ fn push_value(
     requires value { value < value_limit }
     requires one_hot { All IsOneHot words.now }
     requires few { blocks ≤ block_limit }
-    ensures { OnOk result (sets.new.items ≡ sets.old.items ++ cond occurs (row_sets (is_value value) words.now 0 (block_words * blocks)) []) }
+    ensures { OnOk result (sets.new.items
+        ≡ sets.old.items ++ cond occurs (row_sets (is_value value) words.now 0 (block_words * blocks)) []) }
 {
     if occurs {
         return push_rows(words, value, blocks, sets);
