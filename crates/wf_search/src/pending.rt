@@ -60,11 +60,7 @@ impl<'a> Pending<'a> {
     }
 
     /// Closes the first box.
-    pub(crate) fn close(
-        &mut self,
-        alloc: Global,
-        lines: &mut Lines,
-    ) -> Result<Closed, AllocError>
+    pub(crate) fn close(&mut self, alloc: Global, lines: &mut Lines) -> Result<Closed, AllocError>
         ensures lines { OnOk result (Adds lines.old.items lines.new.items (closed_first self.old).lines) }
         ensures leaves { IfOk result (Leaves (closed_first self.old).left (first self.new.boxes)) }
         ensures others { OnOk result (others self.new.boxes ≡ others self.old.boxes) }
