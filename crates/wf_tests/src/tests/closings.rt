@@ -75,8 +75,8 @@ fn difference_from(
 fn tried_points(points: u32, plain: &PlainProblem) -> u32
     ensures { result ≤ points }
 {
-    if plain.constraints.len() > 400 {
-        points.min(4)
+    if plain.constraints.len() > 100 {
+        points.min(2)
     } else {
         points
     }
