@@ -65,7 +65,7 @@ impl Model for Problem {
     ghost Value = { Problem };
 
     ghost use Rattle.wf_box.specs.Limits.{most_executions, most_points};
-ghost use Rattle.wf_box.specs.Problems.{problem_seen, IsKept};
+    ghost use Rattle.wf_box.specs.Problems.{problem_seen, IsKept};
 
     ghost view = { problem_seen };
 
