@@ -9,6 +9,7 @@ use std::alloc::{AllocError, Global};
 use std::env;
 use std::time::CpuClock;
 use wf_lane::TupleTable;
+use wf_set::of_part;
 use wf_task::Row;
 
 fn next(x: u32) -> u32 {
@@ -42,8 +43,13 @@ fn repeat(table: &TupleTable, calls: u32) -> u64 {
     let mut total: u64 = 0;
     for k in 0..calls {
         let x = u64::from(k);
-        let found = table.revise([63 ^ (x % 64), 63 ^ (x / 64 % 64), 62, 31]);
-        let [a, b, c, d] = found.masks;
+        let found = table.revise([
+            of_part(63 ^ (x % 64)),
+            of_part(63 ^ (x / 64 % 64)),
+            of_part(62),
+            of_part(31),
+        ]);
+        let [[a, ..], [b, ..], [c, ..], [d, ..]] = found.masks;
         let mixed = a ^ b.wrapping_mul(3) ^ c.wrapping_mul(5) ^ d.wrapping_mul(7);
         total = total
             .wrapping_mul(31)

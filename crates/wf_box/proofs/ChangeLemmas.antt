@@ -1,8 +1,8 @@
 -- Changes, one more and one less.
-use Rattle.std.proofs.Common.{◌≡◌, ◌≢◌, ℕ, zero, suc, ◌+◌, ◌-◌, ◌<◌, ◌≤◌, ◌^◌, List, [], ◌∷◌, ◌++◌, length, get_or, drop, take, All, refl, sym, ap, ◌∙◌, subst, arith, inl, inr, ⊎_elim, length-set, length-append, append-nil, append_assoc, Bool, true, false, cond, Option, Some, None}
+use Rattle.std.proofs.Common.{◌≡◌, ◌≢◌, ℕ, zero, suc, ◌+◌, ◌<◌, ◌≤◌, List, [], ◌∷◌, ◌++◌, length, get_or, drop, take, refl, sym, ap, ◌∙◌, subst, arith, inl, inr, ⊎_elim, length-set, length-append, append-nil, append_assoc, Bool, true, false, cond, Option, Some, None}
 use Rattle.std.specs.List.{slice_set}
 use Rattle.std.proofs.lemmas.Bool.{cases_eq, cases_lt, false≢true}
-use Rattle.std.proofs.lemmas.List.{drop-append-le, drop-map, length-map, get_or-set_same, get_or-set_other, get_or_read}
+use Rattle.std.proofs.lemmas.List.{drop-append-le, drop-map, length-map, set-get_or, get_or_read}
 use Rattle.std.proofs.lemmas.List.Elements.{All-append, All-from_recursion}
 use Rattle.std.specs.Prelude.{nat_lt, position}
 use Rattle.std.specs.List.{position_from}
@@ -13,24 +13,18 @@ use Rattle.wf_model.proofs.Order.{only as only_value}
 use Rattle.wf_set.specs.Sets.{box_of, values_in}
 use Rattle.wf_box.specs.Changes.{IsGrown, IsTracked, IsUndone, taken_back, words_after}
 use Rattle.wf_box.specs.declared.tracked.Change.{Change}
-use Rattle.wf_box.proofs.TakingLemmas.{word_at}
+use Rattle.wf_box.proofs.TakingLemmas.{set_there, word_at}
 
-pub back_more : (cs ds : List Change) (words : List ℕ) → taken_back (cs ++ ds) words ≡ taken_back cs (taken_back ds words)
+pub back_more : (cs ds : List Change) (words : List (List ℕ)) → taken_back (cs ++ ds) words ≡ taken_back cs (taken_back ds words)
 back_more [] ds words = refl
 back_more (c ∷ cs) ds words = ap (λ ws. slice_set ws c.point c.before) (back_more cs ds words)
 
-pub count_changed : (words : List ℕ) (v word : ℕ) → v < length words → count (box_of (slice_set words v word)) + length (values_in (get_or words v 0)) ≡ count (box_of words) + length (values_in word)
+pub count_changed : (words : List (List ℕ)) (v : ℕ) (word : List ℕ) → v < length words → count (box_of (slice_set words v word)) + length (values_in (get_or words v [])) ≡ count (box_of words) + length (values_in word)
 count_changed [] v word within = absurd (let none : ⊥ = omega (arith, within) in none)
 count_changed (w ∷ words) zero word within = omega arith
 count_changed (w ∷ words) (suc v) word within = omega (arith, count_changed words v word (omega (arith, within)))
 
--- the candidates of a point, in the box of some words, where one is changed
-changed_here : (words : List ℕ) (v word : ℕ) → v < length words → candidates (box_of (slice_set words v word)) v ≡ values_in word
-changed_here [] v word within = absurd (let none : ⊥ = omega (arith, within) in none)
-changed_here (w ∷ words) zero word within = refl
-changed_here (w ∷ words) (suc v) word within = changed_here words v word (omega (arith, within))
-
-pub changed_there : (words : List ℕ) (v u word : ℕ) → u ≢ v → candidates (box_of (slice_set words v word)) u ≡ candidates (box_of words) u
+pub changed_there : (words : List (List ℕ)) (v u : ℕ) (word : List ℕ) → u ≢ v → candidates (box_of (slice_set words v word)) u ≡ candidates (box_of words) u
 changed_there [] v u word other = refl
 changed_there (w ∷ words) zero zero word other = absurd (other refl)
 changed_there (w ∷ words) zero (suc u) word other = refl
@@ -39,7 +33,7 @@ changed_there (w ∷ words) (suc v) (suc u) word other = changed_there words v u
 
 -- ---- one change more
 
-after_more : (n : ℕ) (trail : List Change) (c : Change) (words : List ℕ) → n ≤ length trail → words_after n (trail ++ c ∷ []) words ≡ words_after n trail (slice_set words c.point c.before)
+after_more : (n : ℕ) (trail : List Change) (c : Change) (words : List (List ℕ)) → n ≤ length trail → words_after n (trail ++ c ∷ []) words ≡ words_after n trail (slice_set words c.point c.before)
 after_more n trail c words low = ap (λ cs. taken_back cs words) (drop-append-le n trail (c ∷ []) low) ∙ back_more (drop n trail) (c ∷ []) words
 
 past_all : {X : Type 0} (xs : List X) (n : ℕ) → length xs ≤ n → drop n xs ≡ []
@@ -48,8 +42,8 @@ past_all [] (suc n) h = refl
 past_all (x ∷ xs) zero h = absurd (let none : ⊥ = omega (arith, h) in none)
 past_all (x ∷ xs) (suc n) h = past_all xs n (omega (arith, h))
 
-pub one_change : (words : List ℕ) (trail : List Change) (capacity counted left open_from v before : ℕ) → IsTracked (slice_set words v before) trail capacity counted open_from → v < length words → length (values_in (get_or words v 0)) < length (values_in before)
-    → left + length (values_in before) ≡ counted + length (values_in (get_or words v 0)) → IsTracked words (trail ++ record { point = v; before = before } ∷ []) capacity left open_from
+pub one_change : (words : List (List ℕ)) (trail : List Change) (capacity counted left open_from v : ℕ) (before : List ℕ) → IsTracked (slice_set words v before) trail capacity counted open_from → v < length words → length (values_in (get_or words v [])) < length (values_in before)
+    → left + length (values_in before) ≡ counted + length (values_in (get_or words v [])) → IsTracked words (trail ++ record { point = v; before = before } ∷ []) capacity left open_from
 one_change words trail capacity counted left open_from v before kept within fewer counts = record {
   few = omega (arith, kept.few, long);
   small = kept.small;
@@ -61,7 +55,7 @@ one_change words trail capacity counted left open_from v before kept within fewe
   within = All-append (λ (c : Change). c.point < length words) trail (c ∷ []) (λ k d low. omega (arith, kept.within k d low, long)) (All-from_recursion (λ c. c.point < length words) (c ∷ []) (within, tt));
   open_within = omega (arith, kept.open_within, long);
   single = λ u low. elim (cases_eq u v) [
-    | inl here ↦ omega (arith, fewer, kept.single u low, ap (λ w. length (candidates (box_of (slice_set words v before)) w)) here, ap length (changed_here words v before within), ap (λ w. length (candidates (box_of words) w)) here, ap length (word_at words v within))
+    | inl here ↦ omega (arith, fewer, kept.single u low, ap (λ w. length (candidates (box_of (slice_set words v before)) w)) here, ap length (set_there words v before within), ap (λ w. length (candidates (box_of words) w)) here, ap length (word_at words v within))
     | inr other ↦ subst (λ set. length set ≤ 1) (changed_there words v u before other) (kept.single u low)
   ];
 }
@@ -79,7 +73,7 @@ one_change words trail capacity counted left open_from v before kept within fewe
         omega (arith, all, is, ap (λ ws. count (box_of ws)) now, count_changed words v before within, fewer)
 
 -- there is room for a further change
-pub room_now : (words : List ℕ) (trail : List Change) (capacity counted open_from : ℕ) → IsTracked words trail capacity counted open_from → length trail + count (box_of words) ≤ capacity
+pub room_now : (words : List (List ℕ)) (trail : List Change) (capacity counted open_from : ℕ) → IsTracked words trail capacity counted open_from → length trail + count (box_of words) ≤ capacity
 room_now words trail capacity counted open_from kept =
     subst (λ cs. length trail + count (box_of (taken_back cs words)) ≤ capacity) (past_all trail (length trail) (omega arith)) (kept.room (length trail) (omega arith))
 
@@ -94,16 +88,16 @@ last_at : {X : Type 0} (xs : List X) (x d : X) → get_or (xs ++ x ∷ []) (leng
 last_at [] x d = refl
 last_at (y ∷ xs) x d = last_at xs x d
 
-pub last_within : (words : List ℕ) (trail : List Change) (c : Change) (capacity counted open_from : ℕ) → IsTracked words (trail ++ c ∷ []) capacity counted open_from → c.point < length words
+pub last_within : (words : List (List ℕ)) (trail : List Change) (c : Change) (capacity counted open_from : ℕ) → IsTracked words (trail ++ c ∷ []) capacity counted open_from → c.point < length words
 last_within words trail c capacity counted open_from kept = subst (λ x. x.point < length words) (last_at trail c c) (kept.within (length trail) c (omega (arith, length-append trail (c ∷ []))))
 
-pub count_here : (words : List ℕ) (v : ℕ) → v < length words → length (values_in (get_or words v 0)) ≤ count (box_of words)
+pub count_here : (words : List (List ℕ)) (v : ℕ) → v < length words → length (values_in (get_or words v [])) ≤ count (box_of words)
 count_here [] v within = absurd (let none : ⊥ = omega (arith, within) in none)
 count_here (w ∷ words) zero within = omega arith
 count_here (w ∷ words) (suc v) within = omega (arith, count_here words v (omega (arith, within)))
 
-pub one_back : (words : List ℕ) (trail : List Change) (c : Change) (capacity counted now open_from from : ℕ) → IsTracked words (trail ++ c ∷ []) capacity counted open_from
-    → now + length (values_in (get_or words c.point 0)) ≡ counted + length (values_in c.before) → from ≤ open_from → (c.point < from → length (values_in c.before) ≤ 1) → IsTracked (slice_set words c.point c.before) trail capacity now from
+pub one_back : (words : List (List ℕ)) (trail : List Change) (c : Change) (capacity counted now open_from from : ℕ) → IsTracked words (trail ++ c ∷ []) capacity counted open_from
+    → now + length (values_in (get_or words c.point [])) ≡ counted + length (values_in c.before) → from ≤ open_from → (c.point < from → length (values_in c.before) ≤ 1) → IsTracked (slice_set words c.point c.before) trail capacity now from
 one_back words trail c capacity counted now open_from from kept counts low single = record {
   few = omega (arith, kept.few, long);
   small = kept.small;
@@ -113,7 +107,7 @@ one_back words trail c capacity counted now open_from from kept counts low singl
   open_within = omega (arith, low, kept.open_within, long);
   single = λ u inside. elim (cases_eq u c.point) [
     | inl here ↦
-        omega (arith, single (omega (arith, here, inside)), ap (λ w. length (candidates (box_of (slice_set words c.point c.before)) w)) here, ap length (changed_here words c.point c.before within))
+        omega (arith, single (omega (arith, here, inside)), ap (λ w. length (candidates (box_of (slice_set words c.point c.before)) w)) here, ap length (set_there words c.point c.before within))
     | inr other ↦ subst (λ set. length set ≤ 1) (sym (changed_there words c.point u c.before other)) (kept.single u (omega (arith, inside, low)))
   ];
 }
@@ -125,11 +119,11 @@ one_back words trail c capacity counted now open_from from kept counts low singl
     within = subst (λ x. x.point < length words) (last_at trail c c) (kept.within (length trail) c (omega (arith, length-append trail (c ∷ []))))
 
 -- taking further ones back after it
-pub undone_more : (len : ℕ) (words : List ℕ) (trail : List Change) (before : List ℕ) (fewer : List Change) → IsUndone words trail before fewer → len ≤ length fewer → words_after len fewer before ≡ words_after len trail words
+pub undone_more : (len : ℕ) (words : List (List ℕ)) (trail : List Change) (before : List (List ℕ)) (fewer : List Change) → IsUndone words trail before fewer → len ≤ length fewer → words_after len fewer before ≡ words_after len trail words
 undone_more len words trail before fewer undone low =
     ap (words_after len fewer) undone.words_are ∙ sym (after_more len fewer undone.last words low) ∙ ap (λ cs. words_after len cs words) (sym undone.trail_is)
 
-pub undone_less : (words : List ℕ) (trail : List Change) (before : List ℕ) (fewer : List Change) → IsUndone words trail before fewer → length trail ≡ suc (length fewer)
+pub undone_less : (words : List (List ℕ)) (trail : List Change) (before : List (List ℕ)) (fewer : List Change) → IsUndone words trail before fewer → length trail ≡ suc (length fewer)
 undone_less words trail before fewer undone = ap length undone.trail_is ∙ length-append fewer (undone.last ∷ []) ∙ (let z : length fewer + 1 ≡ suc (length fewer) = omega arith in z)
 
 take_first : {X : Type 0} (xs ys : List X) → xs ≡ take (length xs) (xs ++ ys)
@@ -142,7 +136,7 @@ take_less (suc m) zero xs low = absurd (let none : ⊥ = omega (arith, low) in n
 take_less (suc m) (suc n) [] low = refl
 take_less (suc m) (suc n) (x ∷ xs) low = ap (λ zs. x ∷ zs) (take_less m n xs (omega (arith, low)))
 
-pub undone_first : (all : List Change) (words : List ℕ) (trail : List Change) (before : List ℕ) (fewer : List Change) → IsUndone words trail before fewer → trail ≡ take (length trail) all → fewer ≡ take (length fewer) all
+pub undone_first : (all : List Change) (words : List (List ℕ)) (trail : List Change) (before : List (List ℕ)) (fewer : List Change) → IsUndone words trail before fewer → trail ≡ take (length trail) all → fewer ≡ take (length fewer) all
 undone_first all words trail before fewer undone first =
     take_first fewer (undone.last ∷ []) ∙ ap (take (length fewer)) (sym undone.trail_is ∙ first) ∙ take_less (length fewer) (length trail) all (omega (arith, undone_less words trail before fewer undone))
 
@@ -181,7 +175,7 @@ module _ {X : Type 0} (test : X → Bool) where
       ∙ ap (shifted n) (sym (position_from-zero test (drop n xs)))
 
 -- where no point before this one is open, the search for the first may start here
-pub open_later : (words : List ℕ) (n : ℕ) → n ≤ length words → ((v : ℕ) → v < n → length (candidates (box_of words) v) ≤ 1) → first_open (box_of words) ≡ shifted n (first_open (box_of (drop n words)))
+pub open_later : (words : List (List ℕ)) (n : ℕ) → n ≤ length words → ((v : ℕ) → v < n → length (candidates (box_of words) v) ≤ 1) → first_open (box_of words) ≡ shifted n (first_open (box_of (drop n words)))
 open_later words n low single =
     position_past (λ (set : List ℕ). nat_lt 1 (length set)) n (box_of words) [] (omega (arith, low, length-map words values_in)) (λ k inside. grind (arith, single k inside))
     ∙ ap (λ b. shifted n (first_open b)) (drop-map values_in n words)
@@ -200,52 +194,61 @@ decided_already (set ∷ box) (suc v) a there few = ap (λ b. set ∷ b) (decide
 
 -- ---- further changes
 
-pub grown_none : (words : List ℕ) (trail : List Change) → IsGrown words trail words trail
+pub grown_none : (words : List (List ℕ)) (trail : List Change) → IsGrown words trail words trail
 grown_none words trail = record { added = []; trail_is = sym (append-nil trail); words_are = refl }
 
-pub grown_one : (words : List ℕ) (trail : List Change) (fewer : List ℕ) (more : List Change) (c : Change) → more ≡ trail ++ c ∷ [] → slice_set fewer c.point c.before ≡ words → IsGrown words trail fewer more
+pub grown_one : (words : List (List ℕ)) (trail : List Change) (fewer : List (List ℕ)) (more : List Change) (c : Change) → more ≡ trail ++ c ∷ [] → slice_set fewer c.point c.before ≡ words → IsGrown words trail fewer more
 grown_one words trail fewer more c grows back = record { added = c ∷ []; trail_is = grows; words_are = back }
 
-pub grown_then : (words : List ℕ) (trail : List Change) (fewer : List ℕ) (more : List Change) (least : List ℕ) (most : List Change) → IsGrown words trail fewer more → IsGrown fewer more least most → IsGrown words trail least most
+pub grown_then : (words : List (List ℕ)) (trail : List Change) (fewer : List (List ℕ)) (more : List Change) (least : List (List ℕ)) (most : List Change) → IsGrown words trail fewer more → IsGrown fewer more least most → IsGrown words trail least most
 grown_then words trail fewer more least most first then = record {
   added = first.added ++ then.added;
   trail_is = then.trail_is ∙ ap (λ cs. cs ++ then.added) first.trail_is ∙ append_assoc trail first.added then.added;
   words_are = back_more first.added then.added least ∙ ap (taken_back first.added) then.words_are ∙ first.words_are;
 }
 
--- a word that was changed is put back
-pub set_back : (words : List ℕ) (v a b : ℕ) → b ≡ get_or words v 0 → slice_set (slice_set words v a) v b ≡ words
+-- a set that was changed is put back
+pub set_back : (words : List (List ℕ)) (v : ℕ) (a b : List ℕ) → b ≡ get_or words v [] → slice_set (slice_set words v a) v b ≡ words
 set_back [] v a b is = refl
 set_back (w ∷ words) zero a b is = ap (λ x. x ∷ words) is
 set_back (w ∷ words) (suc v) a b is = ap (λ ws. w ∷ ws) (set_back words v a b is)
 
-pub back_again : (words fewer : List ℕ) (v word : ℕ) → fewer ≡ slice_set words v (get_or fewer v 0) → word ≡ get_or words v 0 → slice_set fewer v word ≡ words
-back_again words fewer v word is here = ap (λ ws. slice_set ws v word) is ∙ set_back words v (get_or fewer v 0) word here
+pub back_again : (words fewer : List (List ℕ)) (v : ℕ) (word : List ℕ) → fewer ≡ slice_set words v (get_or fewer v []) → word ≡ get_or words v [] → slice_set fewer v word ≡ words
+back_again words fewer v word is here = ap (λ ws. slice_set ws v word) is ∙ set_back words v (get_or fewer v []) word here
 
--- where there are fewer candidates in all and one word is changed, that word has fewer
-pub set_fewer : (words fewer : List ℕ) (v : ℕ) → v < length words → fewer ≡ slice_set words v (get_or fewer v 0) → count (box_of fewer) < count (box_of words) → length (values_in (get_or fewer v 0)) < length (values_in (get_or words v 0))
-set_fewer words fewer v within is less = omega (arith, count_changed words v (get_or fewer v 0) within, ap (λ ws. count (box_of ws)) is, less)
+-- where there are fewer candidates in all and one set is changed, that set has fewer
+pub set_fewer : (words fewer : List (List ℕ)) (v : ℕ) → v < length words → fewer ≡ slice_set words v (get_or fewer v []) → count (box_of fewer) < count (box_of words) → length (values_in (get_or fewer v [])) < length (values_in (get_or words v []))
+set_fewer words fewer v within is less = omega (arith, count_changed words v (get_or fewer v []) within, ap (λ ws. count (box_of ws)) is, less)
 
 -- what a place's taking out left, as a vector has it
-pub record IsLessAt (words now : List ℕ) (v before : ℕ) : Type 0 where
+pub record IsLessAt (words now : List (List ℕ)) (v : ℕ) (before : List ℕ) : Type 0 where
   pub back : slice_set now v before ≡ words
-  pub fewer : length (values_in (get_or now v 0)) < length (values_in before)
+  pub fewer : length (values_in (get_or now v [])) < length (values_in before)
 
-pub less_at : (words new now : List ℕ) (v before after : ℕ) → now ≡ new → v < length words → length new ≡ length words → new ≡ slice_set words v (get_or new v 0) → count (box_of new) ≤ count (box_of words) → (count (box_of new) ≡ count (box_of words) → new ≡ words)
+pub less_at : (words new now : List (List ℕ)) (v : ℕ) (before after : List ℕ) → now ≡ new → v < length words → length new ≡ length words → new ≡ slice_set words v (get_or new v []) → count (box_of new) ≤ count (box_of words) → (count (box_of new) ≡ count (box_of words) → new ≡ words)
     → before ≡ get_or words v before → after ≡ get_or now v after → (after ≡ before → ⊥) → IsLessAt words now v before
 less_at words new now v before after now_is within long others fewer same here there differ =
-    let before_is : before ≡ get_or words v 0 = get_or_read words v before within here 0 in
-    let after_is : after ≡ get_or now v 0 = get_or_read now v after (omega (arith, within, long, ap length now_is)) there 0 in
+    let before_is : before ≡ get_or words v [] = get_or_read words v before within here [] in
+    let after_is : after ≡ get_or now v [] = get_or_read now v after (omega (arith, within, long, ap length now_is)) there [] in
     let less : count (box_of new) < count (box_of words) =
     ⊎_elim (λ (l : count (box_of new) < count (box_of words)). l) (λ (g : count (box_of words) ≤ count (box_of new)).
-    absurd (differ (after_is ∙ ap (λ ws. get_or ws v 0) (now_is ∙ same (omega (arith, fewer, g))) ∙ sym before_is))) (cases_lt (count (box_of new)) (count (box_of words))) in
+    absurd (differ (after_is ∙ ap (λ ws. get_or ws v []) (now_is ∙ same (omega (arith, fewer, g))) ∙ sym before_is))) (cases_lt (count (box_of new)) (count (box_of words))) in
     record {
       back = ap (λ ws. slice_set ws v before) now_is ∙ back_again words new v before others before_is;
-      fewer = omega (arith, set_fewer words new v within others less, ap (λ w. length (values_in w)) before_is, ap (λ ws. length (values_in (get_or ws v 0))) now_is);
+      fewer = omega (arith, set_fewer words new v within others less, ap (λ w. length (values_in w)) before_is, ap (λ ws. length (values_in (get_or ws v []))) now_is);
     }
 
-pub less_from : (words start new now : List ℕ) (v before after : ℕ) → start ≡ words → now ≡ new → v < length words → length new ≡ length start → new ≡ slice_set start v (get_or new v 0) → count (box_of new) ≤ count (box_of start) → (count (box_of new) ≡ count (box_of start) → new ≡ start)
+pub less_from : (words start new now : List (List ℕ)) (v : ℕ) (before after : List ℕ) → start ≡ words → now ≡ new → v < length words → length new ≡ length start → new ≡ slice_set start v (get_or new v []) → count (box_of new) ≤ count (box_of start) → (count (box_of new) ≡ count (box_of start) → new ≡ start)
     → before ≡ get_or words v before → after ≡ get_or now v after → (after ≡ before → ⊥) → IsLessAt words now v before
 less_from words start new now v before after is now_is within long others fewer same here there differ =
     subst (λ ws. IsLessAt ws now v before) is
     (less_at start new now v before after now_is (omega (arith, within, ap length is)) long others fewer same (here ∙ ap (λ ws. get_or ws v before) (sym is)) there differ)
+
+-- where the set that may have been changed is as before, all are
+pub same_again : (words start new now : List (List ℕ)) (v : ℕ) (before after : List ℕ) → start ≡ words → now ≡ new → v < length words → length new ≡ length start → new ≡ slice_set start v (get_or new v [])
+    → before ≡ get_or words v before → after ≡ get_or now v after → after ≡ before → now ≡ words
+same_again words start new now v before after is now_is within long others here there same =
+    let before_is : before ≡ get_or words v [] = get_or_read words v before within here [] in
+    let after_is : after ≡ get_or now v [] = get_or_read now v after (omega (arith, within, long, ap length is, ap length now_is)) there [] in
+    let kept : get_or new v [] ≡ get_or words v [] = ap (λ ws. get_or ws v []) (sym now_is) ∙ sym after_is ∙ same ∙ before_is in
+    now_is ∙ others ∙ ap (slice_set start v) kept ∙ ap (λ ws. slice_set ws v (get_or words v [])) is ∙ set-get_or words v []

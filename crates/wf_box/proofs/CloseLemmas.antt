@@ -1,7 +1,7 @@
 -- What the sweeps come to.
-use Rattle.std.proofs.Common.{◌≡◌, ℕ, suc, ◌<◌, ◌^◌, ◌==◌, true, List, [], ◌∷◌, length, slice_index, All, Option, Some, None, sym, ap, ◌∙◌, subst, eqb-true, arith}
+use Rattle.std.proofs.Common.{◌≡◌, ℕ, suc, ◌<◌, ◌==◌, true, List, [], ◌∷◌, length, Option, Some, None, sym, ap, ◌∙◌, subst, eqb-true, arith}
 use Rattle.std.specs.List.{AllByRecursion}
-use Rattle.std.proofs.lemmas.List.{drop_all, get_or_default, length-map, nil_from_length}
+use Rattle.std.proofs.lemmas.List.{drop_all, length-map, nil_from_length}
 use Rattle.std.proofs.lemmas.List.Elements.{All-from_recursion}
 use Rattle.std.proofs.lemmas.List.Quantifiers.{position-Some}
 use Rattle.wf_model.specs.Simplex.{is_ascending}
@@ -23,12 +23,12 @@ use Rattle.wf_box.specs.Closes.{IsSupported, Leaves, emptied_by}
 use Rattle.wf_box.specs.declared.closing.Closed.{Closed}
 use Rattle.wf_box.specs.declared.closing.Closed.TheVariants.{Empty, Open}
 
--- each word is an ascending set
-sets_ascend : (words : List ℕ) → AllByRecursion (λ set. is_ascending set ≡ true) (box_of words)
+-- the values of each set ascend
+sets_ascend : (words : List (List ℕ)) → AllByRecursion (λ set. is_ascending set ≡ true) (box_of words)
 sets_ascend [] = tt
 sets_ascend (w ∷ words) = (is_ascending_from (values_in w) (values_ascend w), sets_ascend words)
 
-pub is_box : (p : Problem) (words : List ℕ) → length words ≡ p.points → IsBoxOf p (box_of words)
+pub is_box : (p : Problem) (words : List (List ℕ)) → length words ≡ p.points → IsBoxOf p (box_of words)
 is_box p words long = record { long = length-map words values_in ∙ long; ascending = All-from_recursion (λ set. is_ascending set ≡ true) (box_of words) (sets_ascend words) }
 
 -- ---- a point that is empty at the start
@@ -55,7 +55,7 @@ same_box : {b c : Box} → ◌≡◌ {A = Option Box} (Some b) (Some c) → b �
 same_box is = cc
 
 -- the solutions are kept
-pub left_of : (p : Problem) (old new : List Line) (before after : List ℕ) (closed : Closed) → reached new (emptied_by closed) after ≡ and_then (reached old None before) (closing p) → Leaves (closing p (box_of before)).left (box_of after) closed
+pub left_of : (p : Problem) (old new : List Line) (before after : List (List ℕ)) (closed : Closed) → reached new (emptied_by closed) after ≡ and_then (reached old None before) (closing p) → Leaves (closing p (box_of before)).left (box_of after) closed
 left_of p old new before after closed is = leaves_by closed (closing p (box_of before)).left (box_of after) (ap (λ (s : Step). s.left) is)
 
 pub solutions_kept : (p : Problem) (old new : Box) (closed : Closed) → IsWellFormed p → Leaves (closing p old).left new closed → (m : List ℕ) → IsSolution p m → LiesIn m old → LiesIn m new
@@ -68,7 +68,7 @@ supported_there p old new (Empty v) is left = tt
 supported_there p old new (Open n) is left = closed_supports p new (closed_branch p old new is left).closed
 
 -- what closing left was closed after all changes
-pub was_closed : (p : Problem) (old : Box) (words : List ℕ) (trail : List Change) (n : ℕ) → IsBoxOf p old → Leaves (closing p old).left (box_of words) (Open n) → WasClosed p trail words (length trail)
+pub was_closed : (p : Problem) (old : Box) (words : List (List ℕ)) (trail : List Change) (n : ℕ) → IsBoxOf p old → Leaves (closing p old).left (box_of words) (Open n) → WasClosed p trail words (length trail)
 was_closed p old words trail n is left =
     let branch = closed_branch p old (box_of words) is left in
     let now : words ≡ words_after (length trail) trail words = sym (ap (λ cs. taken_back cs words) (drop_all (length trail) trail (omega arith))) in

@@ -1,19 +1,19 @@
 -- Executions without a mark.
-use Rattle.std.proofs.Common.{◌≡◌, ◌≢◌, ℕ, zero, suc, ◌+◌, ◌-◌, ◌<◌, ◌≤◌, ◌/◌, ◌%◌, Bool, true, false, not, List, [], ◌∷◌, ◌++◌, map, zip, filter, flat_map, length, get_or, slice_index, drop, take, Option, Some, None, All, refl, sym, ap, ◌∙◌, subst, arith, inl, inr, ⊎_elim, length-append, length-set}
+use Rattle.std.proofs.Common.{◌≡◌, ◌≢◌, ℕ, zero, suc, ◌+◌, ◌-◌, ◌<◌, ◌≤◌, ◌/◌, ◌%◌, Bool, true, false, not, List, [], ◌∷◌, ◌++◌, map, zip, filter, flat_map, length, get_or, slice_index, drop, Option, Some, None, All, refl, sym, ap, ◌∙◌, arith, inl, inr, ⊎_elim, length-append, length-set}
 use Rattle.std.specs.Bool.{OnTrue}
-use Rattle.std.specs.List.{enumerate_from, slice_index_or}
+use Rattle.std.specs.List.{enumerate_from}
 use Rattle.std.proofs.lemmas.Bool.{cases_eq, cases_lt, false≢true}
 use Rattle.std.proofs.lemmas.List.{at_drop_more, drop_all, get_or-set_other, get_or-map, length-map, nil_from_length}
 use Rattle.std.proofs.lemmas.Nat.Bits.{bit_at-lt}
 use Rattle.wf_box.specs.Changes.{taken_back, words_after}
 use Rattle.wf_box.specs.declared.tracked.Change.{Change}
-use Rattle.wf_model.specs.Problem.{Problem, Constraint, no_constraint}
+use Rattle.wf_model.specs.Problem.{Constraint, no_constraint}
 use Rattle.wf_model.specs.Box.{Box, candidates, first_empty, is_supported, sets_of}
-use Rattle.wf_model.specs.Closing.{Step, Loss, and_then, keeps, lost, lost_at, places, same_candidate, sweep_from, take_out, take_out_each, taken_out}
+use Rattle.wf_model.specs.Closing.{Step, Loss, and_then, lost, lost_at, places, same_candidate, sweep_from, take_out_each, taken_out}
 use Rattle.wf_model.specs.Lists.{distinct}
 use Rattle.wf_set.specs.Sets.{box_of, values_in}
-use Rattle.wf_box.specs.Marks.{bit_of, IsLast, IsMore, IsNext}
-use Rattle.wf_box.specs.Problems.{IsWithin, constraint_seen, rule_of}
+use Rattle.wf_box.specs.Marks.{bit_of, IsMore, IsNext}
+use Rattle.wf_box.specs.Problems.{IsWithin, constraint_seen}
 use Rattle.wf_box.specs.Quiet.{AreTold, IsQuiet, IsQuietBut, IsUntouched, IsUser, no_execution, users_of}
 use Rattle.wf_box.specs.Steps.{reached}
 use Rattle.wf_box.specs.declared.problem.Rule.{Rule}
@@ -89,7 +89,7 @@ pass_to ks marks next number box quiet after low none =
     ∙ ap (λ e. sweep_from e (drop e ks) box) z
 
 -- all that are left
-pub pass_all : (ks : List Constraint) (lines : List Line) (words marks : List ℕ) (next : ℕ) (all : Step) → IsQuiet ks marks (box_of words) → next ≤ length ks → ((e : ℕ) → next ≤ e → e < length ks → bit_of marks e ≡ 0)
+pub pass_all : (ks : List Constraint) (lines : List Line) (words : List (List ℕ)) (marks : List ℕ) (next : ℕ) (all : Step) → IsQuiet ks marks (box_of words) → next ≤ length ks → ((e : ℕ) → next ≤ e → e < length ks → bit_of marks e ≡ 0)
     → and_then (reached lines None words) (sweep_from next (drop next ks)) ≡ all → reached lines None words ≡ all
 pass_all ks lines words marks next all quiet low none is =
     sym (then_keeps (reached lines None words))
@@ -97,7 +97,7 @@ pass_all ks lines words marks next all quiet low none is =
     ∙ is
 
 -- the next one that is marked is revised
-pub next_turn : (rules : List Rule) (es : List Execution) (lines more : List Line) (words fewer marks : List ℕ) (o : Option ℕ) (next number : ℕ) (all : Step) → IsQuiet (map (constraint_seen rules) es) marks (box_of words) → IsNext marks next number → number < length es
+pub next_turn : (rules : List Rule) (es : List Execution) (lines more : List Line) (words fewer : List (List ℕ)) (marks : List ℕ) (o : Option ℕ) (next number : ℕ) (all : Step) → IsQuiet (map (constraint_seen rules) es) marks (box_of words) → IsNext marks next number → number < length es
     → reached more o fewer ≡ and_then (reached lines None words) (λ box. take_out_each number (lost box (constraint_seen rules (get_or es number no_execution))) box)
     → and_then (reached lines None words) (sweep_from next (drop next (map (constraint_seen rules) es))) ≡ all
     → and_then (reached more o fewer) (sweep_from (number + 1) (drop (number + 1) (map (constraint_seen rules) es))) ≡ all
@@ -119,33 +119,33 @@ next_turn rules es lines more words fewer marks o next number all quiet is_next 
     ∙ is
 
 -- without a change nothing was lost
-pub nothing_lost : (k : Constraint) (lines more : List Line) (words fewer : List ℕ) (number : ℕ) → fewer ≡ words → length more ≤ length lines → reached more None fewer ≡ and_then (reached lines None words) (λ box. take_out_each number (lost box k) box) → lost (box_of fewer) k ≡ []
+pub nothing_lost : (k : Constraint) (lines more : List Line) (words fewer : List (List ℕ)) (number : ℕ) → fewer ≡ words → length more ≤ length lines → reached more None fewer ≡ and_then (reached lines None words) (λ box. take_out_each number (lost box k) box) → lost (box_of fewer) k ≡ []
 nothing_lost k lines more words fewer number same short step =
     let added = ap (λ (s : Step). s.lines) step in
     let none : (take_out_each number (lost (box_of words) k) (box_of words)).lines ≡ [] =
     nil_from_length _ (omega (arith, short, ap length added, length-map more line_of, length-map lines line_of, length-append (map line_of lines) (take_out_each number (lost (box_of words) k) (box_of words)).lines)) in
     ap (λ ws. lost (box_of ws) k) same ∙ none_lost number (lost (box_of words) k) (box_of words) none
 
--- ---- what a change of some words leaves untouched
+-- ---- what a change of some sets leaves untouched
 
-pub untouched_none : (u : Users) (words marks : List ℕ) → IsUntouched u words marks words marks
+pub untouched_none : (u : Users) (words : List (List ℕ)) (marks : List ℕ) → IsUntouched u words marks words marks
 untouched_none u words marks e none = (none, λ v user. refl)
 
-pub untouched_then : (u : Users) (words marks fewer more least most : List ℕ) → IsUntouched u words marks fewer more → IsUntouched u fewer more least most → IsUntouched u words marks least most
+pub untouched_then : (u : Users) (words : List (List ℕ)) (marks : List ℕ) (fewer : List (List ℕ)) (more : List ℕ) (least : List (List ℕ)) (most : List ℕ) → IsUntouched u words marks fewer more → IsUntouched u fewer more least most → IsUntouched u words marks least most
 untouched_then u words marks fewer more least most first then e none =
     let later = then e none in
     let earlier = first e later.0 in
     (earlier.0, λ v user. later.1 v user ∙ earlier.1 v user)
 
--- an execution whose points kept their words has lost what it had
-pub lost_kept : (rules : List Rule) (x : Execution) (words fewer : List ℕ) → All (λ v. v < length words) x.points → length fewer ≡ length words → ((place : ℕ) → place < length x.points → get_or fewer (slice_index x.points place) 0 ≡ get_or words (slice_index x.points place) 0)
+-- an execution whose points kept their sets has lost what it had
+pub lost_kept : (rules : List Rule) (x : Execution) (words fewer : List (List ℕ)) → All (λ v. v < length words) x.points → length fewer ≡ length words → ((place : ℕ) → place < length x.points → get_or fewer (slice_index x.points place) [] ≡ get_or words (slice_index x.points place) [])
     → lost (box_of fewer) (constraint_seen rules x) ≡ lost (box_of words) (constraint_seen rules x)
 lost_kept rules x words fewer within long same =
     lost_same (box_of fewer) (box_of words) (constraint_seen rules x) _ x.points refl
     (λ i low. let inside = within i 0 low in word_at fewer (get_or x.points i 0) (omega (arith, inside, long)) ∙ ap values_in (same i low) ∙ sym (word_at words (get_or x.points i 0) inside))
 
 -- so after it was revised each one without a mark is quiet again
-pub quiet_again : (rules : List Rule) (es : List Execution) (u : Users) (number : ℕ) (words marks fewer more : List ℕ) → All (IsWithin (length rules) (length words)) es → AreTold u es → length fewer ≡ length words
+pub quiet_again : (rules : List Rule) (es : List Execution) (u : Users) (number : ℕ) (words : List (List ℕ)) (marks : List ℕ) (fewer : List (List ℕ)) (more : List ℕ) → All (IsWithin (length rules) (length words)) es → AreTold u es → length fewer ≡ length words
     → IsQuietBut number (map (constraint_seen rules) es) marks (box_of words) → IsUntouched u words marks fewer more → (bit_of more number ≡ 0 → lost (box_of fewer) (constraint_seen rules (get_or es number no_execution)) ≡ [])
     → IsQuiet (map (constraint_seen rules) es) more (box_of fewer)
 quiet_again rules es u number words marks fewer more within told long quiet untouched here e low none =
@@ -172,9 +172,9 @@ pub stays_marked : (marks more : List ℕ) (e : ℕ) → IsMore marks more → b
 stays_marked marks more e kept there =
     ⊎_elim (λ (low : bit_of more e < 1). absurd (let none : ⊥ = omega (arith, there, kept e (let z : bit_of more e ≡ 0 = omega (arith, low) in z)) in none)) (λ (high : 1 ≤ bit_of more e). omega (arith, high, bit_at-lt (slice_index more (e / 64)) (e % 64))) (cases_lt (bit_of more e) 1)
 
-kept_back : (cs : List Change) (words : List ℕ) (v : ℕ) → ((k : ℕ) (d : Change) → k < length cs → (get_or cs k d).point ≢ v) → get_or (taken_back cs words) v 0 ≡ get_or words v 0
+kept_back : (cs : List Change) (words : List (List ℕ)) (v : ℕ) → ((k : ℕ) (d : Change) → k < length cs → (get_or cs k d).point ≢ v) → get_or (taken_back cs words) v [] ≡ get_or words v []
 kept_back [] words v other = refl
-kept_back (c ∷ cs) words v other = get_or-set_other (taken_back cs words) c.point v c.before 0 (λ e. other 0 c (omega arith) (sym e)) ∙ kept_back cs words v (λ k d low. other (suc k) d (omega (arith, low)))
+kept_back (c ∷ cs) words v other = get_or-set_other (taken_back cs words) c.point v c.before [] (λ e. other 0 c (omega arith) (sym e)) ∙ kept_back cs words v (λ k d low. other (suc k) d (omega (arith, low)))
 
 dropped_at : (n k : ℕ) (cs : List Change) (d : Change) → get_or (drop n cs) k d ≡ get_or cs (n + k) d
 dropped_at zero k cs d = let z : k ≡ 0 + k = omega arith in ap (λ i. get_or cs i d) z
@@ -186,8 +186,8 @@ dropped_length zero cs low = omega arith
 dropped_length (suc n) [] low = absurd (let none : ⊥ = omega (arith, low) in none)
 dropped_length (suc n) (c ∷ cs) low = omega (arith, dropped_length n cs (omega (arith, low)))
 
--- a point that did not change past so many changes has the word that it had then
-pub unchanged : (n : ℕ) (trail : List Change) (words : List ℕ) (v : ℕ) → n ≤ length trail → ((k : ℕ) (d : Change) → n ≤ k → k < length trail → (get_or trail k d).point ≢ v) → get_or (words_after n trail words) v 0 ≡ get_or words v 0
+-- a point that did not change past so many changes has the set that it had then
+pub unchanged : (n : ℕ) (trail : List Change) (words : List (List ℕ)) (v : ℕ) → n ≤ length trail → ((k : ℕ) (d : Change) → n ≤ k → k < length trail → (get_or trail k d).point ≢ v) → get_or (words_after n trail words) v [] ≡ get_or words v []
 unchanged n trail words v low other =
     kept_back (drop n trail) words v (λ k d inside e. other (n + k) d (omega arith) (omega (arith, inside, dropped_length n trail low)) (ap (λ (c : Change). c.point) (sym (dropped_at n k trail d)) ∙ e))
 
@@ -195,14 +195,14 @@ pub on_true : (b : Bool) (P Q : Type 0) → (P → Q) → OnTrue b P → OnTrue 
 on_true true P Q f h = f h
 on_true false P Q f h = tt
 
--- ---- what was closed and has kept the words of an execution's points has lost nothing there
+-- ---- what was closed and has kept the sets of an execution's points has lost nothing there
 
-pub length_back : (cs : List Change) (words : List ℕ) → length (taken_back cs words) ≡ length words
+pub length_back : (cs : List Change) (words : List (List ℕ)) → length (taken_back cs words) ≡ length words
 length_back [] words = refl
 length_back (c ∷ cs) words = length-set (taken_back cs words) c.point c.before ∙ length_back cs words
 
-pub quiet_closed : (rules : List Rule) (es : List Execution) (u : Users) (words after marks : List ℕ) → length after ≡ length words → (sweep_from 0 (map (constraint_seen rules) es) (box_of after)).lines ≡ [] → All (IsWithin (length rules) (length words)) es → AreTold u es
-    → ((e : ℕ) → bit_of marks e ≡ 0 → (v : ℕ) → IsUser u v e → get_or after v 0 ≡ get_or words v 0) → IsQuiet (map (constraint_seen rules) es) marks (box_of words)
+pub quiet_closed : (rules : List Rule) (es : List Execution) (u : Users) (words after : List (List ℕ)) (marks : List ℕ) → length after ≡ length words → (sweep_from 0 (map (constraint_seen rules) es) (box_of after)).lines ≡ [] → All (IsWithin (length rules) (length words)) es → AreTold u es
+    → ((e : ℕ) → bit_of marks e ≡ 0 → (v : ℕ) → IsUser u v e → get_or after v [] ≡ get_or words v []) → IsQuiet (map (constraint_seen rules) es) marks (box_of words)
 quiet_closed rules es u words after marks long closed within told untouched e low none =
     let low' : e < length es = omega (arith, low, length-map es (constraint_seen rules)) in
     let x = get_or es e no_execution in
@@ -215,7 +215,7 @@ quiet_closed rules es u words after marks long closed within told untouched e lo
     ∙ all e no_constraint low
 
 -- a box without an empty point, where only points with candidates were changed
-pub still_filled : (words after : List ℕ) → length after ≡ length words → first_empty (box_of after) ≡ None → ((v : ℕ) → values_in (get_or words v 0) ≡ [] → values_in (get_or after v 0) ≡ []) → first_empty (box_of words) ≡ None
+pub still_filled : (words after : List (List ℕ)) → length after ≡ length words → first_empty (box_of after) ≡ None → ((v : ℕ) → values_in (get_or words v []) ≡ [] → values_in (get_or after v []) ≡ []) → first_empty (box_of words) ≡ None
 still_filled words after long filled kept = by_answer (first_empty (box_of words)) refl
   where
     by_answer : (o : Option ℕ) → first_empty (box_of words) ≡ o → o ≡ None

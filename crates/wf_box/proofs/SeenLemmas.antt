@@ -1,8 +1,8 @@
--- Changes of words, as changes of candidates.
+-- Changes of sets, as changes of candidates.
 use Rattle.std.proofs.Common.{◌≡◌, ℕ, ◌≤◌, List, [], ◌∷◌, ◌++◌, map, length, length-append, drop, take, refl, sym, ap, ◌∙◌, subst, arith, Option, Some, None, IfSome, Bool, true, false}
 use Rattle.std.specs.Bool.{OnTrue}
 use Rattle.std.specs.List.{slice_set}
-use Rattle.std.proofs.lemmas.List.{drop-append-le, drop-map, length-map, length-take-le, map-append, map-set, take-append-drop}
+use Rattle.std.proofs.lemmas.List.{drop_all, drop-append-le, drop-map, length-map, length-take-le, map-append, map-set, take-append-drop}
 use Rattle.wf_model.specs.Problem.{Problem}
 use Rattle.wf_model.specs.Box.{Box, first_empty}
 use Rattle.wf_model.specs.Closing.{sweep}
@@ -13,15 +13,15 @@ use Rattle.wf_box.specs.Quiet as quiet
 use Rattle.wf_box.specs.Boxes.{Grows, IsFor, Tracked, Was, WasClosed, box_after, change_seen, closed_if, put_back}
 use Rattle.wf_box.specs.declared.tracked.Change.{Change}
 
--- the words as the box that a clause sees
-abbrev pub tracked_seen : List ℕ → List Change → Option ℕ → Tracked
+-- the sets as the box that a clause sees
+abbrev pub tracked_seen : List (List ℕ) → List Change → Option ℕ → Tracked
 tracked_seen words trail closed = record { sets = box_of words; trail = map change_seen trail; closed = closed }
 
-pub back_seen : (cs : List Change) (words : List ℕ) → box_of (taken_back cs words) ≡ put_back (map change_seen cs) (box_of words)
+pub back_seen : (cs : List Change) (words : List (List ℕ)) → box_of (taken_back cs words) ≡ put_back (map change_seen cs) (box_of words)
 back_seen [] words = refl
 back_seen (c ∷ cs) words = map-set values_in (taken_back cs words) c.point c.before ∙ ap (λ b. slice_set b c.point (values_in c.before)) (back_seen cs words)
 
-pub after_seen : (n : ℕ) (trail : List Change) (words : List ℕ) (closed : Option ℕ) → box_of (words_after n trail words) ≡ box_after n (tracked_seen words trail closed)
+pub after_seen : (n : ℕ) (trail : List Change) (words : List (List ℕ)) (closed : Option ℕ) → box_of (words_after n trail words) ≡ box_after n (tracked_seen words trail closed)
 after_seen n trail words closed = back_seen (drop n trail) words ∙ ap (λ ws. put_back ws (box_of words)) (sym (drop-map change_seen n trail))
 
 -- ---- further changes
@@ -30,7 +30,7 @@ pub put_more : (xs ys : List Was) (box : Box) → put_back (xs ++ ys) box ≡ pu
 put_more [] ys box = refl
 put_more (x ∷ xs) ys box = ap (λ b. slice_set b x.point x.set) (put_more xs ys box)
 
-pub grown_seen : (words : List ℕ) (trail : List Change) (fewer : List ℕ) (more : List Change) (before after : Option ℕ) → IsGrown words trail fewer more → Grows (tracked_seen words trail before) (tracked_seen fewer more after)
+pub grown_seen : (words : List (List ℕ)) (trail : List Change) (fewer : List (List ℕ)) (more : List Change) (before after : Option ℕ) → IsGrown words trail fewer more → Grows (tracked_seen words trail before) (tracked_seen fewer more after)
 grown_seen words trail fewer more before after grown = record {
   added = map change_seen grown.added;
   trail_is = ap (map change_seen) grown.trail_is ∙ map-append change_seen trail grown.added;
@@ -67,21 +67,21 @@ still_for p old new grown same is_box is = record {
 
 -- ---- closed boxes
 
-pub was_seen : (p : Problem) (trail : List Change) (words : List ℕ) (closed : Option ℕ) (n : ℕ) → quiet.WasClosed p trail words n → WasClosed p (tracked_seen words trail closed) n
+pub was_seen : (p : Problem) (trail : List Change) (words : List (List ℕ)) (closed : Option ℕ) (n : ℕ) → quiet.WasClosed p trail words n → WasClosed p (tracked_seen words trail closed) n
 was_seen p trail words closed n was = record {
   within = omega (arith, was.within, length-map trail change_seen);
   filled = ap first_empty (sym (after_seen n trail words closed)) ∙ was.filled;
   closed = ap (λ b. (sweep p b).lines) (sym (after_seen n trail words closed)) ∙ was.closed;
 }
 
-pub seen_was : (p : Problem) (trail : List Change) (words : List ℕ) (closed : Option ℕ) (n : ℕ) → WasClosed p (tracked_seen words trail closed) n → quiet.WasClosed p trail words n
+pub seen_was : (p : Problem) (trail : List Change) (words : List (List ℕ)) (closed : Option ℕ) (n : ℕ) → WasClosed p (tracked_seen words trail closed) n → quiet.WasClosed p trail words n
 seen_was p trail words closed n was = record {
   within = omega (arith, was.within, length-map trail change_seen);
   filled = ap first_empty (after_seen n trail words closed) ∙ was.filled;
   closed = ap (λ b. (sweep p b).lines) (after_seen n trail words closed) ∙ was.closed;
 }
 
-pub if_was : (p : Problem) (trail : List Change) (words : List ℕ) (closed : Option ℕ) → IfSome closed (WasClosed p (tracked_seen words trail closed)) → IfSome closed (quiet.WasClosed p trail words)
+pub if_was : (p : Problem) (trail : List Change) (words : List (List ℕ)) (closed : Option ℕ) → IfSome closed (WasClosed p (tracked_seen words trail closed)) → IfSome closed (quiet.WasClosed p trail words)
 if_was p trail words closed was = if_some (WasClosed p (tracked_seen words trail closed)) (quiet.WasClosed p trail words) closed (λ n w. seen_was p trail words closed n w) was
 
 -- ---- taking back
@@ -110,3 +110,27 @@ undone_for p old new n is_closed inside sets trail closed is_box was = record {
     by_test : (b : Bool) → OnTrue b (WasClosed p old n) → IfSome (closed_if b n) (WasClosed p new)
     by_test true w = closed_undone p old new n n (omega arith) inside sets trail w
     by_test false w = tt
+
+-- ---- a copy
+
+pub if_closed : (is_closed : Bool) (old : Tracked) → OnTrue is_closed (old.closed ≡ Some (length old.trail)) → IfSome (closed_if is_closed 0) (λ n. (n ≡ 0) × (old.closed ≡ Some (length old.trail)))
+if_closed true old was = (refl, was)
+if_closed false old was = tt
+
+-- a box without a change to take back that is another one closed after all its changes
+pub copied_for : (p : Problem) (old new : Tracked) → new.sets ≡ old.sets → new.trail ≡ [] → IsBoxOf p new.sets → IfSome new.closed (λ n. (n ≡ 0) × (old.closed ≡ Some (length old.trail))) → IsFor p old → IsFor p new
+copied_for p old new sets trail is_box closed is = record {
+  is_box = is_box;
+  closed = if_some (λ n. (n ≡ 0) × (old.closed ≡ Some (length old.trail))) (WasClosed p new) new.closed (λ n h. subst (WasClosed p new) (sym h.0) (at_start (subst (λ o. IfSome o (WasClosed p old)) h.1 is.closed))) closed;
+}
+  where
+    same : box_after 0 new ≡ box_after (length old.trail) old
+    same =
+        ap (λ t. put_back t new.sets) trail ∙ sets ∙ sym (ap (λ t. put_back t old.sets) (drop_all (length old.trail) old.trail (omega arith)))
+
+    at_start : WasClosed p old (length old.trail) → WasClosed p new 0
+    at_start was = record {
+      within = omega arith;
+      filled = ap first_empty same ∙ was.filled;
+      closed = ap (λ b. (sweep p b).lines) same ∙ was.closed;
+    }

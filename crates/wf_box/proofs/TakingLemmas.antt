@@ -15,22 +15,22 @@ use Rattle.wf_complex.specs.declared.line.Line.{Line}
 use Rattle.wf_complex.specs.declared.line.Line.TheVariants as line
 use Rattle.wf_box.specs.Steps.{reached, loss}
 
--- the candidates of a point are the values of its word
-pub word_at : (words : List ℕ) (v : ℕ) → v < length words → candidates (box_of words) v ≡ values_in (get_or words v 0)
-word_at words v inside = get_or-map values_in words v 0 [] inside
+-- the candidates of a point are the values of its set
+pub word_at : (words : List (List ℕ)) (v : ℕ) → v < length words → candidates (box_of words) v ≡ values_in (get_or words v [])
+word_at words v inside = get_or-map values_in words v [] [] inside
 
--- the box without a candidate is that of the words with one word changed
-pub set_without : (words : List ℕ) (v a set : ℕ) → v < length words → values_in set ≡ filter (λ b. not (b == a)) (values_in (get_or words v 0)) → box_of (slice_set words v set) ≡ without (box_of words) v a
+-- the box without a candidate is that of the sets with one set changed
+pub set_without : (words : List (List ℕ)) (v a : ℕ) (set : List ℕ) → v < length words → values_in set ≡ filter (λ b. not (b == a)) (values_in (get_or words v [])) → box_of (slice_set words v set) ≡ without (box_of words) v a
 set_without words v a set inside is =
     map-set values_in words v set
     ∙ ap (λ s. slice_set (box_of words) v s) (is ∙ ap (filter (λ b. not (b == a))) (sym (word_at words v inside)))
 
-pub set_there : (words : List ℕ) (v set : ℕ) → v < length words → candidates (box_of (slice_set words v set)) v ≡ values_in set
+pub set_there : (words : List (List ℕ)) (v : ℕ) (set : List ℕ) → v < length words → candidates (box_of (slice_set words v set)) v ≡ values_in set
 set_there [] v set h = absurd (let none : ⊥ = omega (arith, h) in none)
 set_there (w ∷ words) zero set h = refl
 set_there (w ∷ words) (suc v) set h = set_there words v set (omega (arith, h))
 
-left_there : (words : List ℕ) (v a set : ℕ) → v < length words → values_in set ≡ filter (λ b. not (b == a)) (values_in (get_or words v 0)) → candidates (without (box_of words) v a) v ≡ values_in set
+left_there : (words : List (List ℕ)) (v a : ℕ) (set : List ℕ) → v < length words → values_in set ≡ filter (λ b. not (b == a)) (values_in (get_or words v [])) → candidates (without (box_of words) v a) v ≡ values_in set
 left_there words v a set inside is = ap (λ box. candidates box v) (sym (set_without words v a set inside is)) ∙ set_there words v set inside
 
 -- the point keeps a candidate
@@ -38,7 +38,7 @@ some_left : (e : ℕ) (x : Loss) (box : Box) (s : List ℕ) → (s ≡ [] → �
 some_left e x box [] some = absurd (some refl)
 some_left e x box (a ∷ s) some = refl
 
-pub taken_on : (old : List Line) (words : List ℕ) (e p v a set : ℕ) → v < length words → values_in set ≡ filter (λ b. not (b == a)) (values_in (get_or words v 0)) → (values_in set ≡ [] → ⊥)
+pub taken_on : (old : List Line) (words : List (List ℕ)) (e p v a : ℕ) (set : List ℕ) → v < length words → values_in set ≡ filter (λ b. not (b == a)) (values_in (get_or words v [])) → (values_in set ≡ [] → ⊥)
     → reached (old ++ line.P e p a ∷ []) None (slice_set words v set) ≡ and_then (reached old None words) (take_out e (loss p v a))
 taken_on old words e p v a set inside is some =
     let taken : take_out e (loss p v a) (box_of words) ≡ record { lines = refutation.remove e p a ∷ []; left = Some (without (box_of words) v a) } =
@@ -53,7 +53,7 @@ none_left : (e : ℕ) (x : Loss) (box : Box) (s : List ℕ) → s ≡ [] → tak
 none_left e x box [] h = refl
 none_left e x box (a ∷ s) h = absurd (let none : ⊥ = cc in none)
 
-pub taken_last : (old : List Line) (words : List ℕ) (e p v a set : ℕ) → v < length words → values_in set ≡ filter (λ b. not (b == a)) (values_in (get_or words v 0)) → values_in set ≡ []
+pub taken_last : (old : List Line) (words : List (List ℕ)) (e p v a : ℕ) (set : List ℕ) → v < length words → values_in set ≡ filter (λ b. not (b == a)) (values_in (get_or words v [])) → values_in set ≡ []
     → reached ((old ++ line.P e p a ∷ []) ++ line.Z v ∷ []) (Some v) (slice_set words v set) ≡ and_then (reached old None words) (take_out e (loss p v a))
 taken_last old words e p v a set inside is gone =
     let taken : take_out e (loss p v a) (box_of words) ≡ record { lines = refutation.remove e p a ∷ refutation.empty v ∷ []; left = None } =
@@ -64,24 +64,24 @@ taken_last old words e p v a set inside is gone =
     }
 
 -- there is a candidate less
-pub one_less : (words : List ℕ) (v a set : ℕ) → v < length words → values_in set ≡ filter (λ b. not (b == a)) (values_in (get_or words v 0)) → has (candidates (box_of words) v) a ≡ true → count (box_of (slice_set words v set)) < count (box_of words)
+pub one_less : (words : List (List ℕ)) (v a : ℕ) (set : List ℕ) → v < length words → values_in set ≡ filter (λ b. not (b == a)) (values_in (get_or words v [])) → has (candidates (box_of words) v) a ≡ true → count (box_of (slice_set words v set)) < count (box_of words)
 one_less words v a set inside is there =
     subst (λ box. count box < count (box_of words)) (sym (set_without words v a set inside is))
     (count_set_less (box_of words) v (filter (λ b. not (b == a)) (candidates (box_of words) v)) (filter_less (candidates (box_of words) v) a there))
 
 -- ---- the test for no value
 
-pub no_value : (word : ℕ) → true ≡ (length (values_in word) == 0) → values_in word ≡ []
+pub no_value : (word : List ℕ) → true ≡ (length (values_in word) == 0) → values_in word ≡ []
 no_value word is = nil_from_length (values_in word) (eqb-true (length (values_in word)) 0 (sym is))
 
-pub some_value : (word : ℕ) → false ≡ (length (values_in word) == 0) → values_in word ≡ [] → ⊥
+pub some_value : (word : List ℕ) → false ≡ (length (values_in word) == 0) → values_in word ≡ [] → ⊥
 some_value word is gone = false≢true (is ∙ eq-eqb (length (values_in word)) 0 (ap length gone))
 
--- one word is changed, and then again
-pub set_then : (words more last : List ℕ) (v : ℕ) → more ≡ slice_set words v (get_or more v 0) → last ≡ slice_set more v (get_or last v 0) → last ≡ slice_set words v (get_or last v 0)
-set_then words more last v first then = then ∙ ap (λ ws. slice_set ws v (get_or last v 0)) first ∙ set_again words v (get_or more v 0) (get_or last v 0)
+-- one set is changed, and then again
+pub set_then : (words more last : List (List ℕ)) (v : ℕ) → more ≡ slice_set words v (get_or more v []) → last ≡ slice_set more v (get_or last v []) → last ≡ slice_set words v (get_or last v [])
+set_then words more last v first then = then ∙ ap (λ ws. slice_set ws v (get_or last v [])) first ∙ set_again words v (get_or more v []) (get_or last v [])
   where
-    set_again : (words : List ℕ) (v a b : ℕ) → slice_set (slice_set words v a) v b ≡ slice_set words v b
+    set_again : (words : List (List ℕ)) (v : ℕ) (a b : List ℕ) → slice_set (slice_set words v a) v b ≡ slice_set words v b
     set_again [] v a b = refl
     set_again (w ∷ words) zero a b = refl
     set_again (w ∷ words) (suc v) a b = ap (λ ws. w ∷ ws) (set_again words v a b)

@@ -7,8 +7,10 @@ use Rattle.wf_model.specs.Closing.{sweep}
 use Rattle.wf_model.specs.Laws.{IsBoxOf}
 use Rattle.wf_set.specs.Sets.{box_of, values_in}
 use Rattle.wf_box.specs.Changes.{KeepsTrack}
+use Rattle.wf_box.specs.Limits.{most_points}
 use Rattle.wf_box.specs.declared.tracked.Change.{Change}
 use Rattle.wf_box.specs.declared.boxed.Box0.TheInside.{Inside}
+use Rattle.wf_box.specs.declared.snapshot.Snapshot.TheInside as snapshot
 use Rattle.wf_box.specs.declared.closing.Closed.{Closed}
 use Rattle.wf_box.specs.declared.closing.Closed.TheVariants.{Empty, Open}
 
@@ -73,3 +75,10 @@ box_seen b = record { sets = box_of b.tracked.words.items; trail = map change_se
 pub record IsKeptBox (b : Inside) : Type 0 where
   pub tracked : KeepsTrack b.tracked
   pub closed : IfSome b.closed (λ n. n ≤ length b.tracked.trail.items)
+
+-- a box without a change to take back
+abbrev pub snapshot_seen : snapshot.Inside → Tracked
+snapshot_seen s = record { sets = box_of s.sets.items; trail = []; closed = closed_if s.is_closed 0 }
+
+abbrev pub IsKeptSnapshot : snapshot.Inside → Type 0
+IsKeptSnapshot s = length s.sets.items ≤ most_points

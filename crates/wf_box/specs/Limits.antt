@@ -8,9 +8,9 @@ most_points = 2000000
 abbrev pub most_executions : ℕ
 most_executions = 500000
 
--- 64 candidates for each point
+-- 256 candidates for each point
 abbrev pub most_candidates : ℕ
-most_candidates = 128000000
+most_candidates = 512000000
 
 -- words of marks, a bit for each execution
 abbrev pub most_words : ℕ

@@ -1,5 +1,5 @@
 -- What executions without a mark keep.
-use Rattle.std.specs.Prelude.{◌≡◌, ◌≢◌, ◌<◌, ◌≤◌, ◌+◌, ◌-◌, ◌*◌, ℕ, List, [], ◌∷◌, length, get_or, slice_index, take, drop, All, None}
+use Rattle.std.specs.Prelude.{◌≡◌, ◌≢◌, ◌<◌, ◌≤◌, ◌+◌, ◌-◌, ℕ, List, [], length, get_or, slice_index, take, drop, All, None}
 use Rattle.wf_model.specs.Problem.{Problem, Constraint, no_constraint}
 use Rattle.wf_model.specs.Box.{Box, first_empty}
 use Rattle.wf_model.specs.Closing.{lost, sweep}
@@ -32,9 +32,9 @@ pub record AreUsers (u : Users) (points executions : ℕ) : Type 0 where
   pub within : (v : ℕ) → v < points → slice_index u.starts.items (v + 1) ≤ length u.executions.items
   pub below : All (λ e. e < executions) u.executions.items
 
--- an execution without a mark had none before, and its points have the words that they had
-abbrev pub IsUntouched : Users → List ℕ → List ℕ → List ℕ → List ℕ → Type 0
-IsUntouched u words marks fewer more = (e : ℕ) → bit_of more e ≡ 0 → (bit_of marks e ≡ 0) × ((v : ℕ) → IsUser u v e → get_or fewer v 0 ≡ get_or words v 0)
+-- an execution without a mark had none before, and its points have the sets that they had
+abbrev pub IsUntouched : Users → List (List ℕ) → List ℕ → List (List ℕ) → List ℕ → Type 0
+IsUntouched u words marks fewer more = (e : ℕ) → bit_of more e ≡ 0 → (bit_of marks e ≡ 0) × ((v : ℕ) → IsUser u v e → get_or fewer v [] ≡ get_or words v [])
 
 -- no execution
 abbrev pub no_execution : Execution
@@ -44,8 +44,8 @@ no_execution = record { rule = 0; points = [] }
 abbrev pub AreTold : Users → List Execution → Type 0
 AreTold u es = (e place : ℕ) → e < length es → place < 4 → IsUser u (slice_index (get_or es e no_execution).points place) e
 
--- after so many changes the words were those of a closed box without an empty point
-pub record WasClosed (p : Problem) (trail : List Change) (words : List ℕ) (n : ℕ) : Type 0 where
+-- after so many changes the sets were those of a closed box without an empty point
+pub record WasClosed (p : Problem) (trail : List Change) (words : List (List ℕ)) (n : ℕ) : Type 0 where
   pub within : n ≤ length trail
   pub filled : first_empty (box_of (words_after n trail words)) ≡ None
   pub closed : (sweep p (box_of (words_after n trail words))).lines ≡ []

@@ -1,7 +1,7 @@
 //! Boxes.
 
-ghost use Rattle.std.specs.Prelude.{◌≡◌, ◌<◌, ◌≤◌, [], true, None, Some, length, take, IfOk};
-ghost use Rattle.std.specs.Bool.{OnTrue};
+ghost use Rattle.std.specs.Prelude.{◌≡◌, ◌≢◌, ◌<◌, ◌≤◌, [], true, None, Some, length, take, IfOk};
+ghost use Rattle.std.specs.Bool.{OnFalse, OnTrue};
 ghost use Rattle.wf_model.specs.Lists.{has};
 ghost use Rattle.wf_model.specs.Box.{candidates, decided, first_empty, first_open, root};
 ghost use Rattle.wf_model.specs.Problem.{IsWellFormed, Problem};
@@ -12,6 +12,7 @@ ghost use Rattle.wf_box.specs.Limits.{most_points};
 
 use crate::marks::Marks;
 use crate::problem::Problem;
+use crate::snapshot::Snapshot;
 use crate::tracked::Tracked;
 use std::alloc::{AllocError, Global};
 use std::marker::Model;
@@ -56,6 +57,7 @@ impl Box0 {
         ensures root { IfOk result (λ boxed. boxed.sets ≡ root problem.now) }
         ensures fresh { IfOk result (λ boxed. boxed.trail ≡ []) }
         ensures is { IfOk result (IsFor problem.now) }
+        ensures open { IfOk result (λ boxed. boxed.closed ≡ None) }
         ensures well_formed { IsWellFormed problem.now }
     {
         let words = vec![in alloc; problem.values; problem.points as usize]?;
@@ -71,6 +73,10 @@ impl Box0 {
         ensures sets { IfOk result (λ boxed. boxed.sets ≡ self.now.sets) }
         ensures fresh { IfOk result (λ boxed. boxed.trail ≡ []) }
         ensures is { IfOk result (λ boxed. (p : Problem) → IsFor p self.now → IsFor p boxed) }
+        ensures closed { self.now.closed ≡ Some (length self.now.trail)
+            → IfOk result (λ boxed. boxed.closed ≡ Some 0) }
+        ensures open { self.now.closed ≢ Some (length self.now.trail)
+            → IfOk result (λ boxed. boxed.closed ≡ None) }
     {
         let words = self.tracked.words.as_slice().to_vec(alloc)?;
         Ok(Box0 {
@@ -80,9 +86,28 @@ impl Box0 {
         })
     }
 
+    /// Its candidates as they are now, in no more memory than they need. Refused for want of memory alone.
+    pub fn keep(&self, alloc: Global) -> Result<Snapshot, AllocError>
+        ensures sets { IfOk result (λ kept. kept.sets ≡ self.now.sets) }
+        ensures fresh { IfOk result (λ kept. kept.trail ≡ []) }
+        ensures is { IfOk result (λ kept. (p : Problem) → IsFor p self.now → IsFor p kept) }
+        ensures closed { self.now.closed ≡ Some (length self.now.trail)
+            → IfOk result (λ kept. kept.closed ≡ Some 0) }
+        ensures open { self.now.closed ≢ Some (length self.now.trail)
+            → IfOk result (λ kept. kept.closed ≡ None) }
+    {
+        let words = self.tracked.words.as_slice();
+        let is_closed = self.is_closed();
+        Ok(Snapshot {
+            sets: words.to_vec(alloc)?,
+            is_closed,
+        })
+    }
+
     /// Whether nothing changed since it was closed.
     fn is_closed(&self) -> bool
         ensures closed { OnTrue result (self.now.closed ≡ Some (length self.now.trail)) }
+        ensures open { OnFalse result (self.now.closed ≢ Some (length self.now.trail)) }
     {
         match self.closed {
             Some(changes) => changes as usize == self.tracked.trail.len(),
@@ -94,6 +119,7 @@ impl Box0 {
     pub fn mark(&self) -> Mark
         ensures changes { result.changes ≡ length self.now.trail }
         ensures closed { OnTrue result.is_closed (self.now.closed ≡ Some (length self.now.trail)) }
+        ensures open { OnFalse result.is_closed (self.now.closed ≢ Some (length self.now.trail)) }
     {
         Mark {
             changes: self.tracked.trail.len() as u32,
@@ -123,6 +149,7 @@ impl Box0 {
         requires { has (candidates self.old.sets point) value ≡ true }
         ensures decided { self.new.sets ≡ decided self.old.sets point value }
         ensures grown { Grows self.old self.new }
+        ensures closed { self.new.closed ≡ self.old.closed }
         ensures is { (p : Problem) → IsFor p self.old → IsFor p self.new }
     {
         self.tracked.set(point, value);

@@ -1,7 +1,6 @@
 //! Closing.
 
-ghost use Rattle.std.specs.Prelude.{◌≡◌, ◌<◌, ◌≤◌, ◌+◌, ◌*◌, ◌++◌, ℕ, List, None, Some, suc, true, length, map, IfOk, IfSome, OnOk, OnErr, IfNone, [], All, slice_index, get_or, ◌^◌, bit_and};
-ghost use Rattle.std.specs.Int.{bit_not, w64};
+ghost use Rattle.std.specs.Prelude.{◌≡◌, ◌<◌, ◌≤◌, ◌+◌, ◌*◌, ◌++◌, ℕ, List, None, Some, suc, true, length, map, IfOk, IfSome, OnOk, OnErr, IfNone, [], All, slice_index, get_or};
 ghost use Rattle.wf_model.specs.Lists.{has};
 ghost use Rattle.wf_model.specs.Problem.{IsSolution, IsWellFormed, Problem, constraint_at};
 ghost use Rattle.wf_model.specs.Box.{LiesIn, candidates, count, first_empty};
@@ -193,8 +192,8 @@ fn mark_changed(
     requires users { AreUsers users.now (length tracked.now.words.items) executions }
     requires marks_long { executions ≤ 64 * length marks.old.words.items }
     requires changes { changes ≤ length tracked.now.trail.items }
-    ensures untouched { (e : ℕ) → bit_of marks.new.words.items e ≡ 0 → (v : ℕ) → IsUser users.now v e → get_or (words_after changes tracked.now.trail.items tracked.now.words.items) v 0 ≡ get_or tracked.now.words.items v 0 }
-    ensures full { OnTrue result ((v : ℕ) → values_in (get_or tracked.now.words.items v 0) ≡ [] → values_in (get_or (words_after changes tracked.now.trail.items tracked.now.words.items) v 0) ≡ []) }
+    ensures untouched { (e : ℕ) → bit_of marks.new.words.items e ≡ 0 → (v : ℕ) → IsUser users.now v e → get_or (words_after changes tracked.now.trail.items tracked.now.words.items) v [] ≡ get_or tracked.now.words.items v [] }
+    ensures full { OnTrue result ((v : ℕ) → values_in (get_or tracked.now.words.items v []) ≡ [] → values_in (get_or (words_after changes tracked.now.trail.items tracked.now.words.items) v []) ≡ []) }
     ensures long { length marks.new.words.items ≡ length marks.old.words.items }
 {
     let points = tracked.words.len() as u32;
@@ -466,7 +465,7 @@ fn supported_at(
 fn candidates_at(execution: Execution, sets: &[Mask]) -> [Mask; 4]
     requires long { length execution.points ≡ 4 }
     requires within { All (λ v. v < length sets.now) execution.points }
-    ensures candidates { result ≡ map (λ v. slice_index sets.now v) execution.points }
+    ensures candidates { result ≡ map (λ v. get_or sets.now v []) execution.points }
     ensures long { length result ≡ 4 }
 {
     let [first, second, third, fourth] = execution.points;

@@ -3,6 +3,7 @@
 //! - [`Problem`]: the constraint problem of a task and its protocol complex. Each input simplex has one table of
 //!   tuples, which its executions share.
 //! - [`Box0`]: the candidates of each point.
+//! - [`Snapshot`]: a box that waits.
 //! - [`close`]: sweeps through the executions until each candidate is supported wherever its point stands.
 #![tactic(auto)]
 
@@ -10,6 +11,7 @@ mod boxed;
 mod closing;
 mod marks;
 mod problem;
+mod snapshot;
 mod taking;
 mod tracked;
 mod users;
@@ -17,3 +19,4 @@ mod users;
 pub use boxed::{Box0, Mark};
 pub use closing::{Closed, close};
 pub use problem::Problem;
+pub use snapshot::Snapshot;

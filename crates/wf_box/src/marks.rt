@@ -1,6 +1,6 @@
 //! Marks on executions.
 
-ghost use Rattle.std.specs.Prelude.{◌≡◌, ◌≢◌, ◌<◌, ◌≤◌, ◌*◌, ◌/◌, ◌+◌, ◌^◌, ℕ, false, All, length, slice_index, vec_len, OnOk, IfSome, IfNone};
+ghost use Rattle.std.specs.Prelude.{◌≡◌, ◌≢◌, ◌<◌, ◌≤◌, ◌*◌, ◌/◌, ◌+◌, ◌^◌, ℕ, All, length, slice_index, OnOk, IfSome, IfNone};
 ghost use Rattle.wf_box.specs.Limits.{most_executions, most_words};
 ghost use Rattle.wf_box.specs.Marks.{IsLast, IsMore, IsNext, TopsTell, bit_of};
 

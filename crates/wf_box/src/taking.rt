@@ -1,13 +1,13 @@
 //! Values are taken out of a box, with a line for each.
 
-ghost use Rattle.std.specs.Prelude.{◌≡◌, ◌<◌, ◌≤◌, ◌+◌, ◌++◌, ◌∷◌, ◌==◌, [], None, Some, true, not, length, filter, get_or, map, vec_len, vec_capacity};
+ghost use Rattle.std.specs.Prelude.{◌≡◌, ◌<◌, ◌≤◌, ◌+◌, ◌++◌, ◌∷◌, [], None, Some, true, length, get_or, map, vec_len, vec_capacity};
 ghost use Rattle.std.specs.Bool.{OnTrue, OnFalse};
 ghost use Rattle.wf_model.specs.Lists.{has};
 ghost use Rattle.wf_model.specs.Problem.{Problem, constraint_at};
 ghost use Rattle.std.specs.List.{slice_set};
 ghost use Rattle.wf_model.specs.Box.{candidates, count};
 ghost use Rattle.wf_model.specs.Closing.{and_then, take_out};
-ghost use Rattle.wf_set.specs.Sets.{box_of, value_limit, values_in};
+ghost use Rattle.wf_set.specs.Sets.{box_of, values_in};
 ghost use Rattle.wf_complex.specs.Protocol.{point_in};
 ghost use Rattle.wf_box.specs.Closes.{EndsAt};
 ghost use Rattle.wf_box.specs.Steps.{HasRoom, IsNamed, IsSpent, loss, point_if, reached, take_present};
@@ -31,7 +31,7 @@ pub(crate) fn take_each(values: Mask, place: Place, sets: &mut [Mask], lines: &m
     ensures step { reached lines.new.items (point_if result place.point) sets.new
         ≡ and_then (reached lines.old.items None sets.old) (take_present place.execution (map (loss place.process place.point) (values_in values))) }
     ensures long { length sets.new ≡ length sets.old }
-    ensures others { sets.new ≡ slice_set sets.old place.point (get_or sets.new place.point 0) }
+    ensures others { sets.new ≡ slice_set sets.old place.point (get_or sets.new place.point []) }
     ensures fewer { count (box_of sets.new) ≤ count (box_of sets.old) }
     ensures same { count (box_of sets.new) ≡ count (box_of sets.old) → sets.new ≡ sets.old }
     ensures emptied { OnTrue result (EndsAt lines.new.items (box_of sets.new) place.point) }
@@ -41,7 +41,8 @@ pub(crate) fn take_each(values: Mask, place: Place, sets: &mut [Mask], lines: &m
     ensures spent { OnFalse result (IsSpent lines.old sets.old lines.new sets.new) }
 {
     let mut left = values;
-    'values: while let Some((value, rest)) = split_first(left) {
+    'values: while let Some(next) = split_first(left) {
+        let (value, rest) = next;
         left = rest;
         if holds(sets[place.point as usize], value) && take_out(value, place, sets, lines) {
             return true;
@@ -53,14 +54,13 @@ pub(crate) fn take_each(values: Mask, place: Place, sets: &mut [Mask], lines: &m
 /// Takes a candidate out, and adds its line. Where this empties the point, the line for that follows, and the answer
 /// is true.
 fn take_out(value: u8, place: Place, sets: &mut [Mask], lines: &mut Lines) -> bool
-    requires value { value < value_limit }
     requires point { place.point < length sets.old }
     requires present { has (candidates (box_of sets.old) place.point) value ≡ true }
     requires room { HasRoom lines.old sets.old }
     ensures step { reached lines.new.items (point_if result place.point) sets.new
         ≡ and_then (reached lines.old.items None sets.old) (take_out place.execution (loss place.process place.point value)) }
     ensures long { length sets.new ≡ length sets.old }
-    ensures others { sets.new ≡ slice_set sets.old place.point (get_or sets.new place.point 0) }
+    ensures others { sets.new ≡ slice_set sets.old place.point (get_or sets.new place.point []) }
     ensures fewer { count (box_of sets.new) ≤ count (box_of sets.old) }
     ensures same { count (box_of sets.new) ≡ count (box_of sets.old) → sets.new ≡ sets.old }
     ensures emptied { OnTrue result (EndsAt lines.new.items (box_of sets.new) place.point) }

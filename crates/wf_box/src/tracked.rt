@@ -68,7 +68,7 @@ impl Tracked {
     pub(crate) fn note(&mut self, point: u32, before: Mask)
         requires kept { IsTracked (slice_set self.old.words.items point before) self.old.trail.items (vec_capacity self.old.trail) self.old.count self.old.open_from }
         requires within { point < length self.old.words.items }
-        requires fewer { length (values_in (get_or self.old.words.items point 0)) < length (values_in before) }
+        requires fewer { length (values_in (get_or self.old.words.items point [])) < length (values_in before) }
         ensures kept { KeepsTrack self.new }
         ensures words { self.new.words.items ≡ self.old.words.items }
         ensures trail { self.new.trail.items ≡ self.old.trail.items ++ record { point = point; before = before } ∷ [] }
@@ -101,7 +101,8 @@ impl Tracked {
         if let Some(change) = self.trail.pop() {
             let now = self.words[change.point as usize];
             self.count = self.count + size(change.before) - size(now);
-            self.words[change.point as usize] = change.before;
+            let before = change.before;
+            self.words[change.point as usize] = before;
             self.open_from = open_from_with(self.open_from, change);
         }
     }

@@ -1,29 +1,27 @@
 -- Steps of the loops over values, and over blocks of rows.
-use Rattle.std.proofs.Common.{◌≡◌, ℕ, zero, suc, ◌+◌, ◌*◌, ◌<◌, ◌^◌, List, [], ◌∷◌, ◌++◌, length, take, map, filter, replicate, Bool, true, false, cond, not, ◌&&◌, refl, sym, ◌∙◌, ap, arith, ⊎_elim, subst, eqb-true, pow_pos, w64}
+use Rattle.std.proofs.Common.{◌≡◌, ℕ, zero, suc, ◌+◌, ◌*◌, ◌<◌, ◌^◌, List, [], ◌∷◌, ◌++◌, length, take, map, filter, replicate, Bool, true, false, cond, not, ◌&&◌, refl, sym, ◌∙◌, ap, arith, ⊎_elim, subst, eqb-true}
 use Rattle.std.specs.Prelude.{bit_and, bit_or, count_by, slice_index, ◌||◌, ◌==◌}
-use Rattle.std.specs.Int.{bit_at, trailing_zeros}
+use Rattle.std.specs.Int.{bit_at}
 use Rattle.std.specs.Int.Bits.{or_zero_l, or_zero_r}
 use Rattle.std.specs.List.{All, list_any}
 use Rattle.std.specs.Simd.Lanes.{zip2, chunk}
 use Rattle.std.proofs.Math.Seq.{take-add}
 use Rattle.std.proofs.Math.Bool.{and-true}
 use Rattle.std.proofs.lemmas.Bool.{cases_eq, eq-eqb, ne_eqb}
-use Rattle.std.proofs.lemmas.Nat.{or_lt, pow_below}
 use Rattle.std.proofs.lemmas.Nat.Bits.{bit_at-lt, same_from_bits_below}
 use Rattle.std.proofs.lemmas.Simd.{zip2_splat, zip2_splat_left}
 use Rattle.std.proofs.lemmas.List.Elements.{All-head, All-tail, All-nil, All-cons, All-weaker}
 use Rattle.std.proofs.lemmas.List.Folds.{list_any-append}
 use Rattle.std.proofs.lemmas.List.Sums.{sum_by-append, sum_by-cons}
-use Rattle.std.proofs.lemmas.Map.Views.{any-filter_same}
 use Rattle.wf_model.specs.Lists.{has}
 use Rattle.wf_model.proofs.Basics.{or_assoc}
-use Rattle.wf_set.specs.Sets.{holds, values_in}
-use Rattle.wf_set.proofs.SetLaws.{has-values_in, holds-or, holds_nothing}
+use Rattle.wf_set.specs.Parts.{part_holds, part_values}
+use Rattle.wf_set.proofs.PartLaws.{has-part_values, part_holds-or, holds_nothing}
 use Rattle.wf_lane.specs.Words.{Words, is_live, joined_words, ors, meets}
 use Rattle.wf_lane.specs.Table.{IsOneHot, AreOneHot, value_of}
 use Rattle.wf_lane.specs.declared.column.Column.{Column}
 use Rattle.wf_lane.specs.Rows.{AreLeft, OccurIn, is_among, is_met, is_one_of, is_value, row_sets}
-use Rattle.wf_lane.proofs.Values.{meets_list, value_small, word_holds}
+use Rattle.wf_lane.proofs.Values.{has-filter, joined_small, meets_list, value_small, word_holds}
 use Rattle.wf_lane.proofs.RowLemmas.{rows_either, rows_both, rows_cong, rows_none, rows_of-map, any_row, length-row_sets}
 
 -- ---- values in a set
@@ -31,10 +29,6 @@ use Rattle.wf_lane.proofs.RowLemmas.{rows_either, rows_both, rows_cong, rows_non
 swapped : (a b : ℕ) → (a == b) ≡ (b == a)
 swapped a b =
     ⊎_elim (λ (e : a ≡ b). eq-eqb a b e ∙ sym (eq-eqb b a (sym e))) (λ (ne : a ≡ b → ⊥). ne_eqb a b ne ∙ sym (ne_eqb b a (λ e. ne (sym e)))) (cases_eq a b)
-
--- a filter keeps the values that pass its test
-pub has-filter : (p : ℕ → Bool) (xs : List ℕ) (v : ℕ) → has (filter p xs) v ≡ (p v && has xs v)
-has-filter p xs v = any-filter_same (λ y. y == v) p (p v) (λ k e. ap p (eqb-true k v e)) xs
 
 both_true : (x y : Bool) → (x && y) ≡ true → x ≡ true
 both_true true y e = refl
@@ -50,14 +44,11 @@ or_true true = refl
 or_true false = refl
 
 -- what is left after the least value is among the values
-pub later_occur : (c : Column) (left t others : ℕ) → values_in left ≡ t ∷ values_in others → OccurIn c left → OccurIn c others
+pub later_occur : (c : Column) (left t others : ℕ) → part_values left ≡ t ∷ part_values others → OccurIn c left → OccurIn c others
 later_occur c left t others split occur v h = occur v (ap (λ vs. has vs v) split ∙ ap (λ b. t == v || b) h ∙ or_true (t == v))
 
-pub wanted_occur : (c : Column) (candidates wanted : ℕ) → values_in wanted ≡ filter (has (values_in c.values)) (values_in candidates) → OccurIn c wanted
-wanted_occur c candidates wanted e v h = both_true (has (values_in c.values) v) (has (values_in candidates) v) (sym (has-filter (has (values_in c.values)) (values_in candidates) v) ∙ sym (ap (λ vs. has vs v) e) ∙ h)
-
-pub left_occur : (c : Column) (left values : ℕ) (met : ℕ → Bool) → AreLeft left values met → OccurIn c values → OccurIn c left
-left_occur c left values met are occur v h = occur v (both_true (has (values_in values) v) (not (met v)) (sym (are v) ∙ h))
+pub wanted_occur : (c : Column) (candidates wanted : ℕ) → part_values wanted ≡ filter (has (part_values c.values)) (part_values candidates) → OccurIn c wanted
+wanted_occur c candidates wanted e v h = both_true (has (part_values c.values) v) (has (part_values candidates) v) (sym (has-filter (has (part_values c.values)) (part_values candidates) v) ∙ sym (ap (λ vs. has vs v) e) ∙ h)
 
 -- ---- joining lanes
 
@@ -84,12 +75,12 @@ with_value v words start = row_sets (is_value v) words start 8
 pub among_start : (values : ℕ) (words : List ℕ) (start : ℕ) → zip2 bit_or (replicate 8 0) (among values words start) ≡ among values words start
 among_start values words start = zip2_splat_left bit_or 0 8 (among values words start) (length-row_sets (is_one_of values) words start 8) ∙ nothing_or (among values words start)
 
-pub among_end : (joined : List ℕ) (left : ℕ) (words : List ℕ) (start : ℕ) → length joined ≡ 8 → values_in left ≡ [] → zip2 bit_or joined (among left words start) ≡ joined
+pub among_end : (joined : List ℕ) (left : ℕ) (words : List ℕ) (start : ℕ) → length joined ≡ 8 → part_values left ≡ [] → zip2 bit_or joined (among left words start) ≡ joined
 among_end joined left words start long none =
     ap (zip2 bit_or joined) (rows_cong (is_one_of left) (λ w. false) words start 8 (λ w. ap (λ vs. has vs (value_of w)) none) ∙ rows_none words start)
     ∙ zip2_splat bit_or joined 8 0 long ∙ or_nothing joined
 
-pub among_step : (joined : List ℕ) (left t others : ℕ) (words : List ℕ) (start : ℕ) → values_in left ≡ t ∷ values_in others → zip2 bit_or (zip2 bit_or joined (with_value t words start)) (among others words start) ≡ zip2 bit_or joined (among left words start)
+pub among_step : (joined : List ℕ) (left t others : ℕ) (words : List ℕ) (start : ℕ) → part_values left ≡ t ∷ part_values others → zip2 bit_or (zip2 bit_or joined (with_value t words start)) (among others words start) ≡ zip2 bit_or joined (among left words start)
 among_step joined left t others words start split =
     lanes_assoc joined (with_value t words start) (among others words start)
     ∙ ap (zip2 bit_or joined)
@@ -123,12 +114,12 @@ other_test true o c true = refl
 other_test true o c false = refl
 other_test false o c t = refl
 
-pub unmet_step : (c : ℕ → Bool) (unmet next left t others v : ℕ) → values_in left ≡ t ∷ values_in others → values_in next ≡ cond (c t) (filter (λ x. not (x == t)) (values_in unmet)) (values_in unmet)
-    → (has (values_in next) v && not (has (values_in others) v && c v)) ≡ (has (values_in unmet) v && not (has (values_in left) v && c v))
+pub unmet_step : (c : ℕ → Bool) (unmet next left t others v : ℕ) → part_values left ≡ t ∷ part_values others → part_values next ≡ cond (c t) (filter (λ x. not (x == t)) (part_values unmet)) (part_values unmet)
+    → (has (part_values next) v && not (has (part_values others) v && c v)) ≡ (has (part_values unmet) v && not (has (part_values left) v && c v))
 unmet_step c unmet next left t others v split e =
-    let u = has (values_in unmet) v in
-    let o = has (values_in others) v in
-    ap (λ b. b && not (o && c v)) (ap (λ vs. has vs v) e ∙ kept_if (c t) t v (values_in unmet))
+    let u = has (part_values unmet) v in
+    let o = has (part_values others) v in
+    ap (λ b. b && not (o && c v)) (ap (λ vs. has vs v) e ∙ kept_if (c t) t v (part_values unmet))
     ∙ ⊎_elim
     (λ (same : t ≡ v).
     ap (λ b. (u && not (b && (v == t))) && not (o && c v)) (ap c same)
@@ -146,11 +137,11 @@ start_test : (h c : Bool) → (h && not (h && c)) ≡ (h && not c)
 start_test true c = refl
 start_test false c = refl
 
-pub unmet_start : (c : ℕ → Bool) (values v : ℕ) → (has (values_in values) v && not (has (values_in values) v && c v)) ≡ (has (values_in values) v && not (c v))
-unmet_start c values v = start_test (has (values_in values) v) (c v)
+pub unmet_start : (c : ℕ → Bool) (values v : ℕ) → (has (part_values values) v && not (has (part_values values) v && c v)) ≡ (has (part_values values) v && not (c v))
+unmet_start c values v = start_test (has (part_values values) v) (c v)
 
-pub unmet_end : (c : ℕ → Bool) (unmet left v : ℕ) → values_in left ≡ [] → (has (values_in unmet) v && not (has (values_in left) v && c v)) ≡ has (values_in unmet) v
-unmet_end c unmet left v none = ap (λ vs. has (values_in unmet) v && not (has vs v && c v)) none ∙ and-true (has (values_in unmet) v)
+pub unmet_end : (c : ℕ → Bool) (unmet left v : ℕ) → part_values left ≡ [] → (has (part_values unmet) v && not (has (part_values left) v && c v)) ≡ has (part_values unmet) v
+unmet_end c unmet left v none = ap (λ vs. has (part_values unmet) v && not (has vs v && c v)) none ∙ and-true (has (part_values unmet) v)
 
 -- ---- the rows of four columns
 
@@ -185,7 +176,7 @@ abbrev pub AreUnmet : ℕ → List ℕ → ℕ → (Words → ℕ) → List Word
 AreUnmet unmet s wanted w rows = AreLeft unmet wanted (λ v. list_any (has_value s w v) rows)
 
 pub no_rows_yet : (s : List ℕ) (wanted : ℕ) (w : Words → ℕ) → AreUnmet wanted s wanted w []
-no_rows_yet s wanted w v = sym (and-true (has (values_in wanted) v))
+no_rows_yet s wanted w v = sym (and-true (has (part_values wanted) v))
 
 any_and : {X : Type 0} (b : Bool) (p : X → Bool) (xs : List X) → ((x : X) → p x ≡ true → b ≡ true) → (b && list_any p xs) ≡ list_any p xs
 any_and true p xs h = refl
@@ -219,10 +210,10 @@ unmet_more s w rows words unmet next wanted live block col lanes before step v =
     ∙ ap (λ l. not (ors l == 0)) (rows_both (is_among s) (λ r. is_value v (w r)) rows (8 * block) 8)
     ∙ any_row p rows (8 * block) 8 in
     step v
-    ∙ ap (λ b. has (values_in unmet) v && not b) met
+    ∙ ap (λ b. has (part_values unmet) v && not b) met
     ∙ ap (λ b. b && not (list_any p here)) (before v)
-    ∙ left_test (has (values_in wanted) v) (list_any p seen) (list_any p here)
-    ∙ ap (λ b. has (values_in wanted) v && not b) (sym (ap (list_any p) (blocks_more rows block) ∙ list_any-append p seen here))
+    ∙ left_test (has (part_values wanted) v) (list_any p seen) (list_any p here)
+    ∙ ap (λ b. has (part_values wanted) v && not b) (sym (ap (list_any p) (blocks_more rows block) ∙ list_any-append p seen here))
 
 pub count_more_rows : (s : List ℕ) (rows : List Words) (block : ℕ) → count_by (is_among s) (take (512 * (block + 1)) rows) ≡ count_by (is_among s) (take (512 * block) rows) + count_by (is_among s) (chunk (64 * (8 * block)) (64 * 8) rows)
 count_more_rows s rows block = ap (count_by (is_among s)) (blocks_more rows block) ∙ sum_by-append (λ x. cond (is_among s x) 1 0) (take (512 * block) rows) (chunk (64 * (8 * block)) (64 * 8) rows)
@@ -256,23 +247,23 @@ module _ (s : List ℕ) (r : Words) (h : is_among s r ≡ true) where
 -- ---- all blocks together
 
 -- the values of these rows occur
-occurring : (w : Words → ℕ) → ((r : Words) → AreOneHot r → IsOneHot (w r)) → (rows : List Words) → All AreOneHot rows → All (λ r. holds (ors (map w rows)) (value_of (w r)) ≡ true) rows
-occurring w one [] h = All-nil (λ r. holds (ors (map w [])) (value_of (w r)) ≡ true)
+occurring : (w : Words → ℕ) → ((r : Words) → AreOneHot r → IsOneHot (w r)) → (rows : List Words) → All AreOneHot rows → All (λ r. part_holds (ors (map w rows)) (value_of (w r)) ≡ true) rows
+occurring w one [] h = All-nil (λ r. part_holds (ors (map w [])) (value_of (w r)) ≡ true)
 occurring w one (r ∷ rows) h =
     let hot = one r (All-head AreOneHot r rows h) in
     let rest = ors (map w rows) in
-    All-cons (λ k. holds (bit_or (w r) rest) (value_of (w k)) ≡ true) r rows
-    (holds-or (w r) rest (value_of (w r)) ∙ ap (λ b. b || holds rest (value_of (w r))) (word_holds (w r) (value_of (w r)) hot ∙ eq-eqb (value_of (w r)) (value_of (w r)) refl))
-    (All-weaker (λ k. holds rest (value_of (w k)) ≡ true) (λ k. holds (bit_or (w r) rest) (value_of (w k)) ≡ true)
-    (λ k yes_so. holds-or (w r) rest (value_of (w k)) ∙ ap (λ b. holds (w r) (value_of (w k)) || b) yes_so ∙ or_true (holds (w r) (value_of (w k))))
+    All-cons (λ k. part_holds (bit_or (w r) rest) (value_of (w k)) ≡ true) r rows
+    (part_holds-or (w r) rest (value_of (w r)) ∙ ap (λ b. b || part_holds rest (value_of (w r))) (word_holds (w r) (value_of (w r)) hot ∙ eq-eqb (value_of (w r)) (value_of (w r)) refl))
+    (All-weaker (λ k. part_holds rest (value_of (w k)) ≡ true) (λ k. part_holds (bit_or (w r) rest) (value_of (w k)) ≡ true)
+    (λ k yes_so. part_holds-or (w r) rest (value_of (w k)) ∙ ap (λ b. part_holds (w r) (value_of (w k)) || b) yes_so ∙ or_true (part_holds (w r) (value_of (w k))))
     rows (occurring w one rows (All-tail AreOneHot r rows h)))
 
 -- whether a candidate that occurs is wanted
-wanted_test : (wanted candidates values word : ℕ) → values_in wanted ≡ filter (has (values_in values)) (values_in candidates) → IsOneHot word → holds values (value_of word) ≡ true → is_one_of wanted word ≡ meets word candidates
+wanted_test : (wanted candidates values word : ℕ) → part_values wanted ≡ filter (has (part_values values)) (part_values candidates) → IsOneHot word → part_holds values (value_of word) ≡ true → is_one_of wanted word ≡ meets word candidates
 wanted_test wanted candidates values word e hot occurs =
     ap (λ vs. has vs (value_of word)) e
-    ∙ has-filter (has (values_in values)) (values_in candidates) (value_of word)
-    ∙ ap (λ b. b && is_one_of candidates word) (has-values_in values (value_of word) (value_small word hot) ∙ occurs)
+    ∙ has-filter (has (part_values values)) (part_values candidates) (value_of word)
+    ∙ ap (λ b. b && is_one_of candidates word) (has-part_values values (value_of word) (value_small word hot) ∙ occurs)
     ∙ sym (meets_list word candidates hot)
 
 -- the values of four columns
@@ -284,7 +275,7 @@ pub record HaveValues (values : List ℕ) (rows : List Words) : Type 0 where
 
 -- of the candidates, those that occur
 abbrev pub IsWanted : ℕ → ℕ → ℕ → Type 0
-IsWanted wanted candidates values = values_in wanted ≡ filter (has (values_in values)) (values_in candidates)
+IsWanted wanted candidates values = part_values wanted ≡ filter (has (part_values values)) (part_values candidates)
 
 pub record AreWanted (wanted candidates values : List ℕ) : Type 0 where
   pub first : IsWanted (slice_index wanted 0) (slice_index candidates 0) (slice_index values 0)
@@ -297,15 +288,15 @@ four_same a b c d a' b' c' d' e f g h = ap (λ x. x && b && c && d) e ∙ ap (λ
 
 module _ (wanted candidates values : List ℕ) (w : AreWanted wanted candidates values) where
   alike : (rows : List Words) → All AreOneHot rows
-      → All (λ r. holds (slice_index values 0) (value_of r.first) ≡ true) rows → All (λ r. holds (slice_index values 1) (value_of r.second) ≡ true) rows
-      → All (λ r. holds (slice_index values 2) (value_of r.third) ≡ true) rows → All (λ r. holds (slice_index values 3) (value_of r.fourth) ≡ true) rows
+      → All (λ r. part_holds (slice_index values 0) (value_of r.first) ≡ true) rows → All (λ r. part_holds (slice_index values 1) (value_of r.second) ≡ true) rows
+      → All (λ r. part_holds (slice_index values 2) (value_of r.third) ≡ true) rows → All (λ r. part_holds (slice_index values 3) (value_of r.fourth) ≡ true) rows
       → All (λ r. is_among wanted r ≡ is_live candidates r) rows
   alike [] h a b c d = All-nil (λ r. is_among wanted r ≡ is_live candidates r)
   alike (r ∷ rows) h a b c d =
-      let P0 = λ (k : Words). holds (slice_index values 0) (value_of k.first) ≡ true in
-      let P1 = λ (k : Words). holds (slice_index values 1) (value_of k.second) ≡ true in
-      let P2 = λ (k : Words). holds (slice_index values 2) (value_of k.third) ≡ true in
-      let P3 = λ (k : Words). holds (slice_index values 3) (value_of k.fourth) ≡ true in
+      let P0 = λ (k : Words). part_holds (slice_index values 0) (value_of k.first) ≡ true in
+      let P1 = λ (k : Words). part_holds (slice_index values 1) (value_of k.second) ≡ true in
+      let P2 = λ (k : Words). part_holds (slice_index values 2) (value_of k.third) ≡ true in
+      let P3 = λ (k : Words). part_holds (slice_index values 3) (value_of k.fourth) ≡ true in
       let hot = All-head AreOneHot r rows h in
       All-cons (λ k. is_among wanted k ≡ is_live candidates k) r rows
       (four_same _ _ _ _ _ _ _ _
@@ -318,32 +309,21 @@ module _ (wanted candidates values : List ℕ) (w : AreWanted wanted candidates 
   pub tests_alike : (rows : List Words) → All AreOneHot rows → HaveValues values rows → All (λ r. is_among wanted r ≡ is_live candidates r) rows
   tests_alike rows h v =
       alike rows h
-      (subst (λ n. All (λ r. holds n (value_of r.first) ≡ true) rows) (sym v.first) (occurring (λ r. r.first) (λ r k. k.first) rows h))
-      (subst (λ n. All (λ r. holds n (value_of r.second) ≡ true) rows) (sym v.second) (occurring (λ r. r.second) (λ r k. k.second) rows h))
-      (subst (λ n. All (λ r. holds n (value_of r.third) ≡ true) rows) (sym v.third) (occurring (λ r. r.third) (λ r k. k.third) rows h))
-      (subst (λ n. All (λ r. holds n (value_of r.fourth) ≡ true) rows) (sym v.fourth) (occurring (λ r. r.fourth) (λ r k. k.fourth) rows h))
+      (subst (λ n. All (λ r. part_holds n (value_of r.first) ≡ true) rows) (sym v.first) (occurring (λ r. r.first) (λ r k. k.first) rows h))
+      (subst (λ n. All (λ r. part_holds n (value_of r.second) ≡ true) rows) (sym v.second) (occurring (λ r. r.second) (λ r k. k.second) rows h))
+      (subst (λ n. All (λ r. part_holds n (value_of r.third) ≡ true) rows) (sym v.third) (occurring (λ r. r.third) (λ r k. k.third) rows h))
+      (subst (λ n. All (λ r. part_holds n (value_of r.fourth) ≡ true) rows) (sym v.fourth) (occurring (λ r. r.fourth) (λ r k. k.fourth) rows h))
 
-kept_word : (b : Bool) (word v : ℕ) → IsOneHot word → holds (cond b word 0) v ≡ (b && is_value v word)
+kept_word : (b : Bool) (word v : ℕ) → IsOneHot word → part_holds (cond b word 0) v ≡ (b && is_value v word)
 kept_word true word v hot = word_holds word v hot
 kept_word false word v hot = holds_nothing v
 
-joined_holds : (s t : List ℕ) (w : Words → ℕ) (v : ℕ) → ((r : Words) → AreOneHot r → IsOneHot (w r)) → (rows : List Words) → All AreOneHot rows → All (λ r. is_among t r ≡ is_live s r) rows → holds (joined_words s w rows) v ≡ list_any (has_value t w v) rows
+joined_holds : (s t : List ℕ) (w : Words → ℕ) (v : ℕ) → ((r : Words) → AreOneHot r → IsOneHot (w r)) → (rows : List Words) → All AreOneHot rows → All (λ r. is_among t r ≡ is_live s r) rows → part_holds (joined_words s w rows) v ≡ list_any (has_value t w v) rows
 joined_holds s t w v one [] h same = holds_nothing v
 joined_holds s t w v one (r ∷ rows) h same =
-    holds-or (cond (is_live s r) (w r) 0) (joined_words s w rows) v
-    ∙ ap (λ b. b || holds (joined_words s w rows) v) (kept_word (is_live s r) (w r) v (one r (All-head AreOneHot r rows h)) ∙ ap (λ b. b && is_value v (w r)) (sym (All-head (λ k. is_among t k ≡ is_live s k) r rows same)))
+    part_holds-or (cond (is_live s r) (w r) 0) (joined_words s w rows) v
+    ∙ ap (λ b. b || part_holds (joined_words s w rows) v) (kept_word (is_live s r) (w r) v (one r (All-head AreOneHot r rows h)) ∙ ap (λ b. b && is_value v (w r)) (sym (All-head (λ k. is_among t k ≡ is_live s k) r rows same)))
     ∙ ap (λ b. has_value t w v r || b) (joined_holds s t w v one rows (All-tail AreOneHot r rows h) (All-tail (λ k. is_among t k ≡ is_live s k) r rows same))
-
-word_small : (word : ℕ) → IsOneHot word → word < 2 ^ 64
-word_small word hot = subst (λ n. n < 2 ^ 64) (sym hot.power) (pow_below (trailing_zeros w64 word) 64 hot.small)
-
-cond_small : (b : Bool) (word : ℕ) → word < 2 ^ 64 → cond b word 0 < 2 ^ 64
-cond_small true word h = h
-cond_small false word h = pow_pos 64
-
-joined_small : (s : List ℕ) (w : Words → ℕ) → ((r : Words) → AreOneHot r → IsOneHot (w r)) → (rows : List Words) → All AreOneHot rows → joined_words s w rows < 2 ^ 64
-joined_small s w one [] h = pow_pos 64
-joined_small s w one (r ∷ rows) h = or_lt 64 (cond (is_live s r) (w r) 0) (joined_words s w rows) (cond_small (is_live s r) (w r) (word_small (w r) (one r (All-head AreOneHot r rows h)))) (joined_small s w one rows (All-tail AreOneHot r rows h))
 
 one_bit : (m n : ℕ) → m < 2 → n < 2 → (m == 1) ≡ (n == 1) → m ≡ n
 one_bit zero zero h k e = refl
@@ -360,21 +340,21 @@ mask_test true false = refl
 mask_test false a = refl
 
 -- the wanted values that were met are those of the live rows
-pub whole_mask : (s t : List ℕ) (w : Words → ℕ) (mask wanted unmet : ℕ) (rows : List Words) → ((r : Words) → AreOneHot r → IsOneHot (w r)) → ((r : Words) → is_among t r ≡ true → is_one_of wanted (w r) ≡ true) → All AreOneHot rows → All (λ r. is_among t r ≡ is_live s r) rows → mask < 2 ^ 64 → values_in mask ≡ filter (λ v. not (has (values_in unmet) v)) (values_in wanted) → AreUnmet unmet t wanted w rows → mask ≡ joined_words s w rows
+pub whole_mask : (s t : List ℕ) (w : Words → ℕ) (mask wanted unmet : ℕ) (rows : List Words) → ((r : Words) → AreOneHot r → IsOneHot (w r)) → ((r : Words) → is_among t r ≡ true → is_one_of wanted (w r) ≡ true) → All AreOneHot rows → All (λ r. is_among t r ≡ is_live s r) rows → mask < 2 ^ 64 → part_values mask ≡ filter (λ v. not (has (part_values unmet) v)) (part_values wanted) → AreUnmet unmet t wanted w rows → mask ≡ joined_words s w rows
 whole_mask s t w mask wanted unmet rows one part h same fits e are =
     let joined = joined_words s w rows in
     same_from_bits_below 64 mask joined fits (joined_small s w one rows h)
     (λ v small.
     let found = list_any (has_value t w v) rows in
-    let wants = has (values_in wanted) v in
+    let wants = has (part_values wanted) v in
     one_bit (bit_at mask v) (bit_at joined v) (bit_at-lt mask v) (bit_at-lt joined v)
-    (sym (has-values_in mask v small)
+    (sym (has-part_values mask v small)
     ∙ ap (λ vs. has vs v) e
-    ∙ has-filter (λ k. not (has (values_in unmet) k)) (values_in wanted) v
+    ∙ has-filter (λ k. not (has (part_values unmet) k)) (part_values wanted) v
     ∙ ap (λ b. not b && wants) (are v)
     ∙ mask_test wants found
     ∙ any_and wants (has_value t w v) rows
-    (λ r yes_so. subst (λ k. has (values_in wanted) k ≡ true) (eqb-true (value_of (w r)) v (both_true_r (is_among t r) (is_value v (w r)) yes_so)) (part r (both_true (is_among t r) (is_value v (w r)) yes_so)))
+    (λ r yes_so. subst (λ k. has (part_values wanted) k ≡ true) (eqb-true (value_of (w r)) v (both_true_r (is_among t r) (is_value v (w r)) yes_so)) (part r (both_true (is_among t r) (is_value v (w r)) yes_so)))
     ∙ sym (joined_holds s t w v one rows h same)))
 
 pub whole_count : (s t : List ℕ) (rows : List Words) → All (λ r. is_among t r ≡ is_live s r) rows → count_by (is_among t) rows ≡ count_by (is_live s) rows

@@ -10,8 +10,8 @@ use Rattle.std.proofs.lemmas.Simd.{mask_l-lt}
 use Rattle.std.proofs.lemmas.List.{take_more, take_all, drop_all, drop-append-le, take-append-le, length-drop, length-take, length-map, length-append, get_or_append_left, get_or_push}
 use Rattle.std.specs.Int.Bits.{or_zero_r}
 use Rattle.wf_model.specs.Lists.{has}
-use Rattle.wf_set.specs.Sets.{values_in}
-use Rattle.wf_set.proofs.SetLaws.{has-values_in, has_large}
+use Rattle.wf_set.specs.Parts.{part_values}
+use Rattle.wf_set.proofs.PartLaws.{has-part_values, has_large}
 use Rattle.wf_lane.specs.Words.{ors}
 use Rattle.wf_lane.specs.Rows.{IsCut, block_limit, is_value, row_set, row_sets}
 use Rattle.wf_lane.specs.declared.column.Column.{Column}
@@ -40,20 +40,17 @@ mask_small p xs i n k le =
     let short : length (map p ys) ≤ k = omega (arith, le, length-map ys p, length-take n (drop i xs)) in
     omega (arith, mask_l-lt (map p ys), pow_mono {i = length (map p ys)} {j = k} short)
 
-nothing_taken : {X : Type 0} (i : ℕ) (xs : List X) → take 0 (drop i xs) ≡ []
-nothing_taken i xs = refl
-
 one_hot_at : (words : List ℕ) (i : ℕ) → All IsOneHot words → i < length words → IsOneHot (get_or words i 0)
 one_hot_at [] i h lt = absurd (omega arith)
 one_hot_at (w ∷ words) zero h lt = All-head IsOneHot w words h
 one_hot_at (w ∷ words) (suc i) h lt = one_hot_at words i (All-tail IsOneHot w words h) (omega arith)
 
-pub row_step : (value : ℕ) (words : List ℕ) (i end set bit : ℕ) (b : Bool) → All IsOneHot words → value < 64 → 0 < i → i ≤ end → end ≤ length words → set ≡ mask_l (map (is_value value) (chunk i (end - i) words)) → bit ≡ cond b 1 0 → b ≡ has (values_in (get_or words (i - 1) 0)) value → 2 * set + bit ≡ mask_l (map (is_value value) (chunk (i - 1) (end - (i - 1)) words))
+pub row_step : (value : ℕ) (words : List ℕ) (i end set bit : ℕ) (b : Bool) → All IsOneHot words → value < 64 → 0 < i → i ≤ end → end ≤ length words → set ≡ mask_l (map (is_value value) (chunk i (end - i) words)) → bit ≡ cond b 1 0 → b ≡ has (part_values (get_or words (i - 1) 0)) value → 2 * set + bit ≡ mask_l (map (is_value value) (chunk (i - 1) (end - (i - 1)) words))
 row_step value words i end set bit b hot small pos in_end in_list so is_bit is =
     let p = is_value value in
     let lt : i - 1 < length words = omega (arith, pos, in_end, in_list) in
     let word = get_or words (i - 1) 0 in
-    let test : b ≡ p word = is ∙ has-values_in word value small ∙ word_holds word value (one_hot_at words (i - 1) hot lt) in
+    let test : b ≡ p word = is ∙ has-part_values word value small ∙ word_holds word value (one_hot_at words (i - 1) hot lt) in
     let swapped : 2 * set + bit ≡ bit + 2 * set = omega arith in
     swapped
     ∙ ap (λ n. n + 2 * set) (is_bit ∙ ap (λ t. cond t 1 0) test)
@@ -101,20 +98,17 @@ bit_small false = omega arith
 -- the sets of the values before this one stand at their starts
 pub record AreMarked (next values blocks : ℕ) (starts sets words : List ℕ) : Type 0 where
   pub long : length starts ≡ next
-  pub within : (v : ℕ) → v < next → has (values_in values) v ≡ true → slice_index starts v + 8 * blocks ≤ length sets
-  pub marked : (v : ℕ) → v < next → has (values_in values) v ≡ true → chunk (slice_index starts v) (8 * blocks) sets ≡ row_sets (is_value v) words 0 (8 * blocks)
+  pub within : (v : ℕ) → v < next → has (part_values values) v ≡ true → slice_index starts v + 8 * blocks ≤ length sets
+  pub marked : (v : ℕ) → v < next → has (part_values values) v ≡ true → chunk (slice_index starts v) (8 * blocks) sets ≡ row_sets (is_value v) words 0 (8 * blocks)
 
-pub nothing_marked : (values blocks : ℕ) (words : List ℕ) → AreMarked 0 values blocks [] [] words
-nothing_marked values blocks words = record { long = refl; within = λ v lt. absurd (omega arith); marked = λ v lt. absurd (omega arith) }
-
-pub one_marked : (next values blocks : ℕ) (starts sets words starts' sets' : List ℕ) (start : ℕ) (b : Bool) → AreMarked next values blocks starts sets words → start ≡ length sets → starts' ≡ starts ++ start ∷ [] → b ≡ has (values_in values) next → sets' ≡ sets ++ cond b (row_sets (is_value next) words 0 (8 * blocks)) [] → AreMarked (next + 1) values blocks starts' sets' words
+pub one_marked : (next values blocks : ℕ) (starts sets words starts' sets' : List ℕ) (start : ℕ) (b : Bool) → AreMarked next values blocks starts sets words → start ≡ length sets → starts' ≡ starts ++ start ∷ [] → b ≡ has (part_values values) next → sets' ≡ sets ++ cond b (row_sets (is_value next) words 0 (8 * blocks)) [] → AreMarked (next + 1) values blocks starts' sets' words
 one_marked next values blocks starts sets words starts' sets' start b kept at grown test more =
     let set = row_sets (is_value next) words 0 (8 * blocks) in
     let added = cond b set [] in
     let old : (v : ℕ) → v < next → slice_index starts' v ≡ slice_index starts v = λ v lt. ap (λ l. slice_index l v) grown ∙ get_or_append_left starts (start ∷ []) 0 v (omega (arith, kept.long, lt)) in
     let new : slice_index starts' next ≡ length sets =
     ap (λ l. slice_index l next) grown ∙ ap (λ k. slice_index (starts ++ start ∷ []) k) (sym kept.long) ∙ get_or_push starts start 0 (length starts) refl ∙ at in
-    let is_set : has (values_in values) next ≡ true → sets' ≡ sets ++ set = λ h. more ∙ ap (λ t. sets ++ cond t set []) (test ∙ h) in
+    let is_set : has (part_values values) next ≡ true → sets' ≡ sets ++ set = λ h. more ∙ ap (λ t. sets ++ cond t set []) (test ∙ h) in
     let set_long : length set ≡ 8 * blocks = length-row_sets (is_value next) words 0 (8 * blocks) in
     let longer : length sets ≤ length sets' = omega (arith, ap length more, length-append sets added) in
     record {
@@ -124,7 +118,7 @@ one_marked next values blocks starts sets words starts' sets' start b kept at gr
           (λ (low : v < next). let k = kept.within v low h in omega (arith, k, old v low, longer))
           (λ (high : next ≤ v).
           let same : v ≡ next = omega (arith, high, lt) in
-          let k = is_set (subst (λ n. has (values_in values) n ≡ true) same h) in
+          let k = is_set (subst (λ n. has (part_values values) n ≡ true) same h) in
           omega (arith, ap (slice_index starts') same, new, ap length k, length-append sets set, set_long))
           (cases_lt v next);
       marked = λ v lt h.
@@ -134,13 +128,13 @@ one_marked next values blocks starts sets words starts' sets' start b kept at gr
           ∙ chunk_of-front (slice_index starts v) (8 * blocks) sets added (kept.within v low h) ∙ kept.marked v low h)
           (λ (high : next ≤ v).
           let same : v ≡ next = omega (arith, high, lt) in
-          let k = is_set (subst (λ n. has (values_in values) n ≡ true) same h) in
+          let k = is_set (subst (λ n. has (part_values values) n ≡ true) same h) in
           ap (λ s. chunk s (8 * blocks) sets') (ap (slice_index starts') same ∙ new) ∙ ap (chunk (length sets) (8 * blocks)) k ∙ chunk_of-end sets set (8 * blocks) set_long
           ∙ ap (λ n. row_sets (is_value n) words 0 (8 * blocks)) (sym same))
           (cases_lt v next);
     }
 
-small_value : (values v : ℕ) → has (values_in values) v ≡ true → v < 64
+small_value : (values v : ℕ) → has (part_values values) v ≡ true → v < 64
 small_value values v h =
     ⊎_elim (λ (low : v < 64). low) (λ (high : 64 ≤ v). absurd (let no = sym h ∙ has_large values v (λ low. absurd (omega (arith, high, low))) in cc)) (cases_lt v 64)
 

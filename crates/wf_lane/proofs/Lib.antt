@@ -4,8 +4,8 @@ pub mod Values
 pub mod Building
 pub mod SupportLaws
 pub mod BoxLaws
-pub mod Eights
 pub mod Revising
 pub mod RowLemmas
 pub mod BlockLemmas
 pub mod ColumnLemmas
+pub mod WideLaws

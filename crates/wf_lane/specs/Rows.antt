@@ -3,9 +3,10 @@ use Rattle.std.specs.Prelude.{◌≡◌, ℕ, ◌+◌, ◌*◌, ◌<◌, ◌≤�
 use Rattle.std.specs.List.{range_with_len}
 use Rattle.std.specs.Simd.Lanes.{chunk, mask_l, zip2}
 use Rattle.wf_model.specs.Lists.{has}
-use Rattle.wf_set.specs.Sets.{values_in}
+use Rattle.wf_model.specs.Task.{Tuple}
+use Rattle.wf_set.specs.Parts.{part_values}
 use Rattle.wf_lane.specs.Words.{Words, is_live, joined_words, ors, rows_of}
-use Rattle.wf_lane.specs.Table.{IsKept, Table, table_of, value_of}
+use Rattle.wf_lane.specs.Table.{IsKept, Table, table_of, value_of, word_at}
 use Rattle.wf_lane.specs.declared.column.Column.{Column}
 use Rattle.wf_lane.specs.declared.column.Columns.{Columns}
 
@@ -39,7 +40,7 @@ is_value v word = value_of word == v
 
 -- the word stands for one of the values
 abbrev pub is_one_of : ℕ → ℕ → Bool
-is_one_of values word = has (values_in values) (value_of word)
+is_one_of values word = has (part_values values) (value_of word)
 
 -- the value of each word of the row is in the set of its place
 abbrev pub is_among : List ℕ → Words → Bool
@@ -56,12 +57,12 @@ pub record IsCut (c : Column) : Type 0 where
   pub few : c.blocks ≤ block_limit
   pub whole : c.values ≡ ors c.words.items
   pub starts : 0 < c.blocks → length c.starts.items ≡ 64
-  pub within : (v : ℕ) → has (values_in c.values) v ≡ true → slice_index c.starts.items v + block_words * c.blocks ≤ length c.sets.items
-  pub marked : (v : ℕ) → has (values_in c.values) v ≡ true → chunk (slice_index c.starts.items v) (block_words * c.blocks) c.sets.items ≡ row_sets (is_value v) c.words.items 0 (block_words * c.blocks)
+  pub within : (v : ℕ) → has (part_values c.values) v ≡ true → slice_index c.starts.items v + block_words * c.blocks ≤ length c.sets.items
+  pub marked : (v : ℕ) → has (part_values c.values) v ≡ true → chunk (slice_index c.starts.items v) (block_words * c.blocks) c.sets.items ≡ row_sets (is_value v) c.words.items 0 (block_words * c.blocks)
 
 -- the values all occur in the column
 abbrev pub OccurIn : Column → ℕ → Type 0
-OccurIn c values = (v : ℕ) → has (values_in values) v ≡ true → has (values_in c.values) v ≡ true
+OccurIn c values = (v : ℕ) → has (part_values values) v ≡ true → has (part_values c.values) v ≡ true
 
 -- these eight words are those of a block
 abbrev pub IsInBlocks : Column → ℕ → Type 0
@@ -69,7 +70,7 @@ IsInBlocks c start = start + block_words ≤ block_words * c.blocks
 
 -- of a set of values, those are left that are not met
 abbrev pub AreLeft : ℕ → ℕ → (ℕ → Bool) → Type 0
-AreLeft left values met = (v : ℕ) → has (values_in left) v ≡ (has (values_in values) v && not (met v))
+AreLeft left values met = (v : ℕ) → has (part_values left) v ≡ (has (part_values values) v && not (met v))
 
 -- ---- four columns
 
@@ -121,3 +122,12 @@ pub record IsStored (width : ℕ) (c : Columns) : Type 0 where
   pub kept : IsKept width c.first.words.items c.second.words.items c.third.words.items c.fourth.words.items
   pub cut : AreCut c
   pub all : 0 < c.first.blocks → length c.first.words.items ≤ block_rows * c.first.blocks
+
+-- the columns of these rows
+pub record HasColumns (rows : List Tuple) (c : Columns) : Type 0 where
+  pub first : c.first.words.items ≡ map (word_at 0) rows
+  pub second : c.second.words.items ≡ map (word_at 1) rows
+  pub third : c.third.words.items ≡ map (word_at 2) rows
+  pub fourth : c.fourth.words.items ≡ map (word_at 3) rows
+  pub cut : AreCut c
+  pub all : 0 < c.first.blocks → length rows ≤ block_rows * c.first.blocks

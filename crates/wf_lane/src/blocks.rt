@@ -2,15 +2,15 @@
 ghost use Rattle.std.specs.Prelude.{◌≡◌, ◌<◌, ◌≤◌, ◌*◌, ◌^◌, ◌==◌, true, not, length, cond, filter, count_ones, sum_by};
 ghost use Rattle.std.specs.List.{All};
 ghost use Rattle.wf_model.specs.Lists.{has};
-ghost use Rattle.wf_set.specs.Sets.{value_limit, values_in};
+ghost use Rattle.wf_set.specs.Parts.{part_limit, part_values};
 ghost use Rattle.wf_lane.specs.Words.{ors};
 ghost use Rattle.wf_lane.specs.Table.{AreOneHot};
 ghost use Rattle.wf_lane.specs.Rows.{AreAllLeft, AreCut, AreJoined, AreLeft, IsCut, IsInBlocks, OccurIn, OccurInAll, block_rows, block_words, is_among, is_met, is_one_of, is_value, row_sets, rows_in};
 
 use crate::column::{BLOCK_WORDS, Column, Columns};
-use crate::lanes::Support;
+use crate::lanes::PartSupport;
 use std::simd::prelude::*;
-use wf_set::{Mask, difference, meet, split_first, without};
+use wf_set::part::{Part, difference, meet, split_first, without};
 
 // Whether some lane is not 0.
 fn has_some(rows: u64x8) -> bool
@@ -35,10 +35,10 @@ fn count_rows(rows: u64x8) -> u32
 }
 
 // The set, without the value where it was met.
-fn without_met(set: Mask, value: u8, is_met: bool) -> Mask
-    requires { value < value_limit }
-    ensures { values_in result
-        ≡ cond is_met (filter (λ v. not (v == value)) (values_in set)) (values_in set) }
+fn without_met(set: Part, value: u8, is_met: bool) -> Part
+    requires { value < part_limit }
+    ensures { part_values result
+        ≡ cond is_met (filter (λ v. not (v == value)) (part_values set)) (part_values set) }
 {
     if is_met { without(set, value) } else { set }
 }
@@ -47,8 +47,8 @@ impl Column {
     // The rows of a block that have a value. The block's rows are those of eight words from start on.
     fn rows_with(&self, value: u8, start: usize) -> u64x8
         requires cut { IsCut self.now }
-        requires value { has (values_in self.now.values) value ≡ true }
-        requires small { value < value_limit }
+        requires value { has (part_values self.now.values) value ≡ true }
+        requires small { value < part_limit }
         requires block { IsInBlocks self.now start }
         ensures { result ≡ row_sets (is_value value) self.now.words.items start block_words }
     {
@@ -56,7 +56,7 @@ impl Column {
     }
 
     // The rows of a block that have one of these values.
-    fn rows_among(&self, values: Mask, start: usize) -> u64x8
+    fn rows_among(&self, values: Part, start: usize) -> u64x8
         requires cut { IsCut self.now }
         requires values { OccurIn self.now values }
         requires block { IsInBlocks self.now start }
@@ -72,7 +72,7 @@ impl Column {
     }
 
     // The values that none of these rows of a block has.
-    fn unmet(&self, values: Mask, live: u64x8, start: usize) -> Mask
+    fn unmet(&self, values: Part, live: u64x8, start: usize) -> Part
         requires cut { IsCut self.now }
         requires values { OccurIn self.now values }
         requires block { IsInBlocks self.now start }
@@ -89,9 +89,9 @@ impl Column {
     }
 
     // The candidates that occur.
-    fn wanted(&self, candidates: Mask) -> Mask
-        ensures wanted { values_in result
-            ≡ filter (has (values_in self.now.values)) (values_in candidates) }
+    fn wanted(&self, candidates: Part) -> Part
+        ensures wanted { part_values result
+            ≡ filter (has (part_values self.now.values)) (part_values candidates) }
         ensures occur { OccurIn self.now result }
     {
         meet(candidates, self.values)
@@ -100,7 +100,7 @@ impl Column {
 
 impl Columns {
     // The rows of a block whose values are all wanted.
-    fn live_rows(&self, wanted: [Mask; 4], start: usize) -> u64x8
+    fn live_rows(&self, wanted: [Part; 4], start: usize) -> u64x8
         requires cut { AreCut self.now }
         requires wanted { OccurInAll self.now wanted }
         requires block { IsInBlocks self.now.first start }
@@ -113,7 +113,7 @@ impl Columns {
     }
 
     // The values of each place that none of these rows of a block has there.
-    fn unmet(&self, values: [Mask; 4], live: u64x8, start: usize) -> [Mask; 4]
+    fn unmet(&self, values: [Part; 4], live: u64x8, start: usize) -> [Part; 4]
         requires cut { AreCut self.now }
         requires values { OccurInAll self.now values }
         requires block { IsInBlocks self.now.first start }
@@ -128,7 +128,7 @@ impl Columns {
     }
 
     /// The words of all rows that are alive, joined by column, and how many rows these are.
-    pub(crate) fn revise_blocks(&self, sets: [u64; 4]) -> Support
+    pub(crate) fn revise_blocks(&self, sets: [Part; 4]) -> PartSupport
         requires cut { AreCut self.now }
         requires all { length self.now.first.words.items ≤ block_rows * self.now.first.blocks }
         requires few { length self.now.first.words.items < 2 ^ 32 }
@@ -155,6 +155,6 @@ impl Columns {
             difference(wanted[2], unmet[2]),
             difference(wanted[3], unmet[3]),
         ];
-        Support { masks, alive }
+        PartSupport { masks, alive }
     }
 }

@@ -2,13 +2,13 @@
 ghost use Rattle.std.specs.Prelude.{◌≡◌, ◌<◌, ◌≤◌, ◌+◌, ◌*◌, ◌++◌, [], cond, length, IfOk, OnOk};
 ghost use Rattle.std.specs.List.{All};
 ghost use Rattle.wf_model.specs.Lists.{has};
-ghost use Rattle.wf_set.specs.Sets.{value_limit, values_in};
+ghost use Rattle.wf_set.specs.Parts.{part_limit, part_values};
 ghost use Rattle.wf_lane.specs.Words.{ors};
 ghost use Rattle.wf_lane.specs.Table.{IsOneHot};
 ghost use Rattle.wf_lane.specs.Rows.{IsCut, block_limit, block_words, is_value, row_set, row_sets};
 
 use std::alloc::{AllocError, Global};
-use wf_set::{Mask, holds};
+use wf_set::part::{Part, holds};
 
 /// How many words the rows of a block have: a bit a row, so that a block has 512 rows.
 pub(crate) const BLOCK_WORDS: usize = 8;
@@ -22,7 +22,7 @@ pub(crate) struct Column {
     /// Each row's value as a word of one bit.
     pub(crate) words: Vec<u64>,
     /// The values that occur.
-    pub(crate) values: Mask,
+    pub(crate) values: Part,
     /// How many blocks there are, and 0 where the rows are not cut.
     pub(crate) blocks: usize,
     /// Where the set of each value begins.
@@ -53,7 +53,7 @@ fn join_all(words: &[u64]) -> u64
 
 // The rows from start on that have a value, of the next 64 at most.
 fn row_set(words: &[u64], value: u8, start: usize) -> u64
-    requires value { value < value_limit }
+    requires value { value < part_limit }
     requires one_hot { All IsOneHot words.now }
     requires few { start ≤ 64 * (block_words * block_limit) }
     ensures { result ≡ row_set (is_value value) words.now start }
@@ -69,7 +69,7 @@ fn row_set(words: &[u64], value: u8, start: usize) -> u64
 
 // Adds the words of the rows that have a value.
 fn push_rows(words: &[u64], value: u8, blocks: usize, sets: &mut Vec<u64>) -> Result<(), AllocError>
-    requires value { value < value_limit }
+    requires value { value < part_limit }
     requires one_hot { All IsOneHot words.now }
     requires few { blocks ≤ block_limit }
     ensures { OnOk result (sets.new.items
@@ -89,7 +89,7 @@ fn push_value(
     blocks: usize,
     sets: &mut Vec<u64>,
 ) -> Result<(), AllocError>
-    requires value { value < value_limit }
+    requires value { value < part_limit }
     requires one_hot { All IsOneHot words.now }
     requires few { blocks ≤ block_limit }
     ensures { OnOk result (sets.new.items

@@ -1,42 +1,64 @@
-ghost use Rattle.std.specs.Prelude.{◌≡◌, ℕ, ◌<◌, ◌≤◌, ◌^◌, ◌*◌, All, IfOk, length, map, slice_index, count_by};
+ghost use Rattle.std.specs.Prelude.{◌≡◌, ℕ, ◌<◌, ◌≤◌, ◌^◌, ◌*◌, [], All, IfOk, length, map, slice_index, slice_index_or, count_by};
 ghost use Rattle.wf_model.specs.Box.{is_alive};
-ghost use Rattle.wf_lane.specs.Table.{AreOneHot, HasSupported, IsOneHot, closed, opened, sets_of, word_at};
-ghost use Rattle.wf_lane.specs.Rows.{AreCut, AreJoined, IsCut, block_limit, block_rows, rows_in};
+ghost use Rattle.wf_set.specs.Parts.{part_limit, part_values};
+ghost use Rattle.wf_set.specs.Sets.{values_in};
+ghost use Rattle.wf_lane.specs.Table.{AreFirstParts, AreNarrow, AreOneHot, HasSupported, IsOneHot, closed, opened, sets_of, word_at};
+ghost use Rattle.wf_lane.specs.Rows.{AreCut, AreJoined, HasColumns, IsCut, IsStored, block_limit, block_rows, rows_in, table_in};
 
 use crate::column::{BLOCK_WORDS, Column, Columns};
-use crate::lanes::{Support, revise_columns, word_or};
+use crate::lanes::{PartSupport, revise_columns, word_or};
+use crate::wide::{is_narrow, revise_rows};
 use std::alloc::{AllocError, Global};
 use std::marker::Model;
+use wf_set::part::Part;
+use wf_set::{Mask, first_part, of_part};
 use wf_task::Row;
 
 // A block takes for each value of each place about as long as so many rows take eight a step.
 const ROWS_OF_A_VALUE: usize = 2;
 
-/// Rows of values of one width, from one to four, each value at most 63.
+/// What is left of the candidates at each place, and how many rows are alive.
+#[derive(Clone, Copy, Debug, PartialEq, Eq)]
+pub struct Support {
+    /// The supported values at each place.
+    pub masks: [Mask; 4],
+    /// How many rows have each of their values among the candidates of its place.
+    pub alive: u32,
+}
+
+// What a table keeps of its rows.
+#[derive(Drop)]
+enum Kind {
+    // Each value is below 64. Past the width all rows have the value 0.
+    Narrow(Columns),
+    // Some value is not: the rows as they are.
+    Wide(Vec<Row>),
+}
+
+/// Rows of values of one width, from one to four.
 ///
 /// A clause sees it as the width and the list of the rows.
 #[derive(Drop)]
 pub struct TupleTable {
     width: u8,
-    // past the width all rows have the value 0
-    columns: Columns,
+    kind: Kind,
 }
 
 impl Model for TupleTable {
     ghost use Rattle.wf_lane.specs.Table.{Table};
-    ghost use Rattle.wf_lane.specs.Rows.{IsStored, table_in};
+    ghost use Rattle.wf_lane.specs.Kinds.{IsKind, table_of_kind};
 
     ghost Value = { Table };
 
-    ghost view = { λ t. table_in t.width t.columns };
+    ghost view = { λ t. table_of_kind t.width t.kind };
 
-    ghost invariant = { λ t. IsStored t.width t.columns };
+    ghost invariant = { λ t. IsKind t.width t.kind };
 }
 
 // The word of the row's value at the place; that of 0 past its end.
 fn word_at(row: &Row, place: u8) -> u64
-    ensures word { result ≡ word_at place row.now }
-    ensures small { All (λ x. x ≤ 63) row.now }
+    requires { All (λ x. x < part_limit) row.now }
+    ensures { result ≡ word_at place row.now }
 {
     if place < row.size() {
         1 << row.value(place)
@@ -47,6 +69,7 @@ fn word_at(row: &Row, place: u8) -> u64
 
 // How many values occur at the place.
 fn count_values(rows: &[Row], place: u8) -> usize
+    requires { AreNarrow rows.now }
     ensures { result ≤ 64 }
 {
     let mut values = 0;
@@ -74,8 +97,8 @@ fn blocks_of(rows: usize, values: usize) -> usize
 
 // The words of the rows at the place.
 fn words_at(alloc: Global, rows: &[Row], place: u8) -> Result<Vec<u64>, AllocError>
+    requires { AreNarrow rows.now }
     ensures words { IfOk result (λ words. words.items ≡ map (word_at place) rows.now) }
-    ensures small { IfOk result (λ words. All (λ row. All (λ x. x ≤ 63) row) rows.now) }
     ensures one_hot { IfOk result (λ words. All IsOneHot words.items) }
 {
     let mut words = Vec::with_capacity(alloc, rows.len())?;
@@ -87,9 +110,9 @@ fn words_at(alloc: Global, rows: &[Row], place: u8) -> Result<Vec<u64>, AllocErr
 
 // The rows at the place, cut into so many blocks.
 fn column(alloc: Global, rows: &[Row], place: u8, blocks: usize) -> Result<Column, AllocError>
-    requires { blocks ≤ block_limit }
+    requires few { blocks ≤ block_limit }
+    requires narrow { AreNarrow rows.now }
     ensures words { IfOk result (λ column. column.words.items ≡ map (word_at place) rows.now) }
-    ensures small { IfOk result (λ column. All (λ row. All (λ x. x ≤ 63) row) rows.now) }
     ensures blocks { IfOk result (λ column. column.blocks ≡ blocks) }
     ensures cut { IfOk result IsCut }
 {
@@ -100,8 +123,33 @@ fn column(alloc: Global, rows: &[Row], place: u8, blocks: usize) -> Result<Colum
     Column::cut(alloc, words, blocks)
 }
 
+// The values below 64 of each set. No row has another one.
+fn first_parts(sets: [Mask; 4]) -> [Part; 4]
+    ensures { AreFirstParts result sets }
+{
+    [
+        first_part(sets[0]),
+        first_part(sets[1]),
+        first_part(sets[2]),
+        first_part(sets[3]),
+    ]
+}
+
+// The sets of the values of each part.
+fn of_parts(parts: [Part; 4]) -> [Mask; 4]
+    ensures { (place : ℕ) → values_in (slice_index_or result place [])
+        ≡ part_values (slice_index parts place) }
+{
+    [
+        of_part(parts[0]),
+        of_part(parts[1]),
+        of_part(parts[2]),
+        of_part(parts[3]),
+    ]
+}
+
 // The sets below the width, and past it the set of all values.
-fn open_past(width: u8, sets: [u64; 4]) -> [u64; 4]
+fn open_past(width: u8, sets: [Part; 4]) -> [Part; 4]
     ensures { result ≡ opened width sets }
 {
     [
@@ -113,7 +161,7 @@ fn open_past(width: u8, sets: [u64; 4]) -> [u64; 4]
 }
 
 // The masks below the width, and past it 0.
-fn clear_past(width: u8, masks: [u64; 4]) -> [u64; 4]
+fn clear_past(width: u8, masks: [Part; 4]) -> [Part; 4]
     ensures { result ≡ closed width masks }
 {
     [
@@ -125,7 +173,7 @@ fn clear_past(width: u8, masks: [u64; 4]) -> [u64; 4]
 }
 
 // The words of all rows that are alive, joined by column, and how many rows these are.
-fn support_in(columns: &Columns, sets: [u64; 4]) -> Support
+fn support_in(columns: &Columns, sets: [Part; 4]) -> PartSupport
     requires cut { AreCut columns.now }
     requires all { 0 < columns.now.first.blocks
         → length columns.now.first.words.items ≤ block_rows * columns.now.first.blocks }
@@ -145,6 +193,46 @@ fn support_in(columns: &Columns, sets: [u64; 4]) -> Support
     )
 }
 
+// The columns of these rows.
+fn columns_of(alloc: Global, rows: &[Row]) -> Result<Columns, AllocError>
+    requires few { length rows.now < 2 ^ 32 }
+    requires narrow { AreNarrow rows.now }
+    ensures { IfOk result (HasColumns rows.now) }
+{
+    let values = count_values(rows, 0)
+        + count_values(rows, 1)
+        + count_values(rows, 2)
+        + count_values(rows, 3);
+    let blocks = blocks_of(rows.len(), values);
+    let first = column(alloc, rows, 0, blocks)?;
+    let second = column(alloc, rows, 1, blocks)?;
+    let third = column(alloc, rows, 2, blocks)?;
+    let fourth = column(alloc, rows, 3, blocks)?;
+    Ok(Columns {
+        first,
+        second,
+        third,
+        fourth,
+    })
+}
+
+// What the columns support of these candidates, and how many of their rows are alive.
+fn support_of(columns: &Columns, width: u8, candidates: [Mask; 4]) -> Support
+    requires { IsStored width columns.now }
+    ensures supported { HasSupported result.masks (table_in width columns.now) candidates }
+    ensures rest { (place : ℕ) → width ≤ place
+        → values_in (slice_index_or result.masks place []) ≡ [] }
+    ensures alive { result.alive
+        ≡ count_by (is_alive (sets_of width candidates)) (table_in width columns.now).rows }
+{
+    let sets = open_past(width, first_parts(candidates));
+    let found = support_in(columns, sets);
+    Support {
+        masks: of_parts(clear_past(width, found.masks)),
+        alive: found.alive,
+    }
+}
+
 impl TupleTable {
     /// The table of these rows.
     pub fn build(alloc: Global, rows: &[Row], width: u8) -> Result<TupleTable, AllocError>
@@ -154,36 +242,26 @@ impl TupleTable {
         requires few { length rows.now < 2 ^ 32 }
         ensures { IfOk result (λ table. table ≡ record { width = width; rows = rows.now }) }
     {
-        let values = count_values(rows, 0)
-            + count_values(rows, 1)
-            + count_values(rows, 2)
-            + count_values(rows, 3);
-        let blocks = blocks_of(rows.len(), values);
-        let first = column(alloc, rows, 0, blocks)?;
-        let second = column(alloc, rows, 1, blocks)?;
-        let third = column(alloc, rows, 2, blocks)?;
-        let fourth = column(alloc, rows, 3, blocks)?;
-        let columns = Columns {
-            first,
-            second,
-            third,
-            fourth,
+        let kind = if is_narrow(rows) {
+            Kind::Narrow(columns_of(alloc, rows)?)
+        } else {
+            Kind::Wide(rows.to_vec(alloc)?)
         };
-        Ok(TupleTable { width, columns })
+        Ok(TupleTable { width, kind })
     }
 
     /// The values that some row supports at each place, of the rows whose values all lie in the candidates, a set for
     /// each place, and how many such rows there are. Candidates past the width are ignored.
-    pub fn revise(&self, candidates: [u64; 4]) -> Support
+    pub fn revise(&self, candidates: [Mask; 4]) -> Support
         ensures supported { HasSupported result.masks self.now candidates }
-        ensures rest { (place : ℕ) → self.now.width ≤ place → slice_index result.masks place ≡ 0 }
-        ensures alive { result.alive ≡ count_by (is_alive (sets_of self.now.width candidates)) self.now.rows }
+        ensures rest { (place : ℕ) → self.now.width ≤ place
+            → values_in (slice_index_or result.masks place []) ≡ [] }
+        ensures alive { result.alive
+            ≡ count_by (is_alive (sets_of self.now.width candidates)) self.now.rows }
     {
-        let sets = open_past(self.width, candidates);
-        let found = support_in(&self.columns, sets);
-        Support {
-            masks: clear_past(self.width, found.masks),
-            alive: found.alive,
+        match &self.kind {
+            Kind::Narrow(columns) => support_of(columns, self.width, candidates),
+            Kind::Wide(rows) => revise_rows(rows, candidates),
         }
     }
 }

@@ -7,8 +7,8 @@ ghost use Rattle.wf_model.specs.Split.{most_branches, most_values, split};
 ghost use Rattle.wf_model.specs.Outline.{boxes_left_out, outline};
 ghost use Rattle.wf_model.specs.Laws.{IsCanonicalOnceFilled, RefutesOnceFilled};
 
-/// What the outline of a problem leaves out are the branches of the problem, and with at most 64 values these are at
-/// most 63 times 64.
+/// What the outline of a problem leaves out are the branches of the problem, and with at most 256 values these are at
+/// most 63 times 256.
 pub fn an_outline_leaves_out_the_branches()
     ensures branches { (p : Problem) → boxes_left_out (outline p) ≡ split p }
     ensures few { (p : Problem) → length p.values ≤ most_values → length (split p) ≤ most_branches }

@@ -1,5 +1,5 @@
 -- The state of the search: how far the points have values, and what was tried.
-use Rattle.std.proofs.Common.{◌≡◌, ℕ, zero, suc, ◌+◌, ◌-◌, ◌<◌, ◌≤◌, ◌==◌, Bool, true, false, List, [], ◌∷◌, ◌++◌, map, flat_map, replicate, length, take, slice_index, None, nat_lt, eqb-true, All, inl, inr, refl, sym, ap, ◌∙◌, subst, arith, length-take}
+use Rattle.std.proofs.Common.{◌≡◌, ℕ, zero, suc, ◌+◌, ◌-◌, ◌<◌, ◌≤◌, ◌==◌, Bool, true, false, List, [], ◌∷◌, ◌++◌, map, flat_map, replicate, length, take, slice_index, Option, Some, None, nat_lt, eqb-true, All, inl, inr, refl, sym, ap, ◌∙◌, subst, arith, length-take}
 use Rattle.std.specs.List.{AllByRecursion, list_all, list_any, slice_index_or}
 use Rattle.std.specs.Ordering.{nat_cmp}
 use Rattle.std.specs.Cmp.Lexicographic.{pointwise}
@@ -13,11 +13,12 @@ use Rattle.wf_model.specs.Task.{Task, IsTask, IsSimplexWithin, values, largest_v
 use Rattle.wf_model.specs.Problem.{Problem, Constraint, IsSolution, IsLeastSolution, Satisfies, problem_of, constraint_at}
 use Rattle.wf_model.specs.Box.{LiesIn}
 use Rattle.wf_model.specs.Check.{satisfies}
+use Rattle.wf_model.proofs.Bridge.{weaker}
 use Rattle.wf_model.proofs.Least.{solution_in_root}
 use Rattle.wf_model.proofs.Trying.{satisfies_says, satisfies_tests}
 use Rattle.wf_complex.specs.Protocol.{Built, IsProtocol}
 use Rattle.wf_plain.specs.Plain.{LiesBelow, AreEnds, IsTried}
-use Rattle.wf_plain.proofs.Tried.{Begins, begins_own, begins_seen, below_next, below_longer, below_zero, begins_below, not_below}
+use Rattle.wf_plain.proofs.Tried.{Begins, begins_own, begins_seen, below_next, below_longer, below_nothing, below_zero, begins_below, not_below}
 
 abbrev pub scopes_of : Problem → List (List (ℕ × ℕ))
 scopes_of p = map (λ k. k.scope) p.constraints
@@ -108,8 +109,8 @@ take_next xs i h = let e : i + 1 ≡ suc i = omega arith in ap (λ n. take n xs)
 pub record IsState (p : Problem) (ends : List (List ℕ)) (xs : List ℕ) (point from : ℕ) : Type 0 where
   pub few : point ≤ p.points
   pub long : length xs ≡ p.points
-  pub low : from ≤ 64
-  pub small : All (λ a. a < 64) (take point xs)
+  pub low : from ≤ 256
+  pub small : All (λ a. a < 256) (take point xs)
   pub right : (v : ℕ) → v < point → list_all (λ e. satisfies xs (constraint_at p e)) (slice_index_or ends v []) ≡ true
   pub tried : IsTried p (take point xs ++ from ∷ [])
 
@@ -137,11 +138,7 @@ state_start p ends xs long = record {
 }
   where
     first : (m : List ℕ) → IsBelow m (0 ∷ []) → ⊥
-    first m below = below_zero_first m (below_zero [] m below)
-      where
-        below_zero_first : (m : List ℕ) → IsBelow m [] → ⊥
-        below_zero_first [] h = h
-        below_zero_first (x ∷ m) h = h
+    first m below = below_nothing m (below_zero [] m below)
 
 -- these points keep their values, and so are still right
 kept_right : (p : Problem) (ends : List (List ℕ)) (xs ys : List ℕ) (point from : ℕ) → AreEndsOf p ends → IsState p ends xs point from → take point ys ≡ take point xs
@@ -153,7 +150,7 @@ kept_right p ends xs ys point from are h same v low =
 
 -- the next point got a value
 pub state_up : (p : Problem) (ends : List (List ℕ)) (xs ys : List ℕ) (point from : ℕ) → AreEndsOf p ends → IsState p ends xs point from → point < p.points → length ys ≡ length xs
-    → take point ys ≡ take point xs → slice_index ys point < 64 → list_all (λ e. satisfies ys (constraint_at p e)) (slice_index_or ends point []) ≡ true
+    → take point ys ≡ take point xs → slice_index ys point < 256 → list_all (λ e. satisfies ys (constraint_at p e)) (slice_index_or ends point []) ≡ true
     → IsTried p (take point xs ++ slice_index ys point ∷ []) → IsState p ends ys (point + 1) 0
 state_up p ends xs ys point from are h inside long same small right tried =
     let next : take (point + 1) ys ≡ take point ys ++ slice_index ys point ∷ [] = take_next ys point (omega (arith, inside, long, h.long)) in
@@ -161,7 +158,7 @@ state_up p ends xs ys point from are h inside long same small right tried =
       few = omega (arith, inside);
       long = long ∙ h.long;
       low = omega arith;
-      small = All-more (λ a. a < 64) ys point 0 (omega (arith, inside, long, h.long)) (subst (All (λ a. a < 64)) (sym same) h.small) small;
+      small = All-more (λ a. a < 256) ys point 0 (omega (arith, inside, long, h.long)) (subst (All (λ a. a < 256)) (sym same) h.small) small;
       right = λ v low. elim (eq-or-lt_of_le {n = v} {m = point} (omega (arith, low))) [
         | inl is ↦ subst (λ i. list_all (λ e. satisfies ys (constraint_at p e)) (slice_index_or ends i []) ≡ true) (sym is) right
         | inr less ↦ kept_right p ends xs ys point from are h same v less
@@ -170,25 +167,25 @@ state_up p ends xs ys point from are h inside long same small right tried =
     }
 
 -- the next point has no value, and so the one before goes on
-state_down : (p : Problem) (ends : List (List ℕ)) (xs ys : List ℕ) (k from : ℕ) → AreEndsOf p ends → ((m : List ℕ) → IsSolution p m → AllByRecursion (λ x. x < 64) m)
-    → IsState p ends xs (k + 1) from → k + 1 < p.points → length ys ≡ length xs → take (k + 1) ys ≡ take (k + 1) xs → IsTried p (take (k + 1) xs ++ 64 ∷ [])
-    → (slice_index ys k < 64) × IsState p ends ys k (slice_index ys k + 1)
+state_down : (p : Problem) (ends : List (List ℕ)) (xs ys : List ℕ) (k from : ℕ) → AreEndsOf p ends → ((m : List ℕ) → IsSolution p m → AllByRecursion (λ x. x < 256) m)
+    → IsState p ends xs (k + 1) from → k + 1 < p.points → length ys ≡ length xs → take (k + 1) ys ≡ take (k + 1) xs → IsTried p (take (k + 1) xs ++ 256 ∷ [])
+    → (slice_index ys k < 256) × IsState p ends ys k (slice_index ys k + 1)
 state_down p ends xs ys k from are bound h inside long same tried =
     let next : take (k + 1) ys ≡ take k ys ++ slice_index ys k ∷ [] = take_next ys k (omega (arith, inside, long, h.long)) in
-    let all : All (λ a. a < 64) (take (k + 1) ys) = subst (All (λ a. a < 64)) (sym same) h.small in
-    let each : AllByRecursion (λ a. a < 64) (take k ys ++ slice_index ys k ∷ []) = subst (AllByRecursion (λ a. a < 64)) next (recursion_from_All (λ a. a < 64) (take (k + 1) ys) all) in
-    let a : slice_index ys k < 64 = begins_last (λ a. a < 64) (take k ys) (take k ys ++ slice_index ys k ∷ []) (slice_index ys k) (begins_itself (take k ys ++ slice_index ys k ∷ [])) each in (
+    let all : All (λ a. a < 256) (take (k + 1) ys) = subst (All (λ a. a < 256)) (sym same) h.small in
+    let each : AllByRecursion (λ a. a < 256) (take k ys ++ slice_index ys k ∷ []) = subst (AllByRecursion (λ a. a < 256)) next (recursion_from_All (λ a. a < 256) (take (k + 1) ys) all) in
+    let a : slice_index ys k < 256 = begins_last (λ a. a < 256) (take k ys) (take k ys ++ slice_index ys k ∷ []) (slice_index ys k) (begins_itself (take k ys ++ slice_index ys k ∷ [])) each in (
       a,
       record {
         few = omega (arith, inside);
         long = long ∙ h.long;
         low = omega (arith, a);
-        small = All-from_recursion (λ a. a < 64) (take k ys) (front (take k ys) (slice_index ys k ∷ []) each);
+        small = All-from_recursion (λ a. a < 256) (take k ys) (front (take k ys) (slice_index ys k ∷ []) each);
         right = λ v low. kept_right p ends xs ys (k + 1) from are h same v (omega (arith, low));
         tried = next_tried p (take k ys) (slice_index ys k)
-            (λ m solves below. tried m solves (subst (λ ds. IsBelow m (ds ++ 64 ∷ [])) (sym next ∙ same) (below_longer (take k ys ++ slice_index ys k ∷ []) (64 ∷ []) m below)))
-            (λ m solves begins. tried m solves (subst (λ ds. IsBelow m (ds ++ 64 ∷ [])) (sym next ∙ same)
-            (begins_below (take k ys ++ slice_index ys k ∷ []) m 64 begins (omega (arith, ap length next, length-take (k + 1) ys, inside, solves.long)) (bound m solves))));
+            (λ m solves below. tried m solves (subst (λ ds. IsBelow m (ds ++ 256 ∷ [])) (sym next ∙ same) (below_longer (take k ys ++ slice_index ys k ∷ []) (256 ∷ []) m below)))
+            (λ m solves begins. tried m solves (subst (λ ds. IsBelow m (ds ++ 256 ∷ [])) (sym next ∙ same)
+            (begins_below (take k ys ++ slice_index ys k ∷ []) m 256 begins (omega (arith, ap length next, length-take (k + 1) ys, inside, solves.long)) (bound m solves))));
       },
     )
   where
@@ -196,13 +193,13 @@ state_down p ends xs ys k from are bound h inside long same tried =
     begins_itself [] = tt
     begins_itself (x ∷ m) = (refl, begins_itself m)
 
-    front : (ds es : List ℕ) → AllByRecursion (λ a. a < 64) (ds ++ es) → AllByRecursion (λ a. a < 64) ds
+    front : (ds es : List ℕ) → AllByRecursion (λ a. a < 256) (ds ++ es) → AllByRecursion (λ a. a < 256) ds
     front [] es all = tt
     front (d ∷ ds) es all = (all.0, front ds es all.1)
 
 -- the first point has no value, and so there is no solution
-pub state_none : (p : Problem) (xs : List ℕ) → 0 < p.points → ((m : List ℕ) → IsSolution p m → AllByRecursion (λ x. x < 64) m) → IsTried p (take 0 xs ++ 64 ∷ []) → (m : List ℕ) → IsSolution p m → ⊥
-state_none p xs some bound tried m solves = tried m solves (begins_below [] m 64 tt (omega (arith, some, solves.long)) (bound m solves))
+pub state_none : (p : Problem) (xs : List ℕ) → 0 < p.points → ((m : List ℕ) → IsSolution p m → AllByRecursion (λ x. x < 256) m) → IsTried p (take 0 xs ++ 256 ∷ []) → (m : List ℕ) → IsSolution p m → ⊥
+state_none p xs some bound tried m solves = tried m solves (begins_below [] m 256 tt (omega (arith, some, solves.long)) (bound m solves))
 
 -- all points have values, and so these are the least solution
 pub state_end : (p : Problem) (ends : List (List ℕ)) (xs : List ℕ) (point from : ℕ) → AreEndsOf p ends → IsState p ends xs point from → length xs ≤ point → IsLeastSolution p xs
@@ -229,7 +226,7 @@ state_end p ends xs point from are h all =
 
 -- ---- the values of a task
 
-small_ordered : (x : ℕ) (ys : List ℕ) → x ≤ 63 → AllByRecursion (λ y. y ≤ 63) ys → AllByRecursion (λ y. y ≤ 63) (with_element nat_cmp x ys)
+small_ordered : (x : ℕ) (ys : List ℕ) → x ≤ 255 → AllByRecursion (λ y. y ≤ 255) ys → AllByRecursion (λ y. y ≤ 255) (with_element nat_cmp x ys)
 small_ordered x [] low h = (low, tt)
 small_ordered x (y ∷ ys) low h =
     elim (cases_Bool (nat_lt x y)) [
@@ -237,31 +234,39 @@ small_ordered x (y ∷ ys) low h =
       | inr more ↦ rw more (elim (cases_Bool (x == y)) [ inl same ↦ rw same h | inr other ↦ rw other (h.0, small_ordered x ys low h.1) ])
     ]
 
-small_in_order : (xs : List ℕ) → AllByRecursion (λ y. y ≤ 63) xs → AllByRecursion (λ y. y ≤ 63) (in_order nat_cmp xs)
+small_in_order : (xs : List ℕ) → AllByRecursion (λ y. y ≤ 255) xs → AllByRecursion (λ y. y ≤ 255) (in_order nat_cmp xs)
 small_in_order [] h = tt
 small_in_order (x ∷ xs) h = small_ordered x (in_order nat_cmp xs) h.0 (small_in_order xs h.1)
 
-joined : (xs ys : List ℕ) → AllByRecursion (λ y. y ≤ 63) xs → AllByRecursion (λ y. y ≤ 63) ys → AllByRecursion (λ y. y ≤ 63) (xs ++ ys)
+joined : (xs ys : List ℕ) → AllByRecursion (λ y. y ≤ 255) xs → AllByRecursion (λ y. y ≤ 255) ys → AllByRecursion (λ y. y ≤ 255) (xs ++ ys)
 joined [] ys h k = k
 joined (x ∷ xs) ys h k = (h.0, joined xs ys h.1 k)
 
-small_outputs : (n : ℕ) (ss : List Simplex) → AllByRecursion (IsSimplexWithin n 63) ss → AllByRecursion (λ y. y ≤ 63) (flat_map values_of ss)
-small_outputs n [] h = tt
-small_outputs n (s ∷ ss) h = joined (values_of s) (flat_map values_of ss) (recursion_from_All (λ y. y ≤ 63) (values_of s) h.0.values) (small_outputs n ss h.1)
+-- no task has a larger value
+most_value : (o : Option ℕ) → largest_value o ≤ 255
+most_value None = omega arith
+most_value (Some m) = omega arith
 
-has_small : (xs : List ℕ) (x : ℕ) → AllByRecursion (λ y. y ≤ 63) xs → has xs x ≡ true → x < 64
+small_outputs : (n : ℕ) (o : Option ℕ) (ss : List Simplex) → AllByRecursion (IsSimplexWithin n (largest_value o)) ss → AllByRecursion (λ y. y ≤ 255) (flat_map values_of ss)
+small_outputs n o [] h = tt
+small_outputs n o (s ∷ ss) h =
+    joined (values_of s) (flat_map values_of ss)
+    (weaker (λ y. y ≤ largest_value o) (λ y. y ≤ 255) (λ y k. omega (arith, k, most_value o)) (values_of s) (recursion_from_All (λ y. y ≤ largest_value o) (values_of s) h.0.values))
+    (small_outputs n o ss h.1)
+
+has_small : (xs : List ℕ) (x : ℕ) → AllByRecursion (λ y. y ≤ 255) xs → has xs x ≡ true → x < 256
 has_small [] x h is = absurd (let none : ⊥ = cc in none)
 has_small (y ∷ ys) x h is = elim (or_cases (y == x) (has ys x) is) [
-  | inl here ↦ let e : y ≡ x = eqb-true y x here in let low : y ≤ 63 = h.0 in omega (arith, e, low)
+  | inl here ↦ let e : y ≡ x = eqb-true y x here in let low : y ≤ 255 = h.0 in omega (arith, e, low)
   | inr later ↦ has_small ys x h.1 later
 ]
 
--- the values of a solution of a task are below 64
-pub small_solutions : (t : Task) (r : ℕ) → IsTask t → t.restriction ≡ None → (m : List ℕ) → IsSolution (problem_of t r) m → AllByRecursion (λ x. x < 64) m
-small_solutions t r task all m solves =
-    let each : AllByRecursion (IsSimplexWithin t.processes 63) t.outputs =
-    recursion_from_All (IsSimplexWithin t.processes 63) t.outputs (subst (λ o. All (IsSimplexWithin t.processes (largest_value o)) t.outputs) all task.output_complex.within) in
-    each_value (λ x. x < 64) t r m task solves (λ x h. has_small (values t) x (small_in_order (flat_map values_of t.outputs) (small_outputs t.processes t.outputs each)) h)
+-- the values of a solution of a task are below 256
+pub small_solutions : (t : Task) (r : ℕ) → IsTask t → (m : List ℕ) → IsSolution (problem_of t r) m → AllByRecursion (λ x. x < 256) m
+small_solutions t r task m solves =
+    let each : AllByRecursion (IsSimplexWithin t.processes (largest_value t.restriction)) t.outputs =
+    recursion_from_All (IsSimplexWithin t.processes (largest_value t.restriction)) t.outputs task.output_complex.within in
+    each_value (λ x. x < 256) t r m task solves (λ x h. has_small (values t) x (small_in_order (flat_map values_of t.outputs) (small_outputs t.processes t.restriction t.outputs each)) h)
 
 -- ---- the problem of a protocol complex
 
@@ -275,13 +280,13 @@ pub lie_in_problem : (t : Task) (r : ℕ) (b : Built) (n : ℕ) (es : List ℕ) 
 lie_in_problem t r b n es h lie = recursion_from_All (LiesBelow (scopes_of (problem_of t r)) n) es (subst (λ ss. All (LiesBelow ss n) es) h.scopes_are lie)
 
 -- a point that is not the first goes back to the one before
-pub state_back : (p : Problem) (ends : List (List ℕ)) (xs ys : List ℕ) (point from : ℕ) → AreEndsOf p ends → ((m : List ℕ) → IsSolution p m → AllByRecursion (λ x. x < 64) m)
-    → IsState p ends xs point from → (point ≡ 0 → ⊥) → point < p.points → length ys ≡ length xs → take point ys ≡ take point xs → IsTried p (take point xs ++ 64 ∷ [])
-    → (slice_index ys (point - 1) < 64) × IsState p ends ys (point - 1) (slice_index ys (point - 1) + 1) × (take point xs ≡ take (point - 1) ys ++ slice_index ys (point - 1) ∷ [])
+pub state_back : (p : Problem) (ends : List (List ℕ)) (xs ys : List ℕ) (point from : ℕ) → AreEndsOf p ends → ((m : List ℕ) → IsSolution p m → AllByRecursion (λ x. x < 256) m)
+    → IsState p ends xs point from → (point ≡ 0 → ⊥) → point < p.points → length ys ≡ length xs → take point ys ≡ take point xs → IsTried p (take point xs ++ 256 ∷ [])
+    → (slice_index ys (point - 1) < 256) × IsState p ends ys (point - 1) (slice_index ys (point - 1) + 1) × (take point xs ≡ take (point - 1) ys ++ slice_index ys (point - 1) ∷ [])
 state_back p ends xs ys zero from are bound h some inside long same tried = absurd (some refl)
 state_back p ends xs ys (suc k) from are bound h some inside long same tried =
     let e : suc k ≡ k + 1 = omega arith in
     let f : suc k - 1 ≡ k = omega arith in
-    let down = state_down p ends xs ys k from are bound (subst (λ i. IsState p ends xs i from) e h) (omega (arith, inside)) long (subst (λ i. take i ys ≡ take i xs) e same) (subst (λ i. IsTried p (take i xs ++ 64 ∷ [])) e tried) in
+    let down = state_down p ends xs ys k from are bound (subst (λ i. IsState p ends xs i from) e h) (omega (arith, inside)) long (subst (λ i. take i ys ≡ take i xs) e same) (subst (λ i. IsTried p (take i xs ++ 256 ∷ [])) e tried) in
     let split : take (suc k) xs ≡ take k ys ++ slice_index ys k ∷ [] = sym same ∙ take_suc ys k (omega (arith, inside, long, h.long)) in
-    subst (λ i. (slice_index ys i < 64) × IsState p ends ys i (slice_index ys i + 1) × (take (suc k) xs ≡ take i ys ++ slice_index ys i ∷ [])) (sym f) (down.0, down.1, split)
+    subst (λ i. (slice_index ys i < 256) × IsState p ends ys i (slice_index ys i + 1) × (take (suc k) xs ≡ take i ys ++ slice_index ys i ∷ [])) (sym f) (down.0, down.1, split)

@@ -31,7 +31,7 @@ begins_seen (at ∷ scope) n values m low few h = λ i. begins_at n values m at.
 
 -- ---- below
 
-below_nothing : (m : List ℕ) → IsBelow m [] → ⊥
+pub below_nothing : (m : List ℕ) → IsBelow m [] → ⊥
 below_nothing [] h = h
 below_nothing (x ∷ m) h = h
 

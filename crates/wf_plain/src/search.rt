@@ -16,7 +16,7 @@ use wf_set::holds;
 use wf_task::Task;
 
 /// How many values there are at most.
-const VALUES: u8 = 64;
+const VALUES: u16 = 256;
 
 /// The least decision map of a task on its protocol complex, as the list of its values over the points; or `None`
 /// where there is none.
@@ -61,7 +61,7 @@ fn search(task: &Task, protocol: &Protocol, ends: &[Vec<u32>], values: &mut [u8]
                 return false;
             }
             point -= 1;
-            from = values[point] + 1;
+            from = values[point] as u16 + 1;
         }
     }
     true
@@ -75,25 +75,26 @@ fn give_value(
     executions: &[u32],
     values: &mut [u8],
     point: usize,
-    from: u8,
+    from: u16,
 ) -> bool
     requires built { IsProtocol task.now protocol.now.rounds protocol.now }
     requires executions { All (LiesBelow protocol.now.scopes (point + 1)) executions.now }
     requires point { point < length values.old }
-    requires from { from ≤ 64 }
+    requires from { from ≤ 256 }
     ensures long { length values.new ≡ length values.old }
     ensures kept { take point values.new ≡ take point values.old }
     ensures from { OnTrue result (from ≤ slice_index values.new point) }
-    ensures small { OnTrue result (slice_index values.new point < 64) }
+    ensures small { OnTrue result (slice_index values.new point < 256) }
     ensures right { OnTrue result (list_all (λ e. satisfies values.new (constraint_at (problem_of task.now protocol.now.rounds) e)) executions.now ≡ true) }
     ensures found { OnTrue result (IsTried (problem_of task.now protocol.now.rounds) (take point values.old ++ from ∷ [])
         → IsTried (problem_of task.now protocol.now.rounds) (take point values.old ++ slice_index values.new point ∷ [])) }
     ensures none { OnFalse result (IsTried (problem_of task.now protocol.now.rounds) (take point values.old ++ from ∷ [])
-        → IsTried (problem_of task.now protocol.now.rounds) (take point values.old ++ 64 ∷ [])) }
+        → IsTried (problem_of task.now protocol.now.rounds) (take point values.old ++ 256 ∷ [])) }
 {
     let all = task.values();
     let _inputs = task.inputs();
     for value in from..VALUES {
+        let value = value as u8;
         if !holds(all, value) {
             continue;
         }

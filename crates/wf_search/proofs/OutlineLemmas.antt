@@ -1,7 +1,8 @@
 -- Outlines as slots.
-use Rattle.std.proofs.Common.{◌≡◌, ℕ, zero, suc, ◌+◌, ◌-◌, ◌<◌, ◌≤◌, ◌&&◌, ◌||◌, ◌==◌, nat_lt, true, false, List, [], ◌∷◌, ◌++◌, map, flat_map, length, get_or, drop, refl, sym, ap, ◌∙◌, subst, arith, Option, Some, None, IfSome, IfOk, Result, Ok, Err, ltb-true, Vec, ◌⊎◌, inl, inr}
+use Rattle.std.proofs.Common.{◌≡◌, ℕ, zero, suc, ◌+◌, ◌-◌, ◌<◌, ◌≤◌, ◌&&◌, ◌||◌, ◌==◌, nat_lt, true, false, List, [], ◌∷◌, ◌++◌, map, flat_map, length, get_or, drop, take, Bool, refl, sym, ap, ◌∙◌, subst, arith, Option, Some, None, IfSome, IfOk, Result, Ok, Err, ltb-true, Vec, ◌⊎◌, inl, inr}
 use Rattle.std.specs.List.{AllByRecursion, list_any}
-use Rattle.std.proofs.lemmas.List.{append_assoc, append-nil, length-map, map-append, drop_all}
+use Rattle.std.specs.Bool.{OnTrue}
+use Rattle.std.proofs.lemmas.List.{append_assoc, append-nil, length-map, length-take-le, map-append}
 use Rattle.std.proofs.lemmas.Grind.{flat_map-append}
 use Rattle.std.proofs.lemmas.Bool.{or_right, lt-ltb, false_from_ne_true}
 use Rattle.wf_model.specs.Lists.{has}
@@ -20,9 +21,12 @@ use Rattle.wf_complex.specs.declared.line.Line.{Line}
 use Rattle.wf_set.specs.Sets.{values_in}
 use Rattle.wf_search.specs.declared.outline.Slot.{Slot}
 use Rattle.wf_search.specs.Cover.{each_seen}
-use Rattle.wf_box.specs.Boxes.{IsFor, Tracked, WasClosed, box_after, put_back}
+use Rattle.wf_box.specs.Boxes.{Grows, IsFor, Tracked, WasClosed, box_after}
+use Rattle.wf_box.proofs.QuietLemmas.{on_true}
+use Rattle.wf_box.proofs.SeenLemmas.{after_grown, closed_undone, grown_trail, still_closed}
 use Rattle.wf_search.specs.Outline.{IsClosedBox, IsJustClosed, as_written, slot_seen, slots_filled, is_to_open}
 use Rattle.wf_search.proofs.SearchLemmas.{branches_are_boxes}
+use Rattle.wf_search.proofs.PendingLemmas.{if_there, last_state}
 
 -- ---- the boxes
 
@@ -56,11 +60,6 @@ box_at [] i s low is = absurd (let none : ⊥ = omega (arith, low) in none)
 box_at (x ∷ slots) zero s low is = ap (λ (s : Slot). s.boxed.sets) is
 box_at (x ∷ slots) (suc i) s low is = box_at slots i s (omega (arith, low)) is
 
-pub each_box_at : (P : Box → Type 0) (slots : List Slot) (i : ℕ) (s : Slot) → AllByRecursion P (map (λ (s : Slot). s.boxed.sets) slots) → i < length slots → s ≡ get_or slots i s → P s.boxed.sets
-each_box_at P [] i s all low is = absurd (let none : ⊥ = omega (arith, low) in none)
-each_box_at P (x ∷ slots) zero s all low is = subst (λ (t : Slot). P t.boxed.sets) (sym is) all.0
-each_box_at P (x ∷ slots) (suc i) s all low is = each_box_at P slots i s all.1 (omega (arith, low)) is
-
 any_slot : (slots : List Slot) → list_any is_open (map (λ (s : Slot). s.boxed.sets) slots) ≡ list_any (λ (s : Slot). is_open s.boxed.sets) slots
 any_slot [] = refl
 any_slot (s ∷ slots) = ap (λ b. is_open s.boxed.sets || b) (any_slot slots)
@@ -72,12 +71,6 @@ to_open_seen slots after =
     ∙ ap (λ b. nat_lt (length slots) 64 && b) (any_slot slots)
 
 -- ---- adding to an outline
-
--- what stands at this place, and what follows
-pub drop_at : {X : Type 0} (xs : List X) (i : ℕ) (d : X) → i < length xs → drop i xs ≡ get_or xs i d ∷ drop (i + 1) xs
-drop_at [] i d low = absurd (let none : ⊥ = omega (arith, low) in none)
-drop_at (x ∷ xs) zero d low = refl
-drop_at (x ∷ xs) (suc i) d low = let e : suc i + 1 ≡ suc (i + 1) = omega arith in rw e (drop_at xs i d (omega (arith, low)))
 
 pub left_out_seen : (slots : List Slot) (s : Slot) (none : List Line) → none ≡ [] → flat_map slot_seen (slots ++ s ∷ []) ++ as_written none ≡ (flat_map slot_seen slots ++ as_written s.before.items) ++ left_out s.boxed.sets ∷ []
 left_out_seen [] s none is = ap (λ ls. ((slot_seen s ++ []) ++ as_written ls)) is ∙ append-nil (slot_seen s ++ []) ∙ append-nil (slot_seen s)
@@ -130,12 +123,6 @@ module _ (p : Problem) where
   pub open_end : (after : List Line) → flat_map (opened p) (as_written after) ≡ as_written after
   open_end after =
       ap (flat_map (opened p)) (sym (append-nil (as_written after))) ∙ open_written (map line_of after) [] ∙ append-nil (as_written after)
-
-  pub opened_none : (box : Box) → first_open box ≡ None → opened p (left_out box) ≡ left_out box ∷ []
-  opened_none box is = ap (λ o. opened_at o p box) is
-
-  pub opened_some : (box : Box) (v : ℕ) → first_open box ≡ Some v → opened p (left_out box) ≡ written (refutation.branch v) ∷ flat_map (λ b. closed_to (closing p b)) (branches_at box v)
-  opened_some box v is = ap (λ o. opened_at o p box) is
 
   -- a further level, or none
   pub level_more : (n : ℕ) (items : List Item) → 0 < n → is_to_open items ≡ true → opened_levels n p items ≡ opened_levels (n - 1) p (flat_map (opened p) items)
@@ -196,8 +183,40 @@ module _ (p : Problem) where
 pub others_there : (set : List ℕ) (value : ℕ) (values more : List ℕ) → values ≡ value ∷ more → ((a : ℕ) → has values a ≡ true → has set a ≡ true) → (a : ℕ) → has more a ≡ true → has set a ≡ true
 others_there set value values more split there a is = there a (subst (λ vs. has vs a ≡ true) (sym split) (or_right (value == a) (has more a) is))
 
-pub first_there : (set : List ℕ) (value : ℕ) (values more : List ℕ) → values ≡ value ∷ more → ((a : ℕ) → has values a ≡ true → has set a ≡ true) → has set value ≡ true
-first_there set value values more split there = there value (subst (λ vs. has vs value ≡ true) (sym split) (grind (arith)))
+-- ---- a box that is given the same state again and again
+
+-- it has the state of the mark: these candidates after so many changes
+pub record IsAtMark (p : Problem) (box : Box) (n : ℕ) (is_closed : Bool) (b : Tracked) : Type 0 where
+  pub sets : b.sets ≡ box
+  pub long : length b.trail ≡ n
+  pub closed : OnTrue is_closed (WasClosed p b n)
+  pub is : IsFor p b
+
+pub at_mark : (p : Problem) (b : Tracked) (n : ℕ) (is_closed : Bool) → IsFor p b → n ≡ length b.trail → OnTrue is_closed (b.closed ≡ Some (length b.trail)) → IsAtMark p b.sets n is_closed b
+at_mark p b n is_closed is long closed = record {
+  sets = refl;
+  long = sym long;
+  closed = on_true is_closed (b.closed ≡ Some (length b.trail)) (WasClosed p b n) (λ now. subst (WasClosed p b) (sym long) (if_there (WasClosed p b) b.closed (length b.trail) now is.closed)) closed;
+  is = is;
+}
+
+-- what was closed then is known after further changes
+pub closed_still : (p : Problem) (box : Box) (n : ℕ) (is_closed : Bool) (b mid new : Tracked) → IsAtMark p box n is_closed b → Grows b mid → Grows mid new → OnTrue is_closed (WasClosed p new n)
+closed_still p box n is_closed b mid new at first more =
+    on_true is_closed (WasClosed p b n) (WasClosed p new n) (λ was. still_closed p mid new n more (still_closed p b mid n first was)) at.closed
+
+pub at_mark_again : (p : Problem) (box : Box) (n : ℕ) (is_closed : Bool) (b mid new back : Tracked) → IsAtMark p box n is_closed b → Grows b mid → Grows mid new
+    → back.sets ≡ box_after n new → back.trail ≡ take n new.trail → IsFor p back → IsAtMark p box n is_closed back
+at_mark_again p box n is_closed b mid new back at first more sets trail is =
+    let low : n ≤ length b.trail = omega (arith, at.long) in
+    let low_mid : n ≤ length mid.trail = omega (arith, low, grown_trail b mid first) in
+    let low_new : n ≤ length new.trail = omega (arith, low_mid, grown_trail mid new more) in
+    record {
+      sets = sets ∙ after_grown mid new n more low_mid ∙ after_grown b mid n first low ∙ ap (λ k. box_after k b) (sym at.long) ∙ last_state b ∙ at.sets;
+      long = ap length trail ∙ length-take-le n new.trail low_new;
+      closed = on_true is_closed (WasClosed p new n) (WasClosed p back n) (closed_undone p new back n n (omega arith) low_new sets trail) (closed_still p box n is_closed b mid new at first more);
+      is = is;
+    }
 
 -- ---- closed boxes
 
@@ -208,7 +227,7 @@ if_ok_both (Err e) P Q R f some more = tt
 -- a box that was closed just now is of each problem in which its candidates are closed
 pub closed_for : (p : Problem) (b : Tracked) → IsJustClosed b → IsClosedBox p b.sets → IsFor p b
 closed_for p b now closed =
-    let last : box_after (length b.trail) b ≡ b.sets = ap (λ ws. put_back ws b.sets) (drop_all (length b.trail) b.trail (omega arith)) in
+    let last = last_state b in
     let was : WasClosed p b (length b.trail) = record {
       within = omega arith;
       filled = ap first_empty last ∙ closed.filled;
@@ -274,7 +293,7 @@ opened_last p slots none after lines old new items past same grown all seen =
 pub boxes_of_slots : (P : Box → Type 0) (slots : List Slot) (after : List Line) (items : List Item) → flat_map slot_seen slots ++ as_written after ≡ items → AllByRecursion P (boxes_left_out items) → AllByRecursion P (map (λ (s : Slot). s.boxed.sets) slots)
 boxes_of_slots P slots after items seen all = subst (AllByRecursion P) (ap boxes_left_out (sym seen) ∙ boxes_seen slots after) all
 
-pub no_more_branches : (p : Problem) (old whole : List Item) (box : Box) (v left : ℕ) → values_in left ≡ [] → old ++ branches_closed p box v (values_in left) ≡ whole → old ≡ whole
+pub no_more_branches : (p : Problem) (old whole : List Item) (box : Box) (v : ℕ) (left : List ℕ) → values_in left ≡ [] → old ++ branches_closed p box v (values_in left) ≡ whole → old ≡ whole
 no_more_branches p old whole box v left none all = sym (append-nil old) ∙ ap (λ vs. old ++ branches_closed p box v vs) (sym none) ∙ all
 
 pub fill_last : {A : Type 0} (slots : List Slot) (after : List Line) (lists : List (Vec Line A)) (start mid new more : List Line) (items : List Item) → start ≡ [] → length lists ≡ length slots

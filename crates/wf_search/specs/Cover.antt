@@ -1,5 +1,5 @@
 -- What a cover gives: its branches, and one list of lines for the root from those of the branches.
-use Rattle.std.specs.Prelude.{◌≡◌, ◌++◌, ℕ, List, [], map, All, Vec}
+use Rattle.std.specs.Prelude.{◌≡◌, ℕ, List, [], map, All, Vec}
 use Rattle.std.specs.List.{slice_index_or}
 use Rattle.wf_model.specs.Problem.{IsWellFormed, Problem}
 use Rattle.wf_model.specs.Box.{Box, root}

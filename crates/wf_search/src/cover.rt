@@ -36,7 +36,7 @@ impl Model for Cover {
 }
 
 impl Cover {
-    /// How many branches there are: at most 63 boxes with 64 children each. It takes no memory.
+    /// How many branches there are: at most 63 boxes with 256 children each. It takes no memory.
     pub fn branches(&self) -> u32
         ensures branches { result ≡ length (boxes_left_out self.now) }
         ensures few { result ≤ most_branches }
@@ -81,8 +81,7 @@ pub fn split(alloc: Global, problem: &Problem) -> Result<Cover, AllocError>
     ensures closed { IfOk result (AreClosedBranches problem.now) }
 {
     let _points = problem.points();
-    let mut outline = Outline::new(alloc);
-    outline.close(alloc, problem, Box0::root(alloc, problem)?)?;
+    let mut outline = Outline::of_root(alloc, problem)?;
     let mut levels: u32 = 8;
     'levels: while levels > 0 && outline.is_to_open() {
         outline = outline.opened(alloc, problem)?;

@@ -3,18 +3,19 @@
 ghost use Rattle.std.specs.Prelude.{◌≡◌, ◌<◌, ◌∷◌, ◌++◌, [], length, flat_map, IfOk, OnOk};
 ghost use Rattle.std.specs.List.{AllByRecursion, list_any};
 ghost use Rattle.wf_model.specs.Problem.{Problem};
+ghost use Rattle.wf_model.specs.Box.{root};
 ghost use Rattle.wf_model.specs.Closing.{closing};
 ghost use Rattle.wf_model.specs.Outline.{boxes_left_out, closed_to, left_out, opened, written};
 ghost use Rattle.wf_model.specs.Split.{is_open};
 ghost use Rattle.wf_complex.specs.Lines.{line_of};
-ghost use Rattle.wf_box.specs.Boxes.{IsFor};
+ghost use Rattle.wf_box.specs.Boxes.{Grows, IsFor};
 ghost use Rattle.wf_search.specs.Cover.{IsFilled, branch_at};
 ghost use Rattle.wf_search.specs.Outline.{Adds, IsClosedBox, IsForIfClosed, IsJustClosed, as_written, branches_closed, is_to_open, slots_filled};
 
 use std::alloc::{AllocError, Global};
 use std::marker::Model;
 use std::mem;
-use wf_box::{Box0, Closed, Problem, close};
+use wf_box::{Box0, Closed, Problem, Snapshot, close};
 use wf_complex::{Line, Lines};
 use wf_set::split_first;
 
@@ -22,7 +23,7 @@ use wf_set::split_first;
 #[derive(Drop)]
 struct Slot {
     before: Lines,
-    boxed: Box0,
+    boxed: Snapshot,
 }
 
 /// Lines, with boxes in the places of the lines that refute them.
@@ -47,8 +48,21 @@ impl Model for Outline {
 }
 
 impl Outline {
+    /// The lines of closing a problem's root, with those that refute what it leaves left out.
+    pub(crate) fn of_root(alloc: Global, problem: &Problem) -> Result<Outline, AllocError>
+        ensures root { IfOk result (λ outline.
+            outline ≡ closed_to (closing problem.now (root problem.now))) }
+        ensures boxes { IfOk result (λ outline.
+            AllByRecursion (IsClosedBox problem.now) (boxes_left_out outline)) }
+    {
+        let mut outline = Outline::new(alloc);
+        let mut root = Box0::root(alloc, problem)?;
+        outline.close(alloc, problem, &mut root)?;
+        Ok(outline)
+    }
+
     /// No line and no box.
-    pub(crate) fn new(alloc: Global) -> Outline
+    fn new(alloc: Global) -> Outline
         ensures { result ≡ [] }
     {
         Outline {
@@ -70,7 +84,7 @@ impl Outline {
         ensures branch { IfOk result (λ boxed. boxed.sets ≡ branch_at self.now number) }
         ensures is { IfOk result IsForIfClosed }
     {
-        self.slots[number].boxed.copy(alloc)
+        self.slots[number].boxed.to_box(alloc)
     }
 
     /// Whether there are too few boxes, and one of them is open.
@@ -108,7 +122,7 @@ impl Outline {
     }
 
     /// Leaves out the lines that refute a box, which was closed just now.
-    fn leave_out(&mut self, alloc: Global, boxed: Box0) -> Result<(), AllocError>
+    fn leave_out(&mut self, alloc: Global, boxed: Snapshot) -> Result<(), AllocError>
         requires { IsJustClosed boxed }
         ensures { OnOk result (self.new ≡ self.old ++ left_out boxed.sets ∷ []) }
     {
@@ -118,19 +132,21 @@ impl Outline {
     }
 
     /// Writes the lines of closing a box, and leaves out those that refute what it leaves.
-    pub(crate) fn close(
+    fn close(
         &mut self,
         alloc: Global,
         problem: &Problem,
-        boxed: Box0,
+        boxed: &mut Box0,
     ) -> Result<(), AllocError>
-        requires { IsFor problem.now boxed }
-        ensures { OnOk result (self.new ≡ self.old ++ closed_to (closing problem.now boxed.sets)) }
+        requires { IsFor problem.now boxed.old }
+        ensures items { OnOk result (self.new
+            ≡ self.old ++ closed_to (closing problem.now boxed.old.sets)) }
+        ensures is { OnOk result (IsFor problem.now boxed.new) }
+        ensures grown { OnOk result (Grows boxed.old boxed.new) }
     {
-        let mut boxed = boxed;
-        match close(alloc, problem, &mut boxed, &mut self.after)? {
+        match close(alloc, problem, boxed, &mut self.after)? {
             Closed::Empty(_) => Ok(()),
-            Closed::Open { .. } => self.leave_out(alloc, boxed),
+            Closed::Open { .. } => self.leave_out(alloc, boxed.keep(alloc)?),
         }
     }
 
@@ -139,26 +155,30 @@ impl Outline {
         &mut self,
         alloc: Global,
         problem: &Problem,
-        boxed: &Box0,
+        boxed: Box0,
         point: u32,
     ) -> Result<(), AllocError>
-        requires boxed { IsFor problem.now boxed.now }
-        requires point { point < length boxed.now.sets }
-        ensures { OnOk result (self.new ≡ self.old ++ branches_closed problem.now boxed.now.sets point) }
+        requires boxed { IsFor problem.now boxed }
+        requires point { point < length boxed.sets }
+        ensures { OnOk result (self.new
+            ≡ self.old ++ branches_closed problem.now boxed.sets point) }
     {
+        let mut boxed = boxed;
+        let mark = boxed.mark();
         let mut left = boxed.candidates(point);
-        'values: while let Some((value, others)) = split_first(left) {
+        'values: while let Some(next) = split_first(left) {
+            let (value, others) = next;
             left = others;
-            let mut branch = boxed.copy(alloc)?;
-            branch.set(point, value);
-            self.close(alloc, problem, branch)?;
+            boxed.set(point, value);
+            self.close(alloc, problem, &mut boxed)?;
+            boxed.undo(mark);
         }
         Ok(())
     }
 
     /// Writes the branching of a closed box and the lines of closing its branches; where it has no open point, the lines
     /// that refute it are left out.
-    fn open(&mut self, alloc: Global, problem: &Problem, boxed: Box0) -> Result<(), AllocError>
+    fn open(&mut self, alloc: Global, problem: &Problem, boxed: Snapshot) -> Result<(), AllocError>
         requires boxed { IsFor problem.now boxed }
         requires closed { IsJustClosed boxed }
         ensures { OnOk result (self.new ≡ self.old ++ opened problem.now (left_out boxed.sets)) }
@@ -167,7 +187,7 @@ impl Outline {
             None => self.leave_out(alloc, boxed),
             Some(point) => {
                 self.write(Line::B { point })?;
-                self.close_branches(alloc, problem, &boxed, point)
+                self.close_branches(alloc, problem, boxed.to_box(alloc)?, point)
             }
         }
     }

@@ -3,6 +3,7 @@
 ghost use Rattle.std.specs.Prelude.{◌≡◌, ◌<◌, ◌∷◌, [], None, length, OnOk, IfOk};
 ghost use Rattle.std.specs.Bool.{OnTrue, OnFalse};
 ghost use Rattle.wf_model.specs.Box.{candidates, first_empty, first_open};
+ghost use Rattle.wf_set.specs.Sets.{values_in};
 ghost use Rattle.wf_box.specs.Boxes.{IsFor};
 ghost use Rattle.wf_box.specs.Closes.{Leaves};
 ghost use Rattle.wf_box.specs.Least.{least_values};
@@ -13,7 +14,7 @@ use std::alloc::{AllocError, Global};
 use std::marker::Model;
 use wf_box::{Box0, Closed, Mark, Problem, close};
 use wf_complex::Lines;
-use wf_set::{Mask, first, is_empty, rest};
+use wf_set::{Mask, is_empty, split_first};
 
 /// A point at which the box branched: the state of the box then, and the point's values whose branches are still to
 /// come.
@@ -95,12 +96,14 @@ impl<'a> Pending<'a> {
         ensures first { HasFirst self.new.boxes }
     {
         let values = self.current.candidates(point);
+        let parts = split(values);
+        let (value, left) = parts;
         self.frames.push(Frame {
             mark: self.current.mark(),
             point,
-            left: rest(values),
+            left,
         })?;
-        self.current.set(point, first(values));
+        self.current.set(point, value);
         Ok(())
     }
 
@@ -115,11 +118,23 @@ impl<'a> Pending<'a> {
             return false;
         };
         self.current.undo(frame.mark);
-        self.current.set(frame.point, first(frame.left));
-        let left = rest(frame.left);
+        let parts = split(frame.left);
+        let (value, left) = parts;
+        self.current.set(frame.point, value);
         if !is_empty(left) {
             self.frames.push_reserved(Frame { left, ..frame });
         }
         true
+    }
+}
+
+/// The least value of a set that has one, and the set without it.
+fn split(set: Mask) -> (u8, Mask)
+    requires { 0 < length (values_in set) }
+    ensures { values_in set ≡ result.0 ∷ values_in result.1 }
+{
+    match split_first(set) {
+        Some(parts) => parts,
+        None => unreachable!(),
     }
 }

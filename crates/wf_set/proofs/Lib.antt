@@ -1,2 +1,3 @@
 pub mod SetLaws
+pub mod PartLaws
 pub mod Listing

@@ -1,12 +1,13 @@
--- A word that holds the numbers of an ascending list has that list as its values.
-use Rattle.std.proofs.Common.{◌≡◌, ℕ, zero, suc, ◌+◌, ◌<◌, ◌≤◌, ◌==◌, ◌||◌, Bool, false, cond, List, [], ◌∷◌, filter, refl, sym, ap, ◌∙◌, ⊎_elim, arith, eq-eqb, ne_eqb}
+-- A word that part_holds the numbers of an ascending list has that list as its values.
+use Rattle.std.proofs.Common.{◌≡◌, ℕ, zero, suc, ◌+◌, ◌<◌, ◌≤◌, ◌==◌, ◌||◌, Bool, true, false, cond, List, [], ◌∷◌, filter, refl, sym, ap, ◌∙◌, ⊎_elim, arith, eq-eqb, ne_eqb}
 use Rattle.std.specs.List.{AllByRecursion, range_with_len}
-use Rattle.std.proofs.lemmas.Bool.{cases_eq, or_left, or_from}
+use Rattle.std.proofs.lemmas.Bool.{cases_eq, cases_lt, false≢true, or_left, or_right, or_from}
 use Rattle.wf_model.specs.Lists.{has}
 use Rattle.wf_model.proofs.Ascending.{Ascends}
 use Rattle.wf_model.proofs.Bridge.{weaker}
 use Rattle.wf_model.proofs.Headline.{always}
 use Rattle.wf_set.specs.Sets.{holds, values_in}
+use Rattle.wf_set.proofs.SetLaws.{has-values_in, too_large}
 
 -- ---- an ascending list as a part of a run
 
@@ -43,8 +44,23 @@ run_keeps p (x ∷ xs) a (suc n) up low high same =
     (λ v l h. same v (omega (arith, l)) (omega (arith, h))))
     (cases_eq a x)
 
--- ---- a word
+-- ---- a set
 
-pub values_listed : (word : ℕ) (xs : List ℕ) → Ascends xs → AllByRecursion (λ x. x < 64) xs → ((v : ℕ) → v < 64 → holds word v ≡ has xs v) → values_in word ≡ xs
+-- a set that has what an ascending list has
+-- a list of what the set has has nothing past the limit
+below_limit : (set xs : List ℕ) → ((v : ℕ) → has (values_in set) v ≡ has xs v) → (v : ℕ) → has xs v ≡ true → v < 256
+below_limit set xs same v h =
+    ⊎_elim (λ (low : v < 256). low) (λ (high : 256 ≤ v). let none : false ≡ true = sym (too_large set v high) ∙ same v ∙ h in absurd (false≢true none)) (cases_lt v 256)
+
+all_below : (set xs : List ℕ) → ((v : ℕ) → has (values_in set) v ≡ has xs v) → (ys : List ℕ) → ((v : ℕ) → has ys v ≡ true → has xs v ≡ true) → AllByRecursion (λ x. x < 0 + 256) ys
+all_below set xs same [] there = tt
+all_below set xs same (y ∷ ys) there = (
+  below_limit set xs same y (there y (or_left (y == y) (has ys y) (eq-eqb y y refl))),
+  all_below set xs same ys (λ v h. there v (or_right (y == v) (has ys v) h)),
+)
+
+pub values_listed : (set : List ℕ) (xs : List ℕ) → Ascends xs → ((v : ℕ) → has (values_in set) v ≡ has xs v) → values_in set ≡ xs
 unfolding values_in
-values_listed word xs up small same = run_keeps (holds word) xs 0 64 up (always (λ x. 0 ≤ x) (λ x. omega arith) xs) small (λ v low high. same v (omega (arith, high)))
+values_listed set xs up same =
+    run_keeps (holds set) xs 0 256 up (always (λ x. 0 ≤ x) (λ x. omega arith) xs) (all_below set xs same xs (λ v h. h))
+    (λ v low high. sym (has-values_in set v (omega (arith, high))) ∙ same v)

@@ -1,345 +1,374 @@
--- Laws of sets: a word beside the ascending list of its values.
-use Rattle.std.proofs.Common.{pow_pos, ◌≡◌, ℕ, zero, suc, ◌+◌, ◌-◌, ◌*◌, ◌/◌, ◌%◌, ◌<◌, ◌≤◌, ◌^◌, List, [], ◌∷◌, length, Bool, true, false, cond, not, ◌&&◌, min, refl, sym, ◌∙◌, ap, arith, ⊎_elim, subst, max, eqb-true, w64}
-use Rattle.std.specs.Prelude.{bit_and, bit_or, count_ones, slice_index, ◌==◌, ◌||◌}
-use Rattle.std.specs.Int.{bit_at, bit_not, trailing_zeros}
-use Rattle.std.specs.List.{All, AllByRecursion, filter, range_with_len}
-use Rattle.std.specs.Int.Count.{ones_step}
-use Rattle.std.proofs.Math.Nat.{suc-mul, pow-suc}
-use Rattle.std.proofs.lemmas.Bool.{cases_eq, eq-eqb, ne_eqb, and_left, and_right, or_from}
-use Rattle.std.proofs.lemmas.Nat.{shr_split, mod_below, one_shl, pow_below, ones_le_self, zero_from_ones}
-use Rattle.std.proofs.lemmas.Nat.Bits.{bit_at_and, bit_at_not, bit_at-lt, bit_at-zero, bit_at-suc, bit_at_lowest, bit_at_cat_low, bit_at_cat_high, bit_at-trailing_zeros, same_from_bits_below, bit_at_or, bit_at-pow_same, bit_at-pow_other}
-use Rattle.std.proofs.lemmas.List.Elements.{All-nil, All-cons, All-filter, All-weaker, recursion_from_All}
+-- Laws of sets: four words beside the ascending list of their values.
+use Rattle.std.proofs.Common.{◌≡◌, ℕ, zero, suc, ◌+◌, ◌*◌, ◌/◌, ◌%◌, ◌<◌, ◌≤◌, List, [], ◌∷◌, ◌++◌, map, length, Bool, true, false, cond, not, ◌&&◌, refl, sym, ◌∙◌, ap, arith, ⊎_elim, eqb-true, subst}
+use Rattle.std.specs.Prelude.{bit_or, get_or, nat_lt, ◌==◌, ◌||◌}
+use Rattle.std.specs.List.{filter, range_with_len, All}
+use Rattle.std.proofs.Math.Bool.{and-true}
+use Rattle.std.proofs.lemmas.Bool.{cases_eq, cases_lt, eq-eqb, ne_eqb, lt-ltb, le-ltb}
+use Rattle.std.proofs.lemmas.List.{length-append, length-map}
+use Rattle.std.proofs.lemmas.List.Elements.{All-filter, All-weaker, filter-append}
+use Rattle.std.proofs.lemmas.List.Folds.{list_any_none}
+use Rattle.std.proofs.lemmas.Map.Views.{any-filter_same}
 use Rattle.wf_model.specs.Lists.{below, has}
 use Rattle.wf_model.proofs.Ascending.{Ascends, ascends_filter}
-use Rattle.std.proofs.lemmas.List.FromFn.{get_or-range_with_len, length-range_with_len}
-use Rattle.std.proofs.lemmas.List.Folds.{list_any_at}
-use Rattle.std.proofs.lemmas.Map.Views.{any-filter_same}
-use Rattle.std.proofs.Math.Bool.{and-true}
+use Rattle.wf_set.specs.Parts.{part_holds, part_values}
 use Rattle.wf_set.specs.Sets.{holds, values_in}
+use Rattle.wf_set.proofs.PartLaws.{by_two, part_holds-or, has-part_values, holds_nothing, in_below, in_run, run_agrees, run_ascends, run_of_none, values_of_nothing as values_of_no_part}
 
--- ---- the bits of a word
+-- ---- a set's words, one after another
 
-or_test : (m n : ℕ) → m < 2 → n < 2 → (max m n == 1) ≡ (m == 1 || n == 1)
-or_test zero zero h k = refl
-or_test zero (suc zero) h k = refl
-or_test (suc zero) zero h k = refl
-or_test (suc zero) (suc zero) h k = refl
-or_test (suc (suc m)) n h k = absurd (omega arith)
-or_test zero (suc (suc n)) h k = absurd (omega arith)
-or_test (suc zero) (suc (suc n)) h k = absurd (omega arith)
+abbrev pub part_of : List ℕ → ℕ → ℕ
+part_of set k = get_or set k 0
 
-pub holds-or : (x y a : ℕ) → holds (bit_or x y) a ≡ (holds x a || holds y a)
-holds-or x y a = ap (λ b. b == 1) (bit_at_or x y a) ∙ or_test (bit_at x a) (bit_at y a) (bit_at-lt x a) (bit_at-lt y a)
+-- a run of numbers in two parts
+run_split : (a n m : ℕ) → range_with_len a (n + m) ≡ range_with_len a n ++ range_with_len (a + n) m
+run_split a zero m = ap (λ n. range_with_len a n) (let none : 0 + m ≡ m = omega arith in none) ∙ ap (λ b. range_with_len b m) (let same : a ≡ a + 0 = omega arith in same)
+run_split a (suc n) m =
+    ap (λ k. range_with_len a k) (let more : suc n + m ≡ suc (n + m) = omega arith in more)
+    ∙ ap (λ ns. a ∷ ns) (run_split (a + 1) n m ∙ ap (λ b. range_with_len (a + 1) n ++ range_with_len b m) (let same : a + 1 + n ≡ a + suc n = omega arith in same))
 
-pub holds_nothing : (a : ℕ) → holds 0 a ≡ false
-holds_nothing a = ap (λ b. b == 1) (bit_at-zero a)
+kept_from : (f : ℕ → ℕ) (b : Bool) (x : ℕ) (xs : List ℕ) → cond b (f x ∷ map f xs) (map f xs) ≡ map f (cond b (x ∷ xs) xs)
+kept_from f true x xs = refl
+kept_from f false x xs = refl
 
-pub holds-pow : (k a : ℕ) → holds (2 ^ k) a ≡ (k == a)
-holds-pow k a = ⊎_elim (λ (e : a ≡ k). subst (λ j. holds (2 ^ k) j ≡ (k == j)) (sym e) (ap (λ b. b == 1) (bit_at-pow_same k) ∙ sym (eq-eqb k k refl))) (λ (ne : a ≡ k → ⊥). ap (λ b. b == 1) (bit_at-pow_other k a ne) ∙ sym (ne_eqb k a (λ e. ne (sym e)))) (cases_eq a k)
+-- what a test keeps of a run that starts later
+later_run : (p : ℕ → Bool) (c a n : ℕ) → filter p (range_with_len (c + a) n) ≡ map (λ v. c + v) (filter (λ v. p (c + v)) (range_with_len a n))
+later_run p c a zero = refl
+later_run p c a (suc n) =
+    let next : c + a + 1 ≡ c + (a + 1) = omega arith in
+    ap (λ xs. cond (p (c + a)) ((c + a) ∷ xs) xs) (ap (λ b. filter p (range_with_len b n)) next ∙ later_run p c (a + 1) n)
+    ∙ kept_from (λ v. c + v) (p (c + a)) a (filter (λ v. p (c + v)) (range_with_len (a + 1) n))
 
--- ---- lists of a word's values
+-- the values of the word at a place
+abbrev pub placed : List ℕ → ℕ → List ℕ
+placed set k = map (λ v. 64 * k + v) (part_values (part_of set k))
 
-pub in_below : (n v : ℕ) → v < n → has (below n) v ≡ true
-in_below n v h = list_any_at (λ y. y == v) (below n) v 0 (rw (length-range_with_len 0 n) h) (rw (get_or-range_with_len 0 n v 0 h) (eq-eqb (0 + v) v (omega arith)))
+-- the values of one of the words, moved to its place
+part_at : (set : List ℕ) (k : ℕ) → filter (holds set) (range_with_len (64 * k + 0) 64) ≡ placed set k
+unfolding part_values
+part_at set k =
+    later_run (holds set) (64 * k) 0 64
+    ∙ ap (map (λ v. 64 * k + v)) (run_agrees (λ v. holds set (64 * k + v)) (part_holds (part_of set k)) 0 64
+    (λ v low high. ap (λ j. part_holds (part_of set j) ((64 * k + v) % 64)) (let word : (64 * k + v) / 64 ≡ k = omega (arith, high) in word)
+    ∙ ap (part_holds (part_of set k)) (let bit : (64 * k + v) % 64 ≡ v = omega (arith, high) in bit)))
+
+-- the values of four words, each moved to its place
+abbrev pub joined : List ℕ → List ℕ → List ℕ → List ℕ → List ℕ
+joined a b c d = map (λ v. 64 * 0 + v) a ++ (map (λ v. 64 * 1 + v) b ++ (map (λ v. 64 * 2 + v) c ++ map (λ v. 64 * 3 + v) d))
+
+abbrev pub parts_from : List ℕ → List ℕ
+parts_from set = joined (part_values (part_of set 0)) (part_values (part_of set 1)) (part_values (part_of set 2)) (part_values (part_of set 3))
+
+joined_parts : (p : ℕ → Bool) (a b c d : List ℕ) → filter p (a ++ (b ++ (c ++ d))) ≡ filter p a ++ (filter p b ++ (filter p c ++ filter p d))
+joined_parts p a b c d =
+    filter-append p a (b ++ (c ++ d)) ∙ ap (λ xs. filter p a ++ xs) (filter-append p b (c ++ d) ∙ ap (λ xs. filter p b ++ xs) (filter-append p c d))
+
+same_four : {a b c d e f g h : List ℕ} → a ≡ e → b ≡ f → c ≡ g → d ≡ h → a ++ (b ++ (c ++ d)) ≡ e ++ (f ++ (g ++ h))
+same_four p q r s = cc
+
+run_of_four : below 256 ≡ range_with_len 0 64 ++ (range_with_len 64 64 ++ (range_with_len 128 64 ++ range_with_len 192 64))
+run_of_four =
+    run_split 0 64 192 ∙ ap (λ xs. range_with_len 0 64 ++ xs) (run_split 64 64 128 ∙ ap (λ xs. range_with_len 64 64 ++ xs) (run_split 128 64 64))
+
+-- the values of a set are those of its four words
+pub four_parts : (set : List ℕ) → values_in set ≡ parts_from set
+unfolding values_in
+four_parts set =
+    ap (filter (holds set)) run_of_four
+    ∙ joined_parts (holds set) (range_with_len 0 64) (range_with_len 64 64) (range_with_len 128 64) (range_with_len 192 64)
+    ∙ same_four (part_at set 0) (part_at set 1) (part_at set 2) (part_at set 3)
+
+-- ---- a set and its values
 
 -- a value is in the list where its bit is set
-pub has-values_in : (word v : ℕ) → v < 64 → has (values_in word) v ≡ holds word v
+pub has-values_in : (set : List ℕ) (v : ℕ) → v < 256 → has (values_in set) v ≡ holds set v
 unfolding values_in
-has-values_in word v h =
-    any-filter_same (λ y. y == v) (holds word) (holds word v) (λ k e. ap (holds word) (eqb-true k v e)) (below 64)
-    ∙ ap (λ b. holds word v && b) (in_below 64 v h) ∙ and-true (holds word v)
+has-values_in set v h =
+    any-filter_same (λ y. y == v) (holds set) (holds set v) (λ k e. ap (holds set) (eqb-true k v e)) (below 256)
+    ∙ ap (λ b. holds set v && b) (in_below 256 v h) ∙ and-true (holds set v)
 
--- ---- filters of a run of numbers
-
-run_agrees : (p q : ℕ → Bool) (a n : ℕ) → ((v : ℕ) → a ≤ v → v < a + n → p v ≡ q v) → filter p (range_with_len a n) ≡ filter q (range_with_len a n)
-run_agrees p q a zero same = refl
-run_agrees p q a (suc n) same =
-    ap (λ b. cond b (a ∷ filter p (range_with_len (a + 1) n)) (filter p (range_with_len (a + 1) n))) (same a (omega arith) (omega arith))
-    ∙ ap (λ vs. cond (q a) (a ∷ vs) vs) (run_agrees p q (a + 1) n (λ v low high. same v (omega arith) (omega arith)))
-
-run_of_none : (a n : ℕ) → filter (λ v. false) (range_with_len a n) ≡ []
-run_of_none a zero = refl
-run_of_none a (suc n) = run_of_none (a + 1) n
-
-one_by_two : {X : Type 0} (p : X → Bool) (x : X) (xs : List X) (b : Bool) → filter p (cond b (x ∷ xs) xs) ≡ cond (b && p x) (x ∷ filter p xs) (filter p xs)
-one_by_two p x xs true = refl
-one_by_two p x xs false = refl
-
-pub by_two : {X : Type 0} (p q : X → Bool) (xs : List X) → filter p (filter q xs) ≡ filter (λ x. q x && p x) xs
-by_two p q [] = refl
-by_two p q (x ∷ xs) = one_by_two p x (filter q xs) (q x) ∙ ap (λ ys. cond (q x && p x) (x ∷ ys) ys) (by_two p q xs)
-
--- t is the first number that p keeps, and q keeps what p does but t
-first_kept : (p q : ℕ → Bool) (t a n : ℕ) → a ≤ t → t < a + n → ((v : ℕ) → v < t → p v ≡ false) → p t ≡ true → ((v : ℕ) → v ≤ t → q v ≡ false) → ((v : ℕ) → t < v → v < a + n → p v ≡ q v) → filter p (range_with_len a n) ≡ t ∷ filter q (range_with_len a n)
-first_kept p q t a zero low high before at no_q after = absurd (omega arith)
-first_kept p q t a (suc n) low high before at no_q after =
-    let ps = filter p (range_with_len (a + 1) n) in
-    let qs = filter q (range_with_len (a + 1) n) in
-    let q_skips : cond (q a) (a ∷ qs) qs ≡ qs = ap (λ b. cond b (a ∷ qs) qs) (no_q a low) in
-    ⊎_elim
-    (λ (e : a ≡ t).
-    let p_keeps : cond (p a) (a ∷ ps) ps ≡ a ∷ ps = ap (λ b. cond b (a ∷ ps) ps) (ap p e ∙ at) in
-    p_keeps ∙ ap (λ v. v ∷ ps) e ∙ ap (λ vs. t ∷ vs) (run_agrees p q (a + 1) n (λ v l h. after v (omega arith) (omega arith)) ∙ sym q_skips))
-    (λ (ne : a ≡ t → ⊥).
-    let less : a < t = omega (arith, ne) in
-    let p_skips : cond (p a) (a ∷ ps) ps ≡ ps = ap (λ b. cond b (a ∷ ps) ps) (before a less) in
-    p_skips ∙ first_kept p q t (a + 1) n (omega arith) (omega arith) before at no_q (λ v l h. after v l (omega arith)) ∙ ap (λ vs. t ∷ vs) (sym q_skips))
-    (cases_eq a t)
-
--- ---- one value
-
-and_test : (m n : ℕ) → m < 2 → n < 2 → (min m n == 1) ≡ (m == 1 && n == 1)
-and_test zero zero h k = refl
-and_test zero (suc zero) h k = refl
-and_test (suc zero) zero h k = refl
-and_test (suc zero) (suc zero) h k = refl
-and_test (suc (suc m)) n h k = absurd (omega arith)
-and_test zero (suc (suc n)) h k = absurd (omega arith)
-and_test (suc zero) (suc (suc n)) h k = absurd (omega arith)
-
-pub holds-and : (x y v : ℕ) → holds (bit_and x y) v ≡ (holds x v && holds y v)
-holds-and x y v = ap (λ b. b == 1) (bit_at_and x y v) ∙ and_test (bit_at x v) (bit_at y v) (bit_at-lt x v) (bit_at-lt y v)
-
-not_test : (m : ℕ) → m < 2 → (1 - m == 1) ≡ not (m == 1)
-not_test zero h = refl
-not_test (suc zero) h = refl
-not_test (suc (suc m)) h = absurd (omega arith)
-
-pub holds-not : (x v : ℕ) → x < 2 ^ 64 → v < 64 → holds (bit_not w64 x) v ≡ not (holds x v)
-holds-not x v fits small = ap (λ b. b == 1) (bit_at_not w64 x v fits small) ∙ not_test (bit_at x v) (bit_at-lt x v)
-
-same_test : (a b : ℕ) → (a == b) ≡ (b == a)
-same_test a b = ⊎_elim (λ (e : a ≡ b). eq-eqb a b e ∙ sym (eq-eqb b a (sym e))) (λ (ne : a ≡ b → ⊥). ne_eqb a b ne ∙ sym (ne_eqb b a (λ e. ne (sym e)))) (cases_eq a b)
-
-one_bit : (m n : ℕ) → m < 2 → n < 2 → (m == 1) ≡ (n == 1) → m ≡ n
-one_bit zero zero h k e = refl
-one_bit zero (suc zero) h k e = cc
-one_bit (suc zero) zero h k e = cc
-one_bit (suc zero) (suc zero) h k e = refl
-one_bit (suc (suc m)) n h k e = absurd (omega arith)
-one_bit zero (suc (suc n)) h k e = absurd (omega arith)
-one_bit (suc zero) (suc (suc n)) h k e = absurd (omega arith)
-
--- ---- a word and its values
-
--- a word that holds those values of another that pass a test
-pub values-filter : (word other : ℕ) (p : ℕ → Bool) → ((v : ℕ) → v < 64 → holds other v ≡ (holds word v && p v)) → values_in other ≡ filter p (values_in word)
+-- a set that holds those values of another that pass a test
+pub values-filter : (set other : List ℕ) (p : ℕ → Bool) → ((v : ℕ) → v < 256 → holds other v ≡ (holds set v && p v)) → values_in other ≡ filter p (values_in set)
 unfolding values_in
-values-filter word other p same =
-    run_agrees (holds other) (λ v. holds word v && p v) 0 64 (λ v low high. same v (omega arith)) ∙ sym (by_two p (holds word) (below 64))
+values-filter set other p same =
+    run_agrees (holds other) (λ v. holds set v && p v) 0 256 (λ v low high. same v (omega (arith, high))) ∙ sym (by_two p (holds set) (below 256))
 
--- the values of two words in common
-pub values-and : (x y : ℕ) → values_in (bit_and x y) ≡ filter (holds y) (values_in x)
-values-and x y = values-filter x (bit_and x y) (holds y) (λ v small. holds-and x y v)
-
--- what one word has and the other lacks
-pub values-and_not : (x y : ℕ) → y < 2 ^ 64 → values_in (bit_and x (bit_not w64 y)) ≡ filter (λ v. not (holds y v)) (values_in x)
-values-and_not x y fits =
-    values-filter x (bit_and x (bit_not w64 y)) (λ v. not (holds y v)) (λ v small. holds-and x (bit_not w64 y) v ∙ ap (λ b. holds x v && b) (holds-not y v fits small))
-
-pub values_of_nothing : values_in 0 ≡ []
+pub values_of_nothing : values_in (0 ∷ 0 ∷ 0 ∷ 0 ∷ []) ≡ []
 unfolding values_in
-values_of_nothing = run_agrees (holds 0) (λ v. false) 0 64 (λ v low high. holds_nothing v) ∙ run_of_none 0 64
+values_of_nothing =
+    run_agrees (holds (0 ∷ 0 ∷ 0 ∷ 0 ∷ [])) (λ v. false) 0 256 (λ v low high. no_word (v / 64) (v % 64)) ∙ run_of_none 0 256
+  where
+    no_word : (k u : ℕ) → part_holds (part_of (0 ∷ 0 ∷ 0 ∷ 0 ∷ []) k) u ≡ false
+    no_word zero u = holds_nothing u
+    no_word (suc zero) u = holds_nothing u
+    no_word (suc (suc zero)) u = holds_nothing u
+    no_word (suc (suc (suc zero))) u = holds_nothing u
+    no_word (suc (suc (suc (suc k)))) u = holds_nothing u
 
--- ---- words by their values
-
--- two words with the same values are equal
-pub same_from_values : (x y : ℕ) → x < 2 ^ 64 → y < 2 ^ 64 → values_in x ≡ values_in y → x ≡ y
-same_from_values x y fits_x fits_y same =
-    same_from_bits_below 64 x y fits_x fits_y
-    (λ v small. one_bit (bit_at x v) (bit_at y v) (bit_at-lt x v) (bit_at-lt y v) (sym (has-values_in x v small) ∙ ap (λ vs. has vs v) same ∙ has-values_in y v small))
-
-pub nothing_from_values : (word : ℕ) → word < 2 ^ 64 → values_in word ≡ [] → word ≡ 0
-nothing_from_values word fits none_in = same_from_values word 0 fits (pow_pos 64) (none_in ∙ sym values_of_nothing)
-
--- ---- order and range
-
-in_run : (a n : ℕ) → All (λ v. v < a + n) (range_with_len a n)
-in_run a zero = All-nil (λ v. v < a + 0)
-in_run a (suc n) = All-cons (λ v. v < a + suc n) a (range_with_len (a + 1) n) (omega arith) (All-weaker (λ v. v < a + 1 + n) (λ v. v < a + suc n) (λ v h. omega (arith, h)) (range_with_len (a + 1) n) (in_run (a + 1) n))
-
-pub values_small : (word : ℕ) → All (λ v. v < 64) (values_in word)
+pub values_small : (set : List ℕ) → All (λ v. v < 256) (values_in set)
 unfolding values_in
-values_small word = All-filter (holds word) (λ v. v < 64) (below 64) (in_run 0 64)
+values_small set = All-filter (holds set) (λ v. v < 256) (below 256) (in_run 0 256)
 
-later_in_run : (x a n : ℕ) → x < a → AllByRecursion (λ v. x < v) (range_with_len a n)
-later_in_run x a zero h = tt
-later_in_run x a (suc n) h = (h, later_in_run x (a + 1) n (omega arith))
-
-run_ascends : (a n : ℕ) → Ascends (range_with_len a n)
-run_ascends a zero = tt
-run_ascends a (suc n) = (later_in_run a (a + 1) n (omega arith), run_ascends (a + 1) n)
-
-pub values_ascend : (word : ℕ) → Ascends (values_in word)
+pub values_ascend : (set : List ℕ) → Ascends (values_in set)
 unfolding values_in
-values_ascend word = ascends_filter (holds word) (below 64) (run_ascends 0 64)
+values_ascend set = ascends_filter (holds set) (below 256) (run_ascends 0 256)
+
+-- ---- tests that keep some values
+
+-- a filter finds what passes and was there
+has-filter : (p : ℕ → Bool) (xs : List ℕ) (v : ℕ) → has (filter p xs) v ≡ (p v && has xs v)
+has-filter p xs v = any-filter_same (λ y. y == v) p (p v) (λ k e. ap p (eqb-true k v e)) xs
+
+-- a word that has those values of another that pass a test
+part_passes : (word other : ℕ) (p : ℕ → Bool) → part_values other ≡ filter p (part_values word) → (u : ℕ) → u < 64 → part_holds other u ≡ (p u && part_holds word u)
+part_passes word other p same u small =
+    sym (has-part_values other u small) ∙ ap (λ xs. has xs u) same ∙ has-filter p (part_values word) u ∙ ap (λ b. p u && b) (has-part_values word u small)
+
+pub in_four : (P : ℕ → Type 0) → P 0 → P 1 → P 2 → P 3 → (k : ℕ) → k < 4 → P k
+in_four P a b c d zero h = a
+in_four P a b c d (suc zero) h = b
+in_four P a b c d (suc (suc zero)) h = c
+in_four P a b c d (suc (suc (suc zero))) h = d
+in_four P a b c d (suc (suc (suc (suc k)))) h = absurd (omega (arith, h))
+
+word_there : (v : ℕ) → v < 256 → v / 64 < 4
+word_there v h = omega (arith, h)
+
+bit_there : (v : ℕ) → v % 64 < 64
+bit_there v = omega arith
+
+and_turned : (x y : Bool) → (x && y) ≡ (y && x)
+and_turned true true = refl
+and_turned true false = refl
+and_turned false true = refl
+and_turned false false = refl
+
+-- the words that two sets have at a place, and there the values that the first has and the other keeps by its word
+abbrev pub IsKeptBy : (ℕ → ℕ → Bool) → List ℕ → List ℕ → List ℕ → ℕ → Type 0
+IsKeptBy keeps set other kept k = part_values (part_of kept k) ≡ filter (keeps (part_of other k)) (part_values (part_of set k))
+
+-- word by word, what is kept is kept of the whole set
+kept_by_words : (keeps : ℕ → ℕ → Bool) (p : ℕ → Bool) (set other kept : List ℕ) → ((v : ℕ) → v < 256 → p v ≡ keeps (part_of other (v / 64)) (v % 64)) → ((k : ℕ) → k < 4 → IsKeptBy keeps set other kept k) → values_in kept ≡ filter p (values_in set)
+kept_by_words keeps p set other kept by each =
+    values-filter set kept p
+    (λ v small. part_passes (part_of set (v / 64)) (part_of kept (v / 64)) (keeps (part_of other (v / 64))) (each (v / 64) (word_there v small)) (v % 64) (bit_there v)
+    ∙ and_turned (keeps (part_of other (v / 64)) (v % 64)) (holds set v) ∙ ap (λ b. holds set v && b) (sym (by v small)))
+
+pub other_has : (other : List ℕ) (v : ℕ) → v < 256 → has (values_in other) v ≡ has (part_values (part_of other (v / 64))) (v % 64)
+other_has other v small = has-values_in other v small ∙ sym (has-part_values (part_of other (v / 64)) (v % 64) (bit_there v))
+
+-- four words that keep the values of the other's words
+pub values_met : (set other kept : List ℕ) → ((k : ℕ) → k < 4 → part_values (part_of kept k) ≡ filter (has (part_values (part_of other k))) (part_values (part_of set k))) → values_in kept ≡ filter (has (values_in other)) (values_in set)
+values_met set other kept each = kept_by_words (λ word v. has (part_values word) v) (has (values_in other)) set other kept (other_has other) each
+
+-- four words that lose them
+pub values_lacked : (set other kept : List ℕ) → ((k : ℕ) → k < 4 → part_values (part_of kept k) ≡ filter (λ v. not (has (part_values (part_of other k)) v)) (part_values (part_of set k))) → values_in kept ≡ filter (λ v. not (has (values_in other) v)) (values_in set)
+values_lacked set other kept each =
+    kept_by_words (λ word v. not (has (part_values word) v)) (λ v. not (has (values_in other) v)) set other kept (λ v small. ap not (other_has other v small)) each
 
 -- ---- how many
 
-moved_run : (p : ℕ → Bool) (a n : ℕ) → length (filter p (range_with_len (a + 1) n)) ≡ length (filter (λ v. p (suc v)) (range_with_len a n))
-moved_run p a zero = refl
-moved_run p a (suc n) =
-    let ps = filter p (range_with_len (a + 1 + 1) n) in
-    let one : a + 1 ≡ suc a = omega arith in
-    one_more (p (a + 1)) (a + 1) a ps (filter (λ v. p (suc v)) (range_with_len (a + 1) n)) (moved_run p (a + 1) n)
-    ∙ ap (λ x. length (cond (p x) (a ∷ filter (λ v. p (suc v)) (range_with_len (a + 1) n)) (filter (λ v. p (suc v)) (range_with_len (a + 1) n)))) one
+pub length-values_in : (set : List ℕ) → length (values_in set) ≡ length (part_values (part_of set 0)) + length (part_values (part_of set 1)) + length (part_values (part_of set 2)) + length (part_values (part_of set 3))
+length-values_in set =
+    let a = part_values (part_of set 0) in
+    let b = part_values (part_of set 1) in
+    let c = part_values (part_of set 2) in
+    let d = part_values (part_of set 3) in
+    let all = ap length (four_parts set) in
+    let first = length-append (map (λ v. 64 * 0 + v) a) (map (λ v. 64 * 1 + v) b ++ (map (λ v. 64 * 2 + v) c ++ map (λ v. 64 * 3 + v) d)) in
+    let second = length-append (map (λ v. 64 * 1 + v) b) (map (λ v. 64 * 2 + v) c ++ map (λ v. 64 * 3 + v) d) in
+    let third = length-append (map (λ v. 64 * 2 + v) c) (map (λ v. 64 * 3 + v) d) in
+    omega (arith, all, first, second, third, length-map a (λ v. 64 * 0 + v), length-map b (λ v. 64 * 1 + v), length-map c (λ v. 64 * 2 + v), length-map d (λ v. 64 * 3 + v))
+
+none_in_both : (a b : ℕ) → ((a == 0) && (b == 0)) ≡ (a + b == 0)
+none_in_both zero b = ap (λ n. n == 0) (let same : b ≡ 0 + b = omega arith in same)
+none_in_both (suc a) b = ap (λ t. t && (b == 0)) (ne_eqb (suc a) 0 (λ e. absurd (omega (arith, e)))) ∙ sym (ne_eqb (suc a + b) 0 (λ e. absurd (omega (arith, e))))
+
+none_in_all : (a b c d : ℕ) → ((((a == 0) && (b == 0)) && (c == 0)) && (d == 0)) ≡ (a + b + c + d == 0)
+none_in_all a b c d =
+    ap (λ t. (t && (c == 0)) && (d == 0)) (none_in_both a b) ∙ ap (λ t. t && (d == 0)) (none_in_both (a + b) c) ∙ none_in_both (a + b + c) d
+
+-- no value in any word
+pub none_in_words : (set : List ℕ) → ((((length (part_values (part_of set 0)) == 0) && (length (part_values (part_of set 1)) == 0)) && (length (part_values (part_of set 2)) == 0)) && (length (part_values (part_of set 3)) == 0)) ≡ (length (values_in set) == 0)
+none_in_words set =
+    none_in_all (length (part_values (part_of set 0))) (length (part_values (part_of set 1))) (length (part_values (part_of set 2))) (length (part_values (part_of set 3)))
+    ∙ ap (λ n. n == 0) (sym (length-values_in set))
+
+-- ---- the least value
+
+same_joined : {a b c d e f g h : List ℕ} → a ≡ e → b ≡ f → c ≡ g → d ≡ h → joined a b c d ≡ joined e f g h
+same_joined p q r s = cc
+
+no_values : part_values 0 ≡ []
+no_values = values_of_no_part
+
+-- the least value lies in the first word
+pub least_in_first : (set : List ℕ) (v rest : ℕ) → part_values (part_of set 0) ≡ v ∷ part_values rest → values_in set ≡ v ∷ values_in (rest ∷ part_of set 1 ∷ part_of set 2 ∷ part_of set 3 ∷ [])
+least_in_first set v rest at =
+    four_parts set
+    ∙ same_joined at refl refl refl
+    ∙ ap (λ n. n ∷ joined (part_values rest) (part_values (part_of set 1)) (part_values (part_of set 2)) (part_values (part_of set 3))) (let same : 64 * 0 + v ≡ v = omega arith in same)
+    ∙ ap (λ vs. v ∷ vs) (sym (four_parts (rest ∷ part_of set 1 ∷ part_of set 2 ∷ part_of set 3 ∷ [])))
+
+-- in the second
+pub least_in_second : (set : List ℕ) (v rest : ℕ) → part_values (part_of set 0) ≡ [] → part_values (part_of set 1) ≡ v ∷ part_values rest → values_in set ≡ (64 + v) ∷ values_in (0 ∷ rest ∷ part_of set 2 ∷ part_of set 3 ∷ [])
+least_in_second set v rest none at =
+    four_parts set
+    ∙ same_joined none at refl refl
+    ∙ ap (λ vs. (64 + v) ∷ vs) (same_joined (sym no_values) refl refl refl ∙ sym (four_parts (0 ∷ rest ∷ part_of set 2 ∷ part_of set 3 ∷ [])))
+
+-- in the third
+pub least_in_third : (set : List ℕ) (v rest : ℕ) → part_values (part_of set 0) ≡ [] → part_values (part_of set 1) ≡ [] → part_values (part_of set 2) ≡ v ∷ part_values rest → values_in set ≡ (128 + v) ∷ values_in (0 ∷ 0 ∷ rest ∷ part_of set 3 ∷ [])
+least_in_third set v rest none no_more at =
+    four_parts set
+    ∙ same_joined none no_more at refl
+    ∙ ap (λ vs. (128 + v) ∷ vs) (same_joined (sym no_values) (sym no_values) refl refl ∙ sym (four_parts (0 ∷ 0 ∷ rest ∷ part_of set 3 ∷ [])))
+
+-- in the last
+pub least_in_fourth : (set : List ℕ) (v rest : ℕ) → part_values (part_of set 0) ≡ [] → part_values (part_of set 1) ≡ [] → part_values (part_of set 2) ≡ [] → part_values (part_of set 3) ≡ v ∷ part_values rest → values_in set ≡ (192 + v) ∷ values_in (0 ∷ 0 ∷ 0 ∷ rest ∷ [])
+least_in_fourth set v rest none no_more nor_here at =
+    four_parts set
+    ∙ same_joined none no_more nor_here at
+    ∙ ap (λ vs. (192 + v) ∷ vs) (same_joined (sym no_values) (sym no_values) (sym no_values) refl ∙ sym (four_parts (0 ∷ 0 ∷ 0 ∷ rest ∷ [])))
+
+-- nowhere
+pub least_nowhere : (set : List ℕ) → part_values (part_of set 0) ≡ [] → part_values (part_of set 1) ≡ [] → part_values (part_of set 2) ≡ [] → part_values (part_of set 3) ≡ [] → values_in set ≡ []
+least_nowhere set none no_more nor_here empty = four_parts set ∙ same_joined none no_more nor_here empty
+
+-- ---- one word alone
+
+pub values_of_part : (word : ℕ) → values_in (word ∷ 0 ∷ 0 ∷ 0 ∷ []) ≡ part_values word
+values_of_part word = four_parts (word ∷ 0 ∷ 0 ∷ 0 ∷ []) ∙ same_joined refl no_values no_values no_values ∙ unmoved (part_values word)
   where
-    one_more : (b : Bool) (x y : ℕ) (xs ys : List ℕ) → length xs ≡ length ys → length (cond b (x ∷ xs) xs) ≡ length (cond b (y ∷ ys) ys)
-    one_more true x y xs ys e = omega (arith, e)
-    one_more false x y xs ys e = e
+    unmoved : (xs : List ℕ) → joined xs [] [] [] ≡ xs
+    unmoved [] = refl
+    unmoved (x ∷ xs) = ap (λ n. n ∷ joined xs [] [] []) (let same : 64 * 0 + x ≡ x = omega arith in same) ∙ ap (λ ys. x ∷ ys) (unmoved xs)
 
-bit_or_none : (m x : ℕ) (xs : List ℕ) → m < 2 → length (cond (m == 1) (x ∷ xs) xs) ≡ m + length xs
-bit_or_none zero x xs h = omega arith
-bit_or_none (suc zero) x xs h = omega arith
-bit_or_none (suc (suc m)) x xs h = absurd (omega arith)
+-- ---- one value
 
-bits_counted : (k word : ℕ) → word < 2 ^ k → length (filter (holds word) (range_with_len 0 k)) ≡ count_ones word
-bits_counted zero word h =
-    let no_bit : count_ones 0 ≡ 0 = omega (arith, ones_le_self 0) in
-    let e : 0 ≡ word = omega arith in
-    sym no_bit ∙ ap count_ones e
-bits_counted (suc k) word h =
-    let rest = filter (holds word) (range_with_len 1 k) in
-    let half : word / 2 < 2 ^ k = omega (arith, h, pow-suc 2 k) in
-    bit_or_none (bit_at word 0) 0 rest (bit_at-lt word 0)
-    ∙ ap (λ n. bit_at word 0 + n) (moved_run (holds word) 0 k ∙ ap length (run_agrees (λ v. holds word (suc v)) (holds (word / 2)) 0 k (λ v low high. ap (λ b. b == 1) (bit_at-suc word v))) ∙ bits_counted k (word / 2) half)
-    ∙ ap (λ n. n + count_ones (word / 2)) (bit_at_lowest word)
-    ∙ sym (ones_step word)
+or_none : (b : Bool) → (b || false) ≡ b
+or_none true = refl
+or_none false = refl
 
-pub no_bit_test : (word : ℕ) → (word == 0) ≡ (count_ones word == 0)
-no_bit_test word =
+-- no set has a value past the limit
+pub too_large : (set : List ℕ) (v : ℕ) → 256 ≤ v → has (values_in set) v ≡ false
+too_large set v large = list_any_none (λ y. y == v) (values_in set) (All-weaker (λ y. y < 256) (λ y. (y == v) ≡ false) (λ y h. ne_eqb y v (λ e. absurd (omega (arith, h, large, e)))) (values_in set) (values_small set))
+
+-- a value is at a place and a bit
+is_value : (v value : ℕ) → v / 64 ≡ value / 64 → (v == value) ≡ (v % 64 == value % 64)
+is_value v value same =
     ⊎_elim
-    (λ (e : word ≡ 0). eq-eqb word 0 e ∙ sym (eq-eqb (count_ones word) 0 (omega (arith, ones_le_self word))))
-    (λ (ne : word ≡ 0 → ⊥). ne_eqb word 0 ne ∙ sym (ne_eqb (count_ones word) 0 (λ e. ne (zero_from_ones word e))))
-    (cases_eq word 0)
+    (λ (e : v ≡ value). eq-eqb v value e ∙ sym (eq-eqb (v % 64) (value % 64) (ap (λ n. n % 64) e)))
+    (λ (ne : v ≡ value → ⊥). ne_eqb v value ne ∙ sym (ne_eqb (v % 64) (value % 64) (λ e. ne (omega (arith, e, same)))))
+    (cases_eq v value)
 
-pub length-values_in : (word : ℕ) → word < 2 ^ 64 → length (values_in word) ≡ count_ones word
-unfolding values_in
-length-values_in word fits = bits_counted 64 word fits
+other_value : (v value : ℕ) → (v / 64 ≡ value / 64 → ⊥) → (v == value) ≡ false
+other_value v value ne = ne_eqb v value (λ e. ne (ap (λ n. n / 64) e))
 
--- ---- one value, the lowest value
+-- a set whose word of a value lacks it, and whose other words are the same
+one_lost : (set kept : List ℕ) (value : ℕ) → part_values (part_of kept (value / 64)) ≡ filter (λ v. not (v == value % 64)) (part_values (part_of set (value / 64))) → ((j : ℕ) → j < 4 → (j ≡ value / 64 → ⊥) → part_of kept j ≡ part_of set j) → values_in kept ≡ filter (λ v. not (v == value)) (values_in set)
+one_lost set kept value at others =
+    values-filter set kept (λ v. not (v == value))
+    (λ v small. ⊎_elim
+    (λ (e : v / 64 ≡ value / 64).
+    ap (λ k. part_holds (part_of kept k) (v % 64)) e
+    ∙ part_passes (part_of set (value / 64)) (part_of kept (value / 64)) (λ u. not (u == value % 64)) at (v % 64) (bit_there v)
+    ∙ and_turned (not (v % 64 == value % 64)) (part_holds (part_of set (value / 64)) (v % 64))
+    ∙ ap (λ k. part_holds (part_of set k) (v % 64) && not (v % 64 == value % 64)) (sym e)
+    ∙ ap (λ b. holds set v && not b) (sym (is_value v value e)))
+    (λ (ne : v / 64 ≡ value / 64 → ⊥).
+    ap (λ w. part_holds w (v % 64)) (others (v / 64) (word_there v small) ne)
+    ∙ sym (and-true (holds set v)) ∙ ap (λ b. holds set v && not b) (sym (other_value v value ne)))
+    (cases_eq (v / 64) (value / 64)))
 
-pub values_of_one : (v : ℕ) → v < 64 → values_in (2 ^ v) ≡ v ∷ []
-unfolding values_in
-values_of_one v small =
-    first_kept (holds (2 ^ v)) (λ k. false) v 0 64 (omega arith) (omega arith)
-    (λ k lt. holds-pow v k ∙ ne_eqb v k (λ (e : v ≡ k). absurd (omega arith)))
-    (holds-pow v v ∙ eq-eqb v v refl)
-    (λ k le. refl)
-    (λ k lt in_run. holds-pow v k ∙ ne_eqb v k (λ (e : v ≡ k). absurd (omega arith)))
-    ∙ ap (λ vs. v ∷ vs) (run_of_none 0 64)
-
--- a word without a value
-pub values_without : (word v : ℕ) → v < 64 → values_in (bit_and word (bit_not w64 (2 ^ v))) ≡ filter (λ b. not (b == v)) (values_in word)
-values_without word v small =
-    values-filter word (bit_and word (bit_not w64 (2 ^ v))) (λ b. not (b == v))
-    (λ b in_word. holds-and word (bit_not w64 (2 ^ v)) b ∙ ap (λ t. holds word b && t) (holds-not (2 ^ v) b (pow_below v 64 small) in_word ∙ ap not (holds-pow v b ∙ same_test v b)))
-
--- the word in the code, `word & !(1 << v)`
-pub values_cleared : (word v : ℕ) → v < 64 → values_in (bit_and word (bit_not w64 (1 * 2 ^ v % 2 ^ 64))) ≡ filter (λ b. not (b == v)) (values_in word)
-values_cleared word v small = ap (λ x. values_in (bit_and word (bit_not w64 x))) (one_shl v 64 small) ∙ values_without word v small
-
--- ---- the lowest value
-
--- of a word x * (2 * m + 1), with x the power of its lowest value
-pred_split : (m x word : ℕ) → 0 < x → word ≡ (2 * m + 1) * x → word - 1 ≡ 2 * m * x + (x - 1)
-pred_split m x word pos e =
-    let split : (2 * m + 1) * x ≡ 2 * m * x + x = ap (λ k. k * x) (let k : 2 * m + 1 ≡ suc (2 * m) = omega arith in k) ∙ suc-mul (2 * m) x in
-    omega (arith, split, e)
-
-record LowestOut (word t : ℕ) : Type 0 where
-  here : bit_at (word - 1) t ≡ 0
-  above : (v : ℕ) → t < v → bit_at (word - 1) v ≡ bit_at word v
-
-lowest_out : (word t : ℕ) → bit_at word t ≡ 1 → ((v : ℕ) → v < t → bit_at word v ≡ 0) → LowestOut word t
-lowest_out word t at none_below =
-    let x = 2 ^ t in
-    let pos : 0 < x = pow_pos t in
-    let high = word / x in
-    let m = high / 2 in
-    let low_zero : word % x ≡ 0 = same_from_bits_below t (word % x) 0 (mod_below word x pos) pos
-    (λ v lt. sym (bit_at_cat_low high t (word % x) v lt) ∙ ap (λ n. bit_at n v) (shr_split word t) ∙ none_below v lt ∙ sym (bit_at-zero v)) in
-    let odd : high ≡ 2 * m + 1 = omega (arith, at) in
-    let whole : word ≡ (2 * m + 1) * x = sym (shr_split word t) ∙ ap (λ n. high * x + n) low_zero ∙ (let k : high * x + 0 ≡ high * x = omega arith in k) ∙ ap (λ n. n * x) odd in
-    let less : word - 1 ≡ 2 * m * x + (x - 1) = pred_split m x word pos whole in
-    let short : x - 1 < x = omega (arith, pos) in
-    let lower = λ (v : ℕ) (le : t ≤ v). ap (λ n. bit_at n v) less ∙ bit_at_cat_high (2 * m) t (x - 1) v short le in
-    let upper = λ (v : ℕ) (le : t ≤ v). ap (λ n. bit_at n v) (whole ∙ (let k : (2 * m + 1) * x ≡ (2 * m + 1) * x + 0 = omega arith in k)) ∙ bit_at_cat_high (2 * m + 1) t 0 v pos le in
-    record {
-      here = lower t (omega arith) ∙ ap (bit_at (2 * m)) (let k : t - t ≡ 0 = omega arith in k) ∙ bit_at_lowest (2 * m) ∙ omega arith;
-      above = λ v lt.
-          let k : v - t ≡ suc (v - t - 1) = omega (arith, lt) in
-          let even_half : 2 * m / 2 ≡ m = omega arith in
-          let odd_half : (2 * m + 1) / 2 ≡ m = omega arith in
-          lower v (omega (arith, lt)) ∙ ap (bit_at (2 * m)) k ∙ bit_at-suc (2 * m) (v - t - 1) ∙ ap (λ n. bit_at n (v - t - 1)) (even_half ∙ sym odd_half) ∙ sym (bit_at-suc (2 * m + 1) (v - t - 1)) ∙ sym (ap (bit_at (2 * m + 1)) k) ∙ sym (upper v (omega (arith, lt)));
-    }
-
--- the lowest value stands first, and `word & (word - 1)` has the others
-pub values_from_lowest : (word : ℕ) → 0 < word → word < 2 ^ 64 → values_in word ≡ trailing_zeros w64 word ∷ values_in (bit_and word (word - 1))
-unfolding values_in
-values_from_lowest word pos fits =
-    let t = trailing_zeros w64 word in
-    let found = bit_at-trailing_zeros w64 word pos fits in
-    let out = lowest_out word t found.1 found.2 in
-    first_kept (holds word) (holds (bit_and word (word - 1))) t 0 64 (omega arith) found.0
-    (λ v lt. ap (λ b. b == 1) (found.2 v lt))
-    (eq-eqb (bit_at word t) 1 found.1)
-    (λ v le. holds-and word (word - 1) v ∙ ⊎_elim
-    (λ (e : v ≡ t). and_right (holds word v) (holds (word - 1) v) (ap (λ k. holds (word - 1) k) e ∙ ap (λ b. b == 1) out.here))
-    (λ (ne : v ≡ t → ⊥). and_left (holds word v) (holds (word - 1) v) (ap (λ b. b == 1) (found.2 v (omega (arith, ne, le)))))
-    (cases_eq v t))
-    (λ v lt in_word. sym (holds-and word (word - 1) v ∙ ap (λ b. holds word v && (b == 1)) (out.above v lt) ∙ and_same (holds word v)))
+-- a set whose word of a value has it too, and whose other words are the same
+one_added : (set more : List ℕ) (value bit : ℕ) → value < 256 → part_values bit ≡ value % 64 ∷ [] → part_of more (value / 64) ≡ bit_or (part_of set (value / 64)) bit → ((j : ℕ) → j < 4 → (j ≡ value / 64 → ⊥) → part_of more j ≡ part_of set j) → (v : ℕ) → has (values_in more) v ≡ (has (values_in set) v || value == v)
+one_added set more value bit few one at others v =
+    ⊎_elim
+    (λ (small : v < 256).
+    has-values_in more v small ∙ within small ∙ ap (λ b. b || value == v) (sym (has-values_in set v small)))
+    (λ (large : 256 ≤ v).
+    too_large more v large ∙ sym (ap (λ b. b || value == v) (too_large set v large) ∙ ne_eqb value v (λ e. absurd (omega (arith, e, few, large)))))
+    (cases_lt v 256)
   where
-    and_same : (b : Bool) → (b && b) ≡ b
-    and_same true = refl
-    and_same false = refl
+    bit_is : (u : ℕ) → u < 64 → part_holds bit u ≡ (value % 64 == u)
+    bit_is u h = sym (has-part_values bit u h) ∙ ap (λ xs. has xs u) one ∙ or_none (value % 64 == u)
 
--- ---- values that are not there
+    within : v < 256 → holds more v ≡ (holds set v || value == v)
+    within small = ⊎_elim
+        (λ (e : v / 64 ≡ value / 64).
+        ap (λ k. part_holds (part_of more k) (v % 64)) e
+        ∙ ap (λ w. part_holds w (v % 64)) at ∙ part_holds-or (part_of set (value / 64)) bit (v % 64)
+        ∙ ap (λ b. part_holds (part_of set (value / 64)) (v % 64) || b) (bit_is (v % 64) (bit_there v))
+        ∙ ap (λ k. part_holds (part_of set k) (v % 64) || (value % 64 == v % 64)) (sym e)
+        ∙ ap (λ b. holds set v || b) (sym (is_value value v (sym e))))
+        (λ (ne : v / 64 ≡ value / 64 → ⊥).
+        ap (λ w. part_holds w (v % 64)) (others (v / 64) (word_there v small) ne)
+        ∙ sym (or_none (holds set v)) ∙ ap (λ b. holds set v || b) (sym (other_value value v (λ e. ne (sym e)))))
+        (cases_eq (v / 64) (value / 64))
 
-pub has_large : (word v : ℕ) → (v < 64 → ⊥) → has (values_in word) v ≡ false
-has_large word v large = none_of (values_in word) v (recursion_from_All (λ x. x < 64) (values_in word) (values_small word)) large
+-- the values below 64 are those of the first word
+pub values_of_first : (set : List ℕ) → part_values (part_of set 0) ≡ filter (λ v. nat_lt v 64) (values_in set)
+values_of_first set =
+    sym (values_of_part (part_of set 0))
+    ∙ values-filter set (part_of set 0 ∷ 0 ∷ 0 ∷ 0 ∷ []) (λ v. nat_lt v 64)
+    (λ v small. ⊎_elim
+    (λ (low : v < 64).
+    let first : v / 64 ≡ 0 = omega (arith, low) in
+    ap (λ k. part_holds (part_of (part_of set 0 ∷ 0 ∷ 0 ∷ 0 ∷ []) k) (v % 64)) first
+    ∙ ap (λ k. part_holds (part_of set k) (v % 64)) (sym first)
+    ∙ sym (and-true (holds set v)) ∙ ap (λ b. holds set v && b) (sym (lt-ltb v 64 low)))
+    (λ (high : 64 ≤ v).
+    not_first (v / 64) (v % 64) (omega (arith, high)) ∙ sym (ap (λ b. holds set v && b) (le-ltb v 64 high) ∙ and_none (holds set v)))
+    (cases_lt v 64))
   where
-    none_of : (xs : List ℕ) (v : ℕ) → AllByRecursion (λ x. x < 64) xs → (v < 64 → ⊥) → has xs v ≡ false
-    none_of [] v h large = refl
-    none_of (x ∷ xs) v h large = or_from (x == v) (has xs v) (ne_eqb x v (λ (e : x ≡ v). large (omega (arith, h.0, e)))) (none_of xs v h.1 large)
+    and_none : (b : Bool) → (b && false) ≡ false
+    and_none true = refl
+    and_none false = refl
 
--- without a value that isn't there, nothing changes
-pub filter_nothing : (xs : List ℕ) (a : ℕ) → has xs a ≡ false → filter (λ b. not (b == a)) xs ≡ xs
-filter_nothing [] a h = refl
-filter_nothing (x ∷ xs) a h =
-    let parts = or_parts (x == a) (has xs a) h in
-    ap (λ b. cond (not b) (x ∷ filter (λ b. not (b == a)) xs) (filter (λ b. not (b == a)) xs)) parts.0 ∙ ap (λ ys. x ∷ ys) (filter_nothing xs a parts.1)
-  where
-    or_parts : (a b : Bool) → (a || b) ≡ false → (a ≡ false) × (b ≡ false)
-    or_parts true b h = absurd (let bad : ⊥ = cc in bad)
-    or_parts false b h = (refl, h)
+    not_first : (k u : ℕ) → 0 < k → part_holds (part_of (part_of set 0 ∷ 0 ∷ 0 ∷ 0 ∷ []) k) u ≡ false
+    not_first zero u h = absurd (omega (arith, h))
+    not_first (suc zero) u h = holds_nothing u
+    not_first (suc (suc zero)) u h = holds_nothing u
+    not_first (suc (suc (suc zero))) u h = holds_nothing u
+    not_first (suc (suc (suc (suc k)))) u h = holds_nothing u
 
--- ---- the operations
+-- the set of one value, whose word lies at its place
+one_in_first : (u bit : ℕ) → part_values bit ≡ u ∷ [] → part_values bit ≡ u ∷ part_values 0
+one_in_first u bit one = one ∙ ap (λ xs. u ∷ xs) (sym no_values)
 
-pub some_bits : (word : ℕ) → 0 < length (values_in word) → 0 < word
-some_bits zero some = absurd (let none : ⊥ = omega (arith, some, ap length values_of_nothing) in none)
-some_bits (suc n) some = omega arith
+pub alone_in_first : (value bit : ℕ) → value / 64 ≡ 0 → part_values bit ≡ value % 64 ∷ [] → values_in (bit ∷ 0 ∷ 0 ∷ 0 ∷ []) ≡ value ∷ []
+alone_in_first value bit at one =
+    least_in_first (bit ∷ 0 ∷ 0 ∷ 0 ∷ []) (value % 64) 0 (one_in_first (value % 64) bit one)
+    ∙ ap (λ n. n ∷ values_in (0 ∷ 0 ∷ 0 ∷ 0 ∷ [])) (let same : value % 64 ≡ value = omega (arith, at) in same) ∙ ap (λ vs. value ∷ vs) values_of_nothing
 
-pub values_met : (x y : ℕ) → values_in (bit_and x y) ≡ filter (has (values_in y)) (values_in x)
-values_met x y = values-filter x (bit_and x y) (has (values_in y)) (λ v small. holds-and x y v ∙ ap (λ b. holds x v && b) (sym (has-values_in y v small)))
+pub alone_in_second : (value bit : ℕ) → value / 64 ≡ 1 → part_values bit ≡ value % 64 ∷ [] → values_in (0 ∷ bit ∷ 0 ∷ 0 ∷ []) ≡ value ∷ []
+alone_in_second value bit at one =
+    least_in_second (0 ∷ bit ∷ 0 ∷ 0 ∷ []) (value % 64) 0 no_values (one_in_first (value % 64) bit one)
+    ∙ ap (λ n. n ∷ values_in (0 ∷ 0 ∷ 0 ∷ 0 ∷ [])) (let same : 64 + value % 64 ≡ value = omega (arith, at) in same) ∙ ap (λ vs. value ∷ vs) values_of_nothing
 
-pub values_lacked : (x y : ℕ) → y < 2 ^ 64 → values_in (bit_and x (bit_not w64 y)) ≡ filter (λ v. not (has (values_in y) v)) (values_in x)
-values_lacked x y fits =
-    values-filter x (bit_and x (bit_not w64 y)) (λ v. not (has (values_in y) v))
-    (λ v small. holds-and x (bit_not w64 y) v ∙ ap (λ b. holds x v && b) (holds-not y v fits small ∙ ap not (sym (has-values_in y v small))))
+pub alone_in_third : (value bit : ℕ) → value / 64 ≡ 2 → part_values bit ≡ value % 64 ∷ [] → values_in (0 ∷ 0 ∷ bit ∷ 0 ∷ []) ≡ value ∷ []
+alone_in_third value bit at one =
+    least_in_third (0 ∷ 0 ∷ bit ∷ 0 ∷ []) (value % 64) 0 no_values no_values (one_in_first (value % 64) bit one)
+    ∙ ap (λ n. n ∷ values_in (0 ∷ 0 ∷ 0 ∷ 0 ∷ [])) (let same : 128 + value % 64 ≡ value = omega (arith, at) in same) ∙ ap (λ vs. value ∷ vs) values_of_nothing
 
-pub value_alone : (v : ℕ) → v < 64 → values_in (1 * 2 ^ v % 2 ^ 64) ≡ v ∷ []
-value_alone v small = ap values_in (one_shl v 64 small) ∙ values_of_one v small
+pub alone_in_fourth : (value bit : ℕ) → value / 64 ≡ 3 → part_values bit ≡ value % 64 ∷ [] → values_in (0 ∷ 0 ∷ 0 ∷ bit ∷ []) ≡ value ∷ []
+alone_in_fourth value bit at one =
+    least_in_fourth (0 ∷ 0 ∷ 0 ∷ bit ∷ []) (value % 64) 0 no_values no_values no_values (one_in_first (value % 64) bit one)
+    ∙ ap (λ n. n ∷ values_in (0 ∷ 0 ∷ 0 ∷ 0 ∷ [])) (let same : 192 + value % 64 ≡ value = omega (arith, at) in same) ∙ ap (λ vs. value ∷ vs) values_of_nothing
 
-pub first_value : (word : ℕ) → word < 2 ^ 64 → 0 < length (values_in word) → trailing_zeros w64 word ≡ slice_index (values_in word) 0
-first_value word fits some = sym (ap (λ vs. slice_index vs 0) (values_from_lowest word (some_bits word some) fits))
+-- ---- one value, by the word of its place
 
-pub later_values : (word : ℕ) → word < 2 ^ 64 → 0 < length (values_in word) → values_in word ≡ slice_index (values_in word) 0 ∷ values_in (bit_and word (word - 1))
-later_values word fits some = values_from_lowest word (some_bits word some) fits ∙ ap (λ v. v ∷ values_in (bit_and word (word - 1))) (first_value word fits some)
+not_at : (k : ℕ) → k < 4 → (set kept : List ℕ) → ((j : ℕ) → j < 4 → (j ≡ k → ⊥) → part_of kept j ≡ part_of set j) → (value : ℕ) → value / 64 ≡ k → (j : ℕ) → j < 4 → (j ≡ value / 64 → ⊥) → part_of kept j ≡ part_of set j
+not_at k there set kept others value at j small ne = others j small (λ e. ne (e ∙ sym at))
 
-pub first_small : (word : ℕ) → 0 < length (values_in word) → slice_index (values_in word) 0 < 64
-first_small word some = by_values (values_in word) (recursion_from_All (λ x. x < 64) (values_in word) (values_small word)) some
-  where
-    by_values : (xs : List ℕ) → AllByRecursion (λ x. x < 64) xs → 0 < length xs → slice_index xs 0 < 64
-    by_values [] all some = absurd (let none : ⊥ = omega (arith, some) in none)
-    by_values (x ∷ xs) all some = all.0
+pub lost_at : (set kept : List ℕ) (value k : ℕ) → k < 4 → value / 64 ≡ k → part_values (part_of kept k) ≡ filter (λ v. not (v == value % 64)) (part_values (part_of set k)) → ((j : ℕ) → j < 4 → (j ≡ k → ⊥) → part_of kept j ≡ part_of set j) → values_in kept ≡ filter (λ v. not (v == value)) (values_in set)
+lost_at set kept value k there at lost others =
+    one_lost set kept value
+    (subst (λ n. part_values (part_of kept n) ≡ filter (λ v. not (v == value % 64)) (part_values (part_of set n))) (sym at) lost)
+    (not_at k there set kept others value at)
+
+pub added_at : (set more : List ℕ) (value bit k : ℕ) → value < 256 → k < 4 → value / 64 ≡ k → part_values bit ≡ value % 64 ∷ [] → part_of more k ≡ bit_or (part_of set k) bit → ((j : ℕ) → j < 4 → (j ≡ k → ⊥) → part_of more j ≡ part_of set j) → (v : ℕ) → has (values_in more) v ≡ (has (values_in set) v || value == v)
+added_at set more value bit k few there at one added others =
+    one_added set more value bit few one
+    (subst (λ n. part_of more n ≡ bit_or (part_of set n) bit) (sym at) added)
+    (not_at k there set more others value at)

@@ -1,7 +1,6 @@
-use Rattle.std.proofs.Common.{◌∙◌, sym, arith}
-use Rattle.std.proofs.lemmas.Bool.{le-ltb}
-use Rattle.wf_set.proofs.SetLaws.{has_large}
+use Rattle.std.proofs.Common.{◌∙◌, sym}
+use Rattle.wf_set.proofs.SetLaws.{other_has}
 use Rattle.wf_set.proofs.holds.Goals as goal
 
-pub returns-else-value-lt64-clause-has : goal.returns-else-value-lt64-clause-has
-returns-else-value-lt64-clause-has c = le-ltb c.args.value 64 c.if-value-lt64.false ∙ sym (has_large c.args.set c.args.value (λ small. omega (arith, small, c.if-value-lt64.false)))
+pub returns : goal.returns
+returns c = c.holds.ensures.has ∙ sym (other_has c.args.set c.args.value c.ranges.value.fits)

@@ -1,6 +1,9 @@
-use Rattle.std.proofs.Common.{◌==◌, ◌∙◌, sym, ap}
-use Rattle.wf_set.proofs.SetLaws.{length-values_in, no_bit_test}
+use Rattle.std.proofs.Common.{◌≡◌, ◌&&◌, ◌∙◌, Bool}
+use Rattle.wf_set.proofs.SetLaws.{none_in_words}
 use Rattle.wf_set.proofs.is_empty.Goals as goal
 
 pub returns : goal.returns
-returns c = no_bit_test c.args.set ∙ sym (ap (λ n. n == 0) (length-values_in c.args.set c.ranges.set.fits))
+returns c = all c.is_empty.ensures c.is_empty-2.ensures c.is_empty-3.ensures c.is_empty-4.ensures ∙ none_in_words c.args.set
+  where
+    all : {p q r s t u v w : Bool} → p ≡ t → q ≡ u → r ≡ v → s ≡ w → (((p && q) && r) && s) ≡ (((t && u) && v) && w)
+    all a b c d = cc

@@ -1,9 +1,8 @@
-use Rattle.std.proofs.Common.{◌≡◌, Some, ap, sym, ◌∙◌, subst, arith, length, IfSome}
-use Rattle.std.proofs.lemmas.List.{length-map}
+use Rattle.std.proofs.Common.{◌≡◌, sym, subst, arith, length}
 use Rattle.wf_model.specs.Laws.{IsBoxOf}
 use Rattle.wf_model.specs.Closing.{closing}
 use Rattle.wf_set.specs.Sets.{box_of}
-use Rattle.wf_box.specs.Boxes.{Grows, IsFor, Tracked, WasClosed, change_seen}
+use Rattle.wf_box.specs.Boxes.{Grows, IsFor, Tracked}
 use Rattle.wf_box.specs.Closes.{Leaves}
 use Rattle.wf_box.specs.Quiet as quiet
 use Rattle.wf_box.proofs.ChangeLemmas.{room_now}

@@ -3,7 +3,6 @@ use Rattle.std.specs.Bool.{OnTrue}
 use Rattle.std.proofs.lemmas.Bool.{cases_lt}
 use Rattle.std.proofs.lemmas.List.{get_or_default, get_or_read}
 use Rattle.wf_set.specs.Sets.{values_in}
-use Rattle.wf_box.specs.Marks.{bit_of}
 use Rattle.wf_box.specs.Quiet.{IsUser}
 use Rattle.wf_box.specs.declared.tracked.Change.{Change}
 use Rattle.wf_box.proofs.TakingLemmas.{some_value}
@@ -21,11 +20,11 @@ returns-clause-full c =
     on_true c.loop-number.full _ _
     (λ some v none.
     ap values_in (unchanged c.args.changes c.args.tracked.now.trail.items c.args.tracked.now.words.items v c.requires.changes
-    (λ k d after before same. some k d after (omega (arith, before, c.loop-number-test.false, c.len-number-end.ensures, c.args.tracked.now.trail.ok.0)) (ap (λ u. values_in (get_or c.args.tracked.now.words.items u 0)) same ∙ none))) ∙ none)
+    (λ k d after before same. some k d after (omega (arith, before, c.loop-number-test.false, c.len-number-end.ensures, c.args.tracked.now.trail.ok.0)) (ap (λ u. values_in (get_or c.args.tracked.now.words.items u [])) same ∙ none))) ∙ none)
     c.loop-number.invariant.2
 
 full_on : (c : goal.Joined-is_empty) → ((d : Change) → get_or c.args.tracked.now.trail.items c.loop-number.number d ≡ c.index.result.now)
-    → OnTrue c.if-is_empty.full ((k : ℕ) (d : Change) → c.args.changes ≤ k → k < c.loop-number.number + 1 → values_in (get_or c.args.tracked.now.words.items (get_or c.args.tracked.now.trail.items k d).point 0) ≡ [] → ⊥)
+    → OnTrue c.if-is_empty.full ((k : ℕ) (d : Change) → c.args.changes ≤ k → k < c.loop-number.number + 1 → values_in (get_or c.args.tracked.now.words.items (get_or c.args.tracked.now.trail.items k d).point []) ≡ [] → ⊥)
 full_on c here =
     elim c.if-is_empty.branch [
       | then-is_empty w ↦ rw w.full-is tt
@@ -37,8 +36,8 @@ full_on c here =
           let same : k ≡ c.loop-number.number = omega (arith, last, before) in
           let point : get_or c.args.tracked.now.trail.items k d ≡ c.index.result.now = ap (λ n. get_or c.args.tracked.now.trail.items n d) same ∙ here d in
           let within : c.index.result.now.point < length c.args.tracked.now.words.items = subst (λ (x : Change). x.point < length c.args.tracked.now.words.items) (here d) (c.requires.kept.within c.loop-number.number d (omega (arith, c.loop-number-test.true, c.len-number-end.ensures, c.args.tracked.now.trail.ok.0))) in
-          let read = get_or_read c.args.tracked.now.words.items c.index.result.now.point c.index-in-loop-number.result.now within c.index-in-loop-number.ensures 0 in
-          let gone : values_in c.index-in-loop-number.result.now ≡ [] = ap values_in (read ∙ ap (λ (x : Change). get_or c.args.tracked.now.words.items x.point 0) (sym point)) ∙ none in
+          let read = get_or_read c.args.tracked.now.words.items c.index.result.now.point c.index-in-loop-number.result.now within c.index-in-loop-number.ensures [] in
+          let gone : values_in c.index-in-loop-number.result.now ≡ [] = ap values_in (read ∙ ap (λ (x : Change). get_or c.args.tracked.now.words.items x.point []) (sym point)) ∙ none in
           some_value c.index-in-loop-number.result.now (w.if-is_empty.ensures) gone)
           (cases_lt k c.loop-number.number)) c.loop-number.invariant.2)
     ]

@@ -1,6 +1,6 @@
-use Rattle.std.proofs.Common.{◌≡◌, List, Some, All, map, length, drop, arith, ap, sym, ◌∙◌, subst, [], IfSome}
+use Rattle.std.proofs.Common.{◌≡◌, All, map, length, drop, ap, sym, ◌∙◌, subst, [], IfSome}
 use Rattle.std.proofs.lemmas.List.{length-map}
-use Rattle.wf_model.specs.Problem.{Problem, Constraint}
+use Rattle.wf_model.specs.Problem.{Problem}
 use Rattle.wf_model.specs.Closing.{sweep_from}
 use Rattle.wf_set.specs.Sets.{box_of, values_in}
 use Rattle.wf_box.specs.Changes.{words_after}

@@ -1,4 +1,4 @@
-use Rattle.std.proofs.Common.{map, slice_index, ◌≡◌, None, length, get_or, refl, sym, ap, ◌∙◌, arith}
+use Rattle.std.proofs.Common.{[], map, ◌≡◌, None, length, get_or, refl, sym, ap, ◌∙◌, arith}
 use Rattle.std.proofs.lemmas.List.{length-map}
 use Rattle.wf_model.specs.Simplex.{processes_of}
 use Rattle.wf_model.specs.Problem.{Problem, constraint_at}
@@ -47,7 +47,7 @@ returns-then-take_place-clause-step c =
     let step = ap (λ b. reached c.take_place.new.lines.items (point_if b (get_or c.args.execution.points c.places.place 0)) c.take_place.new.tracked.words.items) (sym c.if-take_place.true) ∙ c.take_place.ensures.step in
     place_done c.args.rules.now c.args.execution c.index-rules-execution.result c.args.tracked.now.words.items c.candidates_at-found.result c.supported_at-supported.result c.args.number c.places.place c.colour.result c.difference-lost.result
     (reached c.places.lines.items None c.places.tracked.words.items) _ known c.requires.within (omega (arith, c.colours-place-end.ensures.count, c.colours-place-end.ensures.few)) (omega (arith, c.colours-place-end.ensures.count, c.places-test.true))
-    (c.candidates_at-found.ensures.candidates ∙ ap (λ ws. map (λ v. slice_index ws v) c.args.execution.points) c.deref.ensures.value) c.supported_at-supported.ensures.supported c.colour.ensures c.difference-lost.ensures step
+    (c.candidates_at-found.ensures.candidates ∙ ap (λ ws. map (λ v. get_or ws v []) c.args.execution.points) c.deref.ensures.value) c.supported_at-supported.ensures.supported c.colour.ensures c.difference-lost.ensures step
     ∙ c.places.invariant.4
 
 pub places-preserved : goal.places-preserved
@@ -56,7 +56,7 @@ places-preserved c =
     let step = ap (λ b. reached c.take_place.new.lines.items (point_if b (get_or c.args.execution.points c.places.place 0)) c.take_place.new.tracked.words.items) (sym c.if-take_place.false) ∙ c.take_place.ensures.step in
     let done = place_done c.args.rules.now c.args.execution c.index-rules-execution.result c.args.tracked.now.words.items c.candidates_at-found.result c.supported_at-supported.result c.args.number c.places.place c.colour.result c.difference-lost.result
     (reached c.places.lines.items None c.places.tracked.words.items) _ known c.requires.within (omega (arith, c.colours-place-end.ensures.count, c.colours-place-end.ensures.few)) (omega (arith, c.colours-place-end.ensures.count, c.places-test.true))
-    (c.candidates_at-found.ensures.candidates ∙ ap (λ ws. map (λ v. slice_index ws v) c.args.execution.points) c.deref.ensures.value) c.supported_at-supported.ensures.supported c.colour.ensures c.difference-lost.ensures step
+    (c.candidates_at-found.ensures.candidates ∙ ap (λ ws. map (λ v. get_or ws v []) c.args.execution.points) c.deref.ensures.value) c.supported_at-supported.ensures.supported c.colour.ensures c.difference-lost.ensures step
     ∙ c.places.invariant.4 in
     let named : (p : Problem) → constraint_at p c.args.number ≡ constraint_seen c.args.rules.now c.args.execution → IsNamed p c.args.lines.now.items c.args.tracked.now.words.items c.take_place.new.lines.items c.take_place.new.tracked.words.items = λ p at.
     named_then p _ _ _ _ _ _ (c.places.invariant.3 p at)

@@ -1,4 +1,4 @@
-use Rattle.std.proofs.Common.{◌≡◌, None, length, flat_map, drop, ◌<◌}
+use Rattle.std.proofs.Common.{◌≡◌, None, length, flat_map, drop}
 use Rattle.wf_model.specs.Problem.{Problem, constraint_at}
 use Rattle.wf_model.specs.Closing.{and_then, lost, lost_at, places, take_out_each}
 use Rattle.wf_box.specs.Problems.{constraint_seen}

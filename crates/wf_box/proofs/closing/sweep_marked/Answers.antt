@@ -1,13 +1,9 @@
-use Rattle.std.proofs.Common.{◌≡◌, ◌<◌, ◌≤◌, ℕ, [], None, Some, map, drop, length, get_or, arith, ap, sym, ◌∙◌, subst, All}
+use Rattle.std.proofs.Common.{◌<◌, None, Some, map, length, get_or, arith, ap, sym, ◌∙◌, subst, All}
 use Rattle.std.proofs.lemmas.List.{length-map}
-use Rattle.wf_model.specs.Problem.{Problem}
-use Rattle.wf_model.specs.Closing.{lost}
 use Rattle.wf_model.specs.Box.{count}
 use Rattle.wf_box.specs.Problems.{IsWithin, constraint_seen}
-use Rattle.wf_box.specs.Marks.{bit_of}
-use Rattle.wf_box.specs.Quiet.{IsQuiet, IsQuietBut, no_execution}
+use Rattle.wf_box.specs.Quiet.{IsQuietBut, no_execution}
 use Rattle.wf_set.specs.Sets.{box_of}
-use Rattle.wf_box.specs.Steps.{IsNamed}
 use Rattle.wf_box.proofs.NameLemmas.{named_then, seen_at}
 use Rattle.wf_box.proofs.ChangeLemmas.{grown_then}
 use Rattle.wf_box.proofs.QuietLemmas.{next_turn, nothing_lost, pass_all, quiet_again}

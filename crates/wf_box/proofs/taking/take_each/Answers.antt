@@ -2,8 +2,7 @@ use Rattle.std.proofs.Common.{◌≤◌, get_or, ◌≡◌, [], None, Some, ◌�
 use Rattle.std.proofs.lemmas.Grind.{common_steps}
 use Rattle.wf_model.specs.Problem.{Problem, constraint_at}
 use Rattle.wf_model.specs.Closing.{and_then}
-use Rattle.wf_set.specs.Sets.{box_of, values_in}
-use Rattle.wf_set.proofs.SetLaws.{values_of_nothing}
+use Rattle.wf_set.specs.Sets.{box_of}
 use Rattle.wf_complex.specs.Protocol.{point_in}
 use Rattle.wf_box.specs.Steps.{IsNamed, loss, reached, take_present}
 use Rattle.wf_box.proofs.StepLemmas.{then_keeps}
@@ -25,7 +24,7 @@ named_on c p at =
       | else-holds-via-else-holds w ↦ rw (w.sets-is, w.lines-is) (c.values.invariant.3 p at)
     ]
 
-others_on : (c : goal.Joined-else-holds) → c.else-holds.sets ≡ slice_set c.args.sets.now c.args.place.point (get_or c.else-holds.sets c.args.place.point 0)
+others_on : (c : goal.Joined-else-holds) → c.else-holds.sets ≡ slice_set c.args.sets.now c.args.place.point (get_or c.else-holds.sets c.args.place.point [])
 others_on c =
     elim c.else-holds.branch [
       | else-holds-via-then-holds+else-take_out w ↦ rw w.sets-is (set_then c.args.sets.now c.values.sets w.take_out.new.sets c.args.place.point c.values.invariant.5 w.take_out.ensures.others)
@@ -56,5 +55,5 @@ values-preserved c = (grind (arith, common_steps), grind (arith, common_steps), 
 pub returns-clause-step : goal.returns-clause-step
 returns-clause-step c =
     sym (then_keeps (reached c.values.lines.items None c.values.sets))
-    ∙ sym (ap (λ vs. and_then (reached c.values.lines.items None c.values.sets) (take_present c.args.place.execution (map (loss c.args.place.process c.args.place.point) vs))) c.in_default.ensures.split)
+    ∙ sym (ap (λ vs. and_then (reached c.values.lines.items None c.values.sets) (take_present c.args.place.execution (map (loss c.args.place.process c.args.place.point) vs))) c.in_default.ensures)
     ∙ c.values.invariant.4

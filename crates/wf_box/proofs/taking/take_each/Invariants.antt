@@ -1,4 +1,4 @@
-use Rattle.std.proofs.Common.{◌≡◌, ◌≤◌, get_or, None, Some, length, map}
+use Rattle.std.proofs.Common.{◌≡◌, ◌≤◌, [], get_or, None, Some, length, map}
 use Rattle.wf_model.specs.Problem.{Problem, constraint_at}
 use Rattle.wf_model.specs.Closing.{and_then}
 use Rattle.wf_complex.specs.Protocol.{point_in}
@@ -16,6 +16,6 @@ invariant-values l = (length l.sets ≡ length l.initial.sets) × HasRoom l.line
     × ((p : Problem) → point_in l.place.process (constraint_at p l.place.execution).scope ≡ Some l.place.point → IsNamed p l.initial.lines.items l.initial.sets l.lines.items l.sets)
     × (and_then (reached l.lines.items None l.sets) (take_present l.place.execution (map (loss l.place.process l.place.point) (values_in l.left)))
     ≡ and_then (reached l.initial.lines.items None l.initial.sets) (take_present l.place.execution (map (loss l.place.process l.place.point) (values_in l.initial.left))))
-    × (l.sets ≡ slice_set l.initial.sets l.place.point (get_or l.sets l.place.point 0))
+    × (l.sets ≡ slice_set l.initial.sets l.place.point (get_or l.sets l.place.point []))
     × (count (box_of l.sets) ≤ count (box_of l.initial.sets))
     × (count (box_of l.sets) ≡ count (box_of l.initial.sets) → l.sets ≡ l.initial.sets)

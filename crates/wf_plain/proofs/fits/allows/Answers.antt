@@ -1,11 +1,11 @@
 use Rattle.std.proofs.Common.{◌<◌, length, sym, ◌∙◌, subst, All}
 use Rattle.std.proofs.lemmas.List.Elements.{All-map}
 use Rattle.wf_plain.specs.Plain.{scope_at}
-use Rattle.wf_plain.proofs.Rules.{rule_within, right_there}
+use Rattle.wf_complex.proofs.ExecutionAt.{right_there, rule_inside}
 use Rattle.wf_plain.proofs.fits.allows.Goals as goal
 
 pub tuples-tuples-requires : goal.tuples-tuples-requires
-tuples-tuples-requires c = rule_within c.args.task.now c.args.protocol.now.rounds c.args.protocol.now c.args.execution c.simplex_of.result c.requires.built c.requires.valued.0 c.simplex_of.ensures
+tuples-tuples-requires c = rule_inside c.args.task.now c.args.protocol.now.rounds c.args.protocol.now c.args.execution c.simplex_of.result c.requires.built c.requires.valued.0 c.simplex_of.ensures
 
 pub has_tuple-requires : goal.has_tuple-requires
 has_tuple-requires c =

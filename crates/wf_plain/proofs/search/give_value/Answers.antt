@@ -21,7 +21,7 @@ loop-value-preserved-then-not-holds c =
       kept = c.loop-value.invariant.kept;
       tried = λ before. next_tried (problem_of t r) ds v (c.loop-value.invariant.tried before)
           (no_value t r ds v c.inputs-inputs.ensures.task
-          (λ there. let none : ⊥ = false≢true (sym c.if-not-holds.true ∙ c.holds.ensures.has ∙ ap (λ vs. has vs v) c.values-all.ensures.values ∙ there) in none));
+          (λ there. let none : ⊥ = false≢true (sym c.if-not-holds.true ∙ c.holds.ensures ∙ ap (λ vs. has vs v) c.values-all.ensures.values ∙ there) in none));
     }
 
 pub loop-value-preserved : goal.loop-value-preserved

@@ -59,11 +59,11 @@ returns-then-point-eq0-clause-none c =
     let t = c.args.task.now in
     let r = c.args.protocol.now.rounds in
     let p = problem_of t r in
-    state_none p c.loop-point.values (omega (arith, c.loop-point-test.true, c.loop-point.invariant.state.long)) (small_solutions t r c.inputs-inputs.ensures.task c.inputs-inputs.ensures.unrestricted)
-    (subst (λ i. IsTried p (take i c.loop-point.values ++ 64 ∷ [])) c.if-point-eq0.true (c.if-give_value.ensures.none c.loop-point.invariant.state.tried))
+    state_none p c.loop-point.values (omega (arith, c.loop-point-test.true, c.loop-point.invariant.state.long)) (small_solutions t r c.inputs-inputs.ensures.task)
+    (subst (λ i. IsTried p (take i c.loop-point.values ++ 256 ∷ [])) c.if-point-eq0.true (c.if-give_value.ensures.none c.loop-point.invariant.state.tried))
 
 -- going back to the point before
-back : (c : goal.After-slice_known-else-give_value-1) → (slice_index c.give_value.new.values (c.loop-point.point - 1) < 64)
+back : (c : goal.After-slice_known-else-give_value-1) → (slice_index c.give_value.new.values (c.loop-point.point - 1) < 256)
     × IsState (problem_of c.args.task.now c.args.protocol.now.rounds) (map vec_items c.args.ends.now) c.give_value.new.values (c.loop-point.point - 1) (slice_index c.give_value.new.values (c.loop-point.point - 1) + 1)
     × (take c.loop-point.point c.loop-point.values ≡ take (c.loop-point.point - 1) c.give_value.new.values ++ slice_index c.give_value.new.values (c.loop-point.point - 1) ∷ [])
 back c =
@@ -72,11 +72,11 @@ back c =
     let p = problem_of t r in
     let ends = map vec_items c.args.ends.now in
     state_back p ends c.loop-point.values c.give_value.new.values c.loop-point.point c.loop-point.from (ends_of_problem t r c.args.protocol.now ends c.requires.built c.requires.ends)
-    (small_solutions t r c.inputs-inputs.ensures.task c.inputs-inputs.ensures.unrestricted) c.loop-point.invariant.state c.if-point-eq0.false (omega (arith, c.loop-point-test.true, c.loop-point.invariant.state.long))
+    (small_solutions t r c.inputs-inputs.ensures.task) c.loop-point.invariant.state c.if-point-eq0.false (omega (arith, c.loop-point-test.true, c.loop-point.invariant.state.long))
     c.if-give_value.ensures.long c.if-give_value.ensures.kept (c.if-give_value.ensures.none c.loop-point.invariant.state.tried)
 
 pub overflow_add-from : goal.overflow_add-from
-overflow_add-from c = let low : get_or c.give_value.new.values (c.loop-point.point - 1) 0 < 64 = (back c).0 in omega (arith, low)
+overflow_add-from c = let low : get_or c.give_value.new.values (c.loop-point.point - 1) 0 < 256 = (back c).0 in omega (arith, low)
 
 pub loop-point-smaller : goal.loop-point-smaller
 loop-point-smaller c =

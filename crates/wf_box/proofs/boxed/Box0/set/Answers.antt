@@ -1,6 +1,5 @@
-use Rattle.std.proofs.Common.{◌≡◌, Some, ap, sym, ◌∙◌, ◌∷◌, [], refl, length, subst, length-set}
+use Rattle.std.proofs.Common.{ap, sym, ◌∙◌, ◌∷◌, [], refl, length, subst, length-set}
 use Rattle.std.proofs.lemmas.List.{length-map}
-use Rattle.wf_model.specs.Laws.{IsBoxOf}
 use Rattle.wf_set.specs.Sets.{box_of, values_in}
 use Rattle.wf_box.specs.Boxes.{Grows, IsFor, Tracked}
 use Rattle.wf_box.proofs.CloseLemmas.{is_box}

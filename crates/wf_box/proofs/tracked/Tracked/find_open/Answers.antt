@@ -1,4 +1,4 @@
-use Rattle.std.proofs.Common.{◌≡◌, Some, length, arith, sym, ◌∙◌, [], map}
+use Rattle.std.proofs.Common.{◌≡◌, Some, length, arith, sym, ◌∙◌, []}
 use Rattle.std.specs.Prelude.{nat_lt}
 use Rattle.std.proofs.lemmas.List.{length-map}
 use Rattle.std.proofs.lemmas.List.Quantifiers.{position-Some}

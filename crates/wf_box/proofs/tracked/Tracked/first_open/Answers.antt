@@ -9,10 +9,10 @@ pub returns-in-Some : goal.returns-in-Some
 returns-in-Some c =
     let from = c.args.self.now.open_from in
     let later = sym c.in-Some.is ∙ c.first_open.ensures ∙ ap (λ ws. first_open (box_of ws)) (take_rest c.deref.result.now from) in
-    ap (shifted from) (later ∙ ap (λ (ws : List ℕ). first_open (box_of (drop from ws))) c.deref.ensures.value) ∙ sym (open_later c.args.self.now.words.items from c.requires.open_within c.requires.single)
+    ap (shifted from) (later ∙ ap (λ (ws : List (List ℕ)). first_open (box_of (drop from ws))) c.deref.ensures.value) ∙ sym (open_later c.args.self.now.words.items from c.requires.open_within c.requires.single)
 
 pub returns-in-None : goal.returns-in-None
 returns-in-None c =
     let from = c.args.self.now.open_from in
     let later = sym c.in-None.is ∙ c.first_open.ensures ∙ ap (λ ws. first_open (box_of ws)) (take_rest c.deref.result.now from) in
-    ap (shifted from) (later ∙ ap (λ (ws : List ℕ). first_open (box_of (drop from ws))) c.deref.ensures.value) ∙ sym (open_later c.args.self.now.words.items from c.requires.open_within c.requires.single)
+    ap (shifted from) (later ∙ ap (λ (ws : List (List ℕ)). first_open (box_of (drop from ws))) c.deref.ensures.value) ∙ sym (open_later c.args.self.now.words.items from c.requires.open_within c.requires.single)

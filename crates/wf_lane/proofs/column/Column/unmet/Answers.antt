@@ -1,7 +1,7 @@
 use Rattle.std.proofs.Common.{◌≡◌, ◌==◌, cond, filter, not, ap, sym, ◌∙◌}
 use Rattle.std.specs.Prelude.{bit_and}
 use Rattle.std.specs.Simd.Lanes.{zip2}
-use Rattle.wf_set.specs.Sets.{values_in}
+use Rattle.wf_set.specs.Parts.{part_values}
 use Rattle.wf_lane.specs.Words.{ors}
 use Rattle.wf_lane.specs.Rows.{is_met}
 use Rattle.wf_lane.proofs.BlockLemmas.{unmet_start, unmet_step, unmet_end, later_occur}
@@ -12,9 +12,9 @@ values-init c = record { rest = unmet_start (is_met c.args.live c.args.self.now.
 
 pub values-preserved : goal.values-preserved
 values-preserved c =
-    let unmet = values_in c.values.unmet in
+    let unmet = part_values c.values.unmet in
     let split = c.in-Some.ensures.split in
-    let kept : values_in c.without_met-unmet.result ≡ cond (is_met c.args.live c.args.self.now.words.items c.args.start c.in-Some.value) (filter (λ x. not (x == c.in-Some.value)) unmet) unmet =
+    let kept : part_values c.without_met-unmet.result ≡ cond (is_met c.args.live c.args.self.now.words.items c.args.start c.in-Some.value) (filter (λ x. not (x == c.in-Some.value)) unmet) unmet =
     c.without_met-unmet.ensures
     ∙ ap (λ b. cond b (filter (λ x. not (x == c.in-Some.value)) unmet) unmet) (c.has_some.ensures ∙ ap (λ r. not (ors (zip2 bit_and c.args.live r) == 0)) c.rows_with.ensures) in
     record {
