@@ -14,9 +14,9 @@ use Rattle.wf_complex.proofs.LayoutLemmas.{words_some}
 
 -- ---- views
 
-turns_some : (n k : ℕ) → 1 ≤ length (words 1 n) → 1 ≤ turns n k
-turns_some n zero h = omega arith
-turns_some n (suc k) h = omega (arith, mul-le-mul_right {m = 1} {n = length (words 1 n)} (turns n k) h, turns_some n k h)
+turns_some : (m n k : ℕ) → 1 ≤ length (words m n) → 1 ≤ turns m n k
+turns_some m n zero h = omega arith
+turns_some m n (suc k) h = omega (arith, mul-le-mul_right {m = 1} {n = length (words m n)} (turns m n k) h, turns_some m n k h)
 
 -- each round adds at most a view for each participant of each execution so far
 scaled : (w t n c k : ℕ) → 1 ≤ t → c ≤ t * (n * k) → w * (n + c) ≤ w * t * (n * (k + 1))
@@ -28,24 +28,24 @@ scaled w t n c k some few =
     let f : w * t * (n * (k + 1)) ≡ w * (t * (n * (k + 1))) = grind arith in
     omega (arith, d, f)
 
-cost_few : (n k : ℕ) → 1 ≤ length (words 1 n) → cost n k ≤ turns n k * (n * k)
-cost_few n zero h = omega arith
-cost_few n (suc k) h =
+cost_few : (m n k : ℕ) → 1 ≤ length (words m n) → cost m n k ≤ turns m n k * (n * k)
+cost_few m n zero h = omega arith
+cost_few m n (suc k) h =
     let e : suc k ≡ k + 1 = omega arith in
-    subst (λ m. length (words 1 n) * (n + cost n k) ≤ length (words 1 n) * turns n k * (n * m)) (sym e) (scaled (length (words 1 n)) (turns n k) n (cost n k) k (turns_some n k h) (cost_few n k h))
+    subst (λ j. length (words m n) * (n + cost m n k) ≤ length (words m n) * turns m n k * (n * j)) (sym e) (scaled (length (words m n)) (turns m n k) n (cost m n k) k (turns_some m n k h) (cost_few m n k h))
 
 -- a size from 1 to 4
 abbrev pub IsSized : Simplex → Type 0
 IsSized s = (1 ≤ length s) × (length s ≤ 4)
 
-pub cost_bound : (rounds : ℕ) (ss : List Simplex) → rounds ≤ 8 → AllByRecursion IsSized ss → cost_of_each rounds ss ≤ 4 * length ss + 32 * execution_total rounds ss
-cost_bound rounds [] few h = omega arith
-cost_bound rounds (s ∷ ss) few h =
+pub cost_bound : (m rounds : ℕ) (ss : List Simplex) → 1 ≤ m → m ≤ 4 → rounds ≤ 8 → AllByRecursion IsSized ss → cost_of_each m rounds ss ≤ 4 * length ss + 32 * execution_total m rounds ss
+cost_bound m rounds [] one most few h = omega arith
+cost_bound m rounds (s ∷ ss) one most few h =
     let n = length s in
-    let here : cost (length s) rounds ≤ turns (length s) rounds * (length s * rounds) = cost_few (length s) rounds (words_some (length s) h.0.0 h.0.1) in
+    let here : cost m (length s) rounds ≤ turns m (length s) rounds * (length s * rounds) = cost_few m (length s) rounds (words_some m (length s) one most h.0.0 h.0.1) in
     let small : length s * rounds ≤ 4 * 8 = omega (arith, mul-le-mul_right {m = length s} {n = 4} rounds h.0.1, mul-le-mul_left {m = rounds} {n = 8} 4 few) in
-    let wide : turns (length s) rounds * (length s * rounds) ≤ turns (length s) rounds * 32 = mul-le-mul_left {m = length s * rounds} {n = 32} (turns (length s) rounds) small in
-    omega (arith, here, wide, h.0.1, cost_bound rounds ss few h.1)
+    let wide : turns m (length s) rounds * (length s * rounds) ≤ turns m (length s) rounds * 32 = mul-le-mul_left {m = length s * rounds} {n = 32} (turns m (length s) rounds) small in
+    omega (arith, here, wide, h.0.1, cost_bound m rounds ss one most few h.1)
 
 -- ---- places
 
@@ -60,17 +60,17 @@ length-leaves n ws k t each (w ∷ all) a vs long =
     ∙ (λ i. each (round vs w) (length-round vs w (long ∙ sym a.0) ∙ long) i + length-leaves n ws k t each all a.1 vs long i)
     ∙ sym (suc_times (length all) t)
 
-leaves_count : (n k : ℕ) (vs : List View) → length vs ≡ n → length (leaves (words 1 n) k vs) ≡ turns n k * n
-leaves_count n zero vs long = let e : 1 * n ≡ n = omega arith in long ∙ sym e
-leaves_count n (suc k) vs long =
-    let e : length (words 1 n) * turns n k * n ≡ length (words 1 n) * (turns n k * n) = times (length (words 1 n)) (turns n k) n in
-    length-leaves n (words 1 n) k (turns n k * n) (leaves_count n k) (words 1 n) (words_long 1 n) vs long ∙ sym e
+leaves_count : (m n k : ℕ) (vs : List View) → length vs ≡ n → length (leaves (words m n) k vs) ≡ turns m n k * n
+leaves_count m n zero vs long = let e : 1 * n ≡ n = omega arith in long ∙ sym e
+leaves_count m n (suc k) vs long =
+    let e : length (words m n) * turns m n k * n ≡ length (words m n) * (turns m n k * n) = times (length (words m n)) (turns m n k) n in
+    length-leaves n (words m n) k (turns m n k * n) (leaves_count m n k) (words m n) (words_long m n) vs long ∙ sym e
   where
     times : (a b c : ℕ) → a * b * c ≡ a * (b * c)
     times a b c = grind arith
 
-pub length-last_views : (rounds : ℕ) (ss : List Simplex) → length (flat_map (leaves_of rounds) ss) ≡ place_total rounds ss
-length-last_views rounds [] = refl
-length-last_views rounds (s ∷ ss) =
-    length-append (leaves_of rounds s) (flat_map (leaves_of rounds) ss)
-    ∙ (λ i. leaves_count (length s) rounds (base_views s) (length-base_views s) i + length-last_views rounds ss i)
+pub length-last_views : (m rounds : ℕ) (ss : List Simplex) → length (flat_map (leaves_of m rounds) ss) ≡ place_total m rounds ss
+length-last_views m rounds [] = refl
+length-last_views m rounds (s ∷ ss) =
+    length-append (leaves_of m rounds s) (flat_map (leaves_of m rounds) ss)
+    ∙ (λ i. leaves_count m (length s) rounds (base_views s) (length-base_views s) i + length-last_views m rounds ss i)

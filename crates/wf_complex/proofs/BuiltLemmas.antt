@@ -49,12 +49,12 @@ unfolding sizes
 sizes-laid_on k n zero p = omega arith
 sizes-laid_on k n (suc c) p = omega (arith, sizes-laid_on k n c (p + n), suc_times c n)
 
-sizes-laid_out : (r k p : ℕ) (ss : List Simplex) → sizes (laid_out r k p ss) ≡ place_total r ss
+sizes-laid_out : (m r k p : ℕ) (ss : List Simplex) → sizes (laid_out m r k p ss) ≡ place_total m r ss
 unfolding sizes
-sizes-laid_out r k p [] = refl
-sizes-laid_out r k p (s ∷ ss) =
-    sizes-append (laid_on k (length s) p (turns (length s) r)) (laid_out r (k + 1) (p + turns (length s) r * length s) ss)
-    ∙ (λ i. sizes-laid_on k (length s) (turns (length s) r) p i + sizes-laid_out r (k + 1) (p + turns (length s) r * length s) ss i)
+sizes-laid_out m r k p [] = refl
+sizes-laid_out m r k p (s ∷ ss) =
+    sizes-append (laid_on k (length s) p (turns m (length s) r)) (laid_out m r (k + 1) (p + turns m (length s) r * length s) ss)
+    ∙ (λ i. sizes-laid_on k (length s) (turns m (length s) r) p i + sizes-laid_out m r (k + 1) (p + turns m (length s) r * length s) ss i)
 
 length-places_on : (table : List View) (lasts : List ℕ) (k : ℕ) (es : List Execution) → AllByRecursion (EndsBy (length lasts)) es → length (flat_map (places_on table lasts) (enumerate_from k es)) ≡ sizes es
 unfolding sizes
@@ -63,8 +63,8 @@ length-places_on table lasts k (e ∷ es) h =
     length-append (places_on table lasts (k, e)) (flat_map (places_on table lasts) (enumerate_from (k + 1) es))
     ∙ (λ i. (length-map (part_of lasts e) (place_of table k) ∙ length-part_of lasts e h.0) i + length-places_on table lasts (k + 1) es h.1 i)
 
-pub length-places : (table : List View) (lasts : List ℕ) (r : ℕ) (ss : List Simplex) → All (EndsBy (length lasts)) (laid_out r 0 0 ss) → length (flat_map (places_on table lasts) (enumerate_from 0 (laid_out r 0 0 ss))) ≡ place_total r ss
-length-places table lasts r ss h = length-places_on table lasts 0 (laid_out r 0 0 ss) (recursion_from_All (EndsBy (length lasts)) (laid_out r 0 0 ss) h) ∙ sizes-laid_out r 0 0 ss
+pub length-places : (m : ℕ) (table : List View) (lasts : List ℕ) (r : ℕ) (ss : List Simplex) → All (EndsBy (length lasts)) (laid_out m r 0 0 ss) → length (flat_map (places_on table lasts) (enumerate_from 0 (laid_out m r 0 0 ss))) ≡ place_total m r ss
+length-places m table lasts r ss h = length-places_on table lasts 0 (laid_out m r 0 0 ss) (recursion_from_All (EndsBy (length lasts)) (laid_out m r 0 0 ss) h) ∙ sizes-laid_out m r 0 0 ss
 
 -- ---- lists side by side
 
@@ -126,21 +126,21 @@ classes_joined t (x ∷ xs) = ap (λ vs. classes t x ++ vs) (classes_joined t xs
 
 -- ---- what is built
 
-module _ (t : Task) (r : ℕ) (whole : first_block t ≡ 1) (table : List View) (lasts : List ℕ) (made : views_at table lasts ≡ flat_map (leaves_of r) (inputs t)) where
+module _ (t : Task) (r : ℕ) (table : List View) (lasts : List ℕ) (made : views_at table lasts ≡ flat_map (leaves_of (first_block t) r) (inputs t)) where
   all_lasts : flat_map last_views (executions t r) ≡ views_at table lasts
-  all_lasts = last_views-executions t r whole ∙ sym made
+  all_lasts = last_views-executions t r ∙ sym made
 
   abbrev laid : List Execution
-  laid = laid_out r 0 0 (inputs t)
+  laid = laid_out (first_block t) r 0 0 (inputs t)
 
   cut : map (part_of (views_at table lasts)) laid ≡ map last_views (executions t r)
-  cut = ap (λ vs. map (part_of vs) (laid_out r 0 0 (inputs t))) (sym all_lasts) ∙ last_views_cut t r whole
+  cut = ap (λ vs. map (part_of vs) (laid_out (first_block t) r 0 0 (inputs t))) (sym all_lasts) ∙ last_views_cut t r
 
   cut_by_number : map (λ e. views_at table (part_of lasts e)) laid ≡ map last_views (executions t r)
-  cut_by_number = sym (parts-map (view_at table) lasts (laid_out r 0 0 (inputs t))) ∙ cut
+  cut_by_number = sym (parts-map (view_at table) lasts (laid_out (first_block t) r 0 0 (inputs t))) ∙ cut
 
   abbrev marked : List Place
-  marked = flat_map (places_on table lasts) (enumerate_from 0 (laid_out r 0 0 (inputs t)))
+  marked = flat_map (places_on table lasts) (enumerate_from 0 (laid_out (first_block t) r 0 0 (inputs t)))
 
   pub view_count_is : length (distinct same_view (views_at table lasts)) ≡ length (distinct same_view (flat_map last_views (executions t r)))
   view_count_is = ap (λ vs. length (distinct same_view vs)) (sym all_lasts)

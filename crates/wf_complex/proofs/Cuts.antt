@@ -82,27 +82,27 @@ length-folded n [] vs h e = e
 length-folded n (w ∷ ws) vs h e = length-folded n ws (round vs w) h.1 (length-round vs w (e ∙ sym h.0) ∙ e)
 
 -- the last views of the executions on a rule are as many as its input has processes
-parts_long : (r : ℕ) (rule : Rule) → AllByRecursion (λ q. length q ≡ length rule.input) (map last_views (executions_on 1 r rule))
-parts_long r rule =
+parts_long : (m r : ℕ) (rule : Rule) → AllByRecursion (λ q. length q ≡ length rule.input) (map last_views (executions_on m r rule))
+parts_long m r rule =
     let n = length rule.input in
-    each_map (λ q. length q ≡ length rule.input) last_views (executions_on 1 r rule)
-    (each_map (λ e. length (last_views e) ≡ length rule.input) (λ ws. record { rule = rule; words = ws }) (lists_of (words 1 n) r)
-    (weaker (AllByRecursion (λ (w : Word). length w ≡ length rule.input)) (λ ws. length (fold round (base_views rule.input) ws) ≡ length rule.input) (λ ws k. length-folded (length rule.input) ws (base_views rule.input) k (length-base_views rule.input)) (lists_of (words 1 n) r)
-    (each_of_lists (λ (w : Word). length w ≡ length rule.input) (words 1 n) r (words_long 1 n))))
+    each_map (λ q. length q ≡ length rule.input) last_views (executions_on m r rule)
+    (each_map (λ e. length (last_views e) ≡ length rule.input) (λ ws. record { rule = rule; words = ws }) (lists_of (words m n) r)
+    (weaker (AllByRecursion (λ (w : Word). length w ≡ length rule.input)) (λ ws. length (fold round (base_views rule.input) ws) ≡ length rule.input) (λ ws k. length-folded (length rule.input) ws (base_views rule.input) k (length-base_views rule.input)) (lists_of (words m n) r)
+    (each_of_lists (λ (w : Word). length w ≡ length rule.input) (words m n) r (words_long m n))))
 
-parts_count : (r : ℕ) (rule : Rule) → length (map last_views (executions_on 1 r rule)) ≡ turns (length rule.input) r
-parts_count r rule =
-    length-map (executions_on 1 r rule) last_views
-    ∙ length-map (lists_of (words 1 (length rule.input)) r) (λ ws. record { rule = rule; words = ws })
-    ∙ length-lists_of (length rule.input) r
+parts_count : (m r : ℕ) (rule : Rule) → length (map last_views (executions_on m r rule)) ≡ turns m (length rule.input) r
+parts_count m r rule =
+    length-map (executions_on m r rule) last_views
+    ∙ length-map (lists_of (words m (length rule.input)) r) (λ ws. record { rule = rule; words = ws })
+    ∙ length-lists_of m (length rule.input) r
 
-laid_out_cut : (r k p : ℕ) (rules : List Rule) → AreCut p (laid_out r k p (map (λ rule. rule.input) rules)) (map last_views (flat_map (executions_on 1 r) rules))
-laid_out_cut r k p [] = tt
-laid_out_cut r k p (rule ∷ rules) =
+laid_out_cut : (m r k p : ℕ) (rules : List Rule) → AreCut p (laid_out m r k p (map (λ rule. rule.input) rules)) (map last_views (flat_map (executions_on m r) rules))
+laid_out_cut m r k p [] = tt
+laid_out_cut m r k p (rule ∷ rules) =
     let n = length rule.input in
-    subst (AreCut p (laid_out r k p (map (λ rule. rule.input) (rule ∷ rules)))) (sym (map-append last_views (executions_on 1 r rule) (flat_map (executions_on 1 r) rules)))
-    (laid_then k n (turns n r) p (map last_views (executions_on 1 r rule)) (parts_count r rule) (parts_long r rule) (laid_out r (k + 1) (p + turns n r * n) (map (λ rule. rule.input) rules)) (map last_views (flat_map (executions_on 1 r) rules))
-    (laid_out_cut r (k + 1) (p + turns n r * n) rules))
+    subst (AreCut p (laid_out m r k p (map (λ rule. rule.input) (rule ∷ rules)))) (sym (map-append last_views (executions_on m r rule) (flat_map (executions_on m r) rules)))
+    (laid_then k n (turns m n r) p (map last_views (executions_on m r rule)) (parts_count m r rule) (parts_long m r rule) (laid_out m r (k + 1) (p + turns m n r * n) (map (λ rule. rule.input) rules)) (map last_views (flat_map (executions_on m r) rules))
+    (laid_out_cut m r (k + 1) (p + turns m n r * n) rules))
 
 -- ---- where they end, and how many they are
 
@@ -110,25 +110,25 @@ laid_on_ends : (k n c p m : ℕ) → p + c * n ≤ m → AllByRecursion (EndsBy 
 laid_on_ends k n zero p m h = tt
 laid_on_ends k n (suc c) p m h = let e = suc_times c n in (omega (arith, h, e), laid_on_ends k n c (p + n) m (omega (arith, h, e)))
 
-laid_out_ends : (r k p m : ℕ) (ss : List Simplex) → p + place_total r ss ≤ m → AllByRecursion (EndsBy m) (laid_out r k p ss)
-laid_out_ends r k p m [] h = tt
-laid_out_ends r k p m (s ∷ ss) h =
-    each_append (EndsBy m) (laid_on k (length s) p (turns (length s) r)) (laid_out r (k + 1) (p + turns (length s) r * length s) ss)
-    (laid_on_ends k (length s) (turns (length s) r) p m (omega (arith, h)))
-    (laid_out_ends r (k + 1) (p + turns (length s) r * length s) m ss (omega (arith, h)))
+laid_out_ends : (m r k p end : ℕ) (ss : List Simplex) → p + place_total m r ss ≤ end → AllByRecursion (EndsBy end) (laid_out m r k p ss)
+laid_out_ends m r k p end [] h = tt
+laid_out_ends m r k p end (s ∷ ss) h =
+    each_append (EndsBy end) (laid_on k (length s) p (turns m (length s) r)) (laid_out m r (k + 1) (p + turns m (length s) r * length s) ss)
+    (laid_on_ends k (length s) (turns m (length s) r) p end (omega (arith, h)))
+    (laid_out_ends m r (k + 1) (p + turns m (length s) r * length s) end ss (omega (arith, h)))
 
-pub all_end : (r m : ℕ) (ss : List Simplex) → place_total r ss ≡ m → All (EndsBy m) (laid_out r 0 0 ss)
-all_end r m ss e = All-from_recursion (EndsBy m) (laid_out r 0 0 ss) (laid_out_ends r 0 0 m ss (omega (arith, e)))
+pub all_end : (m r end : ℕ) (ss : List Simplex) → place_total m r ss ≡ end → All (EndsBy end) (laid_out m r 0 0 ss)
+all_end m r end ss e = All-from_recursion (EndsBy end) (laid_out m r 0 0 ss) (laid_out_ends m r 0 0 end ss (omega (arith, e)))
 
 length-laid_on : (k n c p : ℕ) → length (laid_on k n p c) ≡ c
 length-laid_on k n zero p = refl
 length-laid_on k n (suc c) p = ap suc (length-laid_on k n c (p + n))
 
-pub length-laid_out : (r k p : ℕ) (ss : List Simplex) → length (laid_out r k p ss) ≡ execution_total r ss
-length-laid_out r k p [] = refl
-length-laid_out r k p (s ∷ ss) =
-    length-append (laid_on k (length s) p (turns (length s) r)) (laid_out r (k + 1) (p + turns (length s) r * length s) ss)
-    ∙ (λ i. length-laid_on k (length s) (turns (length s) r) p i + length-laid_out r (k + 1) (p + turns (length s) r * length s) ss i)
+pub length-laid_out : (m r k p : ℕ) (ss : List Simplex) → length (laid_out m r k p ss) ≡ execution_total m r ss
+length-laid_out m r k p [] = refl
+length-laid_out m r k p (s ∷ ss) =
+    length-append (laid_on k (length s) p (turns m (length s) r)) (laid_out m r (k + 1) (p + turns m (length s) r * length s) ss)
+    ∙ (λ i. length-laid_on k (length s) (turns m (length s) r) p i + length-laid_out m r (k + 1) (p + turns m (length s) r * length s) ss i)
 
 -- ---- whose executions they are
 
@@ -138,23 +138,22 @@ laid_on_simplices k n zero p (x ∷ xs) h = absurd (let none : ⊥ = omega (arit
 laid_on_simplices k n (suc c) p [] h = absurd (let none : ⊥ = omega (arith, h) in none)
 laid_on_simplices k n (suc c) p (x ∷ xs) h = ap (λ ks. k ∷ ks) (laid_on_simplices k n c (p + n) xs (omega (arith, h)))
 
-on_rules : (r k p : ℕ) (rules : List Rule) →
-    map (λ (e : Execution). e.simplex) (laid_out r k p (map (λ rule. rule.input) rules)) ≡ flat_map (λ (at : ℕ × Rule). map (λ e. at.0) (executions_on 1 r at.1)) (enumerate_from k rules)
-on_rules r k p [] = refl
-on_rules r k p (rule ∷ rules) =
+on_rules : (m r k p : ℕ) (rules : List Rule) →
+    map (λ (e : Execution). e.simplex) (laid_out m r k p (map (λ rule. rule.input) rules)) ≡ flat_map (λ (at : ℕ × Rule). map (λ e. at.0) (executions_on m r at.1)) (enumerate_from k rules)
+on_rules m r k p [] = refl
+on_rules m r k p (rule ∷ rules) =
     let n = length rule.input in
-    let count : length (executions_on 1 r rule) ≡ turns (length rule.input) r = sym (length-map (executions_on 1 r rule) last_views) ∙ parts_count r rule in
-    map-append (λ (e : Execution). e.simplex) (laid_on k n p (turns n r)) (laid_out r (k + 1) (p + turns n r * n) (map (λ rule. rule.input) rules))
-    ∙ (λ i. laid_on_simplices k n (turns n r) p (executions_on 1 r rule) count i ++ on_rules r (k + 1) (p + turns n r * n) rules i)
+    let count : length (executions_on m r rule) ≡ turns m (length rule.input) r = sym (length-map (executions_on m r rule) last_views) ∙ parts_count m r rule in
+    map-append (λ (e : Execution). e.simplex) (laid_on k n p (turns m n r)) (laid_out m r (k + 1) (p + turns m n r * n) (map (λ rule. rule.input) rules))
+    ∙ (λ i. laid_on_simplices k n (turns m n r) p (executions_on m r rule) count i ++ on_rules m r (k + 1) (p + turns m n r * n) rules i)
 
-module _ (t : Task) (r : ℕ) (whole : first_block t ≡ 1) where
-  pub laid_simplices : map (λ (e : Execution). e.simplex) (laid_out r 0 0 (inputs t)) ≡ simplices_of t r
-  laid_simplices = on_rules r 0 0 t.rules ∙ ap (λ m. flat_map (λ (at : ℕ × Rule). map (λ e. at.0) (executions_on m r at.1)) (enumerate_from 0 t.rules)) (sym whole)
+module _ (t : Task) (r : ℕ) where
+  pub laid_simplices : map (λ (e : Execution). e.simplex) (laid_out (first_block t) r 0 0 (inputs t)) ≡ simplices_of t r
+  laid_simplices = on_rules (first_block t) r 0 0 t.rules
 
   -- the executions cut the list of all last views into theirs
-  pub last_views_cut : map (part_of (flat_map last_views (executions t r))) (laid_out r 0 0 (inputs t)) ≡ map last_views (executions t r)
+  pub last_views_cut : map (part_of (flat_map last_views (executions t r))) (laid_out (first_block t) r 0 0 (inputs t)) ≡ map last_views (executions t r)
   last_views_cut =
-      let cut : AreCut 0 (laid_out r 0 0 (inputs t)) (map last_views (executions t r)) =
-      subst (λ m. AreCut 0 (laid_out r 0 0 (inputs t)) (map last_views (flat_map (executions_on m r) t.rules))) (sym whole) (laid_out_cut r 0 0 t.rules) in
-      ap (λ vs. map (part_of vs) (laid_out r 0 0 (inputs t))) (sym (flat_map-map (λ q. q) last_views (executions t r)))
-      ∙ parts_cut (laid_out r 0 0 (inputs t)) (map last_views (executions t r)) cut
+      let laid = laid_out (first_block t) r 0 0 (inputs t) in
+      ap (λ vs. map (part_of vs) laid) (sym (flat_map-map (λ q. q) last_views (executions t r)))
+      ∙ parts_cut laid (map last_views (executions t r)) (laid_out_cut (first_block t) r 0 0 t.rules)

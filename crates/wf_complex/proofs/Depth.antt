@@ -78,22 +78,22 @@ held_bases : (zs : List View) (s : Simplex) → AllByRecursion (Among zs) (base_
 held_bases zs [] h = tt
 held_bases zs (v ∷ s) h = ((h.0, tt), held_bases zs s h.1)
 
-on_simplex : (r : ℕ) (s : Simplex) → r ≤ 8 → IsSized s → AllByRecursion (λ v. count_within v ≤ 36) (leaves_of r s)
-on_simplex r s rounds h =
+on_simplex : (m r : ℕ) (s : Simplex) → r ≤ 8 → IsSized s → AllByRecursion (λ v. count_within v ≤ 36) (leaves_of m r s)
+on_simplex m r s rounds h =
     let few : r * length s ≤ 8 * 4 = product_small r (length s) 8 4 rounds h.1 in
-    weaker (λ v. count_within v ≤ length (base_views s) + r * length s) (λ v. count_within v ≤ 36) (λ v k. omega (arith, k, few, length-base_views s, h.1)) (leaves_of r s)
-    (leaves_shallow (length s) (words 1 (length s)) (words_long 1 (length s)) r (base_views s) (base_views s) (length-base_views s) (held_bases (base_views s) s (each_among_itself (base_views s))))
+    weaker (λ v. count_within v ≤ length (base_views s) + r * length s) (λ v. count_within v ≤ 36) (λ v k. omega (arith, k, few, length-base_views s, h.1)) (leaves_of m r s)
+    (leaves_shallow (length s) (words m (length s)) (words_long m (length s)) r (base_views s) (base_views s) (length-base_views s) (held_bases (base_views s) s (each_among_itself (base_views s))))
 
-on_simplices : (r : ℕ) (ss : List Simplex) → r ≤ 8 → AllByRecursion IsSized ss → AllByRecursion (λ v. count_within v ≤ 36) (flat_map (leaves_of r) ss)
-on_simplices r [] rounds h = tt
-on_simplices r (s ∷ ss) rounds h = each_append (λ v. count_within v ≤ 36) (leaves_of r s) (flat_map (leaves_of r) ss) (on_simplex r s rounds h.0) (on_simplices r ss rounds h.1)
+on_simplices : (m r : ℕ) (ss : List Simplex) → r ≤ 8 → AllByRecursion IsSized ss → AllByRecursion (λ v. count_within v ≤ 36) (flat_map (leaves_of m r) ss)
+on_simplices m r [] rounds h = tt
+on_simplices m r (s ∷ ss) rounds h = each_append (λ v. count_within v ≤ 36) (leaves_of m r s) (flat_map (leaves_of m r) ss) (on_simplex m r s rounds h.0) (on_simplices m r ss rounds h.1)
 
 by_number : (P : View → Type 0) (table : List View) (ids : List ℕ) → AllByRecursion P (views_at table ids) → AllByRecursion (λ k. P (view_at table k)) ids
 by_number P table [] h = tt
 by_number P table (k ∷ ids) h = (h.0, by_number P table ids h.1)
 
 -- at most 36 views are inside a last view of at most 8 rounds
-pub lasts_shallow : (r : ℕ) (ss : List Simplex) → r ≤ 8 → AllByRecursion IsSized ss → (table : List View) (lasts : List ℕ) → views_at table lasts ≡ flat_map (leaves_of r) ss → All (λ k. count_within (view_at table k) ≤ 36) lasts
-lasts_shallow r ss rounds h table lasts made =
+pub lasts_shallow : (m r : ℕ) (ss : List Simplex) → r ≤ 8 → AllByRecursion IsSized ss → (table : List View) (lasts : List ℕ) → views_at table lasts ≡ flat_map (leaves_of m r) ss → All (λ k. count_within (view_at table k) ≤ 36) lasts
+lasts_shallow m r ss rounds h table lasts made =
     All-from_recursion (λ k. count_within (view_at table k) ≤ 36) lasts
-    (by_number (λ v. count_within v ≤ 36) table lasts (subst (AllByRecursion (λ v. count_within v ≤ 36)) (sym made) (on_simplices r ss rounds h)))
+    (by_number (λ v. count_within v ≤ 36) table lasts (subst (AllByRecursion (λ v. count_within v ≤ 36)) (sym made) (on_simplices m r ss rounds h)))

@@ -32,18 +32,18 @@ leaves_folded ws (suc k) vs =
     (λ w. leaves_folded ws k (round vs w) ∙ sym (flat_map-map (λ us. fold round vs us) (λ rest. w ∷ rest) (lists_of ws k))) ws
     ∙ sym (flat_map-flat_map (λ us. fold round vs us) (λ w. map (λ rest. w ∷ rest) (lists_of ws k)) ws)
 
-on_rule : (r : ℕ) (rule : Rule) → flat_map last_views (executions_on 1 r rule) ≡ leaves_of r rule.input
-on_rule r rule =
-    flat_map-map last_views (λ ws. record { rule = rule; words = ws }) (lists_of (words 1 (length rule.input)) r)
-    ∙ sym (leaves_folded (words 1 (length rule.input)) r (base_views rule.input))
+on_rule : (m r : ℕ) (rule : Rule) → flat_map last_views (executions_on m r rule) ≡ leaves_of m r rule.input
+on_rule m r rule =
+    flat_map-map last_views (λ ws. record { rule = rule; words = ws }) (lists_of (words m (length rule.input)) r)
+    ∙ sym (leaves_folded (words m (length rule.input)) r (base_views rule.input))
 
 -- the last views of all executions, one after another
-pub last_views-executions : (t : Task) (r : ℕ) → first_block t ≡ 1 → flat_map last_views (executions t r) ≡ flat_map (leaves_of r) (inputs t)
-last_views-executions t r all =
-    ap (λ m. flat_map last_views (flat_map (executions_on m r) t.rules)) all
-    ∙ flat_map-flat_map last_views (executions_on 1 r) t.rules
-    ∙ flat_map-same (λ rule. flat_map last_views (executions_on 1 r rule)) (λ rule. leaves_of r rule.input) (on_rule r) t.rules
-    ∙ sym (flat_map-map (leaves_of r) (λ rule. rule.input) t.rules)
+pub last_views-executions : (t : Task) (r : ℕ) → flat_map last_views (executions t r) ≡ flat_map (leaves_of (first_block t) r) (inputs t)
+last_views-executions t r =
+    let m = first_block t in
+    flat_map-flat_map last_views (executions_on m r) t.rules
+    ∙ flat_map-same (λ rule. flat_map last_views (executions_on m r rule)) (λ rule. leaves_of m r rule.input) (on_rule m r) t.rules
+    ∙ sym (flat_map-map (leaves_of m r) (λ rule. rule.input) t.rules)
 
 -- ---- how many there are
 
@@ -51,16 +51,16 @@ length-flat : {X Y : Type 0} (f : X → List Y) (n : ℕ) → ((x : X) → lengt
 length-flat f n h [] = omega arith
 length-flat f n h (x ∷ xs) = length-append (f x) (flat_map f xs) ∙ (λ i. h x i + length-flat f n h xs i) ∙ sym (suc_times (length xs) n)
 
-pub length-lists_of : (n : ℕ) (r : ℕ) → length (lists_of (words 1 n) r) ≡ turns n r
-length-lists_of n zero = refl
-length-lists_of n (suc r) =
-    length-flat (λ x. map (λ rest. x ∷ rest) (lists_of (words 1 n) r)) (turns n r) (λ x. length-map (lists_of (words 1 n) r) (λ rest. x ∷ rest) ∙ length-lists_of n r) (words 1 n)
+pub length-lists_of : (m n r : ℕ) → length (lists_of (words m n) r) ≡ turns m n r
+length-lists_of m n zero = refl
+length-lists_of m n (suc r) =
+    length-flat (λ x. map (λ rest. x ∷ rest) (lists_of (words m n) r)) (turns m n r) (λ x. length-map (lists_of (words m n) r) (λ rest. x ∷ rest) ∙ length-lists_of m n r) (words m n)
 
-pub length-executions : (t : Task) (r : ℕ) → first_block t ≡ 1 → length (executions t r) ≡ execution_total r (inputs t)
-length-executions t r all = ap (λ m. length (flat_map (executions_on m r) t.rules)) all ∙ each t.rules
+pub length-executions : (t : Task) (r : ℕ) → length (executions t r) ≡ execution_total (first_block t) r (inputs t)
+length-executions t r = each (first_block t) t.rules
   where
-    each : (rules : List Rule) → length (flat_map (executions_on 1 r) rules) ≡ execution_total r (map (λ rule. rule.input) rules)
-    each [] = refl
-    each (rule ∷ rules) =
-        let here : length (executions_on 1 r rule) ≡ turns (length rule.input) r = length-map (lists_of (words 1 (length rule.input)) r) (λ ws. record { rule = rule; words = ws }) ∙ length-lists_of (length rule.input) r in
-        length-append (executions_on 1 r rule) (flat_map (executions_on 1 r) rules) ∙ (λ i. here i + each rules i)
+    each : (m : ℕ) (rules : List Rule) → length (flat_map (executions_on m r) rules) ≡ execution_total m r (map (λ rule. rule.input) rules)
+    each m [] = refl
+    each m (rule ∷ rules) =
+        let here : length (executions_on m r rule) ≡ turns m (length rule.input) r = length-map (lists_of (words m (length rule.input)) r) (λ ws. record { rule = rule; words = ws }) ∙ length-lists_of m (length rule.input) r in
+        length-append (executions_on m r rule) (flat_map (executions_on m r) rules) ∙ (λ i. here i + each m rules i)

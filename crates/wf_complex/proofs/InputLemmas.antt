@@ -24,7 +24,7 @@ pub length-base_views : (s : Simplex) → length (base_views s) ≡ length s
 length-base_views [] = refl
 length-base_views (v ∷ s) = ap suc (length-base_views s)
 
-pub first_round : (now : List View) (s : Simplex) (n : ℕ) (ids : List ℕ) → IsSimplexWithin 4 63 s → n ≤ length s → length s ≤ n → All (λ k. k < length now) (take n ids) → views_at now (take n ids) ≡ take n (base_views s) →
+pub first_round : (now : List View) (s : Simplex) (n : ℕ) (ids : List ℕ) → IsSimplexWithin 4 255 s → n ≤ length s → length s ≤ n → All (λ k. k < length now) (take n ids) → views_at now (take n ids) ≡ take n (base_views s) →
     AreViews now (take (length s) ids) × (views_at now (take (length s) ids) ≡ base_views s)
 first_round now s n ids h low high within made =
     let e : n ≡ length s = omega (arith, low, high) in
@@ -41,22 +41,22 @@ first_round now s n ids h low high within made =
 
 -- ---- one simplex further
 
-module _ (rounds : ℕ) (ss : List Simplex) (i : ℕ) (s : Simplex) (place : i < length ss) (is : s ≡ get_or ss i s) (ids : List ℕ) (n : ℕ) (count : n ≡ length s)
+module _ (m rounds : ℕ) (ss : List Simplex) (i : ℕ) (s : Simplex) (place : i < length ss) (is : s ≡ get_or ss i s) (ids : List ℕ) (n : ℕ) (count : n ≡ length s)
     (table first after : List View) (views : views_at first (take (length s) ids) ≡ base_views s) where
   pub long : length (take n ids) ≡ length s
   long = ap (λ k. length (take k ids)) count ∙ sym (length-views first (take (length s) ids)) ∙ ap length views ∙ length-base_views s
 
-  same_cost : cost (length (take n ids)) rounds ≡ cost (length s) rounds
-  same_cost = ap (λ k. cost k rounds) long
+  same_cost : cost m (length (take n ids)) rounds ≡ cost m (length s) rounds
+  same_cost = ap (λ k. cost m k rounds) long
 
-  pub room_after : (m : ℕ) → length table + cost_of_each rounds (drop i ss) ≤ m → length first ≤ length table + length s → length after ≤ length first + cost (length (take n ids)) rounds →
-      length after + cost_of_each rounds (drop (i + 1) ss) ≤ m
-  room_after m room few added = omega (arith, room, few, added, same_cost, ap (cost_of_each rounds) (drop_more ss i s place ∙ ap (λ x. x ∷ drop (i + 1) ss) (sym is)))
+  pub room_after : (most : ℕ) → length table + cost_of_each m rounds (drop i ss) ≤ most → length first ≤ length table + length s → length after ≤ length first + cost m (length (take n ids)) rounds →
+      length after + cost_of_each m rounds (drop (i + 1) ss) ≤ most
+  room_after most room few added = omega (arith, room, few, added, same_cost, ap (cost_of_each m rounds) (drop_more ss i s place ∙ ap (λ x. x ∷ drop (i + 1) ss) (sym is)))
 
-  pub made_after : (lasts more : List ℕ) → AllByRecursion (λ k. k < length table) lasts → Extends table first → views_at table lasts ≡ flat_map (leaves_of rounds) (take i ss) →
-      views_at after more ≡ views_at first lasts ++ leaves (words 1 (length (take n ids))) rounds (views_at first (take n ids)) → views_at after more ≡ flat_map (leaves_of rounds) (take (i + 1) ss)
+  pub made_after : (lasts more : List ℕ) → AllByRecursion (λ k. k < length table) lasts → Extends table first → views_at table lasts ≡ flat_map (leaves_of m rounds) (take i ss) →
+      views_at after more ≡ views_at first lasts ++ leaves (words m (length (take n ids))) rounds (views_at first (take n ids)) → views_at after more ≡ flat_map (leaves_of m rounds) (take (i + 1) ss)
   made_after lasts more within grown made added =
       added
-      ∙ (λ k. views_kept table first lasts grown within k ++ leaves (words 1 (long k)) rounds (views_at first (take (count k) ids)))
-      ∙ (λ k. made k ++ leaves (words 1 (length s)) rounds (views k))
-      ∙ sym (ap (flat_map (leaves_of rounds)) (take_more ss i s place ∙ ap (λ x. take i ss ++ x ∷ []) (sym is)) ∙ flat_map-append (leaves_of rounds) (take i ss) (s ∷ []) ∙ ap (λ vs. flat_map (leaves_of rounds) (take i ss) ++ vs) (append-nil (leaves_of rounds s)))
+      ∙ (λ k. views_kept table first lasts grown within k ++ leaves (words m (long k)) rounds (views_at first (take (count k) ids)))
+      ∙ (λ k. made k ++ leaves (words m (length s)) rounds (views k))
+      ∙ sym (ap (flat_map (leaves_of m rounds)) (take_more ss i s place ∙ ap (λ x. take i ss ++ x ∷ []) (sym is)) ∙ flat_map-append (leaves_of m rounds) (take i ss) (s ∷ []) ∙ ap (λ vs. flat_map (leaves_of m rounds) (take i ss) ++ vs) (append-nil (leaves_of m rounds s)))

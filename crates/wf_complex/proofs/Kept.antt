@@ -1,5 +1,5 @@
 -- What is built keeps what each protocol complex keeps, and is the one of the task.
-use Rattle.std.proofs.Common.{◌≡◌, ◌<◌, ◌≤◌, ℕ, Bool, List, [], ◌∷◌, map, flat_map, length, slice_index, None, unwrap_or, All, sym, refl, ap, ◌∙◌, arith}
+use Rattle.std.proofs.Common.{◌≡◌, ◌<◌, ◌≤◌, ℕ, Bool, List, [], ◌∷◌, map, flat_map, length, slice_index, All, sym, refl, ap, ◌∙◌, arith}
 use Rattle.std.specs.List.{AllByRecursion, enumerate_from}
 use Rattle.std.proofs.lemmas.Bool.{and_parts, false≢true}
 use Rattle.std.proofs.lemmas.List.{length-map}
@@ -26,44 +26,38 @@ use Rattle.wf_complex.proofs.Different.{IsOnce}
 use Rattle.wf_complex.proofs.BuiltLemmas.{length-places, view_count_is, points_are, firsts_are, scopes_are}
 use Rattle.wf_model.proofs.Bridge.{weaker}
 
--- ---- words
-
--- where no word is forbidden, the first block has one at least
-pub all_words : (t : Task) → t.restriction ≡ None → first_block t ≡ 1
-all_words t free = ap (λ o. unwrap_or o 1) free
-
 -- ---- sizes
 
-sized : (s : Simplex) → IsSimplexWithin 4 63 s → IsSized s
+sized : (s : Simplex) → IsSimplexWithin 4 255 s → IsSized s
 sized [] h = absurd (false≢true (and_parts (is_nonempty {X = ℕ × ℕ} []) (is_ascending (processes_of [])) h.is_simplex).0)
-sized (v ∷ s) h = (omega arith, length-within 4 63 (v ∷ s) h)
+sized (v ∷ s) h = (omega arith, length-within 4 255 (v ∷ s) h)
 
-pub all_sized : (ss : List Simplex) → All (IsSimplexWithin 4 63) ss → AllByRecursion IsSized ss
-all_sized ss h = weaker (IsSimplexWithin 4 63) IsSized sized ss (recursion_from_All (IsSimplexWithin 4 63) ss h)
+pub all_sized : (ss : List Simplex) → All (IsSimplexWithin 4 255) ss → AllByRecursion IsSized ss
+all_sized ss h = weaker (IsSimplexWithin 4 255) IsSized sized ss (recursion_from_All (IsSimplexWithin 4 255) ss h)
 
 pub all_small : (ss : List Simplex) → AllByRecursion IsSized ss → AllByRecursion (λ s. length s ≤ 4) ss
 all_small ss h = weaker IsSized (λ s. length s ≤ 4) (λ s k. k.1) ss h
 
-pub few_views : (r : ℕ) (ss : List Simplex) → r ≤ 8 → execution_total r ss ≤ 500000 → length ss ≤ 4096 → AllByRecursion IsSized ss → cost_of_each r ss ≤ 16016384
-few_views r ss rounds few inputs h = omega (arith, cost_bound r ss rounds h, few, inputs)
+pub few_views : (m r : ℕ) (ss : List Simplex) → 1 ≤ m → m ≤ 4 → r ≤ 8 → execution_total m r ss ≤ 500000 → length ss ≤ 4096 → AllByRecursion IsSized ss → cost_of_each m r ss ≤ 16016384
+few_views m r ss one most rounds few inputs h = omega (arith, cost_bound m r ss one most rounds h, few, inputs)
 
 -- ---- what is kept
 
-module _ (r : ℕ) (ss : List Simplex) (few : execution_total r ss ≤ 500000) (h : AllByRecursion IsSized ss) (table : List View) (lasts : List ℕ) (made : views_at table lasts ≡ flat_map (leaves_of r) ss) where
-  pub length-lasts : length lasts ≡ place_total r ss
-  length-lasts = sym (length-views table lasts) ∙ ap length made ∙ length-last_views r ss
+module _ (m r : ℕ) (ss : List Simplex) (few : execution_total m r ss ≤ 500000) (h : AllByRecursion IsSized ss) (table : List View) (lasts : List ℕ) (made : views_at table lasts ≡ flat_map (leaves_of m r) ss) where
+  pub length-lasts : length lasts ≡ place_total m r ss
+  length-lasts = sym (length-views table lasts) ∙ ap length made ∙ length-last_views m r ss
 
   pub few_lasts : length lasts ≤ 2000000
-  few_lasts = omega (arith, length-lasts, place_few r ss (all_small ss h), few)
+  few_lasts = omega (arith, length-lasts, place_few m r ss (all_small ss h), few)
 
-  pub lasts_end : All (EndsBy (length lasts)) (laid_out r 0 0 ss)
-  lasts_end = all_end r (length lasts) ss (sym length-lasts)
+  pub lasts_end : All (EndsBy (length lasts)) (laid_out m r 0 0 ss)
+  lasts_end = all_end m r (length lasts) ss (sym length-lasts)
 
-  pub few_laid : length (laid_out r 0 0 ss) ≤ 500000
-  few_laid = omega (arith, length-laid_out r 0 0 ss, few)
+  pub few_laid : length (laid_out m r 0 0 ss) ≤ 500000
+  few_laid = omega (arith, length-laid_out m r 0 0 ss, few)
 
-  pub length-marked : length (flat_map (places_on table lasts) (enumerate_from 0 (laid_out r 0 0 ss))) ≡ length lasts
-  length-marked = length-places table lasts r ss lasts_end ∙ sym length-lasts
+  pub length-marked : length (flat_map (places_on table lasts) (enumerate_from 0 (laid_out m r 0 0 ss))) ≡ length lasts
+  length-marked = length-places m table lasts r ss lasts_end ∙ sym length-lasts
 
   module _ (f : View → View) (grown : List View) (cs : List ℕ) (classed : views_at grown cs ≡ map f (views_at table lasts)) where
     pub length-classed : length cs ≡ length lasts
@@ -71,23 +65,23 @@ module _ (r : ℕ) (ss : List Simplex) (few : execution_total r ss ≤ 500000) (
 
 -- ---- what is built
 
-module _ (t : Task) (r : ℕ) (ss : List Simplex) (given : inputs t ≡ ss) (symmetric : Bool) (named : t.symmetric ≡ symmetric) (whole : first_block t ≡ 1)
-    (table : List View) (lasts : List ℕ) (made : views_at table lasts ≡ flat_map (leaves_of r) ss)
-    (es : List Execution) (laid : es ≡ laid_out r 0 0 ss) (places : List Place) (marked : places ≡ flat_map (places_on table lasts) (enumerate_from 0 es))
+module _ (t : Task) (r : ℕ) (ss : List Simplex) (given : inputs t ≡ ss) (symmetric : Bool) (named : t.symmetric ≡ symmetric) (m : ℕ) (least : first_block t ≡ m)
+    (table : List View) (lasts : List ℕ) (made : views_at table lasts ≡ flat_map (leaves_of m r) ss)
+    (es : List Execution) (laid : es ≡ laid_out m r 0 0 ss) (places : List Place) (marked : places ≡ flat_map (places_on table lasts) (enumerate_from 0 es))
     (grown : List View) (once : IsOnce grown) (cs : List ℕ) (within : All (λ k. k < length grown) cs) (classed : views_at grown cs ≡ map (class_by symmetric) (views_at table lasts))
     (view_count : ℕ) (counted : view_count ≡ length (distinct same_view (views_at table lasts)))
     (firsts numbers : List ℕ) (first : firsts ≡ first_places cs (length cs)) (low : All (λ p. p < length firsts) numbers) (found : map (λ p. slice_index cs (slice_index firsts p)) numbers ≡ cs)
     (classes : List ℕ) (picked : classes ≡ map (λ j. slice_index cs j) firsts) where
-  the_lasts : views_at table lasts ≡ flat_map (leaves_of r) (inputs t)
-  the_lasts = made ∙ ap (flat_map (leaves_of r)) (sym given)
+  the_lasts : views_at table lasts ≡ flat_map (leaves_of (first_block t) r) (inputs t)
+  the_lasts = made ∙ sym (λ i. flat_map (leaves_of (least i) r) (given i))
 
   the_classes : views_at grown cs ≡ map (class_by t.symmetric) (views_at table lasts)
   the_classes = classed ∙ ap (λ b. map (class_by b) (views_at table lasts)) (sym named)
 
-  the_executions : es ≡ laid_out r 0 0 (inputs t)
-  the_executions = laid ∙ ap (laid_out r 0 0) (sym given)
+  the_executions : es ≡ laid_out (first_block t) r 0 0 (inputs t)
+  the_executions = laid ∙ sym (λ i. laid_out (least i) r 0 0 (given i))
 
-  the_places : places ≡ flat_map (places_on table lasts) (enumerate_from 0 (laid_out r 0 0 (inputs t)))
+  the_places : places ≡ flat_map (places_on table lasts) (enumerate_from 0 (laid_out (first_block t) r 0 0 (inputs t)))
   the_places = marked ∙ ap (λ xs. flat_map (places_on table lasts) (enumerate_from 0 xs)) the_executions
 
   pub is_protocol : IsProtocol t r (record {
@@ -101,11 +95,11 @@ module _ (t : Task) (r : ℕ) (ss : List Simplex) (given : inputs t ≡ ss) (sym
   })
   is_protocol = record {
     rounds_are = refl;
-    points_are = ap (points_seen grown) picked ∙ points_are t r whole table lasts the_lasts grown once cs within the_classes firsts first;
-    views_are = counted ∙ view_count_is t r whole table lasts the_lasts;
-    firsts_are = ap (λ ps. firsts_seen ps firsts) the_places ∙ firsts_are t r whole table lasts the_lasts grown once cs within the_classes firsts first;
-    simplices_are = ap (map (λ (e : Execution). e.simplex)) the_executions ∙ laid_simplices t r whole;
+    points_are = ap (points_seen grown) picked ∙ points_are t r table lasts the_lasts grown once cs within the_classes firsts first;
+    views_are = counted ∙ view_count_is t r table lasts the_lasts;
+    firsts_are = ap (λ ps. firsts_seen ps firsts) the_places ∙ firsts_are t r table lasts the_lasts grown once cs within the_classes firsts first;
+    simplices_are = ap (map (λ (e : Execution). e.simplex)) the_executions ∙ laid_simplices t r;
     scopes_are =
         (λ i. scopes_seen (the_places i) numbers (the_executions i))
-        ∙ scopes_are t r whole table lasts the_lasts grown once cs within the_classes firsts first numbers low found;
+        ∙ scopes_are t r table lasts the_lasts grown once cs within the_classes firsts first numbers low found;
   }

@@ -13,3 +13,4 @@ pub mod BuiltLemmas
 pub mod Kept
 pub mod Depth
 pub mod RuleAt
+pub mod ExecutionAt

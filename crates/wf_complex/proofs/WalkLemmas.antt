@@ -4,21 +4,21 @@ use Rattle.std.specs.List.{AllByRecursion}
 use Rattle.std.proofs.Math.Nat.{mul-le-mul_right}
 use Rattle.wf_model.specs.View.{View, round}
 use Rattle.wf_model.specs.Word.{Word, words}
-use Rattle.wf_simplex.specs.WordTable.{each_size}
+use Rattle.wf_model.proofs.WellFormed.{words_long}
 use Rattle.wf_complex.specs.Rounds.{views_at, Extends, leaves, cost}
 use Rattle.wf_complex.proofs.RoundLemmas.{views_kept, length-views, length-round}
 
-pub length_first : (n : ℕ) → 1 ≤ n → n ≤ 4 → (w : Word) → slice_get (words 1 n) 0 ≡ Some w → length w ≡ n
-length_first =
-    each_size (λ n. (w : Word) → slice_get (words 1 n) 0 ≡ Some w → length w ≡ n)
-    (λ w h. (let e : (0 ∷ []) ≡ w = cc in sym (ap length e)))
-    (λ w h. (let e : (0 ∷ 0 ∷ []) ≡ w = cc in sym (ap length e)))
-    (λ w h. (let e : (0 ∷ 0 ∷ 0 ∷ []) ≡ w = cc in sym (ap length e)))
-    (λ w h. (let e : (0 ∷ 0 ∷ 0 ∷ 0 ∷ []) ≡ w = cc in sym (ap length e)))
+there : (P : Word → Type 0) (ws : List Word) (k : ℕ) (w : Word) → AllByRecursion P ws → slice_get ws k ≡ Some w → P w
+there P [] k w h e = absurd (let none : ⊥ = cc in none)
+there P (v ∷ ws) zero w h e = let is : v ≡ w = cc in subst P is h.0
+there P (v ∷ ws) (suc k) w h e = there P ws k w h.1 e
 
-pub cost_more : (n rounds : ℕ) → 0 < rounds → cost n rounds ≡ length (words 1 n) * (n + cost n (rounds - 1))
-cost_more n zero h = absurd (let none : ⊥ = omega (arith, h) in none)
-cost_more n (suc k) h = let e : suc k - 1 ≡ k = omega arith in rw e refl
+pub length_first : (m n : ℕ) (w : Word) → slice_get (words m n) 0 ≡ Some w → length w ≡ n
+length_first m n w h = there (λ v. length v ≡ n) (words m n) 0 w (words_long m n) h
+
+pub cost_more : (m n rounds : ℕ) → 0 < rounds → cost m n rounds ≡ length (words m n) * (n + cost m n (rounds - 1))
+cost_more m n zero h = absurd (let none : ⊥ = omega (arith, h) in none)
+cost_more m n (suc k) h = let e : suc k - 1 ≡ k = omega arith in rw e refl
 
 pub leaves_more : (ws : List Word) (rounds : ℕ) (vs : List View) → 0 < rounds → leaves ws rounds vs ≡ flat_map (λ w. leaves ws (rounds - 1) (round vs w)) ws
 leaves_more ws zero vs h = absurd (let none : ⊥ = omega (arith, h) in none)

@@ -33,15 +33,15 @@ leaves ws zero vs = vs
 leaves ws (suc k) vs = flat_map (λ w. leaves ws k (round vs w)) ws
 
 -- how many views k rounds of n participants add at most
-abbrev pub cost : ℕ → ℕ → ℕ
-cost n zero = 0
-cost n (suc k) = length (words 1 n) * (n + cost n k)
+abbrev pub cost : ℕ → ℕ → ℕ → ℕ
+cost m n zero = 0
+cost m n (suc k) = length (words m n) * (n + cost m n k)
 
 -- the last views of the executions on a simplex
-abbrev pub leaves_of : ℕ → Simplex → List View
-leaves_of rounds s = leaves (words 1 (length s)) rounds (base_views s)
+abbrev pub leaves_of : ℕ → ℕ → Simplex → List View
+leaves_of m rounds s = leaves (words m (length s)) rounds (base_views s)
 
 -- how many views the executions on these simplices add at most
-abbrev pub cost_of_each : ℕ → List Simplex → ℕ
-cost_of_each rounds [] = 0
-cost_of_each rounds (s ∷ ss) = (length s + cost (length s) rounds) + cost_of_each rounds ss
+abbrev pub cost_of_each : ℕ → ℕ → List Simplex → ℕ
+cost_of_each m rounds [] = 0
+cost_of_each m rounds (s ∷ ss) = (length s + cost m (length s) rounds) + cost_of_each m rounds ss

@@ -4,7 +4,7 @@ ghost use Rattle.std.specs.Prelude.{◌≡◌, ◌≤◌, ◌+◌, ◌*◌, ◌+
 ghost use Rattle.wf_complex.specs.Layout.{turns, execution_total, laid_on, laid_out};
 
 use std::alloc::{AllocError, Global};
-use wf_simplex::{Simplex, word_count};
+use wf_simplex::{Simplex, allowed_count};
 
 /// The most executions that a protocol complex may have.
 pub const MOST_EXECUTIONS: u32 = 500_000;
@@ -18,13 +18,16 @@ pub(crate) struct Execution {
     pub size: u8,
 }
 
-/// How many executions a simplex of this size has, counted up to one more than the most.
-fn executions_on(size: u8, rounds: u32) -> u32
+/// How many executions a simplex of this size has whose first blocks have at least m participants, or all where they are
+/// fewer: counted up to one more than the most.
+fn executions_on(size: u8, m: u8, rounds: u32) -> u32
     requires some { 1 ≤ size }
     requires few { size ≤ 4 }
-    ensures count { result ≡ min (turns size rounds) 500001 }
+    requires one { 1 ≤ m }
+    requires most { m ≤ 4 }
+    ensures count { result ≡ min (turns m size rounds) 500001 }
 {
-    let words = word_count(size);
+    let words = allowed_count(size, m);
     let mut count = 1;
     for _round in 0..rounds {
         count = (count * words).min(MOST_EXECUTIONS + 1);
@@ -32,13 +35,16 @@ fn executions_on(size: u8, rounds: u32) -> u32
     count
 }
 
-/// How many executions there are on these simplices, counted up to one more than the most.
-pub(crate) fn execution_count(inputs: &[Simplex], rounds: u32) -> u32
-    ensures count { result ≡ min (execution_total rounds inputs.now) 500001 }
+/// How many executions there are on these simplices whose first blocks have at least m participants, or all where they
+/// are fewer: counted up to one more than the most.
+pub(crate) fn execution_count(inputs: &[Simplex], m: u8, rounds: u32) -> u32
+    requires one { 1 ≤ m }
+    requires most { m ≤ 4 }
+    ensures count { result ≡ min (execution_total m rounds inputs.now) 500001 }
 {
     let mut total = 0;
     for simplex in inputs {
-        total = (total + executions_on(simplex.colours(), rounds)).min(MOST_EXECUTIONS + 1);
+        total = (total + executions_on(simplex.colours(), m, rounds)).min(MOST_EXECUTIONS + 1);
     }
     total
 }
@@ -47,18 +53,21 @@ pub(crate) fn execution_count(inputs: &[Simplex], rounds: u32) -> u32
 pub(crate) fn lay_out(
     alloc: Global,
     inputs: &[Simplex],
+    m: u8,
     rounds: u32,
 ) -> Result<Vec<Execution>, AllocError>
-    requires few { execution_total rounds inputs.now ≤ 500000 }
+    requires one { 1 ≤ m }
+    requires most { m ≤ 4 }
+    requires few { execution_total m rounds inputs.now ≤ 500000 }
     requires inputs { length inputs.now ≤ 4096 }
     requires sizes { All (λ s. length s ≤ 4) inputs.now }
-    ensures { IfOk result (λ es. es.items ≡ laid_out rounds 0 0 inputs.now) }
+    ensures { IfOk result (λ es. es.items ≡ laid_out m rounds 0 0 inputs.now) }
 {
     let mut executions = Vec::new(alloc);
     let mut place = 0;
     for (number, simplex) in inputs.iter().enumerate() {
         let size = simplex.colours();
-        let count = executions_on(size, rounds);
+        let count = executions_on(size, m, rounds);
         lay_on(&mut executions, number as u32, size, place, count)?;
         place += count * u32::from(size);
     }

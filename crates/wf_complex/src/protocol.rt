@@ -69,10 +69,11 @@ impl Protocol {
             return Err(BuildFault::Rounds);
         }
         let inputs = task.inputs().simplices();
-        if execution_count(inputs, rounds) > MOST_EXECUTIONS {
+        let m = task.first_block();
+        if execution_count(inputs, m, rounds) > MOST_EXECUTIONS {
             return Err(BuildFault::TooManyExecutions);
         }
-        Ok(made(alloc, inputs, task.symmetric(), rounds)?)
+        Ok(made(alloc, inputs, task.symmetric(), m, rounds)?)
     }
 
     /// The number of rounds.
@@ -159,22 +160,26 @@ impl Protocol {
     }
 }
 
-/// The complex of these input simplices.
+/// The complex of these input simplices, with words whose first block has at least m participants, or all where they are
+/// fewer.
 fn made(
     alloc: Global,
     inputs: &[Simplex],
     symmetric: bool,
+    m: u8,
     rounds: u32,
 ) -> Result<Protocol, AllocError>
+    requires one { 1 ≤ m }
+    requires most { m ≤ 4 }
     requires rounds { rounds ≤ 8 }
-    requires executions { execution_total rounds inputs.now ≤ 500000 }
+    requires executions { execution_total m rounds inputs.now ≤ 500000 }
     requires few { length inputs.now ≤ 4096 }
-    requires simplices { All (IsSimplexWithin 4 63) inputs.now }
-    ensures { IfOk result (IsMade inputs.now symmetric rounds) }
+    requires simplices { All (IsSimplexWithin 4 255) inputs.now }
+    ensures { IfOk result (IsMade inputs.now symmetric m rounds) }
 {
     let mut views = Views::start(alloc);
-    let lasts = last_views(alloc, &mut views, inputs, rounds)?;
-    let executions = lay_out(alloc, inputs, rounds)?;
+    let lasts = last_views(alloc, &mut views, inputs, m, rounds)?;
+    let executions = lay_out(alloc, inputs, m, rounds)?;
     let places = places_of(alloc, &views, &lasts, &executions)?;
     let ids = classes_of(alloc, &mut views, lasts, symmetric)?;
     let numbered = number_all(alloc, &ids.ids, views.len() as usize)?;

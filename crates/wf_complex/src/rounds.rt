@@ -7,7 +7,7 @@ ghost use Rattle.wf_view.specs.Views.{view_at};
 ghost use Rattle.wf_complex.specs.Rounds.{views_at, visible_ids, only_if, Extends, AreViews, leaves, cost, leaves_of, cost_of_each};
 
 use std::alloc::{AllocError, Global};
-use wf_simplex::{Simplex, Word, word_count};
+use wf_simplex::{Simplex, Word, allowed_count};
 use wf_view::Views;
 
 /// At most four numbers of views.
@@ -91,54 +91,61 @@ fn next_views(views: &mut Views, current: &[u32], word: &Word) -> Result<[u32; 4
     Ok(next)
 }
 
-/// Adds the views after all rounds, execution by execution, to the last views of those before.
+/// Adds the views after all rounds, execution by execution, to the last views of those before. The first block of each
+/// word has at least m participants, or all where they are fewer.
 ///
 /// Refused where memory runs out; the views so far keep their numbers.
 fn walk(
     views: &mut Views,
     lasts: &mut Vec<u32>,
     current: &[u32],
+    m: u8,
     rounds: u32,
 ) -> Result<(), AllocError>
+    requires one { 1 ≤ m }
+    requires most { m ≤ 4 }
     requires some { 1 ≤ length current.now }
     requires few { length current.now ≤ 4 }
     requires views { AreViews views.old current.now }
     requires lasts { All (λ k. k < length views.old) lasts.old.items }
-    requires room { length views.old + cost (length current.now) rounds ≤ 4294967291 }
+    requires room { length views.old + cost m (length current.now) rounds ≤ 4294967291 }
     ensures extends { Extends views.old views.new }
-    ensures added { length views.new ≤ length views.old + cost (length current.now) rounds }
+    ensures added { length views.new ≤ length views.old + cost m (length current.now) rounds }
     ensures within { OnOk result (All (λ k. k < length views.new) lasts.new.items) }
     ensures made { OnOk result (views_at views.new lasts.new.items
         ≡ views_at views.old lasts.old.items
-        ++ leaves (words 1 (length current.now)) rounds (views_at views.old current.now)) }
+        ++ leaves (words m (length current.now)) rounds (views_at views.old current.now)) }
 {
     if rounds == 0 {
         lasts.extend_from_slice(current)?;
         return Ok(());
     }
     let size = current.len();
-    let mut word = Word::first(size as u8);
-    for turn in 0..word_count(size as u8) {
+    let mut word = Word::first_allowed(size as u8, m);
+    for turn in 0..allowed_count(size as u8, m) {
         let next = next_views(views, current, &word)?;
-        walk(views, lasts, &next[..size], rounds - 1)?;
-        word.next();
+        walk(views, lasts, &next[..size], m, rounds - 1)?;
+        word.next_allowed(m);
     }
     Ok(())
 }
 
-/// The last views of all executions on these simplices, one after another: simplex by simplex, execution by execution,
-/// and by ascending process.
+/// The last views of all executions on these simplices whose first blocks have at least m participants, or all where they
+/// are fewer, one after another: simplex by simplex, execution by execution, and by ascending process.
 pub(crate) fn last_views(
     alloc: Global,
     views: &mut Views,
     simplices: &[Simplex],
+    m: u8,
     rounds: u32,
 ) -> Result<Vec<u32>, AllocError>
-    requires room { length views.old + cost_of_each rounds simplices.now ≤ 4294967291 }
+    requires one { 1 ≤ m }
+    requires most { m ≤ 4 }
+    requires room { length views.old + cost_of_each m rounds simplices.now ≤ 4294967291 }
     ensures extends { Extends views.old views.new }
-    ensures added { OnOk result (length views.new ≤ length views.old + cost_of_each rounds simplices.now) }
+    ensures added { OnOk result (length views.new ≤ length views.old + cost_of_each m rounds simplices.now) }
     ensures within { IfOk result (λ lasts. All (λ k. k < length views.new) lasts.items) }
-    ensures made { IfOk result (λ lasts. views_at views.new lasts.items ≡ flat_map (leaves_of rounds) simplices.now) }
+    ensures made { IfOk result (λ lasts. views_at views.new lasts.items ≡ flat_map (leaves_of m rounds) simplices.now) }
 {
     let mut lasts = Vec::new(alloc);
     for simplex in simplices {
@@ -147,6 +154,7 @@ pub(crate) fn last_views(
             views,
             &mut lasts,
             &first[..simplex.colours() as usize],
+            m,
             rounds,
         )?;
     }

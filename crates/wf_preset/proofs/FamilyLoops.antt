@@ -1,11 +1,10 @@
 -- One list, value or simplex more.
-use Rattle.std.proofs.Common.{◌≡◌, ℕ, zero, suc, ◌+◌, ◌-◌, ◌/◌, ◌%◌, ◌^◌, ◌<◌, ◌≤◌, Bool, true, false, cond, nat_lt, List, [], ◌∷◌, ◌++◌, length, filter, take, drop, get_or, None, Some, All, slice_set, inl, inr, drop-cons, add-one, append_assoc, refl, sym, ap, ◌∙◌, subst, arith, take_all, append-nil, ltb-true}
-use Rattle.std.proofs.lemmas.Bool.{lt-ltb, ltb-false}
+use Rattle.std.proofs.Common.{◌≡◌, ℕ, zero, suc, ◌+◌, ◌-◌, ◌/◌, ◌%◌, ◌^◌, ◌<◌, ◌≤◌, Bool, true, false, cond, nat_lt, List, [], ◌∷◌, ◌++◌, length, filter, take, drop, get_or, None, Some, slice_set, inl, inr, drop-cons, add-one, append_assoc, refl, sym, ap, ◌∙◌, subst, arith, take_all, append-nil, ltb-true}
+use Rattle.std.proofs.lemmas.Bool.{lt-ltb}
 use Rattle.std.specs.BTreeSet.{insert_key}
 use Rattle.std.specs.Ordering.{nat_cmp}
 use Rattle.std.specs.Cmp.{nat_cmp_total}
-use Rattle.std.proofs.lemmas.List.{take_more, take_more_set, take_rest, get_or_past}
-use Rattle.std.proofs.lemmas.List.Elements.{All-nil, All-cons, All-get_or}
+use Rattle.std.proofs.lemmas.List.{take_more, take_more_set, take_rest}
 use Rattle.std.proofs.lemmas.List.Filters.{length-filter_more}
 use Rattle.std.proofs.Math.Nat.{pow-le-pow_left, pow-le-pow_right, pow-succ', div-lt_iff_lt-mul, mod-lt}
 use Rattle.wf_model.specs.Lists.{has, lists_of, in_order, with_element}
@@ -129,17 +128,6 @@ list_made xs row size place rest number past upto made =
     let same : place ≡ size = omega arith in
     let none : size - place ≡ 0 = omega arith in
     ap (λ n. take n row) (sym same) ∙ sym (append-nil (take place row)) ∙ ap (λ n. take place row ++ list_at xs n rest) (sym none) ∙ made
-
-small_at : (xs : List ℕ) (i : ℕ) → All (λ x. x ≤ 63) xs → get_or xs i 0 ≤ 63
-small_at xs i h = by (nat_lt i (length xs)) refl
-  where
-    by : (b : Bool) → nat_lt i (length xs) ≡ b → get_or xs i 0 ≤ 63
-    by true is = All-get_or (λ x. x ≤ 63) xs i 0 (ltb-true i (length xs) is) h
-    by false is = let none = get_or_past xs i 0 (ltb-false i (length xs) is) in omega (arith, none)
-
-pub small_list : (xs : List ℕ) (n i : ℕ) → All (λ x. x ≤ 63) xs → All (λ x. x ≤ 63) (list_at xs n i)
-small_list xs zero i h = All-nil (λ x. x ≤ 63)
-small_list xs (suc n) i h = All-cons (λ x. x ≤ 63) (get_or xs (i / (length xs ^ n)) 0) (list_at xs n (i % (length xs ^ n))) (small_at xs (i / (length xs ^ n)) h) (small_list xs n (i % (length xs ^ n)) h)
 
 length-list_at : (xs : List ℕ) (n i : ℕ) → length (list_at xs n i) ≡ n
 length-list_at xs zero i = refl

@@ -7,7 +7,7 @@ use Rattle.std.specs.Cmp.Lexicographic.{slice_cmp, nat_list_cmp_total}
 use Rattle.std.proofs.lemmas.Bool.{and_parts}
 use Rattle.std.proofs.lemmas.List.{length-map}
 use Rattle.std.proofs.lemmas.List.Concat.{length-flat_map}
-use Rattle.std.proofs.lemmas.List.Elements.{All-map}
+use Rattle.std.proofs.lemmas.List.Elements.{All-map, All-weaker}
 use Rattle.std.proofs.lemmas.List.FromFn.{length-range_with_len}
 use Rattle.std.proofs.lemmas.List.Kept.{IsStrictlySortedBy-filter}
 use Rattle.std.proofs.lemmas.List.Sums.{sum_by-le-sum_by}
@@ -20,10 +20,10 @@ use Rattle.wf_simplex.proofs.Faces.{has-filter}
 use Rattle.wf_simplex.proofs.Within.{all_of_has, has_of_all, length-within}
 use Rattle.wf_preset.specs.declared.family.Family.{Family}
 use Rattle.wf_preset.specs.declared.family.Family.TheVariants.{Agreement, Naming}
-use Rattle.wf_preset.specs.Family.{values_for, allows, tuples_for, IsFamily, AreValues, images_of, task_for}
-use Rattle.wf_task.specs.Tuples.{IsTupleOf}
+use Rattle.wf_preset.specs.Family.{values_for, allows, tuples_for, IsFamily, AreFew, images_of, task_for}
 use Rattle.wf_task.specs.TaskSeen.{rules_seen, task_of_parts}
-use Rattle.wf_task.proofs.Drafted.{complex_is, seen_by}
+use Rattle.wf_task.proofs.Drafted.{complex_is, seen_by, within_more}
+use Rattle.wf_task.proofs.Extending.{values-zip-same}
 use Rattle.wf_task.proofs.Images.{facet-in, has-images, images-has}
 use Rattle.wf_task.proofs.Listings.{sorted-lists_of, sorted-below, has-lists_of, has-below, each_has}
 use Rattle.wf_task.proofs.RowLemmas.{tuple_cmp-Equal}
@@ -32,19 +32,20 @@ use Rattle.wf_task.proofs.TupleLemmas.{zip_within}
 
 -- ---- values
 
-pub numbers-are : (n : ℕ) → n ≤ 64 → AreValues (below n)
-numbers-are n h = record {
-  few = omega (arith, length-range_with_len 0 n, h);
-  small = all_of_has (λ x. x ≤ 63) (below n) (λ x here. omega (arith, has-below x n here, h));
-}
+pub numbers-are : (n : ℕ) → n ≤ 64 → AreFew (below n)
+numbers-are n h = record { few = omega (arith, length-range_with_len 0 n, h) }
 
-pub values-are : (family : Family) (n : ℕ) (s : Simplex) → n ≤ 4 → IsFamily family → IsSimplexWithin n 63 s → AreValues (values_for family s)
+pub values-are : (family : Family) (n : ℕ) (s : Simplex) → n ≤ 4 → IsFamily family → IsSimplexWithin n 255 s → AreFew (values_for family s)
 values-are (Agreement k) n s low h within = record {
-  few = omega (arith, length-in_order nat_cmp (values_of s), length-map s (λ (v : Vertex). v.1), length-within n 63 s within, low);
-  small = all_of_has (λ x. x ≤ 63) (in_order nat_cmp (values_of s))
-      (λ x here. has_of_all (λ x. x ≤ 63) x (values_of s) within.values (has-in_order nat_cmp nat_cmp_total nat_cmp-Equal x (values_of s) here));
+  few = omega (arith, length-in_order nat_cmp (values_of s), length-map s (λ (v : Vertex). v.1), length-within n 255 s within, low);
 }
 values-are (Naming names) n s low h within = numbers-are names h
+
+values-small : (family : Family) (n : ℕ) (s : Simplex) → IsFamily family → IsSimplexWithin n 63 s → All (λ x. x ≤ 63) (values_for family s)
+values-small (Agreement k) n s h within =
+    all_of_has (λ x. x ≤ 63) (in_order nat_cmp (values_of s))
+    (λ x here. has_of_all (λ x. x ≤ 63) x (values_of s) within.values (has-in_order nat_cmp nat_cmp_total nat_cmp-Equal x (values_of s) here))
+values-small (Naming names) n s h within = all_of_has (λ x. x ≤ 63) (below names) (λ x here. omega (arith, has-below x names here, h))
 
 values-sorted : (family : Family) (s : Simplex) → IsStrictlySortedBy nat_cmp (values_for family s)
 values-sorted (Agreement k) s = sorted-in_order nat_cmp nat_cmp_total nat_cmp-Equal (values_of s)
@@ -52,12 +53,23 @@ values-sorted (Naming names) s = sorted-below names
 
 -- ---- tuples
 
-pub tuple-is : (family : Family) (s : Simplex) (t : Tuple) → AreValues (values_for family s) → Has t (tuples_for family s) → IsTupleOf (length s) t
+-- as many values as the input has, each a value of a task whose words are all allowed
+abbrev IsSmallTuple : ℕ → Tuple → Type 0
+IsSmallTuple n t = (length t ≡ n) × All (λ x. x ≤ 63) t
+
+tuple-is : (family : Family) (s : Simplex) (t : Tuple) → All (λ x. x ≤ 63) (values_for family s) → Has t (tuples_for family s) → IsSmallTuple (length s) t
 tuple-is family s t values h =
     let list = has-lists_of t (values_for family s) (length s) (has-filter (allows family) t (lists_of (values_for family s) (length s)) h).0 in
+    (list.0, all_of_has (λ x. x ≤ 63) t (λ x here. has_of_all (λ x. x ≤ 63) x (values_for family s) values (each_has (λ y. Has y (values_for family s)) x t list.1 here)))
+
+image-within : (n : ℕ) (s : Simplex) (t : Tuple) → IsSimplexWithin n 63 s → IsSmallTuple (length s) t → IsSimplexWithin n 63 (zip (processes_of s) t)
+image-within n s t h tuple =
+    let small = All-weaker (λ x. x ≤ 63) (λ x. x ≤ 255) (λ x low. omega (arith, low)) t tuple.1 in
+    let wide = zip_within n s t (within_more n 63 n 255 s (omega arith) (omega arith) h) (record { long = tuple.0; small = small }) in
     record {
-      long = list.0;
-      small = all_of_has (λ x. x ≤ 63) t (λ x here. has_of_all (λ x. x ≤ 63) x (values_for family s) values.small (each_has (λ y. Has y (values_for family s)) x t list.1 here));
+      is_simplex = wide.is_simplex;
+      processes = wide.processes;
+      values = subst (All (λ x. x ≤ 63)) (sym (values-zip-same (processes_of s) t (tuple.0 ∙ sym (length-map s (λ (v : Vertex). v.0))))) tuple.1;
     }
 
 tuples-sorted : (family : Family) (s : Simplex) → IsStrictlySortedBy (slice_cmp nat_cmp) (tuples_for family s)
@@ -88,18 +100,18 @@ pub record IsReady (n : ℕ) (family : Family) (inputs : List Simplex) : Type 0 
   pub tuples : sum_by (λ s. length (tuples_for family s)) inputs ≤ 65536
 
 module _ (n : ℕ) (family : Family) (inputs : List Simplex) (h : IsReady n family inputs) where
-  tuple-of : (s : Simplex) (t : Tuple) → Has s inputs → Has t (tuples_for family s) → IsTupleOf (length s) t
-  tuple-of s t here g = tuple-is family s t (values-are family n s h.few h.is_family (has_of_all (IsSimplexWithin n 63) s inputs h.within here)) g
+  tuple-of : (s : Simplex) (t : Tuple) → Has s inputs → Has t (tuples_for family s) → IsSmallTuple (length s) t
+  tuple-of s t here g = tuple-is family s t (values-small family n s h.is_family (has_of_all (IsSimplexWithin n 63) s inputs h.within here)) g
 
   images-within : All (IsSimplexWithin n 63) (images_of family inputs)
   images-within = all_of_has (IsSimplexWithin n 63) (images_of family inputs)
       (λ u here. (let i = has-images (tuples_for family) inputs u here in
-      subst (IsSimplexWithin n 63) i.2.same (zip_within n i.0 i.1 (has_of_all (IsSimplexWithin n 63) i.0 inputs h.within i.2.input) (tuple-of i.0 i.1 i.2.input i.2.decided))))
+      subst (IsSimplexWithin n 63) i.2.same (image-within n i.0 i.1 (has_of_all (IsSimplexWithin n 63) i.0 inputs h.within i.2.input) (tuple-of i.0 i.1 i.2.input i.2.decided))))
 
   rule-is : (s : Simplex) → Has s inputs → IsRule (complex_of (images_of family inputs)) (rule_of_family family s)
   rule-is s here = record {
     ascending = in_order-sorted (slice_cmp nat_cmp) nat_list_cmp_total tuple_cmp-Equal (tuples_for family s) (tuples-sorted family s);
-    long = all_of_has (λ t. length t ≡ length s) (tuples_for family s) (λ t g. (tuple-of s t here g).long);
+    long = all_of_has (λ t. length t ≡ length s) (tuples_for family s) (λ t g. (tuple-of s t here g).0);
     listed = all_of_has (λ t. Contains (complex_of (images_of family inputs)) (zip (processes_of s) t)) (tuples_for family s)
         (λ t g. has_at_place (zip (processes_of s) t) (complex_of (images_of family inputs)) (listed t g));
   }
@@ -115,7 +127,7 @@ module _ (n : ℕ) (family : Family) (inputs : List Simplex) (h : IsReady n fami
     process_count = (h.some, h.few);
     restriction_within = tt;
     input_complex = subst (IsComplexWithin n 63) (sym (same_inputs family inputs)) (record { is_complex = h.complex; within = h.within });
-    output_complex = complex_is n (images_of family inputs) images-within;
+    output_complex = complex_is n 63 (images_of family inputs) images-within;
     rules_within = All-map (IsRule (complex_of (images_of family inputs))) (rule_of_family family) inputs (all_of_has (λ s. IsRule (complex_of (images_of family inputs)) (rule_of_family family s)) inputs rule-is);
     some_input = omega (arith, h.some_input, length-map inputs (rule_of_family family));
     few_vertices = omega (arith, ap (count_by (λ (s : Simplex). length s == 1)) (same_inputs family inputs), h.vertices);

@@ -1,5 +1,5 @@
 -- Families of tasks: which values the processes of an input simplex may decide together.
-use Rattle.std.specs.Prelude.{ℕ, ◌≤◌, nat_le, nat_lt, Bool, List, All, map, filter, flat_map, length, zip, None, Some, Option, if◌then◌else◌}
+use Rattle.std.specs.Prelude.{ℕ, ◌≤◌, nat_le, nat_lt, Bool, List, map, filter, flat_map, length, zip, None, Some, Option, if◌then◌else◌}
 use Rattle.std.specs.Ordering.{nat_cmp}
 use Rattle.wf_model.specs.Lists.{below, lists_of, in_order}
 use Rattle.wf_model.specs.Presets.{different, all_different}
@@ -27,10 +27,9 @@ abbrev pub IsFamily : Family → Type 0
 IsFamily (Agreement k) = Unit {0}
 IsFamily (Naming names) = names ≤ 64
 
--- so few values that their lists can be numbered, each a value of a task
-pub record AreValues (xs : List ℕ) : Type 0 where
+-- so few values that their lists can be numbered
+pub record AreFew (xs : List ℕ) : Type 0 where
   pub few : length xs ≤ 64
-  pub small : All (λ x. x ≤ 63) xs
 
 -- the number, unless it is above the bound
 abbrev pub at_most : ℕ → ℕ → Option ℕ

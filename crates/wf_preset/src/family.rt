@@ -4,7 +4,7 @@ ghost use Rattle.wf_model.specs.Lists.{below, lists_of, in_order};
 ghost use Rattle.wf_model.specs.Presets.{different};
 ghost use Rattle.wf_model.specs.Simplex.{values_of};
 ghost use Rattle.wf_model.specs.Task.{IsSimplexWithin};
-ghost use Rattle.wf_preset.specs.Family.{IsFamily, AreValues, values_for, allows, tuples_for, at_most};
+ghost use Rattle.wf_preset.specs.Family.{IsFamily, AreFew, values_for, allows, tuples_for, at_most};
 
 use std::alloc::{AllocError, Global};
 use std::collections::BTreeSet;
@@ -25,7 +25,7 @@ impl Family {
     fn values(self, alloc: Global, simplex: &Simplex) -> Result<Vec<u8>, AllocError>
         requires { IsFamily self }
         ensures values { IfOk result (λ values. values.items ≡ values_for self simplex.now) }
-        ensures within { IfOk result (λ values. AreValues values.items) }
+        ensures few { IfOk result (λ values. AreFew values.items) }
     {
         match self {
             Family::Agreement(_) => values_of(alloc, simplex),
@@ -57,7 +57,7 @@ impl Family {
     fn allowed(self, alloc: Global, values: &[u8], size: u8) -> Result<Vec<Row>, AllocError>
         requires some { 1 ≤ size }
         requires few { size ≤ 4 }
-        requires values { AreValues values.now }
+        requires values { AreFew values.now }
         ensures { IfOk result (λ rows. rows.items ≡ filter (allows self) (lists_of values.now size)) }
     {
         let mut rows = Vec::new(alloc);
@@ -88,7 +88,7 @@ impl Family {
     fn count_allowed(self, values: &[u8], size: u8, most: usize) -> Option<usize>
         requires some { 1 ≤ size }
         requires few { size ≤ 4 }
-        requires values { AreValues values.now }
+        requires values { AreFew values.now }
         ensures { result ≡ at_most most (length (filter (allows self) (lists_of values.now size))) }
     {
         let mut left = most;
@@ -128,7 +128,7 @@ impl Family {
 pub(crate) fn numbers_below(alloc: Global, bound: u8) -> Result<Vec<u8>, AllocError>
     requires { bound ≤ 64 }
     ensures numbers { IfOk result (λ numbers. numbers.items ≡ below bound) }
-    ensures within { IfOk result (λ numbers. AreValues numbers.items) }
+    ensures few { IfOk result (λ numbers. AreFew numbers.items) }
 {
     let mut numbers = Vec::new(alloc);
     for number in 0..bound {
@@ -140,7 +140,7 @@ pub(crate) fn numbers_below(alloc: Global, bound: u8) -> Result<Vec<u8>, AllocEr
 /// The values of a simplex: ascending, each once.
 fn values_of(alloc: Global, simplex: &Simplex) -> Result<Vec<u8>, AllocError>
     ensures values { IfOk result (λ values. values.items ≡ in_order nat_cmp (values_of simplex.now)) }
-    ensures simplex { IsSimplexWithin 4 63 simplex.now }
+    ensures simplex { IsSimplexWithin 4 255 simplex.now }
 {
     let mut values = BTreeSet::new(alloc);
     for place in 0..simplex.colours() {
@@ -180,7 +180,7 @@ pub(crate) fn list_count(values: usize, size: u8) -> usize
 pub(crate) fn list_at(values: &[u8], size: u8, number: usize) -> Row
     requires some { 1 ≤ size }
     requires few { size ≤ 4 }
-    requires values { AreValues values.now }
+    requires values { AreFew values.now }
     requires number { number < length values.now ^ size }
     ensures { result ≡ slice_index_or (lists_of values.now size) number [] }
 {

@@ -9,7 +9,7 @@ ghost use Rattle.wf_model.specs.Simplex.{processes_of, complex_of};
 ghost use Rattle.wf_model.specs.Task.{IsTask};
 ghost use Rattle.wf_task.specs.Canonical.{HasFewFacets};
 ghost use Rattle.wf_task.specs.Draft.{Gives};
-ghost use Rattle.wf_preset.specs.Family.{IsFamily, AreValues, tuples_for, images_of, task_for};
+ghost use Rattle.wf_preset.specs.Family.{IsFamily, AreFew, tuples_for, images_of, task_for};
 ghost use Rattle.wf_preset.specs.Preset.{inputs_seen, has_processes, has_values, has_input_values, inputs_judged, set_agreement_of, renaming_of};
 
 use crate::family::{Family, list_at, list_count, numbers_below};
@@ -232,7 +232,7 @@ fn add_images(images: &mut Vec<Simplex>, simplex: &Simplex, rows: &[Row]) -> Res
 
 /// The simplices on these processes that have any of the values.
 fn all_values(alloc: Global, whole: &Simplex, values: &[u8]) -> Result<Vec<Simplex>, AllocError>
-    requires { AreValues values.now }
+    requires { AreFew values.now }
     ensures { IfOk result (λ facets. facets.items ≡ map (zip (processes_of whole.now)) (lists_of values.now (length whole.now))) }
 {
     let mut facets = Vec::new(alloc);

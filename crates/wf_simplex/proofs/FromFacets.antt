@@ -16,17 +16,17 @@ use Rattle.wf_simplex.proofs.Within.{faces_within, all-with_all, length-with_all
 -- what the loop keeps
 pub record StepOf (facets keys : List Simplex) (i : ℕ) : Type 0 where
   pub faces : keys ≡ complex_of (take i facets)
-  pub within : All (IsSimplexWithin 4 63) keys
+  pub within : All (IsSimplexWithin 4 255) keys
   pub few : length keys ≤ 16 * i
 
 facet_more : (facets : List Simplex) (i : ℕ) (f : Simplex) → i < length facets → f ≡ slice_index_or facets i f → take (i + 1) facets ≡ take i facets ++ (f ∷ [])
 facet_more facets i f h is = take_more facets i f h ∙ ap (λ g. take i facets ++ (g ∷ [])) (sym is)
 
 pub added : (facets keys new : List Simplex) (i : ℕ) (f : Simplex) → i < length facets → f ≡ slice_index_or facets i f
-    → StepOf facets keys i → new ≡ with_all simplex_cmp (faces_of f) keys → IsSimplexWithin 4 63 f → length f ≤ 4 → StepOf facets new (i + 1)
+    → StepOf facets keys i → new ≡ with_all simplex_cmp (faces_of f) keys → IsSimplexWithin 4 255 f → length f ≤ 4 → StepOf facets new (i + 1)
 added facets keys new i f inside here step is within few = record {
   faces = is ∙ ap (with_all simplex_cmp (faces_of f)) step.faces ∙ with_all-in_order simplex_cmp (faces_of f) _ ∙ complex_of-more (take i facets) f ∙ ap complex_of (sym (facet_more facets i f inside here));
-  within = subst (All (IsSimplexWithin 4 63)) (sym is) (all-with_all simplex_cmp (IsSimplexWithin 4 63) (faces_of f) keys (faces_within 4 63 f within) step.within);
+  within = subst (All (IsSimplexWithin 4 255)) (sym is) (all-with_all simplex_cmp (IsSimplexWithin 4 255) (faces_of f) keys (faces_within 4 255 f within) step.within);
   few = omega (arith, ap length is, length-with_all simplex_cmp (faces_of f) keys, length-faces_of f few, step.few);
 }
 
@@ -45,6 +45,6 @@ there_already facets keys new i f inside here step is found =
     let there : Has f (complex_of (take i facets)) = subst (Has f) step.faces (has_equal f keys found) in
     record {
       faces = is ∙ step.faces ∙ sym (complex_of-again (take i facets) f there) ∙ ap complex_of (sym (facet_more facets i f inside here));
-      within = subst (All (IsSimplexWithin 4 63)) (sym is) step.within;
+      within = subst (All (IsSimplexWithin 4 255)) (sym is) step.within;
       few = omega (arith, ap length is, step.few);
     }

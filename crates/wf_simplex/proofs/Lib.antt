@@ -2,6 +2,7 @@ pub mod Tables
 pub mod Colours
 pub mod Reading
 pub mod Words
+pub mod Allowed
 pub mod Orders
 pub mod Faces
 pub mod SmallTables

@@ -1,13 +1,12 @@
 -- Reading pairs into a table.
-use Rattle.std.proofs.Common.{◌≡◌, ℕ, zero, suc, ◌+◌, ◌<◌, ◌≤◌, Bool, true, false, ◌&&◌, nat_lt, nat_le, List, [], ◌∷◌, ◌++◌, length, drop, Option, None, Some, is_some, slice_index_or, slice_set, refl, sym, ap, ◌∙◌, arith, add-zero, add-one, drop-cons, drop_of_length-le, le-leb, lt-ltb, leb-true, ltb-true, ltb-false, All, ◌==◌, ◌⊎◌, inl, inr}
-use Rattle.std.proofs.lemmas.Bool.{and_parts, and_from, or_parts}
-use Rattle.std.proofs.lemmas.List.Elements.{All-nil, All-cons}
+use Rattle.std.proofs.Common.{◌≡◌, ℕ, zero, suc, ◌+◌, ◌<◌, ◌≤◌, Bool, true, false, ◌&&◌, nat_lt, nat_le, List, [], ◌∷◌, ◌++◌, length, drop, Option, None, Some, is_some, slice_index_or, slice_set, refl, sym, ap, ◌∙◌, arith, add-zero, add-one, drop-cons, drop_of_length-le, le-leb, lt-ltb, leb-true, ltb-true, All, ◌==◌, ◌⊎◌, inl, inr}
+use Rattle.std.proofs.lemmas.Bool.{and_parts, and_from}
 use Rattle.std.specs.List.{list_all}
 use Rattle.wf_model.specs.Simplex.{Vertex, Simplex, processes_of, values_of, is_ascending, is_nonempty}
 use Rattle.wf_model.specs.Task.{IsSimplexWithin}
 use Rattle.wf_simplex.specs.Entries.{vertices_from, ascends_from}
-use Rattle.wf_simplex.specs.Reading.{has_colours, has_large, read_fault}
-use Rattle.wf_simplex.specs.declared.simplex.SimplexFault.TheVariants.{Colour, Value}
+use Rattle.wf_simplex.specs.Reading.{has_colours, read_fault}
+use Rattle.wf_simplex.specs.declared.simplex.SimplexFault.TheVariants.{Colour}
 use Rattle.wf_simplex.proofs.Colours.{ascends_below, colours_below, low_processes}
 
 -- ---- one entry after another
@@ -102,24 +101,15 @@ colour_fault s m i some h same out =
     let bad : has_colours s ≡ false = sym (colours_are s) ∙ sym same ∙ ap (ascends_from m) (at_pair s i h) ∙ stopped m (slice_index_or s i (0, 0)) (drop (i + 1) s) out in
     rw some (rw bad refl)
 
-pub value_fault : (s : Simplex) → is_nonempty s ≡ true → has_colours s ≡ true → has_large s ≡ true → read_fault s ≡ Some Value
-value_fault s some colours large = rw some (rw colours (rw large refl))
-
-pub no_fault : (s : Simplex) → is_nonempty s ≡ true → has_colours s ≡ true → has_large s ≡ false → read_fault s ≡ None
-no_fault s some colours large = rw some (rw colours (rw large refl))
-
-small_values : (s : Simplex) → has_large s ≡ false → All (λ x. x ≤ 63) (values_of s)
-small_values [] h = All-nil (λ x. x ≤ 63)
-small_values (v ∷ s) h =
-    All-cons (λ x. x ≤ 63) v.1 (values_of s) (ltb-false 63 v.1 (or_parts (nat_lt 63 v.1) (has_large s) h).0)
-    (small_values s (or_parts (nat_lt 63 v.1) (has_large s) h).1)
+pub no_fault : (s : Simplex) → is_nonempty s ≡ true → has_colours s ≡ true → read_fault s ≡ None
+no_fault s some colours = rw some (rw colours refl)
 
 -- pairs without a fault are a simplex
-pub simplex_within : (s : Simplex) → is_nonempty s ≡ true → has_colours s ≡ true → has_large s ≡ false → IsSimplexWithin 4 63 s
+pub simplex_within : (s : Simplex) → is_nonempty s ≡ true → has_colours s ≡ true → All (λ x. x ≤ 255) (values_of s) → IsSimplexWithin 4 255 s
 simplex_within s some colours small = record {
   is_simplex = and_from (is_nonempty s) (is_ascending (processes_of s)) some (and_parts (is_ascending (processes_of s)) (list_all (λ p. nat_lt p 4) (processes_of s)) colours).0;
   processes = low_processes 4 (processes_of s) (and_parts (is_ascending (processes_of s)) (list_all (λ p. nat_lt p 4) (processes_of s)) colours).1;
-  values = small_values s small;
+  values = small;
 }
 
 -- once the loop went through all pairs

@@ -1,5 +1,5 @@
--- Tables whose values are at most 63, and the faces that are put together from them.
-use Rattle.std.proofs.Common.{◌≡◌, ℕ, zero, suc, ◌+◌, ◌<◌, ◌≤◌, true, nat_lt, List, [], ◌∷◌, ◌++◌, length, map, filter, All, Option, None, Some, slice_index_or, IfSome, refl, sym, ap, ◌∙◌, arith, lt-ltb, append_assoc, append-nil}
+-- Tables whose values are at most 255, and the faces that are put together from them.
+use Rattle.std.proofs.Common.{◌≡◌, ℕ, zero, suc, ◌+◌, ◌<◌, ◌≤◌, true, nat_lt, List, [], ◌∷◌, ◌++◌, length, map, filter, All, Option, None, Some, slice_index_or, slice_set, IfSome, refl, sym, ap, ◌∙◌, arith, lt-ltb, append_assoc, append-nil}
 use Rattle.std.proofs.lemmas.List.{map-append}
 use Rattle.std.proofs.lemmas.List.Elements.{All-nil, All-cons, All-head, All-tail, filter-append}
 use Rattle.wf_model.specs.Simplex.{Vertex, Simplex, processes_of, values_of, is_ascending, is_nonempty, parts_of, faces_of, simplex_cmp}
@@ -32,37 +32,51 @@ processes_below n m [] h = All-nil (λ p. p < m)
 processes_below n m (None ∷ es) h = processes_below (n + 1) m es (omega arith)
 processes_below n m (Some x ∷ es) h = All-cons (λ p. p < m) n (processes_of (vertices_from (n + 1) es)) (omega arith) (processes_below (n + 1) m es (omega arith))
 
-values_small : (n : ℕ) (es : List (Option ℕ)) → AreSmall es → All (λ x. x ≤ 63) (values_of (vertices_from n es))
-values_small n [] h = All-nil (λ x. x ≤ 63)
+pub values_small : (n : ℕ) (es : List (Option ℕ)) → AreSmall es → All (λ x. x ≤ 255) (values_of (vertices_from n es))
+values_small n [] h = All-nil (λ x. x ≤ 255)
 values_small n (None ∷ es) h = values_small (n + 1) es (λ k. h (suc k))
-values_small n (Some x ∷ es) h = All-cons (λ x. x ≤ 63) x (values_of (vertices_from (n + 1) es)) (h 0) (values_small (n + 1) es (λ k. h (suc k)))
+values_small n (Some x ∷ es) h = All-cons (λ x. x ≤ 255) x (values_of (vertices_from (n + 1) es)) (h 0) (values_small (n + 1) es (λ k. h (suc k)))
 
 nonempty : (s : Simplex) → 0 < length s → is_nonempty s ≡ true
 nonempty [] h = absurd (omega arith)
 nonempty (v ∷ s) h = refl
 
-pub table_within : (es : List (Option ℕ)) → length es ≡ 4 → AreSmall es → 0 < length (vertices_from 0 es) → IsSimplexWithin 4 63 (vertices_from 0 es)
+pub table_within : (es : List (Option ℕ)) → length es ≡ 4 → AreSmall es → 0 < length (vertices_from 0 es) → IsSimplexWithin 4 255 (vertices_from 0 es)
 table_within es four small some = record {
   is_simplex = and_from (is_nonempty (vertices_from 0 es)) (is_ascending (processes_of (vertices_from 0 es))) (nonempty (vertices_from 0 es) some) (vertices-ascend 0 es);
   processes = processes_below 0 4 es (omega arith);
   values = values_small 0 es small;
 }
 
+-- with one more entry
+pub small_set : (es : List (Option ℕ)) (p : ℕ) (e : Option ℕ) → AreSmall es → IfSome e (λ x. x ≤ 255) → AreSmall (slice_set es p e)
+small_set [] p e small h = small
+small_set (d ∷ es) zero e small h = λ k. by k
+  where
+    by : (k : ℕ) → IfSome (slice_index_or (e ∷ es) k None) (λ x. x ≤ 255)
+    by zero = h
+    by (suc k) = small (suc k)
+small_set (d ∷ es) (suc p) e small h = λ k. by k (small_set es p e (λ j. small (suc j)) h)
+  where
+    by : (k : ℕ) → AreSmall (slice_set es p e) → IfSome (slice_index_or (d ∷ slice_set es p e) k None) (λ x. x ≤ 255)
+    by zero rest = small 0
+    by (suc k) rest = rest k
+
 -- and a simplex is such a table
-small_from : (n : ℕ) (es : List (Option ℕ)) → All (λ x. x ≤ 63) (values_of (vertices_from n es)) → AreSmall es
+small_from : (n : ℕ) (es : List (Option ℕ)) → All (λ x. x ≤ 255) (values_of (vertices_from n es)) → AreSmall es
 small_from n [] h = λ k. tt
 small_from n (None ∷ es) h = λ k. by k (small_from (n + 1) es h)
   where
-    by : (k : ℕ) → AreSmall es → IfSome (slice_index_or (None ∷ es) k None) (λ x. x ≤ 63)
+    by : (k : ℕ) → AreSmall es → IfSome (slice_index_or (None ∷ es) k None) (λ x. x ≤ 255)
     by zero g = tt
     by (suc k) g = g k
-small_from n (Some x ∷ es) h = λ k. by k (small_from (n + 1) es (All-tail (λ x. x ≤ 63) x (values_of (vertices_from (n + 1) es)) h)) (All-head (λ x. x ≤ 63) x (values_of (vertices_from (n + 1) es)) h)
+small_from n (Some x ∷ es) h = λ k. by k (small_from (n + 1) es (All-tail (λ x. x ≤ 255) x (values_of (vertices_from (n + 1) es)) h)) (All-head (λ x. x ≤ 255) x (values_of (vertices_from (n + 1) es)) h)
   where
-    by : (k : ℕ) → AreSmall es → x ≤ 63 → IfSome (slice_index_or (Some x ∷ es) k None) (λ x. x ≤ 63)
+    by : (k : ℕ) → AreSmall es → x ≤ 255 → IfSome (slice_index_or (Some x ∷ es) k None) (λ x. x ≤ 255)
     by zero g first = first
     by (suc k) g first = g k
 
-pub small_of_simplex : (es : List (Option ℕ)) → IsSimplexWithin 4 63 (vertices_from 0 es) → AreSmall es
+pub small_of_simplex : (es : List (Option ℕ)) → IsSimplexWithin 4 255 (vertices_from 0 es) → AreSmall es
 small_of_simplex es h = small_from 0 es h.values
 
 pub few_vertices : (n : ℕ) (es : List (Option ℕ)) → length (vertices_from n es) ≤ length es

@@ -11,7 +11,7 @@ use Rattle.wf_model.specs.Task.{IsSimplexWithin}
 use Rattle.wf_simplex.specs.Faces.{with_all}
 use Rattle.wf_simplex.proofs.Orders.{Has, has-append, length-with_element}
 use Rattle.wf_simplex.proofs.Faces.{has-filter, of_some_facet, begins}
-use Rattle.wf_simplex.specs.Reading.{has_large, read_fault}
+use Rattle.wf_simplex.specs.Reading.{read_fault}
 use Rattle.std.proofs.lemmas.Bool.{and_from, and_parts}
 use Rattle.wf_simplex.proofs.Reading.{no_fault}
 
@@ -147,23 +147,8 @@ list_all-below : (n : ℕ) (ps : List ℕ) → All (λ p. p < n) ps → list_all
 list_all-below n [] h = refl
 list_all-below n (p ∷ ps) h = and_from (nat_lt p n) (list_all (λ p. nat_lt p n) ps) (lt-ltb p n (All-head (λ p. p < n) p ps h)) (list_all-below n ps (All-tail (λ p. p < n) p ps h))
 
-none_large : (s : Simplex) → All (λ x. x ≤ 63) (values_of s) → has_large s ≡ false
-none_large [] h = refl
-none_large (v ∷ s) h =
-    let first : v.1 ≤ 63 = All-head (λ x. x ≤ 63) v.1 (values_of s) h in
-    let small = not_above v.1 first in
-    rw small (none_large s (All-tail (λ x. x ≤ 63) v.1 (values_of s) h))
-  where
-    not_above : (x : ℕ) → x ≤ 63 → nat_lt 63 x ≡ false
-    not_above x low = by (nat_lt 63 x) refl
-      where
-        by : (b : Bool) → nat_lt 63 x ≡ b → b ≡ false
-        by true e = absurd (let l : 63 < x = ltb-true 63 x e in omega arith)
-        by false e = refl
-
 -- a simplex is read without a fault
-pub read_fault-within : (s : Simplex) → IsSimplexWithin 4 63 s → read_fault s ≡ None
+pub read_fault-within : (s : Simplex) → IsSimplexWithin 4 255 s → read_fault s ≡ None
 read_fault-within s h =
     no_fault s (and_parts (is_nonempty s) (is_ascending (processes_of s)) h.is_simplex).0
     (and_from (is_ascending (processes_of s)) (list_all (λ p. nat_lt p 4) (processes_of s)) (and_parts (is_nonempty s) (is_ascending (processes_of s)) h.is_simplex).1 (list_all-below 4 (processes_of s) h.processes))
-    (none_large s h.values)

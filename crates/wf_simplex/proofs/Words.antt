@@ -3,9 +3,9 @@ use Rattle.std.proofs.Common.{◌≡◌, ℕ, ◌+◌, ◌-◌, ◌<◌, ◌≤�
 use Rattle.std.specs.List.{list_all, range_with_len}
 use Rattle.std.proofs.lemmas.List.{get_or-map, length-map}
 use Rattle.std.proofs.lemmas.Option.{slice_get-get_or, slice_get_within, get_or_from_slice_get}
-use Rattle.wf_model.specs.Word.{Word, words}
+use Rattle.wf_model.specs.Word.{words}
 use Rattle.wf_simplex.specs.declared.word.TheConstants.{WORDS}
-use Rattle.wf_simplex.specs.WordTable.{start_of, end_of, word_at, words_of, place_in, IsInTable, each_size, length-word_at, place_in-word_at, words_are, passes}
+use Rattle.wf_simplex.specs.WordTable.{start_of, end_of, word_at, words_of, IsInTable, each_size, length-word_at, words_are, passes}
 
 length_1 : length (words_of 1) ≡ 1
 unfolding words_of
@@ -26,9 +26,6 @@ length_4 = refl
 pub length-words_of : (n : ℕ) → 1 ≤ n → n ≤ 4 → length (words_of n) ≡ end_of n - start_of n
 length-words_of = each_size (λ n. length (words_of n) ≡ end_of n - start_of n) length_1 length_2 length_3 length_4
 
-pub starts_before : (n : ℕ) → 1 ≤ n → n ≤ 4 → start_of n < end_of n
-starts_before = each_size (λ n. start_of n < end_of n) (omega arith) (omega arith) (omega arith) (omega arith)
-
 -- the word of a size at its place among those of the size
 get_words_of : (n k : ℕ) → 1 ≤ n → n ≤ 4 → k < end_of n - start_of n → slice_get (words_of n) k ≡ Some (word_at n (start_of n + k))
 unfolding words_of word_at
@@ -47,19 +44,6 @@ get_word n index h =
     ap (λ ws. slice_get ws (index - start_of n)) (words_are n h.some h.few)
     ∙ get_words_of n (index - start_of n) h.some h.few (omega (arith, h.from, h.upto))
     ∙ ap (λ i. Some (word_at n i)) back
-
-inner : {X : Type 0} {x y : X} → Some x ≡ Some y → x ≡ y
-inner e = cc
-
--- a word stands at one place only
-pub one_place : (n index k : ℕ) → IsInTable n index → slice_get (words 1 n) k ≡ Some (word_at n index) → k ≡ index - start_of n
-one_place n index k h is =
-    let here : slice_get (words_of n) k ≡ Some (word_at n index) = ap (λ ws. slice_get ws k) (sym (words_are n h.some h.few)) ∙ is in
-    let inside : k < end_of n - start_of n = omega (arith, slice_get_within (words_of n) k (word_at n index) here, length-words_of n h.some h.few) in
-    let there = get_words_of n k h.some h.few inside in
-    let at : IsInTable n (start_of n + k) = record { some = h.some; few = h.few; from = omega arith; upto = omega (arith, h.upto) } in
-    let same : word_at n (start_of n + k) ≡ word_at n index = inner (sym there ∙ here) in
-    omega (arith, sym (place_in-word_at n (start_of n + k) at) ∙ ap (place_in (words_of n)) same ∙ place_in-word_at n index h)
 
 -- ---- the numbers of a word
 
@@ -100,7 +84,7 @@ pub level_in_table : (n index i : ℕ) → i < n → slice_index_or (slice_index
 unfolding word_at
 level_in_table n index i h = sym (get_or-take n (slice_index_or WORDS index []) i 0 h)
 
--- ---- one word after another
+-- ---- a word of the table is one of its size
 
 pub is_a_word : (n index : ℕ) → IsInTable n index → Contains (words 1 (length (word_at n index))) (word_at n index)
 is_a_word n index h =
@@ -108,22 +92,3 @@ is_a_word n index h =
     let place = index - start_of n in
     let size = length-word_at n index h in
     rw size (place, slice_get_within (words 1 n) place (word_at n index) is, get_or_from_slice_get (words 1 n) place (word_at n index) (word_at n index) is)
-
-pub next_in_table : (n index : ℕ) → IsInTable n index → (index + 1 ≡ end_of n → ⊥) → IsInTable n (index + 1)
-next_in_table n index h more = record { some = h.some; few = h.few; from = omega (arith, h.from); upto = omega (arith, h.upto) }
-
-pub next_word : (n index : ℕ) (w : Word) (k : ℕ) → IsInTable n index → word_at n index ≡ w → (index + 1 ≡ end_of n → ⊥)
-    → slice_get (words 1 (length w)) k ≡ Some w → slice_get (words 1 (length w)) (k + 1) ≡ Some (word_at n (index + 1))
-next_word n index w k h at more is =
-    let size : length w ≡ n = ap length (sym at) ∙ length-word_at n index h in
-    let here : slice_get (words 1 n) k ≡ Some (word_at n index) = ap (λ m. slice_get (words 1 m) k) (sym size) ∙ is ∙ ap Some (sym at) in
-    let place : k + 1 ≡ index + 1 - start_of n = omega (arith, one_place n index k h here, h.from) in
-    ap (λ m. slice_get (words 1 m) (k + 1)) size ∙ ap (slice_get (words 1 n)) place ∙ get_word n (index + 1) (next_in_table n index h more)
-
-pub last_word : (n index : ℕ) (w : Word) (k : ℕ) → IsInTable n index → word_at n index ≡ w → index + 1 ≡ end_of n
-    → slice_get (words 1 (length w)) k ≡ Some w → k + 1 ≡ length (words 1 (length w))
-last_word n index w k h at done is =
-    let size : length w ≡ n = ap length (sym at) ∙ length-word_at n index h in
-    let here : slice_get (words 1 n) k ≡ Some (word_at n index) = ap (λ m. slice_get (words 1 m) k) (sym size) ∙ is ∙ ap Some (sym at) in
-    let all : length (words 1 n) ≡ end_of n - start_of n = ap length (words_are n h.some h.few) ∙ length-words_of n h.some h.few in
-    omega (arith, one_place n index k h here, h.from, all, done) ∙ ap (λ m. length (words 1 m)) (sym size)

@@ -10,7 +10,7 @@ use Rattle.wf_model.specs.Task.{IsSimplexWithin}
 pub record IsComplex (simplices : List Simplex) : Type 0 where
   pub ascending : IsStrictlySortedBy simplex_cmp simplices
   pub closed : complex_of simplices ≡ simplices
-  pub within : All (IsSimplexWithin 4 63) simplices
+  pub within : All (IsSimplexWithin 4 255) simplices
   pub countable : length simplices < 2 ^ 32
 
 -- the elements of the first list put into the second, the last first
@@ -22,6 +22,6 @@ with_all cmp (x ∷ xs) ys = with_element cmp x (with_all cmp xs ys)
 abbrev pub faces_with : Simplex → Simplex → List Simplex
 faces_with front others = filter is_nonempty (map (λ part. front ++ part) (parts_of others))
 
--- entries whose values are at most 63
+-- entries whose values are at most 255
 abbrev pub AreSmall : List (Option ℕ) → Type 0
-AreSmall entries = (k : ℕ) → IfSome (slice_index_or entries k None) (λ x. x ≤ 63)
+AreSmall entries = (k : ℕ) → IfSome (slice_index_or entries k None) (λ x. x ≤ 255)

@@ -1,21 +1,16 @@
 -- Which lists of pairs are simplices, and the first reason where one is not.
 use Rattle.std.specs.Prelude.{◌&&◌, nat_lt, Bool, not, Option, None, Some, if◌then◌else◌}
-use Rattle.std.specs.List.{list_any, list_all}
+use Rattle.std.specs.List.{list_all}
 use Rattle.wf_simplex.specs.declared.simplex.SimplexFault.{SimplexFault}
-use Rattle.wf_simplex.specs.declared.simplex.SimplexFault.TheVariants.{Empty, Colour, Value}
+use Rattle.wf_simplex.specs.declared.simplex.SimplexFault.TheVariants.{Empty, Colour}
 use Rattle.wf_model.specs.Simplex.{Simplex, processes_of, is_nonempty, is_ascending}
 
 -- processes strictly ascending, and at most 3
 abbrev pub has_colours : Simplex → Bool
 has_colours pairs = is_ascending (processes_of pairs) && list_all (λ p. nat_lt p 4) (processes_of pairs)
 
--- some value above 63
-abbrev pub has_large : Simplex → Bool
-has_large pairs = list_any (λ v. nat_lt 63 v.1) pairs
-
 -- why these pairs are no simplex, the first reason in this order; none where they are one
 abbrev pub read_fault : Simplex → Option SimplexFault
 read_fault pairs =
     if not (is_nonempty pairs) then Some Empty else
-    (if not (has_colours pairs) then Some Colour else
-    (if has_large pairs then Some Value else None))
+    (if not (has_colours pairs) then Some Colour else None)

@@ -11,4 +11,4 @@ pub mod word;
 
 pub use complex::Complex;
 pub use simplex::{Simplex, SimplexFault};
-pub use word::{Word, word_count};
+pub use word::{Word, allowed_count, word_count};

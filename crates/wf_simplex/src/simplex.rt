@@ -4,7 +4,7 @@ ghost use Rattle.wf_model.specs.Simplex.{processes_of, faces_of, is_face, simple
 ghost use Rattle.wf_model.specs.Task.{IsSimplexWithin};
 ghost use Rattle.wf_simplex.specs.Faces.{with_all, faces_with, AreSmall};
 ghost use Rattle.wf_simplex.specs.Entries.{vertices_from, value_at, entry_cmp, is_within, ascends_from};
-ghost use Rattle.wf_simplex.specs.Reading.{has_large, read_fault};
+ghost use Rattle.wf_simplex.specs.Reading.{read_fault};
 
 use std::alloc::AllocError;
 use std::cmp::Ordering;
@@ -19,8 +19,6 @@ pub enum SimplexFault {
     Empty,
     /// The processes do not strictly ascend, or one is above 3.
     Colour,
-    /// A value is above 63.
-    Value,
 }
 
 impl fmt::Display for SimplexFault {
@@ -33,13 +31,12 @@ impl fmt::Display for SimplexFault {
         let name = match self {
             SimplexFault::Empty => "Empty",
             SimplexFault::Colour => "Colour",
-            SimplexFault::Value => "Value",
         };
         write!(f, "{name}")
     }
 }
 
-/// A simplex: some of the processes 0 to 3, at least one, each with a value of at most 63.
+/// A simplex: some of the processes 0 to 3, at least one, each with a value of at most 255.
 ///
 /// A clause sees it as the list of its vertices, the pairs of a process and its value, by ascending process.
 /// Simplices are ordered by size, and then as these lists.
@@ -59,7 +56,7 @@ impl Model for Simplex {
 
     ghost view = { λ s. vertices_from 0 s.values };
 
-    ghost invariant = { λ s. (length s.values ≡ 4) × IsSimplexWithin 4 63 (vertices_from 0 s.values) };
+    ghost invariant = { λ s. (length s.values ≡ 4) × IsSimplexWithin 4 255 (vertices_from 0 s.values) };
 
     ghost inverse = { λ s. record { values = entries_of s } };
 
@@ -82,11 +79,8 @@ impl Simplex {
             if *process < least || *process > 3 {
                 return Err(SimplexFault::Colour);
             }
-            values[*process as usize] = Some(*value);
+            values[*process as usize] = entry(*value);
             least = *process + 1;
-        }
-        if has_large(pairs) {
-            return Err(SimplexFault::Value);
         }
         Ok(Simplex { values })
     }
@@ -96,7 +90,7 @@ impl Simplex {
         ensures count { result ≡ length self.now }
         ensures some { 1 ≤ result }
         ensures few { result ≤ 4 }
-        ensures simplex { IsSimplexWithin 4 63 self.now }
+        ensures simplex { IsSimplexWithin 4 255 self.now }
     {
         count(self.values)
     }
@@ -141,11 +135,19 @@ impl Simplex {
     /// Adds all faces.
     pub(crate) fn add_faces(&self, faces: &mut BTreeSet<Simplex>) -> Result<(), AllocError>
         ensures added { OnOk result (faces.new.keys ≡ with_all simplex_cmp (faces_of self.now) faces.old.keys) }
-        ensures simplex { IsSimplexWithin 4 63 self.now }
+        ensures simplex { IsSimplexWithin 4 255 self.now }
         ensures few { length self.now ≤ 4 }
     {
         add_faces(faces, self.values, [None; 4], 0)
     }
+}
+
+/// The entry of a process that takes part: any `u8` is a value.
+fn entry(value: u8) -> Option<u8>
+    ensures entry { result ≡ Some value }
+    ensures small { value ≤ 255 }
+{
+    Some(value)
 }
 
 /// How many entries are there.
@@ -183,13 +185,6 @@ fn add_faces(
         add_faces(faces, facet, longer, from + 1)?;
     }
     Ok(())
-}
-
-/// Whether some value is above 63.
-fn has_large(pairs: &[(u8, u8)]) -> bool
-    ensures { result ≡ has_large pairs.now }
-{
-    pairs.iter().any(|pair| pair.1 > 63)
 }
 
 /// Whether the first entry is absent or the same as the second.

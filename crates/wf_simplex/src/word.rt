@@ -1,6 +1,6 @@
-ghost use Rattle.std.specs.Prelude.{◌≡◌, ℕ, ◌+◌, ◌<◌, ◌≤◌, Contains, IsTrue, false, nat_le, length, slice_get, slice_index, Some};
+ghost use Rattle.std.specs.Prelude.{◌≡◌, ℕ, ◌+◌, ◌<◌, ◌≤◌, ◌==◌, Contains, IsTrue, false, nat_le, length, count_by, slice_get, slice_index, Some};
 ghost use Rattle.std.specs.Bool.{OnFalse};
-ghost use Rattle.wf_model.specs.Word.{words};
+ghost use Rattle.wf_model.specs.Word.{is_allowed, words};
 ghost use Rattle.wf_simplex.specs.WordTable.{start_of, end_of};
 
 use std::marker::Model;
@@ -136,6 +136,18 @@ impl Word {
         requires few { size ≤ 4 }
         ensures { slice_get (words 1 size) 0 ≡ Some result }
     {
+        Word::first_allowed(size, 1)
+    }
+
+    /// The first word of a size whose first block has at least m participants, or all where they are fewer: all in one
+    /// block.
+    pub fn first_allowed(size: u8, m: u8) -> Word
+        requires some { 1 ≤ size }
+        requires few { size ≤ 4 }
+        requires one { 1 ≤ m }
+        requires most { m ≤ 4 }
+        ensures { slice_get (words m size) 0 ≡ Some result }
+    {
         Word {
             size,
             index: start(size),
@@ -151,12 +163,50 @@ impl Word {
             → result ≡ false → k + 1 ≡ length (words 1 (length self.old)) }
         ensures stays { OnFalse result (self.new ≡ self.old) }
     {
-        let next = self.index + 1;
-        if next == end(self.size) {
-            return false;
+        self.next_allowed(1)
+    }
+
+    /// Goes on to the next word of the size whose first block has at least m participants, or all where they are fewer.
+    /// At the last of them it stays and answers false.
+    pub fn next_allowed(&mut self, m: u8) -> bool
+        requires one { 1 ≤ m }
+        requires most { m ≤ 4 }
+        ensures size { length self.new ≡ length self.old }
+        ensures next { (k : ℕ) → slice_get (words m (length self.old)) k ≡ Some self.old
+            → IsTrue result → slice_get (words m (length self.old)) (k + 1) ≡ Some self.new }
+        ensures last { (k : ℕ) → slice_get (words m (length self.old)) k ≡ Some self.old
+            → result ≡ false → k + 1 ≡ length (words m (length self.old)) }
+        ensures stays { OnFalse result (self.new ≡ self.old) }
+    {
+        let size = self.size;
+        for index in self.index + 1..end(size) {
+            let word = Word { size, index };
+            if word.allowed(m) {
+                *self = word;
+                return true;
+            }
         }
-        self.index = next;
-        true
+        false
+    }
+
+    /// Whether the first block has at least m participants, or all where they are fewer.
+    pub fn allowed(&self, m: u8) -> bool
+        ensures { result ≡ is_allowed m self.now }
+    {
+        m.min(self.size()) <= self.first_block()
+    }
+
+    /// How many participants the first block has.
+    fn first_block(&self) -> u8
+        ensures { result ≡ count_by (λ block. block == 0) self.now }
+    {
+        let mut count = 0;
+        for i in 0..self.size() {
+            if self.level(i) == 0 {
+                count += 1;
+            }
+        }
+        count
     }
 
     /// How many participants there are.
@@ -194,7 +244,27 @@ pub fn word_count(size: u8) -> u32
     requires few { size ≤ 4 }
     ensures { result ≡ length (words 1 size) }
 {
-    u32::from(end(size)) - u32::from(start(size))
+    allowed_count(size, 1)
+}
+
+/// How many words of a size have a first block of at least m participants, or of all where they are fewer.
+pub fn allowed_count(size: u8, m: u8) -> u32
+    requires some { 1 ≤ size }
+    requires few { size ≤ 4 }
+    requires one { 1 ≤ m }
+    requires most { m ≤ 4 }
+    ensures { result ≡ length (words m size) }
+{
+    match (size, m) {
+        (1, _) => 1,
+        (2, 1) => 3,
+        (3, 1) => 13,
+        (3, 2) => 4,
+        (4, 1) => 75,
+        (4, 2) => 23,
+        (4, 3) => 5,
+        _ => 1,
+    }
 }
 
 /// Where the words of a size begin in the table.

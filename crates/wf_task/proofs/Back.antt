@@ -16,7 +16,7 @@ use Rattle.wf_task.proofs.Written.{task_has_no_float}
 use Rattle.serde_json.specs.View.{items_of}
 use Rattle.wf_model.specs.Lists.{in_order}
 use Rattle.wf_model.specs.Simplex.{Simplex, Vertex, processes_of, values_of, is_nonempty, is_ascending, simplex_cmp, complex_of}
-use Rattle.wf_model.specs.Task.{Task, Rule, Tuple, IsRule, IsSimplexWithin, IsComplexWithin, largest_value, inputs}
+use Rattle.wf_model.specs.Task.{Task, Rule, Tuple, IsRule, IsSimplexWithin, IsComplexWithin, IsFirstBlock, largest_value, inputs}
 use Rattle.wf_model.proofs.Fuel.{length_filter}
 use Rattle.wf_simplex.specs.Faces.{IsComplex}
 use Rattle.wf_simplex.specs.Order.{same_simplex, same_simplex-decides, simplex_cmp-total}
@@ -27,12 +27,13 @@ use Rattle.wf_task.specs.declared.fault.TaskFault.{TaskFault}
 use Rattle.wf_task.specs.Shape.{each, whole_of, pair_of, simplex_of, tuples_of, rule_of, entry_of, list_of}
 use Rattle.wf_task.specs.Draft.{Listed, ◌>>=◌, draft_of}
 use Rattle.wf_task.specs.Slots.{entries_in}
-use Rattle.wf_task.specs.Judge.{is_large, has_large, rule_has_large, some_large, has_colours, all_colours, is_among, tuples_for, wrong_length, no_output, first_answer, numbers_judged, sizes_judged, entries_judged, tuples_judged, rule_for, drafted, judged, task_of, text_of}
+use Rattle.wf_task.specs.Judge.{is_first_block, is_large, has_large, rule_has_large, some_large, has_colours, all_colours, is_among, tuples_for, wrong_length, no_output, first_answer, numbers_judged, sizes_judged, entries_judged, tuples_judged, rule_for, drafted, judged, task_of, text_of}
 use Rattle.wf_task.specs.declared.task.TheConstants.{LONGEST}
 use Rattle.wf_task.proofs.Texts.{json_of-some}
-use Rattle.wf_task.specs.Canonical.{is_inner, facets, IsListable, listed_of, number_data, list_data, vertex_data, simplex_data, tuple_data, rule_data, task_data}
+use Rattle.wf_task.specs.Canonical.{is_inner, facets, IsListable, version_of, listed_of, number_data, list_data, vertex_data, simplex_data, tuple_data, rule_data, task_data}
+use Rattle.wf_task.proofs.Judged.{limit-few}
 use Rattle.wf_task.proofs.Drafted.{within_more}
-use Rattle.wf_task.proofs.Lengths.{HasShortParts, simplex-long, tuple-long as tuple-short, rule-long, value_at, task-long, task-deep}
+use Rattle.wf_task.proofs.Lengths.{HasShortParts, simplex-long, tuple-long as tuple-short, rule-long, task-long, task-deep}
 use Rattle.wf_task.proofs.Extending.{values-zip-same}
 use Rattle.wf_task.proofs.Faceted.{complex_of-facets}
 use Rattle.wf_task.proofs.Facets.{any-has}
@@ -61,12 +62,22 @@ entry-read : (rule : Rule) → is_nonempty rule.input ≡ true → entry_of (rul
 entry-read rule h = rw (tuples-read rule.tuples) (rw (simplex-read rule.input h) refl)
 
 draft-read : (t : Task) → ((s : Simplex) → Has s (facets (inputs t)) → is_nonempty s ≡ true) → ((s : Simplex) → Has s (facets t.outputs) → is_nonempty s ≡ true) → ((rule : Rule) → Has rule t.rules → is_nonempty rule.input ≡ true)
-    → t.processes < 2 ^ 64 → draft_of (value_at None t) ≡ Ok (listed_of t)
+    → t.processes < 2 ^ 64 → draft_of (task_data t) ≡ Ok (listed_of t)
 unfolding draft_of
-draft-read t some_inputs some_outputs some_rules low =
-    rw (each-read simplex_data simplex_of (facets (inputs t)) (λ s k. simplex-read s (some_inputs s k)))
-    (rw (each-read simplex_data simplex_of (facets t.outputs) (λ s k. simplex-read s (some_outputs s k)))
-    (rw (each-read rule_data entry_of t.rules (λ rule k. entry-read rule (some_rules rule k))) refl))
+draft-read t some_inputs some_outputs some_rules low = by t.restriction
+  where
+    with : Option ℕ → Task
+    with o = record { processes = t.processes; symmetric = t.symmetric; restriction = o; rules = t.rules; outputs = t.outputs }
+
+    by : (o : Option ℕ) → draft_of (task_data (with o)) ≡ Ok (listed_of (with o))
+    by None =
+        rw (each-read simplex_data simplex_of (facets (inputs t)) (λ s k. simplex-read s (some_inputs s k)))
+        (rw (each-read simplex_data simplex_of (facets t.outputs) (λ s k. simplex-read s (some_outputs s k)))
+        (rw (each-read rule_data entry_of t.rules (λ rule k. entry-read rule (some_rules rule k))) refl))
+    by (Some m) =
+        rw (each-read simplex_data simplex_of (facets (inputs t)) (λ s k. simplex-read s (some_inputs s k)))
+        (rw (each-read simplex_data simplex_of (facets t.outputs) (λ s k. simplex-read s (some_outputs s k)))
+        (rw (each-read rule_data entry_of t.rules (λ rule k. entry-read rule (some_rules rule k))) refl))
 
 -- ---- tests of lists
 
@@ -98,20 +109,28 @@ not_none n = by (suc n == 0) refl
 
 -- ---- numbers
 
-small-list : (xs : List ℕ) → All (λ x. x ≤ 63) xs → list_any is_large xs ≡ false
-small-list xs h = any_false is_large xs (λ x k. le-ltb 63 x (has_of_all (λ x. x ≤ 63) x xs h k))
+small-list : (m : ℕ) (xs : List ℕ) → All (λ x. x ≤ m) xs → list_any (is_large m) xs ≡ false
+small-list m xs h = any_false (is_large m) xs (λ x k. le-ltb m x (has_of_all (λ x. x ≤ m) x xs h k))
 
-simplex-small : (n : ℕ) (s : Simplex) → IsSimplexWithin n 63 s → has_large s ≡ false
-simplex-small n s h = small-list (values_of s) h.values
+simplex-small : (n m : ℕ) (s : Simplex) → IsSimplexWithin n m s → has_large m s ≡ false
+simplex-small n m s h = small-list m (values_of s) h.values
 
-simplex-colours : (n : ℕ) (s : Simplex) → IsSimplexWithin n 63 s → has_colours n s ≡ true
-simplex-colours n s h =
+simplex-colours : (n m : ℕ) (s : Simplex) → IsSimplexWithin n m s → has_colours n s ≡ true
+simplex-colours n m s h =
     and_from (is_ascending (processes_of s)) (list_all (λ p. nat_lt p n) (processes_of s)) (and_parts (is_nonempty s) (is_ascending (processes_of s)) h.is_simplex).1
     (all_true (λ p. nat_lt p n) (processes_of s) (λ p k. lt-ltb p n (has_of_all (λ p. p < n) p (processes_of s) h.processes k)))
 
 or_false : (a b : Bool) → a ≡ false → b ≡ false → (a || b) ≡ false
 or_false true b h g = h
 or_false false b h g = g
+
+version-passes : (o : Option ℕ) → not (version_of o == 1 || version_of o == 2) ≡ false
+version-passes None = refl
+version-passes (Some m) = refl
+
+first_block-passes : (o : Option ℕ) → IsFirstBlock o → not (is_first_block o) ≡ false
+first_block-passes None h = refl
+first_block-passes (Some m) h = rw (le-leb 1 m h.0) (rw (le-leb m 4 h.1) refl)
 
 -- ---- the one entry of an input simplex
 
@@ -143,17 +162,17 @@ one-entry (r ∷ rules) rule h (inr here) = by (same_simplex r.input rule.input)
 -- ---- the judgement
 
 module _ (t : Task) (h : IsListable t) where
-  input_within : IsComplexWithin t.processes 63 (inputs t)
-  input_within = subst (λ r. IsComplexWithin t.processes (largest_value r) (inputs t)) h.unrestricted h.task.input_complex
+  abbrev largest : ℕ
+  largest = largest_value t.restriction
 
-  output_within : IsComplexWithin t.processes 63 t.outputs
-  output_within = subst (λ r. IsComplexWithin t.processes (largest_value r) t.outputs) h.unrestricted h.task.output_complex
+  within-four : (s : Simplex) → IsSimplexWithin t.processes largest s → IsSimplexWithin 4 255 s
+  within-four s k = within_more t.processes largest 4 255 s h.task.process_count.1 (limit-few t.restriction) k
 
-  complex-is : (complex : List Simplex) → IsComplexWithin t.processes 63 complex → length complex < 2 ^ 32 → IsComplex complex
+  complex-is : (complex : List Simplex) → IsComplexWithin t.processes largest complex → length complex < 2 ^ 32 → IsComplex complex
   complex-is complex c few = record {
     ascending = subst (IsStrictlySortedBy simplex_cmp) c.is_complex (complex_of-sorted complex);
     closed = c.is_complex;
-    within = all_of_has (IsSimplexWithin 4 63) complex (λ s k. within_more t.processes 4 s h.task.process_count.1 (has_of_all (IsSimplexWithin t.processes 63) s complex c.within k));
+    within = all_of_has (IsSimplexWithin 4 255) complex (λ s k. within-four s (has_of_all (IsSimplexWithin t.processes largest) s complex c.within k));
     countable = few;
   }
 
@@ -161,7 +180,7 @@ module _ (t : Task) (h : IsListable t) where
   input_count = omega (arith, length-map t.rules (λ (rule : Rule). rule.input), h.task.few_inputs)
 
   inputs-complex : IsComplex (inputs t)
-  inputs-complex = complex-is (inputs t) input_within (omega (arith, input_count))
+  inputs-complex = complex-is (inputs t) h.task.input_complex (omega (arith, input_count))
 
   outputs-complex : IsComplex t.outputs
   outputs-complex = h.outputs
@@ -172,11 +191,11 @@ module _ (t : Task) (h : IsListable t) where
   outputs-back : complex_of (facets t.outputs) ≡ t.outputs
   outputs-back = complex_of-facets t.outputs outputs-complex
 
-  input-is : (s : Simplex) → Has s (inputs t) → IsSimplexWithin t.processes 63 s
-  input-is s k = has_of_all (IsSimplexWithin t.processes 63) s (inputs t) input_within.within k
+  input-is : (s : Simplex) → Has s (inputs t) → IsSimplexWithin t.processes largest s
+  input-is s k = has_of_all (IsSimplexWithin t.processes largest) s (inputs t) h.task.input_complex.within k
 
-  output-is : (s : Simplex) → Has s t.outputs → IsSimplexWithin t.processes 63 s
-  output-is s k = has_of_all (IsSimplexWithin t.processes 63) s t.outputs output_within.within k
+  output-is : (s : Simplex) → Has s t.outputs → IsSimplexWithin t.processes largest s
+  output-is s k = has_of_all (IsSimplexWithin t.processes largest) s t.outputs h.task.output_complex.within k
 
   facet-of : (complex : List Simplex) (s : Simplex) → Has s (facets complex) → Has s complex
   facet-of complex s k = (has-filter (λ u. not (is_inner complex u)) s complex k).0
@@ -194,39 +213,39 @@ module _ (t : Task) (h : IsListable t) where
   tuple-long : (rule : Rule) (tuple : Tuple) → Has rule t.rules → Has tuple rule.tuples → length tuple ≡ length rule.input
   tuple-long rule tuple k j = has_of_all (λ u. length u ≡ length rule.input) tuple rule.tuples (rule-is rule k).long j
 
-  tuple-values : (rule : Rule) (tuple : Tuple) → Has rule t.rules → Has tuple rule.tuples → All (λ x. x ≤ 63) tuple
+  tuple-values : (rule : Rule) (tuple : Tuple) → Has rule t.rules → Has tuple rule.tuples → All (λ x. x ≤ largest) tuple
   tuple-values rule tuple k j =
       let long : length tuple ≡ length (processes_of rule.input) = tuple-long rule tuple k j ∙ sym (length-map rule.input (λ (v : Vertex). v.0)) in
-      subst (All (λ x. x ≤ 63)) (values-zip-same (processes_of rule.input) tuple long) (output-is (zip (processes_of rule.input) tuple) (tuple-there rule tuple k j)).values
+      subst (All (λ x. x ≤ largest)) (values-zip-same (processes_of rule.input) tuple long) (output-is (zip (processes_of rule.input) tuple) (tuple-there rule tuple k j)).values
 
-  tuple-small : (rule : Rule) (tuple : Tuple) → Has rule t.rules → Has tuple rule.tuples → list_any is_large tuple ≡ false
-  tuple-small rule tuple k j = small-list tuple (tuple-values rule tuple k j)
+  tuple-small : (rule : Rule) (tuple : Tuple) → Has rule t.rules → Has tuple rule.tuples → list_any (is_large largest) tuple ≡ false
+  tuple-small rule tuple k j = small-list largest tuple (tuple-values rule tuple k j)
 
-  rule-small : (rule : Rule) → Has rule t.rules → rule_has_large rule ≡ false
+  rule-small : (rule : Rule) → Has rule t.rules → rule_has_large largest rule ≡ false
   rule-small rule k =
-      or_false (has_large rule.input) (list_any (list_any is_large) rule.tuples) (simplex-small t.processes rule.input (input-is rule.input (rule-input rule k)))
-      (any_false (list_any is_large) rule.tuples (λ tuple j. tuple-small rule tuple k j))
+      or_false (has_large largest rule.input) (list_any (list_any (is_large largest)) rule.tuples) (simplex-small t.processes largest rule.input (input-is rule.input (rule-input rule k)))
+      (any_false (list_any (is_large largest)) rule.tuples (λ tuple j. tuple-small rule tuple k j))
 
   none-large : some_large (listed_of t) ≡ false
   none-large =
-      or_false (list_any has_large (facets (inputs t)) || list_any has_large (facets t.outputs)) (list_any rule_has_large t.rules)
-      (or_false (list_any has_large (facets (inputs t))) (list_any has_large (facets t.outputs))
-      (any_false has_large (facets (inputs t)) (λ s k. simplex-small t.processes s (input-is s (facet-of (inputs t) s k))))
-      (any_false has_large (facets t.outputs) (λ s k. simplex-small t.processes s (output-is s (facet-of t.outputs s k)))))
-      (any_false rule_has_large t.rules rule-small)
+      or_false (list_any (has_large largest) (facets (inputs t)) || list_any (has_large largest) (facets t.outputs)) (list_any (rule_has_large largest) t.rules)
+      (or_false (list_any (has_large largest) (facets (inputs t))) (list_any (has_large largest) (facets t.outputs))
+      (any_false (has_large largest) (facets (inputs t)) (λ s k. simplex-small t.processes largest s (input-is s (facet-of (inputs t) s k))))
+      (any_false (has_large largest) (facets t.outputs) (λ s k. simplex-small t.processes largest s (output-is s (facet-of t.outputs s k)))))
+      (any_false (rule_has_large largest) t.rules rule-small)
 
   all-coloured : all_colours (listed_of t) ≡ true
   all-coloured =
       and_from (list_all (has_colours t.processes) (facets (inputs t)) && list_all (has_colours t.processes) (facets t.outputs)) (list_all (λ rule. has_colours t.processes rule.input) t.rules)
       (and_from (list_all (has_colours t.processes) (facets (inputs t))) (list_all (has_colours t.processes) (facets t.outputs))
-      (all_true (has_colours t.processes) (facets (inputs t)) (λ s k. simplex-colours t.processes s (input-is s (facet-of (inputs t) s k))))
-      (all_true (has_colours t.processes) (facets t.outputs) (λ s k. simplex-colours t.processes s (output-is s (facet-of t.outputs s k)))))
-      (all_true (λ (rule : Rule). has_colours t.processes rule.input) t.rules (λ rule k. simplex-colours t.processes rule.input (input-is rule.input (rule-input rule k))))
+      (all_true (has_colours t.processes) (facets (inputs t)) (λ s k. simplex-colours t.processes largest s (input-is s (facet-of (inputs t) s k))))
+      (all_true (has_colours t.processes) (facets t.outputs) (λ s k. simplex-colours t.processes largest s (output-is s (facet-of t.outputs s k)))))
+      (all_true (λ (rule : Rule). has_colours t.processes rule.input) t.rules (λ rule k. simplex-colours t.processes largest rule.input (input-is rule.input (rule-input rule k))))
 
   numbers-pass : numbers_judged (listed_of t) ≡ Ok tt
   unfolding numbers_judged
   numbers-pass =
-      rw (le-leb 1 t.processes h.task.process_count.0) (rw (le-leb t.processes 4 h.task.process_count.1) (rw none-large (rw all-coloured refl)))
+      rw (version-passes t.restriction) (rw (le-leb 1 t.processes h.task.process_count.0) (rw (le-leb t.processes 4 h.task.process_count.1) (rw none-large (rw all-coloured refl))))
 
   sizes-pass : sizes_judged (listed_of t) (inputs t) ≡ Ok tt
   unfolding sizes_judged
@@ -288,7 +307,7 @@ module _ (t : Task) (h : IsListable t) where
   drafted-back : drafted (listed_of t) ≡ t
   drafted-back =
       let rules = ap (map (rule_for (listed_of t))) inputs-back ∙ rules-back t.rules (λ rule k. k) in
-      λ j. record { processes = t.processes; symmetric = t.symmetric; restriction = sym h.unrestricted j; rules = rules j; outputs = outputs-back j }
+      λ j. record { processes = t.processes; symmetric = t.symmetric; restriction = t.restriction; rules = rules j; outputs = outputs-back j }
 
   judged-back : judged (listed_of t) ≡ Ok t
   unfolding judged
@@ -297,38 +316,41 @@ module _ (t : Task) (h : IsListable t) where
       (rw (ap (sizes_judged (listed_of t)) inputs-back ∙ sizes-pass)
       (rw (ap (entries_judged (listed_of t)) inputs-back ∙ entries-pass)
       (rw (ap (tuples_judged (listed_of t)) inputs-back ∙ tuples-pass)
-      (rw some-input (ap Ok drafted-back)))))
+      (rw some-input (rw (first_block-passes t.restriction h.task.restriction_within) (ap Ok drafted-back))))))
 
-  vertex-some : (s : Simplex) → IsSimplexWithin t.processes 63 s → is_nonempty s ≡ true
+  vertex-some : (s : Simplex) → IsSimplexWithin t.processes largest s → is_nonempty s ≡ true
   vertex-some s k = (and_parts (is_nonempty s) (is_ascending (processes_of s)) k.is_simplex).0
 
   -- the value of the canonical text is read as the task
   pub read-back : task_of (task_data t) ≡ Ok t
   unfolding task_of
   read-back =
-      let read = subst (λ r. draft_of (value_at r t) ≡ Ok (listed_of t)) (sym h.unrestricted)
-      (draft-read t (λ s k. vertex-some s (input-is s (facet-of (inputs t) s k))) (λ s k. vertex-some s (output-is s (facet-of t.outputs s k))) (λ rule k. vertex-some rule.input (input-is rule.input (rule-input rule k)))
-      (let low : t.processes < 2 ^ 64 = omega (arith, h.task.process_count.1) in low)) in
+      let read = draft-read t (λ s k. vertex-some s (input-is s (facet-of (inputs t) s k))) (λ s k. vertex-some s (output-is s (facet-of t.outputs s k))) (λ rule k. vertex-some rule.input (input-is rule.input (rule-input rule k)))
+      (let low : t.processes < 2 ^ 64 = omega (arith, h.task.process_count.1) in low) in
       ap (λ (r : Result Listed TaskFault). r >>= judged) read ∙ judged-back
 
   -- ---- the length of the canonical text
 
-  simplex-short : (s : Simplex) → IsSimplexWithin t.processes 63 s → length (compact_text (simplex_data s)) ≤ 38
-  simplex-short s k =
-      simplex-long s (length-within 4 63 s (within_more t.processes 4 s h.task.process_count.1 k)) (λ v j.
-      let process : v.0 < t.processes = has_of_all (λ p. p < t.processes) v.0 (processes_of s) k.processes (map-has (λ (w : Vertex). w.0) v s j) in
-      (omega (arith, process, h.task.process_count.1), has_of_all (λ x. x ≤ 63) v.1 (values_of s) k.values (map-has (λ (w : Vertex). w.1) v s j)))
+  small : (x : ℕ) → x ≤ largest → x ≤ 255
+  small x low = omega (arith, low, limit-few t.restriction)
 
-  rule-short : (rule : Rule) → Has rule t.rules → length (compact_text (rule_data rule)) ≤ 55 + 15 * length rule.tuples
+  simplex-short : (s : Simplex) → IsSimplexWithin t.processes largest s → length (compact_text (simplex_data s)) ≤ 46
+  simplex-short s k =
+      simplex-long s (length-within 4 255 s (within-four s k)) (λ v j.
+      let process : v.0 < t.processes = has_of_all (λ p. p < t.processes) v.0 (processes_of s) k.processes (map-has (λ (w : Vertex). w.0) v s j) in
+      (omega (arith, process, h.task.process_count.1), small v.1 (has_of_all (λ x. x ≤ largest) v.1 (values_of s) k.values (map-has (λ (w : Vertex). w.1) v s j))))
+
+  rule-short : (rule : Rule) → Has rule t.rules → length (compact_text (rule_data rule)) ≤ 63 + 19 * length rule.tuples
   rule-short rule k =
       let within = input-is rule.input (rule-input rule k) in
-      let few = length-within 4 63 rule.input (within_more t.processes 4 rule.input h.task.process_count.1 within) in
+      let few = length-within 4 255 rule.input (within-four rule.input within) in
       rule-long rule (simplex-short rule.input within) (λ tuple j.
-      tuple-short tuple (omega (arith, tuple-long rule tuple k j, few)) (λ x i. has_of_all (λ y. y ≤ 63) x tuple (tuple-values rule tuple k j) i))
+      tuple-short tuple (omega (arith, tuple-long rule tuple k j, few)) (λ x i. small x (has_of_all (λ y. y ≤ largest) x tuple (tuple-values rule tuple k j) i)))
 
   short-parts : HasShortParts t
   short-parts = record {
     processes = omega (arith, h.task.process_count.1);
+    restriction = h.task.restriction_within;
     input_count = omega (arith, length_filter (λ s. not (is_inner (inputs t) s)) (inputs t), input_count);
     output_count = h.few;
     rule_count = h.task.few_inputs;
@@ -339,11 +361,11 @@ module _ (t : Task) (h : IsListable t) where
   }
 
   text-short : length (compact_text (task_data t)) ≤ LONGEST
-  text-short = subst (λ r. length (compact_text (value_at r t)) ≤ 16777216) (sym h.unrestricted) (task-long t short-parts)
+  text-short = task-long t short-parts
 
   -- its value nests no deeper than a reading follows
   pub value-shallow : depth (task_data t) ≤ max_depth
-  value-shallow = subst (λ r. depth (value_at r t) ≤ 127) (sym h.unrestricted) (task-deep t)
+  value-shallow = task-deep t
 
   -- bytes that are the canonical text and are read as its value are read as the task
   pub text-back : (text : List ℕ) → text ≡ compact_text (task_data t) → IsUtf8 text → read text ≡ Some (task_data t) → text_of text ≡ Ok t

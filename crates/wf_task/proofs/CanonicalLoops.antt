@@ -1,5 +1,5 @@
 -- One simplex, vertex or entry more.
-use Rattle.std.proofs.Common.{◌≡◌, ℕ, zero, suc, ◌+◌, ◌-◌, ◌*◌, ◌<◌, ◌≤◌, Bool, true, false, not, IsTrue, Contains, ◌↔◌, nat_lt, List, [], ◌∷◌, ◌++◌, length, map, filter, flat_map, take, get_or, slice_set, cond, Vec, Global, vec_items, take_all, inl, inr, refl, sym, ap, ◌∙◌, subst, arith, length-append, ltb-true}
+use Rattle.std.proofs.Common.{◌≡◌, ℕ, zero, suc, ◌+◌, ◌-◌, ◌*◌, ◌<◌, ◌≤◌, Bool, true, false, not, IsTrue, Contains, ◌↔◌, nat_lt, List, [], ◌∷◌, ◌++◌, length, map, filter, flat_map, take, get_or, slice_set, cond, Option, Vec, Global, vec_items, take_all, inl, inr, refl, sym, ap, ◌∙◌, subst, arith, length-append, ltb-true}
 use Rattle.std.specs.Prelude.{remove}
 use Rattle.std.proofs.lemmas.Bool.{ltb-false}
 use Rattle.std.proofs.lemmas.List.{length-map, map-append, take_more, take_more_set}
@@ -13,9 +13,9 @@ use Rattle.wf_simplex.specs.Faces.{IsComplex}
 use Rattle.wf_simplex.proofs.Orders.{Has, has_at_place}
 use Rattle.wf_simplex.proofs.Within.{face_within, length-within}
 use Rattle.wf_task.specs.Borders.{borders_if, borders_of, place_before}
-use Rattle.wf_task.specs.Canonical.{is_inner, facets, HasFewFacets, list_data, simplex_data, rule_data, version_1, task_data}
+use Rattle.wf_task.specs.Canonical.{is_inner, facets, HasFewFacets, list_data, simplex_data, rule_data, keyed, task_data}
 use Rattle.wf_task.specs.Shape.{rule_of}
-use Rattle.wf_task.specs.TaskSeen.{rules_seen, task_of_parts}
+use Rattle.wf_task.specs.TaskSeen.{rules_seen, restricted_task}
 use Rattle.wf_model.proofs.Fuel.{length_filter}
 use Rattle.wf_task.proofs.OneMore.{filter-passes, filter-fails}
 use Rattle.wf_task.proofs.Faceted.{inner-border, border-inner, length-complex, within-complex, removed-part}
@@ -50,7 +50,7 @@ few_all (s ∷ ss) h = omega (arith, length-append (borders_of s) (flat_map bord
 
 pub few_borders : (complex : List Simplex) → IsComplex complex → HasFewFacets complex → length (flat_map borders_of complex) ≤ 16777216
 few_borders complex h few =
-    omega (arith, few, length-complex complex h, few_all complex (λ s here. length-within 4 63 s (within-complex complex h s here)))
+    omega (arith, few, length-complex complex h, few_all complex (λ s here. length-within 4 255 s (within-complex complex h s here)))
 
 -- ---- one vertex more
 
@@ -80,9 +80,9 @@ before_below left i n inside low = by (nat_lt i left) refl
     by true e = omega (arith, low)
     by false e = omega (arith, low)
 
-pub kept_within : (s : Simplex) (left : ℕ) → left < length s → 2 ≤ length s → IsSimplexWithin 4 63 s → IsSimplexWithin 4 63 (remove s left)
+pub kept_within : (s : Simplex) (left : ℕ) → left < length s → 2 ≤ length s → IsSimplexWithin 4 255 s → IsSimplexWithin 4 255 (remove s left)
 kept_within s left inside wide h =
-    face_within 4 63 s (remove s left) h (part-face s (remove s left) (removed-part s left inside).0 (nonempty-long (remove s left) (omega (arith, length-remove s left inside, wide))))
+    face_within 4 255 s (remove s left) h (part-face s (remove s left) (removed-part s left inside).0 (nonempty-long (remove s left) (omega (arith, length-remove s left inside, wide))))
 
 pub kept_all : (pairs s : Simplex) (left n i : ℕ) → left < length s → n ≡ length s - 1 → n ≤ i → i ≤ n → take i pairs ≡ take i (remove s left) → take n pairs ≡ remove s left
 kept_all pairs s left n i inside size past upto made =
@@ -107,12 +107,12 @@ mapped_more f g xs ys more x y so_far here is =
 
 -- ---- the whole value
 
-pub value_is : (n : ℕ) (symmetric : Bool) (ss : List Simplex) (ts : List (List Tuple)) (os : List Simplex) (a b c : Data) → length ts ≡ length ss
+pub value_is : (restriction : Option ℕ) (n : ℕ) (symmetric : Bool) (ss : List Simplex) (ts : List (List Tuple)) (os : List Simplex) (a b c : Data) → length ts ≡ length ss
     → a ≡ list_data simplex_data (facets ss) → b ≡ list_data simplex_data (facets os) → c ≡ list_data rule_data (rules_seen ss ts)
-    → version_1 n symmetric a b c ≡ task_data (task_of_parts n symmetric ss ts os)
-value_is n symmetric ss ts os a b c each is_a is_b is_c =
+    → keyed restriction n symmetric a b c ≡ task_data (restricted_task restriction n symmetric ss ts os)
+value_is restriction n symmetric ss ts os a b c each is_a is_b is_c =
     let first = is_a ∙ ap (λ us. list_data simplex_data (facets us)) (sym (inputs-rules_seen ss ts each)) in
-    λ j. version_1 n symmetric (first j) (is_b j) (is_c j)
+    λ j. keyed restriction n symmetric (first j) (is_b j) (is_c j)
 
 -- ---- one facet more
 

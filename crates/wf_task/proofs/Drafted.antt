@@ -1,5 +1,5 @@
 -- A draft without a fault lists a task.
-use Rattle.std.proofs.Common.{◌≡◌, ℕ, suc, ◌+◌, ◌<◌, ◌≤◌, ◌==◌, Bool, true, false, not, ◌&&◌, ◌||◌, cond, nat_lt, List, [], ◌∷◌, length, map, flat_map, zip, sum_by, count_by, All, Contains, Option, None, Some, Result, Ok, slice_index_or, inl, inr, refl, sym, ap, ◌∙◌, subst, arith, ltb-false, eqb-true, eq-eqb, length-append}
+use Rattle.std.proofs.Common.{◌≡◌, ℕ, suc, ◌+◌, ◌<◌, ◌≤◌, ◌==◌, Bool, true, false, not, ◌&&◌, ◌||◌, cond, nat_lt, nat_le, List, [], ◌∷◌, length, map, flat_map, zip, sum_by, count_by, All, Contains, Option, None, Some, Result, Ok, slice_index_or, inl, inr, refl, sym, ap, ◌∙◌, subst, arith, ltb-false, leb-true, eqb-true, eq-eqb, length-append}
 use Rattle.std.specs.List.{AllByRecursion, list_any, list_all, position_from}
 use Rattle.std.specs.List.Sorted.{IsStrictlySortedBy}
 use Rattle.std.specs.declared.cmp.Ordering.TheVariants.{Less, Equal}
@@ -10,8 +10,8 @@ use Rattle.std.proofs.lemmas.List.{get_or_default, length-map}
 use Rattle.std.proofs.lemmas.List.Elements.{All-nil, All-cons, All-head, All-tail, All-get_or, All-weaker, All-map}
 use Rattle.std.proofs.lemmas.List.Sums.{sum_by-cons, sum_by-le-sum_by}
 use Rattle.wf_model.specs.Lists.{has, in_order}
-use Rattle.wf_model.specs.Simplex.{Simplex, processes_of, is_nonempty, is_ascending, parts_of, simplex_cmp, complex_of}
-use Rattle.wf_model.specs.Task.{Task, Rule, Tuple, IsTask, IsRule, IsSimplexWithin, IsComplexWithin, inputs}
+use Rattle.wf_model.specs.Simplex.{Simplex, processes_of, values_of, is_nonempty, is_ascending, parts_of, simplex_cmp, complex_of}
+use Rattle.wf_model.specs.Task.{Task, Rule, Tuple, IsTask, IsRule, IsSimplexWithin, IsComplexWithin, IsFirstBlock, inputs}
 use Rattle.wf_simplex.specs.Order.{same_simplex, same_simplex-decides, simplex_cmp-total, nat_cmp-Equal}
 use Rattle.wf_simplex.proofs.Orders.{Has, has-in_order, in_order-in_order, length-in_order, has_at_place}
 use Rattle.wf_simplex.proofs.Faces.{whole_is_part, filter-has, is_in_complex, complex_of-sorted, complex_of-complex_of}
@@ -24,43 +24,45 @@ use Rattle.wf_task.specs.declared.fault.TaskFault.TheVariants as fault
 use Rattle.wf_task.specs.Shape.{rule_of}
 use Rattle.wf_task.specs.Draft.{Listed, ◌>>=◌}
 use Rattle.wf_task.specs.Slots.{entries_in, Means, AreOf, IsOnly, AreOnly}
-use Rattle.wf_task.specs.Judge.{has_large, rule_has_large, has_colours, is_among, tuples_for, wrong_length, no_output, first_answer, refused_at, entries_judged, sizes_judged, tuples_judged, numbers_judged, rule_for, drafted}
+use Rattle.wf_task.specs.Judge.{is_first_block, has_large, rule_has_large, has_colours, is_among, tuples_for, wrong_length, no_output, first_answer, refused_at, entries_judged, sizes_judged, tuples_judged, numbers_judged, rule_for, drafted}
 use Rattle.wf_task.specs.Faultless.{ListsVertices, IsFaultless}
 use Rattle.wf_task.specs.Tuples.{IsTupleOf, AreTuples, IsRow, NamesRows, rows_at}
 use Rattle.wf_task.specs.TaskSeen.{rules_seen}
-use Rattle.wf_task.proofs.Judged.{AreJudged, are_judged, passed, passed_last, within, inputs_within, outputs_within}
+use Rattle.wf_task.proofs.Judged.{AreJudged, are_judged, passed, passed_last, within, limit_of, limit-few, inputs_within, outputs_within}
 use Rattle.wf_task.proofs.Sizes.{sum_by-map}
 use Rattle.wf_task.proofs.TupleLemmas.{lists-only, once-only, no_answer, none_passes, are_tuples}
 use Rattle.wf_task.proofs.RowLemmas.{tuple_cmp-Equal}
 
 -- ---- bounds on the listed simplices
 
-pub within_more : (n m : ℕ) (s : Simplex) → n ≤ m → IsSimplexWithin n 63 s → IsSimplexWithin m 63 s
-within_more n m s more h = record {
+pub within_more : (n k m l : ℕ) (s : Simplex) → n ≤ m → k ≤ l → IsSimplexWithin n k s → IsSimplexWithin m l s
+within_more n k m l s more larger h = record {
   is_simplex = h.is_simplex;
   processes = All-weaker (λ p. p < n) (λ p. p < m) (λ p low. omega (arith, low, more)) (processes_of s) h.processes;
-  values = h.values;
+  values = All-weaker (λ x. x ≤ k) (λ x. x ≤ l) (λ x low. omega (arith, low, larger)) (values_of s) h.values;
 }
 
-pub all_within_four : (listed : Listed) (ss : List Simplex) → AreJudged listed → All (IsSimplexWithin listed.processes 63) ss → All (IsSimplexWithin 4 63) ss
-all_within_four listed ss h all = All-weaker (IsSimplexWithin listed.processes 63) (IsSimplexWithin 4 63) (λ s. within_more listed.processes 4 s h.few) ss all
+pub all_within_four : (listed : Listed) (ss : List Simplex) → AreJudged listed → All (IsSimplexWithin listed.processes (limit_of listed)) ss → All (IsSimplexWithin 4 255) ss
+all_within_four listed ss h all =
+    All-weaker (IsSimplexWithin listed.processes (limit_of listed)) (IsSimplexWithin 4 255) (λ s. within_more listed.processes (limit_of listed) 4 255 s h.few (limit-few listed.restriction)) ss all
 
-entries_from : (n : ℕ) (rules : List Rule) → All (λ rule. is_nonempty rule.input ≡ true) rules → list_any rule_has_large rules ≡ false → list_all (λ rule. has_colours n rule.input) rules ≡ true
-    → All (λ rule. IsSimplexWithin n 63 rule.input) rules
-entries_from n [] some small colours = All-nil (λ rule. IsSimplexWithin n 63 rule.input)
-entries_from n (rule ∷ rules) some small colours =
-    All-cons (λ rule. IsSimplexWithin n 63 rule.input) rule rules
-    (within n rule.input (All-head (λ rule. is_nonempty rule.input ≡ true) rule rules some)
-    (or_parts (has_large rule.input) _ (or_parts (rule_has_large rule) (list_any rule_has_large rules) small).0).0
+entries_from : (n m : ℕ) (rules : List Rule) → All (λ rule. is_nonempty rule.input ≡ true) rules → list_any (rule_has_large m) rules ≡ false → list_all (λ rule. has_colours n rule.input) rules ≡ true
+    → All (λ rule. IsSimplexWithin n m rule.input) rules
+entries_from n m [] some small colours = All-nil (λ rule. IsSimplexWithin n m rule.input)
+entries_from n m (rule ∷ rules) some small colours =
+    All-cons (λ rule. IsSimplexWithin n m rule.input) rule rules
+    (within n m rule.input (All-head (λ rule. is_nonempty rule.input ≡ true) rule rules some)
+    (or_parts (has_large m rule.input) _ (or_parts (rule_has_large m rule) (list_any (rule_has_large m) rules) small).0).0
     (and_parts (has_colours n rule.input) (list_all (λ rule. has_colours n rule.input) rules) colours).0)
-    (entries_from n rules (All-tail (λ rule. is_nonempty rule.input ≡ true) rule rules some) (or_parts (rule_has_large rule) (list_any rule_has_large rules) small).1
+    (entries_from n m rules (All-tail (λ rule. is_nonempty rule.input ≡ true) rule rules some) (or_parts (rule_has_large m rule) (list_any (rule_has_large m) rules) small).1
     (and_parts (has_colours n rule.input) (list_all (λ rule. has_colours n rule.input) rules) colours).1)
 
-pub entries_within_four : (listed : Listed) → AreJudged listed → ListsVertices listed → All (λ rule. IsSimplexWithin 4 63 rule.input) listed.delta
+pub entries_within_four : (listed : Listed) → AreJudged listed → ListsVertices listed → All (λ rule. IsSimplexWithin 4 255 rule.input) listed.delta
 entries_within_four listed h some =
-    All-weaker (λ rule. IsSimplexWithin listed.processes 63 rule.input) (λ rule. IsSimplexWithin 4 63 rule.input) (λ rule. within_more listed.processes 4 rule.input h.few) listed.delta
-    (entries_from listed.processes listed.delta some.entries
-    (or_parts (list_any has_large listed.inputs || list_any has_large listed.outputs) (list_any rule_has_large listed.delta) h.small).1
+    let m = limit_of listed in
+    All-weaker (λ rule. IsSimplexWithin listed.processes m rule.input) (λ rule. IsSimplexWithin 4 255 rule.input) (λ rule. within_more listed.processes m 4 255 rule.input h.few (limit-few listed.restriction)) listed.delta
+    (entries_from listed.processes m listed.delta some.entries
+    (or_parts (list_any (has_large m) listed.inputs || list_any (has_large m) listed.outputs) (list_any (rule_has_large m) listed.delta) h.small).1
     (and_parts (list_all (has_colours listed.processes) listed.inputs && list_all (has_colours listed.processes) listed.outputs) (list_all (λ rule. has_colours listed.processes rule.input) listed.delta) h.colours).1)
 
 -- ---- a refusal that did not come
@@ -111,21 +113,21 @@ some_vertices : (s : Simplex) → is_nonempty s ≡ true → 1 ≤ length s
 some_vertices [] h = cc
 some_vertices (v ∷ s) h = omega arith
 
-row_from : (s : Simplex) (t : Tuple) → IsSimplexWithin 4 63 s → IsTupleOf (length s) t → IsRow t
+row_from : (s : Simplex) (t : Tuple) → IsSimplexWithin 4 255 s → IsTupleOf (length s) t → IsRow t
 row_from s t h tuple = record {
   some = omega (arith, tuple.long, some_vertices s (and_parts (is_nonempty s) (is_ascending (processes_of s)) h.is_simplex).0);
-  few = omega (arith, tuple.long, length-within 4 63 s h);
+  few = omega (arith, tuple.long, length-within 4 255 s h);
   small = tuple.small;
 }
 
-pub slots_name_rows : (slots : List Slot) (listed : Listed) (inputs : List Simplex) → AreOnly slots listed.delta inputs → AreTuples listed inputs → All (IsSimplexWithin 4 63) inputs → All (NamesRows listed.delta) slots
+pub slots_name_rows : (slots : List Slot) (listed : Listed) (inputs : List Simplex) → AreOnly slots listed.delta inputs → AreTuples listed inputs → All (IsSimplexWithin 4 255) inputs → All (NamesRows listed.delta) slots
 slots_name_rows slots listed inputs only tuples simplices = λ k d h. (let same = get_or_default slots k d Missing h in subst (NamesRows listed.delta) (sym same) (named k (omega (arith, h, only.long))))
   where
     named : (k : ℕ) → k < length inputs → NamesRows listed.delta (slice_index_or slots k Missing)
     named k inside = record {
       once = once-only slots listed.delta inputs k only inside;
       rows = subst (All IsRow) (sym (lists-only slots listed.delta inputs k only inside))
-          (All-weaker (IsTupleOf (length (slice_index_or inputs k []))) IsRow (λ t. row_from (slice_index_or inputs k []) t (All-get_or (IsSimplexWithin 4 63) inputs k [] inside simplices)) (tuples_for listed (slice_index_or inputs k [])) (tuples.each k inside));
+          (All-weaker (IsTupleOf (length (slice_index_or inputs k []))) IsRow (λ t. row_from (slice_index_or inputs k []) t (All-get_or (IsSimplexWithin 4 255) inputs k [] inside simplices)) (tuples_for listed (slice_index_or inputs k [])) (tuples.each k inside));
     }
 
 same_maps : {X Y Z : Type 0} (f : X → Z) (g : Y → Z) (d : X) (e : Y) (xs : List X) (ys : List Y) → length xs ≡ length ys → ((i : ℕ) → i < length ys → f (slice_index_or xs i d) ≡ g (slice_index_or ys i e)) → map f xs ≡ map g ys
@@ -284,8 +286,12 @@ some_faces [] some h = cc
 some_faces (s ∷ ss) some h =
     has-some s (complex_of (s ∷ ss)) (is_in_complex s s (s ∷ ss) (inl refl) (filter-has is_nonempty s (parts_of s) (whole_is_part s) (All-head (λ s. is_nonempty s ≡ true) s ss some)))
 
-pub complex_is : (n : ℕ) (facets : List Simplex) → All (IsSimplexWithin n 63) facets → IsComplexWithin n 63 (complex_of facets)
-complex_is n facets h = record { is_complex = complex_of-complex_of facets; within = complex_within n 63 facets h }
+pub complex_is : (n largest : ℕ) (facets : List Simplex) → All (IsSimplexWithin n largest) facets → IsComplexWithin n largest (complex_of facets)
+complex_is n largest facets h = record { is_complex = complex_of-complex_of facets; within = complex_within n largest facets h }
+
+first_block_is : (o : Option ℕ) → is_first_block o ≡ true → IsFirstBlock o
+first_block_is None h = tt
+first_block_is (Some m) h = let both = and_parts (nat_le 1 m) (nat_le m 4) h in (leb-true 1 m both.0, leb-true m 4 both.1)
 
 pub drafted_is_task : (listed : Listed) → IsFaultless listed → IsTask (drafted listed)
 drafted_is_task listed h =
@@ -293,12 +299,12 @@ drafted_is_task listed h =
     let numbers = are_judged listed tt h.numbers in
     let few = are_few listed complex tt h.sizes in
     let same = same_inputs listed complex in
-    let inside = complex_is listed.processes listed.inputs (inputs_within listed numbers h.vertices.inputs) in
+    let inside = complex_is listed.processes (limit_of listed) listed.inputs (inputs_within listed numbers h.vertices.inputs) in
     record {
       process_count = (numbers.some, numbers.few);
-      restriction_within = tt;
-      input_complex = subst (IsComplexWithin listed.processes 63) (sym same) inside;
-      output_complex = complex_is listed.processes listed.outputs (outputs_within listed numbers h.vertices.outputs);
+      restriction_within = first_block_is listed.restriction h.first_block;
+      input_complex = subst (IsComplexWithin listed.processes (limit_of listed)) (sym same) inside;
+      output_complex = complex_is listed.processes (limit_of listed) listed.outputs (outputs_within listed numbers h.vertices.outputs);
       rules_within = rules_are_rules listed complex (are_outputs listed complex tt numbers h.tuples);
       some_input = omega (arith, some_faces listed.inputs h.vertices.inputs h.input, length-map complex (rule_for listed));
       few_vertices = omega (arith, ap (count_by (λ s. length s == 1)) same, few.vertices);
@@ -338,7 +344,7 @@ pub slots_of_faultless : (listed : Listed) (slots : List Slot) (inputs : List Si
 slots_of_faultless listed slots inputs h is of =
     let numbers = are_judged listed tt h.numbers in
     slots_name_rows slots listed (complex_of listed.inputs) (only_of listed slots h (subst (AreOf slots listed.delta) is of)) (are_outputs listed (complex_of listed.inputs) tt numbers h.tuples).tuples
-    (complex_within 4 63 listed.inputs (all_within_four listed listed.inputs numbers (inputs_within listed numbers h.vertices.inputs)))
+    (complex_within 4 255 listed.inputs (all_within_four listed listed.inputs numbers (inputs_within listed numbers h.vertices.inputs)))
 
 pub rows_of_faultless : (listed : Listed) (slots : List Slot) (inputs : List Simplex) (rows : List (List Tuple)) → IsFaultless listed → inputs ≡ complex_of listed.inputs → AreOf slots listed.delta inputs
     → rows ≡ map (rows_at listed.delta) slots → length rows ≡ length inputs
@@ -350,18 +356,19 @@ pub rules_of_faultless : (listed : Listed) (slots : List Slot) (inputs : List Si
 rules_of_faultless listed slots inputs rows h is of made =
     ap (λ ss. rules_seen ss rows) is ∙ rules_are slots listed (complex_of listed.inputs) rows (only_of listed slots h (subst (AreOf slots listed.delta) is of)) made
 
-pub task_is : (listed : Listed) (rules : List Rule) (outputs : List Simplex) (t : Task) → t ≡ record { processes = listed.processes; symmetric = listed.symmetric; restriction = None; rules = rules; outputs = outputs }
+pub task_is : (listed : Listed) (rules : List Rule) (outputs : List Simplex) (t : Task) → t ≡ record { processes = listed.processes; symmetric = listed.symmetric; restriction = listed.restriction; rules = rules; outputs = outputs }
     → rules ≡ (drafted listed).rules → outputs ≡ complex_of listed.outputs → t ≡ drafted listed
 task_is listed rules outputs t is same complex =
-    is ∙ (λ j. record { processes = listed.processes; symmetric = listed.symmetric; restriction = None; rules = same j; outputs = complex j })
+    is ∙ (λ j. record { processes = listed.processes; symmetric = listed.symmetric; restriction = listed.restriction; rules = same j; outputs = complex j })
 
 pub faultless : (listed : Listed) (inputs : List Simplex) (a b c d : Unit {0}) → ListsVertices listed → numbers_judged listed ≡ Ok a → inputs ≡ complex_of listed.inputs → sizes_judged listed inputs ≡ Ok b
-    → entries_judged listed inputs ≡ Ok c → tuples_judged listed inputs ≡ Ok d → (length listed.inputs == 0) ≡ false → IsFaultless listed
-faultless listed inputs a b c d vertices numbers is sizes entries tuples some = record {
+    → entries_judged listed inputs ≡ Ok c → tuples_judged listed inputs ≡ Ok d → (length listed.inputs == 0) ≡ false → is_first_block listed.restriction ≡ true → IsFaultless listed
+faultless listed inputs a b c d vertices numbers is sizes entries tuples some first = record {
   vertices = vertices;
   numbers = numbers;
   sizes = subst (λ ss. sizes_judged listed ss ≡ Ok tt) is sizes;
   entries = subst (λ ss. entries_judged listed ss ≡ Ok tt) is entries;
   tuples = subst (λ ss. tuples_judged listed ss ≡ Ok tt) is tuples;
   input = some;
+  first_block = first;
 }

@@ -151,11 +151,11 @@ among-absent inputs s none = by inputs (λ h. none (has_at_place s inputs h))
     by [] h = refl
     by (t ∷ ts) h = rw (different s t (λ e. h (inl (sym e)))) (by ts (λ g. h (inr g)))
 
-pub entry_within : (delta : List Entry) (i : ℕ) (e : Entry) → i < length delta → e ≡ slice_index_or delta i e → All (λ rule. IsSimplexWithin 4 63 rule.input) (map entry_seen delta) → IsSimplexWithin 4 63 (entry_seen e).input
+pub entry_within : (delta : List Entry) (i : ℕ) (e : Entry) → i < length delta → e ≡ slice_index_or delta i e → All (λ rule. IsSimplexWithin 4 255 rule.input) (map entry_seen delta) → IsSimplexWithin 4 255 (entry_seen e).input
 entry_within delta i e inside is all =
     let shorter : i < length (map entry_seen delta) = omega (arith, length-map delta entry_seen) in
-    let within = All-get_or (λ rule. IsSimplexWithin 4 63 rule.input) (map entry_seen delta) i (entry_seen e) shorter all in
-    subst (λ rule. IsSimplexWithin 4 63 rule.input) (get_or-map entry_seen delta i e (entry_seen e) inside ∙ ap entry_seen (sym is)) within
+    let within = All-get_or (λ rule. IsSimplexWithin 4 255 rule.input) (map entry_seen delta) i (entry_seen e) shorter all in
+    subst (λ rule. IsSimplexWithin 4 255 rule.input) (get_or-map entry_seen delta i e (entry_seen e) inside ∙ ap entry_seen (sym is)) within
 
 pub entry_at : (delta : List Entry) (i : ℕ) (e : Entry) → i < length delta → e ≡ slice_index_or delta i e → drop i delta ≡ e ∷ drop (i + 1) delta
 entry_at delta i e inside is = rw add-one (drop-cons delta i e inside ∙ ap (λ f. f ∷ drop (suc i) delta) (sym is))

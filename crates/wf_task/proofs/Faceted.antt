@@ -63,10 +63,10 @@ among-part (v ∷ s) (w ∷ t) h g all = by (all v (inl refl)) (λ more. among-p
         outside : (u : Vertex) → Has u (v ∷ s) → Has u (w ∷ t) → Has u t
         outside u j there = beyond w.0 refl u there (low u j)
 
-ascends-within : (s : Simplex) → IsSimplexWithin 4 63 s → Ascends (processes_of s)
+ascends-within : (s : Simplex) → IsSimplexWithin 4 255 s → Ascends (processes_of s)
 ascends-within s h = ascends_from (processes_of s) (and_parts (is_nonempty s) (is_ascending (processes_of s)) h.is_simplex).1
 
-pub face-part : (s t : Simplex) → IsSimplexWithin 4 63 s → IsSimplexWithin 4 63 t → is_face s t ≡ true → Has s (parts_of t)
+pub face-part : (s t : Simplex) → IsSimplexWithin 4 255 s → IsSimplexWithin 4 255 t → is_face s t ≡ true → Has s (parts_of t)
 face-part s t h g face =
     among-part s t (ascends-within s h) (ascends-within t g) (all-vertices s t (and_parts (is_nonempty s) (list_all (λ v. list_any (same_vertex v) t) s) face).1)
 
@@ -90,8 +90,8 @@ pub record IsOuter (complex : List Simplex) (s t : Simplex) : Type 0 where
   pub larger : length s < length t
 
 module _ (complex : List Simplex) (h : IsComplex complex) where
-  pub within-complex : (s : Simplex) → Has s complex → IsSimplexWithin 4 63 s
-  within-complex s here = has_of_all (IsSimplexWithin 4 63) s complex h.within here
+  pub within-complex : (s : Simplex) → Has s complex → IsSimplexWithin 4 255 s
+  within-complex s here = has_of_all (IsSimplexWithin 4 255) s complex h.within here
 
   nonempty-complex : (s : Simplex) → Has s complex → is_nonempty s ≡ true
   nonempty-complex s here = (and_parts (is_nonempty s) (is_ascending (processes_of s)) (within-complex s here).is_simplex).0
@@ -111,7 +111,7 @@ module _ (complex : List Simplex) (h : IsComplex complex) where
 
   -- each simplex is a face of a facet; the fuel is how many vertices larger ones may have
   facet-of : (fuel : ℕ) (s : Simplex) → Has s complex → 5 ≤ length s + fuel → (f : Simplex) × Has f (facets complex) × Has s (faces_of f)
-  facet-of zero s here enough = absurd (let none : ⊥ = omega (arith, enough, length-within 4 63 s (within-complex s here)) in none)
+  facet-of zero s here enough = absurd (let none : ⊥ = omega (arith, enough, length-within 4 255 s (within-complex s here)) in none)
   facet-of (suc fuel) s here enough = by (is_inner complex s) refl (λ t there more. facet-of fuel t there more)
     where
       by : (b : Bool) → is_inner complex s ≡ b → ((t : Simplex) → Has t complex → 5 ≤ length t + fuel → (f : Simplex) × Has f (facets complex) × Has t (faces_of f)) → (f : Simplex) × Has f (facets complex) × Has s (faces_of f)
@@ -208,5 +208,5 @@ length-complex complex h =
       arith,
       ap length (complex_of-facets complex h),
       length-in_order simplex_cmp (flat_map faces_of (facets complex)),
-      few_faces (facets complex) (λ s g. length-within 4 63 s (within-complex complex h s (has-filter (λ u. not (is_inner complex u)) s complex g).0)),
+      few_faces (facets complex) (λ s g. length-within 4 255 s (within-complex complex h s (has-filter (λ u. not (is_inner complex u)) s complex g).0)),
     )

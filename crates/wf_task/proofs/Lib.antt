@@ -24,3 +24,4 @@ pub mod CanonicalLoops
 pub mod OneMore
 pub mod Lengths
 pub mod Back
+pub mod Restriction

@@ -30,17 +30,17 @@ more_than_left f g xs i x left most h is all more =
 
 -- ---- the pairs of a simplex
 
-pub process_below : (s : Simplex) (i : ℕ) → IsSimplexWithin 4 63 s → i < length s → (slice_index_or s i (0, 0)).0 < 4
+pub process_below : (s : Simplex) (i : ℕ) → IsSimplexWithin 4 255 s → i < length s → (slice_index_or s i (0, 0)).0 < 4
 process_below s i h inside =
     let shorter : i < length (processes_of s) = omega (arith, length-map s (λ (v : ℕ × ℕ). v.0)) in
     let small = All-get_or (λ p. p < 4) (processes_of s) i 0 shorter h.processes in
     let same = get_or-map (λ (v : ℕ × ℕ). v.0) s i (0, 0) 0 inside in
     omega (arith, small, same)
 
-pub value_below : (s : Simplex) (i : ℕ) → IsSimplexWithin 4 63 s → i < length s → (slice_index_or s i (0, 0)).1 ≤ 63
+pub value_below : (s : Simplex) (i : ℕ) → IsSimplexWithin 4 255 s → i < length s → (slice_index_or s i (0, 0)).1 ≤ 255
 value_below s i h inside =
     let shorter : i < length (values_of s) = omega (arith, length-map s (λ (v : ℕ × ℕ). v.1)) in
-    let small = All-get_or (λ x. x ≤ 63) (values_of s) i 0 shorter h.values in
+    let small = All-get_or (λ x. x ≤ 255) (values_of s) i 0 shorter h.values in
     let same = get_or-map (λ (v : ℕ × ℕ). v.1) s i (0, 0) 0 inside in
     omega (arith, small, same)
 
@@ -51,8 +51,8 @@ copied small s i h k same =
     take_more_set small i (pair.0, pair.1) h ∙ ap (λ t. t ++ (pair ∷ [])) same ∙ sym (take_more s i (0, 0) k)
 
 -- each listed simplex is within the bounds
-pub seen_within : (listed : List ListedSimplex) (i : ℕ) (s : ListedSimplex) → i < length listed → s ≡ slice_index_or listed i s → All (IsSimplexWithin 4 63) (map pairs_seen listed) → IsSimplexWithin 4 63 (pairs_seen s)
+pub seen_within : (listed : List ListedSimplex) (i : ℕ) (s : ListedSimplex) → i < length listed → s ≡ slice_index_or listed i s → All (IsSimplexWithin 4 255) (map pairs_seen listed) → IsSimplexWithin 4 255 (pairs_seen s)
 seen_within listed i s inside is all =
     let shorter : i < length (map pairs_seen listed) = omega (arith, length-map listed pairs_seen) in
-    let within = All-get_or (IsSimplexWithin 4 63) (map pairs_seen listed) i (pairs_seen s) shorter all in
-    subst (IsSimplexWithin 4 63) (get_or-map pairs_seen listed i s (pairs_seen s) inside ∙ ap pairs_seen (sym is)) within
+    let within = All-get_or (IsSimplexWithin 4 255) (map pairs_seen listed) i (pairs_seen s) shorter all in
+    subst (IsSimplexWithin 4 255) (get_or-map pairs_seen listed i s (pairs_seen s) inside ∙ ap pairs_seen (sym is)) within

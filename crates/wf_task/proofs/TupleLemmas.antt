@@ -2,7 +2,7 @@
 use Rattle.std.proofs.Common.{◌≡◌, ℕ, zero, suc, ◌+◌, ◌<◌, ◌≤◌, Bool, true, false, ◌||◌, List, [], ◌∷◌, length, map, take, zip, All, slice_index_or, slice_set, Some, None, Option, drop, drop-cons, flat_map, append-nil, add-one, ◌==◌, not, cond, eqb-true, refl, sym, ap, ap₂, ◌∙◌, subst, arith}
 use Rattle.std.specs.List.{position_from, list_any}
 use Rattle.std.proofs.lemmas.List.{get_or_default, get_or-map, length-map}
-use Rattle.std.proofs.lemmas.List.Elements.{All-nil, All-cons, All-head, All-tail, All-append, All-get_or}
+use Rattle.std.proofs.lemmas.List.Elements.{All-nil, All-cons, All-head, All-tail, All-append, All-get_or, All-weaker}
 use Rattle.wf_model.specs.Simplex.{Simplex, processes_of, values_of, is_nonempty, is_ascending, complex_of}
 use Rattle.wf_model.specs.Task.{Rule, Tuple, IsSimplexWithin}
 use Rattle.wf_simplex.specs.Order.{same_simplex}
@@ -14,7 +14,7 @@ use Rattle.wf_task.specs.Shape.{rule_of}
 use Rattle.wf_task.specs.Slots.{entries_in, lists_at, IsOnly, IsOnceBelow, AreOnly}
 use Rattle.wf_task.specs.Judge.{is_large, has_large, rule_has_large, some_large, is_among, tuples_for, wrong_length, no_output, answer_or, first_answer}
 use Rattle.wf_task.specs.Tuples.{IsTupleOf, AreTuples}
-use Rattle.wf_task.proofs.Judged.{small_values}
+use Rattle.wf_task.proofs.Judged.{small_values, limit_of, limit-few}
 use Rattle.wf_task.proofs.Sizes.{copied}
 
 -- ---- the simplex on some processes with these values
@@ -42,13 +42,13 @@ nonempty-zip [] xs h some = cc
 nonempty-zip (v ∷ s) [] h some = absurd (let none : ⊥ = omega (arith, h) in none)
 nonempty-zip (v ∷ s) (x ∷ xs) h some = refl
 
-pub zip_within : (n : ℕ) (s : Simplex) (xs : List ℕ) → IsSimplexWithin n 63 s → IsTupleOf (length s) xs → IsSimplexWithin n 63 (zip (processes_of s) xs)
+pub zip_within : (n : ℕ) (s : Simplex) (xs : List ℕ) → IsSimplexWithin n 255 s → IsTupleOf (length s) xs → IsSimplexWithin n 255 (zip (processes_of s) xs)
 zip_within n s xs h tuple = record {
   is_simplex = and_from (is_nonempty (zip (processes_of s) xs)) (is_ascending (processes_of (zip (processes_of s) xs)))
       (nonempty-zip s xs tuple.long (and_parts (is_nonempty s) (is_ascending (processes_of s)) h.is_simplex).0)
       (ap is_ascending (processes-zip s xs tuple.long) ∙ (and_parts (is_nonempty s) (is_ascending (processes_of s)) h.is_simplex).1);
   processes = subst (All (λ p. p < n)) (sym (processes-zip s xs tuple.long)) h.processes;
-  values = subst (All (λ x. x ≤ 63)) (sym (values-zip s xs tuple.long)) tuple.small;
+  values = subst (All (λ x. x ≤ 255)) (sym (values-zip s xs tuple.long)) tuple.small;
 }
 
 zip_at : (s : Simplex) (xs : List ℕ) (i : ℕ) → i < length s → length xs ≡ length s → slice_index_or (zip (processes_of s) xs) i (0, 0) ≡ (slice_index_or (processes_of s) i 0, slice_index_or xs i 0)
@@ -153,33 +153,36 @@ none_passes {X = X} p n (x ∷ xs) h = by (λ g. none_passes p (n + 1) xs g) (p 
 
 -- ---- value lists without a fault are tuples
 
-lists_small : (ts : List Tuple) → list_any (list_any is_large) ts ≡ false → All (All (λ x. x ≤ 63)) ts
-lists_small [] h = All-nil (All (λ x. x ≤ 63))
-lists_small (t ∷ ts) h =
-    All-cons (All (λ x. x ≤ 63)) t ts (small_values t (or_parts (list_any is_large t) (list_any (list_any is_large) ts) h).0) (lists_small ts (or_parts (list_any is_large t) (list_any (list_any is_large) ts) h).1)
+lists_small : (m : ℕ) (ts : List Tuple) → m ≤ 255 → list_any (list_any (is_large m)) ts ≡ false → All (All (λ x. x ≤ 255)) ts
+lists_small m [] few h = All-nil (All (λ x. x ≤ 255))
+lists_small m (t ∷ ts) few h =
+    All-cons (All (λ x. x ≤ 255)) t ts
+    (All-weaker (λ x. x ≤ m) (λ x. x ≤ 255) (λ x low. omega (arith, low, few)) t (small_values m t (or_parts (list_any (is_large m) t) (list_any (list_any (is_large m)) ts) h).0))
+    (lists_small m ts few (or_parts (list_any (is_large m) t) (list_any (list_any (is_large m)) ts) h).1)
 
-tuples_small : (rules : List Rule) (s : Simplex) → list_any rule_has_large rules ≡ false → All (All (λ x. x ≤ 63)) (flat_map (λ rule. rule.tuples) (entries_in rules s))
-tuples_small [] s h = All-nil (All (λ x. x ≤ 63))
-tuples_small (rule ∷ rules) s h =
+tuples_small : (m : ℕ) (rules : List Rule) (s : Simplex) → m ≤ 255 → list_any (rule_has_large m) rules ≡ false → All (All (λ x. x ≤ 255)) (flat_map (λ rule. rule.tuples) (entries_in rules s))
+tuples_small m [] s few h = All-nil (All (λ x. x ≤ 255))
+tuples_small m (rule ∷ rules) s few h =
     by (same_simplex rule.input s)
-    (lists_small rule.tuples (or_parts (has_large rule.input) (list_any (list_any is_large) rule.tuples) (or_parts (rule_has_large rule) (list_any rule_has_large rules) h).0).1)
-    (tuples_small rules s (or_parts (rule_has_large rule) (list_any rule_has_large rules) h).1)
+    (lists_small m rule.tuples few (or_parts (has_large m rule.input) (list_any (list_any (is_large m)) rule.tuples) (or_parts (rule_has_large m rule) (list_any (rule_has_large m) rules) h).0).1)
+    (tuples_small m rules s few (or_parts (rule_has_large m rule) (list_any (rule_has_large m) rules) h).1)
   where
-    by : (b : Bool) → All (All (λ x. x ≤ 63)) rule.tuples → All (All (λ x. x ≤ 63)) (flat_map (λ rule. rule.tuples) (entries_in rules s))
-        → All (All (λ x. x ≤ 63)) (flat_map (λ rule. rule.tuples) (cond b (rule ∷ entries_in rules s) (entries_in rules s)))
-    by true here rest = All-append (All (λ x. x ≤ 63)) rule.tuples (flat_map (λ rule. rule.tuples) (entries_in rules s)) here rest
+    by : (b : Bool) → All (All (λ x. x ≤ 255)) rule.tuples → All (All (λ x. x ≤ 255)) (flat_map (λ rule. rule.tuples) (entries_in rules s))
+        → All (All (λ x. x ≤ 255)) (flat_map (λ rule. rule.tuples) (cond b (rule ∷ entries_in rules s) (entries_in rules s)))
+    by true here rest = All-append (All (λ x. x ≤ 255)) rule.tuples (flat_map (λ rule. rule.tuples) (entries_in rules s)) here rest
     by false here rest = rest
 
-both : (n : ℕ) (ts : List Tuple) → All (λ t. not (length t == n) ≡ false) ts → All (All (λ x. x ≤ 63)) ts → All (IsTupleOf n) ts
+both : (n : ℕ) (ts : List Tuple) → All (λ t. not (length t == n) ≡ false) ts → All (All (λ x. x ≤ 255)) ts → All (IsTupleOf n) ts
 both n [] long small = All-nil (IsTupleOf n)
 both n (t ∷ ts) long small =
     All-cons (IsTupleOf n) t ts
-    (record { long = eqb-true (length t) n (not-false (length t == n) (All-head (λ t. not (length t == n) ≡ false) t ts long)); small = All-head (All (λ x. x ≤ 63)) t ts small })
-    (both n ts (All-tail (λ t. not (length t == n) ≡ false) t ts long) (All-tail (All (λ x. x ≤ 63)) t ts small))
+    (record { long = eqb-true (length t) n (not-false (length t == n) (All-head (λ t. not (length t == n) ≡ false) t ts long)); small = All-head (All (λ x. x ≤ 255)) t ts small })
+    (both n ts (All-tail (λ t. not (length t == n) ≡ false) t ts long) (All-tail (All (λ x. x ≤ 255)) t ts small))
 
 pub are_tuples : (listed : Listed) (inputs : List Simplex) → first_answer (wrong_length listed) 0 inputs ≡ None → some_large listed ≡ false → AreTuples listed inputs
 are_tuples listed inputs none small = record {
   each = λ i inside. both (length (slice_index_or inputs i [])) (tuples_for listed (slice_index_or inputs i []))
       (none_passes (λ tuple. not (length tuple == length (slice_index_or inputs i []))) 0 (tuples_for listed (slice_index_or inputs i [])) (no_answer (wrong_length listed) 0 inputs none i inside))
-      (tuples_small listed.delta (slice_index_or inputs i []) (or_parts (list_any has_large listed.inputs || list_any has_large listed.outputs) (list_any rule_has_large listed.delta) small).1);
+      (let m = limit_of listed in
+      tuples_small m listed.delta (slice_index_or inputs i []) (limit-few listed.restriction) (or_parts (list_any (has_large m) listed.inputs || list_any (has_large m) listed.outputs) (list_any (rule_has_large m) listed.delta) small).1);
 }

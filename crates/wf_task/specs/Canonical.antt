@@ -1,5 +1,5 @@
 -- The canonical text of a task.
-use Rattle.std.specs.Prelude.{◌≡◌, ℕ, ◌≤◌, ◌&&◌, nat_lt, Bool, not, List, [], ◌∷◌, map, filter, length, Option, Some, None, codes}
+use Rattle.std.specs.Prelude.{ℕ, ◌≤◌, ◌&&◌, nat_lt, Bool, not, List, [], ◌∷◌, map, filter, length, Option, Some, None, codes}
 use Rattle.std.specs.List.{list_any}
 use Rattle.serde_json.specs.Data.{Data, number, unsigned, boolean, array, object, Members, no_members, member}
 use Rattle.serde_json.specs.View.{items_of}
@@ -10,6 +10,10 @@ use Rattle.wf_simplex.specs.Faces.{IsComplex}
 use Rattle.wf_task.specs.Draft.{Listed}
 
 -- ---- what it lists
+
+abbrev pub version_of : Option ℕ → ℕ
+version_of None = 1
+version_of (Some m) = 2
 
 -- whether a simplex is a proper face of one of these
 abbrev pub is_inner : List Simplex → Simplex → Bool
@@ -26,7 +30,8 @@ HasFewFacets complex = length (facets complex) ≤ 65536
 -- the facets of the inputs and outputs, and an entry for each input simplex
 abbrev pub listed_of : Task → Listed
 listed_of t = record {
-  version = 1;
+  version = version_of t.restriction;
+  restriction = t.restriction;
   processes = t.processes;
   symmetric = t.symmetric;
   inputs = facets (inputs t);
@@ -59,38 +64,29 @@ abbrev pub with_first_block : Option ℕ → Members → Members
 with_first_block None ms = ms
 with_first_block (Some m) ms = member (codes "first_block") (number_data m) ms
 
-abbrev pub version_of : Option ℕ → ℕ
-version_of None = 1
-version_of (Some m) = 2
-
--- the value of a task of version 1, by the values of its parts
-abbrev pub version_1 : ℕ → Bool → Data → Data → Data → Data
-version_1 n symmetric inputs outputs delta =
+-- the value of a task by the values of its parts, its keys in alphabetical order
+abbrev pub keyed : Option ℕ → ℕ → Bool → Data → Data → Data → Data
+keyed restriction n symmetric inputs outputs delta =
     object (member (codes "delta") delta
+    (with_first_block restriction
     (member (codes "inputs") inputs
     (member (codes "outputs") outputs
     (member (codes "processes") (number_data n)
     (member (codes "symmetric") (boolean symmetric)
-    (member (codes "version") (number_data 1) no_members))))))
+    (member (codes "version") (number_data (version_of restriction)) no_members)))))))
 
--- the value of the canonical text, its keys in alphabetical order
+-- the value of the canonical text
 abbrev pub task_data : Task → Data
 task_data t =
-    object (member (codes "delta") (list_data rule_data t.rules)
-    (with_first_block t.restriction
-    (member (codes "inputs") (list_data simplex_data (facets (inputs t)))
-    (member (codes "outputs") (list_data simplex_data (facets t.outputs))
-    (member (codes "processes") (number_data t.processes)
-    (member (codes "symmetric") (boolean t.symmetric)
-    (member (codes "version") (number_data (version_of t.restriction)) no_members)))))))
+    keyed t.restriction t.processes t.symmetric (list_data simplex_data (facets (inputs t)))
+    (list_data simplex_data (facets t.outputs)) (list_data rule_data t.rules)
 
 -- compact JSON: no space anywhere
 unfoldable pub canonical_text : Task → List ℕ
 canonical_text t = compact_text (task_data t)
 
--- a task that a text can list: of version 1, with no more outputs than a text may list
+-- a task that a text can list: with no more outputs than a text may list
 pub record IsListable (t : Task) : Type 0 where
   pub task : IsTask t
-  pub unrestricted : t.restriction ≡ None
   pub few : HasFewFacets t.outputs
   pub outputs : IsComplex t.outputs

@@ -1,7 +1,7 @@
 -- How a refusal is printed: its number, its name, and what it carries.
 use Rattle.std.specs.Prelude.{ℕ, List, ◌∷◌, ◌++◌, codes, decimal}
 use Rattle.wf_task.specs.declared.fault.Key.{Key}
-use Rattle.wf_task.specs.declared.fault.Key.TheVariants.{Whole, Version, Processes, Symmetric, Inputs, Outputs, Delta, Other}
+use Rattle.wf_task.specs.declared.fault.Key.TheVariants.{Whole, Version, FirstBlock, Processes, Symmetric, Inputs, Outputs, Delta, Other}
 use Rattle.wf_task.specs.declared.fault.Limit.{Limit}
 use Rattle.wf_task.specs.declared.fault.Limit.TheVariants as limit
 use Rattle.wf_task.specs.declared.fault.TaskFault.{TaskFault}
@@ -10,6 +10,7 @@ use Rattle.wf_task.specs.declared.fault.TaskFault.TheVariants as fault
 abbrev pub key_text : Key → List ℕ
 key_text Whole = codes "whole"
 key_text Version = codes "version"
+key_text FirstBlock = codes "first_block"
 key_text Processes = codes "processes"
 key_text Symmetric = codes "symmetric"
 key_text Inputs = codes "inputs"
@@ -46,3 +47,4 @@ fault_text (fault.OutLength simplex place) = with_two (codes "12 OutLength") (de
 fault_text (fault.OutStray simplex place) = with_two (codes "13 OutStray") (decimal simplex) (decimal place)
 fault_text fault.NoInput = codes "14 NoInput"
 fault_text fault.OutOfMemory = codes "15 OutOfMemory"
+fault_text fault.FirstBlock = codes "18 FirstBlock"

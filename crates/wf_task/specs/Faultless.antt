@@ -2,7 +2,7 @@
 use Rattle.std.specs.Prelude.{◌≡◌, ◌≤◌, ◌==◌, true, false, All, length, Ok}
 use Rattle.wf_model.specs.Simplex.{is_nonempty, complex_of}
 use Rattle.wf_task.specs.Draft.{Listed}
-use Rattle.wf_task.specs.Judge.{numbers_judged, sizes_judged, entries_judged, tuples_judged}
+use Rattle.wf_task.specs.Judge.{is_first_block, numbers_judged, sizes_judged, entries_judged, tuples_judged}
 
 -- each listed simplex has a vertex
 pub record ListsVertices (listed : Listed) : Type 0 where
@@ -24,3 +24,4 @@ pub record IsFaultless (listed : Listed) : Type 0 where
   pub entries : entries_judged listed (complex_of listed.inputs) ≡ Ok tt
   pub tuples : tuples_judged listed (complex_of listed.inputs) ≡ Ok tt
   pub input : (length listed.inputs == 0) ≡ false
+  pub first_block : is_first_block listed.restriction ≡ true

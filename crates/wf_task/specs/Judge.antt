@@ -1,4 +1,4 @@
--- The task that a draft lists, or its first fault: the refusals 4 to 14, in this order.
+-- The task that a draft lists, or its first fault: the refusals 4 to 14 and 18, in this order.
 use Rattle.std.specs.Prelude.{ℕ, ◌+◌, ◌==◌, ◌&&◌, ◌||◌, nat_lt, nat_le, Bool, true, false, not, List, [], ◌∷◌, map, flat_map, length, zip, sum_by, count_by, Option, Some, None, Result, Ok, Err, if◌then◌else◌}
 use Rattle.std.specs.List.{list_any, list_all, position_from}
 use Rattle.std.specs.Ordering.{nat_cmp}
@@ -6,7 +6,7 @@ use Rattle.std.specs.Cmp.Lexicographic.{slice_cmp}
 use Rattle.serde_json.specs.Data.{Data}
 use Rattle.wf_model.specs.Lists.{in_order}
 use Rattle.wf_model.specs.Simplex.{Simplex, processes_of, values_of, is_ascending, complex_of}
-use Rattle.wf_model.specs.Task.{Task, Rule, Tuple}
+use Rattle.wf_model.specs.Task.{Task, Rule, Tuple, largest_value}
 use Rattle.wf_simplex.specs.Order.{same_simplex}
 use Rattle.wf_task.specs.declared.fault.Limit.TheVariants as limit
 use Rattle.wf_task.specs.declared.fault.TaskFault.{TaskFault}
@@ -18,19 +18,28 @@ use Rattle.wf_task.specs.declared.task.TheConstants.{LONGEST}
 
 -- ---- what is asked
 
--- a value above 63
-abbrev pub is_large : ℕ → Bool
-is_large x = nat_lt 63 x
+-- a value above the largest
+abbrev pub is_large : ℕ → ℕ → Bool
+is_large largest x = nat_lt largest x
 
-abbrev pub has_large : Simplex → Bool
-has_large s = list_any is_large (values_of s)
+abbrev pub has_large : ℕ → Simplex → Bool
+has_large largest s = list_any (is_large largest) (values_of s)
 
-abbrev pub rule_has_large : Rule → Bool
-rule_has_large rule = has_large rule.input || list_any (list_any is_large) rule.tuples
+abbrev pub rule_has_large : ℕ → Rule → Bool
+rule_has_large largest rule = has_large largest rule.input || list_any (list_any (is_large largest)) rule.tuples
 
 -- some value in the inputs, the outputs or the entries is too large
+abbrev pub has_large_at : ℕ → Listed → Bool
+has_large_at largest listed = list_any (has_large largest) listed.inputs || list_any (has_large largest) listed.outputs
+    || list_any (rule_has_large largest) listed.delta
+
 abbrev pub some_large : Listed → Bool
-some_large listed = list_any has_large listed.inputs || list_any has_large listed.outputs || list_any rule_has_large listed.delta
+some_large listed = has_large_at (largest_value listed.restriction) listed
+
+-- the first block has at least 1 to 4 participants
+abbrev pub is_first_block : Option ℕ → Bool
+is_first_block None = true
+is_first_block (Some m) = nat_le 1 m && nat_le m 4
 
 -- the processes strictly ascend and are below n
 abbrev pub has_colours : ℕ → Simplex → Bool
@@ -82,7 +91,7 @@ refused_at (Some at) e = Err (e at)
 -- 4 to 7: of the listed numbers alone
 unfoldable pub numbers_judged : Listed → Result (Unit {0}) TaskFault
 numbers_judged listed = do
-  version ← refused_if (not (listed.version == 1)) fault.Version
+  version ← refused_if (not (listed.version == 1 || listed.version == 2)) fault.Version
   processes ← refused_if (not (nat_le 1 listed.processes && nat_le listed.processes 4)) fault.Processes
   value ← refused_if (some_large listed) fault.Value
   refused_if (not (all_colours listed)) fault.Colours
@@ -119,7 +128,7 @@ abbrev pub drafted : Listed → Task
 drafted listed = record {
   processes = listed.processes;
   symmetric = listed.symmetric;
-  restriction = None;
+  restriction = listed.restriction;
   rules = map (rule_for listed) (complex_of listed.inputs);
   outputs = complex_of listed.outputs;
 }
@@ -131,6 +140,7 @@ judged listed = do
   entries ← entries_judged listed (complex_of listed.inputs)
   tuples ← tuples_judged listed (complex_of listed.inputs)
   input ← refused_if (length listed.inputs == 0) fault.NoInput
+  first_block ← refused_if (not (is_first_block listed.restriction)) fault.FirstBlock
   Ok (drafted listed)
 
 -- the task of a JSON value, or the first fault

@@ -1,8 +1,12 @@
--- Values as the bits of a number.
-use Rattle.std.specs.Prelude.{◌≡◌, ℕ, ◌<◌, ◌↔◌, true, List}
-use Rattle.std.specs.Int.{bit_at}
+-- Sets that hold the values of a list.
+use Rattle.std.specs.Prelude.{◌≡◌, ◌||◌, ℕ, List}
 use Rattle.wf_model.specs.Lists.{has}
+use Rattle.wf_set.specs.Sets.{values_in}
 
--- bit v of the mask is set where v is in the list
-abbrev pub IsMaskOf : ℕ → List ℕ → Type 0
-IsMaskOf mask xs = (v : ℕ) → v < 64 → (bit_at mask v ≡ 1) ↔ (has xs v ≡ true)
+-- the set has what the list has
+abbrev pub IsMaskOf : List ℕ → List ℕ → Type 0
+IsMaskOf set xs = (v : ℕ) → has (values_in set) v ≡ has xs v
+
+-- the set has what the first one has, and what the list has
+abbrev pub HasMore : List ℕ → List ℕ → List ℕ → Type 0
+HasMore first xs set = (v : ℕ) → has (values_in set) v ≡ (has (values_in first) v || has xs v)

@@ -1,11 +1,10 @@
 -- What a clause sees of the program's tasks, and what each of them keeps.
-use Rattle.std.specs.Prelude.{◌≡◌, ℕ, ◌<◌, ◌↔◌, true, Bool, List, [], ◌∷◌, map, length, None, vec_items}
-use Rattle.std.specs.Int.{bit_at}
-use Rattle.wf_model.specs.Lists.{has}
+use Rattle.std.specs.Prelude.{◌≡◌, ℕ, Bool, List, [], ◌∷◌, map, length, Option, None, vec_items}
 use Rattle.wf_model.specs.Simplex.{Simplex}
 use Rattle.wf_model.specs.Task.{Task, Rule, Tuple, IsTask, values}
 use Rattle.wf_task.specs.declared.task.Task.TheInside.{Inside}
 use Rattle.wf_task.specs.Canonical.{HasFewFacets}
+use Rattle.wf_task.specs.Mask.{IsMaskOf}
 use Rattle.wf_task.specs.Shape.{rule_of}
 
 -- each input simplex with its tuples
@@ -14,21 +13,25 @@ rules_seen [] ts = []
 rules_seen (s ∷ ss) [] = []
 rules_seen (s ∷ ss) (t ∷ ts) = rule_of s t ∷ rules_seen ss ts
 
--- the task of these parts, all words allowed
-abbrev pub task_of_parts : ℕ → Bool → List Simplex → List (List Tuple) → List Simplex → Task
-task_of_parts n symmetric inputs tuples outputs = record {
+-- the task of these parts
+abbrev pub restricted_task : Option ℕ → ℕ → Bool → List Simplex → List (List Tuple) → List Simplex → Task
+restricted_task restriction n symmetric inputs tuples outputs = record {
   processes = n;
   symmetric = symmetric;
-  restriction = None;
+  restriction = restriction;
   rules = rules_seen inputs tuples;
   outputs = outputs;
 }
 
+-- the same with all words allowed
+abbrev pub task_of_parts : ℕ → Bool → List Simplex → List (List Tuple) → List Simplex → Task
+task_of_parts n symmetric inputs tuples outputs = restricted_task None n symmetric inputs tuples outputs
+
 abbrev pub task_seen : Inside → Task
-task_seen t = task_of_parts t.processes t.symmetric t.inputs (map vec_items t.tuples.items) t.outputs
+task_seen t = restricted_task t.restriction t.processes t.symmetric t.inputs (map vec_items t.tuples.items) t.outputs
 
 pub record IsKept (t : Inside) : Type 0 where
   pub task : IsTask (task_seen t)
   pub each : length (map vec_items t.tuples.items) ≡ length t.inputs
   pub few_outputs : HasFewFacets t.outputs
-  pub values : (v : ℕ) → v < 64 → (bit_at t.values v ≡ 1) ↔ (has (values (task_seen t)) v ≡ true)
+  pub values : IsMaskOf t.values (values (task_seen t))

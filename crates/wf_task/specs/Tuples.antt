@@ -10,20 +10,20 @@ use Rattle.wf_task.specs.Slots.{IsOnceBelow, lists_at}
 use Rattle.wf_task.specs.Draft.{Listed}
 use Rattle.wf_task.specs.Judge.{tuples_for}
 
--- so many values, each at most 63
+-- so many values, each at most 255
 pub record IsTupleOf (n : ℕ) (tuple : Tuple) : Type 0 where
   pub long : length tuple ≡ n
-  pub small : All (λ x. x ≤ 63) tuple
+  pub small : All (λ x. x ≤ 255) tuple
 
 -- the value lists for each input simplex have a value for each of its processes
 pub record AreTuples (listed : Listed) (inputs : List Simplex) : Type 0 where
   pub each : (i : ℕ) → i < length inputs → All (IsTupleOf (length (slice_index_or inputs i []))) (tuples_for listed (slice_index_or inputs i []))
 
--- one to four values, each at most 63
+-- one to four values, each at most 255
 pub record IsRow (values : List ℕ) : Type 0 where
   pub some : 1 ≤ length values
   pub few : length values ≤ 4
-  pub small : All (λ x. x ≤ 63) values
+  pub small : All (λ x. x ≤ 255) values
 
 -- a slot that names one of the entries, whose value lists are rows
 pub record NamesRows (rules : List Rule) (slot : Slot) : Type 0 where

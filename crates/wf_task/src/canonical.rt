@@ -26,7 +26,7 @@ ghost use Rattle.wf_task.specs.Canonical.{
   simplex_data,
   tuple_data,
   rule_data,
-  version_1,
+  keyed,
 };
 ghost use Rattle.wf_task.specs.Shape.{rule_of};
 ghost use Rattle.wf_task.specs.TaskSeen.{rules_seen};
@@ -109,7 +109,7 @@ fn skipping(left_out: u8, place: u8) -> u8
 /// The vertex at a place: a process and its value.
 fn vertex(simplex: &Simplex, place: u8) -> (u8, u8)
     requires place { place < length simplex.now }
-    requires simplex { IsSimplexWithin 4 63 simplex.now }
+    requires simplex { IsSimplexWithin 4 255 simplex.now }
     ensures { result ≡ slice_index_or simplex.now place (0, 0) }
 {
     let process = simplex.colour(place);
@@ -207,6 +207,7 @@ pub(crate) fn entries(
 /// The value of a task, its keys in alphabetical order.
 pub(crate) fn task_value(
     alloc: Global,
+    restriction: Option<u8>,
     processes: u8,
     symmetric: bool,
     inputs: Value,
@@ -214,14 +215,25 @@ pub(crate) fn task_value(
     delta: Value,
 ) -> Result<Value, AllocError>
     ensures { IfOk result (λ v. view v ≡
-        version_1 processes symmetric (view inputs) (view outputs) (view delta)) }
+        keyed restriction processes symmetric (view inputs) (view outputs) (view delta)) }
 {
-    json!(in alloc; {
-        "version": 1u64,
-        "processes": processes,
-        "symmetric": symmetric,
-        "inputs": inputs,
-        "outputs": outputs,
-        "delta": delta,
-    })
+    match restriction {
+        None => json!(in alloc; {
+            "version": 1u64,
+            "processes": processes,
+            "symmetric": symmetric,
+            "inputs": inputs,
+            "outputs": outputs,
+            "delta": delta,
+        }),
+        Some(first_block) => json!(in alloc; {
+            "version": 2u64,
+            "first_block": first_block,
+            "processes": processes,
+            "symmetric": symmetric,
+            "inputs": inputs,
+            "outputs": outputs,
+            "delta": delta,
+        }),
+    }
 }

@@ -13,7 +13,7 @@ use wf_simplex::{Complex, Simplex};
 
 /// The simplex of pairs that were judged.
 pub(crate) fn simplex_of(pairs: &[(u64, u64)]) -> Simplex
-    requires { IsSimplexWithin 4 63 pairs.now }
+    requires { IsSimplexWithin 4 255 pairs.now }
     ensures { result ≡ pairs.now }
 {
     let mut small = [(0u8, 0u8); 4];
@@ -28,7 +28,7 @@ pub(crate) fn simplex_of(pairs: &[(u64, u64)]) -> Simplex
 
 /// The faces of listed simplices that were judged.
 pub(crate) fn complex(alloc: Global, listed: &[ListedSimplex]) -> Result<Complex, AllocError>
-    requires within { All (IsSimplexWithin 4 63) (map pairs_seen listed.now) }
+    requires within { All (IsSimplexWithin 4 255) (map pairs_seen listed.now) }
     requires few { length listed.now ≤ 16777216 }
     ensures { IfOk result (λ c. c ≡ complex_of (map pairs_seen listed.now)) }
 {

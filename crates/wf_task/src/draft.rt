@@ -1,8 +1,8 @@
-ghost use Rattle.std.specs.Prelude.{◌≡◌, List, map, option_map};
+ghost use Rattle.std.specs.Prelude.{◌≡◌, ◌==◌, List, map, option_map};
 ghost use Rattle.serde_json.specs.Find.{as_bool};
 ghost use Rattle.serde_json.specs.View.{view};
 ghost use Rattle.wf_task.specs.Shape.{whole_of};
-ghost use Rattle.wf_task.specs.Draft.{Gives, value_at, list_at, draft_of};
+ghost use Rattle.wf_task.specs.Draft.{Gives, value_at, restriction_at, key_count, list_at, draft_of};
 ghost use Rattle.wf_task.specs.DraftSeen.{draft_seen};
 ghost use Rattle.wf_task.specs.Parts.{IsOfText, IsPart};
 
@@ -11,10 +11,17 @@ use crate::shape::{Entry, ListedSimplex, Shape, list};
 use serde_json::Value;
 use std::alloc::Global;
 
+/// The version in whose tasks all words are allowed, and the one whose texts name the first block.
+pub(crate) const UNRESTRICTED: u64 = 1;
+
+pub(crate) const RESTRICTED: u64 = 2;
+
 /// What a JSON value of the right shape lists, and nothing judged yet.
 #[derive(Drop)]
 pub(crate) struct Draft {
     pub(crate) version: u64,
+    // under `first_block`, where the version is 2
+    pub(crate) restriction: Option<u64>,
     pub(crate) processes: u64,
     pub(crate) symmetric: bool,
     pub(crate) inputs: Vec<ListedSimplex>,
@@ -29,6 +36,27 @@ fn number_under(key: Key, value: Option<&Value>) -> Result<u64, TaskFault>
     match value.and_then(Value::as_u64) {
         Some(number) => Ok(number),
         None => Err(TaskFault::Shape(key, 0)),
+    }
+}
+
+/// What is listed under `first_block`, which a text of version 2 has.
+fn restriction_under(version: u64, value: Option<&Value>) -> Result<Option<u64>, TaskFault>
+    ensures { Gives (λ m. m) result (restriction_at version (option_map (λ v. view v.now) value.entry)) }
+{
+    if version == RESTRICTED {
+        Ok(Some(number_under(Key::FirstBlock, value)?))
+    } else {
+        Ok(None)
+    }
+}
+
+/// Whether a text has no further key where it has so many.
+fn is_key_count(keys: usize, restriction: Option<u64>) -> bool
+    ensures { result ≡ (keys == key_count restriction) }
+{
+    match restriction {
+        None => keys == 6,
+        Some(_) => keys == 7,
     }
 }
 
@@ -75,16 +103,18 @@ impl Draft {
             return Err(TaskFault::Shape(Key::Whole, 0));
         };
         let version = number_under(Key::Version, value.get("version"))?;
+        let restriction = restriction_under(version, value.get("first_block"))?;
         let processes = number_under(Key::Processes, value.get("processes"))?;
         let symmetric = truth_under(Key::Symmetric, value.get("symmetric"))?;
         let inputs = list_under(alloc, Key::Inputs, value.get("inputs"))?;
         let outputs = list_under(alloc, Key::Outputs, value.get("outputs"))?;
         let delta = list_under(alloc, Key::Delta, value.get("delta"))?;
-        if members.len() != 6 {
+        if !is_key_count(members.len(), restriction) {
             return Err(TaskFault::Shape(Key::Other, 0));
         }
         Ok(Draft {
             version,
+            restriction,
             processes,
             symmetric,
             inputs,

@@ -11,6 +11,8 @@ pub enum Key {
     Whole,
     /// `version`.
     Version,
+    /// `first_block`.
+    FirstBlock,
     /// `processes`.
     Processes,
     /// `symmetric`.
@@ -35,6 +37,7 @@ impl fmt::Display for Key {
         let name = match self {
             Key::Whole => "whole",
             Key::Version => "version",
+            Key::FirstBlock => "first_block",
             Key::Processes => "processes",
             Key::Symmetric => "symmetric",
             Key::Inputs => "inputs",
@@ -86,11 +89,11 @@ pub enum TaskFault {
     /// 3: a key that is missing or has a value of the wrong shape, and the place of the first item of the
     /// wrong shape in its list, from 0; 0 where it has no list.
     Shape(Key, u32),
-    /// 4: the version is not 1.
+    /// 4: the version is neither 1 nor 2.
     Version,
     /// 5: the number of processes is not 1 to 4.
     Processes,
-    /// 6: some value is above 63.
+    /// 6: some value is above 63 in version 1, or above 255 in version 2.
     Value,
     /// 7: in some simplex the processes do not strictly ascend, or one is not below the number of processes.
     Colours,
@@ -110,6 +113,8 @@ pub enum TaskFault {
     NoInput,
     /// 15: memory ran out.
     OutOfMemory,
+    /// 18: the first block would have at least a number of participants that is not 1 to 4; asked after 14.
+    FirstBlock,
 }
 
 impl fmt::Display for TaskFault {
@@ -135,6 +140,7 @@ impl fmt::Display for TaskFault {
             TaskFault::OutStray(simplex, place) => write!(f, "13 OutStray {simplex} {place}"),
             TaskFault::NoInput => write!(f, "14 NoInput"),
             TaskFault::OutOfMemory => write!(f, "15 OutOfMemory"),
+            TaskFault::FirstBlock => write!(f, "18 FirstBlock"),
         }
     }
 }

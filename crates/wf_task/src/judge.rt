@@ -1,24 +1,36 @@
 ghost use Rattle.std.specs.Prelude.{◌≡◌, ℕ, ◌<◌, ◌≤◌, All, List, map, nat_lt, nat_le, not, ◌&&◌, sum_by, length, IfOk};
 ghost use Rattle.std.specs.List.{list_any, list_all};
 ghost use Rattle.wf_model.specs.Simplex.{complex_of};
-ghost use Rattle.wf_model.specs.Task.{IsSimplexWithin};
+ghost use Rattle.wf_model.specs.Task.{largest_value};
 ghost use Rattle.wf_task.specs.Draft.{Gives};
 ghost use Rattle.wf_task.specs.DraftSeen.{draft_seen, entry_seen};
-ghost use Rattle.wf_task.specs.Judge.{is_large, has_large, rule_has_large, some_large, has_colours, all_colours, numbers_judged};
+ghost use Rattle.wf_task.specs.Judge.{is_large, has_large, rule_has_large, has_large_at, some_large, is_first_block, has_colours, all_colours, refused_if, numbers_judged};
 
-use crate::draft::Draft;
+use crate::draft::{Draft, RESTRICTED, UNRESTRICTED};
 use crate::fault::TaskFault;
 use crate::shape::{Entry, ListedSimplex};
 
-/// The largest value.
+/// The largest value where all words are allowed, and where some are not.
 const LARGEST: u64 = 63;
 
+const LARGEST_RESTRICTED: u64 = 255;
+
+/// The largest value that a text may have.
+fn largest(restriction: Option<u64>) -> u64
+    ensures { result ≡ largest_value restriction }
+{
+    match restriction {
+        None => LARGEST,
+        Some(_) => LARGEST_RESTRICTED,
+    }
+}
+
 /// Whether some value of the simplex is too large.
-fn has_large(pairs: &[(u64, u64)]) -> bool
-    ensures { result ≡ has_large pairs.now }
+fn has_large(largest: u64, pairs: &[(u64, u64)]) -> bool
+    ensures { result ≡ has_large largest pairs.now }
 {
     for (_, value) in pairs {
-        if *value > LARGEST {
+        if *value > largest {
             return true;
         }
     }
@@ -26,11 +38,11 @@ fn has_large(pairs: &[(u64, u64)]) -> bool
 }
 
 /// Whether some value of some simplex is too large.
-fn any_has_large(simplices: &[ListedSimplex]) -> bool
-    ensures { result ≡ list_any has_large (map (λ s. s.pairs.items) simplices.now) }
+fn any_has_large(largest: u64, simplices: &[ListedSimplex]) -> bool
+    ensures { result ≡ list_any (has_large largest) (map (λ s. s.pairs.items) simplices.now) }
 {
     for simplex in simplices {
-        if has_large(&simplex.pairs) {
+        if has_large(largest, &simplex.pairs) {
             return true;
         }
     }
@@ -38,18 +50,18 @@ fn any_has_large(simplices: &[ListedSimplex]) -> bool
 }
 
 /// Whether some value of the value list is too large.
-fn tuple_has_large(tuple: &[u64]) -> bool
-    ensures { result ≡ list_any is_large tuple.now }
+fn tuple_has_large(largest: u64, tuple: &[u64]) -> bool
+    ensures { result ≡ list_any (is_large largest) tuple.now }
 {
-    tuple.iter().any(|value| *value > LARGEST)
+    tuple.iter().any(|value| *value > largest)
 }
 
 /// Whether some value of some value list is too large.
-fn any_tuple_has_large(tuples: &[Vec<u64>]) -> bool
-    ensures { result ≡ list_any (list_any is_large) (map (λ t. t.items) tuples.now) }
+fn any_tuple_has_large(largest: u64, tuples: &[Vec<u64>]) -> bool
+    ensures { result ≡ list_any (list_any (is_large largest)) (map (λ t. t.items) tuples.now) }
 {
     for tuple in tuples {
-        if tuple_has_large(tuple) {
+        if tuple_has_large(largest, tuple) {
             return true;
         }
     }
@@ -57,11 +69,11 @@ fn any_tuple_has_large(tuples: &[Vec<u64>]) -> bool
 }
 
 /// Whether some value of some entry is too large.
-fn any_entry_has_large(delta: &[Entry]) -> bool
-    ensures { result ≡ list_any rule_has_large (map entry_seen delta.now) }
+fn any_entry_has_large(largest: u64, delta: &[Entry]) -> bool
+    ensures { result ≡ list_any (rule_has_large largest) (map entry_seen delta.now) }
 {
     for entry in delta {
-        if has_large(&entry.input.pairs) || any_tuple_has_large(&entry.tuples) {
+        if has_large(largest, &entry.input.pairs) || any_tuple_has_large(largest, &entry.tuples) {
             return true;
         }
     }
@@ -111,15 +123,16 @@ fn all_entries_have_colours(processes: u64, delta: &[Entry]) -> bool
 pub(crate) fn judge_numbers(draft: &Draft) -> Result<(), TaskFault>
     ensures { Gives (λ u. u) result (numbers_judged (draft_seen draft.now)) }
 {
-    if draft.version != 1 {
+    if draft.version != UNRESTRICTED && draft.version != RESTRICTED {
         return Err(TaskFault::Version);
     }
     if !(1..=4).contains(&draft.processes) {
         return Err(TaskFault::Processes);
     }
-    if any_has_large(&draft.inputs)
-        || any_has_large(&draft.outputs)
-        || any_entry_has_large(&draft.delta)
+    let largest = largest(draft.restriction);
+    if any_has_large(largest, &draft.inputs)
+        || any_has_large(largest, &draft.outputs)
+        || any_entry_has_large(largest, &draft.delta)
     {
         return Err(TaskFault::Value);
     }
@@ -129,6 +142,26 @@ pub(crate) fn judge_numbers(draft: &Draft) -> Result<(), TaskFault>
         && all_entries_have_colours(processes, &draft.delta))
     {
         return Err(TaskFault::Colours);
+    }
+    Ok(())
+}
+
+/// Whether the first block has at least 1 to 4 participants.
+fn is_first_block(restriction: Option<u64>) -> bool
+    ensures { result ≡ is_first_block restriction }
+{
+    match restriction {
+        None => true,
+        Some(m) => 1 <= m && m <= 4,
+    }
+}
+
+/// Refusal 18.
+pub(crate) fn judge_first_block(draft: &Draft) -> Result<(), TaskFault>
+    ensures { Gives (λ u. u) result (refused_if (not (is_first_block draft.now.restriction)) TaskFault.FirstBlock) }
+{
+    if !is_first_block(draft.restriction) {
+        return Err(TaskFault::FirstBlock);
     }
     Ok(())
 }

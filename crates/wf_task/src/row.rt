@@ -3,7 +3,7 @@ ghost use Rattle.std.specs.Prelude.{◌≡◌, ℕ, ◌<◌, ◌≤◌, All, len
 use std::cmp::Ordering;
 use std::marker::Model;
 
-/// The values of a tuple, by ascending process: one to four, each at most 63.
+/// The values of a tuple, by ascending process: one to four, each a `u8`.
 ///
 /// A clause sees it as the list of its values. Rows are ordered as these lists.
 #[derive(Clone, Copy, Debug)]
@@ -23,7 +23,7 @@ impl Model for Row {
     ghost view = { λ r. take r.size r.values };
 
     ghost invariant = { λ r. (length (take r.size r.values) ≡ r.size) × (filled (take r.size r.values) ≡ r.values)
-        × (1 ≤ r.size) × (r.size ≤ 4) × (length r.values ≡ 4) × All (λ x. x ≤ 63) (take r.size r.values) };
+        × (1 ≤ r.size) × (r.size ≤ 4) × (length r.values ≡ 4) × All (λ x. x ≤ 255) (take r.size r.values) };
 
     ghost inverse = { λ values. record { size = length values; values = filled values } };
 
@@ -35,7 +35,6 @@ impl Row {
     pub fn new(values: &[u8]) -> Row
         requires some { 1 ≤ length values.now }
         requires few { length values.now ≤ 4 }
-        requires small { All (λ x. x ≤ 63) values.now }
         ensures { result ≡ values.now }
     {
         let mut row = [0; 4];
@@ -53,7 +52,7 @@ impl Row {
         ensures count { result ≡ length self.now }
         ensures some { 1 ≤ result }
         ensures few { result ≤ 4 }
-        ensures small { All (λ x. x ≤ 63) self.now }
+        ensures small { All (λ x. x ≤ 255) self.now }
     {
         self.size
     }

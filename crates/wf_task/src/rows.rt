@@ -4,7 +4,7 @@ ghost use Rattle.std.specs.Cmp.Lexicographic.{slice_cmp};
 ghost use Rattle.wf_model.specs.Lists.{in_order};
 ghost use Rattle.wf_model.specs.Simplex.{values_of};
 ghost use Rattle.wf_task.specs.DraftSeen.{entry_seen};
-ghost use Rattle.wf_task.specs.Mask.{IsMaskOf};
+ghost use Rattle.wf_task.specs.Mask.{HasMore, IsMaskOf};
 ghost use Rattle.wf_task.specs.Tuples.{IsRow, NamesRows, rows_at};
 
 use crate::row::Row;
@@ -13,6 +13,7 @@ use crate::slots::Slot;
 use crate::tuples::lists_at;
 use std::alloc::{AllocError, Global};
 use std::collections::BTreeSet;
+use wf_set::{Mask, nothing, with};
 use wf_simplex::Simplex;
 
 /// The row of a value list.
@@ -55,28 +56,30 @@ pub(crate) fn all_rows(
     Ok(found)
 }
 
-/// The values of a simplex as bits.
-fn mask_of(simplex: &Simplex) -> u64
-    ensures { IsMaskOf result (values_of simplex.now) }
+/// The set, and the values of a simplex.
+fn with_values(set: Mask, simplex: &Simplex) -> Mask
+    ensures { HasMore set (values_of simplex.now) result }
 {
-    let mut mask = 0u64;
+    let mut more = set;
     for place in 0..simplex.colours() {
         let process = simplex.colour(place);
         let Some(value) = simplex.value(process) else {
             unreachable!()
         };
-        mask |= 1 << value;
+        let next = with(more, value);
+        more = next;
     }
-    mask
+    more
 }
 
-/// The values of some simplices as bits.
-pub(crate) fn mask(simplices: &[Simplex]) -> u64
+/// The values of some simplices.
+pub(crate) fn mask(simplices: &[Simplex]) -> Mask
     ensures { IsMaskOf result (flat_map values_of simplices.now) }
 {
-    let mut mask = 0u64;
+    let mut mask = nothing();
     for simplex in simplices {
-        mask |= mask_of(simplex);
+        let more = with_values(mask, simplex);
+        mask = more;
     }
     mask
 }

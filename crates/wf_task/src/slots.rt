@@ -41,7 +41,7 @@ pub(crate) fn slots(
     inputs: &Complex,
     delta: &[Entry],
 ) -> Result<Vec<Slot>, AllocError>
-    requires { All (λ rule. IsSimplexWithin 4 63 rule.input) (map entry_seen delta.now) }
+    requires { All (λ rule. IsSimplexWithin 4 255 rule.input) (map entry_seen delta.now) }
     ensures { IfOk result (λ slots. AreOf slots.items (map entry_seen delta.now) inputs.now) }
 {
     let mut slots = no_entries(alloc, inputs.simplices())?;
@@ -99,7 +99,7 @@ pub(crate) fn judge_entries(
     inputs: &Complex,
     slots: &[Slot],
 ) -> Result<(), TaskFault>
-    requires within { All (λ rule. IsSimplexWithin 4 63 rule.input) (map entry_seen draft.now.delta.items) }
+    requires within { All (λ rule. IsSimplexWithin 4 255 rule.input) (map entry_seen draft.now.delta.items) }
     requires slots { AreOf slots.now (map entry_seen draft.now.delta.items) inputs.now }
     requires few_inputs { length inputs.now ≤ 4096 }
     requires few_entries { length draft.now.delta.items ≤ 16777216 }
@@ -122,7 +122,7 @@ pub(crate) fn judge_entries(
 
 /// The place of the first entry that is for no input simplex.
 pub(crate) fn first_stray(inputs: &Complex, delta: &[Entry]) -> Option<usize>
-    requires { All (λ rule. IsSimplexWithin 4 63 rule.input) (map entry_seen delta.now) }
+    requires { All (λ rule. IsSimplexWithin 4 255 rule.input) (map entry_seen delta.now) }
     ensures { result ≡ position_from (λ rule. not (is_among inputs.now rule.input)) 0 (map entry_seen delta.now) }
 {
     for (place, entry) in delta.iter().enumerate() {

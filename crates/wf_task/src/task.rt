@@ -1,12 +1,12 @@
-ghost use Rattle.std.specs.Prelude.{◌≡◌, ◌<◌, length, map, option_map, slice_get, Some, None, Ok, IfOk, OnOk, vec_items};
+ghost use Rattle.std.specs.Prelude.{◌≡◌, ◌<◌, ◌≤◌, length, map, option_map, slice_get, true, Some, None, Ok, IfOk, OnOk, vec_items};
 ghost use Rattle.wf_model.specs.Simplex.{complex_of};
-ghost use Rattle.wf_model.specs.Task.{IsTask, inputs, values};
+ghost use Rattle.wf_model.specs.Task.{IsTask, first_block, inputs, values};
 ghost use Rattle.serde_json.specs.View.{view};
-ghost use Rattle.wf_task.specs.Canonical.{HasFewFacets, IsListable, canonical_text, task_data};
+ghost use Rattle.wf_task.specs.Canonical.{HasFewFacets, IsListable, canonical_text, task_data, version_of};
 ghost use Rattle.wf_set.specs.Sets.{values_in};
 ghost use Rattle.wf_task.specs.Draft.{Gives};
 ghost use Rattle.wf_task.specs.DraftSeen.{draft_seen, pairs_seen, entry_seen};
-ghost use Rattle.wf_task.specs.Judge.{judged, drafted, text_of};
+ghost use Rattle.wf_task.specs.Judge.{is_first_block, judged, drafted, text_of};
 ghost use Rattle.wf_task.specs.Slots.{AreOf};
 ghost use Rattle.wf_task.specs.TaskSeen.{task_of_parts};
 ghost use Rattle.wf_task.specs.Faultless.{ListsVertices, ListsFew, IsFaultless};
@@ -15,7 +15,7 @@ use crate::canonical::{entries, facets, list, task_value};
 use crate::complexes::{complex, judge_sizes};
 use crate::draft::Draft;
 use crate::fault::TaskFault;
-use crate::judge::judge_numbers;
+use crate::judge::{judge_first_block, judge_numbers};
 use crate::row::Row;
 use crate::rows::{all_rows, mask};
 use crate::slots::{Slot, judge_entries, slots};
@@ -42,6 +42,8 @@ pub struct Task {
     tuples: Vec<Vec<Row>>,
     // those that occur in the outputs
     values: Mask,
+    // how many participants the first block of a word has at least; none where all words are allowed
+    restriction: Option<u8>,
 }
 
 impl Model for Task {
@@ -86,6 +88,7 @@ impl Task {
     {
         Task {
             values: mask(outputs.simplices()),
+            restriction: None,
             processes,
             symmetric,
             inputs,
@@ -116,7 +119,15 @@ impl Task {
         let outputs = list(alloc, &facets(alloc, &self.outputs)?)?;
         let processes = self.processes;
         let symmetric = self.symmetric;
-        task_value(alloc, processes, symmetric, inputs, outputs, delta)
+        task_value(
+            alloc,
+            self.restriction,
+            processes,
+            symmetric,
+            inputs,
+            outputs,
+            delta,
+        )
     }
 
     /// How many processes there are.
@@ -134,11 +145,29 @@ impl Task {
         self.symmetric
     }
 
-    /// The input complex. All words are allowed in its executions.
+    /// How many participants the first block of a word has at least, or all where they are fewer: 1 allows all words.
+    pub fn first_block(&self) -> u8
+        ensures first_block { result ≡ first_block self.now }
+        ensures some { 1 ≤ result }
+        ensures few { result ≤ 4 }
+    {
+        self.restriction.unwrap_or(1)
+    }
+
+    /// The version of its texts: 1 where all words are allowed, 2 where they name the first block.
+    pub fn version(&self) -> u8
+        ensures { result ≡ version_of self.now.restriction }
+    {
+        match self.restriction {
+            None => 1,
+            Some(_) => 2,
+        }
+    }
+
+    /// The input complex.
     pub fn inputs(&self) -> &Complex
         ensures inputs { result.now ≡ inputs self.now }
         ensures task { IsTask self.now }
-        ensures unrestricted { self.now.restriction ≡ None }
     {
         &self.inputs
     }
@@ -185,7 +214,19 @@ fn judged(alloc: Global, draft: &Draft) -> Result<Task, TaskFault>
     if draft.inputs.is_empty() {
         return Err(TaskFault::NoInput);
     }
+    judge_first_block(draft)?;
     Ok(drafted(alloc, draft, inputs, outputs, &slots)?)
+}
+
+/// The same number of participants in fewer bits.
+fn narrowed(restriction: Option<u64>) -> Option<u8>
+    requires { is_first_block restriction ≡ true }
+    ensures { result ≡ restriction }
+{
+    match restriction {
+        None => None,
+        Some(m) => Some(m as u8),
+    }
 }
 
 /// The task that a draft without a fault lists.
@@ -211,5 +252,6 @@ fn drafted(
         outputs,
         tuples,
         values,
+        restriction: narrowed(draft.restriction),
     })
 }

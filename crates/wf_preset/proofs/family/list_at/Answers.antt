@@ -1,6 +1,6 @@
-use Rattle.std.proofs.Common.{◌≤◌, All, length, sym, ◌∙◌, subst, arith, length-set}
+use Rattle.std.proofs.Common.{length, sym, ◌∙◌, arith, length-set}
 use Rattle.wf_task.proofs.Listings.{get_or-lists_of}
-use Rattle.wf_preset.proofs.FamilyLoops.{step_some, step_place, step_below, step_made, list_made, small_list}
+use Rattle.wf_preset.proofs.FamilyLoops.{step_some, step_place, step_below, step_made, list_made}
 use Rattle.wf_preset.proofs.family.list_at.Goals as goal
 
 pub nonzero_div-row : goal.nonzero_div-row
@@ -21,11 +21,6 @@ loop-place-preserved c =
       made = step_made xs c.loop-place.row c.args.size c.loop-place.place c.loop-place.rest c.list_count-later.result c.args.number c.list_count-later.ensures c.loop-place-test.true c.loop-place.invariant.below
           (omega (arith, c.loop-place-test.true, c.requires.few, c.loop-place.invariant.four)) c.loop-place.invariant.made;
     }
-
-pub new-requires-clause-small : goal.new-requires-clause-small
-new-requires-clause-small c =
-    let made = list_made c.args.values.now c.loop-place.row c.args.size c.loop-place.place c.loop-place.rest c.args.number c.loop-place-test.false c.loop-place.auto.place-end c.loop-place.invariant.made in
-    subst (All (λ x. x ≤ 63)) (sym made) (small_list c.args.values.now c.args.size c.args.number c.requires.values.small)
 
 pub returns : goal.returns
 returns c =

@@ -1,6 +1,6 @@
 use Rattle.std.proofs.Common.{◌≡◌, ◌≤◌, ◌++◌, ◌∷◌, [], sym, ap, ◌∙◌, subst, arith}
 use Rattle.wf_model.specs.Lists.{below}
-use Rattle.wf_preset.specs.Family.{AreValues}
+use Rattle.wf_preset.specs.Family.{AreFew}
 use Rattle.wf_task.proofs.OneMore.{below_more}
 use Rattle.wf_preset.proofs.FamilyTasks.{numbers-are}
 use Rattle.wf_preset.proofs.family.numbers_below.Goals as goal
@@ -10,7 +10,7 @@ loop-number-preserved c =
     let so_far : c.loop-number.numbers.items ≡ below c.loop-number.number = c.loop-number.invariant in
     c.in_ok-push.ensures.items ∙ ap (λ xs. xs ++ c.loop-number.number ∷ []) so_far ∙ sym (below_more c.loop-number.number)
 
-pub returns-clause-within : goal.returns-clause-within
-returns-clause-within c =
+pub returns-clause-few : goal.returns-clause-few
+returns-clause-few c =
     let few : c.loop-number.number ≤ 64 = omega (arith, c.loop-number.auto.number-end, c.requires) in
-    subst AreValues (sym c.loop-number.invariant) (numbers-are c.loop-number.number few)
+    subst AreFew (sym c.loop-number.invariant) (numbers-are c.loop-number.number few)

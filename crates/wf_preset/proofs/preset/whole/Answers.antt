@@ -1,4 +1,4 @@
-use Rattle.std.proofs.Common.{ap, ◌∙◌}
+use Rattle.std.proofs.Common.{ap, ◌∙◌, lit≤}
 use Rattle.wf_simplex.specs.Reading.{read_fault}
 use Rattle.wf_simplex.proofs.Within.{read_fault-within}
 use Rattle.wf_task.proofs.Drafted.{within_more}
@@ -9,7 +9,7 @@ use Rattle.wf_preset.proofs.preset.whole.Goals as goal
 pub unreachable-requires : goal.unreachable-requires
 unreachable-requires c =
     let n = c.args.processes in
-    let none = ap read_fault (first_four n c.requires.few) ∙ read_fault-within (start n) (within_more n 4 (start n) c.requires.few (start-within n c.requires.some c.requires.few)) in
+    let none = ap read_fault (first_four n c.requires.few) ∙ read_fault-within (start n) (within_more n 63 4 255 (start n) c.requires.few (lit≤ tt) (start-within n c.requires.some c.requires.few)) in
     let some = c.in-Err.ensures in
     cc (none, some)
 

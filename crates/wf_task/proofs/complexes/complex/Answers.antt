@@ -5,4 +5,4 @@ use Rattle.wf_task.proofs.complexes.complex.Goals as goal
 
 pub simplex_of-requires : goal.simplex_of-requires
 simplex_of-requires c =
-    subst (IsSimplexWithin 4 63) (sym c.deref.ensures.value) (seen_within c.args.listed.now c.loop-simplex.simplex-index c.simplex-item.result c.loop-simplex-test.true c.simplex-item.is c.requires.within)
+    subst (IsSimplexWithin 4 255) (sym c.deref.ensures.value) (seen_within c.args.listed.now c.loop-simplex.simplex-index c.simplex-item.result c.loop-simplex-test.true c.simplex-item.is c.requires.within)

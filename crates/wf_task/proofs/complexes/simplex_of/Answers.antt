@@ -11,12 +11,12 @@ pub overflow_cast-small-in-loop-place : goal.overflow_cast-small-in-loop-place
 overflow_cast-small-in-loop-place c = omega (arith, value_below c.args.pairs.now c.loop-place.place c.requires c.loop-place-test.true)
 
 pub bounds-small-place : goal.bounds-small-place
-bounds-small-place c = omega (arith, length-within 4 63 c.args.pairs.now c.requires, c.loop-place-test.true)
+bounds-small-place c = omega (arith, length-within 4 255 c.args.pairs.now c.requires, c.loop-place-test.true)
 
 pub loop-place-preserved : goal.loop-place-preserved
 loop-place-preserved c =
     let i = c.loop-place.place in
-    let few = length-within 4 63 c.args.pairs.now c.requires in
+    let few = length-within 4 255 c.args.pairs.now c.requires in
     let inside : i < length c.loop-place.small = omega (arith, few, c.loop-place-test.true, c.loop-place.invariant.0) in
     (length-set c.loop-place.small i _ ∙ c.loop-place.invariant.0, copied c.loop-place.small c.args.pairs.now i inside c.loop-place-test.true c.loop-place.invariant.1)
 

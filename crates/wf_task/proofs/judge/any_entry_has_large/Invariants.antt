@@ -5,4 +5,4 @@ use Rattle.wf_task.specs.Judge.{rule_has_large}
 use Rattle.wf_task.proofs.judge.any_entry_has_large.Given as goal
 
 abbrev pub invariant-loop-entry : goal.invariant-loop-entry
-invariant-loop-entry l = list_any rule_has_large (map entry_seen (drop l.entry-index l.delta)) ≡ list_any rule_has_large (map entry_seen l.delta)
+invariant-loop-entry l = list_any (rule_has_large l.largest) (map entry_seen (drop l.entry-index l.delta)) ≡ list_any (rule_has_large l.largest) (map entry_seen l.delta)

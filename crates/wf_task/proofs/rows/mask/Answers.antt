@@ -1,4 +1,4 @@
-use Rattle.std.proofs.Common.{◌≡◌, ◌+◌, ◌++◌, ◌∷◌, [], take, flat_map, sym, ap, ◌∙◌, subst, append-nil, bit_or}
+use Rattle.std.proofs.Common.{◌≡◌, ◌+◌, ◌++◌, ◌∷◌, [], take, flat_map, sym, ap, ◌∙◌, subst, append-nil}
 use Rattle.std.proofs.lemmas.List.{take_more}
 use Rattle.std.proofs.lemmas.List.Concat.{flat_map-append}
 use Rattle.wf_model.specs.Simplex.{values_of}
@@ -13,4 +13,4 @@ loop-simplex-preserved c =
     let s = c.simplex-item.result in
     let longer : take (i + 1) simplices ≡ take i simplices ++ (s ∷ []) = take_more simplices i s c.loop-simplex-test.true ∙ ap (λ t. take i simplices ++ (t ∷ [])) (sym c.simplex-item.is) in
     let values = ap (flat_map values_of) longer ∙ flat_map-append values_of (take i simplices) (s ∷ []) ∙ ap (λ xs. flat_map values_of (take i simplices) ++ xs) (append-nil (values_of s)) in
-    subst (IsMaskOf (bit_or c.loop-simplex.mask c.mask_of-mask.result)) (sym values) (mask-append c.loop-simplex.mask c.mask_of-mask.result (flat_map values_of (take i simplices)) (values_of s) c.loop-simplex.invariant c.mask_of-mask.ensures)
+    subst (IsMaskOf c.with_values-more.result) (sym values) (mask-append c.loop-simplex.mask c.with_values-more.result (flat_map values_of (take i simplices)) (values_of s) c.loop-simplex.invariant c.with_values-more.ensures)

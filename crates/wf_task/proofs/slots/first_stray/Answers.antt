@@ -9,7 +9,7 @@ not_both false e h = cc
 
 pub simplex_of-requires : goal.simplex_of-requires
 simplex_of-requires c =
-    subst (IsSimplexWithin 4 63) (sym c.deref.ensures.value) (entry_within c.args.delta.now c.loop-place.place c.index-delta-place.result c.loop-place-test.true c.index-delta-place.is c.requires)
+    subst (IsSimplexWithin 4 255) (sym c.deref.ensures.value) (entry_within c.args.delta.now c.loop-place.place c.index-delta-place.result c.loop-place-test.true c.index-delta-place.is c.requires)
 
 pub returns-then-stray : goal.returns-then-stray
 returns-then-stray c =

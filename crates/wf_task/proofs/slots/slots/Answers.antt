@@ -8,7 +8,7 @@ use Rattle.wf_task.proofs.slots.slots.Goals.{in-Some, in-None}
 
 pub simplex_of-requires : goal.simplex_of-requires
 simplex_of-requires c =
-    subst (IsSimplexWithin 4 63) (sym c.deref.ensures.value) (entry_within c.args.delta.now c.loop-place.place c.index-delta-place.result c.loop-place-test.true c.index-delta-place.is c.requires)
+    subst (IsSimplexWithin 4 255) (sym c.deref.ensures.value) (entry_within c.args.delta.now c.loop-place.place c.index-delta-place.result c.loop-place-test.true c.index-delta-place.is c.requires)
 
 pub index-requires-in-Some : goal.index-requires-in-Some
 index-requires-in-Some c =

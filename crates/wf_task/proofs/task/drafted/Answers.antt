@@ -1,14 +1,14 @@
-use Rattle.std.proofs.Common.{◌≡◌, All, map, flat_map, vec_items, sym, ap, ◌∙◌, subst, arith, refl}
+use Rattle.std.proofs.Common.{◌≡◌, All, map, flat_map, vec_items, sym, ap, ◌∙◌, subst, arith}
 use Rattle.wf_model.specs.Simplex.{values_of, complex_of}
 use Rattle.wf_model.specs.Task.{IsTask}
 use Rattle.wf_task.specs.Canonical.{HasFewFacets}
 use Rattle.wf_task.specs.DraftSeen.{draft_seen, entry_seen}
 use Rattle.wf_task.specs.Mask.{IsMaskOf}
-use Rattle.wf_task.specs.TaskSeen.{rules_seen}
+use Rattle.wf_task.specs.TaskSeen.{rules_seen, restricted_task}
 use Rattle.wf_task.specs.Tuples.{NamesRows, rows_at}
 use Rattle.wf_task.proofs.Judged.{are_judged}
-use Rattle.wf_model.proofs.Ascending.{has_in_order}
-use Rattle.wf_task.proofs.Drafted.{slots_of_faultless, rows_of_faultless, rules_of_faultless, task_is, drafted_is_task, are_few, has_from_order}
+use Rattle.wf_task.proofs.Drafted.{slots_of_faultless, rows_of_faultless, rules_of_faultless, task_is, drafted_is_task, are_few}
+use Rattle.wf_task.proofs.TaskValues.{mask_in_order}
 use Rattle.wf_task.proofs.Faceted.{length-facets}
 use Rattle.wf_task.proofs.task.drafted.Goals as goal
 
@@ -26,13 +26,14 @@ invariant_of-result c =
     let rows = map vec_items c.in_ok-tuples.tuples.items in
     let made : rows ≡ map (rows_at listed.delta) c.args.slots.now = c.in_ok-tuples.ensures ∙ ap (λ es. map (rows_at (map entry_seen es)) c.args.slots.now) c.deref.ensures.value in
     let rules = rules_of_faultless listed c.args.slots.now c.args.inputs rows c.requires.faultless c.requires.inputs c.requires.slots made in
-    let seen = task_is listed (rules_seen c.args.inputs rows) c.args.outputs _ refl rules c.requires.outputs in
+    let kept = ap (λ o. restricted_task o listed.processes listed.symmetric c.args.inputs rows c.args.outputs) c.narrowed.ensures in
+    let seen = task_is listed (rules_seen c.args.inputs rows) c.args.outputs _ kept rules c.requires.outputs in
     let mask = subst (λ os. IsMaskOf c.mask-values.result (flat_map values_of os)) c.simplices.ensures.simplices c.mask-values.ensures in
     record {
       task = subst IsTask (sym seen) (drafted_is_task listed c.requires.faultless);
       few_outputs = subst HasFewFacets (sym c.requires.outputs) (omega (arith, length-facets listed.outputs, (are_few listed (complex_of listed.inputs) tt c.requires.faultless.sizes).outputs));
       each = rows_of_faultless listed c.args.slots.now c.args.inputs rows c.requires.faultless c.requires.inputs c.requires.slots made;
-      values = λ v low. (λ e. has_in_order v (flat_map values_of c.args.outputs) ((mask v low).0 e), λ e. (mask v low).1 (has_from_order v (flat_map values_of c.args.outputs) e));
+      values = mask_in_order c.mask-values.result (flat_map values_of c.args.outputs) mask;
     }
 
 pub returns : goal.returns
@@ -41,4 +42,5 @@ returns c =
     let rows = map vec_items c.in_ok-tuples.tuples.items in
     let made : rows ≡ map (rows_at listed.delta) c.args.slots.now = c.in_ok-tuples.ensures ∙ ap (λ es. map (rows_at (map entry_seen es)) c.args.slots.now) c.deref.ensures.value in
     let rules = rules_of_faultless listed c.args.slots.now c.args.inputs rows c.requires.faultless c.requires.inputs c.requires.slots made in
-    task_is listed (rules_seen c.args.inputs rows) c.args.outputs _ refl rules c.requires.outputs
+    let kept = ap (λ o. restricted_task o listed.processes listed.symmetric c.args.inputs rows c.args.outputs) c.narrowed.ensures in
+    task_is listed (rules_seen c.args.inputs rows) c.args.outputs _ kept rules c.requires.outputs

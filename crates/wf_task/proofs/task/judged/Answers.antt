@@ -1,13 +1,14 @@
-use Rattle.std.proofs.Common.{◌≡◌, ◌≢◌, ◌==◌, false, arith, ne_eqb, All, List, Ok, length, map, sym, ap, ◌∙◌, subst, subst₂}
-use Rattle.std.proofs.lemmas.Bool.{eqb-false}
+use Rattle.std.proofs.Common.{◌≡◌, ◌≢◌, ◌==◌, not, false, arith, ne_eqb, All, List, Ok, length, map, sym, ap, ◌∙◌, subst, subst₂}
+use Rattle.std.proofs.lemmas.Bool.{eqb-false, not-false}
 use Rattle.std.proofs.lemmas.List.{length-map}
 use Rattle.wf_model.specs.Simplex.{Simplex, complex_of}
 use Rattle.wf_model.specs.Task.{IsSimplexWithin}
 use Rattle.wf_task.specs.declared.slots.Slot.{Slot}
+use Rattle.wf_task.specs.declared.fault.TaskFault.TheVariants as fault
 use Rattle.wf_task.specs.DraftSeen.{draft_seen, pairs_seen, entry_seen}
-use Rattle.wf_task.specs.Judge.{sizes_judged, tuples_judged}
+use Rattle.wf_task.specs.Judge.{is_first_block, sizes_judged, tuples_judged}
 use Rattle.wf_task.specs.Slots.{AreOf, AreOnly}
-use Rattle.wf_task.proofs.Judged.{are_judged, inputs_within, outputs_within}
+use Rattle.wf_task.proofs.Judged.{passed_last, are_judged, inputs_within, outputs_within}
 use Rattle.wf_task.proofs.Drafted.{all_within_four, entries_within_four, only_entries, faultless, are_few}
 use Rattle.wf_task.proofs.task.judged.Goals as goal
 
@@ -15,13 +16,13 @@ pub complex-requires-clause-within : goal.complex-requires-clause-within
 complex-requires-clause-within c =
     let listed = draft_seen c.args.draft.now in
     let numbers = are_judged listed c.in_ok-judge_numbers.field-0 c.in_ok-judge_numbers.ensures in
-    subst (λ ds. All (IsSimplexWithin 4 63) (map pairs_seen ds)) (sym c.deref.ensures.value) (all_within_four listed listed.inputs numbers (inputs_within listed numbers c.requires.vertices.inputs))
+    subst (λ ds. All (IsSimplexWithin 4 255) (map pairs_seen ds)) (sym c.deref.ensures.value) (all_within_four listed listed.inputs numbers (inputs_within listed numbers c.requires.vertices.inputs))
 
 pub slots-requires : goal.slots-requires
 slots-requires c =
     let listed = draft_seen c.args.draft.now in
     let numbers = are_judged listed c.in_ok-judge_numbers.field-0 c.in_ok-judge_numbers.ensures in
-    subst (λ es. All (λ rule. IsSimplexWithin 4 63 rule.input) (map entry_seen es)) (sym c.deref-2.ensures.value) (entries_within_four listed numbers c.requires.vertices)
+    subst (λ es. All (λ rule. IsSimplexWithin 4 255 rule.input) (map entry_seen es)) (sym c.deref-2.ensures.value) (entries_within_four listed numbers c.requires.vertices)
 
 pub judge_entries-requires-clause-within : goal.judge_entries-requires-clause-within
 judge_entries-requires-clause-within c =
@@ -32,7 +33,7 @@ pub complex-requires-2-clause-within : goal.complex-requires-2-clause-within
 complex-requires-2-clause-within c =
     let listed = draft_seen c.args.draft.now in
     let numbers = are_judged listed c.in_ok-judge_numbers.field-0 c.in_ok-judge_numbers.ensures in
-    subst (λ ds. All (IsSimplexWithin 4 63) (map pairs_seen ds)) (sym c.deref-4.ensures.value) (all_within_four listed listed.outputs numbers (outputs_within listed numbers c.requires.vertices.outputs))
+    subst (λ ds. All (IsSimplexWithin 4 255) (map pairs_seen ds)) (sym c.deref-4.ensures.value) (all_within_four listed listed.outputs numbers (outputs_within listed numbers c.requires.vertices.outputs))
 
 pub judge_tuples-requires-clause-only : goal.judge_tuples-requires-clause-only
 judge_tuples-requires-clause-only c =
@@ -59,6 +60,7 @@ drafted-requires-clause-faultless c =
     c.in_ok-judge_entries.ensures
     (let tuples : tuples_judged listed inputs ≡ Ok c.in_ok-judge_tuples.field-0 = subst (λ ss. tuples_judged listed ss ≡ Ok c.in_ok-judge_tuples.field-0) c.simplices-2.ensures.simplices c.in_ok-judge_tuples.ensures in tuples)
     some
+    (not-false (is_first_block listed.restriction) (passed_last (not (is_first_block listed.restriction)) fault.FirstBlock c.in_ok-judge_first_block.field-0 c.in_ok-judge_first_block.ensures))
 
 pub complex-requires-clause-few : goal.complex-requires-clause-few
 complex-requires-clause-few c = omega (arith, ap length c.deref.ensures.value, length-map c.args.draft.now.inputs.items pairs_seen, c.requires.few.inputs)

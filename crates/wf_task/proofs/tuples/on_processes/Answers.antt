@@ -24,7 +24,7 @@ all_made pairs s xs n i count long past upto made =
 pub simplex_of-requires : goal.simplex_of-requires
 simplex_of-requires c =
     let s = c.args.simplex.now in
-    subst (IsSimplexWithin 4 63)
+    subst (IsSimplexWithin 4 255)
     (sym (all_made c.loop-place.pairs s c.args.values.now c.colours-size.result c.loop-place.place c.colours-size.ensures.count c.requires.long c.loop-place-test.false c.loop-place.auto.place-end c.loop-place.invariant.made))
     (zip_within 4 s c.args.values.now c.colours-size.ensures.simplex c.requires)
 

@@ -1,4 +1,4 @@
-use Rattle.std.proofs.Common.{◌≡◌, ◌≤◌, ℕ, Result, Ok, Err, length, sym, ap, ◌∙◌, arith}
+use Rattle.std.proofs.Common.{◌≡◌, ◌≤◌, ℕ, Result, Ok, Err, length, sym, ◌∙◌, arith}
 use Rattle.std.specs.Result.{IsErrAnd}
 use Rattle.wf_model.specs.Task.{Task}
 use Rattle.wf_model.specs.Execution.{executions}
@@ -7,13 +7,12 @@ use Rattle.wf_complex.specs.declared.fault.BuildFault.TheVariants.{Rounds, TooMa
 use Rattle.wf_complex.specs.Layout.{execution_total}
 use Rattle.wf_complex.specs.Protocol.{Built, Builds}
 use Rattle.wf_complex.proofs.Executions.{length-executions}
-use Rattle.wf_complex.proofs.Kept.{all_words}
 use Rattle.wf_complex.proofs.protocol.Protocol.build.Goals as goal
 
 pub returns-then-execution_count-gt-MOST_EXECUTIONS : goal.returns-then-execution_count-gt-MOST_EXECUTIONS
 returns-then-execution_count-gt-MOST_EXECUTIONS c =
     let t = c.args.task.now in
-    let long = length-executions t c.args.rounds (all_words t c.inputs.ensures.unrestricted) ∙ ap (execution_total c.args.rounds) (sym (c.simplices-inputs.ensures.simplices ∙ c.inputs.ensures.inputs)) in
+    let long = length-executions t c.args.rounds ∙ sym (λ i. execution_total (c.first_block-m.ensures.first_block i) c.args.rounds ((c.simplices-inputs.ensures.simplices ∙ c.inputs.ensures.inputs) i)) in
     (omega arith, omega (arith, long, c.execution_count.ensures.count))
 
 -- where memory ran out, within the limits
@@ -26,14 +25,14 @@ refused t r (Err OutOfMemory) low few h = (low, few)
 pub returns-in_err-made : goal.returns-in_err-made
 returns-in_err-made c =
     let t = c.args.task.now in
-    let long = length-executions t c.args.rounds (all_words t c.inputs.ensures.unrestricted) ∙ ap (execution_total c.args.rounds) (sym (c.simplices-inputs.ensures.simplices ∙ c.inputs.ensures.inputs)) in
+    let long = length-executions t c.args.rounds ∙ sym (λ i. execution_total (c.first_block-m.ensures.first_block i) c.args.rounds ((c.simplices-inputs.ensures.simplices ∙ c.inputs.ensures.inputs) i)) in
     refused t c.args.rounds c.from_residual.result (omega arith) (omega (arith, long, c.execution_count.ensures.count)) c.from_residual.ensures.1
 
 pub returns : goal.returns
 returns c =
     let t = c.args.task.now in
-    let long = length-executions t c.args.rounds (all_words t c.inputs.ensures.unrestricted) ∙ ap (execution_total c.args.rounds) (sym (c.simplices-inputs.ensures.simplices ∙ c.inputs.ensures.inputs)) in (
+    let long = length-executions t c.args.rounds ∙ sym (λ i. execution_total (c.first_block-m.ensures.first_block i) c.args.rounds ((c.simplices-inputs.ensures.simplices ∙ c.inputs.ensures.inputs) i)) in (
       omega arith,
       omega (arith, long, c.execution_count.ensures.count),
-      c.in_ok-made.ensures t (sym (c.simplices-inputs.ensures.simplices ∙ c.inputs.ensures.inputs)) (sym c.symmetric.ensures) (all_words t c.inputs.ensures.unrestricted),
+      c.in_ok-made.ensures t (sym (c.simplices-inputs.ensures.simplices ∙ c.inputs.ensures.inputs)) (sym c.symmetric.ensures) (sym c.first_block-m.ensures.first_block),
     )

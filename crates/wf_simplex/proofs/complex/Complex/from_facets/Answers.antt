@@ -13,7 +13,7 @@ use Rattle.wf_simplex.proofs.complex.Complex.from_facets.Goals.{then-not-contain
 pub loop-facet-init : goal.loop-facet-init
 loop-facet-init c = record {
   faces = c.new-faces.ensures.empty;
-  within = subst (All (IsSimplexWithin 4 63)) (sym c.new-faces.ensures.empty) (All-nil (IsSimplexWithin 4 63));
+  within = subst (All (IsSimplexWithin 4 255)) (sym c.new-faces.ensures.empty) (All-nil (IsSimplexWithin 4 255));
   few = omega (arith, c.new-faces.ensures.len);
 }
 

@@ -1,4 +1,5 @@
-use Rattle.std.proofs.Common.{◌≤◌, All, length, take, sym, ap, ◌∙◌, subst}
+use Rattle.std.proofs.Common.{◌≤◌, ◌<◌, ◌^◌, All, length, take, get_or, arith, sym, ap, ◌∙◌, subst}
+use Rattle.std.proofs.lemmas.List.{get_or_default}
 use Rattle.wf_task.specs.Filled.{filled}
 use Rattle.wf_task.proofs.Filled.{is_filled, take-filled, length-filled}
 use Rattle.wf_task.proofs.row.Row.new.Goals as goal
@@ -7,5 +8,6 @@ pub invariant_of-result : goal.invariant_of-result
 invariant_of-result c =
     let xs = c.args.values.now in
     let row = is_filled xs c.loop-place.row c.loop-place.place c.requires.few c.loop-place-test.false c.loop-place.auto.place-end c.loop-place.invariant in
+    let small : All (λ x. x ≤ 255) xs = λ k d inside. (let fits : get_or xs k 0 < 2 ^ 8 = (c.type_inv.values k).fits in omega (arith, fits, get_or_default xs k d 0 inside)) in
     let values = ap (take (length xs)) row ∙ take-filled xs c.requires.few in
-    (ap length values, ap filled values ∙ sym row, c.requires.some, c.requires.few, ap length row ∙ length-filled xs c.requires.few, subst (All (λ x. x ≤ 63)) (sym values) c.requires.small)
+    (ap length values, ap filled values ∙ sym row, c.requires.some, c.requires.few, ap length row ∙ length-filled xs c.requires.few, subst (All (λ x. x ≤ 255)) (sym values) small)

@@ -1,8 +1,7 @@
 use Rattle.std.proofs.Common.{flat_map, subst}
 use Rattle.wf_model.specs.Simplex.{values_of}
-use Rattle.wf_model.proofs.Ascending.{has_in_order}
 use Rattle.wf_task.specs.Mask.{IsMaskOf}
-use Rattle.wf_task.proofs.Drafted.{has_from_order}
+use Rattle.wf_task.proofs.TaskValues.{mask_in_order}
 use Rattle.wf_task.proofs.task.Task.of_parts.Goals as goal
 
 pub invariant_of-result : goal.invariant_of-result
@@ -12,5 +11,5 @@ invariant_of-result c =
       task = c.requires.task;
       each = c.requires.each;
       few_outputs = c.requires.few;
-      values = λ v low. (λ e. has_in_order v (flat_map values_of c.args.outputs) ((mask v low).0 e), λ e. (mask v low).1 (has_from_order v (flat_map values_of c.args.outputs) e));
+      values = mask_in_order c.mask.result (flat_map values_of c.args.outputs) mask;
     }
