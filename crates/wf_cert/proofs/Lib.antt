@@ -3,7 +3,6 @@ pub mod BlockLemmas
 pub mod PlaceLemmas
 pub mod ExecutionLemmas
 pub mod RootLemmas
-pub mod RightLemmas
 pub mod FirstLemmas
 pub mod ByteLemmas
 pub mod ReadLemmas
@@ -12,4 +11,5 @@ pub mod BodyLemmas
 pub mod WrittenLemmas
 pub mod ReadBackLemmas
 pub mod GroupLemmas
+pub mod SupportLemmas
 pub mod TruthLemmas

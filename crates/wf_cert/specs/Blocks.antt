@@ -8,16 +8,16 @@ use Rattle.wf_cert.specs.declared.blocks.Entry.{Entry}
 use Rattle.wf_cert.specs.declared.blocks.Entry.TheVariants.{Was, Later}
 
 -- The last entry comes first: a set is put back, or a point has values left, each a box of its own
--- over the words of then.
-abbrev pub later_from : List Entry → List ℕ → List Box
-later_from [] words = []
-later_from (Was v set ∷ below) words = later_from below (slice_set words v set)
-later_from (Later v values ∷ below) words =
-    map (decided (box_of words) v) (values_in values) ++ later_from below words
+-- over the sets of then.
+abbrev pub later_from : List Entry → List (List ℕ) → List Box
+later_from [] sets = []
+later_from (Was v set ∷ below) sets = later_from below (slice_set sets v set)
+later_from (Later v values ∷ below) sets =
+    map (decided (box_of sets) v) (values_in values) ++ later_from below sets
 
--- the boxes after the box of these words
-abbrev pub later : List Entry → List ℕ → List Box
-later trail words = later_from (reverse trail) words
+-- the boxes after the box of these sets
+abbrev pub later : List Entry → List (List ℕ) → List Box
+later trail sets = later_from (reverse trail) sets
 
 -- the box of now
 abbrev pub box_now : Blocks → Box

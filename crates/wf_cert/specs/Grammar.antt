@@ -9,13 +9,13 @@ abbrev pub last_process : ℕ
 last_process = 3
 
 abbrev pub IsLineWithin : Line → Type 0
-IsLineWithin (remove e c a) = (e ≤ most_number) × (c ≤ last_process) × (a ≤ largest 1)
+IsLineWithin (remove e c a) = (e ≤ most_number) × (c ≤ last_process) × (a ≤ largest 2)
 IsLineWithin (empty v) = v ≤ most_number
 IsLineWithin (branch v) = v ≤ most_number
 IsLineWithin found = ⊥
 
 abbrev pub IsBodyWithin : Body → Type 0
-IsBodyWithin (a_map m) = AllByRecursion (λ a. a ≤ largest 1) m
+IsBodyWithin (a_map m) = AllByRecursion (λ a. a ≤ largest 2) m
 IsBodyWithin (none ls) = AllByRecursion IsLineWithin ls
 IsBodyWithin (least m ls) = ⊥
 

@@ -1,5 +1,5 @@
 -- What reading answers about a text, and the pieces that it is cut into.
-use Rattle.std.specs.Prelude.{◌≡◌, ◌<◌, ◌≤◌, ◌==◌, ℕ, Bool, not, List, length, Result, Ok, Err}
+use Rattle.std.specs.Prelude.{◌≡◌, ◌<◌, ◌≤◌, ◌==◌, ℕ, Bool, not, List, length, Result, Ok, Err, false}
 use Rattle.std.specs.List.{list_all}
 use Rattle.wf_model.specs.Report.{Reading, report_of}
 use Rattle.wf_cert.specs.Reports.{report_seen}
@@ -34,9 +34,9 @@ Gives view (Err e) reading = IsBad e reading
 
 -- a text within the limit is read as the definitions say; a longer one is too long, whatever it is
 abbrev pub IsRead : Result Report CertFault → List ℕ → Type 0
-IsRead (Ok r) text = (length text ≤ LONGEST) × (report_of 1 text ≡ Ok (report_seen r))
+IsRead (Ok r) text = (length text ≤ LONGEST) × (report_of 2 false text ≡ Ok (report_seen r))
 IsRead (Err TooLong) text = LONGEST < length text
-IsRead (Err (Syntax k)) text = (length text ≤ LONGEST) × (report_of 1 text ≡ Err k)
+IsRead (Err (Syntax k)) text = (length text ≤ LONGEST) × (report_of 2 false text ≡ Err k)
 IsRead (Err (Header k)) text = ⊥
 IsRead (Err MapLength) text = ⊥
 IsRead (Err (Violates e)) text = ⊥

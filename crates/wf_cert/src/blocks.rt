@@ -11,7 +11,7 @@ ghost use Rattle.wf_set.specs.Sets.{values_in};
 ghost use Rattle.wf_cert.specs.Blocks.{box_now, boxes_later, boxes_left, HasSamePoints};
 
 use std::alloc::{AllocError, Global};
-use wf_set::{Mask, first, has_two, holds, is_empty, only, rest, without};
+use wf_set::{Mask, has_two, holds, is_empty, only, split_first, without};
 
 /// A step of the way back.
 #[derive(Clone, Copy, Debug, Drop)]
@@ -120,11 +120,15 @@ impl Blocks {
             ≡ map (decided (box_now self.old) point) (values_in values) ++ boxes_later self.old) }
         ensures points { HasSamePoints self.old self.new }
     {
+        let Some(split) = split_first(values) else {
+            unreachable!();
+        };
+        let (value, others) = split;
         self.trail.push(Entry::Later {
             point,
-            values: rest(values),
+            values: others,
         })?;
-        self.change(point, only(first(values)))?;
+        self.change(point, only(value))?;
         Ok(())
     }
 

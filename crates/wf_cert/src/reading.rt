@@ -1,6 +1,6 @@
 //! Reading the text of a report, line by line.
 
-ghost use Rattle.std.specs.Prelude.{◌≡◌, ◌==◌, ◌<◌, ◌≤◌, ◌++◌, ◌∷◌, [], true, codes, length, map, option_map, IfOk, OnOk};
+ghost use Rattle.std.specs.Prelude.{◌≡◌, ◌==◌, ◌<◌, ◌≤◌, ◌++◌, ◌∷◌, [], true, codes, length, map, option_map, IfOk, OnOk, false};
 ghost use Rattle.wf_model.specs.Report.{body_at, fixed_at, line, lines_of, map_body, most_number, none_body, number_at, number_of_line, number_upto, step_of_none, step_of_words, value_of_line};
 ghost use Rattle.wf_model.specs.Report as report;
 ghost use Rattle.wf_model.specs.Refutation.{branch, empty};
@@ -20,7 +20,7 @@ use wf_task::LONGEST;
 pub(crate) const FIRST_LINE: u32 = 7;
 
 /// The largest value.
-const LARGEST: u32 = 63;
+const LARGEST: u32 = 255;
 
 /// The last process.
 const LAST_PROCESS: u32 = 3;
@@ -98,7 +98,7 @@ fn number_behind(line: &[u8], name: &[u8]) -> Option<u32>
 /// The body, from line 6 on.
 fn read_body(alloc: Global, text: &[u8]) -> Result<Body, CertFault>
     requires { length text.now ≤ LONGEST }
-    ensures body { Gives body_of result (body_at 1 (lines_of text.now)) }
+    ensures body { Gives body_of result (body_at 2 false (lines_of text.now)) }
     ensures few { IfOk result (λ body. body_length body ≤ LONGEST) }
 {
     let Some((found, rest)) = cut(text, b'\n') else {
@@ -116,7 +116,7 @@ fn read_body(alloc: Global, text: &[u8]) -> Result<Body, CertFault>
 /// The values of a map, up to the end of the text.
 fn read_values(alloc: Global, text: &[u8]) -> Result<Vec<u8>, CertFault>
     requires { length text.now ≤ LONGEST }
-    ensures map { let read = map_body 1 (lines_of text.now) in
+    ensures map { let read = map_body 2 (lines_of text.now) in
         Gives (λ values. report.a_map values.items) result read }
     ensures few { IfOk result (λ values. length values.items ≤ LONGEST) }
 {
@@ -143,7 +143,7 @@ fn read_values(alloc: Global, text: &[u8]) -> Result<Vec<u8>, CertFault>
 /// The lines of a refutation, up to the end of the text.
 fn read_lines(alloc: Global, text: &[u8]) -> Result<Lines, CertFault>
     requires { length text.now ≤ LONGEST }
-    ensures lines { let read = none_body 1 (lines_of text.now) in
+    ensures lines { let read = none_body 2 (lines_of text.now) in
         Gives (λ lines. report.none (map line_of lines.items)) result read }
     ensures few { IfOk result (λ lines. length lines.items ≤ LONGEST) }
 {
@@ -185,7 +185,7 @@ fn put<T: Drop>(list: &mut Vec<T>, one: T) -> Result<(), AllocError>
 /// The value of a line of a map.
 fn value_of(line: &[u8]) -> Option<u8>
     requires { lacks 10 line.now ≡ true }
-    ensures { result ≡ value_of_line 1 (line.now ++ 10 ∷ []) }
+    ensures { result ≡ value_of_line 2 (line.now ++ 10 ∷ []) }
 {
     let value = number_behind(line, b"m")?;
     if value > LARGEST {
@@ -197,7 +197,7 @@ fn value_of(line: &[u8]) -> Option<u8>
 /// The step of a line of a refutation.
 fn step_of(line: &[u8]) -> Option<Line>
     requires { lacks 10 line.now ≡ true }
-    ensures { option_map line_of result ≡ step_of_none 1 (line.now ++ 10 ∷ []) }
+    ensures { option_map line_of result ≡ step_of_none 2 (line.now ++ 10 ∷ []) }
 {
     let Some((name, rest)) = cut(line, b' ') else {
         return None;
@@ -232,7 +232,7 @@ fn branch_of(point: &[u8]) -> Option<Line>
 
 /// The removal of these words, which are parted by spaces: an execution, a process and a value.
 fn removal_of(numbers: &[u8]) -> Option<Line>
-    ensures { option_map line_of result ≡ step_of_words 1 (codes "p" ∷ words numbers.now) }
+    ensures { option_map line_of result ≡ step_of_words 2 (codes "p" ∷ words numbers.now) }
 {
     let Some((execution, rest)) = cut(numbers, b' ') else {
         return None;

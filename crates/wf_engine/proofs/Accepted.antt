@@ -64,11 +64,11 @@ faultless t report (Err e) within clear is = absurd is
 text_accepted : (t : Task) (report : Report) (answer : Result (Outcome × List ℕ) RunFault) → IsInGrammar report → length (report_text report) ≤ LONGEST → IsWithinLimits report.rounds t
     → report_fault t report.rounds report ≡ None → ChecksText t (report_text report) answer → Accepts (outcome_of report.body) answer
 text_accepted t report answer grammar short within clear (Ok read, is, next) =
-    let known : report_of 1 (report_text report) ≡ Ok report = written_read report grammar in
+    let known : report_of 2 false (report_text report) ≡ Ok report = written_read report grammar in
     let same : read ≡ report = cc in
     faultless t report answer within clear (subst (λ r. IsVerified t r answer) same next)
 text_accepted t report answer grammar short within clear (Err (run.Cert (cert.Syntax k)), is, next) =
-    let known : report_of 1 (report_text report) ≡ Ok report = written_read report grammar in
+    let known : report_of 2 false (report_text report) ≡ Ok report = written_read report grammar in
     absurd (let bad : ⊥ = cc in bad)
 text_accepted t report answer grammar short within clear (Err run.TooLong, is, next) = absurd (omega (arith, short, is))
 text_accepted t report answer grammar short within clear (Err run.OutOfMemory, is, next) = subst (Accepts (outcome_of report.body)) (sym next) tt
@@ -83,15 +83,15 @@ finds_none t r task fails = by_map (canonical (problem_of t r) (root (problem_of
     by_map (Some m) e = absurd (fails _ (answer_least t r m task e).decides)
 
 pub solved_accepted : (t : Task) (r : ℕ) (found : Outcome × Account) (text : List ℕ) (answer : Result (Outcome × List ℕ) RunFault)
-    → IsTask t → t.restriction ≡ None → IsWithinLimits r t → IsSolved r false t found text → length text ≤ LONGEST
+    → IsTask t → IsWithinLimits r t → IsSolved r false t found text → length text ≤ LONGEST
     → ChecksText t text answer → Accepts found.0 answer
 unfolding text_of_report
-solved_accepted t r (Map, a) text answer task free within (m, least, account, is) short checks =
-    text_accepted t (report_about t r (a_map (listed t r m))) answer (map_within t r task free within m least.decides) (subst (λ x. length x ≤ LONGEST) is short) within
+solved_accepted t r (Map, a) text answer task within (m, least, account, is) short checks =
+    text_accepted t (report_about t r (a_map (listed t r m))) answer (map_within t r task within m least.decides) (subst (λ x. length x ≤ LONGEST) is short) within
     (map_accepted t r m least.decides) (subst (λ x. ChecksText t x answer) is checks)
-solved_accepted t r (Nothing, a) text answer task free within (ls, refuted, account, is) short checks =
+solved_accepted t r (Nothing, a) text answer task within (ls, refuted, account, is) short checks =
     let lines : List Line = (canonical (problem_of t r) (root (problem_of t r))).lines in
     let written : text ≡ text_of_report t r (none lines) = is ∙ ap (λ x. text_of_report t r (none x)) refuted.canonical_lines in
     let refutation = refuted.refutes in
-    text_accepted t (report_about t r (none lines)) answer (none_within t r task free within refutation.0 (refutation.1 ∙ refuted.canonical_lines) refutation.2) (subst (λ x. length x ≤ LONGEST) written short) within
+    text_accepted t (report_about t r (none lines)) answer (none_within t r task within refutation.0 (refutation.1 ∙ refuted.canonical_lines) refutation.2) (subst (λ x. length x ≤ LONGEST) written short) within
     (canonical_none_accepted t r task (finds_none t r task refuted.no_map)) (subst (λ x. ChecksText t x answer) written checks)

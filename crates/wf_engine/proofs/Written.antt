@@ -36,7 +36,7 @@ use Rattle.wf_engine.specs.Run.{IsWithinLimits}
 
 -- a value that a line may hold
 IsSmall : ℕ → Type 0
-IsSmall a = a ≤ largest 1
+IsSmall a = a ≤ largest 2
 
 -- each candidate is such a value
 abbrev AreSmall : Box → Type 0
@@ -254,14 +254,18 @@ small_map [] box h lies = tt
 small_map (a ∷ m) [] h lies = absurd lies
 small_map (a ∷ m) (s ∷ box) h lies = (each_with_value IsSmall s a h.0 lies.0, small_map m box h.1 lies.1)
 
-module _ (t : Task) (r : ℕ) (task : IsTask t) (free : t.restriction ≡ None) where
+-- no task has a larger value
+largest_is : (o : Option ℕ) → largest_value o ≤ largest 2
+largest_is None = omega arith
+largest_is (Some m) = omega arith
+
+module _ (t : Task) (r : ℕ) (task : IsTask t) where
   outputs_small : AllByRecursion IsSmall (flat_map values_of t.outputs)
   unfolding IsSmall
   outputs_small =
-      let most : largest_value t.restriction ≡ largest 1 = ap largest_value free in
       each_flat IsSmall values_of t.outputs
       (weaker (IsSimplexWithin t.processes (largest_value t.restriction)) (λ s. AllByRecursion IsSmall (values_of s))
-      (λ s h. subst (λ n. AllByRecursion (λ x. x ≤ n) (values_of s)) most (recursion_from_All _ (values_of s) h.values))
+      (λ s h. weaker (λ x. x ≤ largest_value t.restriction) IsSmall (λ x k. omega (arith, k, largest_is t.restriction)) (values_of s) (recursion_from_All _ (values_of s) h.values))
       t.outputs (recursion_from_All _ t.outputs task.output_complex.within))
 
   values_small : AllByRecursion IsSmall (values t)

@@ -83,10 +83,9 @@ Accepts outcome (Ok answer) = answer.0 ≡ outcome
 Accepts outcome (Err OutOfMemory) = Unit {0}
 Accepts outcome (Err e) = ⊥
 
--- Of a task in which all words are allowed, as in each that is read: the full report of a search, of at most as many
--- bytes as a text may have, is accepted.
+-- The full report of a search, of at most as many bytes as a text may have, is accepted.
 abbrev pub SolvedReportsAreAccepted : Type 0
 SolvedReportsAreAccepted =
     (t : Task) (r : ℕ) (found : Outcome × Account) (text : List ℕ) (answer : Result (Outcome × List ℕ) RunFault)
-    → IsTask t → t.restriction ≡ None → IsWithinLimits r t → IsSolved r false t found text → length text ≤ LONGEST
+    → IsTask t → IsWithinLimits r t → IsSolved r false t found text → length text ≤ LONGEST
     → ChecksText t text answer → Accepts found.0 answer

@@ -1,5 +1,5 @@
 -- A run over two sources: a task, and a report about it.
-use Rattle.std.specs.Prelude.{◌≡◌, ◌<◌, ℕ, List, [], length, codes, Result, Ok, Err, None}
+use Rattle.std.specs.Prelude.{◌≡◌, ◌<◌, ℕ, List, [], length, codes, Result, Ok, Err, None, false}
 use Rattle.wf_model.specs.Task.{Task}
 use Rattle.wf_model.specs.Report.{Report, Body, a_map, none, least, line, report_of}
 use Rattle.wf_model.specs.Check.{report_fault}
@@ -19,8 +19,8 @@ use Rattle.wf_engine.specs.declared.fault.RunFault.TheVariants.{Cert, OutOfMemor
 
 -- the report of a text, or the number of its first bad line
 abbrev pub IsReportOf : List ℕ → Result Report RunFault → Type 0
-IsReportOf text (Ok r) = report_of 1 text ≡ Ok r
-IsReportOf text (Err (Cert (cert.Syntax k))) = report_of 1 text ≡ Err k
+IsReportOf text (Ok r) = report_of 2 false text ≡ Ok r
+IsReportOf text (Err (Cert (cert.Syntax k))) = report_of 2 false text ≡ Err k
 IsReportOf text (Err TooLong) = LONGEST < length text
 IsReportOf text (Err OutOfMemory) = Unit {0}
 IsReportOf text (Err e) = ⊥

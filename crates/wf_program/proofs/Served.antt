@@ -1,5 +1,5 @@
 -- What holds after every run of the program.
-use Rattle.std.proofs.Common.{◌≡◌, ◌≢◌, ℕ, Bool, zero, suc, ◌+◌, ◌≤◌, ◌⊎◌, inl, inr, List, Result, Ok, Err, IfOk, IfErr, refl, sym, ap, subst, ◌∙◌, arith}
+use Rattle.std.proofs.Common.{◌≡◌, ◌≢◌, ℕ, Bool, zero, suc, ◌+◌, ◌≤◌, ◌⊎◌, inl, inr, List, Option, Some, None, Result, Ok, Err, IfOk, IfErr, refl, sym, ap, subst, ◌∙◌, arith}
 use Rattle.wf_core.specs.declared.Account.{Account}
 use Rattle.wf_io.specs.Seen.{Reading, Writing}
 use Rattle.wf_task.specs.declared.task.TheConstants.{LONGEST}
@@ -18,7 +18,8 @@ use Rattle.wf_engine.proofs.Counts.{counted, handed, preset_counted}
 use Rattle.wf_program.specs.declared.done.Done.{Done}
 use Rattle.wf_program.specs.declared.refusal.Refusal.{Refusal}
 use Rattle.wf_program.specs.declared.refusal.Refusal.TheVariants as refusal
-use Rattle.wf_program.specs.Program.{fault_status, refusal_status, solved, verified, written, IsHelp, Helps, Declines, DoesAsked, Ends}
+use Rattle.wf_program.specs.Program.{fault_status, refusal_status, solved, verified, written, IsShown, Shows, Declines, DoesAsked, Ends}
+use Rattle.wf_program.specs.VersionText.{version_line}
 use Rattle.wf_program.specs.Laws.{IsServed, failed_calls, file_count}
 
 -- how many calls failed, by what was done
@@ -80,13 +81,13 @@ module _ (source source' : Reading) (sink sink' : Writing) where
       let takes : source'.taken ≡ source.taken = ap (λ s. s.taken) read in
       record { most = tt; failures = (0, omega arith, omega (arith, reads, writes, none)); taken = omega (arith, takes); unwritten = λ other. wrote }
 
-  quiet : (answer : Result (Unit {0} × List ℕ) RunFault) → IsHelp answer → (by_result failed_reads answer ≡ 0) × (by_result failed_writes answer ≡ 0)
-  quiet (Ok answer) asks = (refl, refl)
-  quiet (Err e) asks = (ap failed_reads asks, ap failed_writes asks)
+  quiet : (text : Option (List ℕ)) (answer : Result (Unit {0} × List ℕ) RunFault) → IsShown text answer → (by_result failed_reads answer ≡ 0) × (by_result failed_writes answer ≡ 0)
+  quiet text (Ok answer) asks = (refl, refl)
+  quiet text (Err e) asks = (ap failed_reads asks, ap failed_writes asks)
 
-  helped : (done : Result Done Refusal) → source' ≡ source → Helps sink sink' done → IsDone 0 source source' sink sink' done
-  helped done read (result, (answer, asks, h), is) =
-      let none = quiet answer asks in
+  shown : (text : Option (List ℕ)) (done : Result Done Refusal) → source' ≡ source → Shows text sink sink' done → IsDone 0 source source' sink sink' done
+  shown text done read (result, (answer, asks, h), is) =
+      let none = quiet text answer asks in
       let told = handed sink sink' answer result h none.1 in
       let reads : source'.failures ≡ source.failures = ap (λ s. s.failures) read in
       let takes : source'.taken ≡ source.taken = ap (λ s. s.taken) read in
@@ -96,8 +97,9 @@ module _ (source source' : Reading) (sink sink' : Writing) where
 
   declined : (e : WordsFault) (done : Result Done Refusal) → source' ≡ source → Declines e sink sink' done → IsDone 0 source source' sink sink' done
   unfolding failed
-  declined (words.Clap e) done read (inl (asked, helps)) = helped done read helps
-  declined (words.Clap e) done read (inr (mistake, is, same)) = subst (IsDone 0 source source' sink sink') (sym is) (untouched (refusal.Clap e) refl read same)
+  declined (words.Clap e) done read (inl (help, shows)) = shown None done read shows
+  declined (words.Clap e) done read (inr (inl (version, shows))) = shown (Some version_line) done read shows
+  declined (words.Clap e) done read (inr (inr (mistake, is, same))) = subst (IsDone 0 source source' sink sink') (sym is) (untouched (refusal.Clap e) refl read same)
   declined words.Words done read (is, same) = subst (IsDone 0 source source' sink sink') (sym is) (untouched refusal.Words refl read same)
   declined words.OutOfMemory done read (is, same) = subst (IsDone 0 source source' sink sink') (sym is) (untouched (refusal.Run run.OutOfMemory) refl read same)
 

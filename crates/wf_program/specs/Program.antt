@@ -22,6 +22,7 @@ use Rattle.wf_words.specs.declared.Job.TheVariants.{Solve, Verify, Views, Preset
 use Rattle.wf_words.specs.declared.WordsFault.{WordsFault}
 use Rattle.wf_words.specs.declared.WordsFault.TheVariants as fault
 use Rattle.wf_program.specs.AccountText.{account_line}
+use Rattle.wf_program.specs.VersionText.{version_line}
 use Rattle.wf_program.specs.declared.done.Done.{Done}
 use Rattle.wf_program.specs.declared.refusal.Refusal.{Refusal}
 use Rattle.wf_program.specs.declared.refusal.Refusal.TheVariants.{Run, Words, Clap}
@@ -108,23 +109,31 @@ Does (Preset preset) source source' sink sink' done =
     (result : Result (Unit {0}) RunFault) × WritesPreset preset sink sink' result × (source' ≡ source)
     × (done ≡ written result)
 
--- the words don't ask for help
+-- the words ask neither for help nor for the version
 abbrev pub IsMistake : Error → Type 0
 IsMistake e = (kind_of e ≢ kind.DisplayHelp) × (kind_of e ≢ kind.DisplayVersion)
 
--- any text is a help
-abbrev pub IsHelp : Result (Unit {0} × List ℕ) RunFault → Type 0
-IsHelp (Ok answer) = Unit {0}
-IsHelp (Err e) = e ≡ run.OutOfMemory
+-- the text that is shown, where it is known
+abbrev pub IsShown : Option (List ℕ) → Result (Unit {0} × List ℕ) RunFault → Type 0
+IsShown (Some text) (Ok answer) = answer.1 ≡ text
+IsShown None (Ok answer) = Unit {0}
+IsShown text (Err e) = e ≡ run.OutOfMemory
 
-abbrev pub Helps : Writing → Writing → Result Done Refusal → Type 0
-Helps sink sink' done =
-    (result : Result (Unit {0}) RunFault) × Ran IsHelp sink sink' result × (done ≡ written result)
+-- a text was written, or memory ran out
+abbrev pub Shows : Option (List ℕ) → Writing → Writing → Result Done Refusal → Type 0
+Shows text sink sink' done =
+    (result : Result (Unit {0}) RunFault) × Ran (IsShown text) sink sink' result × (done ≡ written result)
 
--- the words ask for help, or they are refused, or memory ran out
+-- the words ask for help, which is any text, or for the version; or they are refused
+abbrev pub ShowsOrRefuses : Error → Writing → Writing → Result Done Refusal → Type 0
+ShowsOrRefuses e sink sink' done =
+    ((kind_of e ≡ kind.DisplayHelp) × Shows None sink sink' done)
+    ⊎ ((kind_of e ≡ kind.DisplayVersion) × Shows (Some version_line) sink sink' done)
+    ⊎ (IsMistake e × (done ≡ Err (Clap e)) × (sink' ≡ sink))
+
+-- the words ask for a text, or they are refused, or memory ran out
 abbrev pub Declines : WordsFault → Writing → Writing → Result Done Refusal → Type 0
-Declines (fault.Clap e) sink sink' done =
-    ((IsMistake e → ⊥) × Helps sink sink' done) ⊎ (IsMistake e × (done ≡ Err (Clap e)) × (sink' ≡ sink))
+Declines (fault.Clap e) sink sink' done = ShowsOrRefuses e sink sink' done
 Declines fault.Words sink sink' done = (done ≡ Err Words) × (sink' ≡ sink)
 Declines fault.OutOfMemory sink sink' done = (done ≡ Err (Run run.OutOfMemory)) × (sink' ≡ sink)
 

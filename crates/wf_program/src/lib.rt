@@ -10,6 +10,7 @@ mod files;
 mod laws;
 mod program;
 mod refusal;
+mod version;
 
 pub use files::Files;
 pub use laws::serving_is_counted;

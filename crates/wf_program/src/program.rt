@@ -3,11 +3,13 @@
 ghost use Rattle.std.specs.Prelude.{◌≡◌};
 ghost use Rattle.wf_io.specs.Ends.{CanCount, CanWrite};
 ghost use Rattle.wf_words.specs.Job.{IsWithinLimits};
-ghost use Rattle.wf_program.specs.Program.{CanServe, Declines, Does, Ends, Helps, IsAsked, Serves, VerifiesFile, outcome_status, solved, verified, written};
+ghost use Rattle.wf_program.specs.Program.{CanServe, Declines, Does, Ends, IsAsked, Serves, Shows, VerifiesFile, outcome_status, solved, verified, written};
 
 use crate::done::{AccountLine, Done};
 use crate::files::Files;
 use crate::refusal::Refusal;
+use crate::version::VersionLine;
+use clap::error::ErrorKind;
 use std::alloc::Global;
 use std::fmt::Display;
 use std::io::{Read, Write};
@@ -145,28 +147,26 @@ fn after_writing(found: Result<(), RunFault>) -> Result<Done, Refusal>
     }
 }
 
-/// There is no job in the words: a help goes to the sink, and the rest is refused.
+/// There is no job in the words: a help or the version goes to the sink, and the rest is refused.
 fn decline<W: Write>(alloc: Global, sink: &mut Sink<W>, fault: WordsFault) -> Result<Done, Refusal>
     requires { CanWrite sink.old }
     ensures { Declines fault sink.old sink.new result }
 {
     match fault {
-        WordsFault::Clap(error) => {
-            if error.use_stderr() {
-                Err(Refusal::Clap(error))
-            } else {
-                help(alloc, sink, &error)
-            }
-        }
+        WordsFault::Clap(error) => match error.kind() {
+            ErrorKind::DisplayHelp => show(alloc, sink, &error),
+            ErrorKind::DisplayVersion => show(alloc, sink, &VersionLine),
+            _ => Err(Refusal::Clap(error)),
+        },
         WordsFault::Words => Err(Refusal::Words),
         WordsFault::OutOfMemory => Err(Refusal::Run(RunFault::OutOfMemory)),
     }
 }
 
-/// Writes a help.
-fn help<W: Write, H: Display>(alloc: Global, sink: &mut Sink<W>, text: &H) -> Result<Done, Refusal>
+/// Writes a text that the words ask for.
+fn show<W: Write, T: Display>(alloc: Global, sink: &mut Sink<W>, text: &T) -> Result<Done, Refusal>
     requires { CanWrite sink.old }
-    ensures { Helps sink.old sink.new result }
+    ensures { Shows (T.output text.now) sink.old sink.new result }
 {
     let answer = match format!(in alloc; "{text}") {
         Ok(text) => Ok(((), text.into_bytes())),

@@ -5,12 +5,14 @@ ghost use Rattle.std.specs.Prelude.{IfOk, IfErr, IfSome};
 ghost use Rattle.wf_words.specs.Job.{IsWithinLimits, IsClapMistake};
 
 mod presets;
+mod version;
 
 use crate::presets::Options;
 use clap::error::ErrorKind;
 use clap::{Arg, ArgAction, ArgMatches, Command, value_parser};
 use std::alloc::{AllocError, Global};
 use std::io;
+pub use version::{LOGIC, VERSION};
 use wf_engine::{MAX_WORKERS, Preset};
 
 /// What the help of `preset` says of the kinds.
@@ -48,7 +50,7 @@ pub enum Job {
 /// Why words are no job.
 #[derive(Drop)]
 pub enum WordsFault {
-    /// The words are not those of the command line, or they ask for help: a text to be printed.
+    /// The words are not those of the command line, or they ask for help or for the version: a text to be printed.
     Clap(clap::Error),
     /// The words are read but ask for what this program refuses, or one of them is no text.
     Words,
@@ -168,6 +170,7 @@ fn whole_command<'a>(alloc: Global) -> Result<Command<'a>, AllocError> {
         .about(
             "Decide whether a task can be solved wait-free in r rounds of iterated immediate snapshots",
         )
+        .version(VERSION)
         .subcommand_required(true)
         .subcommand(solve_command(alloc)?)?
         .subcommand(verify_command(alloc)?)?

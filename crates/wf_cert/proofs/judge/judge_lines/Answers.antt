@@ -11,10 +11,10 @@ pub loop-line-init : goal.loop-line-init
 loop-line-init c =
     let t = c.args.task.now in
     let b = c.args.protocol.now in
-    let words = c.in_ok-blocks.blocks.sets.items in
-    let sets = c.in_ok-blocks.ensures.sets in (
-      (λ i. first_fault (problem_of t b.rounds) 7 (map line_of c.args.lines.now) (root_is t b.rounds b c.values.result c.points.result words c.requires.built c.values.ensures.values c.points.ensures.points sets i ∷ ap (λ es. later es words) c.in_ok-blocks.ensures.alone i)),
-      ap length sets ∙ length-replicate c.points.result c.values.result ∙ c.points.ensures.points,
+    let sets = c.in_ok-blocks.blocks.sets.items in
+    let are = c.in_ok-blocks.ensures.sets in (
+      (λ i. first_fault (problem_of t b.rounds) 7 (map line_of c.args.lines.now) (root_is t b.rounds b c.values.result c.points.result sets c.requires.built c.values.ensures.values c.points.ensures.points are i ∷ ap (λ es. later es sets) c.in_ok-blocks.ensures.alone i)),
+      ap length are ∙ length-replicate c.points.result c.values.result ∙ c.points.ensures.points,
       refl,
     )
 
