@@ -1,7 +1,7 @@
 //! Simplices, complexes and words.
 
 use std::test::Fail;
-use wf_simplex::{Complex, Simplex, SimplexFault, Word, word_count};
+use wf_simplex::{Complex, Simplex, SimplexFault, Word, allowed_count, word_count};
 
 fn simplex(pairs: &[(u8, u8)]) -> Result<Simplex, SimplexFault> {
     Simplex::read(pairs)
@@ -18,8 +18,8 @@ fn simplices_are_read_or_refused(rt: HostRuntime) {
         (&[(4, 0)], Some(SimplexFault::Colour)),
         (&[(1, 0), (0, 0)], Some(SimplexFault::Colour)),
         (&[(1, 0), (1, 0)], Some(SimplexFault::Colour)),
-        (&[(0, 64)], Some(SimplexFault::Value)),
-        (&[(0, 0), (1, 255)], Some(SimplexFault::Value)),
+        (&[(0, 64)], None),
+        (&[(0, 0), (1, 255)], None),
         (&[(0, 64), (0, 0)], Some(SimplexFault::Colour)),
         (
             &[(0, 0), (1, 0), (2, 0), (3, 0), (4, 64)],
@@ -147,6 +147,45 @@ fn words_are_counted(rt: HostRuntime) {
             assert_eq!(rt; steps, count, "at {size}");
         }
     }
+}
+
+#[test]
+fn words_with_a_larger_first_block_are_counted(rt: HostRuntime) {
+    let counts = [[1u32, 3, 13, 75], [1, 1, 4, 23], [1, 1, 1, 5], [1, 1, 1, 1]];
+    for m in 1..5u8 {
+        for size in 1..5u8 {
+            let count = counts[m as usize - 1][size as usize - 1];
+            assert_eq!(rt; allowed_count(size, m), count, "{m} of {size}");
+            let mut word = Word::first_allowed(size, m);
+            let mut steps = 1u32;
+            for _ in 0..100 {
+                assert!(rt; word.allowed(m), "{m} of {size} at {steps}");
+                if word.next_allowed(m) {
+                    steps = steps.saturating_add(1);
+                }
+            }
+            assert_eq!(rt; steps, count, "{m} of {size}");
+        }
+    }
+}
+
+#[test]
+fn words_with_two_at_least_in_the_first_block(rt: HostRuntime) {
+    let three = [[0u8, 0, 0], [0, 0, 1], [0, 1, 0], [1, 0, 0]];
+    let mut word = Word::first_allowed(3, 2);
+    for (place, levels) in three.iter().enumerate() {
+        if word.size() == 3 {
+            let found = [word.level(0), word.level(1), word.level(2)];
+            assert_eq!(rt; &found, levels, "at {place}");
+        }
+        assert_eq!(rt; word.next_allowed(2), place < 3, "at {place}");
+    }
+    let mut single = Word::first(3);
+    let _ = single.next();
+    let _ = single.next();
+    let _ = single.next();
+    assert!(rt; single.allowed(1), "0 1 1");
+    assert!(rt; !single.allowed(2), "0 1 1");
 }
 
 #[test]

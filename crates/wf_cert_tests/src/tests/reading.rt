@@ -103,7 +103,7 @@ fn steps(alloc: Global, lines: &[&str], rest: &str, is_map: bool) -> Result<Vec<
 fn step_of(alloc: Global, line: &str, is_map: bool) -> Result<Option<Step>, AllocError> {
     let words = words_of(alloc, line)?;
     Ok(match (is_map, words.as_slice()) {
-        (true, ["m", value]) => number_of(alloc, value, 63)?.map(|a| Step::Value(a as usize)),
+        (true, ["m", value]) => number_of(alloc, value, 255)?.map(|a| Step::Value(a as usize)),
         (false, ["z", point]) => {
             number_of(alloc, point, u32::MAX)?.map(|v| Step::Empty(v as usize))
         }
@@ -113,7 +113,7 @@ fn step_of(alloc: Global, line: &str, is_map: bool) -> Result<Option<Step>, Allo
         (false, ["p", execution, process, value]) => {
             let execution = number_of(alloc, execution, u32::MAX)?;
             let process = number_of(alloc, process, 3)?;
-            let value = number_of(alloc, value, 63)?;
+            let value = number_of(alloc, value, 255)?;
             removal(execution, process, value)
         }
         _ => None,

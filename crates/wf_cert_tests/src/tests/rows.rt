@@ -115,6 +115,6 @@ pub static ROWS: [Row; 21] = [
     Row {
         task: PATH_3,
         text: "wfcheck report 1\nprocesses 2\nrounds 1\npoints 4\nexecutions 5\nanswer map\nm 64\nm 3\nm 2\nm 1\nend\n",
-        answer: "20 Syntax 7",
+        answer: "23 Violates 0",
     },
 ];

@@ -21,11 +21,20 @@ pub enum Rule {
     FirstTurns,
 }
 
+// Which workers may not start.
+#[derive(Clone, Copy)]
+pub enum Barred {
+    Nobody,
+    // The one of this number.
+    Worker(u32),
+    All,
+}
+
 // A gate for a problem of three branches.
 #[derive(Drop)]
 pub struct Hold {
     rule: Rule,
-    may_start: bool,
+    barred: Barred,
     asked: AtomicU64,
     taken: AtomicU64,
     settled: AtomicU64,
@@ -49,7 +58,7 @@ impl Hold {
     pub fn new(rule: Rule) -> Hold {
         Hold {
             rule,
-            may_start: true,
+            barred: Barred::Nobody,
             asked: AtomicU64::new(0),
             taken: AtomicU64::new(0),
             settled: AtomicU64::new(0),
@@ -59,10 +68,10 @@ impl Hold {
         }
     }
 
-    // A gate by which no worker may start.
-    pub fn without_starts() -> Hold {
+    // A gate by which these workers may not start.
+    pub fn without(barred: Barred) -> Hold {
         let mut hold = Hold::new(Rule::Nobody);
-        hold.may_start = false;
+        hold.barred = barred;
         hold
     }
 
@@ -129,8 +138,12 @@ impl Gate for Hold {
         }
     }
 
-    fn may_start(&self, _worker: u32) -> bool {
+    fn may_start(&self, worker: u32) -> bool {
         self.asked.fetch_add(1, SeqCst);
-        self.may_start
+        match self.barred {
+            Barred::Nobody => true,
+            Barred::Worker(barred) => worker != barred,
+            Barred::All => false,
+        }
     }
 }

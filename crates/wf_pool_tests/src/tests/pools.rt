@@ -1,7 +1,7 @@
 ghost use Rattle.std.specs.Prelude.{◌<◌, ◌≤◌};
 
 // Whole problems, by one worker and by several.
-use super::holds::{Hold, Rule};
+use super::holds::{Barred, Hold, Rule};
 use super::tasks::{AGREEMENT_3_2, CONSENSUS_2, PATH_2, problem_of};
 use std::alloc::Global;
 use std::process::Abort;
@@ -203,7 +203,7 @@ fn needs_no_thread<R: Threads + Sync + Abort, H: Handout>(
     alloc: Global,
 ) -> Result<(), Fail> {
     for workers in [3, MAX_WORKERS] {
-        let gate = Hold::without_starts();
+        let gate = Hold::without(Barred::All);
         let account = account_under::<R, H>(rt, alloc, workers, &gate)?;
         assert_eq!(rt; account, FIRST_ALONE);
         assert_eq!(rt; gate.starts(), 2);
@@ -215,6 +215,38 @@ fn needs_no_thread<R: Threads + Sync + Abort, H: Handout>(
 fn workers_that_may_not_start(rt: HostRuntime) -> Result<(), Fail> {
     needs_no_thread::<_, Counter>(&rt, rt.alloc())?;
     needs_no_thread::<_, Stealing>(&rt, rt.alloc())
+}
+
+// Of three workers one or two may not start (the first works in the main thread), and the answers are those of one worker: the least map, and these lines.
+fn needs_no_worker<R: Threads + Sync + Abort, H: Handout>(
+    rt: &R,
+    alloc: Global,
+    refuted: &Problem,
+    lines: &[Line],
+) -> Result<(), Fail> {
+    for barred in [Barred::Worker(1), Barred::Worker(2), Barred::All] {
+        let gate = Hold::without(barred);
+        let account = account_under::<R, H>(rt, alloc, 3, &gate)?;
+        assert_eq!(rt; (account.branches, account.least), (3, 0));
+        assert!(rt; account.searched > 0 && account.searched <= 3);
+        assert_eq!(rt; account.cut, 3 - account.searched);
+        assert_eq!(rt; gate.starts(), 2);
+        let (answer, account) = solve::<R, H, Hold>(rt, alloc, refuted, 3, &gate)?;
+        assert_eq!(rt; lines_of(&answer), lines);
+        assert_eq!(rt; account, AGREEMENT_ACCOUNT);
+        assert_eq!(rt; gate.starts(), 4);
+    }
+    Ok(())
+}
+
+#[test]
+fn some_workers_that_may_not_start(rt: HostRuntime) -> Result<(), Fail> {
+    let problem = problem_of(rt.alloc(), AGREEMENT_3_2, 1)?;
+    let (answer, _) = solve_one(rt.alloc(), &problem)?;
+    let lines = lines_of(&answer);
+    assert_eq!(rt; lines.len(), AGREEMENT_LINES);
+    needs_no_worker::<_, Counter>(&rt, rt.alloc(), &problem, lines)?;
+    needs_no_worker::<_, Stealing>(&rt, rt.alloc(), &problem, lines)
 }
 
 // The same map a thousand times, by three workers and by as many as may be asked for.

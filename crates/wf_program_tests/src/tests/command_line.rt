@@ -154,6 +154,7 @@ fn failed_calls_are_told(rt: HostRuntime) -> Result<(), Fail> {
         ),
         ("wfcheck views --rounds 8", 0, 11, "wfcheck: 31 Write\n", 4),
         ("wfcheck --help", 1, 11, "wfcheck: 31 Write\n", 4),
+        ("wfcheck --version", 1, 11, "wfcheck: 31 Write\n", 4),
         (
             "wfcheck preset renaming --processes 2 --names 2",
             1,

@@ -53,6 +53,8 @@ fn words_are_a_job_or_a_fault(rt: HostRuntime) -> Result<(), Fail> {
         ("wfcheck solve --rounds 1", "clap MissingRequiredArgument"),
         ("wfcheck", "clap MissingSubcommand"),
         ("wfcheck --help", "clap DisplayHelp"),
+        ("wfcheck --version", "clap DisplayVersion"),
+        ("wfcheck solve --version", "clap UnknownArgument"),
         ("wfcheck draw", "clap InvalidSubcommand"),
     ];
     for (line, want) in rows {

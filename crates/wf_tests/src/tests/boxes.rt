@@ -9,13 +9,13 @@ use std::alloc::{AllocError, Global};
 use std::test::Fail;
 use wf_box::{Box0, Closed, Problem, close};
 use wf_complex::{Line, Lines};
-use wf_set::holds;
+use wf_set::{first_part, holds};
 
-/// The candidates of each point, a bit for each value.
+/// The candidates of each point, a bit for each value, of which all are below 64.
 fn candidates_of(alloc: Global, boxed: &Box0) -> Result<Vec<u64>, AllocError> {
     let mut all = Vec::new(alloc);
     for point in 0..boxed.points() {
-        all.push(boxed.candidates(point))?;
+        all.push(first_part(boxed.candidates(point)))?;
     }
     Ok(all)
 }
@@ -119,7 +119,7 @@ fn try_value(
     let mut lines: Lines = Vec::new(alloc);
     match close(alloc, problem, &mut tried, &mut lines)? {
         Closed::Open { sweeps } if tried.points() > 3 => {
-            Ok(Some((sweeps, tried.candidates(3), lines.len())))
+            Ok(Some((sweeps, first_part(tried.candidates(3)), lines.len())))
         }
         _ => Ok(None),
     }

@@ -6,17 +6,17 @@ ghost use Rattle.wf_model.specs.Problem as model;
 ghost use Rattle.wf_model.specs.Box.{decided};
 ghost use Rattle.wf_box.specs.Boxes.{Grows, IsFor};
 
-use super::plain::plain_task;
+use super::plain::plain_problem;
 use super::plain_closing::{
     close as close_plainly, root as root_sets, with_value as with_value_only,
 };
+use super::tasks::problem_of;
 use std::alloc::Global;
 use std::test::Fail;
 use wf_box::{Box0, Closed, Problem, close};
-use wf_complex::{Lines, Protocol};
-use wf_oracle::{Problem as PlainProblem, problem_of};
+use wf_complex::Lines;
+use wf_oracle::Problem as PlainProblem;
 use wf_set::{Mask, count, holds};
-use wf_task::Task;
 
 /// What differs first between the closings of a task, up to this many rounds.
 pub fn first_difference(
@@ -34,23 +34,17 @@ pub fn first_difference(
 
 /// What differs between the closings of a task after some rounds, if anything does.
 fn difference(alloc: Global, text: &str, rounds: u32) -> Result<Option<&'static str>, Fail> {
-    let task = Task::read_text(alloc, text.as_bytes())?;
-    let _inputs = task.inputs();
-    let protocol = Protocol::build(alloc, &task, rounds)?;
-    let problem = Problem::join(alloc, &task, &protocol)?;
-    let plain = problem_of(alloc, &plain_task(alloc, &task)?, rounds as usize)?;
-    difference_from(alloc, &problem, protocol.points(), &plain)
+    let problem = problem_of(alloc, text, rounds)?;
+    let plain = plain_problem(alloc, text, rounds)?;
+    difference_from(alloc, &problem, &plain)
 }
 
-/// What differs between the closings of a problem with so many points, if anything does.
+/// What differs between the closings of a problem, if anything does.
 fn difference_from(
     alloc: Global,
     problem: &Problem,
-    points: u32,
     plain: &PlainProblem,
-) -> Result<Option<&'static str>, Fail>
-    requires points { points ≡ problem.now.points }
-{
+) -> Result<Option<&'static str>, Fail> {
     let mut boxed = Box0::root(alloc, problem)?;
     let mut sets = root_sets(alloc, plain)?;
     if !has_candidates(&boxed, &sets) {
@@ -63,7 +57,7 @@ fn difference_from(
     let Closed::Open { .. } = closed else {
         return Ok(None);
     };
-    for point in 0..tried_points(points, plain) {
+    for point in 0..tried_points(problem.points(), plain) {
         if !is_same_after(alloc, problem, &mut boxed, plain, &sets, point)? {
             return Ok(Some("the closing of a branch"));
         }

@@ -2,7 +2,8 @@
 
 ghost use Rattle.std.specs.Prelude.{◌<◌, length};
 
-use super::plain::plain_task;
+use super::plain::read_plain;
+use super::tasks::protocol_of;
 use std::alloc::{AllocError, Global};
 use std::test::Fail;
 use wf_complex::Protocol;
@@ -10,7 +11,6 @@ use wf_oracle::{
     Constraint, Execution, Rule, Task as PlainTask, View, executions, number_of, points,
     problem_of, round,
 };
-use wf_task::Task;
 
 /// The input of each process, where it has one alone.
 pub type Inputs = Option<[usize; 4]>;
@@ -43,9 +43,8 @@ fn difference(
     inputs: Inputs,
     rounds: u32,
 ) -> Result<Option<&'static str>, Fail> {
-    let task = Task::read_text(alloc, text.as_bytes())?;
-    let protocol = Protocol::build(alloc, &task, rounds)?;
-    let plain = plain_task(alloc, &task)?;
+    let protocol = protocol_of(alloc, text, rounds)?;
+    let plain = read_plain(alloc, text)?;
     Ok(difference_from(alloc, &protocol, &plain, inputs)?)
 }
 

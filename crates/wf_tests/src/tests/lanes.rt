@@ -5,7 +5,19 @@ ghost use Rattle.std.specs.Prelude.{◌≡◌, ◌≤◌, length};
 use std::alloc::{AllocError, Global};
 use std::test::Fail;
 use wf_lane::{Support, TupleTable, count, first_empty, first_open, meet};
+use wf_set::{Mask, of_part};
 use wf_task::Row;
+
+/// Sets of values below 64, by their first words.
+pub(crate) fn sets_of(words: [u64; 4]) -> [Mask; 4] {
+    let [first, second, third, fourth] = words;
+    [
+        of_part(first),
+        of_part(second),
+        of_part(third),
+        of_part(fourth),
+    ]
+}
 
 #[test]
 fn one_place_rows_with_all_candidates(rt: HostRuntime) -> Result<(), Fail> {
@@ -21,20 +33,44 @@ fn one_place_rows_with_all_candidates(rt: HostRuntime) -> Result<(), Fail> {
         Row::new(&[63]),
     ];
     let table = TupleTable::build(rt.alloc(), &rows, 1)?;
-    let all = table.revise([u64::MAX, 0, 5, 9]);
-    assert_eq!(rt; all.masks, [0x8000_0000_0000_00ff, 0, 0, 0]);
+    let all = table.revise(sets_of([u64::MAX, 0, 5, 9]));
+    assert_eq!(rt; all.masks, sets_of([0x8000_0000_0000_00ff, 0, 0, 0]));
     assert_eq!(rt; all.alive, 9);
-    let last = table.revise([0x8000_0000_0000_0000, 0, 0, 0]);
-    assert_eq!(rt; last.masks, [0x8000_0000_0000_0000, 0, 0, 0]);
+    let last = table.revise(sets_of([0x8000_0000_0000_0000, 0, 0, 0]));
+    assert_eq!(rt; last.masks, sets_of([0x8000_0000_0000_0000, 0, 0, 0]));
     assert_eq!(rt; last.alive, 1);
+    Ok(())
+}
+
+// A table with larger values.
+#[test]
+fn one_place_rows_past_63(rt: HostRuntime) -> Result<(), Fail> {
+    let rows = [
+        Row::new(&[0]),
+        Row::new(&[1]),
+        Row::new(&[2]),
+        Row::new(&[3]),
+        Row::new(&[4]),
+        Row::new(&[5]),
+        Row::new(&[6]),
+        Row::new(&[7]),
+        Row::new(&[63]),
+        Row::new(&[64]),
+        Row::new(&[255]),
+    ];
+    let table = TupleTable::build(rt.alloc(), &rows, 1)?;
+    let all = table.revise([[u64::MAX; 4]; 4]);
+    let found = [0x8000_0000_0000_00ff, 1, 0, 0x8000_0000_0000_0000];
+    assert_eq!(rt; all.masks, [found, [0; 4], [0; 4], [0; 4]]);
+    assert_eq!(rt; all.alive, 11);
     Ok(())
 }
 
 #[test]
 fn no_rows_support_nothing(rt: HostRuntime) -> Result<(), Fail> {
     let table = TupleTable::build(rt.alloc(), &[], 1)?;
-    let none = table.revise([u64::MAX, u64::MAX, u64::MAX, u64::MAX]);
-    assert_eq!(rt; none.masks, [0, 0, 0, 0]);
+    let none = table.revise(sets_of([u64::MAX, u64::MAX, u64::MAX, u64::MAX]));
+    assert_eq!(rt; none.masks, sets_of([0, 0, 0, 0]));
     assert_eq!(rt; none.alive, 0);
     Ok(())
 }
@@ -52,8 +88,8 @@ fn near_pairs_with_one_value_fixed(rt: HostRuntime) -> Result<(), Fail> {
         Row::new(&[2, 2]),
     ];
     let table = TupleTable::build(rt.alloc(), &rows, 2)?;
-    let near = table.revise([1, 7, 7, 7]);
-    assert_eq!(rt; near.masks, [1, 3, 0, 0]);
+    let near = table.revise(sets_of([1, 7, 7, 7]));
+    assert_eq!(rt; near.masks, sets_of([1, 3, 0, 0]));
     assert_eq!(rt; near.alive, 2);
     Ok(())
 }
@@ -97,7 +133,7 @@ fn found_in(alloc: Global, width: u8, length: u8, place: u8) -> Result<Support, 
         rows.push(row_but(width, other))?;
     }
     let table = TupleTable::build(alloc, &rows, width)?;
-    Ok(table.revise([0x8000_0000_0000_0000, 0x20, 1, 0x1_0000_0000]))
+    Ok(table.revise(sets_of([0x8000_0000_0000_0000, 0x20, 1, 0x1_0000_0000])))
 }
 
 // What the row that has them gives at places below the width.
@@ -120,11 +156,11 @@ fn one_row_is_found_at_each_place(rt: HostRuntime) -> Result<(), Fail> {
         for length in 0..18 {
             for place in 0..length {
                 let found = found_in(rt.alloc(), width, length, place)?;
-                assert_eq!(rt; found.masks, values_below(width));
+                assert_eq!(rt; found.masks, sets_of(values_below(width)));
                 assert_eq!(rt; found.alive, 1);
             }
             let none = found_in(rt.alloc(), width, length, length)?;
-            assert_eq!(rt; none.masks, [0, 0, 0, 0]);
+            assert_eq!(rt; none.masks, sets_of([0, 0, 0, 0]));
             assert_eq!(rt; none.alive, 0);
         }
     }
@@ -133,25 +169,24 @@ fn one_row_is_found_at_each_place(rt: HostRuntime) -> Result<(), Fail> {
 
 #[test]
 fn sets_are_met_and_counted(rt: HostRuntime) {
-    assert_eq!(rt; first_open(&[1, 2, 6, 3]), Some(2));
+    assert_eq!(rt; first_open(&sets_of([1, 2, 6, 3])), Some(2));
+    assert_eq!(rt; first_open(&[[1, 0, 0, 0], [0, 0, 1, 1]]), Some(1));
     assert_eq!(rt; first_open(&[]), None);
-    assert_eq!(rt;
-        first_open(&[0, 0x8000_0000_0000_0000, 4, 0, 1, 2, 0, 16, 32]),
-        None
-    );
-    assert_eq!(rt; first_empty(&[1, 0, 0]), Some(1));
-    assert_eq!(rt; first_empty(&[1, 2]), None);
+    let single = [[0; 4], [0, 0, 0, 1 << 63], [0, 4, 0, 0], [1, 0, 0, 0]];
+    assert_eq!(rt; first_open(&single), None);
+    assert_eq!(rt; first_empty(&single), Some(0));
+    assert_eq!(rt; first_empty(&single[1..]), None);
     assert_eq!(rt; first_empty(&[]), None);
-    assert_eq!(rt; count(&[3, 4, 0]), 3);
+    assert_eq!(rt; count(&single), 3);
     assert_eq!(rt; count(&[]), 0);
-    assert_eq!(rt; count(&[u64::MAX; 17]), 1088);
-    let mut sets = [7, 5, 1];
-    meet(&mut sets, &[3, 4, 2]);
-    assert_eq!(rt; sets, [3, 4, 0]);
+    assert_eq!(rt; count(&[[u64::MAX; 4]; 17]), 4352);
+    let mut sets = [[7, 0, 0, 5], [5, 1, 0, 0], [1, 0, 2, 0]];
+    meet(&mut sets, &[[3, 1, 0, 4], [4, 1, 0, 0], [2, 0, 1, 0]]);
+    assert_eq!(rt; sets, [[3, 0, 0, 4], [4, 1, 0, 0], [0; 4]]);
 }
 
 // The one set up to the place, and the other from there on.
-fn sets_from(place: usize, before: u64, from: u64) -> [u64; 17] {
+fn sets_from(place: usize, before: Mask, from: Mask) -> [Mask; 17] {
     let mut sets = [before; 17];
     for i in place..17 {
         sets[i] = from;
@@ -163,10 +198,10 @@ fn sets_from(place: usize, before: u64, from: u64) -> [u64; 17] {
 fn the_first_open_set_is_found_at_each_place(rt: HostRuntime) {
     for length in 0..18 {
         for place in 0..length {
-            let sets = sets_from(place, 4, 6);
+            let sets = sets_from(place, [0, 0, 4, 0], [0, 2, 4, 0]);
             assert_eq!(rt; first_open(&sets[..length]), Some(place));
         }
-        let single = sets_from(length, 0x8000_0000_0000_0000, u64::MAX);
+        let single = sets_from(length, [0, 0, 0, 1 << 63], [u64::MAX; 4]);
         assert_eq!(rt; first_open(&single[..length]), None);
     }
 }
@@ -175,10 +210,10 @@ fn the_first_open_set_is_found_at_each_place(rt: HostRuntime) {
 fn the_first_empty_set_is_found_at_each_place(rt: HostRuntime) {
     for length in 0..18 {
         for place in 0..length {
-            let sets = sets_from(place, 0x8000_0000_0000_0000, 0);
+            let sets = sets_from(place, [0, 0, 0, 1 << 63], [0; 4]);
             assert_eq!(rt; first_empty(&sets[..length]), Some(place));
         }
-        let full = sets_from(length, 1, 0);
+        let full = sets_from(length, [1, 0, 0, 0], [0; 4]);
         assert_eq!(rt; first_empty(&full[..length]), None);
     }
 }
@@ -188,7 +223,7 @@ fn the_first_empty_set_is_found_at_each_place(rt: HostRuntime) {
 fn values_are_counted_at_each_place(rt: HostRuntime) {
     for length in 0..18 {
         for place in 0..length {
-            let sets = sets_from(place, 0x8000_0000_0000_0001, 7);
+            let sets = sets_from(place, [1, 0, 0, 1 << 63], [4, 2, 1, 0]);
             assert_eq!(rt; count(&sets[..length]), (3 * length - place) as u64);
         }
     }
@@ -199,11 +234,12 @@ fn values_are_counted_at_each_place(rt: HostRuntime) {
 fn sets_are_met_at_each_place(rt: HostRuntime) {
     for length in 0..18 {
         for place in 0..length {
-            let mut sets = [7; 17];
-            meet(&mut sets[..length], &sets_from(place, 11, 21)[..length]);
-            let mut met = sets_from(place, 3, 5);
+            let mut sets = [[7, 0, 0, 7]; 17];
+            let others = sets_from(place, [11, 1, 0, 21], [21, 0, 1, 11]);
+            meet(&mut sets[..length], &others[..length]);
+            let mut met = sets_from(place, [3, 0, 0, 5], [5, 0, 0, 3]);
             for i in length..17 {
-                met[i] = 7;
+                met[i] = [7, 0, 0, 7];
             }
             assert_eq!(rt; sets, met);
         }

@@ -1,6 +1,6 @@
 //! The least decision map beside all those that the slow program finds.
 
-use super::plain::plain_task;
+use super::plain::read_plain;
 use std::alloc::{AllocError, Global};
 use std::test::Fail;
 use wf_complex::Protocol;
@@ -21,11 +21,16 @@ pub fn first_difference(alloc: Global, text: &str, most: u32) -> Result<Option<u
 
 /// Whether the search answers the first of all decision maps, or none where there is none.
 fn has_first_map(alloc: Global, text: &str, rounds: u32) -> Result<bool, Fail> {
+    let found = map_of(alloc, text, rounds)?;
+    let plain = read_plain(alloc, text)?;
+    Ok(is_first(alloc, &plain, rounds as usize, &found)?)
+}
+
+/// The least decision map of a task's text after some rounds, if there is one.
+fn map_of(alloc: Global, text: &str, rounds: u32) -> Result<Option<Vec<u8>>, Fail> {
     let task = Task::read_text(alloc, text.as_bytes())?;
     let protocol = Protocol::build(alloc, &task, rounds)?;
-    let found = least_map(alloc, &task, &protocol)?;
-    let plain = plain_task(alloc, &task)?;
-    Ok(is_first(alloc, &plain, rounds as usize, &found)?)
+    Ok(least_map(alloc, &task, &protocol)?)
 }
 
 /// Whether this is the first of all decision maps, or none and there is none.

@@ -1,12 +1,25 @@
-//! A task as the slow program takes it.
+//! A task and its problem as the slow program takes them.
 
 use std::alloc::{AllocError, Global};
-use wf_oracle::{Rule, Task as PlainTask};
+use std::test::Fail;
+use wf_oracle::{Problem as PlainProblem, Rule, Task as PlainTask, problem_of};
 use wf_simplex::Simplex;
 use wf_task::{Row, Task};
 
+/// The problem of a task's text after some rounds.
+pub fn plain_problem(alloc: Global, text: &str, rounds: u32) -> Result<PlainProblem, Fail> {
+    let task = read_plain(alloc, text)?;
+    Ok(problem_of(alloc, &task, rounds as usize)?)
+}
+
+/// The task of a text.
+pub fn read_plain(alloc: Global, text: &str) -> Result<PlainTask, Fail> {
+    let task = Task::read_text(alloc, text.as_bytes())?;
+    Ok(plain_task(alloc, &task)?)
+}
+
 /// The same task for the slow program.
-pub fn plain_task(alloc: Global, task: &Task) -> Result<PlainTask, AllocError> {
+fn plain_task(alloc: Global, task: &Task) -> Result<PlainTask, AllocError> {
     let inputs = task.inputs().simplices();
     let mut rules = Vec::new(alloc);
     for place in 0..inputs.len() {

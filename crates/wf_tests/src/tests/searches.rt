@@ -7,7 +7,7 @@ ghost use Rattle.wf_model.specs.Outline.{boxes_left_out, outline};
 use super::boxes::lost;
 use super::closings::has_candidates;
 use super::maps::are_values;
-use super::plain::plain_task;
+use super::plain::plain_problem;
 use super::plain_search::{Trace, search as search_plainly, split as split_plainly};
 use super::tasks::{
     CONSENSUS_2, ONE_PROCESS, ONE_WITHOUT_OUTPUT, ONE_WITHOUT_TUPLE, PATH_2, PATH_3, RENAMING_2_2,
@@ -17,9 +17,8 @@ use std::alloc::{AllocError, Global};
 use std::test::Fail;
 use wf_box::{Box0, Problem};
 use wf_complex::{Line, Lines};
-use wf_oracle::{Problem as PlainProblem, problem_of as plain_problem_of};
+use wf_oracle::Problem as PlainProblem;
 use wf_search::{Cover, Found, Never, Stop, search, split};
-use wf_task::Task;
 
 /// It counts its questions, and answers yes to those past so many.
 #[derive(Drop)]
@@ -46,8 +45,13 @@ impl Stop for Limit {
 /// What a search of the root of a task's problem finds.
 fn search_root(alloc: Global, text: &str, rounds: u32) -> Result<Found, Fail> {
     let problem = problem_of(alloc, text, rounds)?;
-    let root = Box0::root(alloc, &problem)?;
-    Ok(search(alloc, &problem, root, &mut Never)?)
+    Ok(search_whole(alloc, &problem)?)
+}
+
+/// What a search of the root of a problem finds.
+fn search_whole(alloc: Global, problem: &Problem) -> Result<Found, AllocError> {
+    let root = Box0::root(alloc, problem)?;
+    search(alloc, problem, root, &mut Never)
 }
 
 /// The lines of a refutation; none for another answer.
@@ -91,16 +95,19 @@ fn roots_that_closing_refutes(rt: HostRuntime) -> Result<(), Fail> {
         lost(2, 0, 1),
         empty(2),
     ];
-    let found = lines_of(rt.alloc(), search_root(rt.alloc(), PATH_3, 0)?);
-    assert_eq!(rt; found.as_slice(), path.as_slice());
-    let found = lines_of(rt.alloc(), search_root(rt.alloc(), CONSENSUS_2, 0)?);
-    assert_eq!(rt; found.as_slice(), at_once.as_slice());
-    let found = lines_of(rt.alloc(), search_root(rt.alloc(), CONSENSUS_2, 1)?);
-    assert_eq!(rt; found.as_slice(), later.as_slice());
-    let found = lines_of(rt.alloc(), search_root(rt.alloc(), ONE_WITHOUT_TUPLE, 8)?);
-    assert_eq!(rt; found.as_slice(), [lost(0, 0, 5), empty(0)].as_slice());
-    let found = lines_of(rt.alloc(), search_root(rt.alloc(), ONE_WITHOUT_OUTPUT, 8)?);
-    assert_eq!(rt; found.as_slice(), [empty(0)].as_slice());
+    let without_tuple = [lost(0, 0, 5), empty(0)];
+    let without_output = [empty(0)];
+    let rows = [
+        (PATH_3, 0, path.as_slice()),
+        (CONSENSUS_2, 0, at_once.as_slice()),
+        (CONSENSUS_2, 1, later.as_slice()),
+        (ONE_WITHOUT_TUPLE, 8, without_tuple.as_slice()),
+        (ONE_WITHOUT_OUTPUT, 8, without_output.as_slice()),
+    ];
+    for (text, rounds, wanted) in rows {
+        let found = lines_of(rt.alloc(), search_root(rt.alloc(), text, rounds)?);
+        assert_eq!(rt; found.as_slice(), wanted);
+    }
     Ok(())
 }
 
@@ -140,15 +147,27 @@ fn roots_that_branch(rt: HostRuntime) -> Result<(), Fail> {
 
 #[test]
 fn roots_with_a_map(rt: HostRuntime) -> Result<(), Fail> {
-    let path_3 = values_of(rt.alloc(), search_root(rt.alloc(), PATH_3, 1)?);
-    assert_eq!(rt; path_3.as_slice(), [0, 3, 2, 1].as_slice());
-    let path_2 = values_of(rt.alloc(), search_root(rt.alloc(), PATH_2, 1)?);
-    assert_eq!(rt; path_2.as_slice(), [0, 2, 1, 0].as_slice());
-    let names = values_of(rt.alloc(), search_root(rt.alloc(), RENAMING_2_3, 1)?);
-    assert_eq!(rt; names.as_slice(), [0, 1, 2].as_slice());
-    let one = values_of(rt.alloc(), search_root(rt.alloc(), ONE_PROCESS, 8)?);
-    assert_eq!(rt; one.as_slice(), [5].as_slice());
+    let rows = [
+        (PATH_3, 1, [0, 3, 2, 1].as_slice()),
+        (PATH_2, 1, [0, 2, 1, 0].as_slice()),
+        (RENAMING_2_3, 1, [0, 1, 2].as_slice()),
+        (ONE_PROCESS, 8, [5].as_slice()),
+    ];
+    for (text, rounds, wanted) in rows {
+        let found = values_of(rt.alloc(), search_root(rt.alloc(), text, rounds)?);
+        assert_eq!(rt; found.as_slice(), wanted);
+    }
     Ok(())
+}
+
+/// How many questions a search of the root of a task's problem after one round asks, and whether it is stopped, where
+/// so many are answered no.
+fn search_until(alloc: Global, text: &str, most: u32) -> Result<(u32, bool), Fail> {
+    let problem = problem_of(alloc, text, 1)?;
+    let root = Box0::root(alloc, &problem)?;
+    let mut limit = Limit { asked: 0, most };
+    let found = search(alloc, &problem, root, &mut limit)?;
+    Ok((limit.asked, matches!(&found, Found::Stopped)))
 }
 
 // The two names take three turns: the root's and those of its two branches. The path is stopped at once.
@@ -162,12 +181,7 @@ fn a_question_before_each_turn(rt: HostRuntime) -> Result<(), Fail> {
         (RENAMING_2_2, 9, 3, false),
     ];
     for (text, most, asked, stopped) in rows {
-        let problem = problem_of(rt.alloc(), text, 1)?;
-        let root = Box0::root(rt.alloc(), &problem)?;
-        let mut limit = Limit { asked: 0, most };
-        let found = search(rt.alloc(), &problem, root, &mut limit)?;
-        assert_eq!(rt; matches!(&found, Found::Stopped), stopped);
-        assert_eq!(rt; limit.asked, asked);
+        assert_eq!(rt; search_until(rt.alloc(), text, most)?, (asked, stopped));
     }
     Ok(())
 }
@@ -186,32 +200,49 @@ fn search_branch(
     search(alloc, problem, cover.branch(alloc, number)?, &mut Never)
 }
 
+/// How many branches a task's problem has after some rounds, and the values of their maps, one after the other.
+fn maps_of_branches(alloc: Global, text: &str, rounds: u32) -> Result<(u32, Vec<u8>), Fail> {
+    let problem = problem_of(alloc, text, rounds)?;
+    let cover = split(alloc, &problem)?;
+    let maps = search_branches(alloc, &problem, &cover)?;
+    Ok((cover.branches(), maps))
+}
+
+/// The values of the maps of the branches, one after the other.
+fn search_branches(alloc: Global, problem: &Problem, cover: &Cover) -> Result<Vec<u8>, AllocError>
+    requires cover { cover.now ≡ outline problem.now }
+{
+    let mut maps = Vec::new(alloc);
+    for number in 0..cover.branches() {
+        let map = values_of(alloc, search_branch(alloc, problem, cover, number)?);
+        maps.extend_from_slice(&map)?;
+    }
+    Ok(maps)
+}
+
 #[test]
 fn the_branches_of_a_path(rt: HostRuntime) -> Result<(), Fail> {
-    let problem = problem_of(rt.alloc(), PATH_2, 1)?;
-    let cover = split(rt.alloc(), &problem)?;
-    let mut maps = Vec::new(rt.alloc());
-    for number in 0..cover.branches() {
-        let found = search_branch(rt.alloc(), &problem, &cover, number)?;
-        for value in values_of(rt.alloc(), found) {
-            maps.push(value)?;
-        }
-    }
-    assert_eq!(rt; cover.branches(), 3);
+    let (branches, maps) = maps_of_branches(rt.alloc(), PATH_2, 1)?;
+    assert_eq!(rt; branches, 3);
     let wanted = [0, 2, 1, 0, 0, 2, 1, 1, 0, 2, 2, 1];
     assert_eq!(rt; maps.as_slice(), wanted.as_slice());
     Ok(())
 }
 
+/// The lines of the root of a task's problem after one round, where it has no branches; no lines where it has some.
+fn fill_root(alloc: Global, text: &str) -> Result<Lines, Fail> {
+    let problem = problem_of(alloc, text, 1)?;
+    let cover = split(alloc, &problem)?;
+    if cover.branches() != 0 {
+        return Ok(Vec::new(alloc));
+    }
+    Ok(cover.fill(alloc, Vec::new(alloc))?)
+}
+
 #[test]
 fn a_root_without_branches_is_filled(rt: HostRuntime) -> Result<(), Fail> {
-    let problem = problem_of(rt.alloc(), RENAMING_2_2, 1)?;
-    let cover = split(rt.alloc(), &problem)?;
-    assert_eq!(rt; cover.branches(), 0);
-    if cover.branches() == 0 {
-        let lines = cover.fill(rt.alloc(), Vec::new(rt.alloc()))?;
-        assert_eq!(rt; lines.as_slice(), lines_of_two_names().as_slice());
-    }
+    let lines = fill_root(rt.alloc(), RENAMING_2_2)?;
+    assert_eq!(rt; lines.as_slice(), lines_of_two_names().as_slice());
     Ok(())
 }
 
@@ -231,22 +262,30 @@ pub fn first_difference(
 
 /// What differs between the searches of a task after some rounds, if anything does.
 fn difference(alloc: Global, text: &str, rounds: u32) -> Result<Option<&'static str>, Fail> {
-    let task = Task::read_text(alloc, text.as_bytes())?;
-    let plain = plain_problem_of(alloc, &plain_task(alloc, &task)?, rounds as usize)?;
     let problem = problem_of(alloc, text, rounds)?;
+    let plain = plain_problem(alloc, text, rounds)?;
     let trace = search_plainly(alloc, &plain)?;
-    let root = Box0::root(alloc, &problem)?;
-    if !is_traced(&search(alloc, &problem, root, &mut Never)?, &trace) {
+    if !is_traced(&search_whole(alloc, &problem)?, &trace) {
         return Ok(Some("the search of the root"));
     }
-    let cover = split(alloc, &problem)?;
-    if !has_branches(alloc, &cover, &plain)? {
+    difference_of_branches(alloc, &problem, &plain, &trace)
+}
+
+/// What differs between the searches of a problem branch by branch, if anything does.
+fn difference_of_branches(
+    alloc: Global,
+    problem: &Problem,
+    plain: &PlainProblem,
+    trace: &Trace,
+) -> Result<Option<&'static str>, Fail> {
+    let cover = split(alloc, problem)?;
+    if !has_branches(alloc, &cover, plain)? {
         return Ok(Some("the branches"));
     }
-    let Some(found) = search_cover(alloc, &problem, &cover)? else {
+    let Some(found) = search_cover(alloc, problem, &cover)? else {
         return Ok(Some("the number of lists"));
     };
-    if !is_traced(&found, &trace) {
+    if !is_traced(&found, trace) {
         return Ok(Some("the search branch by branch"));
     }
     Ok(None)

@@ -2,6 +2,7 @@
 
 ghost use Rattle.std.specs.Prelude.{◌≡◌, ◌≤◌, All, IfOk, length};
 
+use super::lanes::sets_of;
 use std::alloc::{AllocError, Global};
 use std::test::Fail;
 use wf_lane::{Support, TupleTable};
@@ -76,7 +77,7 @@ fn scan(rows: &[Row], candidates: [u64; 4]) -> Support {
         }
     }
     Support {
-        masks: [first, second, third, fourth],
+        masks: sets_of([first, second, third, fourth]),
         alive,
     }
 }
@@ -97,7 +98,7 @@ fn many_rows_support_what_a_scan_finds(rt: HostRuntime) -> Result<(), Fail> {
         assert_eq!(rt; rows.len(), length);
         let table = TupleTable::build(rt.alloc(), &rows, 4)?;
         for candidates in sets {
-            assert_eq!(rt; table.revise(candidates), scan(&rows, candidates));
+            assert_eq!(rt; table.revise(sets_of(candidates)), scan(&rows, candidates));
         }
     }
     Ok(())
@@ -139,8 +140,8 @@ fn all_pairs_support_each_candidate(rt: HostRuntime) -> Result<(), Fail> {
         ([0, u64::MAX, 1, 1], [0, 0], 0),
     ];
     for (candidates, [first, second], alive) in rows {
-        let masks = [first, second, 0, 0];
-        assert_eq!(rt; table.revise(candidates), Support { masks, alive });
+        let masks = sets_of([first, second, 0, 0]);
+        assert_eq!(rt; table.revise(sets_of(candidates)), Support { masks, alive });
     }
     Ok(())
 }

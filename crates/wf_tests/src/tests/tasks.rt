@@ -1,4 +1,4 @@
-//! Task files, as they are read, and their problems.
+//! Task files, as they are read, their complexes and their problems.
 
 use std::alloc::Global;
 use std::test::Fail;
@@ -11,6 +11,12 @@ pub fn problem_of(alloc: Global, text: &str, rounds: u32) -> Result<Problem, Fai
     let task = Task::read_text(alloc, text.as_bytes())?;
     let protocol = Protocol::build(alloc, &task, rounds)?;
     Ok(Problem::join(alloc, &task, &protocol)?)
+}
+
+/// The protocol complex of a task's text after some rounds.
+pub fn protocol_of(alloc: Global, text: &str, rounds: u32) -> Result<Protocol, Fail> {
+    let task = Task::read_text(alloc, text.as_bytes())?;
+    Ok(Protocol::build(alloc, &task, rounds)?)
 }
 
 /// The path of length 3: process 0 alone decides 0, process 1 alone 3, both values that differ by at most 1.
