@@ -19,7 +19,8 @@ import sys
 
 LONGEST, DEEPEST = 16_777_216, 127
 MOST = {"vertices": 64, "simplices": 4096, "outputs": 65536, "tuples": 65536}
-KEYS = ["version", "processes", "symmetric", "inputs", "outputs", "delta"]
+LARGEST = {1: 63, 2: 255}
+LISTS = ["inputs", "outputs", "delta"]
 STRING = re.compile(r'"(?:[^"\\]|\\.)*"', re.S)
 
 
@@ -96,7 +97,8 @@ def is_list(it, is_item):
 
 
 SHAPES = {
-    "version": ("a whole number", is_whole), "processes": ("a whole number", is_whole),
+    "version": ("a whole number", is_whole), "first_block": ("a whole number", is_whole),
+    "processes": ("a whole number", is_whole),
     "symmetric": ("true or false", lambda it: isinstance(it, bool)),
     "inputs": ("a simplex, a non-empty list of pairs [process, value]", is_simplex),
     "outputs": ("a simplex, a non-empty list of pairs [process, value]", is_simplex),
@@ -107,11 +109,15 @@ SHAPES = {
 def judge_shape(value):
     if not isinstance(value, dict):
         raise Refused("3 Shape whole 0", "the file is not one object { .. }")
+    keys = []
     for key, (shape, has_shape) in SHAPES.items():
+        if key == "first_block" and value["version"] != 2:
+            continue
+        keys.append(key)
         if key not in value:
             raise Refused(f"3 Shape {key} 0", f'the key "{key}" is missing')
         it = value[key]
-        if key in KEYS[:3]:
+        if key not in LISTS:
             if not has_shape(it):
                 raise Refused(f"3 Shape {key} 0", f'"{key}" is not {shape}: {shown(it)}')
         elif not isinstance(it, list):
@@ -120,9 +126,9 @@ def judge_shape(value):
             for place, item in enumerate(it):
                 if not has_shape(item):
                     raise Refused(f"3 Shape {key} {place}", f'in "{key}", item {place} is not {shape}: {shown(item)}')
-    others = sorted(value.keys() - KEYS)
+    others = sorted(value.keys() - keys)
     if others:
-        raise Refused("3 Shape other 0", f"there is no key {shown(others[0])}")
+        raise Refused("3 Shape other 0", f"there is no key {shown(others[0])} in version {value['version']}")
 
 
 def shown(it):
@@ -155,14 +161,15 @@ def simplex_of(listed):
 
 def judge_numbers(value):
     processes = value["processes"]
-    if value["version"] != 1:
+    if value["version"] not in LARGEST:
         raise Refused("4 Version", f'"version" is {value["version"]}')
     if not 1 <= processes <= 4:
         raise Refused("5 Processes", f'"processes" is {processes}')
     for where, _, values in places(value):
         for v in values:
-            if v > 63:
-                raise Refused("6 Value", f"{where}: the value {v} is above 63")
+            if v > LARGEST[value["version"]]:
+                words = f"{where}: the value {v} is above {LARGEST[value['version']]}"
+                raise Refused("6 Value", f"{words}, the largest of version {value['version']}")
     for where, simplex, _ in places(value):
         listed = [p for p, _ in simplex or []]
         if listed != sorted(set(listed)) or any(p >= processes for p in listed):
@@ -214,6 +221,8 @@ def judge_delta(value, inputs):
             raise Refused(f"13 OutStray {number} {place}", f"{words}: {shown(decided)} is no output, nor a face of one")
     if not inputs:
         raise Refused("14 NoInput", '"inputs" is empty')
+    if not 1 <= value.get("first_block", 1) <= 4:
+        raise Refused("18 FirstBlock", f'"first_block" is {value["first_block"]}')
 
 
 def read(text):

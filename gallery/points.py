@@ -12,13 +12,13 @@ import itertools
 import json
 import sys
 
-from second_opinion import faces, point_of, seen_after, simplex_of, words
+from second_opinion import faces, point_of, seen_after, simplex_of, words_of
 
 
 def points(task, rounds):
     """Each point as a view, with the execution and the process of its first appearance."""
     inputs = sorted({f for s in task["inputs"] for f in faces(simplex_of(s))}, key=lambda s: (len(s), s))
-    runs = ((s, run) for s in inputs for run in itertools.product(words(len(s)), repeat=rounds))
+    runs = ((s, run) for s in inputs for run in itertools.product(words_of(task, s), repeat=rounds))
     found = {}
     for execution, (views, run) in enumerate(runs):
         for word in run:

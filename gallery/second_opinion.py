@@ -17,9 +17,15 @@ def simplex_of(listed):
     return tuple((p, v) for p, v in listed)
 
 
-def words(n):
-    """The ordered partitions of n participants, as block numbers with none left out."""
-    return [w for w in itertools.product(range(n), repeat=n) if set(w) == set(range(max(w) + 1))]
+def words(n, first_block):
+    """The ordered partitions of n participants, as block numbers with none left out, whose first block has so many, or all."""
+    every = [w for w in itertools.product(range(n), repeat=n) if set(w) == set(range(max(w) + 1))]
+    return [w for w in every if w.count(0) >= min(first_block, n)]
+
+
+def words_of(task, simplex):
+    """In version 1 any block may be first."""
+    return words(len(simplex), task["first_block"] if task["version"] == 2 else 1)
 
 
 def seen_after(views, word):
@@ -49,7 +55,7 @@ class Complex:
         allowed = {simplex_of(e["in"]): {tuple(t) for t in e["out"]} for e in task["delta"]}
         numbers, self.executions = {}, []
         for s in inputs:
-            for round_words in itertools.product(words(len(s)), repeat=rounds):
+            for round_words in itertools.product(words_of(task, s), repeat=rounds):
                 views = [(p, v) for p, v in s]
                 for word in round_words:
                     views = seen_after(views, word)

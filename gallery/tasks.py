@@ -29,12 +29,14 @@ def faces(items):
     return [part for size in range(1, len(items) + 1) for part in itertools.combinations(items, size)]
 
 
-def task(name, processes, inputs, legal, values, symmetric=False):
+def task(name, processes, inputs, legal, values, symmetric=False, first_block=None):
     """The task in which some processes begin as one of the inputs says, and may decide what is legal.
 
     An input is one value for each process, in their order, or a dictionary where some take no part. Each part of an input
     is one too, of processes that alone take part. `legal(start, end)` is asked for every choice of the values by those that
-    take part. Outputs are whatever is legal somewhere. In a symmetric task a process doesn't know its name."""
+    take part. Outputs are whatever is legal somewhere. In a symmetric task a process doesn't know its name. With a first block
+    the file has version 2, and its values may be up to 255: in every round the first block has at least so many of those that
+    take part, or all of them; 1 leaves all words."""
     listed = [tuple(sorted(dict(each if isinstance(each, dict) else enumerate(each)).items())) for each in inputs]
     if any(p not in range(processes) for simplex in listed for p, _ in simplex):
         raise ValueError(f"{name}: an input is of a process that is not there")
@@ -42,10 +44,12 @@ def task(name, processes, inputs, legal, values, symmetric=False):
     rules = {start: sorted(tuples(start, legal, set(values))) for start in starts}
     ends = {tuple(zip((p for p, _ in start), each)) for start, rule in rules.items() for each in rule}
     whole = {
-        "version": 1, "processes": processes, "symmetric": symmetric,
+        "version": 1 if first_block is None else 2, "processes": processes, "symmetric": symmetric,
         "inputs": facets(starts), "outputs": facets(ends),
         "delta": [{"in": start, "out": rule} for start, rule in rules.items()],
     }
+    if first_block is not None:
+        whole["first_block"] = first_block
     return Task(name, json.dumps(whole, separators=(",", ":"), sort_keys=True) + "\n")
 
 
@@ -237,6 +241,10 @@ def gallery():
         yield task(f"set-agreement-{n}-{k}", n, own(n), agreement(k), range(n))
     for k in (2, 3):
         yield task(f"set-agreement-3-{k}-all", 3, all_of(3, range(3)), agreement(k), range(3))
+    for n in (2, 3):
+        yield task(f"consensus-{n}-first-block-2", n, own(n), agreement(1), range(n), first_block=2)
+    for n, k, first in [(3, 2, 2), (4, 3, 2), (4, 2, 3)]:
+        yield task(f"set-agreement-{n}-{k}-first-block-{first}", n, own(n), agreement(k), range(n), first_block=first)
     for n, names in [(2, 2), (2, 3), (3, 3), (3, 4), (3, 5), (3, 6), (4, 6), (4, 7), (4, 8), (4, 9), (4, 10)]:
         yield task(f"renaming-{n}-names-{names}", n, same(n), all_differ, range(names), symmetric=True)
     for n in (3, 4):
