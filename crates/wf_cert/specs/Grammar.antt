@@ -14,12 +14,19 @@ IsLineWithin (empty v) = v ≤ most_number
 IsLineWithin (branch v) = v ≤ most_number
 IsLineWithin found = ⊥
 
+-- the same in a least report, where the end of the search is a line too
+abbrev pub IsStepWithin : Line → Type 0
+IsStepWithin found = Unit {0}
+IsStepWithin (remove e c a) = IsLineWithin (remove e c a)
+IsStepWithin (empty v) = IsLineWithin (empty v)
+IsStepWithin (branch v) = IsLineWithin (branch v)
+
 abbrev pub IsBodyWithin : Body → Type 0
 IsBodyWithin (a_map m) = AllByRecursion (λ a. a ≤ largest 2) m
 IsBodyWithin (none ls) = AllByRecursion IsLineWithin ls
-IsBodyWithin (least m ls) = ⊥
+IsBodyWithin (least m ls) = AllByRecursion (λ a. a ≤ largest 2) m × AllByRecursion IsStepWithin ls
 
--- each number is one that a line may hold, and the body is a map or lines alone
+-- each number is one that a line may hold
 pub record IsInGrammar (r : Report) : Type 0 where
   pub processes : r.processes ≤ most_number
   pub rounds : r.rounds ≤ most_number

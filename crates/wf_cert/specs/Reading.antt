@@ -6,7 +6,7 @@ use Rattle.wf_cert.specs.Reports.{report_seen}
 use Rattle.wf_cert.specs.declared.report.Report.{Report}
 use Rattle.wf_task.specs.declared.task.TheConstants.{LONGEST}
 use Rattle.wf_cert.specs.declared.fault.CertFault.{CertFault}
-use Rattle.wf_cert.specs.declared.fault.CertFault.TheVariants.{TooLong, Syntax, Header, MapLength, Violates, NoSuch, Unsound, NotEmpty, NotOpen, Unfinished, Trailing, OutOfMemory}
+use Rattle.wf_cert.specs.declared.fault.CertFault.TheVariants.{TooLong, Syntax, Header, MapLength, Violates, NoSuch, Unsound, NotEmpty, NotOpen, Unfinished, Trailing, NotFirst, NotTheMap, OutOfMemory}
 
 -- the byte stands nowhere in the text
 abbrev pub lacks : ℕ → List ℕ → Bool
@@ -25,6 +25,8 @@ IsBad (NotEmpty k) reading = ⊥
 IsBad (NotOpen k) reading = ⊥
 IsBad Unfinished reading = ⊥
 IsBad (Trailing k) reading = ⊥
+IsBad (NotFirst k) reading = ⊥
+IsBad (NotTheMap k) reading = ⊥
 IsBad OutOfMemory reading = Unit {0}
 
 -- what was read, as the definitions see it, or the number of the first bad line
@@ -34,9 +36,9 @@ Gives view (Err e) reading = IsBad e reading
 
 -- a text within the limit is read as the definitions say; a longer one is too long, whatever it is
 abbrev pub IsRead : Result Report CertFault → List ℕ → Type 0
-IsRead (Ok r) text = (length text ≤ LONGEST) × (report_of 2 false text ≡ Ok (report_seen r))
+IsRead (Ok r) text = (length text ≤ LONGEST) × (report_of 2 text ≡ Ok (report_seen r))
 IsRead (Err TooLong) text = LONGEST < length text
-IsRead (Err (Syntax k)) text = (length text ≤ LONGEST) × (report_of 2 false text ≡ Err k)
+IsRead (Err (Syntax k)) text = (length text ≤ LONGEST) × (report_of 2 text ≡ Err k)
 IsRead (Err (Header k)) text = ⊥
 IsRead (Err MapLength) text = ⊥
 IsRead (Err (Violates e)) text = ⊥
@@ -46,4 +48,6 @@ IsRead (Err (NotEmpty k)) text = ⊥
 IsRead (Err (NotOpen k)) text = ⊥
 IsRead (Err Unfinished) text = ⊥
 IsRead (Err (Trailing k)) text = ⊥
+IsRead (Err (NotFirst k)) text = ⊥
+IsRead (Err (NotTheMap k)) text = ⊥
 IsRead (Err OutOfMemory) text = length text ≤ LONGEST

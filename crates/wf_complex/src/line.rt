@@ -1,6 +1,7 @@
-//! The lines of a refutation.
+//! The lines of a certificate.
 
-/// One line of a refutation: why a box of candidates, one set for each point, holds no decision map.
+/// One line of a certificate: why a box of candidates, one set for each point, holds no decision map, or none that is
+/// smaller than a map.
 #[derive(Clone, Copy, Debug, PartialEq, Eq)]
 pub enum Line {
     /// The process can't decide the value in the execution: no tuple that is allowed there has it among the
@@ -23,7 +24,9 @@ pub enum Line {
         /// The number of the point.
         point: u32,
     },
+    /// Each point has one candidate left: together they are the least decision map. Nothing follows.
+    F,
 }
 
-/// The lines of a refutation, in order.
+/// The lines of a certificate, in order.
 pub type Lines = Vec<Line>;

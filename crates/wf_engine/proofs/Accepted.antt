@@ -64,11 +64,11 @@ faultless t report (Err e) within clear is = absurd is
 text_accepted : (t : Task) (report : Report) (answer : Result (Outcome × List ℕ) RunFault) → IsInGrammar report → length (report_text report) ≤ LONGEST → IsWithinLimits report.rounds t
     → report_fault t report.rounds report ≡ None → ChecksText t (report_text report) answer → Accepts (outcome_of report.body) answer
 text_accepted t report answer grammar short within clear (Ok read, is, next) =
-    let known : report_of 2 false (report_text report) ≡ Ok report = written_read report grammar in
+    let known : report_of 2 (report_text report) ≡ Ok report = written_read report grammar in
     let same : read ≡ report = cc in
     faultless t report answer within clear (subst (λ r. IsVerified t r answer) same next)
 text_accepted t report answer grammar short within clear (Err (run.Cert (cert.Syntax k)), is, next) =
-    let known : report_of 2 false (report_text report) ≡ Ok report = written_read report grammar in
+    let known : report_of 2 (report_text report) ≡ Ok report = written_read report grammar in
     absurd (let bad : ⊥ = cc in bad)
 text_accepted t report answer grammar short within clear (Err run.TooLong, is, next) = absurd (omega (arith, short, is))
 text_accepted t report answer grammar short within clear (Err run.OutOfMemory, is, next) = subst (Accepts (outcome_of report.body)) (sym next) tt

@@ -1,10 +1,13 @@
 -- What holds after every run, whatever it answers.
-use Rattle.std.specs.Prelude.{◌≡◌, ◌≢◌, ◌+◌, ◌≤◌, ℕ, List, length, Bool, false, None, Result, Ok, Err, IfErr}
+use Rattle.std.specs.Prelude.{◌≡◌, ◌≢◌, ◌+◌, ◌≤◌, ℕ, List, length, None, Result, Ok, Err, IfErr}
 use Rattle.wf_model.specs.Task.{Task, IsTask}
 use Rattle.wf_core.specs.declared.Account.{Account}
 use Rattle.wf_io.specs.Seen.{Reading, Writing}
 use Rattle.wf_task.specs.declared.task.TheConstants.{LONGEST}
 use Rattle.wf_engine.specs.declared.outcome.Outcome.{Outcome}
+use Rattle.wf_engine.specs.declared.outcome.Outcome.TheVariants as outcome
+use Rattle.wf_engine.specs.declared.outcome.Form.{Form}
+use Rattle.wf_engine.specs.declared.outcome.Form.TheVariants as form
 use Rattle.wf_engine.specs.declared.fault.RunFault.{RunFault}
 use Rattle.wf_engine.specs.declared.fault.RunFault.TheVariants.{OutOfMemory, Read, Write}
 use Rattle.wf_engine.specs.declared.preset.Preset.{Preset}
@@ -37,8 +40,8 @@ pub record IsCounted {X : Type 0} (source source' : Reading) (sink sink' : Writi
 
 abbrev pub SolvingIsCounted : Type 0
 SolvingIsCounted =
-    (rounds : ℕ) (verdict : Bool) (source source' : Reading) (sink sink' : Writing) (result : Result (Outcome × Account) RunFault)
-    → Solves rounds verdict source source' sink sink' result → IsCounted source source' sink sink' result
+    (rounds : ℕ) (form : Form) (source source' : Reading) (sink sink' : Writing) (result : Result (Outcome × Account) RunFault)
+    → Solves rounds form source source' sink sink' result → IsCounted source source' sink sink' result
 
 abbrev pub ListingIsCounted : Type 0
 ListingIsCounted =
@@ -83,9 +86,17 @@ Accepts outcome (Ok answer) = answer.0 ≡ outcome
 Accepts outcome (Err OutOfMemory) = Unit {0}
 Accepts outcome (Err e) = ⊥
 
--- The full report of a search, of at most as many bytes as a text may have, is accepted.
+-- what a check answers about a report in this form of what a search found
+abbrev pub accepted_as : Form → Outcome → Outcome
+accepted_as form.Full found = found
+accepted_as form.Verdict found = found
+accepted_as form.Least outcome.Map = outcome.Least
+accepted_as form.Least outcome.Nothing = outcome.Nothing
+accepted_as form.Least outcome.Least = outcome.Least
+
+-- The report of a search in the full or the least form, of at most as many bytes as a text may have, is accepted.
 abbrev pub SolvedReportsAreAccepted : Type 0
 SolvedReportsAreAccepted =
-    (t : Task) (r : ℕ) (found : Outcome × Account) (text : List ℕ) (answer : Result (Outcome × List ℕ) RunFault)
-    → IsTask t → IsWithinLimits r t → IsSolved r false t found text → length text ≤ LONGEST
-    → ChecksText t text answer → Accepts found.0 answer
+    (t : Task) (r : ℕ) (form : Form) (found : Outcome × Account) (text : List ℕ) (answer : Result (Outcome × List ℕ) RunFault)
+    → IsTask t → IsWithinLimits r t → form ≢ form.Verdict → IsSolved r form t found text → length text ≤ LONGEST
+    → ChecksText t text answer → Accepts (accepted_as form found.0) answer

@@ -1,5 +1,5 @@
 -- The texts of the answers, and the runs that write them.
-use Rattle.std.specs.Prelude.{◌≡◌, ◌+◌, ℕ, List, [], Bool, true, false, Result, IfOk}
+use Rattle.std.specs.Prelude.{◌≡◌, ◌+◌, ℕ, List, [], Result, IfOk}
 use Rattle.wf_model.specs.Task.{Task}
 use Rattle.wf_model.specs.View.{View}
 use Rattle.wf_model.specs.DecisionMap.{IsDecisionMap, IsLeast, listed}
@@ -7,7 +7,8 @@ use Rattle.wf_model.specs.Problem.{problem_of}
 use Rattle.wf_model.specs.Box.{root}
 use Rattle.wf_model.specs.Closing.{canonical}
 use Rattle.wf_model.specs.Refutation.{Line, Tree, lines, Refutes}
-use Rattle.wf_model.specs.Report.{Body, a_map, none, report_text}
+use Rattle.wf_model.specs.LeastTree.{IsLeastTree}
+use Rattle.wf_model.specs.Report.{Body, a_map, none, least, report_text}
 use Rattle.wf_model.specs.Laws.{report_about}
 use Rattle.wf_model.specs.ViewsText.{views_text}
 use Rattle.wf_core.specs.declared.Account.{Account}
@@ -16,7 +17,9 @@ use Rattle.wf_io.specs.Seen.{Reading, Writing}
 use Rattle.wf_engine.specs.Run.{Asks, Ran}
 use Rattle.wf_engine.specs.declared.fault.RunFault.{RunFault}
 use Rattle.wf_engine.specs.declared.outcome.Outcome.{Outcome}
-use Rattle.wf_engine.specs.declared.outcome.Outcome.TheVariants.{Map, Nothing}
+use Rattle.wf_engine.specs.declared.outcome.Outcome.TheVariants as outcome
+use Rattle.wf_engine.specs.declared.outcome.Form.{Form}
+use Rattle.wf_engine.specs.declared.outcome.Form.TheVariants as form
 
 -- ---- deciding
 
@@ -31,30 +34,45 @@ pub record IsRefutation (t : Task) (r : ℕ) (ls : List Line) : Type 0 where
   pub refutes : (tree : Tree) × (lines tree ≡ ls) × Refutes (problem_of t r) tree (root (problem_of t r))
   pub no_map : (m : View → ℕ) → IsDecisionMap t r m → ⊥
 
--- the lines that a report shows: in the verdict form none
-abbrev pub shown : Bool → List Line → List Line
-shown true ls = []
-shown false ls = ls
+-- The lines of the canonical search of the root up to its map. They are those of a tree that leads to the map.
+pub record LeadsToMap (t : Task) (r : ℕ) (m : List ℕ) (ls : List Line) : Type 0 where
+  pub canonical_lines : ls ≡ (canonical (problem_of t r) (root (problem_of t r))).lines
+  pub leads : (tree : Tree) × (lines tree ≡ ls) × IsLeastTree (problem_of t r) m tree (root (problem_of t r))
+
+-- the body of a report of none: in the verdict form the lines are left out
+abbrev pub none_body : Form → List Line → Body
+none_body form.Full ls = none ls
+none_body form.Verdict ls = none []
+none_body form.Least ls = none ls
+
+-- the body of a report of a map: in the least form the lines that lead to it follow
+abbrev pub map_body : Form → List ℕ → List Line → Body
+map_body form.Full m ls = a_map m
+map_body form.Verdict m ls = a_map m
+map_body form.Least m ls = least m ls
 
 -- What a search of a task answers and writes: the least decision map over the points, or none by a refutation; and
--- the account of the branches.
-abbrev pub IsSolved : ℕ → Bool → Task → Outcome × Account → List ℕ → Type 0
-IsSolved r verdict t (Map, a) text =
-    (m : View → ℕ) × IsLeast t r m × HasAccountOfMap (problem_of t r) (listed t r m) a
-    × (text ≡ text_of_report t r (a_map (listed t r m)))
-IsSolved r verdict t (Nothing, a) text =
+-- the account of the branches. No check is done, so the outcome is never that of one.
+abbrev pub IsSolved : ℕ → Form → Task → Outcome × Account → List ℕ → Type 0
+IsSolved r form t (outcome.Map, a) text =
+    (m : View → ℕ) × (ls : List Line) × IsLeast t r m × LeadsToMap t r (listed t r m) ls
+    × HasAccountOfMap (problem_of t r) (listed t r m) a
+    × (text ≡ text_of_report t r (map_body form (listed t r m) ls))
+IsSolved r form t (outcome.Nothing, a) text =
     (ls : List Line) × IsRefutation t r ls × HasAccountOfNone (problem_of t r) a
-    × (text ≡ text_of_report t r (none (shown verdict ls)))
+    × (text ≡ text_of_report t r (none_body form ls))
+IsSolved r form t (outcome.Least, a) text = ⊥
 
 -- one worker searches the branches in order, up to the first with a map
 abbrev pub IsInOrder : Outcome × Account → Type 0
-IsInOrder (Map, a) = a.searched ≡ a.least + 1
-IsInOrder (Nothing, a) = a.searched ≡ a.branches
+IsInOrder (outcome.Map, a) = a.searched ≡ a.least + 1
+IsInOrder (outcome.Nothing, a) = a.searched ≡ a.branches
+IsInOrder (outcome.Least, a) = ⊥
 
 -- the source's task was decided for r rounds
-abbrev pub Solves : ℕ → Bool → Reading → Reading → Writing → Writing → Result (Outcome × Account) RunFault → Type 0
-Solves r verdict source source' sink sink' result =
-    Ran (Asks (IsSolved r verdict) r source source') sink sink' result
+abbrev pub Solves : ℕ → Form → Reading → Reading → Writing → Writing → Result (Outcome × Account) RunFault → Type 0
+Solves r form source source' sink sink' result =
+    Ran (Asks (IsSolved r form) r source source') sink sink' result
 
 abbrev pub SearchesInOrder : Result (Outcome × Account) RunFault → Type 0
 SearchesInOrder result = IfOk result IsInOrder

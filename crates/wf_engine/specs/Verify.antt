@@ -13,14 +13,14 @@ use Rattle.wf_cert.specs.Truth.{HoldsOf}
 use Rattle.wf_cert.specs.declared.fault.CertFault.TheVariants as cert
 use Rattle.wf_engine.specs.Run.{Next, Ran, Reads, IsTaskOf, IsWithinLimits, IsBeyondLimits}
 use Rattle.wf_engine.specs.declared.outcome.Outcome.{Outcome}
-use Rattle.wf_engine.specs.declared.outcome.Outcome.TheVariants.{Map, Nothing}
+use Rattle.wf_engine.specs.declared.outcome.Outcome.TheVariants.{Map, Nothing, Least}
 use Rattle.wf_engine.specs.declared.fault.RunFault.{RunFault}
 use Rattle.wf_engine.specs.declared.fault.RunFault.TheVariants.{Cert, OutOfMemory, TooLong}
 
 -- the report of a text, or the number of its first bad line
 abbrev pub IsReportOf : List ℕ → Result Report RunFault → Type 0
-IsReportOf text (Ok r) = report_of 2 false text ≡ Ok r
-IsReportOf text (Err (Cert (cert.Syntax k))) = report_of 2 false text ≡ Err k
+IsReportOf text (Ok r) = report_of 2 text ≡ Ok r
+IsReportOf text (Err (Cert (cert.Syntax k))) = report_of 2 text ≡ Err k
 IsReportOf text (Err TooLong) = LONGEST < length text
 IsReportOf text (Err OutOfMemory) = Unit {0}
 IsReportOf text (Err e) = ⊥
@@ -28,15 +28,15 @@ IsReportOf text (Err e) = ⊥
 abbrev pub outcome_of : Body → Outcome
 outcome_of (a_map m) = Map
 outcome_of (none ls) = Nothing
-outcome_of (least m ls) = Map
+outcome_of (least m ls) = Least
 
 abbrev pub accepted_text : Body → List ℕ
 accepted_text (a_map m) = line (codes "accepted map") []
 accepted_text (none ls) = line (codes "accepted none") []
 accepted_text (least m ls) = line (codes "accepted least") []
 
--- The report's rounds are within the limits and the checker finds no fault. So it is true: a map is a decision map,
--- and where there is none, no function on the views is one.
+-- The report's rounds are within the limits and the checker finds no fault. So it is true: a map is a decision map, a
+-- map with a certificate is the least one, and where there is none, no function on the views is a decision map.
 pub record IsAccepted (t : Task) (r : Report) (outcome : Outcome) (text : List ℕ) : Type 0 where
   pub within : IsWithinLimits r.rounds t
   pub faultless : report_fault t r.rounds r ≡ None

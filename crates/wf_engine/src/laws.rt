@@ -26,8 +26,8 @@ pub fn presets_are_counted()
     ensures { PresetsAreCounted }
 {}
 
-/// What a search of a task, in which all words are allowed, writes without the verdict form is accepted where it is
-/// within the limit of bytes, with the outcome that the search had, or memory runs out.
+/// What a search of a task writes in the full or the least form is accepted where it is within the limit of bytes, or
+/// memory runs out: with the outcome that the search had, and a map in the least form as the least one.
 pub fn solved_reports_are_accepted()
     ensures { SolvedReportsAreAccepted }
 {}

@@ -27,7 +27,7 @@ pub use laws::{
     listing_is_counted, presets_are_counted, solved_reports_are_accepted, solving_is_counted,
     verifying_is_counted,
 };
-pub use outcome::Outcome;
+pub use outcome::{Form, Outcome};
 pub use preset::{Preset, run_preset};
 pub use solve::{run_solve, run_solve_one};
 pub use steps::hand_out;

@@ -13,7 +13,7 @@ ghost use Rattle.wf_engine.specs.Run.{Answers, Asks, answered};
 ghost use Rattle.wf_engine.specs.Texts.{IsInOrder, IsSolved, SearchesInOrder, Solves, shown, text_of_report};
 
 use crate::fault::RunFault;
-use crate::outcome::Outcome;
+use crate::outcome::{Form, Outcome};
 use crate::steps::{hand_out, read_task};
 use std::alloc::{AllocError, Global};
 use std::io::{Read, Write};
@@ -32,7 +32,8 @@ type Branches = Stealing;
 
 /// Reads a task to the reader's end and writes the report about it for some rounds of iterated immediate snapshot: its
 /// least decision map; or that it has none, with the lines of a refutation, and then no function on the views is a
-/// decision map. In the verdict form the lines are left out.
+/// decision map. In the verdict form the lines are left out, and in the least form a map comes with the lines of a
+/// certificate that none is smaller.
 ///
 /// The report is made whole before anything is written. The branches are searched in order, in this thread, and the
 /// call always returns.
@@ -41,13 +42,13 @@ pub fn run_solve_one<R: Read, W: Write>(
     source: &mut Source<R>,
     sink: &mut Sink<W>,
     rounds: u32,
-    verdict: bool,
+    form: Form,
 ) -> Result<(Outcome, Account), RunFault>
     requires { CanCount source.old sink.old }
-    ensures solves { Solves rounds verdict source.old source.new sink.old sink.new result }
+    ensures solves { Solves rounds form source.old source.new sink.old sink.new result }
     ensures in_order { SearchesInOrder result }
 {
-    let answer = solve_source_one(alloc, source, rounds, verdict);
+    let answer = solve_source_one(alloc, source, rounds, form);
     hand_out(sink, answer)
 }
 
@@ -60,17 +61,17 @@ pub fn run_solve<T: Threads + Sync, R: Read, W: Write>(
     sink: &mut Sink<W>,
     rounds: u32,
     workers: u32,
-    verdict: bool,
+    form: Form,
 ) -> Result<(Outcome, Account), RunFault>
     requires ends { CanCount source.old sink.old }
     requires workers { (0 < workers) × (workers ≤ MAX_WORKERS) }
-    ensures solves { Solves rounds verdict source.old source.new sink.old sink.new result }
+    ensures solves { Solves rounds form source.old source.new sink.old sink.new result }
     ensures in_order { workers ≡ 1 → SearchesInOrder result }
 {
     if workers == 1 {
-        return run_solve_one(alloc, source, sink, rounds, verdict);
+        return run_solve_one(alloc, source, sink, rounds, form);
     }
-    let answer = solve_source(rt, alloc, source, rounds, workers, verdict);
+    let answer = solve_source(rt, alloc, source, rounds, workers, form);
     hand_out(sink, answer)
 }
 
@@ -79,14 +80,14 @@ fn solve_source_one<R: Read>(
     alloc: Global,
     source: &mut Source<R>,
     rounds: u32,
-    verdict: bool,
+    form: Form,
 ) -> Result<((Outcome, Account), Vec<u8>), RunFault>
     requires { CanRead source.old }
-    ensures asks { Asks (IsSolved rounds verdict) rounds source.old source.new (answered result) }
+    ensures asks { Asks (IsSolved rounds form) rounds source.old source.new (answered result) }
     ensures in_order { IfOk result (λ answer. IsInOrder answer.0) }
 {
     let task = read_task(alloc, source)?;
-    solve_task_one(alloc, &task, rounds, verdict)
+    solve_task_one(alloc, &task, rounds, form)
 }
 
 /// The answer for a source's task, with the text of its report, by some workers.
@@ -96,14 +97,14 @@ fn solve_source<T: Threads + Sync, R: Read>(
     source: &mut Source<R>,
     rounds: u32,
     workers: u32,
-    verdict: bool,
+    form: Form,
 ) -> Result<((Outcome, Account), Vec<u8>), RunFault>
     requires source { CanRead source.old }
     requires workers { (0 < workers) × (workers ≤ MAX_WORKERS) }
-    ensures { Asks (IsSolved rounds verdict) rounds source.old source.new (answered result) }
+    ensures { Asks (IsSolved rounds form) rounds source.old source.new (answered result) }
 {
     let task = read_task(alloc, source)?;
-    solve_task(rt, alloc, &task, rounds, workers, verdict)
+    solve_task(rt, alloc, &task, rounds, workers, form)
 }
 
 /// The answer for a task, with the text of its report, by one worker.
@@ -111,15 +112,15 @@ fn solve_task_one(
     alloc: Global,
     task: &Task,
     rounds: u32,
-    verdict: bool,
+    form: Form,
 ) -> Result<((Outcome, Account), Vec<u8>), RunFault>
-    ensures answers { Answers (IsSolved rounds verdict) rounds task.now (answered result) }
+    ensures answers { Answers (IsSolved rounds form) rounds task.now (answered result) }
     ensures in_order { IfOk result (λ answer. IsInOrder answer.0) }
 {
     let protocol = Protocol::build(alloc, task, rounds)?;
     let problem = Problem::join(alloc, task, &protocol)?;
     let (answer, account) = solve_one(alloc, &problem)?;
-    Ok(with_text(alloc, task, &protocol, answer, account, verdict)?)
+    Ok(with_text(alloc, task, &protocol, answer, account, form)?)
 }
 
 /// The answer for a task, with the text of its report, by some workers.
@@ -129,15 +130,15 @@ fn solve_task<T: Threads + Sync>(
     task: &Task,
     rounds: u32,
     workers: u32,
-    verdict: bool,
+    form: Form,
 ) -> Result<((Outcome, Account), Vec<u8>), RunFault>
     requires { (0 < workers) × (workers ≤ MAX_WORKERS) }
-    ensures { Answers (IsSolved rounds verdict) rounds task.now (answered result) }
+    ensures { Answers (IsSolved rounds form) rounds task.now (answered result) }
 {
     let protocol = Protocol::build(alloc, task, rounds)?;
     let problem = Problem::join(alloc, task, &protocol)?;
     let (answer, account) = solve::<T, Branches, Open>(rt, alloc, &problem, workers, &Open)?;
-    Ok(with_text(alloc, task, &protocol, answer, account, verdict)?)
+    Ok(with_text(alloc, task, &protocol, answer, account, form)?)
 }
 
 /// What a search answers, with the text of the report about it.
@@ -147,7 +148,7 @@ fn with_text(
     protocol: &Protocol,
     answer: Answer,
     account: Account,
-    verdict: bool,
+    form: Form,
 ) -> Result<((Outcome, Account), Vec<u8>), AllocError>
     requires built { IsProtocol task.now protocol.now.rounds protocol.now }
     requires answer { IsAnswer (problem_of task.now protocol.now.rounds) answer }

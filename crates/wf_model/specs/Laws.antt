@@ -1,6 +1,6 @@
 -- What the laws say of boxes: the least solution in a box, the branches of a box, and maps in a list of boxes; of lines
 -- that refute a box; and of reports.
-use Rattle.std.specs.Prelude.{◌≡◌, ◌<◌, ◌⊎◌, true, ℕ, List, [], length, None, All}
+use Rattle.std.specs.Prelude.{◌≡◌, ◌<◌, ◌⊎◌, true, ℕ, List, [], ◌∷◌, length, None, Some, All}
 use Rattle.std.specs.List.{slice_index_or, AllZip}
 use Rattle.wf_model.specs.Lists.{IsBelow}
 use Rattle.wf_model.specs.Simplex.{is_ascending}
@@ -12,7 +12,7 @@ use Rattle.wf_model.specs.Box.{Box, LiesIn, first_empty, root}
 use Rattle.wf_model.specs.Refutation.{Line, Tree, lines, Refutes}
 use Rattle.wf_model.specs.Closing.{sweep, canonical}
 use Rattle.wf_model.specs.Split.{split}
-use Rattle.wf_model.specs.Outline.{outline, filled}
+use Rattle.wf_model.specs.Outline.{outline, filled, filled_up_to}
 use Rattle.wf_model.specs.Report.{Report, Body}
 
 -- a box of the problem: the candidates of each point, ascending
@@ -66,3 +66,20 @@ RefutesOnceFilled p lists = RefuteBranches p lists → IsRefutedBy p (root p) (f
 
 abbrev pub IsCanonicalOnceFilled : Problem → List (List Line) → Type 0
 IsCanonicalOnceFilled p lists = AreCanonicalForBranches p lists → HasCanonicalLines p (root p) (filled (outline p) lists)
+
+-- the canonical search of the box finds this map, and these are its lines
+abbrev pub HasCanonicalMap : Problem → List ℕ → Box → List Line → Type 0
+HasCanonicalMap p m box ls = canonical p box ≡ record { lines = ls; map = Some m }
+
+-- one list of lines for each of the first boxes: those of a canonical search that finds no map, and of the last one the
+-- lines with which it finds this map
+abbrev pub LeadToMap : Problem → List ℕ → List Box → List (List Line) → Type 0
+LeadToMap p m [] lists = ⊥
+LeadToMap p m (box ∷ boxes) [] = ⊥
+LeadToMap p m (box ∷ boxes) (ls ∷ []) = HasCanonicalMap p m box ls
+LeadToMap p m (box ∷ boxes) (ls ∷ next ∷ lists) = HasCanonicalLines p box ls × LeadToMap p m boxes (next ∷ lists)
+
+-- where the lists do so for the first branches, the outline filled up to the last of them is the canonical search of the
+-- root
+abbrev pub LeadsToMapOnceFilled : Problem → List ℕ → List (List Line) → Type 0
+LeadsToMapOnceFilled p m lists = LeadToMap p m (split p) lists → HasCanonicalMap p m (root p) (filled_up_to (outline p) lists)

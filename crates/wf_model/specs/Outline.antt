@@ -60,3 +60,11 @@ filled [] lists = []
 filled (written l ∷ items) lists = l ∷ filled items lists
 filled (left_out box ∷ items) [] = filled items []
 filled (left_out box ∷ items) (lines ∷ lists) = lines ++ filled items lists
+
+-- the same up to the last of the lists, for the first boxes: what stands after them is not written
+abbrev pub filled_up_to : List Item → List (List Line) → List Line
+filled_up_to [] lists = []
+filled_up_to (written l ∷ items) lists = l ∷ filled_up_to items lists
+filled_up_to (left_out box ∷ items) [] = []
+filled_up_to (left_out box ∷ items) (lines ∷ []) = lines
+filled_up_to (left_out box ∷ items) (lines ∷ next ∷ lists) = lines ++ filled_up_to items (next ∷ lists)

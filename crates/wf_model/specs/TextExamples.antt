@@ -17,65 +17,62 @@ pub path_3_text : report_text path_3_report ≡ codes "wfcheck report 1\nprocess
 unfolding digits
 path_3_text = refl
 
-pub path_3_reads : report_of 1 false (codes "wfcheck report 1\nprocesses 2\nrounds 1\npoints 4\nexecutions 5\nanswer map\nm 0\nm 3\nm 2\nm 1\nend\n") ≡ Ok path_3_report
+pub path_3_reads : report_of 1 (codes "wfcheck report 1\nprocesses 2\nrounds 1\npoints 4\nexecutions 5\nanswer map\nm 0\nm 3\nm 2\nm 1\nend\n") ≡ Ok path_3_report
 path_3_reads = refl
 
-pub leading_zero : report_of 1 false (codes "wfcheck report 1\nprocesses 2\nrounds 1\npoints 4\nexecutions 5\nanswer none\np 03 1 0\nend\n") ≡ Err 7
+pub leading_zero : report_of 1 (codes "wfcheck report 1\nprocesses 2\nrounds 1\npoints 4\nexecutions 5\nanswer none\np 03 1 0\nend\n") ≡ Err 7
 leading_zero = refl
 
-pub no_end : report_of 1 false (codes "wfcheck report 1\nprocesses 2\n") ≡ Err 3
+pub no_end : report_of 1 (codes "wfcheck report 1\nprocesses 2\n") ≡ Err 3
 no_end = refl
 
-pub after_end : report_of 1 false (codes "wfcheck report 1\nprocesses 2\nrounds 1\npoints 4\nexecutions 5\nanswer map\nm 0\nend\nend\n") ≡ Err 9
+pub after_end : report_of 1 (codes "wfcheck report 1\nprocesses 2\nrounds 1\npoints 4\nexecutions 5\nanswer map\nm 0\nend\nend\n") ≡ Err 9
 after_end = refl
 
-pub no_feed : report_of 1 false (codes "wfcheck report 1\nprocesses 2\nrounds 1\npoints 4\nexecutions 5\nanswer map\nm 0\nend") ≡ Err 8
+pub no_feed : report_of 1 (codes "wfcheck report 1\nprocesses 2\nrounds 1\npoints 4\nexecutions 5\nanswer map\nm 0\nend") ≡ Err 8
 no_feed = refl
 
-pub no_text : report_of 1 false [] ≡ Err 1
+pub no_text : report_of 1 [] ≡ Err 1
 no_text = refl
 
-pub too_large_a_number : report_of 1 false (codes "wfcheck report 1\nprocesses 2\nrounds 1\npoints 4294967296\n") ≡ Err 4
+pub too_large_a_number : report_of 1 (codes "wfcheck report 1\nprocesses 2\nrounds 1\npoints 4294967296\n") ≡ Err 4
 too_large_a_number = refl
 
-pub a_carriage_return : report_of 1 false (codes "wfcheck report 1\nprocesses 2\nrounds 1\npoints 4\r\n") ≡ Err 4
+pub a_carriage_return : report_of 1 (codes "wfcheck report 1\nprocesses 2\nrounds 1\npoints 4\r\n") ≡ Err 4
 a_carriage_return = refl
 
--- what a text reads as that goes on so after line 5, by the newest version of task files and whether `least` is known
-abbrev reads : ℕ → Bool → List ℕ → Reading Report
-reads newest has_least rest = report_of newest has_least (codes "wfcheck report 1\nprocesses 2\nrounds 1\npoints 4\nexecutions 5\n" ++ rest)
+-- what a text reads as that goes on so after line 5, by the newest version of task files
+abbrev reads : ℕ → List ℕ → Reading Report
+reads newest rest = report_of newest (codes "wfcheck report 1\nprocesses 2\nrounds 1\npoints 4\nexecutions 5\n" ++ rest)
 
 abbrev report_with : Body → Report
 report_with body = record { processes = 2; rounds = 1; points = 4; executions = 5; body = body }
 
-pub two_spaces : reads 1 false (codes "answer none\nz  0\nend\n") ≡ Err 7
+pub two_spaces : reads 1 (codes "answer none\nz  0\nend\n") ≡ Err 7
 two_spaces = refl
 
-pub a_value_above_63 : reads 1 false (codes "answer map\nm 64\nend\n") ≡ Err 7
+pub a_value_above_63 : reads 1 (codes "answer map\nm 64\nend\n") ≡ Err 7
 a_value_above_63 = refl
 
-pub a_value_above_63_in_version_2 : reads 2 false (codes "answer map\nm 64\nend\n") ≡ Ok (report_with (a_map (64 ∷ [])))
+pub a_value_above_63_in_version_2 : reads 2 (codes "answer map\nm 64\nend\n") ≡ Ok (report_with (a_map (64 ∷ [])))
 a_value_above_63_in_version_2 = refl
 
-pub a_value_above_255_in_version_2 : reads 2 false (codes "answer map\nm 256\nend\n") ≡ Err 7
+pub a_value_above_255_in_version_2 : reads 2 (codes "answer map\nm 256\nend\n") ≡ Err 7
 a_value_above_255_in_version_2 = refl
 
-pub a_fifth_process : reads 1 false (codes "answer none\np 0 4 0\nend\n") ≡ Err 7
+pub a_fifth_process : reads 1 (codes "answer none\np 0 4 0\nend\n") ≡ Err 7
 a_fifth_process = refl
 
-pub a_value_in_a_refutation : reads 1 false (codes "answer none\nz 0\nm 0\nend\n") ≡ Err 8
+pub a_value_in_a_refutation : reads 1 (codes "answer none\nz 0\nm 0\nend\n") ≡ Err 8
 a_value_in_a_refutation = refl
 
-pub a_step_in_a_map : reads 1 false (codes "answer map\nm 0\nz 0\nend\n") ≡ Err 8
+pub a_step_in_a_map : reads 1 (codes "answer map\nm 0\nz 0\nend\n") ≡ Err 8
 a_step_in_a_map = refl
 
-pub least_is_unknown : reads 2 false (codes "answer least\nm 0\nf\nend\n") ≡ Err 6
-least_is_unknown = refl
+pub a_least_report : reads 2 (codes "answer least\nm 0\nz 0\nf\nend\n") ≡ Ok (report_with (least (0 ∷ []) (empty 0 ∷ found ∷ [])))
+a_least_report = refl
 
-pub least_is_known : reads 2 true (codes "answer least\nm 0\nz 0\nf\nend\n") ≡ Ok (report_with (least (0 ∷ []) (empty 0 ∷ found ∷ [])))
-least_is_known = refl
-
-pub found_in_a_refutation : reads 2 true (codes "answer none\nf\nend\n") ≡ Err 7
+pub found_in_a_refutation : reads 2 (codes "answer none\nf\nend\n") ≡ Err 7
 found_in_a_refutation = refl
 
 -- ---- reports about path 3 after one round

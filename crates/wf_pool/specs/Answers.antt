@@ -1,7 +1,8 @@
 -- What is answered about a problem, and the account of the work.
-use Rattle.std.specs.Prelude.{◌≡◌, ℕ, ◌+◌, ◌≤◌, List, map, length, Some, None}
+use Rattle.std.specs.Prelude.{◌≡◌, ℕ, ◌+◌, ◌≤◌, List, [], map, length, Some, None}
 use Rattle.wf_model.specs.Problem.{Problem}
 use Rattle.wf_model.specs.Box.{root}
+use Rattle.wf_model.specs.Refutation as refutation
 use Rattle.wf_model.specs.Closing.{canonical}
 use Rattle.wf_model.specs.Split.{split}
 use Rattle.wf_model.specs.Laws.{LiesAt}
@@ -9,12 +10,21 @@ use Rattle.wf_core.specs.declared.event.Account.{Account}
 use Rattle.wf_complex.specs.Lines.{line_of}
 use Rattle.wf_pool.specs.declared.answer.Answer.{Answer}
 use Rattle.wf_pool.specs.declared.answer.Answer.TheVariants as answer
+use Rattle.wf_pool.specs.declared.answer.MapLines.{MapLines}
+use Rattle.wf_pool.specs.declared.answer.MapLines.TheVariants.{Kept, Dropped}
 use Rattle.wf_pool.specs.Branches.{IsMapAt, AreLinesAt, branch_of}
 
--- The answer of the canonical search of the root: its map, or its lines where it has none
-abbrev pub IsAnswer : Problem → Answer → Type 0
-IsAnswer p (answer.Map m) = (canonical p (root p)).map ≡ Some m.items
-IsAnswer p (answer.Nothing ls) = ((canonical p (root p)).map ≡ None) × (map line_of ls.items ≡ (canonical p (root p)).lines)
+-- what is left of the lines that lead to a map
+abbrev pub map_lines : MapLines → List refutation.Line → List refutation.Line
+map_lines Kept ls = ls
+map_lines Dropped ls = []
+
+-- The answer of the canonical search of the root: its map, with its lines if they are kept; or its lines where it has
+-- none
+abbrev pub IsAnswer : Problem → MapLines → Answer → Type 0
+IsAnswer p kept (answer.Map m ls) =
+    ((canonical p (root p)).map ≡ Some m.items) × (map line_of ls.items ≡ map_lines kept (canonical p (root p)).lines)
+IsAnswer p kept (answer.Nothing ls) = ((canonical p (root p)).map ≡ None) × (map line_of ls.items ≡ (canonical p (root p)).lines)
 
 -- The least is the branch whose box holds the map, and whose canonical search ends with it; every branch up to it was
 -- searched, and each other one was searched or cut
@@ -33,26 +43,26 @@ pub record HasAccountOfNone (p : Problem) (a : Account) : Type 0 where
   pub cut : a.cut ≡ 0
 
 abbrev pub HasAccount : Problem → Answer → Account → Type 0
-HasAccount p (answer.Map m) a = HasAccountOfMap p m.items a
+HasAccount p (answer.Map m ls) a = HasAccountOfMap p m.items a
 HasAccount p (answer.Nothing ls) a = HasAccountOfNone p a
 
 -- the branches were searched in order, up to the first with a map
 abbrev pub IsInOrder : Answer → Account → Type 0
-IsInOrder (answer.Map m) a = a.searched ≡ a.least + 1
+IsInOrder (answer.Map m ls) a = a.searched ≡ a.least + 1
 IsInOrder (answer.Nothing ls) a = a.searched ≡ a.branches
 
 -- what branch i has
-abbrev pub IsAnswerAt : Problem → ℕ → Answer → Type 0
-IsAnswerAt p i (answer.Map m) = IsMapAt p i m.items
-IsAnswerAt p i (answer.Nothing ls) = AreLinesAt p i ls.items
+abbrev pub IsAnswerAt : Problem → MapLines → ℕ → Answer → Type 0
+IsAnswerAt p kept i (answer.Map m ls) = IsMapAt p kept i m.items ls.items
+IsAnswerAt p kept i (answer.Nothing ls) = AreLinesAt p i ls.items
 
--- the same map, or the same lines
+-- the same map and the same lines that lead to it, or the same lines
 abbrev pub IsSame : Answer → Answer → Type 0
-IsSame (answer.Map m) (answer.Map n) = m.items ≡ n.items
-IsSame (answer.Map m) (answer.Nothing ls) = ⊥
-IsSame (answer.Nothing ls) (answer.Map m) = ⊥
+IsSame (answer.Map m ls) (answer.Map n ks) = (m.items ≡ n.items) × (map line_of ls.items ≡ map line_of ks.items)
+IsSame (answer.Map m ls) (answer.Nothing ks) = ⊥
+IsSame (answer.Nothing ls) (answer.Map m ks) = ⊥
 IsSame (answer.Nothing ls) (answer.Nothing ks) = map line_of ls.items ≡ map line_of ks.items
 
 -- any two runs about a problem give the same answer
 abbrev pub OneAnswer : Type 0
-OneAnswer = (p : Problem) (one other : Answer) → IsAnswer p one → IsAnswer p other → IsSame one other
+OneAnswer = (p : Problem) (kept : MapLines) (one other : Answer) → IsAnswer p kept one → IsAnswer p kept other → IsSame one other

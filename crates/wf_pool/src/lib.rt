@@ -24,7 +24,7 @@ mod solving;
 mod watch;
 mod worker;
 
-pub use answer::Answer;
+pub use answer::{Answer, MapLines};
 pub use gate::{Gate, Moment, Open};
 pub use laws::a_problem_has_one_answer;
 pub use solving::{MAX_WORKERS, solve, solve_one};

@@ -37,10 +37,11 @@ pub fn solve<R: Threads + Sync, H: Handout, G: Gate>(
     alloc: Global,
     problem: &Problem,
     workers: u32,
+    kept: MapLines,
     gate: &G,
 ) -> Result<(Answer, Account), AllocError>
     requires { (0 < workers) × (workers ≤ MAX_WORKERS) }
-    ensures answer { IfOk result (λ r. IsAnswer problem.now r.0) }
+    ensures answer { IfOk result (λ r. IsAnswer problem.now kept r.0) }
     ensures account { IfOk result (λ r. HasAccount problem.now r.0 r.1) }
 {
     let cover = branches_of(alloc, problem)?;
@@ -55,8 +56,12 @@ pub fn solve<R: Threads + Sync, H: Handout, G: Gate>(
 
 /// The answer about a problem, and the account of the search: the branches in order, up to the first with a map, whose
 /// map is the least of all. It starts no thread, and returns. Refused out of memory alone.
-pub fn solve_one(alloc: Global, problem: &Problem) -> Result<(Answer, Account), AllocError>
-    ensures answer { IfOk result (λ r. IsAnswer problem.now r.0) }
+pub fn solve_one(
+    alloc: Global,
+    problem: &Problem,
+    kept: MapLines,
+) -> Result<(Answer, Account), AllocError>
+    ensures answer { IfOk result (λ r. IsAnswer problem.now kept r.0) }
     ensures account { IfOk result (λ r. HasAccount problem.now r.0 r.1) }
     ensures in_order { IfOk result (λ r. IsInOrder r.0 r.1) }
 {

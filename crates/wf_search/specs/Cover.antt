@@ -4,9 +4,9 @@ use Rattle.std.specs.List.{slice_index_or}
 use Rattle.wf_model.specs.Problem.{IsWellFormed, Problem}
 use Rattle.wf_model.specs.Box.{Box, root}
 use Rattle.wf_model.specs.Refutation as refutation
-use Rattle.wf_model.specs.Split.{IsOrderedCover}
-use Rattle.wf_model.specs.Outline.{Item, boxes_left_out, filled, outline}
-use Rattle.wf_model.specs.Laws.{AreCanonicalForBranches, HasCanonicalLines, IsClosedBranch, IsRefutedBy, RefuteBranches}
+use Rattle.wf_model.specs.Split.{IsOrderedCover, split}
+use Rattle.wf_model.specs.Outline.{Item, boxes_left_out, filled, filled_up_to, outline}
+use Rattle.wf_model.specs.Laws.{AreCanonicalForBranches, HasCanonicalLines, HasCanonicalMap, IsClosedBranch, IsRefutedBy, LeadToMap, RefuteBranches}
 use Rattle.wf_box.specs.Boxes.{IsFor, Tracked}
 use Rattle.wf_complex.specs.Lines.{line_of}
 use Rattle.wf_complex.specs.declared.line.Line.{Line}
@@ -50,3 +50,12 @@ RefutesRoot cover lists lines = (p : Problem) → cover ≡ outline p → Refute
 -- where each list has the canonical lines of its branch, the lines are the canonical ones of the root
 abbrev pub IsCanonicalInRoot : {A B : Type 0} → List Item → List (Vec Line A) → Vec Line B → Type 0
 IsCanonicalInRoot cover lists lines = (p : Problem) → cover ≡ outline p → AreCanonicalForBranches p (each_seen lists) → HasCanonicalLines p (root p) (map line_of lines.items)
+
+-- the lines are the cover's up to the last list, with those of the lists in the places of the first branches
+abbrev pub IsFilledUpTo : {A B : Type 0} → List Item → List (Vec Line A) → Vec Line B → Type 0
+IsFilledUpTo cover lists lines = map line_of lines.items ≡ filled_up_to cover (each_seen lists)
+
+-- where the lists lead to a map in the first branches, the lines are the canonical ones of the root that lead to it
+abbrev pub LeadsToMapInRoot : {A B : Type 0} → List Item → List (Vec Line A) → Vec Line B → Type 0
+LeadsToMapInRoot cover lists lines =
+    (p : Problem) (m : List ℕ) → cover ≡ outline p → LeadToMap p m (split p) (each_seen lists) → HasCanonicalMap p m (root p) (map line_of lines.items)

@@ -3,7 +3,7 @@
 ghost use Rattle.std.specs.Prelude.{◌≡◌, ◌<◌, ◌≤◌, length, IfOk};
 ghost use Rattle.wf_model.specs.Outline.{boxes_left_out, outline};
 ghost use Rattle.wf_model.specs.Split.{most_branches, split};
-ghost use Rattle.wf_search.specs.Cover.{AreClosedBranches, CoversRoot, IsCanonicalInRoot, IsClosedIn, IsFilled, IsForIn, RefutesRoot, branch_at};
+ghost use Rattle.wf_search.specs.Cover.{AreClosedBranches, CoversRoot, IsCanonicalInRoot, IsClosedIn, IsFilled, IsFilledUpTo, IsForIn, LeadsToMapInRoot, RefutesRoot, branch_at};
 
 use crate::outline::Outline;
 use std::alloc::{AllocError, Global};
@@ -68,6 +68,23 @@ impl Cover {
         ensures canonical { IfOk result (IsCanonicalInRoot self.now lists.items) }
     {
         self.outline.filled(alloc, lists)
+    }
+
+    /// The lines of the root up to the last of some lists, one for each of the first branches, in order, with those of the
+    /// lists in the places of these branches.
+    ///
+    /// Where each list is the one that [`search`] finds for its branch, and the last alone is that of a map, the lines
+    /// are those of a search of the root, which lead to that map. Each list is given back as soon as its lines are
+    /// copied. Refused out of memory alone, and the lists are then given back too.
+    ///
+    /// [`search`]: crate::search
+    pub fn fill_least(&self, alloc: Global, lists: Vec<Lines>) -> Result<Lines, AllocError>
+        requires some { 0 < length lists.items }
+        requires few { length lists.items ≤ length (boxes_left_out self.now) }
+        ensures filled { IfOk result (IsFilledUpTo self.now lists.items) }
+        ensures leads { IfOk result (LeadsToMapInRoot self.now lists.items) }
+    {
+        self.outline.filled_up_to(alloc, lists)
     }
 }
 
