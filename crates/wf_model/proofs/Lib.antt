@@ -22,3 +22,4 @@ pub mod Leading
 pub mod LeastChecked
 pub mod WholeReports
 pub mod Filling
+pub mod Tracing

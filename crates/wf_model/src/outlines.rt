@@ -1,11 +1,11 @@
 //! Laws of outlines: they leave out the branches, and are filled with refutations of these.
 
-ghost use Rattle.std.specs.Prelude.{◌≡◌, ◌≤◌, List, length};
+ghost use Rattle.std.specs.Prelude.{◌≡◌, ◌≤◌, ℕ, List, length};
 ghost use Rattle.wf_model.specs.Problem.{Problem};
 ghost use Rattle.wf_model.specs.Refutation.{Line};
 ghost use Rattle.wf_model.specs.Split.{most_branches, most_values, split};
 ghost use Rattle.wf_model.specs.Outline.{boxes_left_out, outline};
-ghost use Rattle.wf_model.specs.Laws.{IsCanonicalOnceFilled, RefutesOnceFilled};
+ghost use Rattle.wf_model.specs.Laws.{IsCanonicalOnceFilled, LeadsToMapOnceFilled, RefutesOnceFilled};
 
 /// What the outline of a problem leaves out are the branches of the problem, and with at most 256 values these are at
 /// most 63 times 256.
@@ -22,4 +22,10 @@ pub fn a_filled_outline_refutes()
 /// With the canonical lines of the branches in their places, the outline's lines are the canonical ones of the root.
 pub fn a_filled_outline_is_canonical()
     ensures { (p : Problem) (lists : List (List Line)) → IsCanonicalOnceFilled p lists }
+{}
+
+/// With the canonical lines of the branches up to the first that has a map, the outline's lines up to the last of these
+/// are the canonical ones of the root, which lead to that map.
+pub fn a_filled_outline_leads_to_the_map()
+    ensures { (p : Problem) (m : List ℕ) (lists : List (List Line)) → LeadsToMapOnceFilled p m lists }
 {}
