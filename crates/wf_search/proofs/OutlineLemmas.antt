@@ -1,5 +1,5 @@
 -- Outlines as slots.
-use Rattle.std.proofs.Common.{◌≡◌, ℕ, zero, suc, ◌+◌, ◌-◌, ◌<◌, ◌≤◌, ◌&&◌, ◌||◌, ◌==◌, nat_lt, true, false, List, [], ◌∷◌, ◌++◌, map, flat_map, length, get_or, drop, take, Bool, refl, sym, ap, ◌∙◌, subst, arith, Option, Some, None, IfSome, IfOk, Result, Ok, Err, ltb-true, Vec, ◌⊎◌, inl, inr}
+use Rattle.std.proofs.Common.{◌≡◌, ℕ, zero, suc, ◌-◌, ◌<◌, ◌≤◌, ◌&&◌, ◌||◌, ◌==◌, nat_lt, true, false, List, [], ◌∷◌, ◌++◌, map, flat_map, length, get_or, take, Bool, refl, sym, ap, ◌∙◌, subst, arith, Option, Some, None, IfSome, IfOk, Result, Ok, Err, ltb-true, Vec, ◌⊎◌, inl, inr}
 use Rattle.std.specs.List.{AllByRecursion, list_any}
 use Rattle.std.specs.Bool.{OnTrue}
 use Rattle.std.proofs.lemmas.List.{append_assoc, append-nil, length-map, length-take-le, map-append}
@@ -12,7 +12,7 @@ use Rattle.wf_model.specs.Refutation as refutation
 use Rattle.wf_model.specs.Closing.{closing, sweep}
 use Rattle.wf_model.specs.Laws.{IsBoxOf}
 use Rattle.wf_model.specs.Split.{is_open}
-use Rattle.wf_model.specs.Outline.{Item, written, left_out, box_left, closed_to, opened_at, opened, boxes_left_out, opened_if, opened_levels, filled}
+use Rattle.wf_model.specs.Outline.{Item, written, left_out, box_left, closed_to, opened_at, opened, boxes_left_out, opened_if, opened_levels, filled, filled_up_to}
 use Rattle.wf_model.proofs.Filling.{boxes_append}
 use Rattle.wf_model.proofs.Headline.{each_append}
 use Rattle.wf_model.proofs.Closed.{closed_branch}
@@ -86,27 +86,41 @@ filled_after : (ls : List refutation.Line) (items : List Item) (lists : List (Li
 filled_after [] items lists = refl
 filled_after (l ∷ ls) items lists = ap (λ ms. l ∷ ms) (filled_after ls items lists)
 
-pub filled_slot : (s : Slot) (slots : List Slot) (list : List refutation.Line) (lists : List (List refutation.Line)) → filled (flat_map slot_seen (s ∷ slots)) (list ∷ lists) ≡ map line_of s.before.items ++ (list ++ filled (flat_map slot_seen slots) lists)
-filled_slot s slots list lists =
-    ap (λ items. filled items (list ∷ lists)) (append_assoc (as_written s.before.items) (left_out s.boxed.sets ∷ []) (flat_map slot_seen slots))
-    ∙ filled_after (map line_of s.before.items) (left_out s.boxed.sets ∷ flat_map slot_seen slots) (list ∷ lists)
+up_to_after : (ls : List refutation.Line) (items : List Item) (lists : List (List refutation.Line)) → filled_up_to (map written ls ++ items) lists ≡ ls ++ filled_up_to items lists
+up_to_after [] items lists = refl
+up_to_after (l ∷ ls) items lists = ap (λ ms. l ∷ ms) (up_to_after ls items lists)
 
-filled_end : (slots : List Slot) (lists : List (List refutation.Line)) (after : List refutation.Line) → length lists ≡ length slots
-    → filled (flat_map slot_seen slots ++ map written after) lists ≡ filled (flat_map slot_seen slots) lists ++ after
-filled_end [] [] after same = ap (λ items. filled items []) (sym (append-nil (map written after))) ∙ filled_after after [] [] ∙ append-nil after
-filled_end [] (l ∷ lists) after same = absurd (let none : ⊥ = omega (arith, same) in none)
-filled_end (s ∷ slots) [] after same = absurd (let none : ⊥ = omega (arith, same) in none)
-filled_end (s ∷ slots) (list ∷ lists) after same =
-    ap (λ items. filled items (list ∷ lists)) (append_assoc (slot_seen s) (flat_map slot_seen slots) (map written after) ∙ append_assoc (as_written s.before.items) (left_out s.boxed.sets ∷ []) (flat_map slot_seen slots ++ map written after))
-    ∙ filled_after (map line_of s.before.items) (left_out s.boxed.sets ∷ (flat_map slot_seen slots ++ map written after)) (list ∷ lists)
-    ∙ ap (λ ms. map line_of s.before.items ++ (list ++ ms)) (filled_end slots lists after (omega (arith, same)))
-    ∙ ap (λ ms. map line_of s.before.items ++ ms) (sym (append_assoc list (filled (flat_map slot_seen slots) lists) after))
-    ∙ sym (append_assoc (map line_of s.before.items) (list ++ filled (flat_map slot_seen slots) lists) after)
-    ∙ ap (λ ms. ms ++ after) (sym (filled_slot s slots list lists))
+-- the first slot's lines come first, then its box
+first_slot : (s : Slot) (slots : List Slot) (items : List Item) → flat_map slot_seen (s ∷ slots) ++ items ≡ as_written s.before.items ++ left_out s.boxed.sets ∷ (flat_map slot_seen slots ++ items)
+first_slot s slots items = append_assoc (slot_seen s) (flat_map slot_seen slots) items ∙ append_assoc (as_written s.before.items) (left_out s.boxed.sets ∷ []) (flat_map slot_seen slots ++ items)
 
-pub filled_seen : (slots : List Slot) (lists : List (List refutation.Line)) (after : List Line) → length lists ≡ length slots
-    → filled (flat_map slot_seen slots ++ as_written after) lists ≡ filled (flat_map slot_seen slots) lists ++ map line_of after
-filled_seen slots lists after same = filled_end slots lists (map line_of after) same
+module _ {A : Type 0} where
+  filled_seen : (slots : List Slot) (lists : List (Vec Line A)) (after : List refutation.Line) → length lists ≡ length slots
+      → filled (flat_map slot_seen slots ++ map written after) (each_seen lists) ≡ slots_filled slots lists ++ after
+  filled_seen [] [] after same = ap (λ items. filled items []) (sym (append-nil (map written after))) ∙ filled_after after [] [] ∙ append-nil after
+  filled_seen [] (list ∷ lists) after same = absurd (let none : ⊥ = omega (arith, same) in none)
+  filled_seen (s ∷ slots) [] after same = absurd (let none : ⊥ = omega (arith, same) in none)
+  filled_seen (s ∷ slots) (list ∷ lists) after same =
+      let before = map line_of s.before.items in
+      let here = map line_of list.items in
+      ap (λ items. filled items (each_seen (list ∷ lists))) (first_slot s slots (map written after))
+      ∙ filled_after before (left_out s.boxed.sets ∷ (flat_map slot_seen slots ++ map written after)) (each_seen (list ∷ lists))
+      ∙ ap (λ ms. before ++ (here ++ ms)) (filled_seen slots lists after (omega (arith, same)))
+      ∙ ap (λ ms. before ++ ms) (sym (append_assoc here (slots_filled slots lists) after))
+      ∙ sym (append_assoc before (here ++ slots_filled slots lists) after)
+
+  up_to_seen : (slots : List Slot) (lists : List (Vec Line A)) (after : List refutation.Line) → 0 < length lists → length lists ≤ length slots
+      → filled_up_to (flat_map slot_seen slots ++ map written after) (each_seen lists) ≡ slots_filled slots lists
+  up_to_seen slots [] after some few = absurd (let none : ⊥ = omega (arith, some) in none)
+  up_to_seen [] (list ∷ lists) after some few = absurd (let none : ⊥ = omega (arith, few) in none)
+  up_to_seen (s ∷ slots) (list ∷ []) after some few =
+      ap (λ items. filled_up_to items (each_seen (list ∷ []))) (first_slot s slots (map written after))
+      ∙ up_to_after (map line_of s.before.items) (left_out s.boxed.sets ∷ (flat_map slot_seen slots ++ map written after)) (each_seen (list ∷ []))
+      ∙ ap (λ ms. map line_of s.before.items ++ ms) (sym (append-nil (map line_of list.items)))
+  up_to_seen (s ∷ slots) (list ∷ next ∷ lists) after some few =
+      ap (λ items. filled_up_to items (each_seen (list ∷ next ∷ lists))) (first_slot s slots (map written after))
+      ∙ up_to_after (map line_of s.before.items) (left_out s.boxed.sets ∷ (flat_map slot_seen slots ++ map written after)) (each_seen (list ∷ next ∷ lists))
+      ∙ ap (λ ms. map line_of s.before.items ++ (map line_of list.items ++ ms)) (up_to_seen slots (next ∷ lists) after (omega arith) (omega (arith, few)))
 
 -- ---- opening
 
@@ -263,10 +277,15 @@ fill_step slots more lists others s list old mid new whole here there first then
     (ap (map line_of) (then ∙ ap (λ ls. ls ++ list.items) first) ∙ map-append line_of (old ++ s.before.items) list.items ∙ ap (λ ls. ls ++ map line_of list.items) (map-append line_of old s.before.items))
     ∙ append_assoc (map line_of old ++ map line_of s.before.items) (map line_of list.items) rest
     ∙ append_assoc (map line_of old) (map line_of s.before.items) (map line_of list.items ++ rest)
-    ∙ ap (λ ls. map line_of old ++ ls) (sym (filled_slot s more (map line_of list.items) (each_seen others)))
     ∙ ap (λ ss. map line_of old ++ slots_filled ss (list ∷ others)) (sym here)
     ∙ ap (λ ls. map line_of old ++ slots_filled slots ls) (sym there)
     ∙ all
+
+-- no slot is left, or no list
+pub fill_end : {A : Type 0} (slots : List Slot) (lists : List (Vec Line A)) (lines whole : List refutation.Line) → (slots ≡ []) ⊎ (lists ≡ []) → lines ++ slots_filled slots lists ≡ whole → lines ≡ whole
+fill_end slots [] lines whole ends all = sym (append-nil lines) ∙ all
+fill_end [] (l ∷ lists) lines whole ends all = sym (append-nil lines) ∙ all
+fill_end (s ∷ slots) (l ∷ lists) lines whole ends all = elim ends [ inl e ↦ absurd (let none : ⊥ = cc in none) | inr e ↦ absurd (let none : ⊥ = cc in none) ]
 
 pub opened_step : (p : Problem) (slots more : List Slot) (s : Slot) (old mid new whole : List Item) (lines : List Line)
     → slots ≡ s ∷ more → lines ≡ s.before.items → mid ≡ old ++ as_written lines → new ≡ mid ++ opened p (left_out s.boxed.sets)
@@ -296,20 +315,17 @@ boxes_of_slots P slots after items seen all = subst (AllByRecursion P) (ap boxes
 pub no_more_branches : (p : Problem) (old whole : List Item) (box : Box) (v : ℕ) (left : List ℕ) → values_in left ≡ [] → old ++ branches_closed p box v (values_in left) ≡ whole → old ≡ whole
 no_more_branches p old whole box v left none all = sym (append-nil old) ∙ ap (λ vs. old ++ branches_closed p box v vs) (sym none) ∙ all
 
-pub fill_last : {A : Type 0} (slots : List Slot) (after : List Line) (lists : List (Vec Line A)) (start mid new more : List Line) (items : List Item) → start ≡ [] → length lists ≡ length slots
-    → map line_of mid ≡ map line_of start ++ slots_filled slots lists → new ≡ mid ++ more → more ≡ after → flat_map slot_seen slots ++ as_written after ≡ items → map line_of new ≡ filled items (each_seen lists)
-fill_last slots after lists start mid new more items none long so_far grown same seen =
-    ap (map line_of) (grown ∙ ap (λ ls. mid ++ ls) same) ∙ map-append line_of mid after
-    ∙ ap (λ ls. ls ++ map line_of after) (so_far ∙ ap (λ ls. map line_of ls ++ slots_filled slots lists) none)
-    ∙ sym (filled_seen slots (each_seen lists) after (length-map lists (λ list. map line_of list.items) ∙ long))
+pub fill_last : {A : Type 0} (slots : List Slot) (after : List Line) (lists : List (Vec Line A)) (old new more : List Line) (items : List Item) → length lists ≡ length slots
+    → map line_of old ≡ slots_filled slots lists → new ≡ old ++ more → more ≡ after → flat_map slot_seen slots ++ as_written after ≡ items → map line_of new ≡ filled items (each_seen lists)
+fill_last slots after lists old new more items long so_far grown same seen =
+    ap (map line_of) (grown ∙ ap (λ ls. old ++ ls) same) ∙ map-append line_of old after
+    ∙ ap (λ ls. ls ++ map line_of after) so_far
+    ∙ sym (filled_seen slots lists (map line_of after) long)
     ∙ ap (λ is. filled is (each_seen lists)) seen
 
--- no slot is left, and no list
-pub fill_end : {A : Type 0} (slots : List Slot) (lists : List (Vec Line A)) (lines whole : List refutation.Line) → length lists ≡ length slots → (slots ≡ []) ⊎ (lists ≡ []) → lines ++ slots_filled slots lists ≡ whole → lines ≡ whole
-fill_end [] [] lines whole same ends all = sym (append-nil lines) ∙ all
-fill_end [] (l ∷ lists) lines whole same ends all = absurd (let none : ⊥ = omega (arith, same) in none)
-fill_end (s ∷ slots) [] lines whole same ends all = absurd (let none : ⊥ = omega (arith, same) in none)
-fill_end (s ∷ slots) (l ∷ lists) lines whole same ends all = elim ends [ inl e ↦ absurd (let none : ⊥ = cc in none) | inr e ↦ absurd (let none : ⊥ = cc in none) ]
+pub fill_first : {A : Type 0} (slots : List Slot) (after : List Line) (lists : List (Vec Line A)) (items : List Item) → 0 < length lists → length lists ≤ length slots
+    → flat_map slot_seen slots ++ as_written after ≡ items → slots_filled slots lists ≡ filled_up_to items (each_seen lists)
+fill_first slots after lists items some few seen = sym (up_to_seen slots lists (map line_of after) some few) ∙ ap (λ is. filled_up_to is (each_seen lists)) seen
 
 pub none_of : {X : Type 0} (xs : List X) → length xs ≡ 0 → xs ≡ []
 none_of [] none = refl

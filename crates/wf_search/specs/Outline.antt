@@ -7,11 +7,10 @@ use Rattle.wf_model.specs.Closing.{sweep}
 use Rattle.wf_model.specs.Laws.{IsBoxOf}
 use Rattle.wf_model.specs.Refutation as refutation
 use Rattle.wf_model.specs.Split.{is_open}
-use Rattle.wf_model.specs.Outline.{Item, written, left_out, boxes_left_out, closed_each, filled}
+use Rattle.wf_model.specs.Outline.{Item, written, left_out, boxes_left_out, closed_each}
 use Rattle.wf_complex.specs.Lines.{line_of}
 use Rattle.wf_complex.specs.declared.line.Line.{Line}
 use Rattle.wf_box.specs.Boxes.{IsFor, Tracked}
-use Rattle.wf_search.specs.Cover.{each_seen}
 use Rattle.wf_search.specs.declared.outline.Slot.{Slot}
 use Rattle.wf_search.specs.declared.outline.Outline.TheInside.{Inside}
 
@@ -51,9 +50,14 @@ is_to_open items = nat_lt (length (boxes_left_out items)) 64 && list_any is_open
 abbrev pub branches_closed : Problem → Box → ℕ → List Item
 branches_closed p box v = closed_each p (branches_at box v)
 
--- the lines before each box, and those of the lists in the places of the boxes
+-- the lines before each box and those of its list, for as many boxes as there are lists
 abbrev pub slots_filled : {A : Type 0} → List Slot → List (Vec Line A) → List refutation.Line
-slots_filled slots lists = filled (flat_map slot_seen slots) (each_seen lists)
+slots_filled slots [] = []
+slots_filled [] (list ∷ lists) = []
+slots_filled (s ∷ slots) (list ∷ lists) = map line_of s.before.items ++ (map line_of list.items ++ slots_filled slots lists)
+
+abbrev pub AreSlotsFilled : {A B : Type 0} → List Slot → List (Vec Line A) → Vec Line B → Type 0
+AreSlotsFilled slots lists lines = map line_of lines.items ≡ slots_filled slots lists
 
 -- the new lines are the old ones and these
 abbrev pub Adds : List Line → List Line → List refutation.Line → Type 0

@@ -1,6 +1,6 @@
 //! The lines that are written while the root is cut into branches.
 
-ghost use Rattle.std.specs.Prelude.{◌≡◌, ◌<◌, ◌∷◌, ◌++◌, [], length, flat_map, IfOk, OnOk};
+ghost use Rattle.std.specs.Prelude.{◌≡◌, ◌<◌, ◌≤◌, ◌∷◌, ◌++◌, [], length, flat_map, IfOk, OnOk};
 ghost use Rattle.std.specs.List.{AllByRecursion, list_any};
 ghost use Rattle.wf_model.specs.Problem.{Problem};
 ghost use Rattle.wf_model.specs.Box.{root};
@@ -9,8 +9,8 @@ ghost use Rattle.wf_model.specs.Outline.{boxes_left_out, closed_to, left_out, op
 ghost use Rattle.wf_model.specs.Split.{is_open};
 ghost use Rattle.wf_complex.specs.Lines.{line_of};
 ghost use Rattle.wf_box.specs.Boxes.{Grows, IsFor};
-ghost use Rattle.wf_search.specs.Cover.{IsFilled, branch_at};
-ghost use Rattle.wf_search.specs.Outline.{Adds, IsClosedBox, IsForIfClosed, IsJustClosed, as_written, branches_closed, is_to_open, slots_filled};
+ghost use Rattle.wf_search.specs.Cover.{IsFilled, IsFilledUpTo, branch_at};
+ghost use Rattle.wf_search.specs.Outline.{AreSlotsFilled, IsClosedBox, IsForIfClosed, IsJustClosed, as_written, branches_closed, is_to_open};
 
 use std::alloc::{AllocError, Global};
 use std::marker::Model;
@@ -99,10 +99,18 @@ impl Outline {
         requires { length lists.items ≡ length (boxes_left_out self.now) }
         ensures { IfOk result (IsFilled self.now lists.items) }
     {
-        let mut lines = Vec::new(alloc);
-        fill_slots(&self.slots, lists, &mut lines)?;
+        let mut lines = fill_slots(alloc, &self.slots, lists)?;
         lines.extend_from_slice(&self.after)?;
         Ok(lines)
+    }
+
+    /// The lines up to the last of the lists, with those of the lists in the places of the first boxes.
+    pub(crate) fn filled_up_to(&self, alloc: Global, lists: Vec<Lines>) -> Result<Lines, AllocError>
+        requires some { 0 < length lists.items }
+        requires few { length lists.items ≤ length (boxes_left_out self.now) }
+        ensures { IfOk result (IsFilledUpTo self.now lists.items) }
+    {
+        fill_slots(alloc, &self.slots, lists)
     }
 
     /// Writes a line.
@@ -126,7 +134,9 @@ impl Outline {
         requires { IsJustClosed boxed }
         ensures { OnOk result (self.new ≡ self.old ++ left_out boxed.sets ∷ []) }
     {
-        let before = mem::replace(&mut self.after, Vec::new(alloc));
+        let mut before = mem::replace(&mut self.after, Vec::new(alloc));
+        // closing had room for a line for each candidate
+        before.shrink_to_fit();
         self.slots.push(Slot { before, boxed })?;
         Ok(())
     }
@@ -215,14 +225,15 @@ fn has_open(slots: &[Slot]) -> bool
     slots.iter().any(|slot| slot.boxed.first_open().is_some())
 }
 
-/// Adds the lines before each box and those of its list, which is given back then.
-fn fill_slots(slots: &[Slot], lists: Vec<Lines>, lines: &mut Lines) -> Result<(), AllocError>
-    requires { length lists.items ≡ length slots.now }
-    ensures { OnOk result (Adds lines.old.items lines.new.items (slots_filled slots.now lists.items)) }
+/// The lines before each box and those of its list, for as many boxes as there are lists. Each list is given back as soon
+/// as its lines are copied.
+fn fill_slots(alloc: Global, slots: &[Slot], lists: Vec<Lines>) -> Result<Lines, AllocError>
+    ensures { IfOk result (AreSlotsFilled slots.now lists.items) }
 {
+    let mut lines = Vec::new(alloc);
     for (slot, list) in slots.iter().zip(lists) {
         lines.extend_from_slice(&slot.before)?;
         lines.extend_from_slice(&list)?;
     }
-    Ok(())
+    Ok(lines)
 }
