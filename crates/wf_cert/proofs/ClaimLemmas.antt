@@ -1,12 +1,13 @@
 -- What is found in lines, one line after another.
-use Rattle.std.proofs.Common.{◌≡◌, ℕ, zero, suc, ◌+◌, ◌<◌, List, [], ◌∷◌, drop, get_or, length, map, Option, Some, None, Result, Err, refl, ap, ◌∙◌, sym, subst, arith, Bool, true, false}
+use Rattle.std.proofs.Common.{◌≡◌, ℕ, zero, suc, ◌+◌, ◌<◌, List, [], ◌∷◌, drop, get_or, length, map, Option, Some, Result, Err, refl, ap, ◌∙◌, sym, subst, arith}
 use Rattle.wf_model.specs.Problem.{Problem}
 use Rattle.wf_model.specs.Box.{Box}
-use Rattle.wf_model.specs.Refutation.{Line, remove, empty, branch, found}
-use Rattle.wf_model.specs.Check.{Refusal, Verdict, after_verdict, fault, first_only, left, not_first, trailing, verdict}
+use Rattle.wf_model.specs.Refutation.{Line, remove, empty, branch}
+use Rattle.wf_model.specs.Check.{Refusal, Verdict, after_verdict, left, trailing, verdict}
 use Rattle.wf_complex.specs.Lines.{line_of}
 use Rattle.wf_complex.specs.declared.line.Line as line
-use Rattle.wf_cert.specs.Claims.{Leaves, fault_left, lines_fault, is_branch_of, verdict_on}
+use Rattle.wf_cert.specs.Blocks.{box_now, boxes_later}
+use Rattle.wf_cert.specs.Claims.{Leaves, fault_left, lines_fault, verdict_on}
 use Rattle.wf_cert.specs.Faults.{Fails, IsFault, Judges}
 use Rattle.wf_cert.specs.declared.blocks.Blocks.{Blocks}
 use Rattle.wf_cert.specs.declared.fault.CertFault.{CertFault}
@@ -73,9 +74,14 @@ trailing_there p (Least m) k zero (l ∷ lines) Refuted blocks low h = refl
 trailing_there p claim k zero (l ∷ lines) Found blocks low h = refl
 
 -- the next line, before those that follow it
-pub next_line : (lines : List line.Line) (i : ℕ) (l : line.Line) → i < length lines → l ≡ get_or lines i l → map line_of (drop i lines) ≡ line_of l ∷ map line_of (drop (i + 1) lines)
-next_line [] i l low is = absurd (omega (arith, low))
-next_line (x ∷ lines) zero l low is = ap (λ y. line_of y ∷ map line_of lines) (sym is)
-next_line (x ∷ lines) (suc i) l low is =
+next_line : (lines : List line.Line) (i : ℕ) (d : line.Line) → i < length lines → map line_of (drop i lines) ≡ line_of (get_or lines i d) ∷ map line_of (drop (i + 1) lines)
+next_line [] i d low = absurd (omega (arith, low))
+next_line (x ∷ lines) zero d low = refl
+next_line (x ∷ lines) (suc i) d low =
     let e : suc i + 1 ≡ suc (i + 1) = omega arith in
-    rw e (next_line lines i l (omega (arith, low)) is)
+    rw e (next_line lines i d (omega (arith, low)))
+
+pub going_on : (p : Problem) (claim : Claim) (k i : ℕ) (lines : List line.Line) (d : line.Line) (progress : Progress) (blocks : Blocks) → i < length lines → progress ≡ Going
+    → fault_left p claim k (map line_of (drop i lines)) progress blocks ≡ lines_fault p claim k (line_of (get_or lines i d) ∷ map line_of (drop (i + 1) lines)) (box_now blocks ∷ boxes_later blocks)
+going_on p claim k i lines d progress blocks low going =
+    ap (λ progress. fault_left p claim k (map line_of (drop i lines)) progress blocks) going ∙ ap (λ ls. lines_fault p claim k ls (box_now blocks ∷ boxes_later blocks)) (next_line lines i d low)

@@ -118,7 +118,11 @@ fn judge_line(
         }
         Line::Z { point } => {
             let going = judge_empty(protocol, point, at, blocks)?;
-            Ok(if going { Progress::Going } else { Progress::Refuted })
+            Ok(if going {
+                Progress::Going
+            } else {
+                Progress::Refuted
+            })
         }
         Line::B { point } => {
             judge_branch(protocol, claim, point, at, blocks)?;

@@ -1,10 +1,13 @@
-use Rattle.std.proofs.Common.{◌∙◌, ◌∷◌, drop, length, map, arith, sym, ap}
+use Rattle.std.proofs.Common.{◌≡◌, ◌∙◌, ◌∷◌, ◌+◌, suc, drop, length, map, arith, subst, sym, ap}
 use Rattle.std.proofs.lemmas.List.{length-replicate}
+use Rattle.std.proofs.lemmas.Result.{err_from_is_err_and}
 use Rattle.wf_model.specs.Problem.{problem_of}
 use Rattle.wf_complex.specs.Lines.{line_of}
+use Rattle.wf_complex.specs.declared.line.Line.TheVariants as line
 use Rattle.wf_cert.specs.Blocks.{later}
-use Rattle.wf_cert.specs.Claims.{lines_fault}
-use Rattle.wf_cert.proofs.ClaimLemmas.{judges_fault, next_line, trailing_there}
+use Rattle.wf_cert.specs.Claims.{fault_left, lines_fault}
+use Rattle.wf_cert.specs.Faults.{Fails}
+use Rattle.wf_cert.proofs.ClaimLemmas.{going_on, judges_fault, trailing_there}
 use Rattle.wf_cert.proofs.RootLemmas.{root_is}
 use Rattle.wf_cert.proofs.judge.judge_lines.Goals as goal
 
@@ -26,13 +29,26 @@ returns-in_default c =
 
 pub returns-in_err-progress : goal.returns-in_err-progress
 returns-in_err-progress c =
-    let h = c.in_err-progress.ensures.step in
-    let d = c.deref.ensures in
-    let n = c.deref.result in
-    ?
+    let p = problem_of c.args.task.now c.args.protocol.now.rounds in
+    let k = c.loop-line in
+    let lines = c.args.lines.now in
+    let e = err_from_is_err_and c.from_residual-in_err-progress.result c.from_residual-in_err-progress.ensures.1 in
+    judges_fault c.from_residual-in_err-progress.result e.0 c.in_err-progress.field-0.0 _ e.1 e.2
+    (subst (Fails c.in_err-progress.field-0.0)
+    (sym (going_on p c.args.claim k.at k.line-index lines (line.P 0 0 0) k.progress k.blocks c.loop-line-test.true c.in-Going.is) ∙ k.invariant.0)
+    (c.in_err-progress.ensures.step (map line_of (drop (k.line-index + 1) lines))))
 
 pub loop-line-preserved : goal.loop-line-preserved
 loop-line-preserved c =
-    let h = c.in_ok-progress.ensures.step in
-    let k = c.judge_line.result in
-    ?
+    let p = problem_of c.args.task.now c.args.protocol.now.rounds in
+    let k = c.loop-line in
+    let lines = c.args.lines.now in
+    let more = map line_of (drop (k.line-index + 1) lines) in
+    let next : k.at + 1 ≡ suc k.at = omega arith in (
+      ap (λ n. fault_left p c.args.claim n more c.in_ok-progress.progress c.judge_line.new.blocks) next
+          ∙ sym (c.in_ok-progress.ensures.step more)
+          ∙ sym (going_on p c.args.claim k.at k.line-index lines (line.P 0 0 0) k.progress k.blocks c.loop-line-test.true c.in-Going.is)
+          ∙ k.invariant.0,
+      c.in_ok-progress.ensures.points ∙ k.invariant.1,
+      omega (arith, k.invariant.2),
+    )

@@ -1,6 +1,4 @@
-use Rattle.std.proofs.Common.{[], length, sym, ap, subst, ◌∙◌, arith, below_more}
-use Rattle.wf_set.specs.Sets.{values_in}
-use Rattle.wf_cert.proofs.BlockLemmas.{set_read}
+use Rattle.std.proofs.Common.{sym, ◌∙◌, arith, below_more}
 use Rattle.wf_cert.proofs.FirstLemmas.{first_open_is, none_open, two_at}
 use Rattle.wf_cert.proofs.blocks.Blocks.first_open.Goals as goal
 

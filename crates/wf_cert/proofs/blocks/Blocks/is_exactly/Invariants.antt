@@ -1,5 +1,4 @@
-use Rattle.std.proofs.Common.{◌≡◌, ◌==◌, ◌∷◌, [], drop, map}
-use Rattle.std.specs.Cmp.Lexicographic.{pointwise}
+use Rattle.std.proofs.Common.{◌≡◌, drop, map}
 use Rattle.wf_model.specs.Check.{is_exactly}
 use Rattle.wf_set.specs.Sets.{box_of, values_in}
 use Rattle.wf_cert.proofs.blocks.Blocks.is_exactly.Given as goal
