@@ -3,6 +3,7 @@ pub mod BlockLemmas
 pub mod PlaceLemmas
 pub mod ExecutionLemmas
 pub mod RootLemmas
+pub mod ClaimLemmas
 pub mod FirstLemmas
 pub mod ByteLemmas
 pub mod ReadLemmas

@@ -1,5 +1,5 @@
 -- What reading answers about a text, and the pieces that it is cut into.
-use Rattle.std.specs.Prelude.{◌≡◌, ◌<◌, ◌≤◌, ◌==◌, ℕ, Bool, not, List, length, Result, Ok, Err, false}
+use Rattle.std.specs.Prelude.{◌≡◌, ◌<◌, ◌≤◌, ◌==◌, ℕ, Bool, not, List, length, Result, Ok, Err}
 use Rattle.std.specs.List.{list_all}
 use Rattle.wf_model.specs.Report.{Reading, report_of}
 use Rattle.wf_cert.specs.Reports.{report_seen}

@@ -4,9 +4,11 @@
 //! open block the values whose blocks are still to come. So the memory that a certificate can ask for grows with its
 //! lines and with the points, and not with their product.
 
-ghost use Rattle.std.specs.Prelude.{◌≡◌, ◌<◌, ◌++◌, ◌∷◌, [], true, nat_lt, length, map, replicate, IfOk, OnOk};
+ghost use Rattle.std.specs.Prelude.{◌≡◌, ◌==◌, ◌<◌, ◌++◌, ◌∷◌, [], true, nat_lt, length, map, replicate, IfOk, OnOk};
 ghost use Rattle.std.specs.List.{slice_set};
-ghost use Rattle.wf_model.specs.Box.{branches_at, candidates, decided, without};
+ghost use Rattle.std.specs.Cmp.Lexicographic.{pointwise};
+ghost use Rattle.wf_model.specs.Box.{branches_at, candidates, decided, first_open, without};
+ghost use Rattle.wf_model.specs.Check.{is_exactly};
 ghost use Rattle.wf_set.specs.Sets.{values_in};
 ghost use Rattle.wf_cert.specs.Blocks.{box_now, boxes_later, boxes_left, HasSamePoints};
 
@@ -58,6 +60,35 @@ impl Blocks {
         ensures { result.now ≡ self.now.sets.items }
     {
         &self.sets
+    }
+
+    /// The first point with two candidates or more.
+    pub(crate) fn first_open(&mut self) -> Option<usize>
+        ensures open { result ≡ first_open (box_now self.old) }
+        ensures sets { self.new.sets ≡ self.old.sets }
+        ensures later { boxes_later self.new ≡ boxes_later self.old }
+    {
+        for point in 0..self.sets.len() {
+            if has_two(self.sets[point]) {
+                return Some(point);
+            }
+        }
+        None
+    }
+
+    /// Whether each point has the value of a map, and no other.
+    pub(crate) fn is_exactly(&self, values: &[u8]) -> bool
+        ensures { result ≡ is_exactly values.now (box_now self.now) }
+    {
+        if values.len() != self.sets.len() {
+            return false;
+        }
+        for (point, value) in values.iter().enumerate() {
+            if !is_only(self.sets[point], *value) {
+                return false;
+            }
+        }
+        true
     }
 
     /// Takes a value out at a point.
@@ -155,4 +186,11 @@ impl Blocks {
             self.sets[point as usize] = set;
         }
     }
+}
+
+/// Whether the set has the value and no other.
+fn is_only(set: Mask, value: u8) -> bool
+    ensures { result ≡ pointwise (λ x y. x == y) (value ∷ []) (values_in set) }
+{
+    holds(set, value) && !has_two(set)
 }

@@ -9,8 +9,9 @@ ghost use Rattle.wf_cert.specs.Truth.{HoldsOf};
 ghost use Rattle.wf_cert.specs.Reports.{AreNumbered, body_length, body_of, report_seen};
 
 use crate::fault::CertFault;
-use crate::judge::judge_lines;
+use crate::judge::{Claim, judge_lines};
 use crate::maps::first_violated;
+use crate::reading::FIRST_LINE;
 use crate::report::{Body, Report};
 use std::alloc::Global;
 use std::thread::Threads;
@@ -21,8 +22,9 @@ use wf_task::Task;
 ///
 /// The protocol has to be that of the task. The header is judged first. A map is accepted where it is a decision map,
 /// and lines where they are those of a refutation of the box with all values at all points; so where lines are accepted
-/// there is no decision map. A map is looked at in several threads; lines are read one after another. Refused for out of
-/// memory only where a growth was refused.
+/// there is no decision map. A map with lines is accepted where it is a decision map and the lines are those of a search
+/// of that box that refutes all smaller candidates and ends at the map; so no decision map is smaller. A map is looked
+/// at in several threads; lines are read one after another. Refused for out of memory only where a growth was refused.
 pub fn check<R: Threads + Sync>(
     rt: &R,
     alloc: Global,
@@ -62,7 +64,7 @@ fn judge_header(task: &Task, protocol: &Protocol, report: &Report) -> Result<(),
     Ok(())
 }
 
-/// Judges the map or the lines.
+/// Judges the map, the lines, or the map and then the lines.
 fn judge_body<R: Threads + Sync>(
     rt: &R,
     alloc: Global,
@@ -77,7 +79,14 @@ fn judge_body<R: Threads + Sync>(
 {
     match body {
         Body::Map(values) => judge_map(rt, task, protocol, values),
-        Body::Nothing(lines) => judge_lines(alloc, task, protocol, lines),
+        Body::Nothing(lines) => {
+            judge_lines(alloc, task, protocol, Claim::Nothing, FIRST_LINE, lines)
+        }
+        Body::Least(values, lines) => {
+            judge_map(rt, task, protocol, values)?;
+            let first = FIRST_LINE + values.len() as u32;
+            judge_lines(alloc, task, protocol, Claim::Least(values), first, lines)
+        }
     }
 }
 

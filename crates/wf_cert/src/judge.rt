@@ -1,24 +1,23 @@
-//! The lines of a refutation, one by one.
+//! The lines of a refutation, or of the way to a least map, one by one.
 
-ghost use Rattle.std.specs.Prelude.{◌≡◌, ◌<◌, ◌≤◌, ◌∷◌, [], true, All, get_or, length, map};
+ghost use Rattle.std.specs.Prelude.{◌≡◌, ◌+◌, ◌<◌, ◌≤◌, ◌∷◌, [], true, All, get_or, length, map};
 ghost use Rattle.wf_model.specs.Simplex.{processes_of};
 ghost use Rattle.wf_model.specs.Task.{inputs};
-ghost use Rattle.wf_model.specs.Problem.{problem_of};
+ghost use Rattle.wf_model.specs.Problem.{Problem, problem_of};
 ghost use Rattle.wf_model.specs.Box.{candidates, is_supported, root, without};
-ghost use Rattle.wf_model.specs.Check.{first_fault, verdict};
-ghost use Rattle.wf_model.specs.Refutation.{remove};
+ghost use Rattle.wf_model.specs.Check.{verdict};
+ghost use Rattle.wf_model.specs.Refutation.{branch, empty, remove};
 ghost use Rattle.wf_complex.specs.Protocol.{IsProtocol};
 ghost use Rattle.wf_complex.specs.Lines.{line_of};
 ghost use Rattle.wf_cert.specs.Blocks.{HasSamePoints, box_now, boxes_later, boxes_left};
+ghost use Rattle.wf_cert.specs.Claims.{Ends, Judged, is_branch_of, lines_fault, verdict_on};
 ghost use Rattle.wf_cert.specs.Places.{place_in, unless_supported};
 ghost use Rattle.wf_cert.specs.Faults.{Judges, Steps};
-ghost use Rattle.wf_cert.specs.Reports.{AreNumbered};
 ghost use Rattle.wf_cert.specs.Groups.{AreGrouped};
 
 use crate::blocks::Blocks;
 use crate::fault::CertFault;
 use crate::groups::{group_rules, tuples_with};
-use crate::reading::FIRST_LINE;
 use crate::support::is_supported;
 use std::alloc::Global;
 use wf_complex::{Line, Protocol};
@@ -33,52 +32,74 @@ struct Removal {
     value: u8,
 }
 
-/// Judges the lines of a refutation of the root box, in order. The first fault is answered.
+/// What lines are to show.
+#[derive(Clone, Copy, Debug)]
+pub(crate) enum Claim<'a> {
+    /// That there is no map.
+    Nothing,
+    /// That this is the least map.
+    Least(&'a [u8]),
+}
+
+/// How far the lines have come.
+#[derive(Clone, Copy, Debug)]
+enum Progress {
+    /// A block is open.
+    Going,
+    /// All blocks are done.
+    Refuted,
+    /// The map was found.
+    Found,
+}
+
+/// Judges the lines over the root box, in order, from this line on. The first fault is answered.
 pub(crate) fn judge_lines(
     alloc: Global,
     task: &Task,
     protocol: &Protocol,
+    claim: Claim,
+    first: u32,
     lines: &[Line],
 ) -> Result<(), CertFault>
     requires built { IsProtocol task.now protocol.now.rounds protocol.now }
-    requires few { AreNumbered (length lines.now) }
+    requires few { first + length lines.now < u32.MAX }
     ensures { let p = problem_of task.now protocol.now.rounds in
-        Judges result (first_fault p FIRST_LINE (map line_of lines.now) (root p ∷ [])) }
+        Judges result (lines_fault p claim.entry first (map line_of lines.now) (root p ∷ [])) }
 {
     let _inputs = task.inputs();
     let groups = group_rules(alloc, task)?;
     let mut blocks = Blocks::root(alloc, task.values(), protocol.points())?;
-    let mut going = true;
-    let mut at = FIRST_LINE;
+    let mut progress = Progress::Going;
+    let mut at = first;
     for line in lines {
-        if !going {
+        let Progress::Going = progress else {
             return Err(CertFault::Trailing(at));
-        }
-        going = judge_line(task, protocol, &groups, *line, at, &mut blocks)?;
+        };
+        progress = judge_line(task, protocol, &groups, claim, *line, at, &mut blocks)?;
         at += 1;
     }
-    if going {
-        return Err(CertFault::Unfinished);
+    match (claim, progress) {
+        (_, Progress::Found) | (Claim::Nothing, Progress::Refuted) => Ok(()),
+        _ => Err(CertFault::Unfinished),
     }
-    Ok(())
 }
 
-/// Judges a line about the box of now. Answers whether a box is left to refute.
+/// Judges a line about the box of now. Answers how far the lines have come then.
 fn judge_line(
     task: &Task,
     protocol: &Protocol,
     groups: &[Vec<Vec<Row>>],
+    claim: Claim,
     line: Line,
     at: u32,
     blocks: &mut Blocks,
-) -> Result<bool, CertFault>
+) -> Result<Progress, CertFault>
     requires built { IsProtocol task.now protocol.now.rounds protocol.now }
     requires grouped { AreGrouped task.now.rules groups.now }
     requires all { length groups.now ≡ length task.now.rules }
     requires long { length blocks.old.sets.items ≡ length protocol.now.points }
     ensures step { let p = problem_of task.now protocol.now.rounds in
-        Steps result (verdict p at (line_of line) (box_now blocks.old) (boxes_later blocks.old))
-        (λ going. boxes_left going blocks.new) }
+        Judged result p claim.entry at (line_of line) blocks.old blocks.new }
     ensures points { HasSamePoints blocks.old blocks.new }
 {
     match line {
@@ -93,25 +114,102 @@ fn judge_line(
                 value,
             };
             judge_removal(task, protocol, groups, removal, at, blocks)?;
-            Ok(true)
+            Ok(Progress::Going)
         }
         Line::Z { point } => {
-            if point >= protocol.points() {
-                return Err(CertFault::NoSuch(at));
-            }
-            if !is_empty(blocks.sets()[point as usize]) {
-                return Err(CertFault::NotEmpty(at));
-            }
-            Ok(blocks.next()?)
+            let going = judge_empty(protocol, point, at, blocks)?;
+            Ok(if going {
+                Progress::Going
+            } else {
+                Progress::Refuted
+            })
         }
         Line::B { point } => {
-            if point >= protocol.points() {
-                return Err(CertFault::NoSuch(at));
+            judge_branch(protocol, claim, point, at, blocks)?;
+            Ok(Progress::Going)
+        }
+        Line::F => {
+            judge_end(claim, at, blocks)?;
+            Ok(Progress::Found)
+        }
+    }
+}
+
+/// Closes the block of now, if the point has no candidate there. Answers whether a box is left to refute.
+fn judge_empty(
+    protocol: &Protocol,
+    point: u32,
+    at: u32,
+    blocks: &mut Blocks,
+) -> Result<bool, CertFault>
+    requires long { length blocks.old.sets.items ≡ length protocol.now.points }
+    ensures step { (p : Problem) → p.points ≡ length protocol.now.points →
+        Steps result (verdict p at (empty point) (box_now blocks.old) (boxes_later blocks.old))
+        (λ going. boxes_left going blocks.new) }
+    ensures points { HasSamePoints blocks.old blocks.new }
+{
+    if point >= protocol.points() {
+        return Err(CertFault::NoSuch(at));
+    }
+    if !is_empty(blocks.sets()[point as usize]) {
+        return Err(CertFault::NotEmpty(at));
+    }
+    Ok(blocks.next()?)
+}
+
+/// Branches at the point, if it has two candidates or more, and by the claim is the first that has.
+fn judge_branch(
+    protocol: &Protocol,
+    claim: Claim,
+    point: u32,
+    at: u32,
+    blocks: &mut Blocks,
+) -> Result<(), CertFault>
+    requires long { length blocks.old.sets.items ≡ length protocol.now.points }
+    ensures step { (p : Problem) → p.points ≡ length protocol.now.points →
+        Steps result (verdict_on p claim.entry at (branch point) (box_now blocks.old) (boxes_later blocks.old))
+        (λ _. boxes_left true blocks.new) }
+    ensures points { HasSamePoints blocks.old blocks.new }
+{
+    if point >= protocol.points() {
+        return Err(CertFault::NoSuch(at));
+    }
+    let is_wanted = is_branch_of(claim, point, blocks);
+    if !blocks.open(point)? {
+        return Err(CertFault::NotOpen(at));
+    }
+    if !is_wanted {
+        return Err(CertFault::NotFirst(at));
+    }
+    Ok(())
+}
+
+/// Whether the claim lets the lines branch at the point: where a map is to be the least, at the first open point alone.
+fn is_branch_of(claim: Claim, point: u32, blocks: &mut Blocks) -> bool
+    ensures asked { result ≡ is_branch_of claim.entry point (box_now blocks.old) }
+    ensures sets { blocks.new.sets ≡ blocks.old.sets }
+    ensures later { boxes_later blocks.new ≡ boxes_later blocks.old }
+{
+    match claim {
+        Claim::Nothing => true,
+        Claim::Least(_) => match blocks.first_open() {
+            Some(first) => point as usize == first,
+            None => false,
+        },
+    }
+}
+
+/// Ends the search, if a map is claimed and the box of now has that map alone.
+fn judge_end(claim: Claim, at: u32, blocks: &Blocks) -> Result<(), CertFault>
+    ensures { (p : Problem) → Ends result p claim.entry at (box_now blocks.now) (boxes_later blocks.now) }
+{
+    match claim {
+        Claim::Nothing => Err(CertFault::NotTheMap(at)),
+        Claim::Least(values) => {
+            if !blocks.is_exactly(values) {
+                return Err(CertFault::NotTheMap(at));
             }
-            if !blocks.open(point)? {
-                return Err(CertFault::NotOpen(at));
-            }
-            Ok(true)
+            Ok(())
         }
     }
 }

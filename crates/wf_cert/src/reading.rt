@@ -1,13 +1,12 @@
 //! Reading the text of a report, line by line.
 
-ghost use Rattle.std.specs.Prelude.{◌≡◌, ◌==◌, ◌<◌, ◌≤◌, ◌++◌, ◌∷◌, [], true, codes, length, map, option_map, IfOk, OnOk, false};
-ghost use Rattle.wf_model.specs.Report.{body_at, fixed_at, line, lines_of, map_body, most_number, none_body, number_at, number_of_line, number_upto, step_of_none, step_of_words, value_of_line};
-ghost use Rattle.wf_model.specs.Report as report;
+ghost use Rattle.std.specs.Prelude.{◌≡◌, ◌==◌, ◌+◌, ◌<◌, ◌≤◌, ◌++◌, ◌∷◌, [], true, codes, length, map, option_map, IfOk, OnOk};
+ghost use Rattle.wf_model.specs.Report.{any_step, body_at, fixed_at, least_body, line, lines_of, map_body, most_number, none_body, number_at, number_of_line, number_upto, step_of_words, steps_from, value_of_line, values_at_front};
 ghost use Rattle.wf_model.specs.Refutation.{branch, empty};
 ghost use Rattle.wf_complex.specs.Lines.{line_of};
 ghost use Rattle.wf_cert.specs.Reading.{Gives, IsRead, lacks};
 ghost use Rattle.wf_cert.specs.Reports.{AreNumbered, body_length, body_of};
-ghost use Rattle.wf_cert.specs.Steps.{removal_of, words};
+ghost use Rattle.wf_cert.specs.Steps.{removal_of, step_in, words};
 
 use crate::bytes::{cut, number};
 use crate::fault::CertFault;
@@ -24,6 +23,17 @@ const LARGEST: u32 = 255;
 
 /// The last process.
 const LAST_PROCESS: u32 = 3;
+
+/// What a line stands in.
+#[derive(Clone, Copy, Debug)]
+enum Part {
+    /// The values of a map, which no step follows.
+    Values,
+    /// A refutation.
+    Refutation,
+    /// A search up to its map, which a line of its own ends.
+    Search,
+}
 
 /// The report of a text, or the first line that is not as it should be. A text of more than 16,777,216 bytes is
 /// refused before it is looked at.
@@ -98,58 +108,86 @@ fn number_behind(line: &[u8], name: &[u8]) -> Option<u32>
 /// The body, from line 6 on.
 fn read_body(alloc: Global, text: &[u8]) -> Result<Body, CertFault>
     requires { length text.now ≤ LONGEST }
-    ensures body { Gives body_of result (body_at 2 false (lines_of text.now)) }
+    ensures body { Gives body_of result (body_at 2 (lines_of text.now)) }
     ensures few { IfOk result (λ body. body_length body ≤ LONGEST) }
 {
     let Some((found, rest)) = cut(text, b'\n') else {
         return Err(CertFault::Syntax(FIRST_LINE - 1));
     };
     if found == b"answer map".as_slice() {
-        return Ok(Body::Map(read_values(alloc, rest)?));
+        return read_map(alloc, rest);
     }
     if found == b"answer none".as_slice() {
-        return Ok(Body::Nothing(read_lines(alloc, rest)?));
+        return read_refutation(alloc, rest);
+    }
+    if found == b"answer least".as_slice() {
+        return read_least(alloc, rest);
     }
     Err(CertFault::Syntax(FIRST_LINE - 1))
 }
 
 /// The values of a map, up to the end of the text.
-fn read_values(alloc: Global, text: &[u8]) -> Result<Vec<u8>, CertFault>
+fn read_map(alloc: Global, text: &[u8]) -> Result<Body, CertFault>
     requires { length text.now ≤ LONGEST }
-    ensures map { let read = map_body 2 (lines_of text.now) in
-        Gives (λ values. report.a_map values.items) result read }
-    ensures few { IfOk result (λ values. length values.items ≤ LONGEST) }
+    ensures map { Gives body_of result (map_body 2 (lines_of text.now)) }
+    ensures few { IfOk result (λ body. body_length body ≤ LONGEST) }
 {
-    let mut values = Vec::new(alloc);
-    let mut rest = text;
-    let mut at = FIRST_LINE;
-    'lines: while let Some((found, others)) = cut(rest, b'\n') {
-        if found == b"end".as_slice() {
-            if !is_end(others) {
-                return Err(CertFault::Syntax(at + 1));
-            }
-            return Ok(values);
-        }
-        let Some(value) = value_of(found) else {
-            return Err(CertFault::Syntax(at));
-        };
-        put(&mut values, value)?;
-        rest = others;
-        at += 1;
-    }
-    Err(CertFault::Syntax(at))
+    let (values, rest) = read_values(alloc, text)?;
+    let at = FIRST_LINE + values.len() as u32;
+    read_lines(alloc, rest, at, Part::Values)?;
+    Ok(Body::Map(values))
 }
 
 /// The lines of a refutation, up to the end of the text.
-fn read_lines(alloc: Global, text: &[u8]) -> Result<Lines, CertFault>
+fn read_refutation(alloc: Global, text: &[u8]) -> Result<Body, CertFault>
     requires { length text.now ≤ LONGEST }
-    ensures lines { let read = none_body 2 (lines_of text.now) in
-        Gives (λ lines. report.none (map line_of lines.items)) result read }
-    ensures few { IfOk result (λ lines. length lines.items ≤ LONGEST) }
+    ensures lines { Gives body_of result (none_body 2 (lines_of text.now)) }
+    ensures few { IfOk result (λ body. body_length body ≤ LONGEST) }
+{
+    let lines = read_lines(alloc, text, FIRST_LINE, Part::Refutation)?;
+    Ok(Body::Nothing(lines))
+}
+
+/// The values of the least map and the lines that lead to it, up to the end of the text.
+fn read_least(alloc: Global, text: &[u8]) -> Result<Body, CertFault>
+    requires { length text.now ≤ LONGEST }
+    ensures least { Gives body_of result (least_body 2 (lines_of text.now)) }
+    ensures few { IfOk result (λ body. body_length body ≤ LONGEST) }
+{
+    let (values, rest) = read_values(alloc, text)?;
+    let at = FIRST_LINE + values.len() as u32;
+    let lines = read_lines(alloc, rest, at, Part::Search)?;
+    Ok(Body::Least(values, lines))
+}
+
+/// The values of the lines up to the first that has none, and the text from that line on.
+fn read_values<'a>(alloc: Global, text: &'a [u8]) -> Result<(Vec<u8>, &'a [u8]), AllocError>
+    ensures front { IfOk result (λ r.
+        values_at_front 2 (lines_of text.now) ≡ (r.0.items, lines_of r.1.now)) }
+    ensures few { IfOk result (λ r. length r.0.items + length r.1.now ≤ length text.now) }
+{
+    let mut values = Vec::new(alloc);
+    let mut rest = text;
+    'lines: while let Some((found, others)) = cut(rest, b'\n') {
+        let Some(value) = value_of(found) else {
+            return Ok((values, rest));
+        };
+        put(&mut values, value)?;
+        rest = others;
+    }
+    Ok((values, rest))
+}
+
+/// The lines from this one on, up to the end of the text.
+fn read_lines(alloc: Global, text: &[u8], first: u32, part: Part) -> Result<Lines, CertFault>
+    requires { first + length text.now ≤ FIRST_LINE + LONGEST }
+    ensures lines { let read = steps_from (step_in part) first (lines_of text.now) in
+        Gives (λ lines. map line_of lines.items) result read }
+    ensures few { IfOk result (λ lines. length lines.items ≤ length text.now) }
 {
     let mut lines = Vec::new(alloc);
     let mut rest = text;
-    let mut at = FIRST_LINE;
+    let mut at = first;
     'lines: while let Some((found, others)) = cut(rest, b'\n') {
         if found == b"end".as_slice() {
             if !is_end(others) {
@@ -157,7 +195,7 @@ fn read_lines(alloc: Global, text: &[u8]) -> Result<Lines, CertFault>
             }
             return Ok(lines);
         }
-        let Some(line) = step_of(found) else {
+        let Some(line) = step_in(part, found) else {
             return Err(CertFault::Syntax(at));
         };
         put(&mut lines, line)?;
@@ -194,13 +232,25 @@ fn value_of(line: &[u8]) -> Option<u8>
     Some(value as u8)
 }
 
-/// The step of a line of a refutation.
+/// The step of a line, if it may stand in this part of a report.
+fn step_in(part: Part, line: &[u8]) -> Option<Line>
+    requires { lacks 10 line.now ≡ true }
+    ensures { option_map line_of result ≡ step_in part (line.now ++ 10 ∷ []) }
+{
+    let step = step_of(line)?;
+    match (part, step) {
+        (Part::Values, _) | (Part::Refutation, Line::F) => None,
+        _ => Some(step),
+    }
+}
+
+/// The step of a line.
 fn step_of(line: &[u8]) -> Option<Line>
     requires { lacks 10 line.now ≡ true }
-    ensures { option_map line_of result ≡ step_of_none 2 (line.now ++ 10 ∷ []) }
+    ensures { option_map line_of result ≡ any_step 2 (line.now ++ 10 ∷ []) }
 {
     let Some((name, rest)) = cut(line, b' ') else {
-        return None;
+        return end_of(line);
     };
     if name == b"p".as_slice() {
         return removal_of(rest);
@@ -210,6 +260,16 @@ fn step_of(line: &[u8]) -> Option<Line>
     }
     if name == b"b".as_slice() {
         return branch_of(rest);
+    }
+    None
+}
+
+/// The step of a line that is one word.
+fn end_of(word: &[u8]) -> Option<Line>
+    ensures { option_map line_of result ≡ step_of_words 2 (word.now ∷ []) }
+{
+    if word == b"f".as_slice() {
+        return Some(Line::F);
     }
     None
 }

@@ -11,8 +11,9 @@ use std::fmt::Write;
 use wf_complex::Line;
 use wf_lines::{put_number, put_words};
 
-/// The text of a report: a header, the values of a map or the lines of a refutation, and `end`. Every line ends in one
-/// line feed, and numbers are decimal. Refused where memory runs out, and for nothing else.
+/// The text of a report: a header, the values of a map, or the lines of a refutation, or the values of the least map
+/// and the lines that lead to it, and `end`. Every line ends in one line feed, and numbers are decimal. Refused where
+/// memory runs out, and for nothing else.
 pub fn write_report(alloc: Global, report: &Report) -> Result<Vec<u8>, AllocError>
     ensures text { IfOk result (λ text. text.items ≡ report_text (report_seen report.now)) }
 {
@@ -38,6 +39,11 @@ fn put_body(text: &mut String, body: &Body) -> Result<(), AllocError>
         }
         Body::Nothing(lines) => {
             writeln!(text, "answer none")?;
+            put_lines(text, lines)
+        }
+        Body::Least(values, lines) => {
+            writeln!(text, "answer least")?;
+            put_values(text, values)?;
             put_lines(text, lines)
         }
     }
@@ -75,6 +81,7 @@ fn put_line(text: &mut String, line: Line) -> Result<(), AllocError>
         } => writeln!(text, "p {execution} {process} {value}")?,
         Line::Z { point } => writeln!(text, "z {point}")?,
         Line::B { point } => writeln!(text, "b {point}")?,
+        Line::F => writeln!(text, "f")?,
     }
     Ok(())
 }

@@ -1,14 +1,13 @@
 use Rattle.std.proofs.Common.{◌≡◌, ◌+◌, ◌∷◌, [], drop, length, map}
 use Rattle.wf_model.specs.Problem.{problem_of}
 use Rattle.wf_model.specs.Box.{root}
-use Rattle.wf_model.specs.Check.{first_fault}
 use Rattle.wf_complex.specs.Lines.{line_of}
-use Rattle.wf_cert.specs.Blocks.{boxes_left}
+use Rattle.wf_cert.specs.Claims.{fault_left, lines_fault}
 use Rattle.wf_cert.proofs.judge.judge_lines.Given as goal
 
 abbrev pub invariant-loop-line : goal.invariant-loop-line
 invariant-loop-line l =
-    (first_fault (problem_of l.task l.protocol.rounds) l.at (map line_of (drop l.line-index l.lines)) (boxes_left l.going l.blocks)
-    ≡ first_fault (problem_of l.task l.protocol.rounds) 7 (map line_of l.lines) (root (problem_of l.task l.protocol.rounds) ∷ []))
+    (fault_left (problem_of l.task l.protocol.rounds) l.claim l.at (map line_of (drop l.line-index l.lines)) l.progress l.blocks
+    ≡ lines_fault (problem_of l.task l.protocol.rounds) l.claim l.first (map line_of l.lines) (root (problem_of l.task l.protocol.rounds) ∷ []))
     × (length l.blocks.sets.items ≡ length l.protocol.points)
-    × (l.at ≡ 7 + l.line-index)
+    × (l.at ≡ l.first + l.line-index)
