@@ -139,7 +139,8 @@ fn lines_to_map(
     requires cover { IsCoverOf problem.now cover.now }
     requires branch { length below.items < branch_count problem.now }
     requires below { HasEachLines problem.now (length below.items) below.items }
-    ensures { IfOk result (λ ls. LeadIfKept problem.now kept (length below.items) own.items ls.items) }
+    ensures { let n = length below.items in
+        IfOk result (λ ls. LeadIfKept problem.now kept n own.items ls.items) }
 {
     match kept {
         MapLines::Kept => fill_to_map(alloc, problem, cover, below, own),
@@ -158,7 +159,8 @@ fn fill_to_map(
     requires cover { IsCoverOf problem.now cover.now }
     requires branch { length below.items < branch_count problem.now }
     requires below { HasEachLines problem.now (length below.items) below.items }
-    ensures { IfOk result (λ ls. LeadInRoot problem.now (length below.items) own.items ls.items) }
+    ensures { let n = length below.items in
+        IfOk result (λ ls. LeadInRoot problem.now n own.items ls.items) }
 {
     let mut lists = below;
     lists.push(own)?;

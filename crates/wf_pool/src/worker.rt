@@ -72,7 +72,8 @@ impl Worker {
         requires branch { IsToSettle board.now self.old.seat branch }
         ensures seat { OnOk result (IsSeat board.now self.new.seat) }
         ensures settled { OnOk result (HasSettled branch self.old self.new) }
-        ensures honest { OnOk result (StaysHonestIf (λ p kept. AreLinesAt p branch lines.items) self.old self.new) }
+        ensures honest { OnOk result (StaysHonestIf
+            (λ p kept. AreLinesAt p branch lines.items) self.old self.new) }
     {
         board.searched(&mut self.seat, branch);
         if branch < self.seat.seen() {
@@ -107,7 +108,8 @@ impl Worker {
         requires stopped { OnStopped (self.seat.seen < branch) found }
         ensures seat { IfOk result (λ w. IsSeat board.now w.seat) }
         ensures settled { IfOk result (HasSettled branch self) }
-        ensures honest { IfOk result (StaysHonestIf (λ p k. (k ≡ kept) × IsFoundAt p branch found) self) }
+        ensures honest { IfOk result (StaysHonestIf
+            (λ p k. (k ≡ kept) × IsFoundAt p branch found) self) }
     {
         let mut me = self;
         match found {
