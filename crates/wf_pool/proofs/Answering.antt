@@ -1,5 +1,5 @@
 -- What the branches have says what the root has.
-use Rattle.std.proofs.Common.{◌≡◌, ℕ, ◌+◌, ◌≤◌, false, true≢false, List, [], refl, ap, ◌∙◌}
+use Rattle.std.proofs.Common.{◌≡◌, ℕ, ◌+◌, ◌≤◌, false, true≢false, List, [], refl, sym, subst, ap, ◌∙◌}
 use Rattle.std.specs.Prelude.{All, Option, Some, None, is_some}
 use Rattle.wf_model.specs.Problem.{Problem, IsSolution, IsWellFormed}
 use Rattle.wf_model.specs.Box.{Box, LiesIn, root}
@@ -12,7 +12,11 @@ use Rattle.wf_model.proofs.Least.{canonical_least, root_is_box}
 use Rattle.wf_model.proofs.Covering.{first_least, one_least, split_covers, split_closed}
 use Rattle.wf_core.specs.declared.event.Account.{Account}
 use Rattle.wf_pool.specs.Answers.{HasAccountOfMap, HasAccountOfNone}
-use Rattle.wf_pool.specs.Branches.{branch_of, branch_count, has_map, IsMapAt, IsMapOf, NoneBelow}
+use Rattle.wf_complex.specs.declared.line.Line.{Line}
+use Rattle.wf_pool.specs.declared.answer.MapLines.{MapLines}
+use Rattle.wf_pool.specs.declared.answer.MapLines.TheVariants.{Kept, Dropped}
+use Rattle.wf_pool.specs.Branches.{branch_of, branch_count, has_map, IsMapAt, IsMapOf, LeadIfKept, LeadInBox, LeadInRoot, NoneBelow}
+use Rattle.wf_pool.proofs.Branches.{lead_dropped, lead_kept}
 
 no_some : {X : Type 0} (o : Option X) → is_some o ≡ false → o ≡ None
 no_some None e = refl
@@ -36,9 +40,9 @@ by_cases p box P some none = go (canonical p box).map refl
     go (Some m) e = some m e
 
 -- the map of the first branch that has one is that of the root
-pub first_map : (p : Problem) (i : ℕ) (m : List ℕ) → IsWellFormed p → IsMapAt p i m → NoneBelow p i → IsMapOf p (root p) m
+pub first_map : (p : Problem) (kept : MapLines) (i : ℕ) (m : List ℕ) (ls : List Line) → IsWellFormed p → IsMapAt p kept i m ls → NoneBelow p i → IsMapOf p (root p) m
 unfolding IsMapAt branch_count
-first_map p i m well found below =
+first_map p _ i m ls well found below =
     let cover = split_covers p well in
     let closed : All (IsClosedBranch p (root p)) (split p) = split_closed p well in
     let here = closed i [] found.0 in
@@ -50,11 +54,25 @@ first_map p i m well found below =
     (λ n e. e ∙ ap Some (one_least p (root p) n m (canonical_least p (root p) n well (root_is_box p well) e) in_root))
     (λ e. absurd (none_in p (root p) m well e in_root.solves in_root.lies))
 
+-- and the lines that lead to it are the root's, as far as they are kept
+pub first_answer : (p : Problem) (kept : MapLines) (i : ℕ) (m : List ℕ) (own ls : List Line) → IsWellFormed p → IsMapAt p kept i m own → NoneBelow p i → LeadIfKept p kept i own ls
+    → IsMapOf p (root p) m × LeadInBox p kept (root p) ls
+first_answer p kept i m own ls well found below lead = (first_map p kept i m own well found below, lead m found)
+
+pub kept_answer : (p : Problem) (kept : MapLines) (i n : ℕ) (m : List ℕ) (own ls : List Line) → IsWellFormed p → kept ≡ Kept → n ≡ i → IsMapAt p kept i m own → NoneBelow p i
+    → LeadInRoot p n own ls → IsMapOf p (root p) m × LeadInBox p kept (root p) ls
+kept_answer p kept i n m own ls well is same found below lead = first_answer p kept i m own ls well found below
+    (subst (λ k. LeadIfKept p k i own ls) (sym is) (lead_kept p i own ls (subst (λ k. LeadInRoot p k own ls) same lead)))
+
+pub dropped_answer : (p : Problem) (kept : MapLines) (i : ℕ) (m : List ℕ) (own : List Line) → IsWellFormed p → kept ≡ Dropped → IsMapAt p kept i m own → NoneBelow p i
+    → IsMapOf p (root p) m × LeadInBox p kept (root p) own
+dropped_answer p kept i m own well is found below = first_answer p kept i m own own well found below (subst (λ k. LeadIfKept p k i own own) (sym is) (lead_dropped p i own))
+
 -- the account of a run whose least branch has this map
-pub account_of_map : (p : Problem) (m : List ℕ) (a : Account) → IsWellFormed p → a.branches ≡ branch_count p → IsMapAt p a.least m
+pub account_of_map : (p : Problem) (kept : MapLines) (m : List ℕ) (ls : List Line) (a : Account) → IsWellFormed p → a.branches ≡ branch_count p → IsMapAt p kept a.least m ls
     → a.least + 1 ≤ a.searched → a.searched + a.cut ≡ a.branches → HasAccountOfMap p m a
 unfolding IsMapAt branch_count
-account_of_map p m a well count found enough all =
+account_of_map p _ m ls a well count found enough all =
     let closed : All (IsClosedBranch p (root p)) (split p) = split_closed p well in
     let here = closed a.least [] found.0 in
     let in_branch : IsLeastIn p (branch_of p a.least) m = canonical_least p (branch_of p a.least) m well here.is_box found.1 in record {

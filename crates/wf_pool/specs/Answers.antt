@@ -1,8 +1,7 @@
 -- What is answered about a problem, and the account of the work.
-use Rattle.std.specs.Prelude.{◌≡◌, ℕ, ◌+◌, ◌≤◌, List, [], map, length, Some, None}
+use Rattle.std.specs.Prelude.{◌≡◌, ℕ, ◌+◌, ◌≤◌, List, map, length, Some, None}
 use Rattle.wf_model.specs.Problem.{Problem}
 use Rattle.wf_model.specs.Box.{root}
-use Rattle.wf_model.specs.Refutation as refutation
 use Rattle.wf_model.specs.Closing.{canonical}
 use Rattle.wf_model.specs.Split.{split}
 use Rattle.wf_model.specs.Laws.{LiesAt}
@@ -11,20 +10,15 @@ use Rattle.wf_complex.specs.Lines.{line_of}
 use Rattle.wf_pool.specs.declared.answer.Answer.{Answer}
 use Rattle.wf_pool.specs.declared.answer.Answer.TheVariants as answer
 use Rattle.wf_pool.specs.declared.answer.MapLines.{MapLines}
-use Rattle.wf_pool.specs.declared.answer.MapLines.TheVariants.{Kept, Dropped}
+pub use Rattle.wf_pool.specs.Branches.{map_lines}
 use Rattle.wf_pool.specs.Branches.{IsMapAt, AreLinesAt, branch_of}
-
--- what is left of the lines that lead to a map
-abbrev pub map_lines : MapLines → List refutation.Line → List refutation.Line
-map_lines Kept ls = ls
-map_lines Dropped ls = []
 
 -- The answer of the canonical search of the root: its map, with its lines if they are kept; or its lines where it has
 -- none
 abbrev pub IsAnswer : Problem → MapLines → Answer → Type 0
 IsAnswer p kept (answer.Map m ls) =
     ((canonical p (root p)).map ≡ Some m.items) × (map line_of ls.items ≡ map_lines kept (canonical p (root p)).lines)
-IsAnswer p kept (answer.Nothing ls) = ((canonical p (root p)).map ≡ None) × (map line_of ls.items ≡ (canonical p (root p)).lines)
+IsAnswer p _ (answer.Nothing ls) = ((canonical p (root p)).map ≡ None) × (map line_of ls.items ≡ (canonical p (root p)).lines)
 
 -- The least is the branch whose box holds the map, and whose canonical search ends with it; every branch up to it was
 -- searched, and each other one was searched or cut
@@ -54,7 +48,7 @@ IsInOrder (answer.Nothing ls) a = a.searched ≡ a.branches
 -- what branch i has
 abbrev pub IsAnswerAt : Problem → MapLines → ℕ → Answer → Type 0
 IsAnswerAt p kept i (answer.Map m ls) = IsMapAt p kept i m.items ls.items
-IsAnswerAt p kept i (answer.Nothing ls) = AreLinesAt p i ls.items
+IsAnswerAt p _ i (answer.Nothing ls) = AreLinesAt p i ls.items
 
 -- the same map and the same lines that lead to it, or the same lines
 abbrev pub IsSame : Answer → Answer → Type 0

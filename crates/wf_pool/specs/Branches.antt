@@ -2,13 +2,21 @@
 use Rattle.std.specs.Prelude.{◌≡◌, ◌⊎◌, ℕ, ◌<◌, Bool, false, List, [], map, length, Some, None, is_some, All, Vec}
 use Rattle.std.specs.List.{slice_index_or}
 use Rattle.wf_model.specs.Problem.{Problem, IsWellFormed}
-use Rattle.wf_model.specs.Box.{Box}
+use Rattle.wf_model.specs.Box.{Box, root}
+use Rattle.wf_model.specs.Refutation as refutation
 use Rattle.wf_model.specs.Closing.{canonical}
 use Rattle.wf_model.specs.Split.{split}
 use Rattle.wf_model.specs.Outline.{Item, outline, boxes_left_out}
-use Rattle.wf_model.specs.Laws.{IsBoxOf}
+use Rattle.wf_model.specs.Laws.{HasCanonicalMap, IsBoxOf}
 use Rattle.wf_complex.specs.declared.line.Line.{Line}
 use Rattle.wf_complex.specs.Lines.{line_of}
+use Rattle.wf_pool.specs.declared.answer.MapLines.{MapLines}
+use Rattle.wf_pool.specs.declared.answer.MapLines.TheVariants.{Kept, Dropped}
+
+-- what is left of the lines that lead to a map
+abbrev pub map_lines : MapLines → List refutation.Line → List refutation.Line
+map_lines Kept ls = ls
+map_lines Dropped ls = []
 
 -- the box, or the lines, at a place of a list
 abbrev pub box_at : List Box → ℕ → Box
@@ -20,6 +28,10 @@ lines_at lists i = slice_index_or lists i []
 -- the canonical search of the box ends with this map
 abbrev pub IsMapOf : Problem → Box → List ℕ → Type 0
 IsMapOf p box m = (canonical p box).map ≡ Some m
+
+-- these are the canonical search's lines of the box, as far as those that lead to a map are kept
+abbrev pub LeadInBox : Problem → MapLines → Box → List Line → Type 0
+LeadInBox p kept box ls = map line_of ls ≡ map_lines kept (canonical p box).lines
 
 -- the canonical search of the box ends with no map, and these are its lines
 abbrev pub AreLinesOf : Problem → Box → List Line → Type 0
@@ -36,9 +48,10 @@ branch_count p = length (split p)
 unfoldable pub has_map : Problem → ℕ → Bool
 has_map p i = is_some (canonical p (branch_of p i)).map
 
--- m is what the canonical search of branch i ends with; or these are its lines, and there is no map
-unfoldable pub IsMapAt : Problem → ℕ → List ℕ → Type 0
-IsMapAt p i m = (i < branch_count p) × IsMapOf p (branch_of p i) m
+-- m is what the canonical search of branch i ends with, and these are its lines if they are kept; or these are its lines,
+-- and there is no map
+unfoldable pub IsMapAt : Problem → MapLines → ℕ → List ℕ → List Line → Type 0
+IsMapAt p kept i m ls = (i < branch_count p) × IsMapOf p (branch_of p i) m × LeadInBox p kept (branch_of p i) ls
 
 unfoldable pub AreLinesAt : Problem → ℕ → List Line → Type 0
 AreLinesAt p i ls = (i < branch_count p) × AreLinesOf p (branch_of p i) ls
@@ -51,10 +64,18 @@ HasLines p lists i = AreLinesAt p i (lines_at lists i)
 abbrev pub HasEachLines : {A : Type 0} → Problem → ℕ → List (Vec Line A) → Type 0
 HasEachLines p n lists = (i : ℕ) → i < n → HasLines p (map (λ l. l.items) lists) i
 
--- the lines that were in their places still are, and so are those of these branches
+-- the lines that were in their places still are, and so are those of these branches, as far as there are places
 abbrev pub Places : {A : Type 0} → Problem → (ℕ → Type 0) → List (Vec Line A) → List (Vec Line A) → Type 0
 Places p branches old new =
-    (i : ℕ) → HasLines p (map (λ l. l.items) old) i ⊎ branches i → HasLines p (map (λ l. l.items) new) i
+    (i : ℕ) → i < length old → HasLines p (map (λ l. l.items) old) i ⊎ branches i → HasLines p (map (λ l. l.items) new) i
+
+-- where branch n has this map, to which its own lines lead, the root has it, to which these lines lead
+abbrev pub LeadInRoot : Problem → ℕ → List Line → List Line → Type 0
+LeadInRoot p n own ls = (m : List ℕ) → IsMapAt p Kept n m own → HasCanonicalMap p m (root p) (map line_of ls)
+
+-- the same, as far as lines that lead to a map are kept
+abbrev pub LeadIfKept : Problem → MapLines → ℕ → List Line → List Line → Type 0
+LeadIfKept p kept n own ls = (m : List ℕ) → IsMapAt p kept n m own → LeadInBox p kept (root p) ls
 
 -- no branch below this one has a map
 abbrev pub NoneBelow : Problem → ℕ → Type 0

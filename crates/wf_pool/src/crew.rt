@@ -2,10 +2,12 @@
 ghost use Rattle.std.specs.Prelude.{◌≡◌, ◌^◌, ◌<◌, ◌↔◌, length, IfOk, IfSome, IsSome, All};
 ghost use Rattle.std.specs.Thread.{IsSync};
 ghost use Rattle.wf_handout.specs.Shares.{AllAt};
-ghost use Rattle.wf_pool.specs.Work.{AreDone, AreWorkers, HasRoom, IsAlike, IsDone, IsFresh, IsGrown, IsPopped, IsUnused, IsWorker};
+ghost use Rattle.wf_pool.specs.Work.{AreDone, HasRoom, IsAlike, IsDone, IsGrown, IsPopped, IsUnused};
+ghost use Rattle.wf_pool.specs.Sites.{AreWorkersOf, IsFreshOf, IsWorkerOf};
 
 use crate::gate::Gate;
-use crate::watch::{Site, settle};
+use crate::site::Site;
+use crate::watch::settle;
 use crate::worker::Worker;
 use std::alloc::{AllocError, Global};
 use std::thread::{Threads, join};
@@ -20,10 +22,10 @@ fn work<H: Handout, G: Gate>(
     me: Worker,
     share: H::Share,
 ) -> Result<(Worker, H::Share), AllocError>
-    requires me { IsFresh site.now.problem.now site.now.board.now me }
+    requires me { IsFreshOf site.now me }
     requires share { IsUnused (H.fits handout.now) H.taken worker share }
     requires count { H.branch_count handout.now ≡ site.now.board.now.branches }
-    ensures worker { IfOk result (λ r. IsWorker site.now.problem.now site.now.board.now r.0) }
+    ensures worker { IfOk result (λ r. IsWorkerOf site.now r.0) }
     ensures share { IfOk result (λ r. H.fits handout.now worker r.1) }
     ensures done { IfOk result (λ r. IsDone H.taken r.0 r.1) }
 {
@@ -37,10 +39,10 @@ fn work<H: Handout, G: Gate>(
 
 /// The last worker.
 fn last_worker<G>(site: &Site<G>, workers: &mut Vec<Worker>) -> Option<Worker>
-    requires { All (IsFresh site.now.problem.now site.now.board.now) workers.old.items }
-    ensures some { IfSome result (IsFresh site.now.problem.now site.now.board.now) }
+    requires { All (IsFreshOf site.now) workers.old.items }
+    ensures some { IfSome result (IsFreshOf site.now) }
     ensures found { IsSome result ↔ (0 < length workers.old.items) }
-    ensures others { All (IsFresh site.now.problem.now site.now.board.now) workers.new.items }
+    ensures others { All (IsFreshOf site.now) workers.new.items }
     ensures size { IsPopped result workers.old workers.new }
 {
     workers.pop()
@@ -64,15 +66,15 @@ fn put_back<H: Handout, G>(
     others: (Vec<Worker>, Vec<H::Share>),
     mine: (Worker, H::Share),
 ) -> (Vec<Worker>, Vec<H::Share>)
-    requires worker { IsWorker site.now.problem.now site.now.board.now mine.0 }
+    requires worker { IsWorkerOf site.now mine.0 }
     requires share { H.fits handout.now (length others.1.items) mine.1 }
     requires done { IsDone H.taken mine.0 mine.1 }
-    requires workers { AreWorkers site.now.problem.now site.now.board.now others.0.items }
+    requires workers { AreWorkersOf site.now others.0.items }
     requires shares { AllAt (H.fits handout.now) others.1.items }
     requires all_done { AreDone H.taken others.0.items others.1.items }
     requires room { HasRoom others.0 × HasRoom others.1 }
     ensures size { IsGrown others.0 result.0 × IsGrown others.1 result.1 }
-    ensures workers { AreWorkers site.now.problem.now site.now.board.now result.0.items }
+    ensures workers { AreWorkersOf site.now result.0.items }
     ensures shares { AllAt (H.fits handout.now) result.1.items }
     ensures done { AreDone H.taken result.0.items result.1.items }
 {
@@ -93,13 +95,13 @@ pub(crate) fn crew<R: Threads + Sync, H: Handout, G: Gate>(
     workers: Vec<Worker>,
     shares: Vec<H::Share>,
 ) -> Result<(Vec<Worker>, Vec<H::Share>), AllocError>
-    requires workers { All (IsFresh site.now.problem.now site.now.board.now) workers.items }
+    requires workers { All (IsFreshOf site.now) workers.items }
     requires shares { AllAt (IsUnused (H.fits handout.now) H.taken) shares.items }
     requires some { (0 < length shares.items) × (length shares.items < 2 ^ 32) }
     requires same { length workers.items ≡ length shares.items }
     requires count { H.branch_count handout.now ≡ site.now.board.now.branches }
     ensures size { IfOk result (λ r. IsAlike workers r.0 × IsAlike shares r.1) }
-    ensures workers { IfOk result (λ r. AreWorkers site.now.problem.now site.now.board.now r.0.items) }
+    ensures workers { IfOk result (λ r. AreWorkersOf site.now r.0.items) }
     ensures shares { IfOk result (λ r. AllAt (H.fits handout.now) r.1.items) }
     ensures done { IfOk result (λ r. AreDone H.taken r.0.items r.1.items) }
 {
@@ -124,23 +126,22 @@ pub(crate) fn crew<R: Threads + Sync, H: Handout, G: Gate>(
     let (mine, others) = join(
         rt,
         move || -> Result<(Worker, H::Share), AllocError>
-            requires me { IsFresh site.now.problem.now site.now.board.now me }
+            requires me { IsFreshOf site.now me }
             requires share { IsUnused (H.fits handout.now) H.taken worker share }
             requires count { H.branch_count handout.now ≡ site.now.board.now.branches }
-            ensures worker { IfOk result (λ r. IsWorker site.entry.now.problem.now site.entry.now.board.now r.0) }
+            ensures worker { IfOk result (λ r. IsWorkerOf site.entry.now r.0) }
             ensures share { IfOk result (λ r. H.fits handout.entry.now worker r.1) }
             ensures done { IfOk result (λ r. IsDone H.taken r.0 r.1) }
         { work(alloc, site, handout, worker, me, share) },
         move || -> Result<(Vec<Worker>, Vec<H::Share>), AllocError>
             requires rt { IsSync R.row }
-            requires workers { All (IsFresh site.now.problem.now site.now.board.now) workers.items }
+            requires workers { All (IsFreshOf site.now) workers.items }
             requires shares { AllAt (IsUnused (H.fits handout.now) H.taken) shares.items }
             requires some { (0 < length shares.items) × (length shares.items < 2 ^ 32) }
             requires same { length workers.items ≡ length shares.items }
             requires count { H.branch_count handout.now ≡ site.now.board.now.branches }
             ensures size { IfOk result (λ r. IsAlike workers r.0 × IsAlike shares r.1) }
-            ensures workers { let at = site.entry.now in
-                IfOk result (λ r. AreWorkers at.problem.now at.board.now r.0.items) }
+            ensures workers { IfOk result (λ r. AreWorkersOf site.entry.now r.0.items) }
             ensures shares { IfOk result (λ r. AllAt (H.fits handout.entry.now) r.1.items) }
             ensures done { IfOk result (λ r. AreDone H.taken r.0.items r.1.items) }
         { crew(rt, alloc, site, handout, workers, shares) },

@@ -2,24 +2,28 @@
 //!
 //! [`solve_one`] searches the branches in order, in this thread. [`solve`] has workers share them out; each worker has
 //! a seat at the board, where it sees the least branch that has a map so far, and a share of the handout. Both answer
-//! what the canonical search of the whole problem finds: its least map, or the lines of why there is none.
+//! what the canonical search of the whole problem finds: its least map, with the lines that lead to it if they are kept,
+//! or the lines of why there is none.
 //!
 //! - `gate`: what a caller may watch and hold of the workers.
 //! - `worker`: a seat, and what the worker keeps of what it found.
+//! - `site`: what all workers share.
 //! - `watch`: a worker at a branch; it looks at the board before each turn of its search.
 //! - `crew`: all workers, each in a thread of its own where one can be had.
 //! - `answer`: what the workers kept, brought together by branch.
 //! - `solving`: from a problem to its answer and the account of the work.
 //!
-//! A worker keeps one map at most, that of the least branch that it posted, and the lines of the branches that it
-//! refuted, as long as it has seen no lower branch posted. In the end the lines are moved to their places in a list of
-//! the branches, and none is copied: this takes one list for each branch, and a step for each list of lines.
+//! A worker keeps one map at most, that of the least branch that it posted, with its lines if such lines are kept, and
+//! the lines of the branches that it refuted, as long as it has seen no lower branch posted. In the end the lines are
+//! moved to their places in a list of the branches, or of those up to the first with a map, and none is copied but into
+//! the lines of the root: this takes one list for each branch, and a step for each list of lines.
 #![tactic(auto)]
 
 mod answer;
 mod crew;
 mod gate;
 mod laws;
+mod site;
 mod solving;
 mod watch;
 mod worker;

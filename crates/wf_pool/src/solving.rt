@@ -2,20 +2,23 @@
 ghost use Rattle.std.specs.Prelude.{ℕ, ◌≡◌, ◌+◌, ◌*◌, ◌^◌, ◌<◌, ◌≤◌, map, length, All, IfOk};
 ghost use Rattle.wf_model.specs.Outline.{boxes_left_out};
 ghost use Rattle.wf_board.specs.Desk.{fresh_desk};
-ghost use Rattle.wf_pool.specs.Branches.{IsCoverOf, branch_count};
-ghost use Rattle.wf_pool.specs.Work.{AreAllBut, AreAllSettled, AreToSettle, AreWorkers, HasSettledEach, IsFresh, IsGround, IsWorker};
+ghost use Rattle.wf_pool.specs.Branches.{HasEachLines, IsCoverOf, LeadIfKept, LeadInRoot, branch_count};
+ghost use Rattle.wf_pool.specs.Work.{AreAllBut, AreAllSettled, AreToSettle, AreWorkers, HasSettledEach, IsFresh, IsGround};
+ghost use Rattle.wf_pool.specs.Sites.{AreWorkersOf, IsWorkerOf};
 ghost use Rattle.wf_pool.specs.Together.{Tells};
 ghost use Rattle.wf_pool.specs.Answers.{IsAnswer, IsAnswerAt, HasAccount, IsInOrder};
 
-use crate::answer::{Answer, apart, in_order, map_of};
+use crate::answer::{AllFinds, Answer, MapLines, apart, in_order, map_of};
 use crate::crew::crew;
 use crate::gate::Gate;
-use crate::watch::{Site, settle};
+use crate::site::Site;
+use crate::watch::settle;
 use crate::worker::{Finds, Worker};
 use std::alloc::{AllocError, Global};
 use std::thread::Threads;
 use wf_board::{Board, BoardSeat};
 use wf_box::Problem;
+use wf_complex::Lines;
 use wf_core::Account;
 use wf_handout::Handout;
 use wf_search::{Cover, Found, Never, search, split};
@@ -24,7 +27,8 @@ use wf_search::{Cover, Found, Never, search, split};
 pub const MAX_WORKERS: u32 = 64;
 
 /// The answer about a problem that several workers find together, and the account of their work. It is the answer of
-/// [`solve_one`], in any schedule.
+/// [`solve_one`], in any schedule: the same map and, if they are kept, the same lines that lead to it, or the same lines
+/// that refute.
 ///
 /// No more workers are used than there are branches, and this thread is always the first of them. Each other one has a
 /// thread of its own, unless the gate forbids it or none can be had: then this thread does that worker's work after its
@@ -48,14 +52,15 @@ pub fn solve<R: Threads + Sync, H: Handout, G: Gate>(
     let branches = cover.branches();
     let used = workers.min(branches).max(1);
     let (board, seats) = Board::make(alloc, branches, used)?;
-    let crew = search_all::<R, H, G>(rt, alloc, problem, &cover, &board, seats, gate)?;
-    let (account, finds) = finish(alloc, problem, board, crew)?;
-    let answer = answer_of(alloc, problem, &cover, finds, account)?;
+    let crew = search_all::<R, H, G>(rt, alloc, problem, kept, &cover, &board, seats, gate)?;
+    let (account, finds) = finish(alloc, problem, kept, board, crew)?;
+    let answer = answer_of(alloc, problem, kept, &cover, finds, account)?;
     Ok((answer, account))
 }
 
 /// The answer about a problem, and the account of the search: the branches in order, up to the first with a map, whose
-/// map is the least of all. It starts no thread, and returns. Refused out of memory alone.
+/// map is the least of all. The lines that lead to it, if they are kept, are those of these branches in their places. It
+/// starts no thread, and returns. Refused out of memory alone.
 pub fn solve_one(
     alloc: Global,
     problem: &Problem,
@@ -69,15 +74,16 @@ pub fn solve_one(
     let branches = cover.branches();
     let mut lists = Vec::with_capacity(alloc, branches as usize)?;
     for branch in 0..branches {
-        match search_whole(alloc, problem, &cover, branch)? {
-            Answer::Map(map) => {
+        match search_whole(alloc, problem, kept, &cover, branch)? {
+            Answer::Map(map, own) => {
                 let account = Account {
                     branches,
                     least: branch,
                     searched: branch + 1,
                     cut: branches - branch - 1,
                 };
-                return Ok((Answer::Map(map), account));
+                let lines = lines_to_map(alloc, problem, kept, &cover, lists, own)?;
+                return Ok((Answer::Map(map, lines), account));
             }
             Answer::Nothing(lines) => lists.push(lines)?,
         }
@@ -100,23 +106,65 @@ fn branches_of(alloc: Global, problem: &Problem) -> Result<Cover, AllocError>
     split(alloc, problem)
 }
 
-/// What a branch has.
+/// What a branch has. The lines that lead to a map are dropped as soon as it is found if they aren't kept.
 fn search_whole(
     alloc: Global,
     problem: &Problem,
+    kept: MapLines,
     cover: &Cover,
     branch: u32,
 ) -> Result<Answer, AllocError>
     requires cover { IsCoverOf problem.now cover.now }
     requires branch { branch < length (boxes_left_out cover.now) }
-    ensures { IfOk result (IsAnswerAt problem.now branch) }
+    ensures { IfOk result (IsAnswerAt problem.now kept branch) }
 {
     let boxed = cover.branch(alloc, branch)?;
     match search(alloc, problem, boxed, &mut Never)? {
-        Found::Map(map) => Ok(Answer::Map(map)),
+        Found::Map(map, lines) => Ok(Answer::Map(map, kept.of(alloc, lines))),
         Found::Refuted(lines) => Ok(Answer::Nothing(lines)),
         Found::Stopped => unreachable!(),
     }
+}
+
+/// The lines that lead to the map of a branch, if they are kept: those of the branches below it, in order, and its own,
+/// in their places among the lines of the root.
+fn lines_to_map(
+    alloc: Global,
+    problem: &Problem,
+    kept: MapLines,
+    cover: &Cover,
+    below: Vec<Lines>,
+    own: Lines,
+) -> Result<Lines, AllocError>
+    requires cover { IsCoverOf problem.now cover.now }
+    requires branch { length below.items < branch_count problem.now }
+    requires below { HasEachLines problem.now (length below.items) below.items }
+    ensures { let n = length below.items in
+        IfOk result (λ ls. LeadIfKept problem.now kept n own.items ls.items) }
+{
+    match kept {
+        MapLines::Kept => fill_to_map(alloc, problem, cover, below, own),
+        MapLines::Dropped => Ok(own),
+    }
+}
+
+/// The lines of the branches below one that has a map, in order, and its own, in their places among those of the root.
+fn fill_to_map(
+    alloc: Global,
+    problem: &Problem,
+    cover: &Cover,
+    below: Vec<Lines>,
+    own: Lines,
+) -> Result<Lines, AllocError>
+    requires cover { IsCoverOf problem.now cover.now }
+    requires branch { length below.items < branch_count problem.now }
+    requires below { HasEachLines problem.now (length below.items) below.items }
+    ensures { let n = length below.items in
+        IfOk result (λ ls. LeadInRoot problem.now n own.items ls.items) }
+{
+    let mut lists = below;
+    lists.push(own)?;
+    cover.fill_least(alloc, lists)
 }
 
 /// Workers with these seats settle all branches.
@@ -124,6 +172,7 @@ fn search_all<R: Threads + Sync, H: Handout, G: Gate>(
     rt: &R,
     alloc: Global,
     problem: &Problem,
+    kept: MapLines,
     cover: &Cover,
     board: &Board,
     seats: Vec<BoardSeat>,
@@ -135,13 +184,14 @@ fn search_all<R: Threads + Sync, H: Handout, G: Gate>(
     requires some { (0 < board.now.workers) × (board.now.workers < 2 ^ 32) }
     requires few { board.now.branches * board.now.workers < 2 ^ 32 }
     ensures count { IfOk result (λ ws. length ws.items ≡ board.now.workers) }
-    ensures workers { IfOk result (λ ws. AreWorkers problem.now board.now ws.items) }
+    ensures workers { IfOk result (λ ws. AreWorkers problem.now kept board.now ws.items) }
     ensures settled { IfOk result (λ ws. AreAllSettled board.now ws.items) }
 {
     let (handout, shares) = H::deal(alloc, cover.branches(), seats.len() as u32)?;
-    let workers = fresh_workers(alloc, problem, board, seats)?;
+    let workers = fresh_workers(alloc, problem, kept, board, seats)?;
     let site = Site {
         problem,
+        kept,
         cover,
         board,
         gate,
@@ -155,12 +205,13 @@ fn search_all<R: Threads + Sync, H: Handout, G: Gate>(
 fn fresh_workers(
     alloc: Global,
     problem: &Problem,
+    kept: MapLines,
     board: &Board,
     seats: Vec<BoardSeat>,
 ) -> Result<Vec<Worker>, AllocError>
     requires { All (λ d. d ≡ fresh_desk board.now) seats.items }
     ensures count { IfOk result (λ ws. length ws.items ≡ length seats.items) }
-    ensures workers { IfOk result (λ ws. All (IsFresh problem.now board.now) ws.items) }
+    ensures workers { IfOk result (λ ws. All (IsFresh problem.now kept board.now) ws.items) }
 {
     let mut workers = Vec::with_capacity(alloc, seats.len())?;
     let mut seats = seats;
@@ -184,10 +235,10 @@ fn work_left<G: Gate>(
     left: &[u32],
 ) -> Result<Vec<Worker>, AllocError>
     requires some { 0 < length workers.items }
-    requires workers { AreWorkers site.now.problem.now site.now.board.now workers.items }
+    requires workers { AreWorkersOf site.now workers.items }
     requires left { AreAllBut site.now.board.now left.now workers.items }
     ensures count { IfOk result (λ ws. length ws.items ≡ length workers.items) }
-    ensures workers { IfOk result (λ ws. AreWorkers site.now.problem.now site.now.board.now ws.items) }
+    ensures workers { IfOk result (λ ws. AreWorkersOf site.now ws.items) }
     ensures settled { IfOk result (λ ws. AreAllSettled site.now.board.now ws.items) }
 {
     let mut workers = workers;
@@ -203,9 +254,9 @@ fn settle_each<G: Gate>(
     first: Worker,
     left: &[u32],
 ) -> Result<Worker, AllocError>
-    requires worker { IsWorker site.now.problem.now site.now.board.now first }
+    requires worker { IsWorkerOf site.now first }
     requires left { AreToSettle site.now.board.now first.seat left.now }
-    ensures worker { IfOk result (IsWorker site.now.problem.now site.now.board.now) }
+    ensures worker { IfOk result (IsWorkerOf site.now) }
     ensures settled { IfOk result (HasSettledEach left.now first) }
 {
     let mut me = first;
@@ -219,36 +270,67 @@ fn settle_each<G: Gate>(
 fn finish(
     alloc: Global,
     problem: &Problem,
+    kept: MapLines,
     board: Board,
     workers: Vec<Worker>,
-) -> Result<(Account, Vec<Finds>), AllocError>
+) -> Result<(Account, AllFinds), AllocError>
     requires count { length workers.items ≡ board.workers }
-    requires workers { AreWorkers problem.now board workers.items }
+    requires workers { AreWorkers problem.now kept board workers.items }
     requires settled { AreAllSettled board workers.items }
     ensures branches { IfOk result (λ r. r.0.branches ≡ board.branches) }
-    ensures tells { IfOk result (λ r. Tells problem.now r.0 r.1.items) }
+    ensures tells { IfOk result (λ r. Tells problem.now kept r.0 r.1) }
 {
     let (seats, finds) = apart(alloc, workers)?;
     Ok((board.finish(seats), finds))
 }
 
-/// The map of the least branch that has one, or the lines of all branches.
+/// The map of the least branch that has one, and the lines that lead to it if they are kept; or the lines of all
+/// branches, filled into those of the root.
 fn answer_of(
     alloc: Global,
     problem: &Problem,
+    kept: MapLines,
     cover: &Cover,
-    finds: Vec<Finds>,
+    finds: AllFinds,
     account: Account,
 ) -> Result<Answer, AllocError>
     requires cover { IsCoverOf problem.now cover.now }
     requires branches { account.branches ≡ branch_count problem.now }
-    requires tells { Tells problem.now account finds.items }
-    ensures answer { IfOk result (IsAnswer problem.now) }
+    requires tells { Tells problem.now kept account finds }
+    ensures answer { IfOk result (IsAnswer problem.now kept) }
     ensures account { IfOk result (λ a. HasAccount problem.now a account) }
 {
     if account.least < account.branches {
-        return Ok(Answer::Map(map_of(problem, finds, account.least)));
+        return map_answer(alloc, problem, kept, cover, finds, account);
     }
-    let lists = in_order(alloc, problem, finds, account.branches)?;
+    let lists = in_order(alloc, problem, finds.lines, account.branches)?;
     Ok(Answer::Nothing(cover.fill(alloc, lists)?))
+}
+
+/// The map of the least branch, and the lines that lead to it if they are kept.
+fn map_answer(
+    alloc: Global,
+    problem: &Problem,
+    kept: MapLines,
+    cover: &Cover,
+    finds: AllFinds,
+    account: Account,
+) -> Result<Answer, AllocError>
+    requires cover { IsCoverOf problem.now cover.now }
+    requires branches { account.branches ≡ branch_count problem.now }
+    requires tells { Tells problem.now kept account finds }
+    requires some { account.least < account.branches }
+    ensures answer { IfOk result (IsAnswer problem.now kept) }
+    ensures account { IfOk result (λ a. HasAccount problem.now a account) }
+{
+    let AllFinds { maps, lines } = finds;
+    let (map, own) = map_of(problem, kept, maps, account.least);
+    match kept {
+        MapLines::Kept => {
+            let below = in_order(alloc, problem, lines, account.least)?;
+            let lines = fill_to_map(alloc, problem, cover, below, own)?;
+            Ok(Answer::Map(map, lines))
+        }
+        MapLines::Dropped => Ok(Answer::Map(map, own)),
+    }
 }

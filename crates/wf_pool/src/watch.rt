@@ -1,24 +1,15 @@
 // A worker at a branch: it takes a turn only where it sees no lower branch posted.
 ghost use Rattle.std.specs.Prelude.{◌≡◌, ◌<◌, IfOk};
-ghost use Rattle.wf_pool.specs.Work.{HasLooked, HasSettled, IsGround, IsToSettle, IsWorker};
+ghost use Rattle.wf_pool.specs.Work.{HasLooked, HasSettled, IsToSettle};
+ghost use Rattle.wf_pool.specs.Sites.{IsWorkerOf};
 ghost use Rattle.wf_pool.specs.Looking.{looked_itself, looked_on};
 
 use crate::gate::{Gate, Moment};
+use crate::site::Site;
 use crate::worker::Worker;
 use std::alloc::{AllocError, Global};
 use wf_board::{Board, BoardSeat};
-use wf_box::Problem;
-use wf_search::{Cover, Found, Stop, search};
-
-/// What all workers share.
-#[derive(Drop)]
-pub(crate) struct Site<'a, G> {
-    pub(crate) problem: &'a Problem,
-    pub(crate) cover: &'a Cover,
-    pub(crate) board: &'a Board,
-    pub(crate) gate: &'a G,
-    ghost ground: { IsGround problem.now cover.now board.now },
-}
+use wf_search::{Stop, search};
 
 /// The seat of a worker while it searches a branch. It looks before each turn, and stops where a lower branch is posted.
 #[derive(Drop)]
@@ -61,9 +52,9 @@ pub(crate) fn settle<G: Gate>(
     me: Worker,
     branch: u32,
 ) -> Result<Worker, AllocError>
-    requires me { IsWorker site.now.problem.now site.now.board.now me }
+    requires me { IsWorkerOf site.now me }
     requires branch { IsToSettle site.now.board.now me.seat branch }
-    ensures worker { IfOk result (IsWorker site.now.problem.now site.now.board.now) }
+    ensures worker { IfOk result (IsWorkerOf site.now) }
     ensures settled { IfOk result (HasSettled branch me) }
 {
     site.gate.at(worker, Moment::Taken(branch));
@@ -84,7 +75,8 @@ pub(crate) fn settle<G: Gate>(
         branch: _,
         seat,
     } = watch;
-    let settled = Worker { seat, finds }.settled(site.board, branch, found)?;
+    let me = Worker { seat, finds };
+    let settled = me.settled(alloc, site.board, site.kept, branch, found)?;
     site.gate.at(worker, Moment::Settled(branch));
     Ok(settled)
 }

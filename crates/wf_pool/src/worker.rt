@@ -4,16 +4,18 @@ ghost use Rattle.wf_pool.specs.Branches.{IsMapAt, AreLinesAt};
 ghost use Rattle.wf_search.specs.Found.{OnStopped};
 ghost use Rattle.wf_pool.specs.Work.{HasSettled, IsFoundAt, IsSeat, IsToSettle, StaysHonest, StaysHonestIf};
 
-use std::alloc::AllocError;
+use crate::answer::MapLines;
+use std::alloc::{AllocError, Global};
 use wf_board::{Board, BoardSeat};
 use wf_complex::Lines;
 use wf_search::Found;
 
-/// The map of a branch.
+/// The map of a branch, and the lines that lead to it if they are kept.
 #[derive(Drop)]
 pub(crate) struct MapAt {
     pub(crate) branch: u32,
     pub(crate) map: Vec<u8>,
+    pub(crate) lines: Lines,
 }
 
 /// The lines of a branch that has no map.
@@ -37,16 +39,17 @@ pub(crate) struct Worker {
 }
 
 impl Worker {
-    // Posts a branch that has a map, and keeps the map if no lower branch is posted.
-    pub(crate) fn post(&mut self, board: &Board, branch: u32, map: Vec<u8>)
+    // Posts a branch that has a map, and keeps the map and its lines if no lower branch is posted.
+    pub(crate) fn post(&mut self, board: &Board, branch: u32, map: Vec<u8>, lines: Lines)
         requires seat { IsSeat board.now self.old.seat }
         requires branch { IsToSettle board.now self.old.seat branch }
         ensures seat { IsSeat board.now self.new.seat }
         ensures settled { HasSettled branch self.old self.new }
-        ensures honest { StaysHonestIf (λ p. IsMapAt p branch map.items) self.old self.new }
+        ensures honest { StaysHonestIf
+            (λ p kept. IsMapAt p kept branch map.items lines.items) self.old self.new }
     {
         if board.post(&mut self.seat, branch) == branch {
-            self.finds.map = Some(MapAt { branch, map });
+            self.finds.map = Some(MapAt { branch, map, lines });
         }
     }
 
@@ -69,7 +72,8 @@ impl Worker {
         requires branch { IsToSettle board.now self.old.seat branch }
         ensures seat { OnOk result (IsSeat board.now self.new.seat) }
         ensures settled { OnOk result (HasSettled branch self.old self.new) }
-        ensures honest { OnOk result (StaysHonestIf (λ p. AreLinesAt p branch lines.items) self.old self.new) }
+        ensures honest { OnOk result (StaysHonestIf
+            (λ p kept. AreLinesAt p branch lines.items) self.old self.new) }
     {
         board.searched(&mut self.seat, branch);
         if branch < self.seat.seen() {
@@ -90,10 +94,12 @@ impl Worker {
         board.cut(&mut self.seat, branch);
     }
 
-    // Settles a branch by what a search of it found.
+    // Settles a branch by what a search of it found. The lines that lead to a map are dropped first where none are kept.
     pub(crate) fn settled(
         self,
+        alloc: Global,
         board: &Board,
+        kept: MapLines,
         branch: u32,
         found: Found,
     ) -> Result<Worker, AllocError>
@@ -102,12 +108,13 @@ impl Worker {
         requires stopped { OnStopped (self.seat.seen < branch) found }
         ensures seat { IfOk result (λ w. IsSeat board.now w.seat) }
         ensures settled { IfOk result (HasSettled branch self) }
-        ensures honest { IfOk result (StaysHonestIf (λ p. IsFoundAt p branch found) self) }
+        ensures honest { IfOk result (StaysHonestIf
+            (λ p k. (k ≡ kept) × IsFoundAt p branch found) self) }
     {
         let mut me = self;
         match found {
-            Found::Map(map) => {
-                me.post(board, branch, map);
+            Found::Map(map, lines) => {
+                me.post(board, branch, map, kept.of(alloc, lines));
                 me.forget();
                 Ok(me)
             }

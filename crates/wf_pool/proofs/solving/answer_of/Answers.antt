@@ -1,16 +1,13 @@
 use Rattle.std.proofs.Common.{◌≡◌, ◌<◌, ℕ, sym, ◌∙◌, subst, arith}
 use Rattle.wf_model.specs.Box.{root}
 use Rattle.wf_pool.proofs.Branches.{count_of_cover, lines_of_box, lists_of_cover}
-use Rattle.wf_pool.proofs.Answering.{account_of_map, account_of_none, first_map}
+use Rattle.wf_pool.proofs.Answering.{account_of_none}
 use Rattle.wf_pool.proofs.solving.answer_of.Goals as goal
 
-pub returns-then-account-clause-answer : goal.returns-then-account-clause-answer
-returns-then-account-clause-answer c = first_map c.args.problem.now c.args.account.least c.map_of.result.items c.requires.cover.well_formed c.map_of.ensures c.requires.tells.none
-
-pub returns-then-account-clause-account : goal.returns-then-account-clause-account
-returns-then-account-clause-account c =
+pub in_order-requires-clause-there : goal.in_order-requires-clause-there
+in_order-requires-clause-there c = λ i inside.
     let tells = c.requires.tells in
-    account_of_map c.args.problem.now c.map_of.result.items c.args.account c.requires.cover.well_formed c.requires.branches c.map_of.ensures (tells.enough c.if-account.true) tells.all
+    tells.lines i (let n = c.if-account.false in let k = tells.least in omega arith)
 
 pub fill-requires : goal.fill-requires
 fill-requires c = c.in_ok-lists.ensures.count ∙ c.requires.branches ∙ sym (count_of_cover c.args.problem.now c.args.cover.now c.requires.cover)

@@ -1,26 +1,37 @@
 use Rattle.std.proofs.Common.{◌≡◌, ◌<◌, ◌∷◌, [], ℕ, length, map, refl, ap, sym, ◌∙◌, subst, arith, vec_items, length-append}
 use Rattle.std.proofs.lemmas.List.{map-append, length-map}
 use Rattle.wf_model.specs.Box.{root}
-use Rattle.wf_pool.specs.Branches.{HasLines}
+use Rattle.wf_pool.specs.Branches.{HasLines, LeadIfKept}
 use Rattle.wf_pool.specs.Answers.{IsAnswerAt}
 use Rattle.wf_pool.proofs.Branches.{count_of_cover, lines_are, lines_of_box, lists_of_cover}
-use Rattle.wf_pool.proofs.Answering.{account_of_map, account_of_none, first_map}
+use Rattle.wf_pool.proofs.Answering.{account_of_map, account_of_none, first_answer}
 use Rattle.wf_pool.proofs.Placing.{one_more}
 use Rattle.wf_pool.proofs.solving.solve_one.Goals as goal
+
+pub lines_to_map-requires-clause-branch : goal.lines_to_map-requires-clause-branch
+lines_to_map-requires-clause-branch c =
+    let here = c.loop-branch.invariant.0 in
+    let count = c.branches-branches.ensures.branches ∙ count_of_cover c.args.problem.now c.in_ok-cover.cover c.in_ok-cover.ensures in
+    let low = c.loop-branch-test.true in
+    omega arith
 
 pub returns-in-Map-clause-answer : goal.returns-in-Map-clause-answer
 returns-in-Map-clause-answer c =
     let p = c.args.problem.now in
-    first_map p c.loop-branch.branch c.in-Map.map.items c.in_ok-cover.ensures.well_formed (subst (IsAnswerAt p c.loop-branch.branch) c.in-Map.is c.in_ok-map.ensures)
+    let own = c.in-Map.own.items in
+    let lines = c.in_ok-lines-in-Map.lines.items in
+    first_answer p c.args.kept c.loop-branch.branch c.in-Map.map.items own lines c.in_ok-cover.ensures.well_formed
+    (subst (IsAnswerAt p c.args.kept c.loop-branch.branch) c.in-Map.is c.in_ok-map.ensures)
     (λ j low. lines_are p j _ (c.loop-branch.invariant.1 j low))
+    (subst (λ n. LeadIfKept p c.args.kept n own lines) c.loop-branch.invariant.0 c.in_ok-lines-in-Map.ensures)
 
 pub returns-in-Map-clause-account : goal.returns-in-Map-clause-account
 returns-in-Map-clause-account c =
     let p = c.args.problem.now in
     let low = c.loop-branch-test.true in
     let count = c.branches-branches.ensures.branches ∙ count_of_cover p c.in_ok-cover.cover c.in_ok-cover.ensures in
-    account_of_map p c.in-Map.map.items _ c.in_ok-cover.ensures.well_formed count
-    (subst (IsAnswerAt p c.loop-branch.branch) c.in-Map.is c.in_ok-map.ensures) (omega arith) (omega arith)
+    account_of_map p c.args.kept c.in-Map.map.items c.in-Map.own.items _ c.in_ok-cover.ensures.well_formed count
+    (subst (IsAnswerAt p c.args.kept c.loop-branch.branch) c.in-Map.is c.in_ok-map.ensures) (omega arith) (omega arith)
 
 pub loop-branch-preserved : goal.loop-branch-preserved
 loop-branch-preserved c =
@@ -34,7 +45,7 @@ loop-branch-preserved c =
     let n = h.0 in (
       omega arith,
       λ i lt. subst (λ xs. HasLines p xs i) (sym (ap (map vec_items) more ∙ map-append vec_items lists (lines ∷ [])))
-          (one_more p (map vec_items lists) lines.items c.loop-branch.branch (length-map lists vec_items ∙ h.0) h.1 (subst (IsAnswerAt p c.loop-branch.branch) c.in-Nothing.is c.in_ok-map.ensures) i lt),
+          (one_more p (map vec_items lists) lines.items c.loop-branch.branch (length-map lists vec_items ∙ h.0) h.1 (subst (IsAnswerAt p c.args.kept c.loop-branch.branch) c.in-Nothing.is c.in_ok-map.ensures) i lt),
     )
 
 pub returns-clause-answer : goal.returns-clause-answer

@@ -9,9 +9,10 @@ use Rattle.wf_pool.proofs.solving.work_left.Goals as goal
 pub returns-clause-workers : goal.returns-clause-workers
 returns-clause-workers g c =
     let p = c.args.site.now.problem.now in
+    let k = c.args.site.now.kept in
     let b = c.args.site.now.board.now in
-    let others = subst (AreWorkers p b) (sym c.remove-first.ensures.items) (others_are p b c.args.workers.items c.requires.workers) in
-    subst (AreWorkers p b) (sym c.in_ok-push.ensures.items) (All-push (IsWorker p b) c.remove-first.new.self.items c.in_ok-settle_each.field-0 others c.in_ok-settle_each.ensures.worker)
+    let others = subst (AreWorkers p k b) (sym c.remove-first.ensures.items) (others_are p k b c.args.workers.items c.requires.workers) in
+    subst (AreWorkers p k b) (sym c.in_ok-push.ensures.items) (All-push (IsWorker p k b) c.remove-first.new.self.items c.in_ok-settle_each.field-0 others c.in_ok-settle_each.ensures.worker)
 
 pub returns-clause-settled : goal.returns-clause-settled
 returns-clause-settled g c = λ x.
