@@ -1,5 +1,5 @@
--- What a search writes in full is accepted.
-use Rattle.std.proofs.Common.{◌≡◌, ◌≤◌, ℕ, List, length, Option, Some, None, Result, Ok, Err, false, refl, sym, ap, ◌∙◌, subst, arith}
+-- What a search writes in the full or the least form is accepted.
+use Rattle.std.proofs.Common.{◌≡◌, ◌≢◌, ◌≤◌, ℕ, List, length, Option, Some, None, Result, Ok, Err, refl, sym, ap, ◌∙◌, subst, arith}
 use Rattle.wf_model.specs.Task.{Task, IsTask}
 use Rattle.wf_model.specs.View.{View}
 use Rattle.wf_model.specs.DecisionMap.{IsDecisionMap, listed}
@@ -8,11 +8,11 @@ use Rattle.wf_model.specs.Box.{root}
 use Rattle.wf_model.specs.Refutation.{Line}
 use Rattle.wf_model.specs.Closing.{canonical}
 use Rattle.wf_core.specs.declared.Account.{Account}
-use Rattle.wf_model.specs.Report.{Report, a_map, none, report_of, report_text}
+use Rattle.wf_model.specs.Report.{Report, Body, a_map, none, least, report_of, report_text}
 use Rattle.wf_model.specs.Check.{Refusal, report_fault}
 use Rattle.wf_model.specs.Laws.{report_about}
 use Rattle.wf_model.proofs.Least.{answer_least}
-use Rattle.wf_model.proofs.WholeReports.{map_accepted, canonical_none_accepted}
+use Rattle.wf_model.proofs.WholeReports.{map_accepted, canonical_none_accepted, least_tree_accepted}
 use Rattle.wf_task.specs.declared.task.TheConstants.{LONGEST}
 use Rattle.wf_complex.specs.declared.fault.BuildFault.TheVariants as build
 use Rattle.wf_cert.specs.Grammar.{IsInGrammar}
@@ -21,14 +21,16 @@ use Rattle.wf_cert.specs.declared.fault.CertFault.{CertFault}
 use Rattle.wf_cert.specs.declared.fault.CertFault.TheVariants as cert
 use Rattle.wf_cert.proofs.WrittenLemmas.{written_read}
 use Rattle.wf_engine.specs.declared.outcome.Outcome.{Outcome}
-use Rattle.wf_engine.specs.declared.outcome.Outcome.TheVariants.{Map, Nothing}
+use Rattle.wf_engine.specs.declared.outcome.Outcome.TheVariants as outcome
+use Rattle.wf_engine.specs.declared.outcome.Form.{Form}
+use Rattle.wf_engine.specs.declared.outcome.Form.TheVariants as form
 use Rattle.wf_engine.specs.declared.fault.RunFault.{RunFault}
 use Rattle.wf_engine.specs.declared.fault.RunFault.TheVariants as run
 use Rattle.wf_engine.specs.Run.{IsWithinLimits}
-use Rattle.wf_engine.specs.Texts.{IsSolved, text_of_report}
+use Rattle.wf_engine.specs.Texts.{IsRefutation, IsSolved, LeadsToMap, text_of_report}
 use Rattle.wf_engine.specs.Verify.{ChecksText, IsVerified, outcome_of}
-use Rattle.wf_engine.specs.Laws.{Accepts}
-use Rattle.wf_engine.proofs.Written.{map_within, none_within}
+use Rattle.wf_engine.specs.Laws.{Accepts, accepted_as}
+use Rattle.wf_engine.proofs.Written.{map_within, none_within, least_within}
 
 -- a report without a fault has none that is named
 unnamed : {P : Type 0} (found : Option Refusal) (f : Refusal) → found ≡ None → found ≡ Some f → P
@@ -46,6 +48,8 @@ unrefused (cert.NotEmpty k) found clear other fails = unnamed found _ clear fail
 unrefused (cert.NotOpen k) found clear other fails = unnamed found _ clear fails
 unrefused cert.Unfinished found clear other fails = unnamed found _ clear fails
 unrefused (cert.Trailing k) found clear other fails = unnamed found _ clear fails
+unrefused (cert.NotFirst k) found clear other fails = unnamed found _ clear fails
+unrefused (cert.NotTheMap k) found clear other fails = unnamed found _ clear fails
 unrefused cert.OutOfMemory found clear other fails = absurd (other refl)
 
 -- the answer about a report without a fault
@@ -82,16 +86,49 @@ finds_none t r task fails = by_map (canonical (problem_of t r) (root (problem_of
     by_map None e = e
     by_map (Some m) e = absurd (fails _ (answer_least t r m task e).decides)
 
-pub solved_accepted : (t : Task) (r : ℕ) (found : Outcome × Account) (text : List ℕ) (answer : Result (Outcome × List ℕ) RunFault)
-    → IsTask t → IsWithinLimits r t → IsSolved r false t found text → length text ≤ LONGEST
-    → ChecksText t text answer → Accepts found.0 answer
-unfolding text_of_report
-solved_accepted t r (Map, a) text answer task within (m, least, account, is) short checks =
-    text_accepted t (report_about t r (a_map (listed t r m))) answer (map_within t r task within m least.decides) (subst (λ x. length x ≤ LONGEST) is short) within
-    (map_accepted t r m least.decides) (subst (λ x. ChecksText t x answer) is checks)
-solved_accepted t r (Nothing, a) text answer task within (ls, refuted, account, is) short checks =
-    let lines : List Line = (canonical (problem_of t r) (root (problem_of t r))).lines in
-    let written : text ≡ text_of_report t r (none lines) = is ∙ ap (λ x. text_of_report t r (none x)) refuted.canonical_lines in
-    let refutation = refuted.refutes in
-    text_accepted t (report_about t r (none lines)) answer (none_within t r task within refutation.0 (refutation.1 ∙ refuted.canonical_lines) refutation.2) (subst (λ x. length x ≤ LONGEST) written short) within
-    (canonical_none_accepted t r task (finds_none t r task refuted.no_map)) (subst (λ x. ChecksText t x answer) written checks)
+module _ (t : Task) (r : ℕ) where
+  -- what is answered about the text of a report with this body
+  body_accepted : (body : Body) (text : List ℕ) (answer : Result (Outcome × List ℕ) RunFault) → IsInGrammar (report_about t r body) → IsWithinLimits r t → report_fault t r (report_about t r body) ≡ None
+      → text ≡ text_of_report t r body → length text ≤ LONGEST → ChecksText t text answer → Accepts (outcome_of body) answer
+  unfolding text_of_report
+  body_accepted body text answer grammar within clear is short checks =
+      text_accepted t (report_about t r body) answer grammar (subst (λ x. length x ≤ LONGEST) is short) within clear (subst (λ x. ChecksText t x answer) is checks)
+
+  map_text_accepted : (m : View → ℕ) (text : List ℕ) (answer : Result (Outcome × List ℕ) RunFault) → IsTask t → IsWithinLimits r t → IsDecisionMap t r m
+      → text ≡ text_of_report t r (a_map (listed t r m)) → length text ≤ LONGEST → ChecksText t text answer → Accepts outcome.Map answer
+  map_text_accepted m text answer task within decides is short checks =
+      body_accepted (a_map (listed t r m)) text answer (map_within t r task within m decides) within (map_accepted t r m decides) is short checks
+
+  none_text_accepted : (ls : List Line) (text : List ℕ) (answer : Result (Outcome × List ℕ) RunFault) → IsTask t → IsWithinLimits r t → IsRefutation t r ls
+      → text ≡ text_of_report t r (none ls) → length text ≤ LONGEST → ChecksText t text answer → Accepts outcome.Nothing answer
+  none_text_accepted ls text answer task within refuted is short checks =
+      let lines : List Line = (canonical (problem_of t r) (root (problem_of t r))).lines in
+      let written : text ≡ text_of_report t r (none lines) = is ∙ ap (λ x. text_of_report t r (none x)) refuted.canonical_lines in
+      let refutation = refuted.refutes in
+      body_accepted (none lines) text answer (none_within t r task within refutation.0 (refutation.1 ∙ refuted.canonical_lines) refutation.2) within
+      (canonical_none_accepted t r task (finds_none t r task refuted.no_map)) written short checks
+
+  least_text_accepted : (m : View → ℕ) (ls : List Line) (text : List ℕ) (answer : Result (Outcome × List ℕ) RunFault) → IsTask t → IsWithinLimits r t → IsDecisionMap t r m → LeadsToMap t r (listed t r m) ls
+      → text ≡ text_of_report t r (least (listed t r m) ls) → length text ≤ LONGEST → ChecksText t text answer → Accepts outcome.Least answer
+  least_text_accepted m ls text answer task within decides leads is short checks =
+      let lines : List Line = (canonical (problem_of t r) (root (problem_of t r))).lines in
+      let written : text ≡ text_of_report t r (least (listed t r m) lines) = is ∙ ap (λ x. text_of_report t r (least (listed t r m) x)) leads.canonical_lines in
+      let shape = leads.leads in
+      let same = shape.1 ∙ leads.canonical_lines in
+      body_accepted (least (listed t r m) lines) text answer (least_within t r task within m decides shape.0 same shape.2) within
+      (subst (λ x. report_fault t r (report_about t r (least (listed t r m) x)) ≡ None) same (least_tree_accepted t r m shape.0 task decides shape.2)) written short checks
+
+pub solved_accepted : (t : Task) (r : ℕ) (asked : Form) (found : Outcome × Account) (text : List ℕ) (answer : Result (Outcome × List ℕ) RunFault)
+    → IsTask t → IsWithinLimits r t → asked ≢ form.Verdict → IsSolved r asked t found text → length text ≤ LONGEST
+    → ChecksText t text answer → Accepts (accepted_as asked found.0) answer
+solved_accepted t r form.Full (outcome.Map, a) text answer task within shows (m, ls, is_least, leads, account, is) short checks =
+    map_text_accepted t r m text answer task within is_least.decides is short checks
+solved_accepted t r form.Least (outcome.Map, a) text answer task within shows (m, ls, is_least, leads, account, is) short checks =
+    least_text_accepted t r m ls text answer task within is_least.decides leads is short checks
+solved_accepted t r form.Full (outcome.Nothing, a) text answer task within shows (ls, refuted, account, is) short checks =
+    none_text_accepted t r ls text answer task within refuted is short checks
+solved_accepted t r form.Least (outcome.Nothing, a) text answer task within shows (ls, refuted, account, is) short checks =
+    none_text_accepted t r ls text answer task within refuted is short checks
+solved_accepted t r form.Full (outcome.Least, a) text answer task within shows solved short checks = absurd solved
+solved_accepted t r form.Least (outcome.Least, a) text answer task within shows solved short checks = absurd solved
+solved_accepted t r form.Verdict found text answer task within shows solved short checks = absurd (shows refl)

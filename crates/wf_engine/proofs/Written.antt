@@ -1,7 +1,8 @@
--- The full report of a search is in the grammar: its numbers are those that a line may hold.
-use Rattle.std.proofs.Common.{◌≡◌, ℕ, zero, suc, ◌+◌, ◌*◌, ◌<◌, ◌≤◌, ◌==◌, true, not, List, [], ◌∷◌, ◌++◌, map, filter, flat_map, length, slice_set, Option, Some, None, sym, ap, ◌∙◌, subst, arith, length-append, length-set}
+-- The report of a search in the full or the least form is in the grammar: its numbers are those that a line may hold.
+use Rattle.std.proofs.Common.{◌≡◌, ℕ, zero, suc, ◌+◌, ◌*◌, ◌<◌, ◌≤◌, ◌==◌, true, not, nat_lt, List, [], ◌∷◌, ◌++◌, map, filter, flat_map, length, slice_set, Option, Some, None, sym, ap, ◌∙◌, subst, arith, length-append, length-set}
 use Rattle.std.specs.List.{AllByRecursion}
 use Rattle.std.proofs.lemmas.List.{length-map}
+use Rattle.std.proofs.lemmas.List.Quantifiers.{position-Some}
 use Rattle.std.proofs.lemmas.List.Elements.{recursion_from_All, All-replicate}
 use Rattle.std.proofs.lemmas.Option.{slice_get_within}
 use Rattle.std.proofs.Math.ListN.{length-replicate}
@@ -16,7 +17,8 @@ use Rattle.wf_model.specs.Problem.{Problem, Constraint, constraint_of, problem_o
 use Rattle.wf_model.specs.Box.{Box, LiesIn, candidates, root, without, decided, branches_at, count, first_open, first_empty, is_supported_in}
 use Rattle.wf_model.specs.Refutation.{Line, remove, empty, branch, found, Tree, emptied, removed, branched, ended, Trees, no_trees, tree, lines, lines_each, Refutes, RefutesEach, IsLost}
 use Rattle.wf_model.specs.Closing.{Step, Trace, Loss, same_candidate, continued, taken_out, take_out, take_out_each, places, lost_at, lost, sweep_from, sweep, unless_none, sweeps, closing_at, closing, before, in_turn, branching_at, branching, searched, search_within, canonical}
-use Rattle.wf_model.specs.Report.{Body, a_map, none, largest, most_number}
+use Rattle.wf_model.specs.LeastTree.{IsLeastTree, LeastAmong}
+use Rattle.wf_model.specs.Report.{Body, a_map, none, least, largest, most_number}
 use Rattle.wf_model.specs.Laws.{report_about}
 use Rattle.wf_model.proofs.Accepting.{each_at}
 use Rattle.wf_model.proofs.Bridge.{weaker}
@@ -29,7 +31,7 @@ use Rattle.wf_model.proofs.WellFormed.{task_listed, each_execution_with, last_pr
 use Rattle.wf_simplex.proofs.Within.{length-within}
 use Rattle.wf_task.proofs.Drafted.{has_from_order}
 use Rattle.wf_complex.proofs.Different.{length-distinct}
-use Rattle.wf_cert.specs.Grammar.{IsLineWithin, IsBodyWithin, IsInGrammar, last_process}
+use Rattle.wf_cert.specs.Grammar.{IsLineWithin, IsStepWithin, IsBodyWithin, IsInGrammar, last_process}
 use Rattle.wf_engine.specs.Run.{IsWithinLimits}
 
 -- ---- the values of removed candidates
@@ -154,14 +156,30 @@ IsPlaced (empty v) = v ≤ most_number
 IsPlaced (branch v) = v ≤ most_number
 IsPlaced found = ⊥
 
+-- the same where a map is found in the end
+abbrev IsStepPlaced : Line → Type 0
+IsStepPlaced (remove e c a) = IsPlaced (remove e c a)
+IsStepPlaced (empty v) = IsPlaced (empty v)
+IsStepPlaced (branch v) = IsPlaced (branch v)
+IsStepPlaced found = Unit {0}
+
 -- each point of the box has such a number
 abbrev IsShort : Box → Type 0
 IsShort box = length box ≤ most_number
 
+decided_short : (box : Box) (v a : ℕ) → IsShort box → IsShort (decided box v a)
+decided_short box v a h = subst (λ n. n ≤ most_number) (sym (length-set box v (a ∷ []))) h
+
 branches_short : (box : Box) (v : ℕ) → IsShort box → AllByRecursion IsShort (branches_at box v)
 branches_short box v h =
     each_map IsShort (decided box v) (candidates box v)
-    (always (λ a. IsShort (decided box v a)) (λ a. subst (λ n. n ≤ most_number) (sym (length-set box v (a ∷ []))) h) (candidates box v))
+    (always (λ a. IsShort (decided box v a)) (λ a. decided_short box v a h) (candidates box v))
+
+step_placed : (l : Line) → IsPlaced l → IsStepPlaced l
+step_placed (remove e c a) h = h
+step_placed (empty v) h = h
+step_placed (branch v) h = h
+step_placed found h = tt
 
 -- processes that a line may hold
 abbrev HasFewProcesses : Constraint → Type 0
@@ -189,12 +207,40 @@ module _ (p : Problem) (few : length p.constraints ≤ most_number) (processes :
     placed_each (tree t ts) [] h r = absurd r
     placed_each (tree t ts) (box ∷ boxes) h r = each_append IsPlaced (lines t) (lines_each ts) (placed t box h.0 r.0) (placed_each ts boxes h.1 r.1)
 
+  mutual
+    -- the lines of a tree that leads to a map
+    led : (m : List ℕ) (t : Tree) (box : Box) → IsShort box → IsLeastTree p m t box → AllByRecursion IsStepPlaced (lines t)
+    led m (emptied v) box h r = absurd r
+    led m (removed e c a v t) box h r =
+        (lost_placed box e c a v r.0, led m t (without box v a) (subst (λ n. n ≤ most_number) (sym (length-set box v _)) h) r.1)
+    led m (branched v ts) box h r =
+        let within : v < length box = (position-Some (λ (set : List ℕ). nat_lt 1 (length set)) box v [] r.0).0 in
+        (omega (arith, h, within), led_among m v ts box (candidates box v) h r.1)
+    led m ended box h r = (tt, tt)
+
+    led_among : (m : List ℕ) (v : ℕ) (ts : Trees) (box : Box) (values : List ℕ) → IsShort box → LeastAmong p m v ts box values → AllByRecursion IsStepPlaced (lines_each ts)
+    led_among m v no_trees box values h r = absurd r
+    led_among m v (tree t ts) box [] h r = absurd r
+    led_among m v (tree t no_trees) box (a ∷ values) h r =
+        each_append IsStepPlaced (lines t) [] (led m t (decided box v a) (decided_short box v a h) r.1) tt
+    led_among m v (tree t (tree u us)) box (a ∷ values) h r =
+        each_append IsStepPlaced (lines t) (lines_each (tree u us))
+        (weaker IsPlaced IsStepPlaced step_placed (lines t) (placed t (decided box v a) (decided_short box v a h) r.1))
+        (led_among m v (tree u us) box values h r.3)
+
 line_within : (l : Line) → IsPlaced l → HasSmallValue l → IsLineWithin l
 unfolding IsSmall
 line_within (remove e c a) h k = (h.0, h.1, k)
 line_within (empty v) h k = h
 line_within (branch v) h k = h
 line_within found h k = h
+
+step_within : (l : Line) → IsStepPlaced l → HasSmallValue l → IsStepWithin l
+unfolding IsSmall
+step_within (remove e c a) h k = (h.0, h.1, k)
+step_within (empty v) h k = h
+step_within (branch v) h k = h
+step_within found h k = tt
 
 -- ---- a task
 
@@ -296,15 +342,35 @@ module _ (t : Task) (r : ℕ) (task : IsTask t) where
     map_within m decides =
         about_within (a_map (listed t r m)) (small_map (listed t r m) (root (problem_of t r)) root_small (lies_in_root t r m (task_listed t task) decides))
 
+    as_many : length (problem_of t r).constraints ≤ most_number
+    as_many = let e : length (problem_of t r).constraints ≡ length (executions t r) = length-map (executions t r) (constraint_of t (points t r)) in omega (arith, e, within.1.1)
+
+    short_root : IsShort (root (problem_of t r))
+    short_root = subst (λ n. n ≤ most_number) (sym (length-replicate (problem_of t r).points (problem_of t r).values)) few_points
+
+    canonical_small : AllByRecursion HasSmallValue (canonical (problem_of t r) (root (problem_of t r))).lines
+    canonical_small = search_small (problem_of t r) (suc (count (root (problem_of t r)))) (root (problem_of t r)) root_small
+
     -- a report of a refutation with the lines of the canonical search
     pub none_within : (shape : Tree) → lines shape ≡ (canonical (problem_of t r) (root (problem_of t r))).lines → Refutes (problem_of t r) shape (root (problem_of t r)) →
         IsInGrammar (report_about t r (none (canonical (problem_of t r) (root (problem_of t r))).lines))
     none_within shape same refutes =
         let p = problem_of t r in
         let ls : List Line = (canonical p (root p)).lines in
-        let as_many : length p.constraints ≤ most_number = (let e : length p.constraints ≡ length (executions t r) = length-map (executions t r) (constraint_of t (points t r)) in omega (arith, e, within.1.1)) in
-        let short : IsShort (root p) = subst (λ n. n ≤ most_number) (sym (length-replicate p.points p.values)) few_points in
         about_within (none ls)
         (both IsPlaced HasSmallValue IsLineWithin line_within ls
-        (subst (AllByRecursion IsPlaced) same (placed p as_many (constraints_have t r task) shape (root p) short refutes))
-        (search_small p (suc (count (root p))) (root p) root_small))
+        (subst (AllByRecursion IsPlaced) same (placed p as_many (constraints_have t r task) shape (root p) short_root refutes))
+        canonical_small)
+
+    -- a report of a decision map with the lines of the canonical search, which lead to it
+    pub least_within : (m : View → ℕ) → IsDecisionMap t r m → (shape : Tree) → lines shape ≡ (canonical (problem_of t r) (root (problem_of t r))).lines → IsLeastTree (problem_of t r) (listed t r m) shape (root (problem_of t r)) →
+        IsInGrammar (report_about t r (least (listed t r m) (canonical (problem_of t r) (root (problem_of t r))).lines))
+    least_within m decides shape same leads =
+        let p = problem_of t r in
+        let ls : List Line = (canonical p (root p)).lines in
+        about_within (least (listed t r m) ls) (
+          (map_within m decides).body,
+          both IsStepPlaced HasSmallValue IsStepWithin step_within ls
+              (subst (AllByRecursion IsStepPlaced) same (led p as_many (constraints_have t r task) (listed t r m) shape (root p) short_root leads))
+              canonical_small,
+        )

@@ -97,6 +97,6 @@ accepted_as form.Least outcome.Least = outcome.Least
 -- The report of a search in the full or the least form, of at most as many bytes as a text may have, is accepted.
 abbrev pub SolvedReportsAreAccepted : Type 0
 SolvedReportsAreAccepted =
-    (t : Task) (r : ℕ) (form : Form) (found : Outcome × Account) (text : List ℕ) (answer : Result (Outcome × List ℕ) RunFault)
-    → IsTask t → IsWithinLimits r t → form ≢ form.Verdict → IsSolved r form t found text → length text ≤ LONGEST
-    → ChecksText t text answer → Accepts (accepted_as form found.0) answer
+    (t : Task) (r : ℕ) (asked : Form) (found : Outcome × Account) (text : List ℕ) (answer : Result (Outcome × List ℕ) RunFault)
+    → IsTask t → IsWithinLimits r t → asked ≢ form.Verdict → IsSolved r asked t found text → length text ≤ LONGEST
+    → ChecksText t text answer → Accepts (accepted_as asked found.0) answer

@@ -20,7 +20,7 @@ pub enum RunFault {
     Task(TaskFault),
     /// 16, 17: there are too many rounds or executions.
     Build(BuildFault),
-    /// 20 to 29: the text is no report, or the report is not accepted.
+    /// 20 to 29, 34, 35: the text is no report, or the report is not accepted.
     Cert(CertFault),
     /// 15: memory ran out.
     OutOfMemory,

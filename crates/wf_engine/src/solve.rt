@@ -10,7 +10,7 @@ ghost use Rattle.wf_pool.specs.Answers.{HasAccount, IsAnswer};
 ghost use Rattle.wf_pool.specs.Answers as pool;
 ghost use Rattle.wf_cert.specs.Reports.{report_seen, body_of};
 ghost use Rattle.wf_engine.specs.Run.{Answers, Asks, answered};
-ghost use Rattle.wf_engine.specs.Texts.{IsInOrder, IsSolved, SearchesInOrder, Solves, shown, text_of_report};
+ghost use Rattle.wf_engine.specs.Texts.{IsInOrder, IsSolved, SearchesInOrder, Solves, lines_kept, map_body, none_body, text_of_report};
 
 use crate::fault::RunFault;
 use crate::outcome::{Form, Outcome};
@@ -24,7 +24,7 @@ use wf_complex::{Lines, Protocol};
 use wf_core::Account;
 use wf_handout::Stealing;
 use wf_io::{Sink, Source};
-use wf_pool::{Answer, MAX_WORKERS, Open, solve, solve_one};
+use wf_pool::{Answer, MAX_WORKERS, MapLines, Open, solve, solve_one};
 use wf_task::Task;
 
 /// How branches are handed to workers.
@@ -119,7 +119,7 @@ fn solve_task_one(
 {
     let protocol = Protocol::build(alloc, task, rounds)?;
     let problem = Problem::join(alloc, task, &protocol)?;
-    let (answer, account) = solve_one(alloc, &problem)?;
+    let (answer, account) = solve_one(alloc, &problem, lines_kept(form))?;
     Ok(with_text(alloc, task, &protocol, answer, account, form)?)
 }
 
@@ -137,8 +137,19 @@ fn solve_task<T: Threads + Sync>(
 {
     let protocol = Protocol::build(alloc, task, rounds)?;
     let problem = Problem::join(alloc, task, &protocol)?;
-    let (answer, account) = solve::<T, Branches, Open>(rt, alloc, &problem, workers, &Open)?;
+    let kept = lines_kept(form);
+    let (answer, account) = solve::<T, Branches, Open>(rt, alloc, &problem, workers, kept, &Open)?;
     Ok(with_text(alloc, task, &protocol, answer, account, form)?)
+}
+
+/// What a search keeps of the lines that lead to a map: the least form alone shows them.
+fn lines_kept(form: Form) -> MapLines
+    ensures { result ≡ lines_kept form }
+{
+    match form {
+        Form::Full | Form::Verdict => MapLines::Dropped,
+        Form::Least => MapLines::Kept,
+    }
 }
 
 /// What a search answers, with the text of the report about it.
@@ -151,31 +162,43 @@ fn with_text(
     form: Form,
 ) -> Result<((Outcome, Account), Vec<u8>), AllocError>
     requires built { IsProtocol task.now protocol.now.rounds protocol.now }
-    requires answer { IsAnswer (problem_of task.now protocol.now.rounds) answer }
+    requires answer { IsAnswer (problem_of task.now protocol.now.rounds) (lines_kept form) answer }
     requires account { HasAccount (problem_of task.now protocol.now.rounds) answer account }
     ensures solved { IfOk result (λ r.
-        IsSolved protocol.now.rounds verdict task.now r.0 r.1.items) }
+        IsSolved protocol.now.rounds form task.now r.0 r.1.items) }
     ensures in_order { pool.IsInOrder answer account → IfOk result (λ r. IsInOrder r.0) }
 {
     let _inputs = task.inputs();
     match answer {
-        Answer::Map(values) => {
-            let text = report_text(alloc, task, protocol, Body::Map(values))?;
+        Answer::Map(values, lines) => {
+            let text = report_text(alloc, task, protocol, map_body(form, values, lines))?;
             Ok(((Outcome::Map, account), text))
         }
         Answer::Nothing(lines) => {
-            let body = Body::Nothing(shown_lines(alloc, lines, verdict));
-            let text = report_text(alloc, task, protocol, body)?;
+            let text = report_text(alloc, task, protocol, none_body(alloc, form, lines))?;
             Ok(((Outcome::Nothing, account), text))
         }
     }
 }
 
-/// The lines that a report shows: none in the verdict form.
-fn shown_lines(alloc: Global, lines: Lines, verdict: bool) -> Lines
-    ensures { map line_of result.items ≡ shown verdict (map line_of lines.items) }
+/// What a report says of a map: in the least form the lines that lead to it too.
+fn map_body(form: Form, values: Vec<u8>, lines: Lines) -> Body
+    ensures { body_of result ≡ map_body form values.items (map line_of lines.items) }
 {
-    if verdict { Vec::new(alloc) } else { lines }
+    match form {
+        Form::Full | Form::Verdict => Body::Map(values),
+        Form::Least => Body::Least(values, lines),
+    }
+}
+
+/// What a report says where there is no map: in the verdict form no lines.
+fn none_body(alloc: Global, form: Form, lines: Lines) -> Body
+    ensures { body_of result ≡ none_body form (map line_of lines.items) }
+{
+    match form {
+        Form::Full | Form::Least => Body::Nothing(lines),
+        Form::Verdict => Body::Nothing(Vec::new(alloc)),
+    }
 }
 
 /// The text of the report with this answer.

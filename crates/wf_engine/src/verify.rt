@@ -21,8 +21,8 @@ use wf_task::{LONGEST, Task};
 /// Reads a task to its reader's end, then a report about it to its own reader's end, checks the report on the protocol
 /// complex for the report's rounds, and writes what is accepted.
 ///
-/// The relation names the search nowhere: where a map is accepted, it is a decision map, and where none is, no function
-/// on the views is one.
+/// The relation names the search nowhere: where a map is accepted, it is a decision map, and the least one where its
+/// lines are accepted too; and where none is, no function on the views is one.
 pub fn run_verify<T: Threads + Sync, R: Read, C: Read, W: Write>(
     rt: &T,
     alloc: Global,
@@ -101,6 +101,10 @@ fn accepted(alloc: Global, body: &Body) -> Result<(Outcome, Vec<u8>), AllocError
         Body::Nothing(_) => {
             put_words(&mut text, "accepted none")?;
             Outcome::Nothing
+        }
+        Body::Least(_, _) => {
+            put_words(&mut text, "accepted least")?;
+            Outcome::Least
         }
     };
     Ok((outcome, text.into_bytes()))

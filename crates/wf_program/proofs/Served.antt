@@ -8,7 +8,7 @@ use Rattle.wf_words.specs.declared.Job.TheVariants as job
 use Rattle.wf_words.specs.declared.WordsFault.{WordsFault}
 use Rattle.wf_words.specs.declared.WordsFault.TheVariants as words
 use Rattle.wf_engine.specs.declared.outcome.Outcome.{Outcome}
-use Rattle.wf_engine.specs.declared.outcome.Outcome.TheVariants.{Map, Nothing}
+use Rattle.wf_engine.specs.declared.outcome.Outcome.TheVariants.{Map, Nothing, Least}
 use Rattle.wf_engine.specs.declared.fault.RunFault.{RunFault}
 use Rattle.wf_engine.specs.declared.fault.RunFault.TheVariants as run
 use Rattle.wf_engine.specs.Texts.{IsSolved, IsViews}
@@ -59,6 +59,7 @@ module _ (source source' : Reading) (sink sink' : Writing) where
   after_solving : (tells : Bool) (result : Result (Outcome × Account) RunFault) → IsCounted source source' sink sink' result → IsDone 0 source source' sink sink' (solved tells result)
   after_solving tells (Ok (Map, a)) h = accepted (Map, a) _ (omega arith) h
   after_solving tells (Ok (Nothing, a)) h = accepted (Nothing, a) _ (omega arith) h
+  after_solving tells (Ok (Least, a)) h = accepted (Least, a) _ (omega arith) h
   after_solving tells (Err e) h = refused e h
 
   after_writing : (result : Result (Unit {0}) RunFault) → IsCounted source source' sink sink' result → IsDone 0 source source' sink sink' (written result)
@@ -128,8 +129,8 @@ module _ (source source' : Reading) (sink sink' : Writing) where
       (record { most = tt; failures = (1, omega arith, omega (arith, reads, writes)); taken = omega (arith, takes); unwritten = λ other. wrote })
 
   did : (asked : Result Job WordsFault) (done : Result Done Refusal) → DoesAsked asked source source' sink sink' done → IsDone (file_count asked) source source' sink sink' done
-  did (Ok (job.Solve rounds workers verdict tells)) done (result, solves, ordered, is) =
-      subst (IsDone 0 source source' sink sink') (sym is) (after_solving tells result (counted (IsSolved rounds verdict) rounds source source' sink sink' result solves))
+  did (Ok (job.Solve rounds workers form tells)) done (result, solves, ordered, is) =
+      subst (IsDone 0 source source' sink sink') (sym is) (after_solving tells result (counted (IsSolved rounds form) rounds source source' sink sink' result solves))
   did (Ok (job.Verify task)) done (result, inl (file, file', verifies), is) =
       subst (IsDone 1 source source' sink sink') (sym is) (after_verifying file file' result (checked file file' source source' sink sink' result verifies))
   did (Ok (job.Verify task)) done (result, inr (none, read, wrote), is) = not_opened done (is ∙ ap verified none) read wrote

@@ -8,7 +8,7 @@ use Rattle.wf_io.specs.Seen.{Reading, Writing}
 use Rattle.wf_io.specs.Ends.{CanCount, CanWrite}
 use Rattle.wf_io.specs.Texts.{Told, Tells}
 use Rattle.wf_engine.specs.declared.outcome.Outcome.{Outcome}
-use Rattle.wf_engine.specs.declared.outcome.Outcome.TheVariants.{Map, Nothing}
+use Rattle.wf_engine.specs.declared.outcome.Outcome.TheVariants.{Map, Nothing, Least}
 use Rattle.wf_engine.specs.declared.fault.RunFault.{RunFault}
 use Rattle.wf_engine.specs.declared.fault.RunFault.TheVariants as run
 use Rattle.wf_engine.specs.Faults.{fault_text}
@@ -71,6 +71,7 @@ TellsAccount old new None = new ≡ old
 abbrev pub outcome_status : Outcome → ℕ
 outcome_status Map = 0
 outcome_status Nothing = 1
+outcome_status Least = 0
 
 -- an account that is asked for
 abbrev pub asked_for : Bool → Account → Option Account
@@ -98,8 +99,8 @@ VerifiesFile source source' sink sink' result =
 
 -- what a job asks for was done
 abbrev pub Does : Job → Reading → Reading → Writing → Writing → Result Done Refusal → Type 0
-Does (Solve rounds workers verdict account) source source' sink sink' done =
-    (result : Result (Outcome × Account) RunFault) × Solves rounds verdict source source' sink sink' result
+Does (Solve rounds workers form account) source source' sink sink' done =
+    (result : Result (Outcome × Account) RunFault) × Solves rounds form source source' sink sink' result
     × (workers ≡ 1 → SearchesInOrder result) × (done ≡ solved account result)
 Does (Verify task) source source' sink sink' done =
     (result : Result Outcome RunFault) × VerifiesFile source source' sink sink' result × (done ≡ verified result)

@@ -68,10 +68,10 @@ fn do_job<T: Threads + Sync, F: Files, R: Read, W: Write>(
         Job::Solve {
             rounds,
             workers,
-            verdict,
+            form,
             account,
         } => {
-            let found = run_solve(rt, alloc, source, sink, *rounds, *workers, *verdict);
+            let found = run_solve(rt, alloc, source, sink, *rounds, *workers, *form);
             after_solving(found, *account)
         }
         Job::Verify { task } => after_verifying(verify_file(rt, alloc, files, task, source, sink)),
@@ -129,7 +129,7 @@ fn status_of(outcome: Outcome) -> u8
     ensures { result ≡ outcome_status outcome }
 {
     match outcome {
-        Outcome::Map => 0,
+        Outcome::Map | Outcome::Least => 0,
         Outcome::Nothing => 1,
     }
 }

@@ -4,16 +4,18 @@
 ghost use Rattle.std.specs.Prelude.{IfOk, IfErr, IfSome};
 ghost use Rattle.wf_words.specs.Job.{IsWithinLimits, IsClapMistake};
 
+mod forms;
 mod presets;
 mod version;
 
+use crate::forms::form_of;
 use crate::presets::Options;
 use clap::error::ErrorKind;
 use clap::{Arg, ArgAction, ArgMatches, Command, value_parser};
 use std::alloc::{AllocError, Global};
 use std::io;
 pub use version::{LOGIC, VERSION};
-use wf_engine::{MAX_WORKERS, Preset};
+use wf_engine::{Form, MAX_WORKERS, Preset};
 
 /// What the help of `preset` says of the kinds.
 const KINDS: &str =
@@ -28,8 +30,8 @@ pub enum Job {
         rounds: u32,
         /// How many workers, from 1 to [`MAX_WORKERS`].
         workers: u32,
-        /// Whether the lines of a refutation are left out.
-        verdict: bool,
+        /// How much of what is found is written.
+        form: Form,
         /// Whether the account of the branches is told.
         account: bool,
     },
@@ -107,6 +109,11 @@ fn solve_command<'a>(alloc: Global) -> Result<Command<'a>, AllocError> {
         value_parser!(u32).range(1..=MAX_WORKERS as i64),
     );
     let verdict = flag(alloc, "verdict", "Leave out the lines of a refutation");
+    let least = flag(
+        alloc,
+        "least",
+        "With a map, write the lines that show that no decision map is smaller",
+    );
     let account = flag(
         alloc,
         "account",
@@ -119,6 +126,7 @@ fn solve_command<'a>(alloc: Global) -> Result<Command<'a>, AllocError> {
         .arg(number(alloc, "rounds", "How many rounds of immediate snapshots"))?
         .arg(workers)?
         .arg(verdict)?
+        .arg(least)?
         .arg(account)
 }
 
@@ -178,7 +186,7 @@ fn whole_command<'a>(alloc: Global) -> Result<Command<'a>, AllocError> {
         .subcommand(preset_command(alloc)?)
 }
 
-/// The job of `solve`, whose number of workers `clap` has judged.
+/// The job of `solve`, whose number of workers `clap` has judged. There is none with both `--verdict` and `--least`.
 fn solve_job(found: &ArgMatches<'_>) -> Option<Job>
     ensures { IfSome result IsWithinLimits }
 {
@@ -190,7 +198,7 @@ fn solve_job(found: &ArgMatches<'_>) -> Option<Job>
     Some(Job::Solve {
         rounds,
         workers,
-        verdict: found.get_flag("verdict"),
+        form: form_of(found.get_flag("verdict"), found.get_flag("least"))?,
         account: found.get_flag("account"),
     })
 }

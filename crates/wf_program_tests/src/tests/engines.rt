@@ -3,13 +3,14 @@
 ghost use Rattle.wf_io.specs.Ends.{CanCount};
 
 use super::ends::LineFeeds;
+use super::tasks::PATH_2;
 use std::alloc::Global;
 use std::io::{Read, Write};
 use std::test::Fail;
 use std::thread::Threads;
 use wf_complex::BuildFault;
 use wf_core::Account;
-use wf_engine::{Outcome, RunFault, run_solve, run_solve_one, run_views};
+use wf_engine::{Form, Outcome, RunFault, run_solve, run_solve_one, run_verify, run_views};
 use wf_io::{Sink, Source};
 use wf_task::TaskFault;
 
@@ -21,6 +22,11 @@ const REPORT: &str =
 
 const LIST: &str =
     "wfcheck views 1\nprocesses 1\nrounds 8\nsimplices 1\nviews 1\npoints 1\nexecutions 1\nv 0 0 0\nend\n";
+
+/// The least report about the path of length 2 after one round: points 2 and 3 have two candidates each once the root is
+/// closed, and the lower ones are the map's.
+const LEAST: &str =
+    "wfcheck report 1\nprocesses 2\nrounds 1\npoints 4\nexecutions 5\nanswer least\nm 0\nm 2\nm 1\nm 0\np 0 0 1\np 0 0 2\np 1 1 0\np 1 1 1\np 3 1 2\np 4 0 0\nb 2\nb 3\nf\nend\n";
 
 /// An engine over one source.
 #[derive(Clone, Copy, Debug)]
@@ -43,8 +49,8 @@ impl Engine {
         requires { CanCount source.old sink.old }
     {
         match self {
-            Engine::Solve => run_solve(rt, alloc, source, sink, rounds, 1, true).err(),
-            Engine::Share => run_solve(rt, alloc, source, sink, rounds, 3, false).err(),
+            Engine::Solve => run_solve(rt, alloc, source, sink, rounds, 1, Form::Verdict).err(),
+            Engine::Share => run_solve(rt, alloc, source, sink, rounds, 3, Form::Full).err(),
             Engine::Views => run_views(alloc, source, sink, rounds).err(),
         }
     }
@@ -80,7 +86,7 @@ fn a_task_is_answered(rt: HostRuntime) -> Result<(), Fail> {
 fn one_worker_searches_one_branch(rt: HostRuntime) -> Result<(), Fail> {
     let mut source = Source::new(ONE.as_bytes());
     let mut sink = Sink::new(Vec::new(rt.alloc()));
-    let found = run_solve_one(rt.alloc(), &mut source, &mut sink, 8, false);
+    let found = run_solve_one(rt.alloc(), &mut source, &mut sink, 8, Form::Full);
     let account = Account {
         branches: 1,
         least: 0,
@@ -88,6 +94,42 @@ fn one_worker_searches_one_branch(rt: HostRuntime) -> Result<(), Fail> {
         cut: 0,
     };
     assert_eq!(rt; found, Ok((Outcome::Map, account)));
+    Ok(())
+}
+
+#[test]
+fn a_least_map_is_written_with_its_lines(rt: HostRuntime) -> Result<(), Fail> {
+    for workers in [1, 2] {
+        let mut source = Source::new(PATH_2.as_bytes());
+        let mut written = Vec::new(rt.alloc());
+        let mut sink = Sink::new(&mut written);
+        let found = run_solve(
+            &rt,
+            rt.alloc(),
+            &mut source,
+            &mut sink,
+            1,
+            workers,
+            Form::Least,
+        );
+        let outcome = found.map(|answer| answer.0);
+        assert_eq!(rt; outcome, Ok(Outcome::Map), "{workers} workers");
+        drop(sink);
+        assert_eq!(rt; written.as_slice(), LEAST.as_bytes(), "{workers} workers");
+    }
+    Ok(())
+}
+
+#[test]
+fn a_least_map_is_accepted_by_its_lines(rt: HostRuntime) -> Result<(), Fail> {
+    let mut task = Source::new(PATH_2.as_bytes());
+    let mut report = Source::new(LEAST.as_bytes());
+    let mut written = Vec::new(rt.alloc());
+    let mut sink = Sink::new(&mut written);
+    let found = run_verify(&rt, rt.alloc(), &mut task, &mut report, &mut sink);
+    assert_eq!(rt; found, Ok(Outcome::Least));
+    drop(sink);
+    assert_eq!(rt; written.as_slice(), "accepted least\n".as_bytes());
     Ok(())
 }
 

@@ -19,16 +19,33 @@ fn words_are_a_job_or_a_fault(rt: HostRuntime) -> Result<(), Fail> {
     let rows = [
         (
             "wfcheck solve --rounds 1 --workers 1 --verdict",
-            "solve 1 1 true false",
+            "solve 1 1 Verdict false",
         ),
         (
             "wfcheck solve --verdict --account --workers 64 --rounds 4294967295",
-            "solve 4294967295 64 true true",
+            "solve 4294967295 64 Verdict true",
         ),
         (
             "wfcheck solve --rounds 1 --workers 2",
-            "solve 1 2 false false",
+            "solve 1 2 Full false",
         ),
+        (
+            "wfcheck solve --rounds 1 --workers 1 --least",
+            "solve 1 1 Least false",
+        ),
+        (
+            "wfcheck solve --account --least --workers 2 --rounds 3",
+            "solve 3 2 Least true",
+        ),
+        (
+            "wfcheck solve --rounds 1 --workers 1 --least --verdict",
+            "words",
+        ),
+        (
+            "wfcheck solve --verdict --rounds 1 --least --workers 1",
+            "words",
+        ),
+        ("wfcheck views --rounds 3 --least", "clap UnknownArgument"),
         ("wfcheck views --rounds 3", "views 3"),
         ("wfcheck views", "clap MissingRequiredArgument"),
         ("wfcheck verify --task a/b.json", "verify a/b.json"),
@@ -109,10 +126,10 @@ fn judged(alloc: Global, line: &str) -> Result<String, AllocError> {
             Job::Solve {
                 rounds,
                 workers,
-                verdict,
+                form,
                 account,
             },
-        ) => format!(in alloc; "solve {rounds} {workers} {verdict} {account}"),
+        ) => format!(in alloc; "solve {rounds} {workers} {form:?} {account}"),
         Ok(Job::Verify { task }) => format!(in alloc; "verify {task}"),
         Ok(Job::Views { rounds }) => format!(in alloc; "views {rounds}"),
         Ok(Job::Preset(preset)) => shown(alloc, preset),
