@@ -1,9 +1,9 @@
 #!/usr/bin/env python3
 """second_opinion.py TASK REPORT: whether the report about the task holds, straight from the definitions.
 
-It shares nothing with the program: it is here to be read in ten minutes, and is slow. It says `holds: map`, `holds: none`
-or `holds: none, by the header alone` (the short form has no lines to check), or says in words what is wrong and ends with
-status 1. Whether a map is the least one it doesn't look at."""
+It shares nothing with the program: it is here to be read in ten minutes, and is slow. It says `holds: map`, `holds: least`,
+`holds: none` or `holds: none, by the header alone` (the short form has no lines to check), or says in words what is wrong and
+ends with status 1. Whether a map is the least one it looks at where the report has the lines for it."""
 import itertools
 import json
 import sys
@@ -72,13 +72,15 @@ class Complex:
                 return f"execution {n} decides {[values[v] for v in points]}"
         return None
 
-    def wrong_refutation(self, lines):
-        """Blocks that are still to be refuted, the next one last: each a set of candidates for every point."""
-        blocks = [[set(self.values) for _ in range(self.points)]]
+    def wrong_lines(self, lines, least=None):
+        """Boxes that are still to be refuted, the next one last: each a set of candidates for every point, and the point at which it
+        was branched last. With the values of a map the first box isn't refuted: the map stays in it, its branches above the map's
+        are left out, and `f` ends it."""
+        boxes = [(0, [set(self.values) for _ in range(self.points)])]
         for at, (kind, *numbers) in lines:
-            if not blocks:
-                return f"line {at}: all is refuted already"
-            box = blocks[-1]
+            if not boxes:
+                return f"line {at}: all is said already"
+            (before, box), has_map = boxes[-1], least is not None and len(boxes) == 1
             if kind == "p":
                 e, process, value = numbers
                 if e >= len(self.executions) or process not in self.executions[e][0]:
@@ -88,20 +90,29 @@ class Complex:
                 if any(t[place] == value and all(x in box[v] for x, v in zip(t, points)) for t in allowed):
                     return f"line {at}: the value can still be decided there"
                 box[points[place]].discard(value)
+            elif kind == "f":
+                if not has_map or box != [{value} for value in least]:
+                    return f"line {at}: the values that are left are not the map"
+                boxes.pop()
             elif numbers[0] >= self.points:
                 return f"line {at}: no such point"
             elif kind == "z":
                 if box[numbers[0]]:
                     return f"line {at}: the point has values left"
-                blocks.pop()
-            else:
-                candidates = sorted(box[numbers[0]])
+                boxes.pop()
+            elif kind == "b":
+                point, candidates = numbers[0], sorted(box[numbers[0]])
                 if len(candidates) < 2:
                     return f"line {at}: the point has fewer than two values left"
-                blocks.pop()
-                for value in reversed(candidates):
-                    blocks.append([{value} if v == numbers[0] else set(c) for v, c in enumerate(box)])
-        return f"{len(blocks)} cases are not refuted" if blocks else None
+                if least is not None and any(len(c) > 1 for c in box[before:point]):
+                    return f"line {at}: an earlier point has two values or more left"
+                branches = [value for value in candidates if not has_map or value <= least[point]]
+                boxes[-1:] = [(point, [set(c) for c in box]) for _ in branches[1:]] + [(point, box)]
+                for (_, branch), value in zip(reversed(boxes), branches):
+                    branch[point] = {value}
+            else:
+                return f"line {at}: there are no such lines"
+        return f"{len(boxes)} cases are not closed" if boxes else None
 
 
 def judge(task, report):
@@ -115,12 +126,13 @@ def judge(task, report):
     for name, number in right.items():
         if header[name] != number:
             return None, f"{name} should be {number}"
-    body = [(i + 7, line.split(" ")) for i, line in enumerate(lines[6:-2])]
+    body = [(at, (kind, *map(int, rest))) for at, (kind, *rest) in enumerate(map(str.split, lines[6:-2]), 7)]
+    values = [value for _, (_, value) in itertools.takewhile(lambda it: it[1][0] == "m", body)]
     if lines[5] == "answer map":
-        return "map", made.wrong_map([int(words[1]) for _, words in body])
-    if not body:
-        return "none, by the header alone", None
-    return "none", made.wrong_refutation([(at, (kind, *map(int, rest))) for at, (kind, *rest) in body])
+        return "map", made.wrong_map([numbers[0] for _, (_, *numbers) in body])
+    if lines[5] == "answer least":
+        return "least", made.wrong_map(values) or made.wrong_lines(body[len(values):], values)
+    return ("none", made.wrong_lines(body)) if body else ("none, by the header alone", None)
 
 
 if __name__ == "__main__":

@@ -20,6 +20,17 @@ path_3_text = refl
 pub path_3_reads : report_of 1 (codes "wfcheck report 1\nprocesses 2\nrounds 1\npoints 4\nexecutions 5\nanswer map\nm 0\nm 3\nm 2\nm 1\nend\n") ≡ Ok path_3_report
 path_3_reads = refl
 
+-- the least map of path 2, with the lines of the search up to it
+abbrev path_2_least_report : Report
+path_2_least_report = record { processes = 2; rounds = 1; points = 4; executions = 5; body = least (0 ∷ 2 ∷ 1 ∷ 0 ∷ []) (remove 0 0 1 ∷ remove 0 0 2 ∷ remove 1 1 0 ∷ remove 1 1 1 ∷ remove 3 1 2 ∷ remove 4 0 0 ∷ branch 2 ∷ branch 3 ∷ found ∷ []) }
+
+pub path_2_least_text : report_text path_2_least_report ≡ codes "wfcheck report 1\nprocesses 2\nrounds 1\npoints 4\nexecutions 5\nanswer least\nm 0\nm 2\nm 1\nm 0\np 0 0 1\np 0 0 2\np 1 1 0\np 1 1 1\np 3 1 2\np 4 0 0\nb 2\nb 3\nf\nend\n"
+unfolding digits
+path_2_least_text = refl
+
+pub path_2_least_holds : report_fault (path 2) 1 path_2_least_report ≡ None
+path_2_least_holds = refl
+
 pub leading_zero : report_of 1 (codes "wfcheck report 1\nprocesses 2\nrounds 1\npoints 4\nexecutions 5\nanswer none\np 03 1 0\nend\n") ≡ Err 7
 leading_zero = refl
 
@@ -71,6 +82,9 @@ a_step_in_a_map = refl
 
 pub a_least_report : reads 2 (codes "answer least\nm 0\nz 0\nf\nend\n") ≡ Ok (report_with (least (0 ∷ []) (empty 0 ∷ found ∷ [])))
 a_least_report = refl
+
+pub a_value_after_the_lines : reads 2 (codes "answer least\nm 0\nz 0\nm 0\nend\n") ≡ Err 9
+a_value_after_the_lines = refl
 
 pub found_in_a_refutation : reads 2 (codes "answer none\nf\nend\n") ≡ Err 7
 found_in_a_refutation = refl
