@@ -15,7 +15,8 @@ use wf_complex::Lines;
 ///
 /// Each branch is a closed box with a candidate at every point. Each decision map in the root lies in one branch, and
 /// maps in earlier branches are below those in later ones: so the first branch that has a map has the least of all.
-/// Where none has a map, [`Cover::fill`] makes one refutation of the root from those of the branches.
+/// Where none has a map, [`Cover::fill`] makes one refutation of the root from those of the branches, and where one has,
+/// [`Cover::fill_least`] makes the lines that lead to the least map.
 ///
 /// A clause sees it as those lines, with each branch in the place of the lines that would refute it.
 #[derive(Drop)]

@@ -26,6 +26,7 @@ pub fn search(alloc: Global, problem: &Problem) -> Result<Trace, Fail> {
         };
         if let Closed::Open { .. } = close(alloc, problem, &mut sets, &mut lines)? {
             let Some(point) = sets.iter().position(|set| set.len() > 1) else {
+                lines.push(Line::F)?;
                 let map = Some(firsts(alloc, &sets)?);
                 return Ok(Trace { lines, map });
             };

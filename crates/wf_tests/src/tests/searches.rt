@@ -65,7 +65,15 @@ fn lines_of(alloc: Global, found: Found) -> Lines {
 /// The values of a map; none for another answer.
 fn values_of(alloc: Global, found: Found) -> Vec<u8> {
     match found {
-        Found::Map(values) => values,
+        Found::Map(values, _) => values,
+        _ => Vec::new(alloc),
+    }
+}
+
+/// The lines that lead to a map; none for another answer.
+fn lines_to_map(alloc: Global, found: Found) -> Lines {
+    match found {
+        Found::Map(_, lines) => lines,
         _ => Vec::new(alloc),
     }
 }
@@ -160,6 +168,30 @@ fn roots_with_a_map(rt: HostRuntime) -> Result<(), Fail> {
     Ok(())
 }
 
+// The lines of the path of length 2 after one round, up to its first map.
+fn lines_of_a_path() -> [Line; 9] {
+    [
+        lost(0, 0, 1),
+        lost(0, 0, 2),
+        lost(1, 1, 0),
+        lost(1, 1, 1),
+        lost(3, 1, 2),
+        lost(4, 0, 0),
+        Line::B { point: 2 },
+        Line::B { point: 3 },
+        Line::F,
+    ]
+}
+
+#[test]
+fn lines_that_lead_to_a_map(rt: HostRuntime) -> Result<(), Fail> {
+    let path = lines_to_map(rt.alloc(), search_root(rt.alloc(), PATH_2, 1)?);
+    assert_eq!(rt; path.as_slice(), lines_of_a_path().as_slice());
+    let at_once = lines_to_map(rt.alloc(), search_root(rt.alloc(), ONE_PROCESS, 8)?);
+    assert_eq!(rt; at_once.as_slice(), [Line::F].as_slice());
+    Ok(())
+}
+
 /// How many questions a search of the root of a task's problem after one round asks, and whether it is stopped, where
 /// so many are answered no.
 fn search_until(alloc: Global, text: &str, most: u32) -> Result<(u32, bool), Fail> {
@@ -246,6 +278,40 @@ fn a_root_without_branches_is_filled(rt: HostRuntime) -> Result<(), Fail> {
     Ok(())
 }
 
+/// The lines of the root of a task's problem after one round, with one line in the place of each of the first branches,
+/// up to the last of these; no lines where there are fewer branches.
+fn fill_first(alloc: Global, text: &str, places: &[Line]) -> Result<Lines, Fail> {
+    let problem = problem_of(alloc, text, 1)?;
+    let cover = split(alloc, &problem)?;
+    let mut lists = Vec::new(alloc);
+    for line in places {
+        lists.push(Vec::from_array(alloc, [*line])?)?;
+    }
+    Ok(fill_up_to(alloc, &cover, lists)?.unwrap_or(Vec::new(alloc)))
+}
+
+/// The lines of the root up to the last list, if there is one and no more than there are branches.
+fn fill_up_to(
+    alloc: Global,
+    cover: &Cover,
+    lists: Vec<Lines>,
+) -> Result<Option<Lines>, AllocError> {
+    if lists.is_empty() || lists.len() > cover.branches() as usize {
+        return Ok(None);
+    }
+    Ok(Some(cover.fill_least(alloc, lists)?))
+}
+
+#[test]
+fn a_root_is_filled_up_to_a_branch(rt: HostRuntime) -> Result<(), Fail> {
+    let first = fill_first(rt.alloc(), PATH_2, &[Line::F])?;
+    assert_eq!(rt; first.as_slice(), lines_of_a_path().as_slice());
+    let last = fill_first(rt.alloc(), PATH_2, &[empty(0), empty(1), Line::F])?;
+    let wanted = [empty(0), empty(1), lost(2, 1, 0), Line::F];
+    assert_eq!(rt; last.get(8..), Some(wanted.as_slice()));
+    Ok(())
+}
+
 /// What differs first between the searches of a task, up to this many rounds.
 pub fn first_difference(
     alloc: Global,
@@ -294,7 +360,9 @@ fn difference_of_branches(
 /// Whether this is what the plain search ended with.
 fn is_traced(found: &Found, trace: &Trace) -> bool {
     match (found, &trace.map) {
-        (Found::Map(values), Some(map)) => are_values(values, map),
+        (Found::Map(values, lines), Some(map)) => {
+            are_values(values, map) && lines.as_slice() == trace.lines.as_slice()
+        }
         (Found::Refuted(lines), None) => lines.as_slice() == trace.lines.as_slice(),
         _ => false,
     }
@@ -314,7 +382,8 @@ fn has_branches(alloc: Global, cover: &Cover, plain: &PlainProblem) -> Result<bo
     Ok(wanted.len() == cover.branches() as usize)
 }
 
-/// The first map of a branch, or the lines of the root, filled with those of the branches.
+/// The first map of a branch, with the lines of the root up to it; or all lines of the root, filled with those of the
+/// branches.
 fn search_cover(alloc: Global, problem: &Problem, cover: &Cover) -> Result<Option<Found>, Fail>
     requires cover { cover.now ≡ outline problem.now }
 {
@@ -322,7 +391,12 @@ fn search_cover(alloc: Global, problem: &Problem, cover: &Cover) -> Result<Optio
     for number in 0..cover.branches() {
         match search_branch(alloc, problem, cover, number)? {
             Found::Refuted(lines) => lists.push(lines)?,
-            found => return Ok(Some(found)),
+            Found::Map(values, lines) => {
+                lists.push(lines)?;
+                let filled = fill_up_to(alloc, cover, lists)?;
+                return Ok(filled.map(|lines| Found::Map(values, lines)));
+            }
+            Found::Stopped => return Ok(None),
         }
     }
     if lists.len() != cover.branches() as usize {
