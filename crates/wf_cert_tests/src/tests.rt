@@ -25,6 +25,7 @@ use changes::{CHANGES, Change, changed, line_count};
 use full::{Full, LARGE, SMALL};
 use plain::plain_task;
 use rows::ROWS;
+use tasks::PATH_3;
 
 /// A full report's text.
 const PATH_3_REPORT: &str =
@@ -247,6 +248,49 @@ fn a_map_is_written(rt: HostRuntime) -> Result<(), Fail> {
     };
     let text = write_report(rt.alloc(), &report)?;
     assert_eq!(rt; text.as_slice(), PATH_3_REPORT.as_bytes());
+    Ok(())
+}
+
+#[test]
+fn a_least_map_is_written_and_read(rt: HostRuntime) -> Result<(), Fail> {
+    let mut lines: Lines = Vec::new(rt.alloc());
+    lines.push(Line::B { point: 0 })?;
+    lines.push(Line::Z { point: 1 })?;
+    lines.push(Line::F)?;
+    let report = Report {
+        processes: 2,
+        rounds: 0,
+        points: 2,
+        executions: 3,
+        body: Body::Least(vec![in rt.alloc(); 255, 0]?, lines),
+    };
+    let text = write_report(rt.alloc(), &report)?;
+    let wanted =
+        "wfcheck report 1\nprocesses 2\nrounds 0\npoints 2\nexecutions 3\nanswer least\nm 255\nm 0\nb 0\nz 1\nf\nend\n";
+    assert_eq!(rt; text.as_slice(), wanted.as_bytes());
+    let again = read_report(rt.alloc(), &text)?;
+    assert_eq!(rt;
+        write_report(rt.alloc(), &again)?.as_slice(),
+        wanted.as_bytes()
+    );
+    Ok(())
+}
+
+#[test]
+fn no_refutation_ends_at_a_map(rt: HostRuntime) -> Result<(), Fail> {
+    let task = Task::read_text(rt.alloc(), PATH_3.as_bytes())?;
+    let protocol = Protocol::build(rt.alloc(), &task, 0)?;
+    let mut lines: Lines = Vec::new(rt.alloc());
+    lines.push(Line::F)?;
+    let report = Report {
+        processes: 2,
+        rounds: 0,
+        points: 2,
+        executions: 3,
+        body: Body::Nothing(lines),
+    };
+    let fault = check(&rt, rt.alloc(), &task, &protocol, &report).err();
+    assert_eq!(rt; fault, Some(CertFault::NotTheMap(7)));
     Ok(())
 }
 

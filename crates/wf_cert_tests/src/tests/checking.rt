@@ -1,7 +1,7 @@
 //! Checking a report step by step as it is defined: a box is a list of candidates for each point, each box that is left
 //! is copied, and each tuple is tried for each value.
 
-use super::reading::{Report, Step, put};
+use super::reading::{Answer, Report, Step, put};
 use std::alloc::{AllocError, Global};
 use wf_cert::CertFault;
 use wf_oracle::{Constraint, Problem};
@@ -28,11 +28,70 @@ pub fn check(
             return Err(CertFault::Header(line));
         }
     }
-    if report.is_map {
-        check_map(alloc, problem, &report.steps)
-    } else {
-        check_lines(alloc, problem, &report.steps)
+    match report.answer {
+        Answer::Map => check_map(alloc, problem, &report.steps),
+        Answer::Nothing => check_lines(alloc, problem, &report.steps),
+        Answer::Least => check_least(alloc, problem, &report.steps),
     }
+}
+
+/// Judges the values of a map, and then the lines of the search behind them.
+fn check_least(alloc: Global, problem: &Problem, steps: &[Step]) -> Result<(), CertFault> {
+    let mut values = Vec::new(alloc);
+    let mut search = Vec::new(alloc);
+    for (line, step) in (7..).zip(steps) {
+        match step {
+            Step::Value(_) => put(&mut values, *step)?,
+            _ => put(&mut search, (line, *step))?,
+        }
+    }
+    check_map(alloc, problem, &values)?;
+    check_search(alloc, problem, &values, &search)
+}
+
+/// Judges the lines of a search, each with its number, up to the map of these values.
+fn check_search(
+    alloc: Global,
+    problem: &Problem,
+    values: &[Step],
+    search: &[(u32, Step)],
+) -> Result<(), CertFault> {
+    let mut boxes: Vec<Sets> = Vec::new(alloc);
+    put(&mut boxes, root(alloc, problem)?)?;
+    let mut is_found = false;
+    for (line, step) in search {
+        let Some(sets) = boxes.pop() else {
+            return Err(CertFault::Trailing(*line));
+        };
+        let first = sets.iter().position(|set| set.len() > 1);
+        if is_found {
+            return Err(CertFault::Trailing(*line));
+        }
+        if matches!(step, Step::Found) && is_map(&sets, values) {
+            is_found = true;
+            put(&mut boxes, sets)?;
+            continue;
+        }
+        check_line(alloc, problem, *step, *line, sets, &mut boxes)?;
+        match step {
+            Step::Branch(point) if first != Some(*point) => return Err(CertFault::NotFirst(*line)),
+            _ => (),
+        }
+    }
+    if is_found {
+        Ok(())
+    } else {
+        Err(CertFault::Unfinished)
+    }
+}
+
+/// Whether each point has the map's value and no other.
+fn is_map(sets: &[Vec<usize>], values: &[Step]) -> bool {
+    sets.len() == values.len()
+        && sets.iter().zip(values).all(|(set, step)| match step {
+            Step::Value(value) => set.as_slice() == [*value].as_slice(),
+            _ => false,
+        })
 }
 
 /// Judges a map: its length, and then execution by execution.
@@ -86,6 +145,7 @@ fn check_line(
 ) -> Result<(), CertFault> {
     match step {
         Step::Value(_) => Err(CertFault::Syntax(line)),
+        Step::Found => Err(CertFault::NotTheMap(line)),
         Step::Removal {
             execution,
             process,

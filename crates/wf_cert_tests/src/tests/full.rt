@@ -14,7 +14,7 @@ pub struct Full {
 }
 
 /// Reports of few lines.
-pub static SMALL: [Full; 14] = [
+pub static SMALL: [Full; 15] = [
     Full {
         task: PATH_3,
         rounds: 0,
@@ -29,6 +29,11 @@ pub static SMALL: [Full; 14] = [
         task: PATH_2,
         rounds: 1,
         text: "wfcheck report 1\nprocesses 2\nrounds 1\npoints 4\nexecutions 5\nanswer map\nm 0\nm 2\nm 1\nm 0\nend\n",
+    },
+    Full {
+        task: PATH_2,
+        rounds: 1,
+        text: "wfcheck report 1\nprocesses 2\nrounds 1\npoints 4\nexecutions 5\nanswer least\nm 0\nm 2\nm 1\nm 0\np 0 0 1\np 0 0 2\np 1 1 0\np 1 1 1\np 3 1 2\np 4 0 0\nb 2\nb 3\nf\nend\n",
     },
     Full {
         task: CONSENSUS_2,

@@ -4,13 +4,21 @@
 use std::alloc::{AllocError, Global};
 use wf_cert::CertFault;
 
+/// What line 6 says that there is.
+#[derive(Clone, Copy)]
+pub enum Answer {
+    Map,
+    Nothing,
+    Least,
+}
+
 /// What a report says.
 #[derive(Drop)]
 pub struct Report {
     /// The numbers of lines 2 to 5.
     pub numbers: Vec<u32>,
-    /// Whether line 6 says that there is a map.
-    pub is_map: bool,
+    /// What line 6 says.
+    pub answer: Answer,
     /// The lines from line 7 on, without the last.
     pub steps: Vec<Step>,
 }
@@ -26,6 +34,7 @@ pub enum Step {
     },
     Empty(usize),
     Branch(usize),
+    Found,
 }
 
 /// The words before the numbers of lines 2 to 5.
@@ -44,15 +53,16 @@ pub fn read(alloc: Global, text: &str) -> Result<Report, CertFault> {
         return Err(CertFault::Syntax(1));
     }
     let numbers = header(alloc, &lines)?;
-    let is_map = match lines.get(6) {
-        Some(&"answer map") => true,
-        Some(&"answer none") => false,
+    let answer = match lines.get(6) {
+        Some(&"answer map") => Answer::Map,
+        Some(&"answer none") => Answer::Nothing,
+        Some(&"answer least") => Answer::Least,
         _ => return Err(CertFault::Syntax(6)),
     };
-    let steps = steps(alloc, &lines, rest, is_map)?;
+    let steps = steps(alloc, &lines, rest, answer)?;
     Ok(Report {
         numbers,
-        is_map,
+        answer,
         steps,
     })
 }
@@ -77,8 +87,13 @@ fn header(alloc: Global, lines: &[&str]) -> Result<Vec<u32>, CertFault> {
 }
 
 /// The lines from line 7 up to the last.
-fn steps(alloc: Global, lines: &[&str], rest: &str, is_map: bool) -> Result<Vec<Step>, CertFault> {
-    let mut steps = Vec::new(alloc);
+fn steps(
+    alloc: Global,
+    lines: &[&str],
+    rest: &str,
+    answer: Answer,
+) -> Result<Vec<Step>, CertFault> {
+    let mut steps: Vec<Step> = Vec::new(alloc);
     for at in 7..u32::MAX {
         match lines.get(at as usize) {
             None => return Err(CertFault::Syntax(at)),
@@ -90,32 +105,39 @@ fn steps(alloc: Global, lines: &[&str], rest: &str, is_map: bool) -> Result<Vec<
                     Err(CertFault::Syntax(at + 1))
                 };
             }
-            Some(line) => match step_of(alloc, line, is_map)? {
-                Some(step) => put(&mut steps, step)?,
-                None => return Err(CertFault::Syntax(at)),
+            Some(line) => match step_of(alloc, line)? {
+                Some(step) if may_follow(answer, steps.last(), step) => put(&mut steps, step)?,
+                _ => return Err(CertFault::Syntax(at)),
             },
         }
     }
     Err(CertFault::TooLong)
 }
 
+/// Whether a line may stand behind another one, or be the first, in a body of this answer.
+fn may_follow(answer: Answer, last: Option<&Step>, step: Step) -> bool {
+    match (answer, step) {
+        (Answer::Map, Step::Value(_)) => true,
+        (Answer::Map, _) | (Answer::Nothing, Step::Value(_) | Step::Found) => false,
+        (Answer::Least, Step::Value(_)) => matches!(last, None | Some(Step::Value(_))),
+        (Answer::Nothing | Answer::Least, _) => true,
+    }
+}
+
 /// What a line of a body says, if it is one.
-fn step_of(alloc: Global, line: &str, is_map: bool) -> Result<Option<Step>, AllocError> {
+fn step_of(alloc: Global, line: &str) -> Result<Option<Step>, AllocError> {
     let words = words_of(alloc, line)?;
-    Ok(match (is_map, words.as_slice()) {
-        (true, ["m", value]) => number_of(alloc, value, 255)?.map(|a| Step::Value(a as usize)),
-        (false, ["z", point]) => {
-            number_of(alloc, point, u32::MAX)?.map(|v| Step::Empty(v as usize))
-        }
-        (false, ["b", point]) => {
-            number_of(alloc, point, u32::MAX)?.map(|v| Step::Branch(v as usize))
-        }
-        (false, ["p", execution, process, value]) => {
+    Ok(match words.as_slice() {
+        ["m", value] => number_of(alloc, value, 255)?.map(|a| Step::Value(a as usize)),
+        ["z", point] => number_of(alloc, point, u32::MAX)?.map(|v| Step::Empty(v as usize)),
+        ["b", point] => number_of(alloc, point, u32::MAX)?.map(|v| Step::Branch(v as usize)),
+        ["p", execution, process, value] => {
             let execution = number_of(alloc, execution, u32::MAX)?;
             let process = number_of(alloc, process, 3)?;
             let value = number_of(alloc, value, 255)?;
             removal(execution, process, value)
         }
+        ["f"] => Some(Step::Found),
         _ => None,
     })
 }
