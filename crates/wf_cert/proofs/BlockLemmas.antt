@@ -7,8 +7,8 @@ use Rattle.std.proofs.lemmas.List.Elements.{All-head, All-tail}
 use Rattle.wf_model.specs.Box.{Box, candidates, decided, without}
 use Rattle.wf_set.specs.Sets.{values_in, box_of}
 use Rattle.wf_cert.specs.Blocks.{later, later_from}
-use Rattle.wf_cert.specs.declared.blocks.Entry.{Entry}
-use Rattle.wf_cert.specs.declared.blocks.Entry.TheVariants.{Was, Later}
+use Rattle.wf_cert.specs.declared.boxes.Entry.{Entry}
+use Rattle.wf_cert.specs.declared.boxes.Entry.TheVariants.{Was, Later}
 use Rattle.wf_model.specs.Lists.{has}
 use Rattle.wf_set.proofs.PartLaws.{filter_nothing}
 
@@ -17,7 +17,7 @@ pub later_push : (trail : List Entry) (e : Entry) (sets : List (List ℕ)) → l
 later_push trail e sets = ap (λ es. later_from es sets) (reverse-append trail (e ∷ []))
 
 -- a set is changed, and the way back has the one of before
-set_twice : (sets : List (List ℕ)) (v : ℕ) (x d : List ℕ) → slice_set (slice_set sets v x) v (get_or sets v d) ≡ sets
+pub set_twice : (sets : List (List ℕ)) (v : ℕ) (x d : List ℕ) → slice_set (slice_set sets v x) v (get_or sets v d) ≡ sets
 set_twice [] v x d = refl
 set_twice (s ∷ sets) zero x d = refl
 set_twice (s ∷ sets) (suc v) x d = ap (λ rest. s ∷ rest) (set_twice sets v x d)
@@ -46,11 +46,11 @@ set_without sets v a w set inside read is =
     ∙ ap (λ s. slice_set (box_of sets) v s) (is ∙ ap (λ w. filter (λ b. not (b == a)) (values_in w)) (set_read sets v w inside read) ∙ ap (filter (λ b. not (b == a))) (sym (set_at sets v inside)))
 
 -- the block of the least of some values is entered, and the others come later
-pub entered : (trail : List Entry) (sets : List (List ℕ)) (v : ℕ) (values : List ℕ) (a : ℕ) (set left : List ℕ) (new : List (List ℕ)) {after : List Box} → values_in set ≡ a ∷ [] → values_in values ≡ a ∷ values_in left
-    → new ≡ slice_set sets v set → after ≡ later (trail ++ Later v left ∷ []) sets
+pub entered : (trail : List Entry) (sets : List (List ℕ)) (v low : ℕ) (values : List ℕ) (a : ℕ) (set left : List ℕ) (new : List (List ℕ)) {after : List Box} → values_in set ≡ a ∷ [] → values_in values ≡ a ∷ values_in left
+    → new ≡ slice_set sets v set → after ≡ later (trail ++ Later v low left ∷ []) sets
     → box_of new ∷ after ≡ map (decided (box_of sets) v) (values_in values) ++ later trail sets
-entered trail sets v values a set left new alone split is so =
-    (λ i. (ap box_of is ∙ one_value sets v a set alone) i ∷ (so ∙ later_push trail (Later v left) sets) i)
+entered trail sets v low values a set left new alone split is so =
+    (λ i. (ap box_of is ∙ one_value sets v a set alone) i ∷ (so ∙ later_push trail (Later v low left) sets) i)
     ∙ ap (λ vs. map (decided (box_of sets) v) vs ++ later trail sets) (sym split)
 
 -- where the set has no such value, nothing changes

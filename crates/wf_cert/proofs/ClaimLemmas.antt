@@ -9,7 +9,7 @@ use Rattle.wf_complex.specs.declared.line.Line as line
 use Rattle.wf_cert.specs.Blocks.{box_now, boxes_later}
 use Rattle.wf_cert.specs.Claims.{Leaves, fault_left, lines_fault, verdict_on}
 use Rattle.wf_cert.specs.Faults.{Fails, IsFault, Judges}
-use Rattle.wf_cert.specs.declared.blocks.Blocks.{Blocks}
+use Rattle.wf_cert.specs.declared.boxes.Blocks.{Blocks}
 use Rattle.wf_cert.specs.declared.fault.CertFault.{CertFault}
 use Rattle.wf_cert.specs.declared.fault.CertFault.TheVariants.{TooLong, Syntax, Header, MapLength, Violates, NoSuch, Unsound, NotEmpty, NotOpen, Unfinished, Trailing, NotFirst, NotTheMap, OutOfMemory}
 use Rattle.wf_cert.specs.declared.judge.Claim.{Claim}

@@ -41,7 +41,7 @@ prefix_all q (x ∷ xs) d all =
 
 -- no point below this one has two candidates
 abbrev pub IsSettled : ℕ → List (List ℕ) → Type 0
-IsSettled low sets = (v : ℕ) → v < low → nat_lt 1 (length (values_in (get_or sets v []))) ≡ false
+IsSettled low sets = (v : ℕ) → v < low → v < length sets → nat_lt 1 (length (values_in (get_or sets v []))) ≡ false
 
 pub two_at : (sets : List (List ℕ)) (v : ℕ) (set : List ℕ) → v < length sets → set ≡ get_or sets v set → nat_lt 1 (length (values_in (get_or sets v []))) ≡ nat_lt 1 (length (values_in set))
 two_at sets v set low read = ap (λ s. nat_lt 1 (length (values_in s))) (sym (set_read sets v set low read))
@@ -49,13 +49,13 @@ two_at sets v set low read = ap (λ s. nat_lt 1 (length (values_in s))) (sym (se
 pub first_open_is : (sets : List (List ℕ)) (v : ℕ) → v < length sets → IsSettled v sets → nat_lt 1 (length (values_in (get_or sets v []))) ≡ true → first_open (box_of sets) ≡ Some v
 first_open_is sets v low below here =
     position-map values_in (λ set. nat_lt 1 (length set)) sets
-    ∙ ap (λ k. cond (nat_lt k (length sets)) (Some k) None) (prefix_there (λ set. nat_lt 1 (length (values_in set))) sets v [] low below here)
+    ∙ ap (λ k. cond (nat_lt k (length sets)) (Some k) None) (prefix_there (λ set. nat_lt 1 (length (values_in set))) sets v [] low (λ k h. below k h (omega (arith, h, low))) here)
     ∙ ap (λ t. cond t (Some v) None) (lt-ltb v (length sets) low)
 
 pub none_open : (sets : List (List ℕ)) (n : ℕ) → length sets ≤ n → IsSettled n sets → first_open (box_of sets) ≡ None
 none_open sets n all below =
     position-map values_in (λ set. nat_lt 1 (length set)) sets
-    ∙ ap (λ k. cond (nat_lt k (length sets)) (Some k) None) (prefix_all (λ set. nat_lt 1 (length (values_in set))) sets [] (λ k h. below k (omega (arith, h, all))))
+    ∙ ap (λ k. cond (nat_lt k (length sets)) (Some k) None) (prefix_all (λ set. nat_lt 1 (length (values_in set))) sets [] (λ k h. below k (omega (arith, h, all)) h))
     ∙ ap (λ t. cond t (Some (length sets)) None) (le-ltb (length sets) (length sets) (omega arith))
 
 run_is : {X : Type 0} (f : ℕ → X) (a : ℕ) (xs : List X) (d : X) → ((i : ℕ) → i < length xs → f (a + i) ≡ get_or xs i d) → map f (range_with_len a (length xs)) ≡ xs

@@ -5,6 +5,7 @@ pub mod ExecutionLemmas
 pub mod RootLemmas
 pub mod ClaimLemmas
 pub mod FirstLemmas
+pub mod SettledLemmas
 pub mod ByteLemmas
 pub mod ReadLemmas
 pub mod LineLemmas

@@ -6,7 +6,7 @@ use Rattle.wf_model.specs.Refutation.{Line, found}
 use Rattle.wf_model.specs.Check.{Refusal, Verdict, first_fault, first_least_fault, first_trailing, is_point, least_verdict, verdict}
 use Rattle.wf_cert.specs.Blocks.{box_now, boxes_later}
 use Rattle.wf_cert.specs.Faults.{Fails}
-use Rattle.wf_cert.specs.declared.blocks.Blocks.{Blocks}
+use Rattle.wf_cert.specs.declared.boxes.Blocks.{Blocks}
 use Rattle.wf_cert.specs.declared.fault.CertFault.{CertFault}
 use Rattle.wf_cert.specs.declared.judge.Claim.{Claim}
 use Rattle.wf_cert.specs.declared.judge.Claim.TheVariants.{Nothing, Least}

@@ -1,6 +1,7 @@
 pub mod Reports
 pub mod Faults
 pub mod Blocks
+pub mod Settled
 pub mod Claims
 pub mod Places
 pub mod Reading

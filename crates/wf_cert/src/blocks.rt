@@ -12,36 +12,9 @@ ghost use Rattle.wf_model.specs.Check.{is_exactly};
 ghost use Rattle.wf_set.specs.Sets.{values_in};
 ghost use Rattle.wf_cert.specs.Blocks.{box_now, boxes_later, boxes_left, HasSamePoints};
 
+use crate::boxes::{Blocks, Entry};
 use std::alloc::{AllocError, Global};
 use wf_set::{Mask, has_two, holds, is_empty, only, split_first, without};
-
-/// A step of the way back.
-#[derive(Clone, Copy, Debug, Drop)]
-enum Entry {
-    /// The point had this set before.
-    Was {
-        /// The number of the point.
-        point: u32,
-        /// Its candidates.
-        set: Mask,
-    },
-    /// The point branches, and the blocks of these values are still to come.
-    Later {
-        /// The number of the point.
-        point: u32,
-        /// The values.
-        values: Mask,
-    },
-}
-
-/// The box of now, and the way back to the boxes that are still to come.
-#[derive(Drop)]
-pub(crate) struct Blocks {
-    // the candidates of each point
-    sets: Vec<Mask>,
-    // the last step was taken last
-    trail: Vec<Entry>,
-}
 
 impl Blocks {
     /// One block, about the box with these values at so many points.
@@ -52,6 +25,7 @@ impl Blocks {
         Ok(Blocks {
             sets: vec![in alloc; values; points as usize]?,
             trail: Vec::new(alloc),
+            low: 0,
         })
     }
 
@@ -68,8 +42,9 @@ impl Blocks {
         ensures sets { self.new.sets ≡ self.old.sets }
         ensures later { boxes_later self.new ≡ boxes_later self.old }
     {
-        for point in 0..self.sets.len() {
+        for point in self.low..self.sets.len() {
             if has_two(self.sets[point]) {
+                self.low = point;
                 return Some(point);
             }
         }
@@ -132,8 +107,12 @@ impl Blocks {
     {
         'back: while let Some(entry) = self.trail.pop() {
             match entry {
-                Entry::Was { point, set } => self.put_back(point, set),
-                Entry::Later { point, values } => {
+                Entry::Was { point, set } => {
+                    put_back(&mut self.sets, point, set);
+                    self.low = self.low.min(point as usize);
+                }
+                Entry::Later { point, low, values } => {
+                    self.low = low;
                     if !is_empty(values) {
                         self.enter(point, values)?;
                         return Ok(true);
@@ -157,6 +136,7 @@ impl Blocks {
         let (value, others) = split;
         self.trail.push(Entry::Later {
             point,
+            low: self.low,
             values: others,
         })?;
         self.change(point, only(value))?;
@@ -173,18 +153,18 @@ impl Blocks {
             let before = self.sets[point as usize];
             self.trail.push(Entry::Was { point, set: before })?;
             self.sets[point as usize] = set;
+            self.low = self.low.min(point as usize);
         }
         Ok(())
     }
+}
 
-    /// Gives a point its set of before.
-    fn put_back(&mut self, point: u32, set: Mask)
-        ensures sets { self.new.sets.items ≡ slice_set self.old.sets.items point set }
-        ensures trail { self.new.trail ≡ self.old.trail }
-    {
-        if (point as usize) < self.sets.len() {
-            self.sets[point as usize] = set;
-        }
+/// Gives a point its set of before.
+fn put_back(sets: &mut Vec<Mask>, point: u32, set: Mask)
+    ensures { sets.new.items ≡ slice_set sets.old.items point set }
+{
+    if (point as usize) < sets.len() {
+        sets[point as usize] = set;
     }
 }
 

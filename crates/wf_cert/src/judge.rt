@@ -15,7 +15,7 @@ ghost use Rattle.wf_cert.specs.Places.{place_in, unless_supported};
 ghost use Rattle.wf_cert.specs.Faults.{Judges, Steps};
 ghost use Rattle.wf_cert.specs.Groups.{AreGrouped};
 
-use crate::blocks::Blocks;
+use crate::boxes::Blocks;
 use crate::fault::CertFault;
 use crate::groups::{group_rules, tuples_with};
 use crate::support::is_supported;

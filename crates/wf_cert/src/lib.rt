@@ -5,6 +5,7 @@
 #![tactic(auto)]
 
 mod blocks;
+mod boxes;
 mod bytes;
 mod checking;
 mod fault;

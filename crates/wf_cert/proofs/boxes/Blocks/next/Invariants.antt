@@ -1,6 +1,6 @@
 use Rattle.std.proofs.Common.{◌≡◌, vec_len, length}
 use Rattle.wf_cert.specs.Blocks.{boxes_later}
-use Rattle.wf_cert.proofs.blocks.Blocks.next.Given as goal
+use Rattle.wf_cert.proofs.boxes.Blocks.next.Given as goal
 
 abbrev pub invariant-back : goal.invariant-back
 invariant-back l = (boxes_later l.self ≡ boxes_later l.initial.self) × (length l.self.sets.items ≡ length l.initial.self.sets.items)

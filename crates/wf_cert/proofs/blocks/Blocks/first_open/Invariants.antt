@@ -1,5 +1,0 @@
-use Rattle.wf_cert.proofs.FirstLemmas.{IsSettled}
-use Rattle.wf_cert.proofs.blocks.Blocks.first_open.Given as goal
-
-abbrev pub invariant-loop-point : goal.invariant-loop-point
-invariant-loop-point l = IsSettled l.point l.self.sets.items
