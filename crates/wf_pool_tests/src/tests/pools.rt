@@ -11,10 +11,47 @@ use wf_box::Problem;
 use wf_complex::Line;
 use wf_core::Account;
 use wf_handout::{Counter, Handout, Stealing};
-use wf_pool::{Answer, MAX_WORKERS, Open, solve, solve_one};
+use wf_pool::{Answer, MAX_WORKERS, MapLines, Open, solve, solve_one};
 
 // The least map of `PATH_2` after one round.
 const MAP: [u8; 4] = [0, 2, 1, 0];
+
+// The lines that lead to it.
+const MAP_LINES: [Line; 9] = [
+    Line::P {
+        execution: 0,
+        process: 0,
+        value: 1,
+    },
+    Line::P {
+        execution: 0,
+        process: 0,
+        value: 2,
+    },
+    Line::P {
+        execution: 1,
+        process: 1,
+        value: 0,
+    },
+    Line::P {
+        execution: 1,
+        process: 1,
+        value: 1,
+    },
+    Line::P {
+        execution: 3,
+        process: 1,
+        value: 2,
+    },
+    Line::P {
+        execution: 4,
+        process: 0,
+        value: 0,
+    },
+    Line::B { point: 2 },
+    Line::B { point: 3 },
+    Line::F,
+];
 
 // Of its three branches the first one was searched, and the others cut.
 const FIRST_ALONE: Account = Account {
@@ -34,17 +71,22 @@ const AGREEMENT_ACCOUNT: Account = Account {
     cut: 0,
 };
 
-fn is_map(answer: &Answer, wanted: &[u8]) -> bool {
+// Whether the answer is `MAP`, with the lines that lead to it if they are kept.
+fn is_map(answer: &Answer, kept: MapLines) -> bool {
+    let wanted: &[Line] = match kept {
+        MapLines::Kept => &MAP_LINES,
+        MapLines::Dropped => &[],
+    };
     match answer {
-        Answer::Map(map) => map.as_slice() == wanted,
+        Answer::Map(map, lines) => map.as_slice() == MAP.as_slice() && lines.as_slice() == wanted,
         Answer::Nothing(_) => false,
     }
 }
 
-// The lines, or none where the answer is a map.
+// The lines that refute, or none where the answer is a map.
 fn lines_of(answer: &Answer) -> &[Line] {
     match answer {
-        Answer::Map(_) => &[],
+        Answer::Map(_, _) => &[],
         Answer::Nothing(lines) => lines.as_slice(),
     }
 }
@@ -52,16 +94,18 @@ fn lines_of(answer: &Answer) -> &[Line] {
 #[test]
 fn one_worker_stops_at_the_first_map(rt: HostRuntime) -> Result<(), Fail> {
     let problem = problem_of(rt.alloc(), PATH_2, 1)?;
-    let (answer, account) = solve_one(rt.alloc(), &problem)?;
-    assert!(rt; is_map(&answer, &MAP));
-    assert_eq!(rt; account, FIRST_ALONE);
+    for kept in [MapLines::Kept, MapLines::Dropped] {
+        let (answer, account) = solve_one(rt.alloc(), &problem, kept)?;
+        assert!(rt; is_map(&answer, kept));
+        assert_eq!(rt; account, FIRST_ALONE);
+    }
     Ok(())
 }
 
 #[test]
 fn a_root_without_branches(rt: HostRuntime) -> Result<(), Fail> {
     let problem = problem_of(rt.alloc(), CONSENSUS_2, 0)?;
-    let (answer, account) = solve_one(rt.alloc(), &problem)?;
+    let (answer, account) = solve_one(rt.alloc(), &problem, MapLines::Kept)?;
     let wanted = [
         Line::P {
             execution: 0,
@@ -88,23 +132,41 @@ fn a_root_without_branches(rt: HostRuntime) -> Result<(), Fail> {
         cut: 0,
     };
     assert_eq!(rt; account, none);
-    let (answer, account) = solve::<_, Stealing, _>(&rt, rt.alloc(), &problem, MAX_WORKERS, &Open)?;
+    let (answer, account) = solve::<_, Stealing, _>(
+        &rt,
+        rt.alloc(),
+        &problem,
+        MAX_WORKERS,
+        MapLines::Dropped,
+        &Open,
+    )?;
     assert_eq!(rt; lines_of(&answer), wanted.as_slice());
     assert_eq!(rt; account, none);
     Ok(())
 }
 
-// The same lines for one, two and eight workers, and nothing is cut.
+// How many workers, and whether the lines that lead to a map are kept.
+const RUNS: [(u32, MapLines); 6] = [
+    (1, MapLines::Kept),
+    (1, MapLines::Dropped),
+    (2, MapLines::Kept),
+    (2, MapLines::Dropped),
+    (8, MapLines::Kept),
+    (8, MapLines::Dropped),
+];
+
+// The same answers in each of these runs: these lines, and nothing is cut; and the least map of another problem.
 fn refutes<R: Threads + Sync + Abort, H: Handout>(
     rt: &R,
     alloc: Global,
     problem: &Problem,
     wanted: &[Line],
 ) -> Result<(), Fail> {
-    for workers in [1, 2, 8] {
-        let (answer, account) = solve::<R, H, Open>(rt, alloc, problem, workers, &Open)?;
+    for (workers, kept) in RUNS {
+        let (answer, account) = solve::<R, H, Open>(rt, alloc, problem, workers, kept, &Open)?;
         assert_eq!(rt; lines_of(&answer), wanted);
         assert_eq!(rt; account, AGREEMENT_ACCOUNT);
+        account_under::<R, H>(rt, alloc, workers, kept, &Hold::new(Rule::Nobody))?;
     }
     Ok(())
 }
@@ -112,7 +174,7 @@ fn refutes<R: Threads + Sync + Abort, H: Handout>(
 #[test]
 fn lines_are_the_same_for_any_number_of_workers(rt: HostRuntime) -> Result<(), Fail> {
     let problem = problem_of(rt.alloc(), AGREEMENT_3_2, 1)?;
-    let (answer, account) = solve_one(rt.alloc(), &problem)?;
+    let (answer, account) = solve_one(rt.alloc(), &problem, MapLines::Kept)?;
     let lines = lines_of(&answer);
     assert_eq!(rt; account, AGREEMENT_ACCOUNT);
     assert_eq!(rt; lines.len(), AGREEMENT_LINES);
@@ -125,13 +187,14 @@ fn account_under<R: Threads + Sync + Abort, H: Handout>(
     rt: &R,
     alloc: Global,
     workers: u32,
+    kept: MapLines,
     gate: &Hold,
 ) -> Result<Account, Fail>
     requires { (0 < workers) × (workers ≤ MAX_WORKERS) }
 {
     let problem = problem_of(alloc, PATH_2, 1)?;
-    let (answer, account) = solve::<R, H, Hold>(rt, alloc, &problem, workers, gate)?;
-    assert!(rt; is_map(&answer, &MAP));
+    let (answer, account) = solve::<R, H, Hold>(rt, alloc, &problem, workers, kept, gate)?;
+    assert!(rt; is_map(&answer, kept));
     assert!(rt; !gate.has_given_up());
     Ok(account)
 }
@@ -141,9 +204,15 @@ fn goes_on_beside_one_that_is_held<R: Threads + Sync + Abort, H: Handout>(
     rt: &R,
     alloc: Global,
 ) -> Result<(), Fail> {
-    let account = account_under::<R, H>(rt, alloc, 1, &Hold::new(Rule::Nobody))?;
+    let account = account_under::<R, H>(rt, alloc, 1, MapLines::Dropped, &Hold::new(Rule::Nobody))?;
     assert_eq!(rt; account, FIRST_ALONE);
-    let account = account_under::<R, H>(rt, alloc, 2, &Hold::new(Rule::FirstTaker))?;
+    let account = account_under::<R, H>(
+        rt,
+        alloc,
+        2,
+        MapLines::Kept,
+        &Hold::new(Rule::FirstTaker),
+    )?;
     assert_eq!(rt; account.branches, 3);
     Ok(())
 }
@@ -160,7 +229,7 @@ fn cuts_without_a_turn<R: Threads + Sync + Abort, H: Handout>(
     alloc: Global,
 ) -> Result<(), Fail> {
     let gate = Hold::new(Rule::LaterBranches);
-    let account = account_under::<R, H>(rt, alloc, 3, &gate)?;
+    let account = account_under::<R, H>(rt, alloc, 3, MapLines::Kept, &gate)?;
     assert_eq!(rt; account, FIRST_ALONE);
     assert!(rt; !gate.had_turn(1) && !gate.had_turn(2));
     Ok(())
@@ -178,7 +247,7 @@ fn searches_two_at_once<R: Threads + Sync + Abort, H: Handout>(
     alloc: Global,
 ) -> Result<(), Fail> {
     let gate = Hold::new(Rule::FirstTurns);
-    let account = account_under::<R, H>(rt, alloc, 2, &gate)?;
+    let account = account_under::<R, H>(rt, alloc, 2, MapLines::Kept, &gate)?;
     let wanted = Account {
         branches: 3,
         least: 0,
@@ -204,7 +273,7 @@ fn needs_no_thread<R: Threads + Sync + Abort, H: Handout>(
 ) -> Result<(), Fail> {
     for workers in [3, MAX_WORKERS] {
         let gate = Hold::without(Barred::All);
-        let account = account_under::<R, H>(rt, alloc, workers, &gate)?;
+        let account = account_under::<R, H>(rt, alloc, workers, MapLines::Dropped, &gate)?;
         assert_eq!(rt; account, FIRST_ALONE);
         assert_eq!(rt; gate.starts(), 2);
     }
@@ -226,12 +295,19 @@ fn needs_no_worker<R: Threads + Sync + Abort, H: Handout>(
 ) -> Result<(), Fail> {
     for barred in [Barred::Worker(1), Barred::Worker(2), Barred::All] {
         let gate = Hold::without(barred);
-        let account = account_under::<R, H>(rt, alloc, 3, &gate)?;
+        let account = account_under::<R, H>(rt, alloc, 3, MapLines::Kept, &gate)?;
         assert_eq!(rt; (account.branches, account.least), (3, 0));
         assert!(rt; account.searched > 0 && account.searched <= 3);
         assert_eq!(rt; account.cut, 3 - account.searched);
         assert_eq!(rt; gate.starts(), 2);
-        let (answer, account) = solve::<R, H, Hold>(rt, alloc, refuted, 3, &gate)?;
+        let (answer, account) = solve::<R, H, Hold>(
+            rt,
+            alloc,
+            refuted,
+            3,
+            MapLines::Dropped,
+            &gate,
+        )?;
         assert_eq!(rt; lines_of(&answer), lines);
         assert_eq!(rt; account, AGREEMENT_ACCOUNT);
         assert_eq!(rt; gate.starts(), 4);
@@ -242,14 +318,14 @@ fn needs_no_worker<R: Threads + Sync + Abort, H: Handout>(
 #[test]
 fn some_workers_that_may_not_start(rt: HostRuntime) -> Result<(), Fail> {
     let problem = problem_of(rt.alloc(), AGREEMENT_3_2, 1)?;
-    let (answer, _) = solve_one(rt.alloc(), &problem)?;
+    let (answer, _) = solve_one(rt.alloc(), &problem, MapLines::Kept)?;
     let lines = lines_of(&answer);
     assert_eq!(rt; lines.len(), AGREEMENT_LINES);
     needs_no_worker::<_, Counter>(&rt, rt.alloc(), &problem, lines)?;
     needs_no_worker::<_, Stealing>(&rt, rt.alloc(), &problem, lines)
 }
 
-// The same map a thousand times, by three workers and by as many as may be asked for.
+// The same map and lines a thousand times, by three workers and by as many as may be asked for.
 fn finds_the_least_map<R: Threads + Sync + Abort, H: Handout>(
     rt: &R,
     alloc: Global,
@@ -257,8 +333,15 @@ fn finds_the_least_map<R: Threads + Sync + Abort, H: Handout>(
     let problem = problem_of(alloc, PATH_2, 1)?;
     for turn in 0..1000u32 {
         let workers = if turn % 100 == 0 { MAX_WORKERS } else { 3 };
-        let (answer, account) = solve::<R, H, Open>(rt, alloc, &problem, workers, &Open)?;
-        assert!(rt; is_map(&answer, &MAP));
+        let (answer, account) = solve::<R, H, Open>(
+            rt,
+            alloc,
+            &problem,
+            workers,
+            MapLines::Kept,
+            &Open,
+        )?;
+        assert!(rt; is_map(&answer, MapLines::Kept));
         assert_eq!(rt; (account.branches, account.least), (3, 0));
         assert!(rt; account.searched > 0 && account.searched <= 3);
         assert_eq!(rt; account.cut, 3 - account.searched);
