@@ -22,9 +22,10 @@ use wf_task::Task;
 ///
 /// The protocol has to be that of the task. The header is judged first. A map is accepted where it is a decision map,
 /// and lines where they are those of a refutation of the box with all values at all points; so where lines are accepted
-/// there is no decision map. A map with lines is accepted where it is a decision map and the lines are those of a search
-/// of that box that refutes all smaller candidates and ends at the map; so no decision map is smaller. A map is looked
-/// at in several threads; lines are read one after another. Refused for out of memory only where a growth was refused.
+/// there is no decision map. A map with lines is accepted where it is a decision map, and the lines are those of a
+/// search of that box that refutes all smaller candidates and ends at the map; so no decision map is smaller. A map is
+/// looked at in several threads; lines are read one after another. Refused for out of memory only where a growth was
+/// refused.
 pub fn check<R: Threads + Sync>(
     rt: &R,
     alloc: Global,

@@ -167,7 +167,8 @@ fn judge_branch(
 ) -> Result<(), CertFault>
     requires long { length blocks.old.sets.items ≡ length protocol.now.points }
     ensures step { (p : Problem) → p.points ≡ length protocol.now.points →
-        Steps result (verdict_on p claim.entry at (branch point) (box_now blocks.old) (boxes_later blocks.old))
+        let box = box_now blocks.old in let boxes = boxes_later blocks.old in
+        Steps result (verdict_on p claim.entry at (branch point) box boxes)
         (λ _. boxes_left true blocks.new) }
     ensures points { HasSamePoints blocks.old blocks.new }
 {
@@ -201,7 +202,8 @@ fn is_branch_of(claim: Claim, point: u32, blocks: &mut Blocks) -> bool
 
 /// Ends the search, if a map is claimed and the box of now has that map alone.
 fn judge_end(claim: Claim, at: u32, blocks: &Blocks) -> Result<(), CertFault>
-    ensures { (p : Problem) → Ends result p claim.entry at (box_now blocks.now) (boxes_later blocks.now) }
+    ensures { (p : Problem) →
+        Ends result p claim.entry at (box_now blocks.now) (boxes_later blocks.now) }
 {
     match claim {
         Claim::Nothing => Err(CertFault::NotTheMap(at)),
