@@ -13,3 +13,4 @@ pub mod BoxLemmas
 pub mod JoinLemmas
 pub mod SeenLemmas
 pub mod StandLemmas
+pub mod KeptLemmas

@@ -7,6 +7,7 @@ use Rattle.wf_model.specs.Closing.{sweep}
 use Rattle.wf_model.specs.Laws.{IsBoxOf}
 use Rattle.wf_set.specs.Sets.{box_of, values_in}
 use Rattle.wf_box.specs.Changes.{KeepsTrack}
+use Rattle.wf_box.specs.Kept.{box_kept}
 use Rattle.wf_box.specs.Limits.{most_points}
 use Rattle.wf_box.specs.declared.tracked.Change.{Change}
 use Rattle.wf_box.specs.declared.boxed.Box0.TheInside.{Inside}
@@ -78,7 +79,7 @@ pub record IsKeptBox (b : Inside) : Type 0 where
 
 -- a box without a change to take back
 abbrev pub snapshot_seen : snapshot.Inside → Tracked
-snapshot_seen s = record { sets = box_of s.sets.items; trail = []; closed = closed_if s.is_closed 0 }
+snapshot_seen s = record { sets = box_kept s.sets; trail = []; closed = closed_if s.is_closed 0 }
 
 abbrev pub IsKeptSnapshot : snapshot.Inside → Type 0
-IsKeptSnapshot s = length s.sets.items ≤ most_points
+IsKeptSnapshot s = length (box_kept s.sets) ≤ most_points

@@ -9,3 +9,4 @@ pub mod Changes
 pub mod Quiet
 pub mod Stands
 pub mod Boxes
+pub mod Kept

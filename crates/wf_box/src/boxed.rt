@@ -10,6 +10,7 @@ ghost use Rattle.wf_box.specs.Boxes.{Grows, IsFor, WasClosed, box_after, closed_
 ghost use Rattle.wf_box.specs.Least.{least_values};
 ghost use Rattle.wf_box.specs.Limits.{most_points};
 
+use crate::kept::KeptSets;
 use crate::marks::Marks;
 use crate::problem::Problem;
 use crate::snapshot::Snapshot;
@@ -96,10 +97,9 @@ impl Box0 {
         ensures open { self.now.closed ≢ Some (length self.now.trail)
             → IfOk result (λ kept. kept.closed ≡ None) }
     {
-        let words = self.tracked.words.as_slice();
         let is_closed = self.is_closed();
         Ok(Snapshot {
-            sets: words.to_vec(alloc)?,
+            sets: KeptSets::of(alloc, &self.tracked.words)?,
             is_closed,
         })
     }

@@ -9,6 +9,7 @@
 
 mod boxed;
 mod closing;
+mod kept;
 mod marks;
 mod problem;
 mod snapshot;

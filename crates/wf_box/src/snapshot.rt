@@ -4,12 +4,11 @@ ghost use Rattle.std.specs.Prelude.{◌≡◌, ◌≤◌, IfOk};
 ghost use Rattle.wf_model.specs.Box.{first_open};
 
 use crate::boxed::Box0;
+use crate::kept::KeptSets;
 use crate::marks::Marks;
 use crate::tracked::Tracked;
 use std::alloc::{AllocError, Global};
 use std::marker::Model;
-use wf_lane::first_open;
-use wf_set::Mask;
 
 /// The candidates of a box at one moment, which change no more. It takes less memory than the box, and the box can be
 /// made of it again: [`Box0::keep`] and [`Snapshot::to_box`].
@@ -18,7 +17,7 @@ use wf_set::Mask;
 #[derive(Drop)]
 pub struct Snapshot {
     // for each point its candidates
-    pub(crate) sets: Vec<Mask>,
+    pub(crate) sets: KeptSets,
     // whether nothing had changed since the box was closed
     pub(crate) is_closed: bool,
 }
@@ -38,7 +37,7 @@ impl Snapshot {
     pub fn to_box(&self, alloc: Global) -> Result<Box0, AllocError>
         ensures { IfOk result (λ boxed. boxed ≡ self.now) }
     {
-        let sets = self.sets.as_slice().to_vec(alloc)?;
+        let sets = self.sets.to_sets(alloc)?;
         Ok(Box0 {
             tracked: Tracked::new(alloc, sets)?,
             closed: if self.is_closed { Some(0) } else { None },
@@ -50,7 +49,7 @@ impl Snapshot {
     pub fn first_open(&self) -> Option<u32>
         ensures { result ≡ first_open self.now.sets }
     {
-        match first_open(&self.sets) {
+        match self.sets.first_open() {
             Some(point) => Some(point as u32),
             None => None,
         }

@@ -1,0 +1,109 @@
+//! The sets of a box that waits, in as little memory as they need.
+
+ghost use Rattle.std.specs.Prelude.{◌≡◌, length, map, nat_lt, filter, IfOk};
+ghost use Rattle.std.specs.List.{list_all};
+ghost use Rattle.wf_model.specs.Box.{first_open};
+ghost use Rattle.wf_set.specs.Parts.{part_limit, part_values};
+ghost use Rattle.wf_set.specs.Sets.{box_of, values_in};
+ghost use Rattle.wf_box.specs.Kept.{box_kept, is_narrow, is_one_word};
+
+use std::alloc::{AllocError, Global};
+use wf_lane::first_open;
+use wf_set::part::{self, Part};
+use wf_set::{Mask, first_part, of_part};
+
+/// A set for each point.
+#[derive(Drop)]
+pub(crate) enum KeptSets {
+    /// Each value is below 64: one machine word a set.
+    Narrow(Vec<Part>),
+    /// Some value is not: four machine words a set.
+    Wide(Vec<Mask>),
+}
+
+impl KeptSets {
+    /// These sets, in one machine word each where no set needs more.
+    pub(crate) fn of(alloc: Global, sets: &[Mask]) -> Result<KeptSets, AllocError>
+        ensures sets { IfOk result (λ kept. box_kept kept ≡ box_of sets.now) }
+        ensures narrow { IfOk result (λ kept. is_one_word kept ≡ list_all is_narrow (box_of sets.now)) }
+    {
+        if are_narrow(sets) {
+            Ok(KeptSets::Narrow(narrowed(alloc, sets)?))
+        } else {
+            Ok(KeptSets::Wide(sets.to_vec(alloc)?))
+        }
+    }
+
+    /// The sets again, in four machine words each.
+    pub(crate) fn to_sets(&self, alloc: Global) -> Result<Vec<Mask>, AllocError>
+        ensures { IfOk result (λ sets. box_of sets.items ≡ box_kept self.now) }
+    {
+        match self {
+            KeptSets::Narrow(parts) => widened(alloc, parts),
+            KeptSets::Wide(sets) => sets.as_slice().to_vec(alloc),
+        }
+    }
+
+    /// The position of the first set of two values or more.
+    pub(crate) fn first_open(&self) -> Option<usize>
+        ensures { result ≡ first_open (box_kept self.now) }
+    {
+        match self {
+            KeptSets::Narrow(parts) => first_open_part(parts),
+            KeptSets::Wide(sets) => first_open(sets),
+        }
+    }
+}
+
+/// Whether each value of each set is below 64.
+fn are_narrow(sets: &[Mask]) -> bool
+    ensures { result ≡ list_all is_narrow (box_of sets.now) }
+{
+    for set in sets {
+        if !is_narrow(*set) {
+            return false;
+        }
+    }
+    true
+}
+
+/// Whether each value of the set is below 64.
+fn is_narrow(set: Mask) -> bool
+    ensures { result ≡ is_narrow (values_in set) }
+{
+    wf_set::count(set) == part::count(first_part(set))
+}
+
+/// The values below 64 of each set.
+fn narrowed(alloc: Global, sets: &[Mask]) -> Result<Vec<Part>, AllocError>
+    ensures { IfOk result (λ parts. map part_values parts.items ≡ map (filter (λ v. nat_lt v part_limit)) (box_of sets.now)) }
+{
+    let mut parts = Vec::with_capacity(alloc, sets.len())?;
+    for set in sets {
+        parts.push_reserved(first_part(*set));
+    }
+    Ok(parts)
+}
+
+/// The sets of these parts.
+fn widened(alloc: Global, parts: &[Part]) -> Result<Vec<Mask>, AllocError>
+    ensures { IfOk result (λ sets. box_of sets.items ≡ map part_values parts.now) }
+{
+    let mut sets = Vec::with_capacity(alloc, parts.len())?;
+    for part in parts {
+        sets.push_reserved(of_part(*part));
+    }
+    Ok(sets)
+}
+
+/// The position of the first part of two values or more; none where each has one at most.
+fn first_open_part(parts: &[Part]) -> Option<usize>
+    ensures { result ≡ first_open (map part_values parts.now) }
+{
+    for i in 0..parts.len() {
+        if part::count(parts[i]) > 1 {
+            return Some(i);
+        }
+    }
+    None
+}
