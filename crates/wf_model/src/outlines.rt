@@ -1,17 +1,16 @@
 //! Laws of outlines: they leave out the branches, and are filled with refutations of these.
 
-ghost use Rattle.std.specs.Prelude.{◌≡◌, ◌≤◌, ℕ, List, length};
+ghost use Rattle.std.specs.Prelude.{ℕ, List};
 ghost use Rattle.wf_model.specs.Problem.{Problem};
 ghost use Rattle.wf_model.specs.Refutation.{Line};
-ghost use Rattle.wf_model.specs.Split.{most_branches, most_values, split};
-ghost use Rattle.wf_model.specs.Outline.{boxes_left_out, outline};
 ghost use Rattle.wf_model.specs.Laws.{IsCanonicalOnceFilled, LeadsToMapOnceFilled, RefutesOnceFilled};
+ghost use Rattle.wf_model.specs.Laws.Outlines.{OutlinesLeaveOutTheBranches, BranchesAreFew};
 
 /// What the outline of a problem leaves out are the branches of the problem, and with at most 256 values these are at
 /// most 63 times 256.
 pub fn an_outline_leaves_out_the_branches()
-    ensures branches { (p : Problem) → boxes_left_out (outline p) ≡ split p }
-    ensures few { (p : Problem) → length p.values ≤ most_values → length (split p) ≤ most_branches }
+    ensures branches { OutlinesLeaveOutTheBranches }
+    ensures few { BranchesAreFew }
 {}
 
 /// With lines that refute the branches in their places, the outline's lines refute the root.
