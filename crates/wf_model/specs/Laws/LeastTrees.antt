@@ -3,7 +3,8 @@
 use Rattle.std.specs.Prelude.{◌≡◌, ℕ, List, [], ◌∷◌, length, Some, None}
 use Rattle.wf_model.specs.Task.{Task, IsTask}
 use Rattle.wf_model.specs.DecisionMap.{IsLeast}
-use Rattle.wf_model.specs.Problem.{Problem, InRange, IsWellFormed, IsSolution, problem_of, map_by_number}
+use Rattle.wf_model.specs.Problem.{Problem, InRange, IsWellFormed, IsSolution, problem_of}
+use Rattle.wf_model.specs.Problem.{map_by_number}
 use Rattle.wf_model.specs.Box.{Box, IsAscendingBox, root}
 use Rattle.wf_model.specs.Refutation.{Line, Tree, lines}
 use Rattle.wf_model.specs.Closing.{canonical}

@@ -4,7 +4,8 @@ use Rattle.wf_model.specs.View.{View}
 use Rattle.wf_model.specs.Task.{Task, IsTask, HasListedValues}
 use Rattle.wf_model.specs.Points.{points, first_appearances}
 use Rattle.wf_model.specs.DecisionMap.{IsDecisionMap, IsLeast, listed}
-use Rattle.wf_model.specs.Problem.{Problem, IsSolution, IsLeastSolution, IsWellFormed, problem_of, map_by_number}
+use Rattle.wf_model.specs.Problem.{Problem, IsSolution, IsLeastSolution, IsWellFormed, problem_of}
+use Rattle.wf_model.specs.Problem.{map_by_number}
 use Rattle.wf_model.specs.Box.{LiesIn, root}
 use Rattle.wf_model.specs.Check.{map_fault}
 use Rattle.wf_model.specs.AllSolutions.{all_solutions}
