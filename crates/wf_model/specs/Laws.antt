@@ -1,30 +1,36 @@
 -- What the laws say of boxes: the least solution in a box, the branches of a box, and maps in a list of boxes; of lines
--- that refute a box; and of reports.
-use Rattle.std.specs.Prelude.{◌≡◌, ◌<◌, ◌⊎◌, true, ℕ, List, [], ◌∷◌, length, None, Some, All}
+-- that refute a box; and of reports. The laws themselves, by subject.
+use Rattle.std.specs.Prelude.{◌≡◌, ◌<◌, ℕ, List, [], ◌∷◌, length, None, Some}
 use Rattle.std.specs.List.{slice_index_or, AllZip}
-use Rattle.wf_model.specs.Lists.{IsBelow}
-use Rattle.wf_model.specs.Simplex.{is_ascending}
+use Rattle.wf_model.specs.Lists.{IsBelowOrSame}
 use Rattle.wf_model.specs.Task.{Task}
 use Rattle.wf_model.specs.Execution.{executions}
 use Rattle.wf_model.specs.Points.{points}
 use Rattle.wf_model.specs.Problem.{Problem, IsSolution}
-use Rattle.wf_model.specs.Box.{Box, LiesIn, first_empty, root}
+use Rattle.wf_model.specs.Box.{Box, IsAscendingBox, LiesIn, first_empty}
 use Rattle.wf_model.specs.Refutation.{Line, Tree, lines, Refutes}
 use Rattle.wf_model.specs.Closing.{sweep, canonical}
 use Rattle.wf_model.specs.Split.{split}
-use Rattle.wf_model.specs.Outline.{outline, filled, filled_up_to}
 use Rattle.wf_model.specs.Report.{Report, Body}
+pub mod Closing
+pub mod Covers
+pub mod LeastTrees
+pub mod Maps
+pub mod Outlines
+pub mod Refutations
+pub mod Reports
+pub mod Search
 
 -- a box of the problem: the candidates of each point, ascending
 pub record IsBoxOf (p : Problem) (box : Box) : Type 0 where
   pub long : length box ≡ p.points
-  pub ascending : All (λ set. is_ascending set ≡ true) box
+  pub ascending : IsAscendingBox box
 
 -- a solution in the box, and every other one there is above it
 pub record IsLeastIn (p : Problem) (box : Box) (m : List ℕ) : Type 0 where
   pub solves : IsSolution p m
   pub lies : LiesIn m box
-  pub least : (other : List ℕ) → IsSolution p other → LiesIn other box → (m ≡ other) ⊎ IsBelow m other
+  pub least : (other : List ℕ) → IsSolution p other → LiesIn other box → IsBelowOrSame m other
 
 -- a box within another one, in which a sweep loses nothing and no point is without a candidate
 pub record IsClosedBranch (p : Problem) (box branch : Box) : Type 0 where
@@ -60,13 +66,6 @@ RefuteBranches p lists = AllZip (IsRefutedBy p) (split p) lists
 abbrev pub AreCanonicalForBranches : Problem → List (List Line) → Type 0
 AreCanonicalForBranches p lists = AllZip (HasCanonicalLines p) (split p) lists
 
--- where the lists do so for the branches, the outline filled with them does so for the root
-abbrev pub RefutesOnceFilled : Problem → List (List Line) → Type 0
-RefutesOnceFilled p lists = RefuteBranches p lists → IsRefutedBy p (root p) (filled (outline p) lists)
-
-abbrev pub IsCanonicalOnceFilled : Problem → List (List Line) → Type 0
-IsCanonicalOnceFilled p lists = AreCanonicalForBranches p lists → HasCanonicalLines p (root p) (filled (outline p) lists)
-
 -- the canonical search of the box finds this map, and these are its lines
 abbrev pub HasCanonicalMap : Problem → List ℕ → Box → List Line → Type 0
 HasCanonicalMap p m box ls = canonical p box ≡ record { lines = ls; map = Some m }
@@ -78,8 +77,3 @@ LeadToMap p m [] lists = ⊥
 LeadToMap p m (box ∷ boxes) [] = ⊥
 LeadToMap p m (box ∷ boxes) (ls ∷ []) = HasCanonicalMap p m box ls
 LeadToMap p m (box ∷ boxes) (ls ∷ next ∷ lists) = HasCanonicalLines p box ls × LeadToMap p m boxes (next ∷ lists)
-
--- where the lists do so for the first branches, the outline filled up to the last of them is the canonical search of the
--- root
-abbrev pub LeadsToMapOnceFilled : Problem → List ℕ → List (List Line) → Type 0
-LeadsToMapOnceFilled p m lists = LeadToMap p m (split p) lists → HasCanonicalMap p m (root p) (filled_up_to (outline p) lists)

@@ -1,7 +1,7 @@
 -- A constraint problem: the points have numbers, and each execution allows some tuples at its points.
-use Rattle.std.specs.Prelude.{◌≡◌, ◌<◌, ◌⊎◌, ℕ, suc, true, List, [], ◌∷◌, map, length, All, Contains, slice_index, if◌then◌else◌}
+use Rattle.std.specs.Prelude.{◌≡◌, ◌<◌, ℕ, suc, true, List, [], ◌∷◌, map, length, All, Contains, slice_index, if◌then◌else◌}
 use Rattle.std.specs.List.{slice_index_or}
-use Rattle.wf_model.specs.Lists.{IsBelow}
+use Rattle.wf_model.specs.Lists.{IsBelowOrSame}
 use Rattle.wf_model.specs.Simplex.{is_ascending}
 use Rattle.wf_model.specs.Task.{Task, Tuple, values}
 use Rattle.wf_model.specs.View.{View, same_view, process_of}
@@ -30,6 +30,10 @@ abbrev pub number_of : List View → View → ℕ
 number_of [] v = 0
 number_of (w ∷ ws) v = if same_view v w then 0 else suc (number_of ws v)
 
+-- the function on the views whose value at a view is the one at its number among the points
+abbrev pub map_by_number : Task → ℕ → List ℕ → View → ℕ
+map_by_number t r m = λ v. slice_index m (number_of (points t r) v)
+
 abbrev pub constraint_of : Task → List View → Execution → Constraint
 constraint_of t ps e = record { scope = map (λ v. (process_of v, number_of ps (class t v))) (last_views e); tuples = e.rule.tuples }
 
@@ -53,7 +57,7 @@ pub record IsSolution (p : Problem) (m : List ℕ) : Type 0 where
 
 pub record IsLeastSolution (p : Problem) (m : List ℕ) : Type 0 where
   pub solves : IsSolution p m
-  pub least : (other : List ℕ) → IsSolution p other → (m ≡ other) ⊎ IsBelow m other
+  pub least : (other : List ℕ) → IsSolution p other → IsBelowOrSame m other
 
 -- the points of the executions are points of the problem
 abbrev pub InRange : Problem → Type 0

@@ -13,9 +13,9 @@
 //! `Report` and `ViewsText` are the texts, `Presets` the tasks that have names, and the files of
 //! examples hold by computation.
 //!
-//! The public functions below are laws: a body is empty, and the clauses are what is proved. The
-//! main one is [`the_canonical_answer`], and [`accepted_reports_are_true`] is what a user of a checker
-//! reads. A crate above cites a law's lemma, or calls the law, which puts its clauses among the facts
+//! The public functions below are laws: a body is empty, and the clauses are what is proved. Each
+//! clause is one name, which `specs/Laws` defines in the file of the same subject. The main law is
+//! [`the_canonical_answer`], and [`accepted_reports_are_true`] is what a user of a checker reads. A crate above cites a law's lemma, or calls the law, which puts its clauses among the facts
 //! that are known there.
 #![tactic(auto)]
 
