@@ -30,6 +30,9 @@ rule_of rules e = get_or rules e.rule no_rule
 abbrev pub constraint_seen : List Rule → Execution → Constraint
 constraint_seen rules e = record { scope = zip (processes_of (rule_of rules e).simplex) e.points; tuples = (rule_of rules e).table.rows }
 
+abbrev pub constraints_seen : List Rule → List Execution → List Constraint
+constraints_seen rules es = map (constraint_seen rules) es
+
 abbrev pub problem_seen : Inside → Problem
 problem_seen p = record { points = p.points; values = values_in p.values; constraints = map (constraint_seen p.rules.items) p.executions.items }
 
