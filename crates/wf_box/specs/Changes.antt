@@ -34,8 +34,8 @@ abbrev pub KeepsTrackWith : ℕ → List ℕ → Tracked → Type 0
 KeepsTrackWith v set t = IsTracked (slice_set t.words.items v set) t.trail.items (vec_capacity t.trail) t.count t.open_from
 
 -- the candidates of each point
-abbrev pub tracked_box : Tracked → Box
-tracked_box t = box_of t.words.items
+abbrev pub sets_in : Tracked → Box
+sets_in t = box_of t.words.items
 
 -- the sets as they were after so many of the changes
 abbrev pub words_at : ℕ → Tracked → List (List ℕ)

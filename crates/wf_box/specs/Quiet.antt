@@ -5,7 +5,7 @@ use Rattle.wf_model.specs.Box.{Box, first_empty}
 use Rattle.wf_model.specs.Closing.{lost, sweep}
 use Rattle.wf_box.specs.Marks.{bit_of}
 use Rattle.wf_set.specs.Sets.{box_of, values_in}
-use Rattle.wf_box.specs.Changes.{tracked_box, words_after, words_at}
+use Rattle.wf_box.specs.Changes.{sets_in, words_after, words_at}
 use Rattle.wf_box.specs.declared.tracked.Change.{Change}
 use Rattle.wf_box.specs.declared.tracked.Tracked.{Tracked}
 use Rattle.wf_box.specs.declared.marks.Marks.{Marks}
@@ -18,7 +18,7 @@ IsQuiet ks marks box = (e : ℕ) → e < length ks → bit_of marks e ≡ 0 → 
 
 -- each execution that has lost something is marked
 abbrev pub MarksTell : List Constraint → Marks → Tracked → Type 0
-MarksTell ks marks t = IsQuiet ks marks.words.items (tracked_box t)
+MarksTell ks marks t = IsQuiet ks marks.words.items (sets_in t)
 
 -- and this one may have
 abbrev pub IsQuietBut : ℕ → List Constraint → List ℕ → Box → Type 0
@@ -65,6 +65,10 @@ AreSilent u v marks old new = (e : ℕ) → IsUser u v e → IsSilent e marks ol
 -- no execution
 abbrev pub no_execution : Execution
 no_execution = record { rule = 0; points = [] }
+
+-- each of its four points knows the execution
+abbrev pub IsTold : Users → Execution → ℕ → Type 0
+IsTold u x e = (place : ℕ) → place < 4 → IsUser u (slice_index x.points place) e
 
 -- each of its four points knows an execution
 abbrev pub AreTold : Users → List Execution → Type 0

@@ -1,21 +1,21 @@
 //! Closing.
 
-ghost use Rattle.std.specs.Prelude.{◌≡◌, ◌<◌, ◌≤◌, ◌*◌, ℕ, None, length, map, IfOk, IfSome, OnOk, OnErr, IfNone, [], All, slice_index, get_or};
+ghost use Rattle.std.specs.Prelude.{◌≡◌, ◌<◌, ◌≤◌, ◌*◌, None, length, map, IfOk, IfSome, OnOk, OnErr, IfNone, [], All, get_or};
 ghost use Rattle.wf_model.specs.Problem.{IsWellFormed};
-ghost use Rattle.wf_model.specs.Box.{candidates, count, first_empty};
-ghost use Rattle.wf_model.specs.Closing.{closing, lost, sweep, sweep_from, sweeps};
+ghost use Rattle.wf_model.specs.Box.{count, first_empty};
+ghost use Rattle.wf_model.specs.Closing.{closing, sweep, sweep_from};
 ghost use Rattle.std.specs.Bool.{OnFalse, OnTrue};
 ghost use Rattle.wf_box.specs.Limits.{most_executions, most_points};
 ghost use Rattle.wf_box.specs.Boxes.{Grows, IsClosedNow, IsFor};
-ghost use Rattle.wf_box.specs.Changes.{GrowsTo, KeepsTrack, tracked_box};
-ghost use Rattle.wf_box.specs.Quiet.{AreSilent, AreTold, AreUsers, EmptiesNoneSince, IsSilent, IsUntouchedSince, IsUser, LeavesUntouched, MarksTell, StoodClosed};
+ghost use Rattle.wf_box.specs.Changes.{GrowsTo, KeepsTrack, sets_in};
+ghost use Rattle.wf_box.specs.Quiet.{AreSilent, AreTold, AreUsers, EmptiesNoneSince, IsSilent, IsTold, IsUntouchedSince, LeavesUntouched, MarksTell, StoodClosed};
 ghost use Rattle.wf_model.specs.Laws.{IsBoxOf};
 ghost use Rattle.wf_set.specs.Sets.{box_of};
 ghost use Rattle.wf_lane.specs.Table.{HasSupported};
-ghost use Rattle.wf_box.specs.Problems.{IsWide, IsWithin, constraint_seen, constraints_seen, no_rule};
+ghost use Rattle.wf_box.specs.Problems.{AreWithin, IsWide, IsWithin, constraint_seen, constraints_seen, no_rule};
 ghost use Rattle.wf_box.specs.Revising.{IsRevised};
-ghost use Rattle.wf_box.specs.Steps.{ClosesTo, HasRoom, IsPaid, NamesAll, NamesAt, NamesLost, NamesOne, Reaches, SweepsTo, TakesEach, revision};
-ghost use Rattle.wf_box.specs.Closes.{AddsClosing, AreFew, EndsAt, IsEmptied, IsSupported, KeepsSolutions, Leaves, LosesNamed, Takes, sweep_count, sweeps_to_close};
+ghost use Rattle.wf_box.specs.Steps.{ClosesTo, HasRoom, IsPaid, NamesAll, NamesAt, NamesIn, NamesLost, Reaches, SweepsTo, TakesEach, revision};
+ghost use Rattle.wf_box.specs.Closes.{AddsClosing, AreFew, EndsAt, IsEmptied, IsSupported, KeepsSolutions, Leaves, LosesNamed, Takes, sweeps_to_close};
 
 use crate::boxed::Box0;
 use crate::marks::Marks;
@@ -100,7 +100,7 @@ fn close_tracked(
     marks: &mut Marks,
     lines: &mut Lines,
 ) -> Closed
-    requires boxed { IsBoxOf problem.now (tracked_box tracked.old) }
+    requires boxed { IsBoxOf problem.now (sets_in tracked.old) }
     requires kept { KeepsTrack tracked.old }
     requires room { HasRoom lines.old tracked.old.words.items }
     requires marks_long { length problem.now.constraints ≤ 64 * length marks.old.words.items }
@@ -109,13 +109,13 @@ fn close_tracked(
     ensures kept { KeepsTrack tracked.new }
     ensures grown { GrowsTo tracked.old tracked.new }
     ensures marks_long { length marks.new.words.items ≡ length marks.old.words.items }
-    ensures shape { IsBoxOf problem.now (tracked_box tracked.new) }
-    ensures emptied { IsEmptied lines.new.items (tracked_box tracked.new) result }
-    ensures named { LosesNamed problem.now (tracked_box tracked.old) (tracked_box tracked.new) }
-    ensures solutions { KeepsSolutions problem.now (tracked_box tracked.old) (tracked_box tracked.new) }
-    ensures supported { IsSupported problem.now (tracked_box tracked.new) result }
-    ensures sweeps { AreFew (count (tracked_box tracked.old)) (count (tracked_box tracked.new)) result }
-    ensures sweep_count { Takes (sweeps_to_close problem.now (tracked_box tracked.old)) result }
+    ensures shape { IsBoxOf problem.now (sets_in tracked.new) }
+    ensures emptied { IsEmptied lines.new.items (sets_in tracked.new) result }
+    ensures named { LosesNamed problem.now (sets_in tracked.old) (sets_in tracked.new) }
+    ensures solutions { KeepsSolutions problem.now (sets_in tracked.old) (sets_in tracked.new) }
+    ensures supported { IsSupported problem.now (sets_in tracked.new) result }
+    ensures sweeps { AreFew (count (sets_in tracked.old)) (count (sets_in tracked.new)) result }
+    ensures sweep_count { Takes (sweeps_to_close problem.now (sets_in tracked.old)) result }
 {
     if let Some(point) = prepare(problem, closed, tracked, marks) {
         put(lines, Line::Z { point });
@@ -131,11 +131,11 @@ fn prepare(
     tracked: &Tracked,
     marks: &mut Marks,
 ) -> Option<u32>
-    requires boxed { IsBoxOf problem.now (tracked_box tracked.now) }
+    requires boxed { IsBoxOf problem.now (sets_in tracked.now) }
     requires kept { KeepsTrack tracked.now }
     requires marks_long { length problem.now.constraints ≤ 64 * length marks.old.words.items }
     requires closed { IfSome closed (StoodClosed problem.now tracked.now) }
-    ensures empty { result ≡ first_empty (tracked_box tracked.now) }
+    ensures empty { result ≡ first_empty (sets_in tracked.now) }
     ensures quiet { MarksTell problem.now.constraints marks.new tracked.now }
     ensures long { length marks.new.words.items ≡ length marks.old.words.items }
 {
@@ -152,12 +152,12 @@ fn mark_problem(
     tracked: &Tracked,
     marks: &mut Marks,
 ) -> bool
-    requires boxed { IsBoxOf problem.now (tracked_box tracked.now) }
+    requires boxed { IsBoxOf problem.now (sets_in tracked.now) }
     requires kept { KeepsTrack tracked.now }
     requires marks_long { length problem.now.constraints ≤ 64 * length marks.old.words.items }
     requires closed { IfSome closed (StoodClosed problem.now tracked.now) }
     ensures quiet { MarksTell problem.now.constraints marks.new tracked.now }
-    ensures full { OnTrue result (first_empty (tracked_box tracked.now) ≡ None) }
+    ensures full { OnTrue result (first_empty (sets_in tracked.now) ≡ None) }
     ensures long { length marks.new.words.items ≡ length marks.old.words.items }
 {
     match closed {
@@ -227,10 +227,10 @@ fn sweeps(problem: &Problem, tracked: &mut Tracked, marks: &mut Marks, lines: &m
     ensures grown { GrowsTo tracked.old tracked.new }
     ensures long { length tracked.new.words.items ≡ length tracked.old.words.items }
     ensures marks_long { length marks.new.words.items ≡ length marks.old.words.items }
-    ensures emptied { IsEmptied lines.new.items (tracked_box tracked.new) result }
+    ensures emptied { IsEmptied lines.new.items (sets_in tracked.new) result }
     ensures named { NamesLost problem.now lines.old tracked.old lines.new tracked.new }
-    ensures sweeps { AreFew (count (tracked_box tracked.old)) (count (tracked_box tracked.new)) result }
-    ensures sweep_count { Takes (sweeps_to_close problem.now (tracked_box tracked.old)) result }
+    ensures sweeps { AreFew (count (sets_in tracked.old)) (count (sets_in tracked.new)) result }
+    ensures sweep_count { Takes (sweeps_to_close problem.now (sets_in tracked.old)) result }
     ensures problem { IsWellFormed problem.now }
 {
     let mut sweeps = 1;
@@ -265,7 +265,7 @@ fn sweep(
     ensures long { length tracked.new.words.items ≡ length tracked.old.words.items }
     ensures marks_long { length marks.new.words.items ≡ length marks.old.words.items }
     ensures quiet { IfNone result (MarksTell problem.now.constraints marks.new tracked.new) }
-    ensures emptied { IfSome result (EndsAt lines.new.items (tracked_box tracked.new)) }
+    ensures emptied { IfSome result (EndsAt lines.new.items (sets_in tracked.new)) }
     ensures named { NamesLost problem.now lines.old tracked.old lines.new tracked.new }
     ensures room { IfNone result (HasRoom lines.new tracked.new.words.items) }
     ensures spent { IfNone result (IsPaid lines.old tracked.old lines.new tracked.new) }
@@ -292,7 +292,7 @@ fn sweep_marked(
     lines: &mut Lines,
 ) -> Option<u32>
     requires few { length executions.now ≤ most_executions }
-    requires within { All (IsWithin (length rules.now) (length tracked.old.words.items)) executions.now }
+    requires within { AreWithin rules.now (length tracked.old.words.items) executions.now }
     requires wide { All IsWide rules.now }
     requires users { AreUsers users.now (length tracked.old.words.items) (length executions.now) }
     requires told { AreTold users.now executions.now }
@@ -306,8 +306,9 @@ fn sweep_marked(
     ensures grown { GrowsTo tracked.old tracked.new }
     ensures long { length tracked.new.words.items ≡ length tracked.old.words.items }
     ensures marks_long { length marks.new.words.items ≡ length marks.old.words.items }
-    ensures quiet { IfNone result (MarksTell (constraints_seen rules.now executions.now) marks.new tracked.new) }
-    ensures emptied { IfSome result (EndsAt lines.new.items (tracked_box tracked.new)) }
+    ensures quiet { IfNone result
+        (MarksTell (constraints_seen rules.now executions.now) marks.new tracked.new) }
+    ensures emptied { IfSome result (EndsAt lines.new.items (sets_in tracked.new)) }
     ensures named { NamesAll rules.now executions.now lines.old tracked.old lines.new tracked.new }
     ensures room { IfNone result (HasRoom lines.new tracked.new.words.items) }
     ensures spent { IfNone result (IsPaid lines.old tracked.old lines.new tracked.new) }
@@ -353,7 +354,7 @@ fn revise(
     requires wide { All IsWide rules.now }
     requires last { IsRevised rules.now last.old }
     requires users { AreUsers users.now (length tracked.old.words.items) executions }
-    requires told { (place : ℕ) → place < 4 → IsUser users.now (slice_index execution.points place) number }
+    requires told { IsTold users.now execution number }
     requires kept { KeepsTrack tracked.old }
     requires room { HasRoom lines.old tracked.old.words.items }
     requires marks_long { executions ≤ 64 * length marks.old.words.items }
@@ -366,8 +367,8 @@ fn revise(
     ensures untouched { LeavesUntouched users.now tracked.old marks.old tracked.new marks.new }
     ensures silent { IsSilent number marks.new tracked.old tracked.new }
     ensures last { IsRevised rules.now last.new }
-    ensures emptied { IfSome result (EndsAt lines.new.items (tracked_box tracked.new)) }
-    ensures named { NamesOne rules.now execution number lines.old tracked.old lines.new tracked.new }
+    ensures emptied { IfSome result (EndsAt lines.new.items (sets_in tracked.new)) }
+    ensures named { NamesIn rules.now execution number lines.old tracked.old lines.new tracked.new }
     ensures room { IfNone result (HasRoom lines.new tracked.new.words.items) }
     ensures spent { IfNone result (IsPaid lines.old tracked.old lines.new tracked.new) }
 {
@@ -412,7 +413,7 @@ fn take_place(
     ensures marks_long { length marks.new.words.items ≡ length marks.old.words.items }
     ensures untouched { LeavesUntouched users.now tracked.old marks.old tracked.new marks.new }
     ensures silent { AreSilent users.now place.point marks.new tracked.old tracked.new }
-    ensures emptied { OnTrue result (EndsAt lines.new.items (tracked_box tracked.new) place.point) }
+    ensures emptied { OnTrue result (EndsAt lines.new.items (sets_in tracked.new) place.point) }
     ensures named { NamesAt place lines.old tracked.old.words.items
         lines.new tracked.new.words.items }
     ensures room { OnFalse result (HasRoom lines.new tracked.new.words.items) }
