@@ -1,8 +1,8 @@
 -- What a clause sees of the program's problems, and what each of them keeps.
 use Rattle.std.specs.Prelude.{◌≡◌, ◌<◌, ◌≤◌, ℕ, List, [], map, zip, length, get_or, All}
-use Rattle.wf_model.specs.Simplex.{processes_of}
+use Rattle.wf_model.specs.Simplex.{Simplex, processes_of}
 use Rattle.wf_model.specs.Task as task
-use Rattle.wf_model.specs.Problem.{Problem, Constraint, IsWellFormed}
+use Rattle.wf_model.specs.Problem.{Problem, Constraint, IsWellFormed, problem_of}
 use Rattle.wf_set.specs.Sets.{values_in}
 use Rattle.wf_box.specs.Limits.{most_executions, most_points}
 use Rattle.wf_box.specs.Quiet.{AreTold, AreUsers}
@@ -30,6 +30,10 @@ rule_of rules e = get_or rules e.rule no_rule
 abbrev pub constraint_seen : List Rule → Execution → Constraint
 constraint_seen rules e = record { scope = zip (processes_of (rule_of rules e).simplex) e.points; tuples = (rule_of rules e).table.rows }
 
+-- the same of each execution in turn
+abbrev pub constraints_seen : List Rule → List Execution → List Constraint
+constraints_seen rules es = map (constraint_seen rules) es
+
 abbrev pub problem_seen : Inside → Problem
 problem_seen p = record { points = p.points; values = values_in p.values; constraints = map (constraint_seen p.rules.items) p.executions.items }
 
@@ -38,6 +42,18 @@ pub record IsWithin (rules points : ℕ) (e : Execution) : Type 0 where
   pub rule : e.rule < rules
   pub long : length e.points ≡ 4
   pub points_within : All (λ v. v < points) e.points
+
+-- each execution has a rule that is there and points that are there
+abbrev pub AreWithin : List Rule → ℕ → List Execution → Type 0
+AreWithin rules points es = All (IsWithin (length rules) points) es
+
+-- the rule is that of the simplex, with these tuples
+abbrev pub IsRuleOf : Simplex → List task.Tuple → Rule → Type 0
+IsRuleOf simplex tuples rule = rule_seen rule ≡ record { input = simplex; tuples = tuples }
+
+-- with these rules the executions are those of the task after so many rounds
+abbrev pub AreExecutionsOf : task.Task → ℕ → List Rule → List Execution → Type 0
+AreExecutionsOf t rounds rules es = map (constraint_seen rules) es ≡ (problem_of t rounds).constraints
 
 pub record IsKept (p : Inside) : Type 0 where
   pub few_points : p.points ≤ most_points

@@ -4,15 +4,21 @@ use Rattle.wf_model.specs.Problem.{Problem, Constraint, no_constraint}
 use Rattle.wf_model.specs.Box.{Box, first_empty}
 use Rattle.wf_model.specs.Closing.{lost, sweep}
 use Rattle.wf_box.specs.Marks.{bit_of}
-use Rattle.wf_set.specs.Sets.{box_of}
-use Rattle.wf_box.specs.Changes.{words_after}
+use Rattle.wf_set.specs.Sets.{box_of, values_in}
+use Rattle.wf_box.specs.Changes.{sets_in, words_after, words_at}
 use Rattle.wf_box.specs.declared.tracked.Change.{Change}
+use Rattle.wf_box.specs.declared.tracked.Tracked.{Tracked}
+use Rattle.wf_box.specs.declared.marks.Marks.{Marks}
 use Rattle.wf_box.specs.declared.problem.Execution.{Execution}
 use Rattle.wf_box.specs.declared.users.Users.{Users}
 
 -- an execution without a mark has lost nothing
 abbrev pub IsQuiet : List Constraint → List ℕ → Box → Type 0
 IsQuiet ks marks box = (e : ℕ) → e < length ks → bit_of marks e ≡ 0 → lost box (get_or ks e no_constraint) ≡ []
+
+-- each execution that has lost something is marked
+abbrev pub MarksTell : List Constraint → Marks → Tracked → Type 0
+MarksTell ks marks t = IsQuiet ks marks.words.items (sets_in t)
 
 -- and this one may have
 abbrev pub IsQuietBut : ℕ → List Constraint → List ℕ → Box → Type 0
@@ -36,9 +42,33 @@ pub record AreUsers (u : Users) (points executions : ℕ) : Type 0 where
 abbrev pub IsUntouched : Users → List (List ℕ) → List ℕ → List (List ℕ) → List ℕ → Type 0
 IsUntouched u words marks fewer more = (e : ℕ) → bit_of more e ≡ 0 → (bit_of marks e ≡ 0) × ((v : ℕ) → IsUser u v e → get_or fewer v [] ≡ get_or words v [])
 
+-- an execution without a mark had none before, and its points have the candidates that they had
+abbrev pub LeavesUntouched : Users → Tracked → Marks → Tracked → Marks → Type 0
+LeavesUntouched u old marks new more = IsUntouched u old.words.items marks.words.items new.words.items more.words.items
+
+-- the points of an execution without a mark have the candidates that they had after so many changes
+abbrev pub IsUntouchedSince : ℕ → Users → Tracked → Marks → Type 0
+IsUntouchedSince n u t marks = (e : ℕ) → bit_of marks.words.items e ≡ 0 → (v : ℕ) → IsUser u v e → get_or (words_at n t) v [] ≡ get_or t.words.items v []
+
+-- a point without a candidate had none after so many changes
+abbrev pub EmptiesNoneSince : ℕ → Tracked → Type 0
+EmptiesNoneSince n t = (v : ℕ) → values_in (get_or t.words.items v []) ≡ [] → values_in (get_or (words_at n t) v []) ≡ []
+
+-- where the execution is not marked, no candidate was taken out
+abbrev pub IsSilent : ℕ → Marks → Tracked → Tracked → Type 0
+IsSilent e marks old new = bit_of marks.words.items e ≡ 0 → new.words.items ≡ old.words.items
+
+-- where an execution of the point is not marked, no candidate was taken out
+abbrev pub AreSilent : Users → ℕ → Marks → Tracked → Tracked → Type 0
+AreSilent u v marks old new = (e : ℕ) → IsUser u v e → IsSilent e marks old new
+
 -- no execution
 abbrev pub no_execution : Execution
 no_execution = record { rule = 0; points = [] }
+
+-- each of its four points knows the execution
+abbrev pub IsTold : Users → Execution → ℕ → Type 0
+IsTold u x e = (place : ℕ) → place < 4 → IsUser u (slice_index x.points place) e
 
 -- each of its four points knows an execution
 abbrev pub AreTold : Users → List Execution → Type 0
@@ -49,3 +79,7 @@ pub record WasClosed (p : Problem) (trail : List Change) (words : List (List ℕ
   pub within : n ≤ length trail
   pub filled : first_empty (box_of (words_after n trail words)) ≡ None
   pub closed : (sweep p (box_of (words_after n trail words))).lines ≡ []
+
+-- after so many of its changes it was closed and no point was without a candidate
+abbrev pub StoodClosed : Problem → Tracked → ℕ → Type 0
+StoodClosed p t n = WasClosed p t.trail.items t.words.items n

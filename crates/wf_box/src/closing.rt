@@ -1,25 +1,21 @@
 //! Closing.
 
-ghost use Rattle.std.specs.Prelude.{◌≡◌, ◌<◌, ◌≤◌, ◌+◌, ◌*◌, ◌++◌, ℕ, List, None, Some, suc, true, length, map, IfOk, IfSome, OnOk, OnErr, IfNone, [], All, slice_index, get_or};
-ghost use Rattle.wf_model.specs.Lists.{has};
-ghost use Rattle.wf_model.specs.Problem.{IsSolution, IsWellFormed, Problem, constraint_at};
-ghost use Rattle.wf_model.specs.Box.{LiesIn, candidates, count, first_empty};
-ghost use Rattle.wf_model.specs.Closing.{and_then, closing, lost, sweep, sweep_from, sweeps, take_out_each};
-ghost use Rattle.std.specs.Bool.{OnTrue, OnFalse};
-ghost use Rattle.wf_complex.specs.Protocol.{point_in};
+ghost use Rattle.std.specs.Prelude.{◌≡◌, ◌<◌, ◌≤◌, ◌*◌, None, length, map, IfOk, IfSome, OnOk, OnErr, IfNone, [], All, get_or};
+ghost use Rattle.wf_model.specs.Problem.{IsWellFormed};
+ghost use Rattle.wf_model.specs.Box.{count, first_empty};
+ghost use Rattle.wf_model.specs.Closing.{closing, sweep, sweep_from};
+ghost use Rattle.std.specs.Bool.{OnFalse, OnTrue};
 ghost use Rattle.wf_box.specs.Limits.{most_executions, most_points};
-ghost use Rattle.wf_box.specs.Marks.{bit_of};
 ghost use Rattle.wf_box.specs.Boxes.{Grows, IsClosedNow, IsFor};
-ghost use Rattle.wf_box.specs.Changes.{IsGrown, KeepsTrack, words_after};
-ghost use Rattle.wf_box.specs.Quiet.{AreTold, AreUsers, IsQuiet, IsUntouched, IsUser, WasClosed};
+ghost use Rattle.wf_box.specs.Changes.{GrowsTo, KeepsTrack, sets_in};
+ghost use Rattle.wf_box.specs.Quiet.{AreSilent, AreTold, AreUsers, EmptiesNoneSince, IsSilent, IsTold, IsUntouchedSince, LeavesUntouched, MarksTell, StoodClosed};
 ghost use Rattle.wf_model.specs.Laws.{IsBoxOf};
-ghost use Rattle.wf_complex.specs.Lines.{line_of};
-ghost use Rattle.wf_set.specs.Sets.{box_of, values_in};
+ghost use Rattle.wf_set.specs.Sets.{box_of};
 ghost use Rattle.wf_lane.specs.Table.{HasSupported};
-ghost use Rattle.wf_box.specs.Problems.{IsWide, IsWithin, constraint_seen, no_rule};
+ghost use Rattle.wf_box.specs.Problems.{AreWithin, IsWide, IsWithin, constraint_seen, constraints_seen, no_rule};
 ghost use Rattle.wf_box.specs.Revising.{IsRevised};
-ghost use Rattle.wf_box.specs.Steps.{HasRoom, IsNamed, IsSpent, loss, point_if, reached, take_present};
-ghost use Rattle.wf_box.specs.Closes.{AreFew, EndsAt, IsEmptied, IsSupported, Leaves, Takes, emptied_by, sweep_count, without_named};
+ghost use Rattle.wf_box.specs.Steps.{ClosesTo, HasRoom, IsPaid, NamesAll, NamesAt, NamesIn, NamesLost, Reaches, SweepsTo, TakesEach, revision};
+ghost use Rattle.wf_box.specs.Closes.{AddsClosing, AreFew, EndsAt, IsEmptied, IsSupported, KeepsSolutions, Leaves, LosesNamed, Takes, sweeps_to_close};
 
 use crate::boxed::Box0;
 use crate::marks::Marks;
@@ -66,17 +62,17 @@ pub fn close(
     lines: &mut Lines,
 ) -> Result<Closed, AllocError>
     requires { IsFor problem.now boxed.old }
-    ensures lines { OnOk result (map line_of lines.new.items ≡ map line_of lines.old.items ++ (closing problem.now boxed.old.sets).lines) }
+    ensures lines { OnOk result (AddsClosing problem.now boxed.old.sets lines.old lines.new) }
     ensures leaves { IfOk result (Leaves (closing problem.now boxed.old.sets).left boxed.new.sets) }
     ensures emptied { IfOk result (IsEmptied lines.new.items boxed.new.sets) }
-    ensures named { OnOk result (boxed.new.sets ≡ without_named problem.now (closing problem.now boxed.old.sets).lines boxed.old.sets) }
+    ensures named { OnOk result (LosesNamed problem.now boxed.old.sets boxed.new.sets) }
     ensures is { OnOk result (IsFor problem.now boxed.new) }
     ensures grown { OnOk result (Grows boxed.old boxed.new) }
     ensures closed { IfOk result (IsClosedNow boxed.new) }
-    ensures solutions { OnOk result ((m : List ℕ) → IsSolution problem.now m → LiesIn m boxed.old.sets → LiesIn m boxed.new.sets) }
+    ensures solutions { OnOk result (KeepsSolutions problem.now boxed.old.sets boxed.new.sets) }
     ensures supported { IfOk result (IsSupported problem.now boxed.new.sets) }
     ensures sweeps { IfOk result (AreFew (count boxed.old.sets) (count boxed.new.sets)) }
-    ensures sweep_count { IfOk result (Takes (sweep_count (suc (count boxed.old.sets)) problem.now boxed.old.sets)) }
+    ensures sweep_count { IfOk result (Takes (sweeps_to_close problem.now boxed.old.sets)) }
     ensures refused_lines { OnErr result (lines.new.items ≡ lines.old.items) }
     ensures refused_box { OnErr result (boxed.new ≡ boxed.old) }
 {
@@ -104,22 +100,22 @@ fn close_tracked(
     marks: &mut Marks,
     lines: &mut Lines,
 ) -> Closed
-    requires boxed { IsBoxOf problem.now (box_of tracked.old.words.items) }
+    requires boxed { IsBoxOf problem.now (sets_in tracked.old) }
     requires kept { KeepsTrack tracked.old }
     requires room { HasRoom lines.old tracked.old.words.items }
     requires marks_long { length problem.now.constraints ≤ 64 * length marks.old.words.items }
-    requires closed { IfSome closed (WasClosed problem.now tracked.old.trail.items tracked.old.words.items) }
-    ensures step { reached lines.new.items (emptied_by result) tracked.new.words.items ≡ and_then (reached lines.old.items None tracked.old.words.items) (closing problem.now) }
+    requires closed { IfSome closed (StoodClosed problem.now tracked.old) }
+    ensures step { ClosesTo problem.now lines.old tracked.old lines.new tracked.new result }
     ensures kept { KeepsTrack tracked.new }
-    ensures grown { IsGrown tracked.old.words.items tracked.old.trail.items tracked.new.words.items tracked.new.trail.items }
+    ensures grown { GrowsTo tracked.old tracked.new }
     ensures marks_long { length marks.new.words.items ≡ length marks.old.words.items }
-    ensures shape { IsBoxOf problem.now (box_of tracked.new.words.items) }
-    ensures emptied { IsEmptied lines.new.items (box_of tracked.new.words.items) result }
-    ensures named { box_of tracked.new.words.items ≡ without_named problem.now (closing problem.now (box_of tracked.old.words.items)).lines (box_of tracked.old.words.items) }
-    ensures solutions { (m : List ℕ) → IsSolution problem.now m → LiesIn m (box_of tracked.old.words.items) → LiesIn m (box_of tracked.new.words.items) }
-    ensures supported { IsSupported problem.now (box_of tracked.new.words.items) result }
-    ensures sweeps { AreFew (count (box_of tracked.old.words.items)) (count (box_of tracked.new.words.items)) result }
-    ensures sweep_count { Takes (sweep_count (suc (count (box_of tracked.old.words.items))) problem.now (box_of tracked.old.words.items)) result }
+    ensures shape { IsBoxOf problem.now (sets_in tracked.new) }
+    ensures emptied { IsEmptied lines.new.items (sets_in tracked.new) result }
+    ensures named { LosesNamed problem.now (sets_in tracked.old) (sets_in tracked.new) }
+    ensures solutions { KeepsSolutions problem.now (sets_in tracked.old) (sets_in tracked.new) }
+    ensures supported { IsSupported problem.now (sets_in tracked.new) result }
+    ensures sweeps { AreFew (count (sets_in tracked.old)) (count (sets_in tracked.new)) result }
+    ensures sweep_count { Takes (sweeps_to_close problem.now (sets_in tracked.old)) result }
 {
     if let Some(point) = prepare(problem, closed, tracked, marks) {
         put(lines, Line::Z { point });
@@ -135,12 +131,12 @@ fn prepare(
     tracked: &Tracked,
     marks: &mut Marks,
 ) -> Option<u32>
-    requires boxed { IsBoxOf problem.now (box_of tracked.now.words.items) }
+    requires boxed { IsBoxOf problem.now (sets_in tracked.now) }
     requires kept { KeepsTrack tracked.now }
     requires marks_long { length problem.now.constraints ≤ 64 * length marks.old.words.items }
-    requires closed { IfSome closed (WasClosed problem.now tracked.now.trail.items tracked.now.words.items) }
-    ensures empty { result ≡ first_empty (box_of tracked.now.words.items) }
-    ensures quiet { IsQuiet problem.now.constraints marks.new.words.items (box_of tracked.now.words.items) }
+    requires closed { IfSome closed (StoodClosed problem.now tracked.now) }
+    ensures empty { result ≡ first_empty (sets_in tracked.now) }
+    ensures quiet { MarksTell problem.now.constraints marks.new tracked.now }
     ensures long { length marks.new.words.items ≡ length marks.old.words.items }
 {
     if mark_problem(problem, closed, tracked, marks) {
@@ -156,12 +152,12 @@ fn mark_problem(
     tracked: &Tracked,
     marks: &mut Marks,
 ) -> bool
-    requires boxed { IsBoxOf problem.now (box_of tracked.now.words.items) }
+    requires boxed { IsBoxOf problem.now (sets_in tracked.now) }
     requires kept { KeepsTrack tracked.now }
     requires marks_long { length problem.now.constraints ≤ 64 * length marks.old.words.items }
-    requires closed { IfSome closed (WasClosed problem.now tracked.now.trail.items tracked.now.words.items) }
-    ensures quiet { IsQuiet problem.now.constraints marks.new.words.items (box_of tracked.now.words.items) }
-    ensures full { OnTrue result (first_empty (box_of tracked.now.words.items) ≡ None) }
+    requires closed { IfSome closed (StoodClosed problem.now tracked.now) }
+    ensures quiet { MarksTell problem.now.constraints marks.new tracked.now }
+    ensures full { OnTrue result (first_empty (sets_in tracked.now) ≡ None) }
     ensures long { length marks.new.words.items ≡ length marks.old.words.items }
 {
     match closed {
@@ -192,8 +188,8 @@ fn mark_changed(
     requires users { AreUsers users.now (length tracked.now.words.items) executions }
     requires marks_long { executions ≤ 64 * length marks.old.words.items }
     requires changes { changes ≤ length tracked.now.trail.items }
-    ensures untouched { (e : ℕ) → bit_of marks.new.words.items e ≡ 0 → (v : ℕ) → IsUser users.now v e → get_or (words_after changes tracked.now.trail.items tracked.now.words.items) v [] ≡ get_or tracked.now.words.items v [] }
-    ensures full { OnTrue result ((v : ℕ) → values_in (get_or tracked.now.words.items v []) ≡ [] → values_in (get_or (words_after changes tracked.now.trail.items tracked.now.words.items) v []) ≡ []) }
+    ensures untouched { IsUntouchedSince changes users.now tracked.now marks.new }
+    ensures full { OnTrue result (EmptiesNoneSince changes tracked.now) }
     ensures long { length marks.new.words.items ≡ length marks.old.words.items }
 {
     let points = tracked.words.len() as u32;
@@ -225,16 +221,16 @@ fn sweeps(problem: &Problem, tracked: &mut Tracked, marks: &mut Marks, lines: &m
     requires long { length tracked.old.words.items ≡ problem.now.points }
     requires room { HasRoom lines.old tracked.old.words.items }
     requires marks_long { length problem.now.constraints ≤ 64 * length marks.old.words.items }
-    requires quiet { IsQuiet problem.now.constraints marks.old.words.items (box_of tracked.old.words.items) }
-    ensures step { reached lines.new.items (emptied_by result) tracked.new.words.items ≡ and_then (reached lines.old.items None tracked.old.words.items) (sweeps (suc (count (box_of tracked.old.words.items))) problem.now) }
+    requires quiet { MarksTell problem.now.constraints marks.old tracked.old }
+    ensures step { SweepsTo problem.now lines.old tracked.old lines.new tracked.new result }
     ensures kept { KeepsTrack tracked.new }
-    ensures grown { IsGrown tracked.old.words.items tracked.old.trail.items tracked.new.words.items tracked.new.trail.items }
+    ensures grown { GrowsTo tracked.old tracked.new }
     ensures long { length tracked.new.words.items ≡ length tracked.old.words.items }
     ensures marks_long { length marks.new.words.items ≡ length marks.old.words.items }
-    ensures emptied { IsEmptied lines.new.items (box_of tracked.new.words.items) result }
-    ensures named { IsNamed problem.now lines.old.items tracked.old.words.items lines.new.items tracked.new.words.items }
-    ensures sweeps { AreFew (count (box_of tracked.old.words.items)) (count (box_of tracked.new.words.items)) result }
-    ensures sweep_count { Takes (sweep_count (suc (count (box_of tracked.old.words.items))) problem.now (box_of tracked.old.words.items)) result }
+    ensures emptied { IsEmptied lines.new.items (sets_in tracked.new) result }
+    ensures named { NamesLost problem.now lines.old tracked.old lines.new tracked.new }
+    ensures sweeps { AreFew (count (sets_in tracked.old)) (count (sets_in tracked.new)) result }
+    ensures sweep_count { Takes (sweeps_to_close problem.now (sets_in tracked.old)) result }
     ensures problem { IsWellFormed problem.now }
 {
     let mut sweeps = 1;
@@ -262,17 +258,17 @@ fn sweep(
     requires long { length tracked.old.words.items ≡ problem.now.points }
     requires room { HasRoom lines.old tracked.old.words.items }
     requires marks_long { length problem.now.constraints ≤ 64 * length marks.old.words.items }
-    requires quiet { IsQuiet problem.now.constraints marks.old.words.items (box_of tracked.old.words.items) }
-    ensures step { reached lines.new.items result tracked.new.words.items ≡ and_then (reached lines.old.items None tracked.old.words.items) (sweep problem.now) }
+    requires quiet { MarksTell problem.now.constraints marks.old tracked.old }
+    ensures step { Reaches (sweep problem.now) lines.old tracked.old lines.new tracked.new result }
     ensures kept { KeepsTrack tracked.new }
-    ensures grown { IsGrown tracked.old.words.items tracked.old.trail.items tracked.new.words.items tracked.new.trail.items }
+    ensures grown { GrowsTo tracked.old tracked.new }
     ensures long { length tracked.new.words.items ≡ length tracked.old.words.items }
     ensures marks_long { length marks.new.words.items ≡ length marks.old.words.items }
-    ensures quiet { IfNone result (IsQuiet problem.now.constraints marks.new.words.items (box_of tracked.new.words.items)) }
-    ensures emptied { IfSome result (EndsAt lines.new.items (box_of tracked.new.words.items)) }
-    ensures named { IsNamed problem.now lines.old.items tracked.old.words.items lines.new.items tracked.new.words.items }
+    ensures quiet { IfNone result (MarksTell problem.now.constraints marks.new tracked.new) }
+    ensures emptied { IfSome result (EndsAt lines.new.items (sets_in tracked.new)) }
+    ensures named { NamesLost problem.now lines.old tracked.old lines.new tracked.new }
     ensures room { IfNone result (HasRoom lines.new tracked.new.words.items) }
-    ensures spent { IfNone result (IsSpent lines.old tracked.old.words.items lines.new tracked.new.words.items) }
+    ensures spent { IfNone result (IsPaid lines.old tracked.old lines.new tracked.new) }
     ensures problem { IsWellFormed problem.now }
 {
     sweep_marked(
@@ -296,25 +292,26 @@ fn sweep_marked(
     lines: &mut Lines,
 ) -> Option<u32>
     requires few { length executions.now ≤ most_executions }
-    requires within { All (IsWithin (length rules.now) (length tracked.old.words.items)) executions.now }
+    requires within { AreWithin rules.now (length tracked.old.words.items) executions.now }
     requires wide { All IsWide rules.now }
     requires users { AreUsers users.now (length tracked.old.words.items) (length executions.now) }
     requires told { AreTold users.now executions.now }
     requires kept { KeepsTrack tracked.old }
     requires room { HasRoom lines.old tracked.old.words.items }
     requires marks_long { length executions.now ≤ 64 * length marks.old.words.items }
-    requires quiet { IsQuiet (map (constraint_seen rules.now) executions.now) marks.old.words.items (box_of tracked.old.words.items) }
-    ensures step { reached lines.new.items result tracked.new.words.items
-        ≡ and_then (reached lines.old.items None tracked.old.words.items) (sweep_from 0 (map (constraint_seen rules.now) executions.now)) }
+    requires quiet { MarksTell (constraints_seen rules.now executions.now) marks.old tracked.old }
+    ensures step { Reaches (sweep_from 0 (constraints_seen rules.now executions.now))
+        lines.old tracked.old lines.new tracked.new result }
     ensures kept { KeepsTrack tracked.new }
-    ensures grown { IsGrown tracked.old.words.items tracked.old.trail.items tracked.new.words.items tracked.new.trail.items }
+    ensures grown { GrowsTo tracked.old tracked.new }
     ensures long { length tracked.new.words.items ≡ length tracked.old.words.items }
     ensures marks_long { length marks.new.words.items ≡ length marks.old.words.items }
-    ensures quiet { IfNone result (IsQuiet (map (constraint_seen rules.now) executions.now) marks.new.words.items (box_of tracked.new.words.items)) }
-    ensures emptied { IfSome result (EndsAt lines.new.items (box_of tracked.new.words.items)) }
-    ensures named { (p : Problem) → p.constraints ≡ map (constraint_seen rules.now) executions.now → IsNamed p lines.old.items tracked.old.words.items lines.new.items tracked.new.words.items }
+    ensures quiet { IfNone result
+        (MarksTell (constraints_seen rules.now executions.now) marks.new tracked.new) }
+    ensures emptied { IfSome result (EndsAt lines.new.items (sets_in tracked.new)) }
+    ensures named { NamesAll rules.now executions.now lines.old tracked.old lines.new tracked.new }
     ensures room { IfNone result (HasRoom lines.new tracked.new.words.items) }
-    ensures spent { IfNone result (IsSpent lines.old tracked.old.words.items lines.new tracked.new.words.items) }
+    ensures spent { IfNone result (IsPaid lines.old tracked.old lines.new tracked.new) }
 {
     let mut last = None;
     let mut next = 0;
@@ -357,23 +354,23 @@ fn revise(
     requires wide { All IsWide rules.now }
     requires last { IsRevised rules.now last.old }
     requires users { AreUsers users.now (length tracked.old.words.items) executions }
-    requires told { (place : ℕ) → place < 4 → IsUser users.now (slice_index execution.points place) number }
+    requires told { IsTold users.now execution number }
     requires kept { KeepsTrack tracked.old }
     requires room { HasRoom lines.old tracked.old.words.items }
     requires marks_long { executions ≤ 64 * length marks.old.words.items }
-    ensures step { reached lines.new.items result tracked.new.words.items
-        ≡ and_then (reached lines.old.items None tracked.old.words.items) (λ box. take_out_each number (lost box (constraint_seen rules.now execution)) box) }
+    ensures step { Reaches (revision number (constraint_seen rules.now execution))
+        lines.old tracked.old lines.new tracked.new result }
     ensures kept { KeepsTrack tracked.new }
-    ensures grown { IsGrown tracked.old.words.items tracked.old.trail.items tracked.new.words.items tracked.new.trail.items }
+    ensures grown { GrowsTo tracked.old tracked.new }
     ensures long { length tracked.new.words.items ≡ length tracked.old.words.items }
     ensures marks_long { length marks.new.words.items ≡ length marks.old.words.items }
-    ensures untouched { IsUntouched users.now tracked.old.words.items marks.old.words.items tracked.new.words.items marks.new.words.items }
-    ensures silent { bit_of marks.new.words.items number ≡ 0 → tracked.new.words.items ≡ tracked.old.words.items }
+    ensures untouched { LeavesUntouched users.now tracked.old marks.old tracked.new marks.new }
+    ensures silent { IsSilent number marks.new tracked.old tracked.new }
     ensures last { IsRevised rules.now last.new }
-    ensures emptied { IfSome result (EndsAt lines.new.items (box_of tracked.new.words.items)) }
-    ensures named { (p : Problem) → constraint_at p number ≡ constraint_seen rules.now execution → IsNamed p lines.old.items tracked.old.words.items lines.new.items tracked.new.words.items }
+    ensures emptied { IfSome result (EndsAt lines.new.items (sets_in tracked.new)) }
+    ensures named { NamesIn rules.now execution number lines.old tracked.old lines.new tracked.new }
     ensures room { IfNone result (HasRoom lines.new tracked.new.words.items) }
-    ensures spent { IfNone result (IsSpent lines.old tracked.old.words.items lines.new tracked.new.words.items) }
+    ensures spent { IfNone result (IsPaid lines.old tracked.old lines.new tracked.new) }
 {
     let found = candidates_at(execution, &tracked.words);
     let supported = supported_at(execution.rule, found, rules, last);
@@ -408,19 +405,19 @@ fn take_place(
     requires kept { KeepsTrack tracked.old }
     requires point { place.point < length tracked.old.words.items }
     requires room { HasRoom lines.old tracked.old.words.items }
-    ensures step { reached lines.new.items (point_if result place.point) tracked.new.words.items
-        ≡ and_then (reached lines.old.items None tracked.old.words.items) (take_present place.execution (map (loss place.process place.point) (values_in lost))) }
+    ensures step { TakesEach lost place lines.old tracked.old.words.items
+        lines.new tracked.new.words.items result }
     ensures kept { KeepsTrack tracked.new }
-    ensures grown { IsGrown tracked.old.words.items tracked.old.trail.items tracked.new.words.items tracked.new.trail.items }
+    ensures grown { GrowsTo tracked.old tracked.new }
     ensures long { length tracked.new.words.items ≡ length tracked.old.words.items }
     ensures marks_long { length marks.new.words.items ≡ length marks.old.words.items }
-    ensures untouched { IsUntouched users.now tracked.old.words.items marks.old.words.items tracked.new.words.items marks.new.words.items }
-    ensures silent { (e : ℕ) → IsUser users.now place.point e → bit_of marks.new.words.items e ≡ 0 → tracked.new.words.items ≡ tracked.old.words.items }
-    ensures emptied { OnTrue result (EndsAt lines.new.items (box_of tracked.new.words.items) place.point) }
-    ensures named { (p : Problem) → point_in place.process (constraint_at p place.execution).scope ≡ Some place.point
-        → IsNamed p lines.old.items tracked.old.words.items lines.new.items tracked.new.words.items }
+    ensures untouched { LeavesUntouched users.now tracked.old marks.old tracked.new marks.new }
+    ensures silent { AreSilent users.now place.point marks.new tracked.old tracked.new }
+    ensures emptied { OnTrue result (EndsAt lines.new.items (sets_in tracked.new) place.point) }
+    ensures named { NamesAt place lines.old tracked.old.words.items
+        lines.new tracked.new.words.items }
     ensures room { OnFalse result (HasRoom lines.new tracked.new.words.items) }
-    ensures spent { OnFalse result (IsSpent lines.old tracked.old.words.items lines.new tracked.new.words.items) }
+    ensures spent { OnFalse result (IsPaid lines.old tracked.old lines.new tracked.new) }
 {
     let before = tracked.words[place.point as usize];
     let emptied = take_each(lost, place, &mut tracked.words, lines);

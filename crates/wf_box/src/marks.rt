@@ -1,8 +1,8 @@
 //! Marks on executions.
 
-ghost use Rattle.std.specs.Prelude.{◌≡◌, ◌≢◌, ◌<◌, ◌≤◌, ◌*◌, ◌/◌, ◌+◌, ◌^◌, ℕ, All, length, slice_index, OnOk, IfSome, IfNone};
+ghost use Rattle.std.specs.Prelude.{◌≡◌, ◌<◌, ◌≤◌, ◌*◌, ◌/◌, ◌^◌, All, length, OnOk, IfSome, IfNone};
 ghost use Rattle.wf_box.specs.Limits.{most_executions, most_words};
-ghost use Rattle.wf_box.specs.Marks.{IsLast, IsMore, IsNext, TopsTell, bit_of};
+ghost use Rattle.wf_box.specs.Marks.{AreSet, AreSetBelow, IsLast, IsLastHere, IsMore, IsNext, KeepsBitsBut, KeepsWordsBut, TopsTell, bit_of};
 
 use std::alloc::{AllocError, Global};
 
@@ -57,7 +57,7 @@ impl Marks {
     /// Marks these executions.
     pub(crate) fn mark_each(&mut self, numbers: &[u32])
         requires { All (λ n. n < 64 * length self.old.words.items) numbers.now }
-        ensures marked { (i : ℕ) → i < length numbers.now → bit_of self.new.words.items (slice_index numbers.now i) ≡ 1 }
+        ensures marked { AreSet self.new.words.items numbers.now }
         ensures kept { IsMore self.old.words.items self.new.words.items }
         ensures long { length self.new.words.items ≡ length self.old.words.items }
     {
@@ -68,7 +68,7 @@ impl Marks {
 
     /// Marks all executions.
     pub(crate) fn mark_all(&mut self)
-        ensures marked { (n : ℕ) → n < 64 * length self.old.words.items → bit_of self.new.words.items n ≡ 1 }
+        ensures marked { AreSetBelow (64 * length self.old.words.items) self.new.words.items }
         ensures long { length self.new.words.items ≡ length self.old.words.items }
     {
         self.words.fill(u64::MAX);
@@ -93,7 +93,7 @@ impl Marks {
     /// Takes the mark of the first marked execution from this one on away.
     pub(crate) fn take_next(&mut self, from: u32) -> Option<u32>
         ensures next { IfSome result (IsNext self.old.words.items from) }
-        ensures others { IfSome result (λ number. (n : ℕ) → n ≢ number → bit_of self.new.words.items n ≡ bit_of self.old.words.items n) }
+        ensures others { IfSome result (KeepsBitsBut self.old.words.items self.new.words.items) }
         ensures last { IfNone result (IsLast self.old.words.items from) }
         ensures same { IfNone result (self.new.words.items ≡ self.old.words.items) }
         ensures long { length self.new.words.items ≡ length self.old.words.items }
@@ -147,7 +147,7 @@ fn first_here(words: &[u64], from: usize) -> Option<usize>
     requires within { from / 64 < length words.now }
     requires low { from < 2 ^ 34 }
     ensures next { IfSome result (IsNext words.now from) }
-    ensures last { IfNone result ((m : ℕ) → from ≤ m → m / 64 ≡ from / 64 → bit_of words.now m ≡ 0) }
+    ensures last { IfNone result (IsLastHere words.now from) }
 {
     let here = words[from / 64] >> (from % 64);
     if here == 0 {
@@ -160,9 +160,9 @@ fn first_here(words: &[u64], from: usize) -> Option<usize>
 fn add_bit(words: &mut Vec<u64>, bit: usize)
     requires { bit < 64 * length words.old.items }
     ensures added { bit_of words.new.items bit ≡ 1 }
-    ensures others { (n : ℕ) → n ≢ bit → bit_of words.new.items n ≡ bit_of words.old.items n }
+    ensures others { KeepsBitsBut words.old.items words.new.items bit }
     ensures long { length words.new.items ≡ length words.old.items }
-    ensures words { (i : ℕ) → i ≢ bit / 64 → slice_index words.new.items i ≡ slice_index words.old.items i }
+    ensures words { KeepsWordsBut words.old.items words.new.items (bit / 64) }
 {
     words[bit / 64] |= 1 << (bit % 64);
 }
@@ -171,9 +171,9 @@ fn add_bit(words: &mut Vec<u64>, bit: usize)
 fn take_bit(words: &mut Vec<u64>, bit: usize)
     requires { bit < 64 * length words.old.items }
     ensures taken { bit_of words.new.items bit ≡ 0 }
-    ensures others { (n : ℕ) → n ≢ bit → bit_of words.new.items n ≡ bit_of words.old.items n }
+    ensures others { KeepsBitsBut words.old.items words.new.items bit }
     ensures long { length words.new.items ≡ length words.old.items }
-    ensures words { (i : ℕ) → i ≢ bit / 64 → slice_index words.new.items i ≡ slice_index words.old.items i }
+    ensures words { KeepsWordsBut words.old.items words.new.items (bit / 64) }
 {
     words[bit / 64] &= !(1 << (bit % 64));
 }

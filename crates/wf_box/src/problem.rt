@@ -6,7 +6,7 @@ ghost use Rattle.wf_model.specs.Problem.{IsWellFormed, problem_of};
 ghost use Rattle.wf_complex.specs.Protocol.{IsProtocol};
 ghost use Rattle.wf_model.specs.Split.{most_values};
 ghost use Rattle.wf_box.specs.Limits.{most_executions, most_points};
-ghost use Rattle.wf_box.specs.Problems.{IsWide, IsWithin, constraint_seen, rule_seen};
+ghost use Rattle.wf_box.specs.Problems.{AreExecutionsOf, AreWithin, IsRuleOf, IsWide, rule_seen};
 
 use crate::users::Users;
 use std::alloc::{AllocError, Global};
@@ -29,7 +29,7 @@ impl Rule {
     pub(crate) fn of(alloc: Global, simplex: Simplex, tuples: &[Row]) -> Result<Rule, AllocError>
         requires long { All (λ tuple. length tuple ≡ length simplex) tuples.now }
         requires few { length tuples.now < 2 ^ 32 }
-        ensures rule { IfOk result (λ rule. rule_seen rule ≡ record { input = simplex; tuples = tuples.now }) }
+        ensures rule { IfOk result (IsRuleOf simplex tuples.now) }
         ensures wide { IfOk result IsWide }
     {
         let table = TupleTable::build(alloc, tuples, simplex.colours())?;
@@ -125,8 +125,10 @@ fn executions(
 ) -> Result<Vec<Execution>, AllocError>
     requires built { IsProtocol task.now protocol.now.rounds protocol.now }
     requires rules { map rule_seen rules.now ≡ task.now.rules }
-    ensures constraints { IfOk result (λ executions. map (constraint_seen rules.now) executions.items ≡ (problem_of task.now protocol.now.rounds).constraints) }
-    ensures within { IfOk result (λ executions. All (IsWithin (length rules.now) (length protocol.now.points)) executions.items) }
+    ensures constraints { IfOk result
+        (λ executions. AreExecutionsOf task.now protocol.now.rounds rules.now executions.items) }
+    ensures within { IfOk result
+        (λ executions. AreWithin rules.now (length protocol.now.points) executions.items) }
     ensures few { IfOk result (λ executions. length executions.items ≤ most_executions) }
 {
     let _inputs = task.inputs();

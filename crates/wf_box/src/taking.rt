@@ -1,16 +1,13 @@
 //! Values are taken out of a box, with a line for each.
 
-ghost use Rattle.std.specs.Prelude.{◌≡◌, ◌<◌, ◌≤◌, ◌+◌, ◌++◌, ◌∷◌, [], None, Some, true, length, get_or, map, vec_len, vec_capacity};
-ghost use Rattle.std.specs.Bool.{OnTrue, OnFalse};
+ghost use Rattle.std.specs.Prelude.{◌≡◌, ◌<◌, ◌≤◌, ◌+◌, ◌++◌, ◌∷◌, [], true, length, get_or, vec_len, vec_capacity};
+ghost use Rattle.std.specs.Bool.{OnFalse, OnTrue};
 ghost use Rattle.wf_model.specs.Lists.{has};
-ghost use Rattle.wf_model.specs.Problem.{Problem, constraint_at};
 ghost use Rattle.std.specs.List.{slice_set};
 ghost use Rattle.wf_model.specs.Box.{candidates, count};
-ghost use Rattle.wf_model.specs.Closing.{and_then, take_out};
-ghost use Rattle.wf_set.specs.Sets.{box_of, values_in};
-ghost use Rattle.wf_complex.specs.Protocol.{point_in};
+ghost use Rattle.wf_set.specs.Sets.{box_of};
 ghost use Rattle.wf_box.specs.Closes.{EndsAt};
-ghost use Rattle.wf_box.specs.Steps.{HasRoom, IsNamed, IsSpent, loss, point_if, reached, take_present};
+ghost use Rattle.wf_box.specs.Steps.{HasRoom, IsSpent, NamesAt, TakesEach, TakesOut};
 
 use wf_complex::{Line, Lines};
 use wf_set::{Mask, holds, is_empty, split_first, without};
@@ -28,15 +25,13 @@ pub(crate) struct Place {
 pub(crate) fn take_each(values: Mask, place: Place, sets: &mut [Mask], lines: &mut Lines) -> bool
     requires point { place.point < length sets.old }
     requires room { HasRoom lines.old sets.old }
-    ensures step { reached lines.new.items (point_if result place.point) sets.new
-        ≡ and_then (reached lines.old.items None sets.old) (take_present place.execution (map (loss place.process place.point) (values_in values))) }
+    ensures step { TakesEach values place lines.old sets.old lines.new sets.new result }
     ensures long { length sets.new ≡ length sets.old }
     ensures others { sets.new ≡ slice_set sets.old place.point (get_or sets.new place.point []) }
     ensures fewer { count (box_of sets.new) ≤ count (box_of sets.old) }
     ensures same { count (box_of sets.new) ≡ count (box_of sets.old) → sets.new ≡ sets.old }
     ensures emptied { OnTrue result (EndsAt lines.new.items (box_of sets.new) place.point) }
-    ensures named { (p : Problem) → point_in place.process (constraint_at p place.execution).scope ≡ Some place.point
-        → IsNamed p lines.old.items sets.old lines.new.items sets.new }
+    ensures named { NamesAt place lines.old sets.old lines.new sets.new }
     ensures room { OnFalse result (HasRoom lines.new sets.new) }
     ensures spent { OnFalse result (IsSpent lines.old sets.old lines.new sets.new) }
 {
@@ -57,15 +52,13 @@ fn take_out(value: u8, place: Place, sets: &mut [Mask], lines: &mut Lines) -> bo
     requires point { place.point < length sets.old }
     requires present { has (candidates (box_of sets.old) place.point) value ≡ true }
     requires room { HasRoom lines.old sets.old }
-    ensures step { reached lines.new.items (point_if result place.point) sets.new
-        ≡ and_then (reached lines.old.items None sets.old) (take_out place.execution (loss place.process place.point value)) }
+    ensures step { TakesOut value place lines.old sets.old lines.new sets.new result }
     ensures long { length sets.new ≡ length sets.old }
     ensures others { sets.new ≡ slice_set sets.old place.point (get_or sets.new place.point []) }
     ensures fewer { count (box_of sets.new) ≤ count (box_of sets.old) }
     ensures same { count (box_of sets.new) ≡ count (box_of sets.old) → sets.new ≡ sets.old }
     ensures emptied { OnTrue result (EndsAt lines.new.items (box_of sets.new) place.point) }
-    ensures named { (p : Problem) → point_in place.process (constraint_at p place.execution).scope ≡ Some place.point
-        → IsNamed p lines.old.items sets.old lines.new.items sets.new }
+    ensures named { NamesAt place lines.old sets.old lines.new sets.new }
     ensures room { OnFalse result (HasRoom lines.new sets.new) }
     ensures spent { OnFalse result (IsSpent lines.old sets.old lines.new sets.new) }
 {

@@ -1,11 +1,10 @@
 //! The candidates of each point, and what they were.
 
-ghost use Rattle.std.specs.Prelude.{◌≡◌, ◌<◌, ◌≤◌, ◌++◌, ◌∷◌, [], true, length, take, get_or, vec_capacity, IfOk};
-ghost use Rattle.std.specs.List.{slice_set};
+ghost use Rattle.std.specs.Prelude.{◌≡◌, ◌<◌, ◌≤◌, [], true, length, take, IfOk};
 ghost use Rattle.wf_model.specs.Lists.{has};
 ghost use Rattle.wf_model.specs.Box.{candidates, count, decided, first_open};
 ghost use Rattle.wf_set.specs.Sets.{box_of, values_in};
-ghost use Rattle.wf_box.specs.Changes.{IsGrown, IsTracked, IsUndone, KeepsTrack, words_after};
+ghost use Rattle.wf_box.specs.Changes.{GrowsTo, HasFewer, KeepsTrack, KeepsTrackWith, Notes, UndoesLast, sets_in, words_at};
 ghost use Rattle.wf_box.specs.Limits.{most_candidates, most_points};
 
 use std::alloc::{AllocError, Global};
@@ -52,10 +51,10 @@ impl Tracked {
     /// Leaves a point one of its candidates.
     pub(crate) fn set(&mut self, point: u32, value: u8)
         requires kept { KeepsTrack self.old }
-        requires there { has (candidates (box_of self.old.words.items) point) value ≡ true }
+        requires there { has (candidates (sets_in self.old) point) value ≡ true }
         ensures kept { KeepsTrack self.new }
-        ensures decided { box_of self.new.words.items ≡ decided (box_of self.old.words.items) point value }
-        ensures grown { IsGrown self.old.words.items self.old.trail.items self.new.words.items self.new.trail.items }
+        ensures decided { sets_in self.new ≡ decided (sets_in self.old) point value }
+        ensures grown { GrowsTo self.old self.new }
     {
         let before = self.words[point as usize];
         if has_two(before) {
@@ -66,12 +65,12 @@ impl Tracked {
 
     /// Keeps what a point's candidates were before they became fewer.
     pub(crate) fn note(&mut self, point: u32, before: Mask)
-        requires kept { IsTracked (slice_set self.old.words.items point before) self.old.trail.items (vec_capacity self.old.trail) self.old.count self.old.open_from }
+        requires kept { KeepsTrackWith point before self.old }
         requires within { point < length self.old.words.items }
-        requires fewer { length (values_in (get_or self.old.words.items point [])) < length (values_in before) }
+        requires fewer { HasFewer self.old point before }
         ensures kept { KeepsTrack self.new }
         ensures words { self.new.words.items ≡ self.old.words.items }
-        ensures trail { self.new.trail.items ≡ self.old.trail.items ++ record { point = point; before = before } ∷ [] }
+        ensures trail { Notes self.old self.new point before }
     {
         let now = self.words[point as usize];
         self.count = self.count + size(now) - size(before);
@@ -83,7 +82,7 @@ impl Tracked {
         requires kept { KeepsTrack self.old }
         requires within { len ≤ length self.old.trail.items }
         ensures kept { KeepsTrack self.new }
-        ensures words { self.new.words.items ≡ words_after len self.old.trail.items self.old.words.items }
+        ensures words { self.new.words.items ≡ words_at len self.old }
         ensures trail { self.new.trail.items ≡ take len self.old.trail.items }
     {
         'changes: while self.trail.len() > len {
@@ -96,7 +95,7 @@ impl Tracked {
         requires kept { KeepsTrack self.old }
         requires some { 0 < length self.old.trail.items }
         ensures kept { KeepsTrack self.new }
-        ensures undone { IsUndone self.old.words.items self.old.trail.items self.new.words.items self.new.trail.items }
+        ensures undone { UndoesLast self.old self.new }
     {
         if let Some(change) = self.trail.pop() {
             let now = self.words[change.point as usize];
@@ -110,7 +109,7 @@ impl Tracked {
     /// The first point with two candidates or more.
     pub(crate) fn first_open(&self) -> Option<u32>
         requires { KeepsTrack self.now }
-        ensures { result ≡ first_open (box_of self.now.words.items) }
+        ensures { result ≡ first_open (sets_in self.now) }
     {
         match first_open(&self.words[self.open_from as usize..]) {
             Some(later) => Some(self.open_from + later as u32),
@@ -121,7 +120,7 @@ impl Tracked {
     /// The same, and the next time the search starts there.
     pub(crate) fn find_open(&mut self) -> Option<u32>
         requires { KeepsTrack self.old }
-        ensures found { result ≡ first_open (box_of self.old.words.items) }
+        ensures found { result ≡ first_open (sets_in self.old) }
         ensures kept { KeepsTrack self.new }
         ensures words { self.new.words.items ≡ self.old.words.items }
         ensures trail { self.new.trail.items ≡ self.old.trail.items }
