@@ -1,7 +1,12 @@
 -- The classes of views.
-use Rattle.std.specs.Prelude.{Bool, if◌then◌else◌}
+use Rattle.std.specs.Prelude.{ℕ, Bool, List, map, if◌then◌else◌}
 use Rattle.wf_model.specs.View.{View, normal}
+use Rattle.wf_complex.specs.Rounds.{views_at}
 
 -- the class of a view, in a symmetric task or one that is not
 abbrev pub class_by : Bool → View → View
 class_by symmetric v = if symmetric then normal v else v
+
+-- the classes of the views of these numbers
+abbrev pub classes_at : Bool → List View → List ℕ → List View
+classes_at symmetric table ids = map (class_by symmetric) (views_at table ids)

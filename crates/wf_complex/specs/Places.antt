@@ -1,5 +1,6 @@
 -- Which process stands at each place of the executions.
-use Rattle.std.specs.Prelude.{ℕ, ◌+◌, ◌≤◌, List, map, take, drop}
+use Rattle.std.specs.Prelude.{ℕ, ◌+◌, ◌≤◌, List, map, flat_map, take, drop}
+use Rattle.std.specs.List.{enumerate_from}
 use Rattle.wf_model.specs.View.{View, process_of}
 use Rattle.wf_view.specs.Views.{view_at}
 use Rattle.wf_complex.specs.declared.layout.Execution.{Execution}
@@ -20,3 +21,7 @@ place_of table execution id = record { execution = execution; process = process_
 -- the places of an execution that has a number
 abbrev pub places_on : List View → List ℕ → ℕ × Execution → List Place
 places_on table lasts at = map (place_of table at.0) (part_of lasts at.1)
+
+-- the places of these executions, numbered from 0 on
+abbrev pub places_on_all : List View → List ℕ → List Execution → List Place
+places_on_all table lasts executions = flat_map (places_on table lasts) (enumerate_from 0 executions)

@@ -1,9 +1,10 @@
 -- Views by their numbers in a table, through a round.
-use Rattle.std.specs.Prelude.{◌≡◌, ◌<◌, ◌≤◌, ◌+◌, ◌*◌, ℕ, zero, suc, nat_le, Bool, true, false, List, [], ◌∷◌, ◌++◌, map, filter, flat_map, length, zip, All}
+use Rattle.std.specs.Prelude.{◌≡◌, ◌<◌, ◌≤◌, ◌+◌, ◌*◌, ℕ, zero, suc, nat_le, Bool, true, false, List, [], ◌∷◌, ◌++◌, map, filter, flat_map, length, take, zip, All}
 use Rattle.wf_model.specs.Simplex.{Simplex, is_ascending}
 use Rattle.wf_model.specs.View.{View, process_of, base_views, round}
 use Rattle.wf_model.specs.Word.{Word, words}
 use Rattle.wf_view.specs.Views.{view_at}
+use Rattle.wf_complex.specs.declared.rounds.Ids.{Ids}
 
 -- the views of these numbers
 abbrev pub views_at : List View → List ℕ → List View
@@ -13,6 +14,11 @@ views_at table ids = map (view_at table) ids
 abbrev pub visible_ids : ℕ → Word → List ℕ → List ℕ
 visible_ids block w ids = map (λ q. q.1) (filter (λ q. nat_le q.0 block) (zip w ids))
 
+-- the numbers that a list of at most four keeps
+abbrev pub numbers_in : Ids → List ℕ
+numbers_in ids = take ids.count ids.ids
+
+-- the number where it is wanted, and else nothing
 abbrev pub only_if : Bool → ℕ → List ℕ
 only_if true id = id ∷ []
 only_if false id = []

@@ -5,7 +5,7 @@ ghost use Rattle.wf_model.specs.Lists.{distinct};
 ghost use Rattle.wf_model.specs.View.{same_view, normal};
 ghost use Rattle.wf_view.specs.Views.{view_at, count_within};
 ghost use Rattle.wf_complex.specs.Rounds.{views_at, Extends};
-ghost use Rattle.wf_complex.specs.Classes.{class_by};
+ghost use Rattle.wf_complex.specs.Classes.{classes_at};
 
 use crate::numbering::number_all;
 use std::alloc::{AllocError, Global};
@@ -33,7 +33,7 @@ pub(crate) fn classes_of(
     ensures extends { OnOk result (Extends views.old views.new) }
     ensures within { IfOk result (λ c. All (λ k. k < length views.new) c.ids.items) }
     ensures classes { IfOk result
-        (λ c. views_at views.new c.ids.items ≡ map (class_by symmetric) (views_at views.old lasts.items)) }
+        (λ c. views_at views.new c.ids.items ≡ classes_at symmetric views.old lasts.items) }
     ensures count { IfOk result
         (λ c. c.view_count ≡ length (distinct same_view (views_at views.old lasts.items))) }
 {
@@ -58,7 +58,8 @@ fn normals_of(alloc: Global, views: &mut Views, ids: &[u32]) -> Result<Vec<u32>,
     requires room { length views.old + 36 * length ids.now ≤ 4294967295 }
     ensures extends { OnOk result (Extends views.old views.new) }
     ensures within { IfOk result (λ ns. All (λ k. k < length views.new) ns.items) }
-    ensures normals { IfOk result (λ ns. views_at views.new ns.items ≡ map normal (views_at views.old ids.now)) }
+    ensures normals { IfOk result
+        (λ ns. views_at views.new ns.items ≡ map normal (views_at views.old ids.now)) }
 {
     let mut normals = Vec::new(alloc);
     for id in ids {

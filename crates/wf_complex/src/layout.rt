@@ -84,7 +84,8 @@ fn lay_on(
 ) -> Result<(), AllocError>
     requires size { size ≤ 4 }
     requires room { first + count * size ≤ 4000000 }
-    ensures { OnOk result (executions.new.items ≡ executions.old.items ++ laid_on simplex size first count) }
+    ensures { OnOk result (executions.new.items
+        ≡ executions.old.items ++ laid_on simplex size first count) }
 {
     let mut place = first;
     for _turn in 0..count {

@@ -1,7 +1,7 @@
 //! Numbers in the order of first appearance.
 
 ghost use Rattle.std.specs.Prelude.{◌≡◌, ◌<◌, ◌∷◌, [], ◌++◌, ℕ, length, vec_len, All, map, IfOk, OnOk, Ok, Some, None, get_or, slice_index, slice_set};
-ghost use Rattle.wf_complex.specs.Numbering.{first_places};
+ghost use Rattle.wf_complex.specs.Numbering.{first_places, numbers_at};
 
 use std::alloc::{AllocError, Global};
 
@@ -20,7 +20,8 @@ pub(crate) fn number_all(alloc: Global, ids: &[u32], bound: usize) -> Result<Num
     requires few { length ids.now < 4294967296 }
     ensures firsts { IfOk result (λ n. n.firsts.items ≡ first_places ids.now (length ids.now)) }
     ensures places { IfOk result (λ n. All (λ p. p < length n.firsts.items) n.places.items) }
-    ensures numbers { IfOk result (λ n. map (λ p. slice_index ids.now (slice_index n.firsts.items p)) n.places.items ≡ ids.now) }
+    ensures numbers { IfOk result
+        (λ n. numbers_at ids.now n.firsts.items n.places.items ≡ ids.now) }
 {
     let mut numbers: Vec<Option<u32>> = vec![in alloc; None; bound]?;
     let mut places = Vec::new(alloc);
@@ -42,9 +43,10 @@ fn number_one(
     requires id { id < vec_len numbers.old }
     requires room { vec_len firsts.old < 4294967296 }
     ensures numbers { vec_len numbers.new ≡ vec_len numbers.old }
-    ensures met { (k : ℕ) → get_or numbers.old.items id None ≡ Some k
-        → (result ≡ Ok k) × (numbers.new.items ≡ numbers.old.items) × (firsts.new.items ≡ firsts.old.items) }
-    ensures first { get_or numbers.old.items id None ≡ None → OnOk result ((result ≡ Ok (length firsts.old.items))
+    ensures met { (k : ℕ) → get_or numbers.old.items id None ≡ Some k → (result ≡ Ok k)
+        × (numbers.new.items ≡ numbers.old.items) × (firsts.new.items ≡ firsts.old.items) }
+    ensures first { get_or numbers.old.items id None ≡ None
+        → OnOk result ((result ≡ Ok (length firsts.old.items))
         × (numbers.new.items ≡ slice_set numbers.old.items id (Some (length firsts.old.items)))
         × (firsts.new.items ≡ firsts.old.items ++ i ∷ [])) }
 {

@@ -1,8 +1,7 @@
 //! Which process stands at each place of the executions.
 
-ghost use Rattle.std.specs.Prelude.{◌≡◌, ◌<◌, ◌≤◌, ◌++◌, length, map, flat_map, All, IfOk, OnOk};
-ghost use Rattle.std.specs.List.{enumerate_from};
-ghost use Rattle.wf_complex.specs.Places.{EndsBy, place_of, places_on};
+ghost use Rattle.std.specs.Prelude.{◌≡◌, ◌<◌, ◌≤◌, ◌++◌, length, map, All, IfOk, OnOk};
+ghost use Rattle.wf_complex.specs.Places.{EndsBy, place_of, places_on_all};
 
 use crate::layout::Execution;
 use std::alloc::{AllocError, Global};
@@ -25,8 +24,7 @@ pub(crate) fn places_of(
     requires lasts { All (λ k. k < length views.now) lasts.now }
     requires within { All (EndsBy (length lasts.now)) executions.now }
     requires few { length executions.now ≤ 500000 }
-    ensures { IfOk result
-        (λ ps. ps.items ≡ flat_map (places_on views.now lasts.now) (enumerate_from 0 executions.now)) }
+    ensures { IfOk result (λ ps. ps.items ≡ places_on_all views.now lasts.now executions.now) }
 {
     let mut places = Vec::new(alloc);
     for (number, execution) in executions.iter().enumerate() {
@@ -45,7 +43,8 @@ fn add_places(
     lasts: &[u32],
 ) -> Result<(), AllocError>
     requires { All (λ k. k < length views.now) lasts.now }
-    ensures { OnOk result (places.new.items ≡ places.old.items ++ map (place_of views.now execution) lasts.now) }
+    ensures { OnOk result (places.new.items
+        ≡ places.old.items ++ map (place_of views.now execution) lasts.now) }
 {
     for id in lasts {
         let process = views.colour(*id);

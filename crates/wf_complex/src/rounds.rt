@@ -4,7 +4,7 @@ ghost use Rattle.std.specs.Prelude.{◌≡◌, ◌<◌, ◌≤◌, ◌+◌, ◌+
 ghost use Rattle.wf_model.specs.View.{round, base_views};
 ghost use Rattle.wf_model.specs.Word.{words};
 ghost use Rattle.wf_view.specs.Views.{view_at};
-ghost use Rattle.wf_complex.specs.Rounds.{views_at, visible_ids, only_if, Extends, AreViews, leaves, cost, leaves_of, cost_of_each};
+ghost use Rattle.wf_complex.specs.Rounds.{views_at, visible_ids, numbers_in, only_if, Extends, AreViews, leaves, cost, leaves_of, cost_of_each};
 
 use std::alloc::{AllocError, Global};
 use wf_simplex::{Simplex, Word, allowed_count};
@@ -22,7 +22,7 @@ impl Ids {
     fn push_if(&mut self, wanted: bool, id: u32)
         requires { self.old.count < 4 }
         ensures count { self.new.count ≤ self.old.count + 1 }
-        ensures ids { take self.new.count self.new.ids ≡ take self.old.count self.old.ids ++ only_if wanted id }
+        ensures ids { numbers_in self.new ≡ numbers_in self.old ++ only_if wanted id }
     {
         if wanted {
             self.ids[self.count] = id;
@@ -36,7 +36,7 @@ fn visible(current: &[u32], word: &Word, i: u8) -> Ids
     requires long { length current.now ≡ length word.now }
     requires place { i < length current.now }
     ensures count { result.count ≤ 4 }
-    ensures ids { take result.count result.ids ≡ visible_ids (slice_index word.now i) word.now current.now }
+    ensures ids { numbers_in result ≡ visible_ids (slice_index word.now i) word.now current.now }
 {
     let mut seen = Ids {
         count: 0,
@@ -80,7 +80,8 @@ fn next_views(views: &mut Views, current: &[u32], word: &Word) -> Result<[u32; 4
     ensures extends { Extends views.old views.new }
     ensures few { length views.new ≤ length views.old + length current.now }
     ensures views { IfOk result (λ ids. AreViews views.new (take (length current.now) ids)
-        × (views_at views.new (take (length current.now) ids) ≡ round (views_at views.old current.now) word.now)) }
+        × (views_at views.new (take (length current.now) ids)
+        ≡ round (views_at views.old current.now) word.now)) }
 {
     let mut next = [0u32; 4];
     for i in 0..word.size() {
@@ -143,9 +144,11 @@ pub(crate) fn last_views(
     requires most { m ≤ 4 }
     requires room { length views.old + cost_of_each m rounds simplices.now ≤ 4294967291 }
     ensures extends { Extends views.old views.new }
-    ensures added { OnOk result (length views.new ≤ length views.old + cost_of_each m rounds simplices.now) }
+    ensures added { OnOk result
+        (length views.new ≤ length views.old + cost_of_each m rounds simplices.now) }
     ensures within { IfOk result (λ lasts. All (λ k. k < length views.new) lasts.items) }
-    ensures made { IfOk result (λ lasts. views_at views.new lasts.items ≡ flat_map (leaves_of m rounds) simplices.now) }
+    ensures made { IfOk result
+        (λ lasts. views_at views.new lasts.items ≡ flat_map (leaves_of m rounds) simplices.now) }
 {
     let mut lasts = Vec::new(alloc);
     for simplex in simplices {

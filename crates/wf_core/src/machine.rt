@@ -169,7 +169,8 @@ impl Core {
 
     // The worker and the branch's status, where there are both and the worker has not ended.
     fn active_at(&self, w: u32, i: u32) -> Result<(Worker, Status), Illegal>
-        ensures ok { IfOk result (λ k. IsWorker self.now w k.0 × IsActive self.now w × Is self.now i k.1) }
+        ensures ok { IfOk result
+            (λ k. IsWorker self.now w k.0 × IsActive self.now w × Is self.now i k.1) }
         ensures why { IfErr result (λ why. out_of_reach self.now w i ≡ Some why) }
     {
         let Some(worker) = self.workers.get(w as usize) else {
@@ -186,7 +187,8 @@ impl Core {
 
     // The worker, where it may settle the branch.
     fn holder(&self, w: u32, i: u32) -> Result<Worker, Illegal>
-        ensures ok { IfOk result (λ k. IsWorker self.now w k × IsActive self.now w × Is self.now i (Held w)) }
+        ensures ok { IfOk result
+            (λ k. IsWorker self.now w k × IsActive self.now w × Is self.now i (Held w)) }
         ensures why { IfErr result (λ why. refusal self.now (Event.Post w i) ≡ Some why) }
     {
         let (worker, _) = self.active_at(w, i)?;

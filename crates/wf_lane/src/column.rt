@@ -5,7 +5,7 @@ ghost use Rattle.wf_model.specs.Lists.{has};
 ghost use Rattle.wf_set.specs.Parts.{part_limit, part_values};
 ghost use Rattle.wf_lane.specs.Words.{ors};
 ghost use Rattle.wf_lane.specs.Table.{IsOneHot};
-ghost use Rattle.wf_lane.specs.Rows.{IsCut, block_limit, block_words, is_value, row_set, row_sets};
+ghost use Rattle.wf_lane.specs.Rows.{IsCut, block_limit, block_words, is_value, row_set, rows_of_value};
 
 use std::alloc::{AllocError, Global};
 use wf_set::part::{Part, holds};
@@ -73,7 +73,7 @@ fn push_rows(words: &[u64], value: u8, blocks: usize, sets: &mut Vec<u64>) -> Re
     requires one_hot { All IsOneHot words.now }
     requires few { blocks ≤ block_limit }
     ensures { OnOk result (sets.new.items
-        ≡ sets.old.items ++ row_sets (is_value value) words.now 0 (block_words * blocks)) }
+        ≡ sets.old.items ++ rows_of_value value words.now blocks) }
 {
     for k in 0..BLOCK_WORDS * blocks {
         sets.push(row_set(words, value, 64 * k))?;
@@ -93,7 +93,7 @@ fn push_value(
     requires one_hot { All IsOneHot words.now }
     requires few { blocks ≤ block_limit }
     ensures { OnOk result (sets.new.items
-        ≡ sets.old.items ++ cond occurs (row_sets (is_value value) words.now 0 (block_words * blocks)) []) }
+        ≡ sets.old.items ++ cond occurs (rows_of_value value words.now blocks) []) }
 {
     if occurs {
         return push_rows(words, value, blocks, sets);

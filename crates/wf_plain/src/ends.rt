@@ -3,7 +3,7 @@
 ghost use Rattle.std.specs.Prelude.{◌≡◌, ◌<◌, ◌+◌, ℕ, [], All, length, map, vec_items, IfOk};
 ghost use Rattle.wf_model.specs.Problem.{problem_of};
 ghost use Rattle.wf_complex.specs.Protocol.{IsProtocol};
-ghost use Rattle.wf_plain.specs.Plain.{AreEnds};
+ghost use Rattle.wf_plain.specs.Plain.{AreEndsIn};
 
 use std::alloc::{AllocError, Global};
 use wf_complex::Protocol;
@@ -16,7 +16,7 @@ pub(crate) fn ends_of(
     protocol: &Protocol,
 ) -> Result<Vec<Vec<u32>>, AllocError>
     requires { IsProtocol task.now protocol.now.rounds protocol.now }
-    ensures { IfOk result (λ ends. AreEnds protocol.now.scopes (length protocol.now.points) (length protocol.now.scopes) (map vec_items ends.items)) }
+    ensures { IfOk result (λ ends. AreEndsIn protocol.now (map vec_items ends.items)) }
 {
     let _inputs = task.inputs();
     let mut ends = no_ends(alloc, protocol.points())?;

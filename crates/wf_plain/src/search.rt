@@ -1,12 +1,10 @@
 //! The search.
 
-ghost use Rattle.std.specs.Prelude.{◌≡◌, ◌<◌, ◌≤◌, ◌+◌, ◌++◌, ◌∷◌, ℕ, [], List, true, All, length, take, map, vec_items, slice_index, IfOk};
+ghost use Rattle.std.specs.Prelude.{◌≡◌, ◌<◌, ◌≤◌, ◌+◌, true, All, length, take, map, vec_items, slice_index, IfOk};
 ghost use Rattle.std.specs.Bool.{OnTrue, OnFalse};
-ghost use Rattle.std.specs.List.{list_all};
-ghost use Rattle.wf_model.specs.Problem.{problem_of, IsSolution, IsLeastSolution, constraint_at};
-ghost use Rattle.wf_model.specs.Check.{satisfies};
+ghost use Rattle.wf_model.specs.Problem.{IsLeastSolution};
 ghost use Rattle.wf_complex.specs.Protocol.{IsProtocol};
-ghost use Rattle.wf_plain.specs.Plain.{Answers, AreEnds, IsTried, LiesBelow};
+ghost use Rattle.wf_plain.specs.Plain.{Answers, AreEndsIn, HasNoSolution, IsTriedOn, LiesBelow, problem_on, satisfies_each};
 
 use crate::ends::ends_of;
 use crate::fits::fits;
@@ -29,7 +27,7 @@ pub fn least_map(
     protocol: &Protocol,
 ) -> Result<Option<Vec<u8>>, AllocError>
     requires built { IsProtocol task.now protocol.now.rounds protocol.now }
-    ensures answer { IfOk result (Answers (problem_of task.now protocol.now.rounds)) }
+    ensures answer { IfOk result (Answers (problem_on task.now protocol.now)) }
 {
     let ends = ends_of(alloc, task, protocol)?;
     let mut values = vec![in alloc; 0u8; protocol.points() as usize]?;
@@ -44,10 +42,10 @@ pub fn least_map(
 /// there is none.
 fn search(task: &Task, protocol: &Protocol, ends: &[Vec<u32>], values: &mut [u8]) -> bool
     requires built { IsProtocol task.now protocol.now.rounds protocol.now }
-    requires ends { AreEnds protocol.now.scopes (length protocol.now.points) (length protocol.now.scopes) (map vec_items ends.now) }
+    requires ends { AreEndsIn protocol.now (map vec_items ends.now) }
     requires long { length values.old ≡ length protocol.now.points }
-    ensures map { OnTrue result (IsLeastSolution (problem_of task.now protocol.now.rounds) values.new) }
-    ensures none { OnFalse result ((m : List ℕ) → IsSolution (problem_of task.now protocol.now.rounds) m → ⊥) }
+    ensures map { OnTrue result (IsLeastSolution (problem_on task.now protocol.now) values.new) }
+    ensures none { OnFalse result (HasNoSolution (problem_on task.now protocol.now)) }
 {
     let _inputs = task.inputs();
     let mut point = 0;
@@ -85,11 +83,12 @@ fn give_value(
     ensures kept { take point values.new ≡ take point values.old }
     ensures from { OnTrue result (from ≤ slice_index values.new point) }
     ensures small { OnTrue result (slice_index values.new point < 256) }
-    ensures right { OnTrue result (list_all (λ e. satisfies values.new (constraint_at (problem_of task.now protocol.now.rounds) e)) executions.now ≡ true) }
-    ensures found { OnTrue result (IsTried (problem_of task.now protocol.now.rounds) (take point values.old ++ from ∷ [])
-        → IsTried (problem_of task.now protocol.now.rounds) (take point values.old ++ slice_index values.new point ∷ [])) }
-    ensures none { OnFalse result (IsTried (problem_of task.now protocol.now.rounds) (take point values.old ++ from ∷ [])
-        → IsTried (problem_of task.now protocol.now.rounds) (take point values.old ++ 256 ∷ [])) }
+    ensures right { OnTrue result
+        (satisfies_each values.new (problem_on task.now protocol.now) executions.now ≡ true) }
+    ensures found { OnTrue result (IsTriedOn (problem_on task.now protocol.now)
+        values.old point from (slice_index values.new point)) }
+    ensures none { OnFalse result (IsTriedOn (problem_on task.now protocol.now)
+        values.old point from 256) }
 {
     let all = task.values();
     let _inputs = task.inputs();

@@ -44,3 +44,11 @@ AreRenamed vs f (k ∷ old) (n ∷ new) = ((n < length vs) × (view_at vs n ≡ 
 -- the entry with this process, and with these numbers of the views in it
 abbrev pub renumbered_node : ℕ → (ℕ → ℕ) → Node → Node
 renumbered_node p f node = record { process = p; count = node.count; ids = map f (take node.count node.ids) ++ drop node.count node.ids }
+
+-- each of these numbers is an old one that has a new number beside it
+abbrev pub HaveNewNumbers : List ℕ → List ℕ → List ℕ → Type 0
+HaveNewNumbers old new ids = All (λ k. has (take (length new) old) k ≡ true) ids
+
+-- the view of this number with its processes replaced by f
+abbrev pub renamed_at : List View → (ℕ → ℕ) → ℕ → View
+renamed_at vs f id = renamed f (view_at vs id)

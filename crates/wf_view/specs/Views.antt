@@ -1,8 +1,8 @@
 -- What contracts say of a table of views. A table is seen as the list of its views in the order of their numbers.
-use Rattle.std.specs.Prelude.{ℕ, ◌^◌, List, [], ◌∷◌, ◌++◌, map, length, get_or, bit_or, if◌then◌else◌}
+use Rattle.std.specs.Prelude.{◌≡◌, ◌≤◌, ℕ, ◌^◌, Bool, List, [], ◌∷◌, ◌++◌, map, length, get_or, bit_or, if◌then◌else◌}
 use Rattle.std.specs.List.{list_any}
 use Rattle.wf_model.specs.Lists.{distinct}
-use Rattle.wf_model.specs.View.{View, base, seen, Views, no_views, view, views_of, same_view}
+use Rattle.wf_model.specs.View.{View, base, seen, Views, no_views, view, views_of, process_of, same_view}
 
 -- the view of this number
 abbrev pub view_at : List View → ℕ → View
@@ -12,9 +12,21 @@ view_at vs n = get_or vs n (base 0 0)
 abbrev pub view_seen : List View → ℕ → List ℕ → View
 view_seen vs p ids = seen p (views_of (map (view_at vs) ids))
 
+-- the processes of the views of these numbers
+abbrev pub processes_at : List View → List ℕ → List ℕ
+processes_at vs ids = map (λ k. process_of (view_at vs k)) ids
+
 -- the table with this view: as it was where the view stands in it, else with the view at its end
 abbrev pub with_view : List View → View → List View
 with_view vs v = if list_any (same_view v) vs then vs else vs ++ v ∷ []
+
+-- the table with this view where the test holds, and else as it was
+abbrev pub with_view_if : Bool → List View → View → List View
+with_view_if test vs v = if test then with_view vs v else vs
+
+-- the new table goes on from the old one by at most n views
+abbrev pub GrowsByAtMost : ℕ → List View → List View → Type 0
+GrowsByAtMost n old new = (more : List View) × (new ≡ old ++ more) × (length more ≤ n)
 
 abbrev pub list_of : Views → List View
 list_of no_views = []

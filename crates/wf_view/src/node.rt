@@ -4,7 +4,7 @@ ghost use Rattle.std.specs.Prelude.{◌≡◌, ◌≤◌, ◌<◌, true, length,
 ghost use Rattle.wf_model.specs.Lists.{has};
 ghost use Rattle.wf_model.specs.Simplex.{is_ascending};
 ghost use Rattle.wf_view.specs.Table.{base_node, seen_node};
-ghost use Rattle.wf_view.specs.Renaming.{number_beside, renumbered_node};
+ghost use Rattle.wf_view.specs.Renaming.{HaveNewNumbers, number_beside, renumbered_node};
 
 /// A view, with the views inside it by their numbers. An input has the count 0, and its value in the first place.
 /// Places past the last are 0, so that equal views are equal entries.
@@ -52,7 +52,7 @@ pub fn renumbered(node: Node, process: u8, old: &[u32], new: &[u32]) -> Node
     requires count { node.count ≤ 4 }
     requires ascending { is_ascending old.now ≡ true }
     requires fewer { length new.now ≤ length old.now }
-    requires known { All (λ k. has (take (length new.now) old.now) k ≡ true) (take node.count node.ids) }
+    requires known { HaveNewNumbers old.now new.now (take node.count node.ids) }
     ensures { result ≡ renumbered_node process (number_beside old.now new.now) node }
 {
     let mut ids = node.ids;

@@ -1,17 +1,17 @@
 //! The table of views.
 
-ghost use Rattle.std.specs.Prelude.{◌≡◌, ◌<◌, ◌≤◌, ◌^◌, bit_or, ℕ, true, List, [], ◌++◌, ◌+◌, length, take, All, map, is_ok, OnOk, IfOk, Some, slice_get, if◌then◌else◌};
+ghost use Rattle.std.specs.Prelude.{◌≡◌, ◌<◌, ◌≤◌, ◌^◌, bit_or, true, [], ◌+◌, length, take, All, map, is_ok, OnOk, IfOk, Some, slice_get};
 ghost use Rattle.std.specs.HashMap.{get};
 ghost use Rattle.std.specs.BTreeSet.{insert_key};
 ghost use Rattle.std.specs.List.{fold};
 ghost use Rattle.std.specs.Ordering.{nat_cmp};
 ghost use Rattle.wf_model.specs.Lists.{has, distinct};
 ghost use Rattle.wf_model.specs.Simplex.{is_ascending};
-ghost use Rattle.wf_model.specs.View.{View, base, process_of, same_view, renamed, normal};
+ghost use Rattle.wf_model.specs.View.{base, process_of, same_view, normal};
 ghost use Rattle.wf_model.specs.Problem.{number_of};
-ghost use Rattle.wf_view.specs.Views.{view_at, view_seen, with_view, inner_views, colours_of, count_within};
+ghost use Rattle.wf_view.specs.Views.{view_at, view_seen, processes_at, with_view_if, inner_views, colours_of, count_within, GrowsByAtMost};
 ghost use Rattle.wf_view.specs.Table.{same_node, colours_at};
-ghost use Rattle.wf_view.specs.Renaming.{rank_in, SawAmong, AreInside, AreRenamed};
+ghost use Rattle.wf_view.specs.Renaming.{rank_in, renamed_at, SawAmong, AreInside, AreRenamed};
 
 use crate::node::{Node, input, number_beside, renumbered, snapshot};
 use std::alloc::{AllocError, Global};
@@ -69,8 +69,7 @@ impl Views {
     pub fn base(&mut self, colour: u8, value: u8) -> Result<u32, AllocError>
         requires colour { colour ≤ 3 }
         requires room { length self.old < 4294967295 }
-        ensures table { self.new
-            ≡ (if is_ok result then with_view self.old (base colour value) else self.old) }
+        ensures table { self.new ≡ with_view_if (is_ok result) self.old (base colour value) }
         ensures number { IfOk result (λ n. n ≡ number_of self.new (base colour value)) }
         ensures stands { IfOk result (λ n. slice_get self.new n ≡ Some (base colour value)) }
     {
@@ -84,13 +83,15 @@ impl Views {
     pub fn seen(&mut self, colour: u8, parts: &[u32]) -> Result<u32, AllocError>
         requires colour { colour ≤ 3 }
         requires numbers { All (λ k. k < length self.old) parts.now }
-        requires ascending { is_ascending (map (λ k. process_of (view_at self.old k)) parts.now) ≡ true }
-        requires own { has (map (λ k. process_of (view_at self.old k)) parts.now) colour ≡ true }
+        requires ascending { is_ascending (processes_at self.old parts.now) ≡ true }
+        requires own { has (processes_at self.old parts.now) colour ≡ true }
         requires room { length self.old < 4294967295 }
         ensures table { self.new
-            ≡ (if is_ok result then with_view self.old (view_seen self.old colour parts.now) else self.old) }
-        ensures number { IfOk result (λ n. n ≡ number_of self.new (view_seen self.old colour parts.now)) }
-        ensures stands { IfOk result (λ n. slice_get self.new n ≡ Some (view_seen self.old colour parts.now)) }
+            ≡ with_view_if (is_ok result) self.old (view_seen self.old colour parts.now) }
+        ensures number { IfOk result
+            (λ n. n ≡ number_of self.new (view_seen self.old colour parts.now)) }
+        ensures stands { IfOk result
+            (λ n. slice_get self.new n ≡ Some (view_seen self.old colour parts.now)) }
     {
         let colours = colours_seen(&self.colours, colour, parts);
         self.number(snapshot(colour, parts), colours)
@@ -129,9 +130,11 @@ impl Views {
     pub fn normal(&mut self, id: u32) -> Result<u32, AllocError>
         requires id { id < length self.old }
         requires room { length self.old + count_within (view_at self.old id) ≤ 4294967295 }
-        ensures grows { (more : List View) × (self.new ≡ self.old ++ more) × (length more ≤ count_within (view_at self.old id)) }
-        ensures number { IfOk result (λ n. n ≡ number_of self.new (normal (view_at self.old id))) }
-        ensures stands { IfOk result (λ n. slice_get self.new n ≡ Some (normal (view_at self.old id))) }
+        ensures grows { GrowsByAtMost (count_within (view_at self.old id)) self.old self.new }
+        ensures number { IfOk result
+            (λ n. n ≡ number_of self.new (normal (view_at self.old id))) }
+        ensures stands { IfOk result
+            (λ n. slice_get self.new n ≡ Some (normal (view_at self.old id))) }
     {
         let processes = self.colours_in(id);
         let inside = self.inside(id)?;
@@ -176,9 +179,11 @@ impl Views {
         requires parts { SawAmong self.old id (take (length new.now) old.now) }
         requires renamed { AreRenamed self.old (rank_in processes) old.now new.now }
         ensures table { self.new
-            ≡ (if is_ok result then with_view self.old (renamed (rank_in processes) (view_at self.old id)) else self.old) }
-        ensures number { IfOk result (λ n. n ≡ number_of self.new (renamed (rank_in processes) (view_at self.old id))) }
-        ensures stands { IfOk result (λ n. slice_get self.new n ≡ Some (renamed (rank_in processes) (view_at self.old id))) }
+            ≡ with_view_if (is_ok result) self.old (renamed_at self.old (rank_in processes) id) }
+        ensures number { IfOk result
+            (λ n. n ≡ number_of self.new (renamed_at self.old (rank_in processes) id)) }
+        ensures stands { IfOk result
+            (λ n. slice_get self.new n ≡ Some (renamed_at self.old (rank_in processes) id)) }
     {
         let node = self.nodes[id as usize];
         let entry = renumbered(node, rank(processes, node.process), old, new);
@@ -195,8 +200,7 @@ impl Views {
         requires room { length self.old < 4294967295 }
         requires entry { IsEntry (length self.old) node }
         requires colours { colours ≡ colours_of (node_view self.old node) }
-        ensures table { self.new
-            ≡ (if is_ok result then with_view self.old (node_view self.old node) else self.old) }
+        ensures table { self.new ≡ with_view_if (is_ok result) self.old (node_view self.old node) }
         ensures number { IfOk result (λ n. n ≡ number_of self.new (node_view self.old node)) }
         ensures stands { IfOk result (λ n. slice_get self.new n ≡ Some (node_view self.old node)) }
     {
