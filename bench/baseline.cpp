@@ -1,6 +1,6 @@
 // A plain search for decision maps in C++, on one thread: what the proved program is timed beside.
 //
-//   baseline build|close|solve|verdict ROUNDS < TASK
+//   baseline build|close|solve|verdict|least ROUNDS < TASK
 //
 // It reads a task file that is known to be right, builds the points and executions of its protocol complex, closes
 // the root box, and searches as the program does: a trail of changes, marks on executions, and for each place and value
@@ -365,17 +365,23 @@ struct Search {
     }
 };
 
-static void report(const Problem& p, u32 rounds, bool found, const Search& s, bool verdict) {
-    printf("wfcheck report 1\nprocesses %u\nrounds %u\n", p.task.processes, rounds);
-    printf("points %u\nexecutions %zu\nanswer %s\n", p.points, p.executions.size(), found ? "map" : "none");
-    if (found) {
-        for (u64 set : s.sets) printf("m %d\n", __builtin_ctzll(set));
-    } else if (!verdict) {
-        for (auto& l : s.lines) {
-            if (l.kind == 'p') printf("p %u %u %u\n", l.at, l.process, l.value);
-            else printf("%c %u\n", l.kind, l.at);
-        }
+static void write_lines(const Search& s) {
+    for (auto& l : s.lines) {
+        if (l.kind == 'p') printf("p %u %u %u\n", l.at, l.process, l.value);
+        else printf("%c %u\n", l.kind, l.at);
     }
+}
+
+// The mode `least` adds to a map the lines that lead to it, and `verdict` leaves out those of a refutation.
+static void report(const Problem& p, u32 rounds, bool found, const Search& s, const std::string& mode) {
+    bool is_least = found && mode == "least";
+    printf("wfcheck report 1\nprocesses %u\nrounds %u\n", p.task.processes, rounds);
+    printf("points %u\nexecutions %zu\n", p.points, p.executions.size());
+    printf("answer %s\n", is_least ? "least" : found ? "map" : "none");
+    if (found)
+        for (u64 set : s.sets) printf("m %d\n", __builtin_ctzll(set));
+    if (is_least || (!found && mode != "verdict")) write_lines(s);
+    if (is_least) puts("f");
     puts("end");
 }
 
@@ -389,10 +395,10 @@ int main(int argc, char** argv) {
     Problem p{task_of(json), {}, 0, {}, {}};
     build(p, rounds);
     if (mode == "build") return printf("%u %zu\n", p.points, p.executions.size()), 0;
-    Search s(p, mode == "solve");
+    Search s(p, mode == "solve" || mode == "least");
     if (mode == "close") return printf("%d %zu\n", s.close(), s.count), 0;
     bool found = s.run();
-    report(p, rounds, found, s, mode == "verdict");
+    report(p, rounds, found, s, mode);
     fprintf(stderr, "lines %zu\n", s.count);
     return found ? 0 : 1;
 }
