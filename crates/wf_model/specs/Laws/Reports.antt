@@ -15,22 +15,22 @@ use Rattle.wf_model.specs.Report.{Report, a_map, none, least}
 use Rattle.wf_model.specs.Check.{report_fault}
 use Rattle.wf_model.specs.Laws.{report_about}
 
--- the processes that a report without a fault names are the task's
+-- a report without a fault says how many processes the task has
 abbrev pub AcceptedReportsCountTheProcesses : Type 0
 AcceptedReportsCountTheProcesses = (t : Task) (r : ℕ) (report : Report)
     → report_fault t r report ≡ None → report.processes ≡ t.processes
 
--- the rounds that a report without a fault names are those it is about
+-- a report without a fault says how many rounds it is about
 abbrev pub AcceptedReportsCountTheRounds : Type 0
 AcceptedReportsCountTheRounds = (t : Task) (r : ℕ) (report : Report)
     → report_fault t r report ≡ None → report.rounds ≡ r
 
--- the points that a report without a fault names are as many as there are
+-- a report without a fault says how many points there are
 abbrev pub AcceptedReportsCountThePoints : Type 0
 AcceptedReportsCountThePoints = (t : Task) (r : ℕ) (report : Report)
     → report_fault t r report ≡ None → report.points ≡ length (points t r)
 
--- the executions that a report without a fault names are as many as there are
+-- a report without a fault says how many executions there are
 abbrev pub AcceptedReportsCountTheExecutions : Type 0
 AcceptedReportsCountTheExecutions = (t : Task) (r : ℕ) (report : Report)
     → report_fault t r report ≡ None → report.executions ≡ length (executions t r)
