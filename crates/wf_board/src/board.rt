@@ -27,7 +27,9 @@ impl Model for Board {
 
     ghost view = { λ b. place b.table.shared.table_id b.branches b.workers };
 
-    ghost invariant = { λ b. (b.table.shared.table_id.words ≡ 3) × (b.table.shared.table_id.slots ≡ 0) × (b.table.shared.key.branches ≡ b.branches) × (b.table.shared.key.workers ≡ b.workers) × (b.branches * b.workers < 2 ^ 32) × (0 < b.workers) };
+    ghost invariant = { λ b. (b.table.shared.table_id.words ≡ 3) × (b.table.shared.table_id.slots ≡ 0)
+        × (b.table.shared.key.branches ≡ b.branches) × (b.table.shared.key.workers ≡ b.workers)
+        × (b.branches * b.workers < 2 ^ 32) × (0 < b.workers) };
 }
 
 /// A worker's seat at a board.
@@ -249,7 +251,9 @@ impl Board {
     fn gather(&self, first: BoardSeat, seats: Vec<BoardSeat>) -> (Seat<(), View>, u32)
         requires seats { AreSeats self.now (seats.items ++ first ∷ []) }
         requires room { length (seats.items ++ first ∷ []) * self.now.branches < 2 ^ 32 }
-        ensures { (result.0.table_id ≡ self.now.table) × (result.0.me ≡ (gathered (seats.items ++ first ∷ []), [])) × (result.1 ≡ length (gathered (seats.items ++ first ∷ [])).posted) }
+        ensures { (result.0.table_id ≡ self.now.table)
+            × (result.0.me ≡ (gathered (seats.items ++ first ∷ []), []))
+            × (result.1 ≡ length (all_posted (seats.items ++ first ∷ []))) }
     {
         let BoardSeat {
             seat: mut all,

@@ -1,6 +1,6 @@
 //! Numbers in the order of first appearance.
 
-ghost use Rattle.std.specs.Prelude.{◌≡◌, ◌<◌, ◌∷◌, [], ◌++◌, ℕ, length, vec_len, All, map, IfOk, OnOk, Ok, Some, None, get_or, slice_index, slice_set};
+ghost use Rattle.std.specs.Prelude.{◌≡◌, ◌<◌, ◌∷◌, [], ◌++◌, ℕ, length, vec_len, All, IfOk, OnOk, Ok, Some, None, get_or, slice_set};
 ghost use Rattle.wf_complex.specs.Numbering.{first_places, numbers_at};
 
 use std::alloc::{AllocError, Global};

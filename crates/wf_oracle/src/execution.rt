@@ -3,6 +3,7 @@
 ghost use Rattle.std.specs.Prelude.{◌≡◌, [], ◌++◌, IfOk, OnOk, map, vec_items};
 ghost use Rattle.std.specs.List.{slice_index_or};
 ghost use Rattle.wf_model.specs.Execution.{executions, executions_on, last_views};
+ghost use Rattle.wf_oracle.specs.Chosen.{chosen_words};
 
 use crate::lists::lists_of;
 use crate::task::{Rule, Task};
@@ -68,7 +69,8 @@ fn add_executions<'a>(
     rule: &'a Rule,
     rounds: usize,
 ) -> Result<(), AllocError>
-    ensures { OnOk result (all.new.items ≡ all.old.items ++ executions_on first_block rounds rule.now) }
+    ensures { OnOk result (all.new.items
+        ≡ all.old.items ++ executions_on first_block rounds rule.now) }
 {
     let words = words(alloc, first_block, rule.input.len())?;
     let numbers = numbers_below(alloc, words.len())?;
@@ -86,7 +88,8 @@ fn chosen(
     words: &[Vec<usize>],
     numbers: &[usize],
 ) -> Result<Vec<Vec<usize>>, AllocError>
-    ensures { IfOk result (λ v. map vec_items v.items ≡ map (λ n. slice_index_or (map vec_items words.now) n []) numbers.now) }
+    ensures { IfOk result (λ v. map vec_items v.items
+        ≡ chosen_words (map vec_items words.now) numbers.now) }
 {
     let mut chosen = Vec::new(alloc);
     for number in numbers {

@@ -33,7 +33,9 @@ fn push_longer<T: Copy>(
     first: T,
     shorter: &[Vec<T>],
 ) -> Result<(), AllocError>
-    ensures { OnOk result (map vec_items lists.new.items ≡ map vec_items lists.old.items ++ map (λ rest. first ∷ rest) (map vec_items shorter.now)) }
+    ensures { OnOk result (map vec_items lists.new.items
+        ≡ map vec_items lists.old.items
+        ++ map (λ rest. first ∷ rest) (map vec_items shorter.now)) }
 {
     for rest in shorter {
         lists.push(with_front(alloc, first, rest)?)?;

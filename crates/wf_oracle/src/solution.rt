@@ -18,7 +18,8 @@ pub fn decision_maps(
     task: &Task,
     rounds: usize,
 ) -> Result<Vec<Vec<usize>>, AllocError>
-    ensures { IfOk result (λ v. map vec_items v.items ≡ all_solutions (problem_of task.now rounds)) }
+    ensures { IfOk result
+        (λ v. map vec_items v.items ≡ all_solutions (problem_of task.now rounds)) }
 {
     let problem = problem_of(alloc, task, rounds)?;
     all_solutions(alloc, &problem)

@@ -219,7 +219,8 @@ pub fn views_after(
     input: &[(usize, usize)],
     words: &[Vec<usize>],
 ) -> Result<Vec<View>, AllocError>
-    ensures { IfOk result (λ v. v.items ≡ fold round (base_views input.now) (map vec_items words.now)) }
+    ensures { IfOk result
+        (λ v. v.items ≡ fold round (base_views input.now) (map vec_items words.now)) }
 {
     let mut views = base_views(alloc, input)?;
     for word in words {

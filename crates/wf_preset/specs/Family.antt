@@ -1,5 +1,5 @@
 -- Families of tasks: which values the processes of an input simplex may decide together.
-use Rattle.std.specs.Prelude.{ℕ, ◌≤◌, nat_le, nat_lt, Bool, List, map, filter, flat_map, length, zip, None, Some, Option, if◌then◌else◌}
+use Rattle.std.specs.Prelude.{ℕ, ◌≤◌, nat_le, nat_lt, Bool, List, map, filter, flat_map, length, sum_by, zip, None, Some, Option, if◌then◌else◌}
 use Rattle.std.specs.Ordering.{nat_cmp}
 use Rattle.wf_model.specs.Lists.{below, lists_of, in_order}
 use Rattle.wf_model.specs.Presets.{different, all_different}
@@ -22,6 +22,17 @@ allows (Naming names) tuple = all_different tuple
 abbrev pub tuples_for : Family → Simplex → List Tuple
 tuples_for family s = filter (allows family) (lists_of (values_for family s) (length s))
 
+-- the allowed lists of so many of these values
+abbrev pub allowed_lists : Family → List ℕ → ℕ → List Tuple
+allowed_lists family values size = filter (allows family) (lists_of values size)
+
+-- how many tuples an input simplex has, and how many these have together
+abbrev pub tuple_count : Family → Simplex → ℕ
+tuple_count family s = length (tuples_for family s)
+
+abbrev pub tuple_total : Family → List Simplex → ℕ
+tuple_total family inputs = sum_by (λ s. length (tuples_for family s)) inputs
+
 -- names are values of a task
 abbrev pub IsFamily : Family → Type 0
 IsFamily (Agreement k) = Unit {0}
@@ -34,6 +45,10 @@ pub record AreFew (xs : List ℕ) : Type 0 where
 -- the number, unless it is above the bound
 abbrev pub at_most : ℕ → ℕ → Option ℕ
 at_most most n = if nat_lt most n then None else Some n
+
+-- the simplices on the processes of this one that have any of these values
+abbrev pub all_on : Simplex → List ℕ → List Simplex
+all_on s values = map (zip (processes_of s)) (lists_of values (length s))
 
 -- the tuples of all input simplices, on their processes
 abbrev pub images_of : Family → List Simplex → List Simplex

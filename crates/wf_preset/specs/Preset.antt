@@ -1,7 +1,7 @@
 -- Set agreement and renaming, unless their numbers or a limit refuse them.
 use Rattle.std.specs.Prelude.{ℕ, ◌==◌, ◌&&◌, ◌||◌, nat_le, nat_lt, Bool, true, not, List, length, count_by, Result, Ok}
 use Rattle.wf_model.specs.Presets as model
-use Rattle.wf_model.specs.Simplex.{Simplex}
+use Rattle.wf_model.specs.Simplex.{Simplex, complex_of}
 use Rattle.wf_model.specs.Task.{Task, inputs}
 use Rattle.wf_task.specs.declared.fault.Limit.TheVariants as limit
 use Rattle.wf_task.specs.declared.fault.TaskFault.{TaskFault}
@@ -15,6 +15,10 @@ use Rattle.wf_task.specs.Canonical.{listed_of}
 abbrev pub inputs_seen : Inputs → model.Inputs
 inputs_seen Own = model.own
 inputs_seen (All m) = model.all m
+
+-- the input complex of set agreement
+abbrev pub input_complex_of : ℕ → Inputs → List Simplex
+input_complex_of n choice = complex_of (model.input_facets n (inputs_seen choice))
 
 -- the task, or the first limit that its canonical text breaks
 unfoldable pub within_limits : Task → Result Task TaskFault

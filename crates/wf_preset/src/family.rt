@@ -1,10 +1,10 @@
-ghost use Rattle.std.specs.Prelude.{◌≡◌, ◌^◌, ◌<◌, ◌≤◌, nat_lt, [], IfOk, length, filter, sum_by, slice_index_or};
+ghost use Rattle.std.specs.Prelude.{◌≡◌, ◌^◌, ◌<◌, ◌≤◌, nat_lt, [], IfOk, length, slice_index_or};
 ghost use Rattle.std.specs.Ordering.{nat_cmp};
 ghost use Rattle.wf_model.specs.Lists.{below, lists_of, in_order};
 ghost use Rattle.wf_model.specs.Presets.{different};
 ghost use Rattle.wf_model.specs.Simplex.{values_of};
 ghost use Rattle.wf_model.specs.Task.{IsSimplexWithin};
-ghost use Rattle.wf_preset.specs.Family.{IsFamily, AreFew, values_for, allows, tuples_for, at_most};
+ghost use Rattle.wf_preset.specs.Family.{IsFamily, AreFew, values_for, allows, allowed_lists, tuples_for, tuple_count, tuple_total, at_most};
 
 use std::alloc::{AllocError, Global};
 use std::collections::BTreeSet;
@@ -58,7 +58,7 @@ impl Family {
         requires some { 1 ≤ size }
         requires few { size ≤ 4 }
         requires values { AreFew values.now }
-        ensures { IfOk result (λ rows. rows.items ≡ filter (allows self) (lists_of values.now size)) }
+        ensures { IfOk result (λ rows. rows.items ≡ allowed_lists self values.now size) }
     {
         let mut rows = Vec::new(alloc);
         for number in 0..list_count(values.len(), size) {
@@ -78,7 +78,7 @@ impl Family {
         most: usize,
     ) -> Result<Option<usize>, AllocError>
         requires { IsFamily self }
-        ensures { IfOk result (λ count. count ≡ at_most most (length (tuples_for self simplex.now))) }
+        ensures { IfOk result (λ count. count ≡ at_most most (tuple_count self simplex.now)) }
     {
         let values = self.values(alloc, simplex)?;
         Ok(self.count_allowed(&values, simplex.colours(), most))
@@ -89,7 +89,7 @@ impl Family {
         requires some { 1 ≤ size }
         requires few { size ≤ 4 }
         requires values { AreFew values.now }
-        ensures { result ≡ at_most most (length (filter (allows self) (lists_of values.now size))) }
+        ensures { result ≡ at_most most (length (allowed_lists self values.now size)) }
     {
         let mut left = most;
         for number in 0..list_count(values.len(), size) {
@@ -111,7 +111,7 @@ impl Family {
         most: usize,
     ) -> Result<bool, AllocError>
         requires { IsFamily self }
-        ensures { IfOk result (λ more. more ≡ nat_lt most (sum_by (λ s. length (tuples_for self s)) inputs.now)) }
+        ensures { IfOk result (λ more. more ≡ nat_lt most (tuple_total self inputs.now)) }
     {
         let mut left = most;
         for simplex in inputs {
@@ -139,7 +139,8 @@ pub(crate) fn numbers_below(alloc: Global, bound: u8) -> Result<Vec<u8>, AllocEr
 
 /// The values of a simplex: ascending, each once.
 fn values_of(alloc: Global, simplex: &Simplex) -> Result<Vec<u8>, AllocError>
-    ensures values { IfOk result (λ values. values.items ≡ in_order nat_cmp (values_of simplex.now)) }
+    ensures values { IfOk result
+        (λ values. values.items ≡ in_order nat_cmp (values_of simplex.now)) }
     ensures simplex { IsSimplexWithin 4 255 simplex.now }
 {
     let mut values = BTreeSet::new(alloc);

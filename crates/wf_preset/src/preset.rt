@@ -3,14 +3,14 @@
 //! Limits are judged by counting: no tuple is kept before it is known that the task is within all limits.
 
 ghost use Rattle.std.specs.Prelude.{◌≡◌, ◌==◌, ◌≤◌, ◌++◌, true, All, IfOk, OnOk, map, length, zip, count_by, vec_items};
-ghost use Rattle.wf_model.specs.Lists.{below, lists_of};
+ghost use Rattle.wf_model.specs.Lists.{below};
 ghost use Rattle.wf_model.specs.Presets.{input_facets};
 ghost use Rattle.wf_model.specs.Simplex.{processes_of, complex_of};
 ghost use Rattle.wf_model.specs.Task.{IsTask};
 ghost use Rattle.wf_task.specs.Canonical.{HasFewFacets};
 ghost use Rattle.wf_task.specs.Draft.{Gives};
-ghost use Rattle.wf_preset.specs.Family.{IsFamily, AreFew, tuples_for, images_of, task_for};
-ghost use Rattle.wf_preset.specs.Preset.{inputs_seen, has_processes, has_values, has_input_values, inputs_judged, set_agreement_of, renaming_of};
+ghost use Rattle.wf_preset.specs.Family.{IsFamily, AreFew, all_on, tuples_for, images_of, task_for};
+ghost use Rattle.wf_preset.specs.Preset.{inputs_seen, input_complex_of, has_processes, has_values, has_input_values, inputs_judged, set_agreement_of, renaming_of};
 
 use crate::family::{Family, list_at, list_count, numbers_below};
 use std::alloc::{AllocError, Global};
@@ -51,7 +51,7 @@ impl Inputs {
         requires some { 1 ≤ processes }
         requires few { processes ≤ 4 }
         requires values { has_input_values self ≡ true }
-        ensures { result ≡ count_by (λ s. length s == 1) (complex_of (input_facets processes (inputs_seen self))) }
+        ensures { result ≡ count_by (λ s. length s == 1) (input_complex_of processes self) }
     {
         match self {
             Inputs::Own => usize::from(processes),
@@ -166,7 +166,7 @@ fn input_complex(alloc: Global, processes: u8, inputs: Inputs) -> Result<Complex
     requires some { 1 ≤ processes }
     requires few { processes ≤ 4 }
     requires values { has_input_values inputs ≡ true }
-    ensures { Gives (λ c. c) result (inputs_judged (complex_of (input_facets processes (inputs_seen inputs)))) }
+    ensures { Gives (λ c. c) result (inputs_judged (input_complex_of processes inputs)) }
 {
     if inputs.vertex_count(processes) > VERTICES {
         return Err(TaskFault::TooMany(Limit::Vertices));
@@ -206,7 +206,8 @@ fn tuples_and_images(
     inputs: &[Simplex],
 ) -> Result<(Vec<Vec<Row>>, Vec<Simplex>), AllocError>
     requires { IsFamily family }
-    ensures tuples { IfOk result (λ made. map vec_items made.0.items ≡ map (tuples_for family) inputs.now) }
+    ensures tuples { IfOk result
+        (λ made. map vec_items made.0.items ≡ map (tuples_for family) inputs.now) }
     ensures images { IfOk result (λ made. made.1.items ≡ images_of family inputs.now) }
 {
     let mut tuples = Vec::new(alloc);
@@ -222,7 +223,8 @@ fn tuples_and_images(
 /// Adds the simplices on the processes of another one that have these values.
 fn add_images(images: &mut Vec<Simplex>, simplex: &Simplex, rows: &[Row]) -> Result<(), AllocError>
     requires { All (λ row. length row ≡ length simplex.now) rows.now }
-    ensures { OnOk result (images.new.items ≡ images.old.items ++ map (zip (processes_of simplex.now)) rows.now) }
+    ensures { OnOk result (images.new.items
+        ≡ images.old.items ++ map (zip (processes_of simplex.now)) rows.now) }
 {
     for row in rows {
         images.push(with_values(simplex, row))?;
@@ -233,7 +235,7 @@ fn add_images(images: &mut Vec<Simplex>, simplex: &Simplex, rows: &[Row]) -> Res
 /// The simplices on these processes that have any of the values.
 fn all_values(alloc: Global, whole: &Simplex, values: &[u8]) -> Result<Vec<Simplex>, AllocError>
     requires { AreFew values.now }
-    ensures { IfOk result (λ facets. facets.items ≡ map (zip (processes_of whole.now)) (lists_of values.now (length whole.now))) }
+    ensures { IfOk result (λ facets. facets.items ≡ all_on whole.now values.now) }
 {
     let mut facets = Vec::new(alloc);
     let size = whole.colours();

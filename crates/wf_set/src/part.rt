@@ -65,7 +65,8 @@ pub fn meet(part: Part, other: Part) -> Part
 
 /// The values of the part that the other one lacks.
 pub fn difference(part: Part, other: Part) -> Part
-    ensures { part_values result ≡ filter (λ v. not (has (part_values other) v)) (part_values part) }
+    ensures { part_values result
+        ≡ filter (λ v. not (has (part_values other) v)) (part_values part) }
 {
     part & !other
 }
@@ -89,7 +90,8 @@ pub fn rest(part: Part) -> Part
 
 /// The least value of the part, and the part without it; none where the part is empty.
 pub fn split_first(part: Part) -> Option<(u8, Part)>
-    ensures split { MatchOption result (part_values part ≡ []) (λ r. part_values part ≡ r.0 ∷ part_values r.1) }
+    ensures split { MatchOption result (part_values part ≡ [])
+        (λ r. part_values part ≡ r.0 ∷ part_values r.1) }
     ensures small { IfSome result (λ r. r.0 < part_limit) }
 {
     if is_empty(part) {

@@ -56,7 +56,8 @@ impl Model for Simplex {
 
     ghost view = { λ s. vertices_from 0 s.values };
 
-    ghost invariant = { λ s. (length s.values ≡ 4) × IsSimplexWithin 4 255 (vertices_from 0 s.values) };
+    ghost invariant = { λ s. (length s.values ≡ 4)
+        × IsSimplexWithin 4 255 (vertices_from 0 s.values) };
 
     ghost inverse = { λ s. record { values = entries_of s } };
 
@@ -134,7 +135,8 @@ impl Simplex {
 
     /// Adds all faces.
     pub(crate) fn add_faces(&self, faces: &mut BTreeSet<Simplex>) -> Result<(), AllocError>
-        ensures added { OnOk result (faces.new.keys ≡ with_all simplex_cmp (faces_of self.now) faces.old.keys) }
+        ensures added { OnOk result (faces.new.keys
+            ≡ with_all simplex_cmp (faces_of self.now) faces.old.keys) }
         ensures simplex { IsSimplexWithin 4 255 self.now }
         ensures few { length self.now ≤ 4 }
     {
@@ -169,8 +171,10 @@ fn add_faces(
     requires blank { (k : ℕ) → from ≤ k → slice_index_or chosen k None ≡ None }
     requires small { AreSmall chosen }
     requires small_facet { AreSmall facet }
-    ensures { OnOk result (faces.new.keys ≡ with_all simplex_cmp
-        (faces_with (vertices_from 0 chosen) (vertices_from from (drop from facet))) faces.old.keys) }
+    ensures { OnOk result (faces.new.keys
+        ≡ with_all simplex_cmp
+        (faces_with (vertices_from 0 chosen) (vertices_from from (drop from facet)))
+        faces.old.keys) }
 {
     if from == 4 {
         if count(chosen) > 0 {

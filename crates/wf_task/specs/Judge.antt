@@ -50,6 +50,13 @@ abbrev pub all_colours : Listed → Bool
 all_colours listed = list_all (has_colours listed.processes) listed.inputs && list_all (has_colours listed.processes) listed.outputs
     && list_all (λ rule. has_colours listed.processes rule.input) listed.delta
 
+abbrev pub rule_has_colours : ℕ → Rule → Bool
+rule_has_colours n rule = has_colours n rule.input
+
+-- how many value lists the entries have together
+abbrev pub tuple_total : List Rule → ℕ
+tuple_total rules = sum_by (λ rule. length rule.tuples) rules
+
 abbrev pub is_among : List Simplex → Simplex → Bool
 is_among complex s = list_any (same_simplex s) complex
 
@@ -67,6 +74,14 @@ wrong_length listed s = position_from (λ tuple. not (length tuple == length s))
 -- the place of the first value list that is no output simplex
 abbrev pub no_output : Listed → Simplex → Option ℕ
 no_output listed s = position_from (λ tuple. not (is_among (complex_of listed.outputs) (zip (processes_of s) tuple))) 0 (tuples_for listed s)
+
+-- the values on the processes of the simplex are a simplex of the complex
+abbrev pub is_image_in : List Simplex → Simplex → Tuple → Bool
+is_image_in complex s tuple = is_among complex (zip (processes_of s) tuple)
+
+-- the place of the first entry that is for no input simplex
+abbrev pub first_stray : List Simplex → List Rule → Option ℕ
+first_stray inputs rules = position_from (λ rule. not (is_among inputs rule.input)) 0 rules
 
 -- the number of the first simplex at which f answers, with the answer
 abbrev pub answer_or : Option ℕ → ℕ → Option (ℕ × ℕ) → Option (ℕ × ℕ)
@@ -87,6 +102,10 @@ refused_if false e = Ok tt
 abbrev pub refused_at : {A : Type 0} → Option A → (A → TaskFault) → Result (Unit {0}) TaskFault
 refused_at None e = Ok tt
 refused_at (Some at) e = Err (e at)
+
+-- 18: of the first block
+abbrev pub first_block_judged : Option ℕ → Result (Unit {0}) TaskFault
+first_block_judged restriction = refused_if (not (is_first_block restriction)) fault.FirstBlock
 
 -- 4 to 7: of the listed numbers alone
 unfoldable pub numbers_judged : Listed → Result (Unit {0}) TaskFault

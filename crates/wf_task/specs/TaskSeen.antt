@@ -1,5 +1,5 @@
 -- What a clause sees of the program's tasks, and what each of them keeps.
-use Rattle.std.specs.Prelude.{◌≡◌, ℕ, Bool, List, [], ◌∷◌, map, length, Option, None, vec_items}
+use Rattle.std.specs.Prelude.{◌≡◌, ℕ, Bool, List, [], ◌∷◌, map, length, slice_get, Option, None, option_map, vec_items}
 use Rattle.wf_model.specs.Simplex.{Simplex}
 use Rattle.wf_model.specs.Task.{Task, Rule, Tuple, IsTask, values}
 use Rattle.wf_task.specs.declared.task.Task.TheInside.{Inside}
@@ -35,3 +35,7 @@ pub record IsKept (t : Inside) : Type 0 where
   pub each : length (map vec_items t.tuples.items) ≡ length t.inputs
   pub few_outputs : HasFewFacets t.outputs
   pub values : IsMaskOf t.values (values (task_seen t))
+
+-- the tuples of the input simplex of this number, if there is one
+abbrev pub tuples_at : Task → ℕ → Option (List Tuple)
+tuples_at t simplex = option_map (λ rule. rule.tuples) (slice_get t.rules simplex)

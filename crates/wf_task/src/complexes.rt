@@ -1,9 +1,9 @@
-ghost use Rattle.std.specs.Prelude.{◌≡◌, ◌==◌, ◌<◌, ◌≤◌, ℕ, All, List, map, count_by, sum_by, nat_lt, length, IfOk};
+ghost use Rattle.std.specs.Prelude.{◌≡◌, ◌==◌, ◌<◌, ◌≤◌, ℕ, All, List, map, count_by, nat_lt, length, IfOk};
 ghost use Rattle.wf_model.specs.Simplex.{complex_of};
 ghost use Rattle.wf_model.specs.Task.{IsSimplexWithin};
 ghost use Rattle.wf_task.specs.Draft.{Gives};
 ghost use Rattle.wf_task.specs.DraftSeen.{draft_seen, pairs_seen, entry_seen};
-ghost use Rattle.wf_task.specs.Judge.{sizes_judged};
+ghost use Rattle.wf_task.specs.Judge.{sizes_judged, tuple_total};
 
 use crate::draft::Draft;
 use crate::fault::{Limit, TaskFault};
@@ -51,7 +51,7 @@ fn count_vertices(simplices: &[Simplex]) -> usize
 
 /// Whether the entries have more value lists than this.
 fn has_more_tuples(delta: &[Entry], most: usize) -> bool
-    ensures { result ≡ nat_lt most (sum_by (λ rule. length rule.tuples) (map entry_seen delta.now)) }
+    ensures { result ≡ nat_lt most (tuple_total (map entry_seen delta.now)) }
 {
     let mut left = most;
     for entry in delta {

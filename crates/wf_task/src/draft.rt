@@ -31,7 +31,8 @@ pub(crate) struct Draft {
 
 /// A whole number under a key.
 fn number_under(key: Key, value: Option<&Value>) -> Result<u64, TaskFault>
-    ensures { Gives (λ n. n) result (value_at key whole_of (option_map (λ v. view v.now) value.entry)) }
+    ensures { Gives (λ n. n) result
+        (value_at key whole_of (option_map (λ v. view v.now) value.entry)) }
 {
     match value.and_then(Value::as_u64) {
         Some(number) => Ok(number),
@@ -41,7 +42,8 @@ fn number_under(key: Key, value: Option<&Value>) -> Result<u64, TaskFault>
 
 /// What is listed under `first_block`, which a text of version 2 has.
 fn restriction_under(version: u64, value: Option<&Value>) -> Result<Option<u64>, TaskFault>
-    ensures { Gives (λ m. m) result (restriction_at version (option_map (λ v. view v.now) value.entry)) }
+    ensures { Gives (λ m. m) result
+        (restriction_at version (option_map (λ v. view v.now) value.entry)) }
 {
     if version == RESTRICTED {
         Ok(Some(number_under(Key::FirstBlock, value)?))
@@ -62,7 +64,8 @@ fn is_key_count(keys: usize, restriction: Option<u64>) -> bool
 
 /// A truth value under a key.
 fn truth_under(key: Key, value: Option<&Value>) -> Result<bool, TaskFault>
-    ensures { Gives (λ b. b) result (value_at key as_bool (option_map (λ v. view v.now) value.entry)) }
+    ensures { Gives (λ b. b) result
+        (value_at key as_bool (option_map (λ v. view v.now) value.entry)) }
 {
     match value.and_then(Value::as_bool) {
         Some(truth) => Ok(truth),
@@ -78,7 +81,8 @@ fn list_under<T: Shape + Drop>(
     value: Option<&Value>,
 ) -> Result<Vec<T>, TaskFault>
     requires { IsPart (option_map (λ v. view v.now) value) }
-    ensures { Gives (λ v. map T.seen v.items) result (list_at key T.reading (option_map (λ v. view v.now) value.entry)) }
+    ensures { Gives (λ v. map T.seen v.items) result
+        (list_at key T.reading (option_map (λ v. view v.now) value.entry)) }
 {
     let Some(value) = value else {
         return Err(TaskFault::Shape(key, 0));

@@ -4,7 +4,7 @@ ghost use Rattle.wf_model.specs.Simplex.{complex_of};
 ghost use Rattle.wf_model.specs.Task.{largest_value};
 ghost use Rattle.wf_task.specs.Draft.{Gives};
 ghost use Rattle.wf_task.specs.DraftSeen.{draft_seen, entry_seen};
-ghost use Rattle.wf_task.specs.Judge.{is_large, has_large, rule_has_large, has_large_at, some_large, is_first_block, has_colours, all_colours, refused_if, numbers_judged};
+ghost use Rattle.wf_task.specs.Judge.{is_large, has_large, rule_has_large, has_large_at, some_large, is_first_block, has_colours, rule_has_colours, all_colours, first_block_judged, numbers_judged};
 
 use crate::draft::{Draft, RESTRICTED, UNRESTRICTED};
 use crate::fault::TaskFault;
@@ -108,7 +108,7 @@ fn all_have_colours(processes: u64, simplices: &[ListedSimplex]) -> bool
 
 /// Whether the simplex of each entry has such processes.
 fn all_entries_have_colours(processes: u64, delta: &[Entry]) -> bool
-    ensures { result ≡ list_all (λ rule. has_colours processes rule.input) (map entry_seen delta.now) }
+    ensures { result ≡ list_all (rule_has_colours processes) (map entry_seen delta.now) }
 {
     for entry in delta {
         if !has_colours(processes, &entry.input.pairs) {
@@ -158,7 +158,7 @@ fn is_first_block(restriction: Option<u64>) -> bool
 
 /// Refusal 18.
 pub(crate) fn judge_first_block(draft: &Draft) -> Result<(), TaskFault>
-    ensures { Gives (λ u. u) result (refused_if (not (is_first_block draft.now.restriction)) TaskFault.FirstBlock) }
+    ensures { Gives (λ u. u) result (first_block_judged draft.now.restriction) }
 {
     if !is_first_block(draft.restriction) {
         return Err(TaskFault::FirstBlock);

@@ -22,8 +22,10 @@ impl Model for Row {
 
     ghost view = { λ r. take r.size r.values };
 
-    ghost invariant = { λ r. (length (take r.size r.values) ≡ r.size) × (filled (take r.size r.values) ≡ r.values)
-        × (1 ≤ r.size) × (r.size ≤ 4) × (length r.values ≡ 4) × All (λ x. x ≤ 255) (take r.size r.values) };
+    ghost invariant = { λ r. (length (take r.size r.values) ≡ r.size)
+        × (filled (take r.size r.values) ≡ r.values)
+        × (1 ≤ r.size) × (r.size ≤ 4) × (length r.values ≡ 4)
+        × All (λ x. x ≤ 255) (take r.size r.values) };
 
     ghost inverse = { λ values. record { size = length values; values = filled values } };
 

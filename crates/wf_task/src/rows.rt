@@ -31,7 +31,8 @@ fn row_of(values: &[u64]) -> Row
 /// The rows of value lists: ascending, each once. It takes n log n steps.
 fn rows(alloc: Global, lists: &[Vec<u64>]) -> Result<Vec<Row>, AllocError>
     requires { All IsRow (map (λ t. t.items) lists.now) }
-    ensures { IfOk result (λ rows. rows.items ≡ in_order (slice_cmp nat_cmp) (map (λ t. t.items) lists.now)) }
+    ensures { IfOk result (λ rows. rows.items
+        ≡ in_order (slice_cmp nat_cmp) (map (λ t. t.items) lists.now)) }
 {
     let mut rows = BTreeSet::new(alloc);
     for list in lists {
@@ -47,7 +48,8 @@ pub(crate) fn all_rows(
     slots: &[Slot],
 ) -> Result<Vec<Vec<Row>>, AllocError>
     requires { All (NamesRows (map entry_seen delta.now)) slots.now }
-    ensures { IfOk result (λ found. map vec_items found.items ≡ map (rows_at (map entry_seen delta.now)) slots.now) }
+    ensures { IfOk result (λ found. map vec_items found.items
+        ≡ map (rows_at (map entry_seen delta.now)) slots.now) }
 {
     let mut found = Vec::new(alloc);
     for slot in slots {

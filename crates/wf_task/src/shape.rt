@@ -79,7 +79,8 @@ pub(crate) fn list<T: Shape + Drop>(
     alloc: Global,
     values: &[Value],
 ) -> Result<Result<Vec<T>, usize>, AllocError>
-    ensures { IfOk result (λ found. list_seen T.seen found ≡ each T.reading (items_view values.now)) }
+    ensures { IfOk result
+        (λ found. list_seen T.seen found ≡ each T.reading (items_view values.now)) }
 {
     let mut found = Vec::new(alloc);
     for value in values {
@@ -154,7 +155,8 @@ pub(crate) fn under<T: Shape + Drop>(
     alloc: Global,
     value: Option<&Value>,
 ) -> Result<Option<T>, AllocError>
-    ensures { IfOk result (λ found. option_map T.seen found ≡ option_and_then T.reading (option_map (λ v. view v.now) value.entry)) }
+    ensures { IfOk result (λ found. option_map T.seen found
+        ≡ option_and_then T.reading (option_map (λ v. view v.now) value.entry)) }
 {
     match value {
         Some(value) => T::shape(alloc, value),

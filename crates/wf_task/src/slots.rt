@@ -1,10 +1,10 @@
-ghost use Rattle.std.specs.Prelude.{◌≡◌, ◌≤◌, All, List, map, not, length, IfOk};
-ghost use Rattle.wf_model.specs.Task.{IsSimplexWithin};
+ghost use Rattle.std.specs.Prelude.{◌≡◌, ◌≤◌, List, map, length, IfOk};
 ghost use Rattle.std.specs.List.{position_from};
 ghost use Rattle.wf_task.specs.Draft.{Gives};
 ghost use Rattle.wf_task.specs.DraftSeen.{entry_seen, draft_seen};
-ghost use Rattle.wf_task.specs.Judge.{is_among, entries_judged};
+ghost use Rattle.wf_task.specs.Judge.{entries_judged, first_stray};
 ghost use Rattle.wf_task.specs.Slots.{AreOf, with_entry, no_entry, is_missing, is_twice};
+ghost use Rattle.wf_task.specs.Tuples.{HaveSmallInputs};
 
 use crate::complexes::simplex_of;
 use crate::draft::Draft;
@@ -41,7 +41,7 @@ pub(crate) fn slots(
     inputs: &Complex,
     delta: &[Entry],
 ) -> Result<Vec<Slot>, AllocError>
-    requires { All (λ rule. IsSimplexWithin 4 255 rule.input) (map entry_seen delta.now) }
+    requires { HaveSmallInputs (map entry_seen delta.now) }
     ensures { IfOk result (λ slots. AreOf slots.items (map entry_seen delta.now) inputs.now) }
 {
     let mut slots = no_entries(alloc, inputs.simplices())?;
@@ -99,7 +99,7 @@ pub(crate) fn judge_entries(
     inputs: &Complex,
     slots: &[Slot],
 ) -> Result<(), TaskFault>
-    requires within { All (λ rule. IsSimplexWithin 4 255 rule.input) (map entry_seen draft.now.delta.items) }
+    requires within { HaveSmallInputs (map entry_seen draft.now.delta.items) }
     requires slots { AreOf slots.now (map entry_seen draft.now.delta.items) inputs.now }
     requires few_inputs { length inputs.now ≤ 4096 }
     requires few_entries { length draft.now.delta.items ≤ 16777216 }
@@ -122,8 +122,8 @@ pub(crate) fn judge_entries(
 
 /// The place of the first entry that is for no input simplex.
 pub(crate) fn first_stray(inputs: &Complex, delta: &[Entry]) -> Option<usize>
-    requires { All (λ rule. IsSimplexWithin 4 255 rule.input) (map entry_seen delta.now) }
-    ensures { result ≡ position_from (λ rule. not (is_among inputs.now rule.input)) 0 (map entry_seen delta.now) }
+    requires { HaveSmallInputs (map entry_seen delta.now) }
+    ensures { result ≡ first_stray inputs.now (map entry_seen delta.now) }
 {
     for (place, entry) in delta.iter().enumerate() {
         let stray = !inputs.contains(&simplex_of(&entry.input.pairs));

@@ -1,4 +1,4 @@
-ghost use Rattle.std.specs.Prelude.{◌≡◌, ◌<◌, ◌≤◌, length, map, option_map, slice_get, true, Some, None, Ok, IfOk, OnOk, vec_items};
+ghost use Rattle.std.specs.Prelude.{◌≡◌, ◌<◌, ◌≤◌, length, map, true, Some, None, Ok, IfOk, OnOk, vec_items};
 ghost use Rattle.wf_model.specs.Simplex.{complex_of};
 ghost use Rattle.wf_model.specs.Task.{IsTask, first_block, inputs, values};
 ghost use Rattle.serde_json.specs.View.{view};
@@ -8,7 +8,7 @@ ghost use Rattle.wf_task.specs.Draft.{Gives};
 ghost use Rattle.wf_task.specs.DraftSeen.{draft_seen, pairs_seen, entry_seen};
 ghost use Rattle.wf_task.specs.Judge.{is_first_block, judged, drafted, text_of};
 ghost use Rattle.wf_task.specs.Slots.{AreOf};
-ghost use Rattle.wf_task.specs.TaskSeen.{task_of_parts};
+ghost use Rattle.wf_task.specs.TaskSeen.{task_of_parts, tuples_at};
 ghost use Rattle.wf_task.specs.Faultless.{ListsVertices, ListsFew, IsFaultless};
 
 use crate::canonical::{entries, facets, list, task_value};
@@ -81,10 +81,12 @@ impl Task {
         outputs: Complex,
         tuples: Vec<Vec<Row>>,
     ) -> Task
-        requires task { IsTask (task_of_parts processes symmetric inputs (map vec_items tuples.items) outputs) }
+        requires task { IsTask
+            (task_of_parts processes symmetric inputs (map vec_items tuples.items) outputs) }
         requires each { length (map vec_items tuples.items) ≡ length inputs }
         requires few { HasFewFacets outputs }
-        ensures { result ≡ task_of_parts processes symmetric inputs (map vec_items tuples.items) outputs }
+        ensures { result
+            ≡ task_of_parts processes symmetric inputs (map vec_items tuples.items) outputs }
     {
         Task {
             values: mask(outputs.simplices()),
@@ -182,7 +184,7 @@ impl Task {
     /// The tuples of an input simplex, by its place in the input complex: ascending, each once.
     pub fn tuples(&self, simplex: u32) -> &[Row]
         requires { simplex < length self.now.rules }
-        ensures { option_map (λ rule. rule.tuples) (slice_get self.now.rules simplex) ≡ Some result.now }
+        ensures { tuples_at self.now simplex ≡ Some result.now }
     {
         let tuples = self.tuples.as_slice();
         let place = simplex as usize;

@@ -1,10 +1,10 @@
-ghost use Rattle.std.specs.Prelude.{◌≡◌, ◌==◌, ◌≤◌, false, All, List, map, not, zip, length, sum_by};
+ghost use Rattle.std.specs.Prelude.{◌≡◌, ◌==◌, ◌≤◌, false, All, List, map, not, zip, length};
 ghost use Rattle.std.specs.List.{position_from};
 ghost use Rattle.wf_model.specs.Simplex.{processes_of, complex_of};
 ghost use Rattle.wf_model.specs.Task.{IsSimplexWithin};
 ghost use Rattle.wf_task.specs.Draft.{Gives};
 ghost use Rattle.wf_task.specs.DraftSeen.{draft_seen, entry_seen, pairs_seen};
-ghost use Rattle.wf_task.specs.Judge.{is_among, wrong_length, no_output, first_answer, some_large, tuples_judged};
+ghost use Rattle.wf_task.specs.Judge.{is_image_in, tuple_total, wrong_length, no_output, first_answer, some_large, tuples_judged};
 ghost use Rattle.wf_task.specs.Slots.{AreOnly, IsOnceBelow, lists_at};
 ghost use Rattle.wf_task.specs.Tuples.{IsTupleOf, AreTuples};
 
@@ -28,7 +28,8 @@ pub(crate) fn lists_at(delta: &[Entry], slot: Slot) -> &[Vec<u64>]
 
 /// The place of the first value list that has not as many values.
 fn wrong_length(lists: &[Vec<u64>], size: usize) -> Option<usize>
-    ensures { result ≡ position_from (λ tuple. not (length tuple == size)) 0 (map (λ t. t.items) lists.now) }
+    ensures { result
+        ≡ position_from (λ tuple. not (length tuple == size)) 0 (map (λ t. t.items) lists.now) }
 {
     for (place, list) in lists.iter().enumerate() {
         if list.as_slice().len() != size {
@@ -55,7 +56,8 @@ fn on_processes(simplex: &Simplex, values: &[u64]) -> Simplex
 /// The place of the first value list that is no output simplex on the processes of the input simplex.
 fn no_output(outputs: &Complex, simplex: &Simplex, lists: &[Vec<u64>]) -> Option<usize>
     requires { All (IsTupleOf (length simplex.now)) (map (λ t. t.items) lists.now) }
-    ensures { result ≡ position_from (λ tuple. not (is_among outputs.now (zip (processes_of simplex.now) tuple))) 0 (map (λ t. t.items) lists.now) }
+    ensures { result ≡ position_from (λ tuple. not (is_image_in outputs.now simplex.now tuple)) 0
+        (map (λ t. t.items) lists.now) }
 {
     for (place, list) in lists.iter().enumerate() {
         let stray = !outputs.contains(&on_processes(simplex, list));
@@ -114,7 +116,7 @@ pub(crate) fn judge_tuples(
     requires only { AreOnly slots.now (map entry_seen draft.now.delta.items) inputs.now }
     requires small { some_large (draft_seen draft.now) ≡ false }
     requires few_inputs { length inputs.now ≤ 4096 }
-    requires few_tuples { sum_by (λ rule. length rule.tuples) (map entry_seen draft.now.delta.items) ≤ 65536 }
+    requires few_tuples { tuple_total (map entry_seen draft.now.delta.items) ≤ 65536 }
     requires outputs { outputs.now ≡ complex_of (map pairs_seen draft.now.outputs.items) }
     ensures { Gives (λ u. u) result (tuples_judged (draft_seen draft.now) inputs.now) }
 {
