@@ -1,5 +1,5 @@
 -- Sets of which each value has its bit in one machine word.
-use Rattle.std.proofs.Common.{◌≡◌, ℕ, suc, ◌<◌, ◌≤◌, ◌==◌, ◌&&◌, Bool, true, false, cond, List, [], ◌∷◌, map, filter, length, get_or, Some, None, refl, sym, ap, ◌∙◌, arith, ⊎_elim}
+use Rattle.std.proofs.Common.{◌≡◌, ℕ, zero, suc, ◌+◌, ◌<◌, ◌≤◌, ◌==◌, ◌&&◌, Bool, true, false, cond, List, [], ◌∷◌, map, filter, length, get_or, Some, None, refl, sym, ap, ◌∙◌, arith, ⊎_elim}
 use Rattle.std.specs.Prelude.{nat_lt, position}
 use Rattle.std.specs.List.{list_all, position_or_len}
 use Rattle.std.proofs.Math.ListN.{get_or-map}
@@ -7,7 +7,10 @@ use Rattle.std.proofs.lemmas.Bool.{cases_eq, eq-eqb, false≢true, le-ltb, lt-lt
 use Rattle.std.proofs.lemmas.List.{length-map}
 use Rattle.std.proofs.lemmas.List.Sums.{position_or_len_is}
 use Rattle.wf_model.proofs.Fuel.{length_filter}
-use Rattle.wf_set.specs.Parts.{part_values}
+use Rattle.wf_set.specs.Parts.{part_limit, part_values}
+use Rattle.wf_set.specs.Sets.{values_in}
+use Rattle.wf_set.proofs.SetLaws.{length-values_in, part_of, values_of_first}
+use Rattle.wf_box.specs.Kept.{is_narrow}
 
 -- ---- a test that each value passes
 
@@ -23,9 +26,27 @@ counted true x xs ys fewer = one_more (length xs) (length ys)
 counted false x xs ys fewer = ne_eqb (suc (length xs)) (length ys) (λ e. absurd (omega (arith, e, fewer)))
 
 -- as many values pass as there are where all pass
-pub all_counted : (p : ℕ → Bool) (xs : List ℕ) → (length xs == length (filter p xs)) ≡ list_all p xs
+all_counted : (p : ℕ → Bool) (xs : List ℕ) → (length xs == length (filter p xs)) ≡ list_all p xs
 all_counted p [] = refl
 all_counted p (x ∷ xs) = counted (p x) x xs (filter p xs) (length_filter p xs) ∙ ap (λ b. p x && b) (all_counted p xs)
+
+not_none : (n : ℕ) → (suc n == 0) ≡ false
+not_none n = ne_eqb (suc n) 0 (λ e. absurd (omega (arith, e)))
+
+all_here : (a b c d : ℕ) → (a + b + c + d == a) ≡ ((b == 0 && c == 0) && d == 0)
+all_here a (suc b) c d = ne_eqb (a + suc b + c + d) a (λ e. absurd (omega (arith, e))) ∙ sym (ap (λ t. (t && c == 0) && d == 0) (not_none b))
+all_here a zero (suc c) d = ne_eqb (a + 0 + suc c + d) a (λ e. absurd (omega (arith, e))) ∙ sym (ap (λ t. t && d == 0) (not_none c))
+all_here a zero zero (suc d) = ne_eqb (a + 0 + 0 + suc d) a (λ e. absurd (omega (arith, e))) ∙ sym (not_none d)
+all_here a zero zero zero = eq-eqb (a + 0 + 0 + 0) a (omega arith)
+
+-- all values have their bit in the first word where the others are empty
+pub others_empty : (set : List ℕ) → ((length (part_values (part_of set 1)) == 0 && length (part_values (part_of set 2)) == 0) && length (part_values (part_of set 3)) == 0) ≡ is_narrow (values_in set)
+others_empty set =
+    let low = length (part_values (part_of set 0)) in
+    sym (all_here low (length (part_values (part_of set 1))) (length (part_values (part_of set 2))) (length (part_values (part_of set 3))))
+    ∙ ap (λ n. n == low) (sym (length-values_in set))
+    ∙ ap (λ vs. length (values_in set) == length vs) (values_of_first set)
+    ∙ all_counted (λ v. nat_lt v part_limit) (values_in set)
 
 all_stay : (p : ℕ → Bool) (xs : List ℕ) → list_all p xs ≡ true → filter p xs ≡ xs
 all_stay p [] h = refl

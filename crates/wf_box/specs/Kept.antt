@@ -1,5 +1,5 @@
 -- The sets of a box that waits, as the code keeps them.
-use Rattle.std.specs.Prelude.{ℕ, nat_lt, Bool, true, false, List, map}
+use Rattle.std.specs.Prelude.{ℕ, nat_lt, Bool, true, false, List, filter, map}
 use Rattle.std.specs.List.{list_all}
 use Rattle.wf_model.specs.Box.{Box}
 use Rattle.wf_set.specs.Parts.{part_limit, part_values}
@@ -10,6 +10,13 @@ use Rattle.wf_box.specs.declared.kept.KeptSets.TheVariants.{Narrow, Wide}
 -- whether each value of the set has its bit in the first machine word
 abbrev pub is_narrow : List ℕ → Bool
 is_narrow set = list_all (λ v. nat_lt v part_limit) set
+
+abbrev pub are_narrow : Box → Bool
+are_narrow box = list_all is_narrow box
+
+-- of each set the values that have their bit there
+abbrev pub low_values : Box → Box
+low_values box = map (filter (λ v. nat_lt v part_limit)) box
 
 -- the values of each set
 abbrev pub box_kept : KeptSets → Box

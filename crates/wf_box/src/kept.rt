@@ -1,11 +1,10 @@
 //! The sets of a box that waits, in as little memory as they need.
 
-ghost use Rattle.std.specs.Prelude.{◌≡◌, length, map, nat_lt, filter, IfOk};
-ghost use Rattle.std.specs.List.{list_all};
+ghost use Rattle.std.specs.Prelude.{◌≡◌, map, IfOk};
 ghost use Rattle.wf_model.specs.Box.{first_open};
-ghost use Rattle.wf_set.specs.Parts.{part_limit, part_values};
+ghost use Rattle.wf_set.specs.Parts.{part_values};
 ghost use Rattle.wf_set.specs.Sets.{box_of, values_in};
-ghost use Rattle.wf_box.specs.Kept.{box_kept, is_narrow, is_one_word};
+ghost use Rattle.wf_box.specs.Kept.{are_narrow, box_kept, is_narrow, is_one_word, low_values};
 
 use std::alloc::{AllocError, Global};
 use wf_lane::first_open;
@@ -25,7 +24,7 @@ impl KeptSets {
     /// These sets, in one machine word each where no set needs more.
     pub(crate) fn of(alloc: Global, sets: &[Mask]) -> Result<KeptSets, AllocError>
         ensures sets { IfOk result (λ kept. box_kept kept ≡ box_of sets.now) }
-        ensures narrow { IfOk result (λ kept. is_one_word kept ≡ list_all is_narrow (box_of sets.now)) }
+        ensures narrow { IfOk result (λ kept. is_one_word kept ≡ are_narrow (box_of sets.now)) }
     {
         if are_narrow(sets) {
             Ok(KeptSets::Narrow(narrowed(alloc, sets)?))
@@ -57,7 +56,7 @@ impl KeptSets {
 
 /// Whether each value of each set is below 64.
 fn are_narrow(sets: &[Mask]) -> bool
-    ensures { result ≡ list_all is_narrow (box_of sets.now) }
+    ensures { result ≡ are_narrow (box_of sets.now) }
 {
     for set in sets {
         if !is_narrow(*set) {
@@ -71,12 +70,13 @@ fn are_narrow(sets: &[Mask]) -> bool
 fn is_narrow(set: Mask) -> bool
     ensures { result ≡ is_narrow (values_in set) }
 {
-    wf_set::count(set) == part::count(first_part(set))
+    let [_, b, c, d] = set;
+    part::is_empty(b) & part::is_empty(c) & part::is_empty(d)
 }
 
 /// The values below 64 of each set.
 fn narrowed(alloc: Global, sets: &[Mask]) -> Result<Vec<Part>, AllocError>
-    ensures { IfOk result (λ parts. map part_values parts.items ≡ map (filter (λ v. nat_lt v part_limit)) (box_of sets.now)) }
+    ensures { IfOk result (λ parts. map part_values parts.items ≡ low_values (box_of sets.now)) }
 {
     let mut parts = Vec::with_capacity(alloc, sets.len())?;
     for set in sets {

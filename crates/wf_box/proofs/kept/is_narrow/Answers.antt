@@ -1,11 +1,9 @@
-use Rattle.std.proofs.Common.{◌==◌, length, nat_lt, ap, ◌∙◌}
-use Rattle.wf_set.specs.Parts.{part_limit}
-use Rattle.wf_set.specs.Sets.{values_in}
-use Rattle.wf_box.proofs.KeptLemmas.{all_counted}
+use Rattle.std.proofs.Common.{◌≡◌, ◌&&◌, ◌∙◌, Bool}
+use Rattle.wf_box.proofs.KeptLemmas.{others_empty}
 use Rattle.wf_box.proofs.kept.is_narrow.Goals as goal
 
 pub returns : goal.returns
-returns c =
-    ap (λ n. n == c.count-2.result) c.count.ensures
-    ∙ ap (λ n. length (values_in c.args.set) == n) (c.count-2.ensures.count ∙ ap length c.first_part.ensures)
-    ∙ all_counted (λ v. nat_lt v part_limit) (values_in c.args.set)
+returns c = all c.is_empty.ensures c.is_empty-2.ensures c.is_empty-3.ensures ∙ others_empty c.args.set
+  where
+    all : {p q r t u v : Bool} → p ≡ t → q ≡ u → r ≡ v → ((p && q) && r) ≡ ((t && u) && v)
+    all a b c = cc
