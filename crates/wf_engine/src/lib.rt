@@ -1,7 +1,7 @@
 //! The engines: from the bytes of a reader to the bytes of a writer.
 //!
 //! - [`run_solve_one`], [`run_solve`]: a task's text in, and the report of its least decision map or of none out, by one
-//!   worker or by up to [`MAX_WORKERS`].
+//!   worker or by up to [`MAX_WORKERS`]. [`run_solve_watched`] is `run_solve` with a gate, which is told of the workers.
 //! - [`run_views`]: a task's text in, and the list of the points of its protocol complex out.
 //! - [`run_verify`]: a task's text and a report's in, and what is accepted out.
 //! - [`run_preset`]: the canonical text of a [`Preset`] out.
@@ -29,7 +29,7 @@ pub use laws::{
 };
 pub use outcome::{Form, Outcome};
 pub use preset::{Preset, run_preset};
-pub use solve::{run_solve, run_solve_one};
+pub use solve::{run_solve, run_solve_one, run_solve_watched};
 pub use steps::hand_out;
 pub use verify::run_verify;
 pub use views::run_views;

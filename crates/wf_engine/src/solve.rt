@@ -24,7 +24,7 @@ use wf_complex::{Lines, Protocol};
 use wf_core::Account;
 use wf_handout::Stealing;
 use wf_io::{Sink, Source};
-use wf_pool::{Answer, MAX_WORKERS, MapLines, Open, solve, solve_one};
+use wf_pool::{Answer, Gate, MAX_WORKERS, MapLines, Open, solve, solve_one};
 use wf_task::Task;
 
 /// How branches are handed to workers.
@@ -68,10 +68,30 @@ pub fn run_solve<T: Threads + Sync, R: Read, W: Write>(
     ensures solves { Solves rounds form source.old source.new sink.old sink.new result }
     ensures in_order { workers ≡ 1 → SearchesInOrder result }
 {
+    run_solve_watched(rt, alloc, source, sink, rounds, workers, form, &Open)
+}
+
+/// The same as [`run_solve`], and where there are several workers the gate is told how many branches there are, and each
+/// worker's moments. One worker's search is told to no gate.
+pub fn run_solve_watched<T: Threads + Sync, G: Gate, R: Read, W: Write>(
+    rt: &T,
+    alloc: Global,
+    source: &mut Source<R>,
+    sink: &mut Sink<W>,
+    rounds: u32,
+    workers: u32,
+    form: Form,
+    gate: &G,
+) -> Result<(Outcome, Account), RunFault>
+    requires ends { CanCount source.old sink.old }
+    requires workers { (0 < workers) × (workers ≤ MAX_WORKERS) }
+    ensures solves { Solves rounds form source.old source.new sink.old sink.new result }
+    ensures in_order { workers ≡ 1 → SearchesInOrder result }
+{
     if workers == 1 {
         return run_solve_one(alloc, source, sink, rounds, form);
     }
-    let answer = solve_source(rt, alloc, source, rounds, workers, form);
+    let answer = solve_source(rt, alloc, source, rounds, workers, form, gate);
     hand_out(sink, answer)
 }
 
@@ -91,20 +111,21 @@ fn solve_source_one<R: Read>(
 }
 
 /// The answer for a source's task, with the text of its report, by some workers.
-fn solve_source<T: Threads + Sync, R: Read>(
+fn solve_source<T: Threads + Sync, G: Gate, R: Read>(
     rt: &T,
     alloc: Global,
     source: &mut Source<R>,
     rounds: u32,
     workers: u32,
     form: Form,
+    gate: &G,
 ) -> Result<((Outcome, Account), Vec<u8>), RunFault>
     requires source { CanRead source.old }
     requires workers { (0 < workers) × (workers ≤ MAX_WORKERS) }
     ensures { Asks (IsSolved rounds form) rounds source.old source.new (answered result) }
 {
     let task = read_task(alloc, source)?;
-    solve_task(rt, alloc, &task, rounds, workers, form)
+    solve_task(rt, alloc, &task, rounds, workers, form, gate)
 }
 
 /// The answer for a task, with the text of its report, by one worker.
@@ -124,13 +145,14 @@ fn solve_task_one(
 }
 
 /// The answer for a task, with the text of its report, by some workers.
-fn solve_task<T: Threads + Sync>(
+fn solve_task<T: Threads + Sync, G: Gate>(
     rt: &T,
     alloc: Global,
     task: &Task,
     rounds: u32,
     workers: u32,
     form: Form,
+    gate: &G,
 ) -> Result<((Outcome, Account), Vec<u8>), RunFault>
     requires { (0 < workers) × (workers ≤ MAX_WORKERS) }
     ensures { Answers (IsSolved rounds form) rounds task.now (answered result) }
@@ -138,7 +160,7 @@ fn solve_task<T: Threads + Sync>(
     let protocol = Protocol::build(alloc, task, rounds)?;
     let problem = Problem::join(alloc, task, &protocol)?;
     let kept = lines_kept(form);
-    let (answer, account) = solve::<T, Branches, Open>(rt, alloc, &problem, workers, kept, &Open)?;
+    let (answer, account) = solve::<T, Branches, G>(rt, alloc, &problem, workers, kept, gate)?;
     Ok(with_text(alloc, task, &protocol, answer, account, form)?)
 }
 

@@ -51,6 +51,7 @@ pub fn solve<R: Threads + Sync, H: Handout, G: Gate>(
     let cover = branches_of(alloc, problem)?;
     let branches = cover.branches();
     let used = workers.min(branches).max(1);
+    gate.branches(branches);
     let (board, seats) = Board::make(alloc, branches, used)?;
     let crew = search_all::<R, H, G>(rt, alloc, problem, kept, &cover, &board, seats, gate)?;
     let (account, finds) = finish(alloc, problem, kept, board, crew)?;

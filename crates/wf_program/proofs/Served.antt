@@ -129,7 +129,7 @@ module _ (source source' : Reading) (sink sink' : Writing) where
       (record { most = tt; failures = (1, omega arith, omega (arith, reads, writes)); taken = omega (arith, takes); unwritten = λ other. wrote })
 
   did : (asked : Result Job WordsFault) (done : Result Done Refusal) → DoesAsked asked source source' sink sink' done → IsDone (file_count asked) source source' sink sink' done
-  did (Ok (job.Solve rounds workers form tells)) done (result, solves, ordered, is) =
+  did (Ok (job.Solve rounds workers form tells progress)) done (result, solves, ordered, is) =
       subst (IsDone 0 source source' sink sink') (sym is) (after_solving tells result (counted (IsSolved rounds form) rounds source source' sink sink' result solves))
   did (Ok (job.Verify task)) done (result, inl (file, file', verifies), is) =
       subst (IsDone 1 source source' sink sink') (sym is) (after_verifying file file' result (checked file file' source source' sink sink' result verifies))

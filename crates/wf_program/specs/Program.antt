@@ -99,7 +99,7 @@ VerifiesFile source source' sink sink' result =
 
 -- what a job asks for was done
 abbrev pub Does : Job → Reading → Reading → Writing → Writing → Result Done Refusal → Type 0
-Does (Solve rounds workers form account) source source' sink sink' done =
+Does (Solve rounds workers form account progress) source source' sink sink' done =
     (result : Result (Outcome × Account) RunFault) × Solves rounds form source source' sink sink' result
     × (workers ≡ 1 → SearchesInOrder result) × (done ≡ solved account result)
 Does (Verify task) source source' sink sink' done =

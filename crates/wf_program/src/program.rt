@@ -1,7 +1,8 @@
 //! From the words of a command line to the exit status.
 
-ghost use Rattle.std.specs.Prelude.{◌≡◌};
+ghost use Rattle.std.specs.Prelude.{◌≡◌, ◌<◌, ◌≤◌};
 ghost use Rattle.wf_io.specs.Ends.{CanCount, CanWrite};
+ghost use Rattle.wf_engine.specs.Texts.{SearchesInOrder, Solves};
 ghost use Rattle.wf_words.specs.Job.{IsWithinLimits};
 ghost use Rattle.wf_program.specs.Program.{CanServe, Declines, Does, Ends, IsAsked, Serves, Shows, VerifiesFile, outcome_status, solved, verified, written};
 
@@ -15,8 +16,12 @@ use std::fmt::Display;
 use std::io::{Read, Write};
 use std::thread::Threads;
 use wf_core::Account;
-use wf_engine::{Outcome, RunFault, hand_out, run_preset, run_solve, run_verify, run_views};
+use wf_engine::{
+    Form, Outcome, RunFault, hand_out, run_preset, run_solve, run_solve_watched, run_verify,
+    run_views,
+};
 use wf_io::{Sink, Source};
+use wf_pool::{Gate, MAX_WORKERS};
 use wf_words::{Job, WordsFault, read_words};
 
 /// Runs what the words ask for, the first of which is the program's own name, and answers the exit status. Where the
@@ -25,10 +30,14 @@ use wf_words::{Job, WordsFault, read_words};
 /// 0: a map was found, a report is accepted, or the text was written. 1: there is no map. 2: the task, the rounds, the
 /// report or the words are refused. 3: memory ran out. 4: a read or a write failed, or a file could not be opened. A
 /// refusal is one line on `errors`, and so is the account of a search that was not refused, where the words ask for it.
-pub fn run_program<T: Threads + Sync, F: Files, R: Read, W: Write, E: Write>(
+///
+/// Where the words ask for progress, the gate is told of a search by several workers, while it goes on. What a gate does
+/// with that is the caller's: what it writes is no part of `errors`.
+pub fn run_program<T: Threads + Sync, F: Files, G: Gate, R: Read, W: Write, E: Write>(
     rt: &T,
     alloc: Global,
     files: &F,
+    gate: &G,
     words: Result<Vec<String>, WordsFault>,
     source: &mut Source<R>,
     sink: &mut Sink<W>,
@@ -38,7 +47,7 @@ pub fn run_program<T: Threads + Sync, F: Files, R: Read, W: Write, E: Write>(
     ensures { Serves words source.old source.new sink.old sink.new errors.old errors.new result }
 {
     let done = match job_of(alloc, words) {
-        Ok(job) => do_job(rt, alloc, files, source, sink, &job),
+        Ok(job) => do_job(rt, alloc, files, gate, source, sink, &job),
         Err(fault) => decline(alloc, sink, fault),
     };
     end(errors, done)
@@ -52,10 +61,11 @@ fn job_of(alloc: Global, words: Result<Vec<String>, WordsFault>) -> Result<Job, 
 }
 
 /// Does what a job asks for.
-fn do_job<T: Threads + Sync, F: Files, R: Read, W: Write>(
+fn do_job<T: Threads + Sync, F: Files, G: Gate, R: Read, W: Write>(
     rt: &T,
     alloc: Global,
     files: &F,
+    gate: &G,
     source: &mut Source<R>,
     sink: &mut Sink<W>,
     job: &Job,
@@ -70,13 +80,37 @@ fn do_job<T: Threads + Sync, F: Files, R: Read, W: Write>(
             workers,
             form,
             account,
+            progress,
         } => {
-            let found = run_solve(rt, alloc, source, sink, *rounds, *workers, *form);
+            let gate = if *progress { Some(gate) } else { None };
+            let found = solve_source(rt, alloc, gate, source, sink, *rounds, *workers, *form);
             after_solving(found, *account)
         }
         Job::Verify { task } => after_verifying(verify_file(rt, alloc, files, task, source, sink)),
         Job::Views { rounds } => after_writing(run_views(alloc, source, sink, *rounds)),
         Job::Preset(preset) => after_writing(run_preset(alloc, sink, *preset)),
+    }
+}
+
+/// Decides the source's task. If there is a gate, it is told of the workers.
+fn solve_source<T: Threads + Sync, G: Gate, R: Read, W: Write>(
+    rt: &T,
+    alloc: Global,
+    gate: Option<&G>,
+    source: &mut Source<R>,
+    sink: &mut Sink<W>,
+    rounds: u32,
+    workers: u32,
+    form: Form,
+) -> Result<(Outcome, Account), RunFault>
+    requires ends { CanCount source.old sink.old }
+    requires workers { (0 < workers) × (workers ≤ MAX_WORKERS) }
+    ensures solves { Solves rounds form source.old source.new sink.old sink.new result }
+    ensures in_order { workers ≡ 1 → SearchesInOrder result }
+{
+    match gate {
+        Some(gate) => { run_solve_watched(rt, alloc, source, sink, rounds, workers, form, gate) }
+        None => run_solve(rt, alloc, source, sink, rounds, workers, form),
     }
 }
 

@@ -6,4 +6,5 @@ mod failing;
 mod rows;
 mod tasks;
 mod texts;
+mod watched;
 mod words;

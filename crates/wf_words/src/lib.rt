@@ -34,6 +34,8 @@ pub enum Job {
         form: Form,
         /// Whether the account of the branches is told.
         account: bool,
+        /// Whether it is told how many branches are settled while they are searched.
+        progress: bool,
     },
     /// Check a report about a task.
     Verify {
@@ -119,6 +121,11 @@ fn solve_command<'a>(alloc: Global) -> Result<Command<'a>, AllocError> {
         "account",
         "Tell on standard error how many branches were searched, and how many were cut",
     );
+    let progress = flag(
+        alloc,
+        "progress",
+        "Tell on standard error how many branches are settled, where there are several workers",
+    );
     Command::new(alloc, "solve")
         .about(
             "Read a task on standard input, and write its least decision map, or a refutation that there is none",
@@ -127,7 +134,8 @@ fn solve_command<'a>(alloc: Global) -> Result<Command<'a>, AllocError> {
         .arg(workers)?
         .arg(verdict)?
         .arg(least)?
-        .arg(account)
+        .arg(account)?
+        .arg(progress)
 }
 
 fn verify_command<'a>(alloc: Global) -> Result<Command<'a>, AllocError> {
@@ -200,6 +208,7 @@ fn solve_job(found: &ArgMatches<'_>) -> Option<Job>
         workers,
         form: form_of(found.get_flag("verdict"), found.get_flag("least"))?,
         account: found.get_flag("account"),
+        progress: found.get_flag("progress"),
     })
 }
 

@@ -1,13 +1,17 @@
 //! `wfcheck`: can a task be decided wait-free in r rounds of iterated immediate snapshot?
 //!
-//! The program is `wf_program`; here it is given its words, standard input, standard output and standard error.
+//! The program is `wf_program`; here it is given its words, standard input, standard output and standard error, and a gate
+//! that tells how many branches are settled.
 #![tactic(auto)]
 
 use std::alloc::Global;
 use std::env::Env;
 use std::process::ExitCode;
+use std::sync::atomic::AtomicU64;
+use std::sync::atomic::Ordering::SeqCst;
 use std::{env, fs, io, rt};
 use wf_io::{Sink, Source};
+use wf_pool::{Gate, Moment};
 use wf_program::{Files, run_program};
 use wf_words::WordsFault;
 
@@ -23,6 +27,29 @@ impl<R: rt::Files> Files for Disk<'_, R> {
     }
 }
 
+/// Tells on standard error, a line for each settled branch, how many are settled so far. Where that can't be written
+/// nothing more can be done.
+#[derive(Drop)]
+struct Progress<'a, R> {
+    rt: &'a R,
+    branches: AtomicU64,
+    settled: AtomicU64,
+}
+
+impl<R: Eprint + Sync> Gate for Progress<'_, R> {
+    fn branches(&self, count: u32) {
+        self.branches.store(u64::from(count), SeqCst);
+    }
+
+    fn at(&self, _worker: u32, moment: Moment) {
+        if matches!(moment, Moment::Settled(_)) {
+            let settled = self.settled.fetch_add(1, SeqCst).saturating_add(1);
+            let branches = self.branches.load(SeqCst);
+            let _told = eprintln!(self.rt; "settled {settled} of {branches}");
+        }
+    }
+}
+
 /// The words of the command line, the program's name first.
 fn arguments(rt: &(impl Env + Alloc<A = Global>)) -> Result<Vec<String>, WordsFault> {
     let words = env::args(rt)?;
@@ -30,10 +57,16 @@ fn arguments(rt: &(impl Env + Alloc<A = Global>)) -> Result<Vec<String>, WordsFa
 }
 
 fn main(rt: HostRuntime) -> ExitCode {
+    let progress = Progress {
+        rt: &rt,
+        branches: AtomicU64::new(0),
+        settled: AtomicU64::new(0),
+    };
     let status = run_program(
         &rt,
         rt.alloc(),
         &Disk(&rt),
+        &progress,
         arguments(&rt),
         &mut Source::new(rt.reader()),
         &mut Sink::new(io::writer(&rt)),

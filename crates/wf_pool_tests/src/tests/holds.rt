@@ -36,6 +36,8 @@ pub struct Hold {
     rule: Rule,
     barred: Barred,
     asked: AtomicU64,
+    tellings: AtomicU64,
+    branches: AtomicU64,
     taken: AtomicU64,
     settled: AtomicU64,
     turns: [AtomicU64; BRANCHES],
@@ -60,6 +62,8 @@ impl Hold {
             rule,
             barred: Barred::Nobody,
             asked: AtomicU64::new(0),
+            tellings: AtomicU64::new(0),
+            branches: AtomicU64::new(0),
             taken: AtomicU64::new(0),
             settled: AtomicU64::new(0),
             turns: zeros(),
@@ -83,6 +87,16 @@ impl Hold {
     // How many workers were to be started.
     pub fn starts(&self) -> u64 {
         self.asked.load(SeqCst)
+    }
+
+    // How often it was told how many branches there are, before any was taken, and how many there are.
+    pub fn branches_told(&self) -> (u64, u64) {
+        (self.tellings.load(SeqCst), self.branches.load(SeqCst))
+    }
+
+    // How many branches were settled.
+    pub fn settled(&self) -> u64 {
+        self.settled.load(SeqCst)
     }
 
     // Whether a turn was taken at this branch.
@@ -115,6 +129,13 @@ impl Hold {
 }
 
 impl Gate for Hold {
+    fn branches(&self, count: u32) {
+        if self.taken.load(SeqCst) == 0 {
+            self.tellings.fetch_add(1, SeqCst);
+        }
+        self.branches.store(u64::from(count), SeqCst);
+    }
+
     fn at(&self, _worker: u32, moment: Moment) {
         match moment {
             Moment::Taken(branch) => {

@@ -196,6 +196,8 @@ fn account_under<R: Threads + Sync + Abort, H: Handout>(
     let (answer, account) = solve::<R, H, Hold>(rt, alloc, &problem, workers, kept, gate)?;
     assert!(rt; is_map(&answer, kept));
     assert!(rt; !gate.has_given_up());
+    assert_eq!(rt; gate.branches_told(), (1, 3));
+    assert_eq!(rt; gate.settled(), 3);
     Ok(account)
 }
 

@@ -8,6 +8,7 @@ use std::process::Abort;
 use std::test::Fail;
 use std::thread::Threads;
 use wf_io::{Sink, Source};
+use wf_pool::Open;
 use wf_program::run_program;
 
 /// A task and a report about it, and what is written, told and answered.
@@ -76,6 +77,7 @@ fn check_row(
         rt,
         alloc,
         &files,
+        &Open,
         Ok(words),
         &mut source,
         &mut sink,
@@ -139,6 +141,7 @@ fn failed_calls_of_a_check_are_told(rt: HostRuntime) -> Result<(), Fail> {
             &rt,
             rt.alloc(),
             &files,
+            &Open,
             Ok(words),
             &mut source,
             &mut sink,

@@ -9,6 +9,7 @@ use std::process::Abort;
 use std::test::Fail;
 use std::thread::Threads;
 use wf_io::{Sink, Source};
+use wf_pool::Open;
 use wf_program::run_program;
 use wf_words::WordsFault;
 
@@ -36,6 +37,7 @@ fn run(
         rt,
         alloc,
         &EMPTY,
+        &Open,
         Ok(words),
         &mut source,
         &mut sink,
@@ -122,6 +124,7 @@ fn words_that_could_not_be_had_are_the_refusal(rt: HostRuntime) -> Result<(), Fa
             &rt,
             rt.alloc(),
             &EMPTY,
+            &Open,
             Err(fault),
             &mut source,
             &mut sink,
@@ -174,6 +177,7 @@ fn failed_calls_are_told(rt: HostRuntime) -> Result<(), Fail> {
             &rt,
             rt.alloc(),
             &EMPTY,
+            &Open,
             Ok(words),
             &mut source,
             &mut sink,
@@ -203,6 +207,7 @@ fn a_refusal_that_cannot_be_told_keeps_its_status(rt: HostRuntime) -> Result<(),
             &rt,
             rt.alloc(),
             &EMPTY,
+            &Open,
             Ok(words),
             &mut source,
             &mut sink,

@@ -38,6 +38,10 @@ fn words_are_a_job_or_a_fault(rt: HostRuntime) -> Result<(), Fail> {
             "solve 3 2 Least true",
         ),
         (
+            "wfcheck solve --rounds 2 --progress --workers 8 --verdict",
+            "solve 2 8 Verdict false progress",
+        ),
+        (
             "wfcheck solve --rounds 1 --workers 1 --least --verdict",
             "words",
         ),
@@ -46,6 +50,10 @@ fn words_are_a_job_or_a_fault(rt: HostRuntime) -> Result<(), Fail> {
             "words",
         ),
         ("wfcheck views --rounds 3 --least", "clap UnknownArgument"),
+        (
+            "wfcheck views --rounds 3 --progress",
+            "clap UnknownArgument",
+        ),
         ("wfcheck views --rounds 3", "views 3"),
         ("wfcheck views", "clap MissingRequiredArgument"),
         ("wfcheck verify --task a/b.json", "verify a/b.json"),
@@ -128,8 +136,18 @@ fn judged(alloc: Global, line: &str) -> Result<String, AllocError> {
                 workers,
                 form,
                 account,
+                progress: false,
             },
         ) => format!(in alloc; "solve {rounds} {workers} {form:?} {account}"),
+        Ok(
+            Job::Solve {
+                rounds,
+                workers,
+                form,
+                account,
+                progress: true,
+            },
+        ) => format!(in alloc; "solve {rounds} {workers} {form:?} {account} progress"),
         Ok(Job::Verify { task }) => format!(in alloc; "verify {task}"),
         Ok(Job::Views { rounds }) => format!(in alloc; "views {rounds}"),
         Ok(Job::Preset(preset)) => shown(alloc, preset),

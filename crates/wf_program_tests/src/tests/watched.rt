@@ -1,0 +1,67 @@
+//! A gate is told of a search by several workers where the words ask for progress.
+
+use super::ends::EMPTY;
+use super::tasks::PATH_2;
+use super::words::split;
+use std::sync::atomic::AtomicU64;
+use std::sync::atomic::Ordering::SeqCst;
+use std::test::Fail;
+use wf_io::{Sink, Source};
+use wf_pool::{Gate, Moment};
+use wf_program::run_program;
+
+/// Notes how many branches there are, and counts those that are settled.
+#[derive(Drop)]
+struct Tally {
+    branches: AtomicU64,
+    settled: AtomicU64,
+}
+
+impl Gate for Tally {
+    fn branches(&self, count: u32) {
+        self.branches.store(u64::from(count), SeqCst);
+    }
+
+    fn at(&self, _worker: u32, moment: Moment) {
+        if matches!(moment, Moment::Settled(_)) {
+            self.settled.fetch_add(1, SeqCst);
+        }
+    }
+}
+
+#[test]
+fn a_gate_is_told_where_progress_is_asked_for(rt: HostRuntime) -> Result<(), Fail> {
+    let rows = [
+        ("wfcheck solve --rounds 1 --workers 2 --progress", 3),
+        ("wfcheck solve --rounds 1 --workers 2", 0),
+        ("wfcheck solve --rounds 1 --workers 1 --progress", 0),
+    ];
+    for (line, told) in rows {
+        let words = split(rt.alloc(), line)?;
+        let mut output = Vec::new(rt.alloc());
+        let mut errors = Vec::new(rt.alloc());
+        let mut source = Source::new(PATH_2.as_bytes());
+        let mut sink = Sink::new(&mut output);
+        let mut refusals = Sink::new(&mut errors);
+        let tally = Tally {
+            branches: AtomicU64::new(0),
+            settled: AtomicU64::new(0),
+        };
+        let status = run_program(
+            &rt,
+            rt.alloc(),
+            &EMPTY,
+            &tally,
+            Ok(words),
+            &mut source,
+            &mut sink,
+            &mut refusals,
+        );
+        drop(refusals);
+        assert_eq!(rt; status, 0, "{line}");
+        assert!(rt; errors.is_empty(), "{line}");
+        assert_eq!(rt; tally.branches.load(SeqCst), told, "{line}");
+        assert_eq!(rt; tally.settled.load(SeqCst), told, "{line}");
+    }
+    Ok(())
+}
