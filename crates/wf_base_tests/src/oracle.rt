@@ -50,7 +50,7 @@ fn pair(
         processes: 2,
         symmetric: false,
         restriction: None,
-        rules,
+        delta: rules,
         outputs: owned(alloc, outputs)?,
     })
 }

@@ -104,7 +104,7 @@ impl Problem {
 
 /// The rule of each input simplex.
 fn rules(alloc: Global, task: &Task) -> Result<Vec<Rule>, AllocError>
-    ensures rules { IfOk result (λ rules. map rule_seen rules.items ≡ task.now.rules) }
+    ensures rules { IfOk result (λ rules. map rule_seen rules.items ≡ task.now.delta) }
     ensures wide { IfOk result (λ rules. All IsWide rules.items) }
     ensures task { IsTask task.now }
 {
@@ -124,7 +124,7 @@ fn executions(
     rules: &[Rule],
 ) -> Result<Vec<Execution>, AllocError>
     requires built { IsProtocol task.now protocol.now.rounds protocol.now }
-    requires rules { map rule_seen rules.now ≡ task.now.rules }
+    requires rules { map rule_seen rules.now ≡ task.now.delta }
     ensures constraints { IfOk result
         (λ executions. AreExecutionsOf task.now protocol.now.rounds rules.now executions.items) }
     ensures within { IfOk result

@@ -13,7 +13,7 @@ use Rattle.wf_cert.specs.Places.{constraint_on}
 
 -- by its simplex
 pub execution_is : (t : Task) (r : ℕ) (b : Built) (e n : ℕ) (s : Simplex) (tuples : List Tuple) (ps : List ℕ) → IsProtocol t r b → e < length b.scopes → slice_get b.simplices e ≡ Some n
-    → ps ≡ map (λ at. at.1) (slice_index_or b.scopes e []) → slice_get t.rules n ≡ Some (record { input = s; tuples = tuples })
+    → ps ≡ map (λ at. at.1) (slice_index_or b.scopes e []) → slice_get t.delta n ≡ Some (record { input = s; tuples = tuples })
     → (slice_get (problem_of t r).constraints e ≡ Some (constraint_on s tuples ps)) × (length ps ≡ length s)
 execution_is t r b e n s tuples ps built inside on are there =
     let (rule, rule_is, k_is, long) = constraint_there t r b e n built inside on in
@@ -24,8 +24,8 @@ execution_is t r b e n s tuples ps built inside on are there =
 
 -- the same, where the simplex is read out of the inputs
 pub execution_by_number : (t : Task) (r : ℕ) (b : Built) (e n : ℕ) (tuples : List Tuple) (ps : List ℕ) → IsProtocol t r b → e < length b.scopes → slice_get b.simplices e ≡ Some n
-    → ps ≡ map (λ at. at.1) (slice_index_or b.scopes e []) → option_map (λ rule. rule.tuples) (slice_get t.rules n) ≡ Some tuples
+    → ps ≡ map (λ at. at.1) (slice_index_or b.scopes e []) → option_map (λ rule. rule.tuples) (slice_get t.delta n) ≡ Some tuples
     → (slice_get (problem_of t r).constraints e ≡ Some (constraint_on (get_or (inputs t) n []) tuples ps)) × (length ps ≡ length (get_or (inputs t) n []))
 execution_by_number t r b e n tuples ps built inside on are there =
-    let low : n < length (inputs t) = omega (arith, rule_inside t r b e n built inside on, length-map t.rules (λ (rule : task.Rule). rule.input)) in
+    let low : n < length (inputs t) = omega (arith, rule_inside t r b e n built inside on, length-map t.delta (λ (rule : task.Rule). rule.input)) in
     execution_is t r b e n (get_or (inputs t) n []) tuples ps built inside on are (rule_there t n (get_or (inputs t) n []) [] tuples refl low there)

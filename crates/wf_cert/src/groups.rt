@@ -10,8 +10,8 @@ use wf_task::{Row, Task};
 
 /// The tuples of the rules by place and value, 64 values a place; none of a rule that has few tuples.
 pub(crate) fn group_rules(alloc: Global, task: &Task) -> Result<Vec<Vec<Vec<Row>>>, AllocError>
-    ensures grouped { IfOk result (λ groups. AreGrouped task.now.rules groups.items) }
-    ensures long { IfOk result (λ groups. length groups.items ≡ length task.now.rules) }
+    ensures grouped { IfOk result (λ groups. AreGrouped task.now.delta groups.items) }
+    ensures long { IfOk result (λ groups. length groups.items ≡ length task.now.delta) }
 {
     let count = task.inputs().simplices().len();
     let mut groups = Vec::with_capacity(alloc, count)?;

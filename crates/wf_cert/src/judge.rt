@@ -95,8 +95,8 @@ fn judge_line(
     blocks: &mut Blocks,
 ) -> Result<Progress, CertFault>
     requires built { IsProtocol task.now protocol.now.rounds protocol.now }
-    requires grouped { AreGrouped task.now.rules groups.now }
-    requires all { length groups.now ≡ length task.now.rules }
+    requires grouped { AreGrouped task.now.delta groups.now }
+    requires all { length groups.now ≡ length task.now.delta }
     requires long { length blocks.old.sets.items ≡ length protocol.now.points }
     ensures step { let p = problem_of task.now protocol.now.rounds in
         Judged result p claim.entry at (line_of line) blocks.old blocks.new }
@@ -226,8 +226,8 @@ fn judge_removal(
     blocks: &mut Blocks,
 ) -> Result<(), CertFault>
     requires built { IsProtocol task.now protocol.now.rounds protocol.now }
-    requires grouped { AreGrouped task.now.rules groups.now }
-    requires all { length groups.now ≡ length task.now.rules }
+    requires grouped { AreGrouped task.now.delta groups.now }
+    requires all { length groups.now ≡ length task.now.delta }
     requires long { length blocks.old.sets.items ≡ length protocol.now.points }
     ensures step { let p = problem_of task.now protocol.now.rounds in
         let line = remove removal.execution removal.process removal.value in
@@ -276,7 +276,7 @@ fn judge_value(
 
 /// The place of a process in an input simplex, if it is there.
 fn place_of(task: &Task, number: u32, process: u8) -> Option<u8>
-    requires { number < length task.now.rules }
+    requires { number < length task.now.delta }
     ensures { result ≡ place_in 0 process (processes_of (get_or (inputs task.now) number [])) }
 {
     let simplex = &task.inputs().simplices()[number as usize];

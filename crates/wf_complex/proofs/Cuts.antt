@@ -149,11 +149,11 @@ on_rules m r k p (rule ∷ rules) =
 
 module _ (t : Task) (r : ℕ) where
   pub laid_simplices : map (λ (e : Execution). e.simplex) (laid_out (first_block t) r 0 0 (inputs t)) ≡ simplices_of t r
-  laid_simplices = on_rules (first_block t) r 0 0 t.rules
+  laid_simplices = on_rules (first_block t) r 0 0 t.delta
 
   -- the executions cut the list of all last views into theirs
   pub last_views_cut : map (part_of (flat_map last_views (executions t r))) (laid_out (first_block t) r 0 0 (inputs t)) ≡ map last_views (executions t r)
   last_views_cut =
       let laid = laid_out (first_block t) r 0 0 (inputs t) in
       ap (λ vs. map (part_of vs) laid) (sym (flat_map-map (λ q. q) last_views (executions t r)))
-      ∙ parts_cut laid (map last_views (executions t r)) (laid_out_cut (first_block t) r 0 0 t.rules)
+      ∙ parts_cut laid (map last_views (executions t r)) (laid_out_cut (first_block t) r 0 0 t.delta)

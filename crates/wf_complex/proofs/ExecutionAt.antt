@@ -27,25 +27,25 @@ found_by rules n tuples is = by_get (slice_get rules n) refl is
     by_get (Some rule) at is = (rule, at, cc)
 
 -- the rule of an input simplex with its tuples
-pub rule_there : (t : Task) (n : ℕ) (s d : Simplex) (tuples : List Tuple) → s ≡ get_or (inputs t) n d → n < length (inputs t) → option_map (λ rule. rule.tuples) (slice_get t.rules n) ≡ Some tuples → slice_get t.rules n ≡ Some (record { input = s; tuples = tuples })
+pub rule_there : (t : Task) (n : ℕ) (s d : Simplex) (tuples : List Tuple) → s ≡ get_or (inputs t) n d → n < length (inputs t) → option_map (λ rule. rule.tuples) (slice_get t.delta n) ≡ Some tuples → slice_get t.delta n ≡ Some (record { input = s; tuples = tuples })
 rule_there t n s d tuples is inside there =
-    let rule = found_by t.rules n tuples there in
-    let input : s ≡ rule.0.input = is ∙ get_or-map (λ (r : task.Rule). r.input) t.rules n rule.0 d (slice_get_within t.rules n rule.0 rule.1) ∙ ap (λ (r : task.Rule). r.input) (got t.rules n rule.0 rule.0 rule.1) in
+    let rule = found_by t.delta n tuples there in
+    let input : s ≡ rule.0.input = is ∙ get_or-map (λ (r : task.Rule). r.input) t.delta n rule.0 d (slice_get_within t.delta n rule.0 rule.1) ∙ ap (λ (r : task.Rule). r.input) (got t.delta n rule.0 rule.0 rule.1) in
     rule.1 ∙ (λ j. Some (record { input = sym input j; tuples = rule.2 j }))
 
 -- the rule of an execution is there
-pub rule_inside : (t : Task) (r : ℕ) (b : Built) (e n : ℕ) → IsProtocol t r b → e < length b.scopes → slice_get b.simplices e ≡ Some n → n < length t.rules
+pub rule_inside : (t : Task) (r : ℕ) (b : Built) (e n : ℕ) → IsProtocol t r b → e < length b.scopes → slice_get b.simplices e ≡ Some n → n < length t.delta
 rule_inside t r b e n built inside on =
     let (rule, there, k_is, long) = constraint_there t r b e n built inside on in
-    slice_get_within t.rules n rule there
+    slice_get_within t.delta n rule there
 
 -- ---- the points
 
 -- how many processes there are at most
-size_of : (t : Task) (n : ℕ) (rule : task.Rule) → IsTask t → slice_get t.rules n ≡ Some rule → length rule.input ≤ 4
+size_of : (t : Task) (n : ℕ) (rule : task.Rule) → IsTask t → slice_get t.delta n ≡ Some rule → length rule.input ≤ 4
 size_of t n rule is there =
-    let low : n < length (inputs t) = omega (arith, slice_get_within t.rules n rule there, length-map t.rules (λ (r : task.Rule). r.input)) in
-    let input : get_or (inputs t) n rule.input ≡ rule.input = get_or-map (λ (r : task.Rule). r.input) t.rules n rule rule.input (slice_get_within t.rules n rule there) ∙ ap (λ (r : task.Rule). r.input) (got t.rules n rule rule there) in
+    let low : n < length (inputs t) = omega (arith, slice_get_within t.delta n rule there, length-map t.delta (λ (r : task.Rule). r.input)) in
+    let input : get_or (inputs t) n rule.input ≡ rule.input = get_or-map (λ (r : task.Rule). r.input) t.delta n rule rule.input (slice_get_within t.delta n rule there) ∙ ap (λ (r : task.Rule). r.input) (got t.delta n rule rule there) in
     let within : IsSimplexWithin t.processes (largest_value t.restriction) rule.input = subst (IsSimplexWithin t.processes (largest_value t.restriction)) input (is.input_complex.within n rule.input low) in
     omega (arith, length-within t.processes (largest_value t.restriction) rule.input within, is.process_count.1)
 
@@ -81,7 +81,7 @@ long_scopes t r b h = ap length h.scopes_are ∙ length-map (problem_of t r).con
 
 -- the tuples of the simplex that an execution is on are those of its constraint
 pub tuples_at : (t : Task) (r : ℕ) (b : Built) (e s : ℕ) → IsProtocol t r b → e < length b.scopes → slice_get b.simplices e ≡ Some s
-    → option_map (λ rule. rule.tuples) (slice_get t.rules s) ≡ Some (constraint_at (problem_of t r) e).tuples
+    → option_map (λ rule. rule.tuples) (slice_get t.delta s) ≡ Some (constraint_at (problem_of t r) e).tuples
 tuples_at t r b e s h inside on =
     let (rule, there, is, long) = constraint_there t r b e s h inside on in
     ap (option_map (λ (rule : task.Rule). rule.tuples)) there ∙ sym (ap (λ (k : Constraint). Some k.tuples) (got (problem_of t r).constraints e _ no_constraint is))
@@ -94,7 +94,7 @@ scope_is t r b e h inside =
 
 -- the rows of that rule and the points of the execution tell whether the values are right there
 pub right_there : (t : Task) (r : ℕ) (b : Built) (e s : ℕ) (values ps : List ℕ) (rows : List (List ℕ)) → IsProtocol t r b → e < length b.scopes → slice_get b.simplices e ≡ Some s
-    → ps ≡ map (λ at. at.1) (slice_index_or b.scopes e []) → option_map (λ rule. rule.tuples) (slice_get t.rules s) ≡ Some rows
+    → ps ≡ map (λ at. at.1) (slice_index_or b.scopes e []) → option_map (λ rule. rule.tuples) (slice_get t.delta s) ≡ Some rows
     → list_any (pointwise (λ x y. x == y) (map (λ v. slice_index values v) ps)) rows ≡ satisfies values (constraint_at (problem_of t r) e)
 right_there t r b e s values ps rows h inside on are found =
     let k = constraint_at (problem_of t r) e in

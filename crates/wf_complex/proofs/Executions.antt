@@ -41,9 +41,9 @@ on_rule m r rule =
 pub last_views-executions : (t : Task) (r : ℕ) → flat_map last_views (executions t r) ≡ flat_map (leaves_of (first_block t) r) (inputs t)
 last_views-executions t r =
     let m = first_block t in
-    flat_map-flat_map last_views (executions_on m r) t.rules
-    ∙ flat_map-same (λ rule. flat_map last_views (executions_on m r rule)) (λ rule. leaves_of m r rule.input) (on_rule m r) t.rules
-    ∙ sym (flat_map-map (leaves_of m r) (λ rule. rule.input) t.rules)
+    flat_map-flat_map last_views (executions_on m r) t.delta
+    ∙ flat_map-same (λ rule. flat_map last_views (executions_on m r rule)) (λ rule. leaves_of m r rule.input) (on_rule m r) t.delta
+    ∙ sym (flat_map-map (leaves_of m r) (λ rule. rule.input) t.delta)
 
 -- ---- how many there are
 
@@ -57,7 +57,7 @@ length-lists_of m n (suc r) =
     length-flat (λ x. map (λ rest. x ∷ rest) (lists_of (words m n) r)) (turns m n r) (λ x. length-map (lists_of (words m n) r) (λ rest. x ∷ rest) ∙ length-lists_of m n r) (words m n)
 
 pub length-executions : (t : Task) (r : ℕ) → length (executions t r) ≡ execution_total (first_block t) r (inputs t)
-length-executions t r = each (first_block t) t.rules
+length-executions t r = each (first_block t) t.delta
   where
     each : (m : ℕ) (rules : List Rule) → length (flat_map (executions_on m r) rules) ≡ execution_total m r (map (λ rule. rule.input) rules)
     each m [] = refl

@@ -39,8 +39,8 @@ each_rule m r rules front (rule ∷ back) n long is =
     ∙ (λ i. on_one rules rule n (lists_of (words m (length rule.input)) r) here i ++ rest i)
     ∙ sym (map-append (λ e. Some e.rule) (executions_on m r rule) (flat_map (executions_on m r) back))
 
-rules_same : (t : Task) (r : ℕ) → map (slice_get t.rules) (simplices_of t r) ≡ map (λ e. Some e.rule) (executions t r)
-rules_same t r = each_rule (first_block t) r t.rules [] t.rules 0 refl refl
+rules_same : (t : Task) (r : ℕ) → map (slice_get t.delta) (simplices_of t r) ≡ map (λ e. Some e.rule) (executions t r)
+rules_same t r = each_rule (first_block t) r t.delta [] t.delta 0 refl refl
 
 -- ---- the execution of a number
 
@@ -48,7 +48,7 @@ rules_same t r = each_rule (first_block t) r t.rules [] t.rules 0 refl refl
 pub record StandsAt (t : Task) (r e s : ℕ) : Type 0 where
   pub execution : Execution
   pub there : slice_get (executions t r) e ≡ Some execution
-  pub rule_there : slice_get t.rules s ≡ Some execution.rule
+  pub rule_there : slice_get t.delta s ≡ Some execution.rule
 
 long_scopes : (t : Task) (r : ℕ) (b : Built) → IsProtocol t r b → length b.scopes ≡ length (executions t r)
 long_scopes t r b h = ap length h.scopes_are ∙ length-map (problem_of t r).constraints (λ k. k.scope) ∙ length-map (executions t r) (constraint_of t (points t r))
@@ -61,8 +61,8 @@ found_at (x ∷ xs) (suc i) h = found_at xs i (omega (arith, h))
 pub stands_at : (t : Task) (r : ℕ) (b : Built) (e s : ℕ) → IsProtocol t r b → e < length b.scopes → slice_get b.simplices e ≡ Some s → StandsAt t r e s
 stands_at t r b e s h inside on =
     let x = found_at (executions t r) e (omega (arith, inside, long_scopes t r b h)) in
-    let left : slice_get (map (slice_get t.rules) (simplices_of t r)) e ≡ Some (slice_get t.rules s) =
-    slice_get-map (slice_get t.rules) (simplices_of t r) e ∙ ap (λ ns. option_map (slice_get t.rules) (slice_get ns e)) (sym h.simplices_are) ∙ ap (option_map (slice_get t.rules)) on in
+    let left : slice_get (map (slice_get t.delta) (simplices_of t r)) e ≡ Some (slice_get t.delta s) =
+    slice_get-map (slice_get t.delta) (simplices_of t r) e ∙ ap (λ ns. option_map (slice_get t.delta) (slice_get ns e)) (sym h.simplices_are) ∙ ap (option_map (slice_get t.delta)) on in
     let right : slice_get (map (λ e. Some e.rule) (executions t r)) e ≡ Some (Some x.0.rule) =
     slice_get-map (λ e. Some e.rule) (executions t r) e ∙ ap (option_map (λ e. Some e.rule)) x.1 in
     record {
@@ -82,7 +82,7 @@ parted [] = refl
 parted (x ∷ xs) = ap (λ rest. x ∷ rest) (parted xs)
 
 words_long : (t : Task) (r : ℕ) → AllByRecursion (λ e. AllByRecursion (λ w. length w ≡ length e.rule.input) e.words) (executions t r)
-words_long t r = each_execution_with (λ e. AllByRecursion (λ w. length w ≡ length e.rule.input) e.words) t r (λ rule. Unit {0}) (always (λ rule. Unit {0}) (λ rule. tt) t.rules) (λ e _ long. long)
+words_long t r = each_execution_with (λ e. AllByRecursion (λ w. length w ≡ length e.rule.input) e.words) t r (λ rule. Unit {0}) (always (λ rule. Unit {0}) (λ rule. tt) t.delta) (λ e _ long. long)
 
 -- the processes of its scope are those of its input simplex
 pub scope_on : (t : Task) (r e : ℕ) (x : Execution) → slice_get (executions t r) e ≡ Some x → map (λ at. at.0) (constraint_of t (points t r) x).scope ≡ processes_of x.rule.input
@@ -90,7 +90,7 @@ scope_on t r e x there =
     scope_processes t (points t r) (last_views x) ∙ last_processes x (each_at (λ e. AllByRecursion (λ w. length w ≡ length e.rule.input) e.words) (executions t r) e x (words_long t r) there)
 
 -- the constraint of an execution, by the rule of its simplex and its points
-pub constraint_there : (t : Task) (r : ℕ) (b : Built) (e s : ℕ) → IsProtocol t r b → e < length b.scopes → slice_get b.simplices e ≡ Some s → (rule : Rule) × (slice_get t.rules s ≡ Some rule)
+pub constraint_there : (t : Task) (r : ℕ) (b : Built) (e s : ℕ) → IsProtocol t r b → e < length b.scopes → slice_get b.simplices e ≡ Some s → (rule : Rule) × (slice_get t.delta s ≡ Some rule)
     × (slice_get (problem_of t r).constraints e ≡ Some (record { scope = zip (processes_of rule.input) (map (λ at. at.1) (slice_index_or b.scopes e [])); tuples = rule.tuples }))
     × (length (slice_index_or b.scopes e []) ≡ length rule.input)
 constraint_there t r b e s h inside on =

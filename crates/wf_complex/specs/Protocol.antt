@@ -21,7 +21,7 @@ pub record Built : Type 0 where
 
 -- the number of the input simplex of each execution
 abbrev pub simplices_of : Task → ℕ → List ℕ
-simplices_of t r = flat_map (λ at. map (λ e. at.0) (executions_on (first_block t) r at.1)) (enumerate_from 0 t.rules)
+simplices_of t r = flat_map (λ at. map (λ e. at.0) (executions_on (first_block t) r at.1)) (enumerate_from 0 t.delta)
 
 -- the protocol complex of this task after r rounds
 pub record IsProtocol (t : Task) (r : ℕ) (b : Built) : Type 0 where

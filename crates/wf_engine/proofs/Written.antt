@@ -15,7 +15,7 @@ use Rattle.wf_model.specs.Points.{class, classes, points}
 use Rattle.wf_model.specs.DecisionMap.{IsDecisionMap, listed}
 use Rattle.wf_model.specs.Problem.{Problem, Constraint, constraint_of, problem_of}
 use Rattle.wf_model.specs.Box.{Box, LiesIn, candidates, root, without, decided, branches_at, count, first_open, first_empty, is_supported_in}
-use Rattle.wf_model.specs.Refutation.{Line, remove, empty, branch, found, Tree, emptied, removed, branched, ended, Trees, no_trees, tree, lines, lines_each, Refutes, RefutesEach, IsLost}
+use Rattle.wf_model.specs.Refutation.{Line, remove, empty, branch, found, Tree, emptied, removed, branched, ended, Trees, no_trees, tree, lines, lines_each, Refutes, RefutesEach, IsUnsupported}
 use Rattle.wf_model.specs.Closing.{Step, Trace, Loss, same_candidate, continued, taken_out, take_out, take_out_each, places, lost_at, lost, sweep_from, sweep, unless_none, sweeps, closing_at, closing, before, in_turn, branching_at, branching, searched, search_within, canonical}
 use Rattle.wf_model.specs.LeastTree.{IsLeastTree, LeastAmong}
 use Rattle.wf_model.specs.Report.{Body, a_map, none, least, largest, most_number}
@@ -186,7 +186,7 @@ abbrev HasFewProcesses : Constraint → Type 0
 HasFewProcesses k = AllByRecursion (λ at. at.0 ≤ last_process) k.scope
 
 module _ (p : Problem) (few : length p.constraints ≤ most_number) (processes : AllByRecursion HasFewProcesses p.constraints) where
-  lost_placed : (box : Box) (e c a v : ℕ) → IsLost p box e c a v → (e ≤ most_number) × (c ≤ last_process)
+  lost_placed : (box : Box) (e c a v : ℕ) → IsUnsupported p box e c a v → (e ≤ most_number) × (c ≤ last_process)
   lost_placed box e c a v l =
       let within : e < length p.constraints = slice_get_within p.constraints e l.constraint l.at in
       let each : HasFewProcesses l.constraint = each_at HasFewProcesses p.constraints e l.constraint processes l.at in
@@ -268,9 +268,9 @@ module _ (t : Task) (r : ℕ) (task : IsTask t) where
   unfolding IsInput
   inputs_few s h = omega (arith, length-within t.processes (largest_value t.restriction) s h, task.process_count.1)
 
-  rules_have : AllByRecursion (λ rule. IsInput rule.input) t.rules
+  rules_have : AllByRecursion (λ rule. IsInput rule.input) t.delta
   unfolding IsInput
-  rules_have = each_of_map IsInput (λ (rule : Rule). rule.input) t.rules (recursion_from_All _ (inputs t) task.input_complex.within)
+  rules_have = each_of_map IsInput (λ (rule : Rule). rule.input) t.delta (recursion_from_All _ (inputs t) task.input_complex.within)
 
   executions_have : (P : Execution → Type 0) → ((e : Execution) → IsInput e.rule.input → map process_of (last_views e) ≡ processes_of e.rule.input → P e) → AllByRecursion P (executions t r)
   executions_have P f = each_execution_with P t r (λ rule. IsInput rule.input) rules_have (λ e s long. f e s (last_processes e long))

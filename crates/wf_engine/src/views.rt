@@ -86,7 +86,7 @@ impl Header {
         requires { IsProtocol task.now protocol.now.rounds protocol.now }
         ensures processes { result.processes ≡ task.now.processes }
         ensures rounds { result.rounds ≡ protocol.now.rounds }
-        ensures simplices { result.simplices ≡ length task.now.rules }
+        ensures simplices { result.simplices ≡ length task.now.delta }
         ensures views { result.views ≡ last_view_count task.now protocol.now.rounds }
         ensures points { result.points ≡ length (points task.now protocol.now.rounds) }
         ensures executions { result.executions ≡ length (executions task.now protocol.now.rounds) }

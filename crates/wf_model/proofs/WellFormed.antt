@@ -46,7 +46,7 @@ task_listed t task =
     weaker (IsRule t.outputs) (λ rule. AllByRecursion (λ tuple. AllByRecursion (λ x. has (values t) x ≡ true) tuple) rule.tuples)
     (λ rule is. both (λ tuple. length tuple ≡ length rule.input) (λ tuple. Contains t.outputs (zip (processes_of rule.input) tuple)) (λ tuple. AllByRecursion (λ x. has (values t) x ≡ true) tuple)
     (tuple_listed t rule) rule.tuples (recursion_from_All _ rule.tuples is.long) (recursion_from_All _ rule.tuples is.listed))
-    t.rules (recursion_from_All _ t.rules task.rules_within)
+    t.delta (recursion_from_All _ t.delta task.rules_within)
 
 -- ---- the processes of an execution
 
@@ -69,15 +69,15 @@ each_of_lists P xs (suc r) h =
     (λ x p. each_map (AllByRecursion P) (λ rest. x ∷ rest) (lists_of xs r) (weaker (AllByRecursion P) (λ rest. P x × AllByRecursion P rest) (λ rest q. (p, q)) (lists_of xs r) (each_of_lists P xs r h))) xs h)
 
 -- what holds of each execution over words as long as its input
-pub each_execution_with : (P : Execution → Type 0) (t : Task) (r : ℕ) (Q : Rule → Type 0) → AllByRecursion Q t.rules →
+pub each_execution_with : (P : Execution → Type 0) (t : Task) (r : ℕ) (Q : Rule → Type 0) → AllByRecursion Q t.delta →
     ((e : Execution) → Q e.rule → AllByRecursion (λ w. length w ≡ length e.rule.input) e.words → P e) → AllByRecursion P (executions t r)
 each_execution_with P t r Q rules f =
-    each_flat P (executions_on (first_block t) r) t.rules
+    each_flat P (executions_on (first_block t) r) t.delta
     (weaker Q (λ rule. AllByRecursion P (executions_on (first_block t) r rule))
     (λ rule q. each_map P (λ ws. record { rule = rule; words = ws }) (lists_of (words (first_block t) (length rule.input)) r)
     (weaker (AllByRecursion (λ (w : Word). length w ≡ length rule.input)) (λ ws. P (record { rule = rule; words = ws })) (λ ws long. f (record { rule = rule; words = ws }) q long)
     (lists_of (words (first_block t) (length rule.input)) r) (each_of_lists (λ (w : Word). length w ≡ length rule.input) (words (first_block t) (length rule.input)) r (words_long (first_block t) (length rule.input)))))
-    t.rules rules)
+    t.delta rules)
 
 processes_seen : (f : ℕ × View → Views) (w : Word) (old : List View) → length w ≡ length old → map process_of (map (λ (q : ℕ × View). seen (process_of q.1) (f q)) (zip w old)) ≡ map process_of old
 processes_seen f [] [] h = refl
@@ -128,7 +128,7 @@ constraints_placed : (t : Task) (r : ℕ) → IsTask t → AllByRecursion HasPla
 constraints_placed t r task =
     each_map HasPlaces (constraint_of t (points t r)) (executions t r)
     (each_execution_with (λ e. HasPlaces (constraint_of t (points t r) e)) t r (λ rule. IsSimplexWithin t.processes (largest_value t.restriction) rule.input)
-    (each_of_map (IsSimplexWithin t.processes (largest_value t.restriction)) (λ rule. rule.input) t.rules (recursion_from_All _ (inputs t) task.input_complex.within))
+    (each_of_map (IsSimplexWithin t.processes (largest_value t.restriction)) (λ rule. rule.input) t.delta (recursion_from_All _ (inputs t) task.input_complex.within))
     (λ e simplex long. has_places t (points t r) e simplex.is_simplex long))
 
 pub task_well_formed : (t : Task) (r : ℕ) → IsTask t → IsWellFormed (problem_of t r)

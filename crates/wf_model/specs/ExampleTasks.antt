@@ -28,7 +28,7 @@ path k = record {
   processes = 2;
   symmetric = false;
   restriction = None;
-  rules = record { input = one 0 0; tuples = (0 ∷ []) ∷ [] }
+  delta = record { input = one 0 0; tuples = (0 ∷ []) ∷ [] }
       ∷ record { input = one 1 0; tuples = (k ∷ []) ∷ [] }
       ∷ record { input = edge 0 0; tuples = filter near (lists_of (below (suc k)) 2) } ∷ [];
   outputs = complex_of (map pair_edge (filter near (lists_of (below (suc k)) 2)));
@@ -40,7 +40,7 @@ consensus = record {
   processes = 2;
   symmetric = false;
   restriction = None;
-  rules = record { input = one 0 0; tuples = (0 ∷ []) ∷ [] }
+  delta = record { input = one 0 0; tuples = (0 ∷ []) ∷ [] }
       ∷ record { input = one 1 1; tuples = (1 ∷ []) ∷ [] }
       ∷ record { input = edge 0 1; tuples = (0 ∷ 0 ∷ []) ∷ (1 ∷ 1 ∷ []) ∷ [] } ∷ [];
   outputs = complex_of (edge 0 0 ∷ edge 1 1 ∷ []);
@@ -52,7 +52,7 @@ renaming_2_2 = record {
   processes = 2;
   symmetric = true;
   restriction = None;
-  rules = record { input = one 0 0; tuples = (0 ∷ []) ∷ (1 ∷ []) ∷ [] }
+  delta = record { input = one 0 0; tuples = (0 ∷ []) ∷ (1 ∷ []) ∷ [] }
       ∷ record { input = one 1 0; tuples = (0 ∷ []) ∷ (1 ∷ []) ∷ [] }
       ∷ record { input = edge 0 0; tuples = (0 ∷ 1 ∷ []) ∷ (1 ∷ 0 ∷ []) ∷ [] } ∷ [];
   outputs = complex_of (edge 0 1 ∷ edge 1 0 ∷ []);
@@ -63,7 +63,7 @@ renaming_2_3 = record {
   processes = 2;
   symmetric = true;
   restriction = None;
-  rules = record { input = one 0 0; tuples = (0 ∷ []) ∷ (1 ∷ []) ∷ (2 ∷ []) ∷ [] }
+  delta = record { input = one 0 0; tuples = (0 ∷ []) ∷ (1 ∷ []) ∷ (2 ∷ []) ∷ [] }
       ∷ record { input = one 1 0; tuples = (0 ∷ []) ∷ (1 ∷ []) ∷ (2 ∷ []) ∷ [] }
       ∷ record { input = edge 0 0; tuples = (0 ∷ 1 ∷ []) ∷ (0 ∷ 2 ∷ []) ∷ (1 ∷ 0 ∷ []) ∷ (1 ∷ 2 ∷ []) ∷ (2 ∷ 0 ∷ []) ∷ (2 ∷ 1 ∷ []) ∷ [] } ∷ [];
   outputs = complex_of (edge 0 1 ∷ edge 0 2 ∷ edge 1 0 ∷ edge 1 2 ∷ edge 2 0 ∷ edge 2 1 ∷ []);
@@ -75,6 +75,6 @@ alone tuples facets = record {
   processes = 1;
   symmetric = false;
   restriction = None;
-  rules = record { input = one 0 0; tuples = tuples } ∷ [];
+  delta = record { input = one 0 0; tuples = tuples } ∷ [];
   outputs = complex_of facets;
 }

@@ -20,11 +20,11 @@ pub record Task : Type 0 where
   pub processes : ℕ
   pub symmetric : Bool
   pub restriction : Option ℕ  -- how many the first block of a word has at least; none where all words are allowed
-  pub rules : List Rule
+  pub delta : List Rule
   pub outputs : List Simplex
 
 abbrev pub inputs : Task → List Simplex
-inputs t = map (λ rule. rule.input) t.rules
+inputs t = map (λ rule. rule.input) t.delta
 
 abbrev pub first_block : Task → ℕ
 first_block t = unwrap_or t.restriction 1
@@ -35,7 +35,7 @@ values t = in_order nat_cmp (flat_map values_of t.outputs)
 
 -- each value of a tuple occurs in O
 abbrev pub HasListedValues : Task → Type 0
-HasListedValues t = AllByRecursion (λ rule. AllByRecursion (λ tuple. AllByRecursion (λ x. has (values t) x ≡ true) tuple) rule.tuples) t.rules
+HasListedValues t = AllByRecursion (λ rule. AllByRecursion (λ tuple. AllByRecursion (λ x. has (values t) x ≡ true) tuple) rule.tuples) t.delta
 
 -- ---- what every task that was read or made has
 
@@ -70,8 +70,8 @@ pub record IsTask (t : Task) : Type 0 where
   pub restriction_within : IsFirstBlock t.restriction
   pub input_complex : IsComplexWithin t.processes (largest_value t.restriction) (inputs t)
   pub output_complex : IsComplexWithin t.processes (largest_value t.restriction) t.outputs
-  pub rules_within : All (IsRule t.outputs) t.rules
-  pub some_input : 0 < length t.rules
+  pub rules_within : All (IsRule t.outputs) t.delta
+  pub some_input : 0 < length t.delta
   pub few_vertices : count_by (λ s. length s == 1) (inputs t) ≤ 64
-  pub few_inputs : length t.rules ≤ 4096
-  pub few_tuples : sum_by (λ rule. length rule.tuples) t.rules ≤ 65536
+  pub few_inputs : length t.delta ≤ 4096
+  pub few_tuples : sum_by (λ rule. length rule.tuples) t.delta ≤ 65536

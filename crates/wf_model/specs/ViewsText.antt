@@ -14,6 +14,6 @@ abbrev pub views_text : Task → ℕ → List ℕ
 views_text t r =
     line (codes "wfcheck views 1") []
     ++ (line (codes "processes") (t.processes ∷ []) ++ (line (codes "rounds") (r ∷ [])
-    ++ (line (codes "simplices") (length t.rules ∷ []) ++ (line (codes "views") (last_view_count t r ∷ [])
+    ++ (line (codes "simplices") (length t.delta ∷ []) ++ (line (codes "views") (last_view_count t r ∷ [])
     ++ (line (codes "points") (length (points t r) ∷ []) ++ (line (codes "executions") (length (executions t r) ∷ [])
     ++ (flat_map point_line (enumerate_from 0 (first_appearances t r)) ++ line (codes "end") [])))))))

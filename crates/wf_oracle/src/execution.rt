@@ -55,7 +55,7 @@ pub fn executions(
 {
     let mut all = Vec::new(alloc);
     let first_block = task.first_block();
-    for rule in &task.rules {
+    for rule in &task.delta {
         add_executions(alloc, &mut all, first_block, rule, rounds)?;
     }
     Ok(all)

@@ -30,7 +30,7 @@ pub struct Task {
     /// How many the first block of a word has at least; none where all words are allowed.
     pub restriction: Option<usize>,
     /// Delta, by the simplices of the input complex in order.
-    pub rules: Vec<Rule>,
+    pub delta: Vec<Rule>,
     /// The simplices of the output complex in order, each as processes with their values.
     pub outputs: Vec<Vec<(usize, usize)>>,
 }
@@ -41,7 +41,7 @@ impl Model for Task {
 
     ghost Value = { TaskOfModel };
 
-    ghost view = { λ t. record { processes = t.processes; symmetric = t.symmetric; restriction = t.restriction; rules = t.rules.items; outputs = map vec_items t.outputs.items } };
+    ghost view = { λ t. record { processes = t.processes; symmetric = t.symmetric; restriction = t.restriction; delta = t.delta.items; outputs = map vec_items t.outputs.items } };
 }
 
 impl Task {

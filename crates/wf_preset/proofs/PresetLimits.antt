@@ -43,13 +43,13 @@ module _ (t : Task) where
   outputs-broken vertices simplices outputs =
       rw (le-ltb 64 (vertex_count (inputs t)) vertices) (rw (le-ltb 4096 (length (inputs t)) simplices) (rw (lt-ltb 65536 (length (facets t.outputs)) outputs) refl))
 
-  pub tuples-broken : vertex_count (inputs t) ≤ 64 → length (inputs t) ≤ 4096 → length (facets t.outputs) ≤ 65536 → nat_lt 65536 (sum_by (λ rule. length rule.tuples) t.rules) ≡ true
+  pub tuples-broken : vertex_count (inputs t) ≤ 64 → length (inputs t) ≤ 4096 → length (facets t.outputs) ≤ 65536 → nat_lt 65536 (sum_by (λ rule. length rule.tuples) t.delta) ≡ true
       → within_limits t ≡ Err (fault.TooMany limit.Tuples)
   unfolding within_limits sizes_judged
   tuples-broken vertices simplices outputs tuples =
       rw (le-ltb 64 (vertex_count (inputs t)) vertices) (rw (le-ltb 4096 (length (inputs t)) simplices) (rw (le-ltb 65536 (length (facets t.outputs)) outputs) (rw tuples refl)))
 
-  pub none-broken : vertex_count (inputs t) ≤ 64 → length (inputs t) ≤ 4096 → length (facets t.outputs) ≤ 65536 → nat_lt 65536 (sum_by (λ rule. length rule.tuples) t.rules) ≡ false → within_limits t ≡ Ok t
+  pub none-broken : vertex_count (inputs t) ≤ 64 → length (inputs t) ≤ 4096 → length (facets t.outputs) ≤ 65536 → nat_lt 65536 (sum_by (λ rule. length rule.tuples) t.delta) ≡ false → within_limits t ≡ Ok t
   unfolding within_limits sizes_judged
   none-broken vertices simplices outputs tuples =
       rw (le-ltb 64 (vertex_count (inputs t)) vertices) (rw (le-ltb 4096 (length (inputs t)) simplices) (rw (le-ltb 65536 (length (facets t.outputs)) outputs) (rw tuples refl)))
@@ -59,7 +59,7 @@ module _ (t : Task) where
   inputs-broken e h = by (nat_lt 64 (vertex_count (inputs t))) (nat_lt 4096 (length (inputs t))) h
     where
       rest : Result (Unit {0}) TaskFault
-      rest = refused_if (nat_lt 65536 (length (facets t.outputs))) (fault.TooMany limit.Outputs) >>= λ _. refused_if (nat_lt 65536 (sum_by (λ rule. length rule.tuples) t.rules)) (fault.TooMany limit.Tuples)
+      rest = refused_if (nat_lt 65536 (length (facets t.outputs))) (fault.TooMany limit.Outputs) >>= λ _. refused_if (nat_lt 65536 (sum_by (λ rule. length rule.tuples) t.delta)) (fault.TooMany limit.Tuples)
 
       by : (a b : Bool) → (refused_if a (fault.TooMany limit.Vertices) >>= λ _. refused_if b (fault.TooMany limit.Simplices) >>= λ _. Ok (inputs t)) ≡ Err e
           → ((refused_if a (fault.TooMany limit.Vertices) >>= λ _. refused_if b (fault.TooMany limit.Simplices) >>= λ _. rest) >>= λ _. Ok t) ≡ Err e
@@ -106,7 +106,7 @@ agreement_inputs n choice = complex_of (input_facets n choice)
 
 pub agreement-task : (n k : ℕ) (choice : model.Inputs) → 1 ≤ n → task_for n false (Agreement k) (agreement_inputs n choice) ≡ model.set_agreement n k choice
 agreement-task n k choice some =
-    ap (λ outputs. record { processes = n; symmetric = false; restriction = None; rules = map (rule_of_family (Agreement k)) (agreement_inputs n choice); outputs = outputs }) (agreement-outputs n k choice some)
+    ap (λ outputs. record { processes = n; symmetric = false; restriction = None; delta = map (rule_of_family (Agreement k)) (agreement_inputs n choice); outputs = outputs }) (agreement-outputs n k choice some)
 
 ascending-below : (n : ℕ) → n ≤ 4 → is_ascending (below n) ≡ true
 ascending-below zero h = refl
@@ -207,7 +207,7 @@ renaming_inputs n = complex_of (start n ∷ [])
 
 pub renaming-task : (n names : ℕ) → task_for n true (Naming names) (renaming_inputs n) ≡ model.renaming n names
 renaming-task n names =
-    ap (λ outputs. record { processes = n; symmetric = true; restriction = None; rules = map (rule_of_family (Naming names)) (renaming_inputs n); outputs = outputs }) (renaming-outputs n names)
+    ap (λ outputs. record { processes = n; symmetric = true; restriction = None; delta = map (rule_of_family (Naming names)) (renaming_inputs n); outputs = outputs }) (renaming-outputs n names)
 
 few-renaming_inputs : (n : ℕ) → n ≤ 4 → (vertex_count (renaming_inputs n) ≤ 64) × (length (renaming_inputs n) ≤ 4096)
 few-renaming_inputs zero h = (lit≤ tt, lit≤ tt)

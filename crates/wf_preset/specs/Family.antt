@@ -60,6 +60,6 @@ task_for n symmetric family inputs = record {
   processes = n;
   symmetric = symmetric;
   restriction = None;
-  rules = map (λ s. record { input = s; tuples = tuples_for family s }) inputs;
+  delta = map (λ s. record { input = s; tuples = tuples_for family s }) inputs;
   outputs = complex_of (images_of family inputs);
 }

@@ -26,7 +26,7 @@ pub record IsRenaming (bound : ℕ) (participants : Simplex) (names : Tuple) : T
 
 -- the participants of each input simplex may decide exactly the tuples of which this holds
 abbrev pub Allows : (Simplex → Tuple → Type 0) → Task → Type 0
-Allows holds t = All (λ rule. (tuple : Tuple) → Contains rule.tuples tuple ↔ holds rule.input tuple) t.rules
+Allows holds t = All (λ rule. (tuple : Tuple) → Contains rule.tuples tuple ↔ holds rule.input tuple) t.delta
 
 -- of each set agreement task within the limits
 abbrev pub SetAgreementDecidesFewInputs : Type 0

@@ -3,10 +3,10 @@ use Rattle.std.proofs.Common.{◌≡◌, ◌≢◌, ℕ, Bool, zero, suc, ◌+�
 use Rattle.wf_core.specs.declared.Account.{Account}
 use Rattle.wf_io.specs.Seen.{Reading, Writing}
 use Rattle.wf_task.specs.declared.task.TheConstants.{LONGEST}
-use Rattle.wf_words.specs.declared.Job.{Job}
-use Rattle.wf_words.specs.declared.Job.TheVariants as job
-use Rattle.wf_words.specs.declared.WordsFault.{WordsFault}
-use Rattle.wf_words.specs.declared.WordsFault.TheVariants as words
+use Rattle.wf_args.specs.declared.Job.{Job}
+use Rattle.wf_args.specs.declared.Job.TheVariants as job
+use Rattle.wf_args.specs.declared.WordsFault.{WordsFault}
+use Rattle.wf_args.specs.declared.WordsFault.TheVariants as words
 use Rattle.wf_engine.specs.declared.outcome.Outcome.{Outcome}
 use Rattle.wf_engine.specs.declared.outcome.Outcome.TheVariants.{Map, Nothing, Least}
 use Rattle.wf_engine.specs.declared.fault.RunFault.{RunFault}

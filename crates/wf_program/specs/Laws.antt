@@ -4,9 +4,9 @@ use Rattle.std.specs.declared.alloc.Global.{Global}
 use Rattle.wf_core.specs.declared.Account.{Account}
 use Rattle.wf_io.specs.Seen.{Reading, Writing}
 use Rattle.wf_task.specs.declared.task.TheConstants.{LONGEST}
-use Rattle.wf_words.specs.declared.Job.{Job}
-use Rattle.wf_words.specs.declared.Job.TheVariants.{Verify}
-use Rattle.wf_words.specs.declared.WordsFault.{WordsFault}
+use Rattle.wf_args.specs.declared.Job.{Job}
+use Rattle.wf_args.specs.declared.Job.TheVariants.{Verify}
+use Rattle.wf_args.specs.declared.WordsFault.{WordsFault}
 use Rattle.wf_program.specs.Program.{IsAsked, Serves, TellsAccount}
 
 -- how many files a job opens

@@ -16,11 +16,11 @@ use Rattle.wf_engine.specs.Run.{Ran}
 use Rattle.wf_engine.specs.Texts.{Solves, Lists, SearchesInOrder}
 use Rattle.wf_engine.specs.Verify.{Verifies}
 use Rattle.wf_engine.specs.Presets.{WritesPreset}
-use Rattle.wf_words.specs.Job.{IsWithinLimits, IsClapMistake}
-use Rattle.wf_words.specs.declared.Job.{Job}
-use Rattle.wf_words.specs.declared.Job.TheVariants.{Solve, Verify, Views, Preset}
-use Rattle.wf_words.specs.declared.WordsFault.{WordsFault}
-use Rattle.wf_words.specs.declared.WordsFault.TheVariants as fault
+use Rattle.wf_args.specs.Job.{IsWithinLimits, IsClapMistake}
+use Rattle.wf_args.specs.declared.Job.{Job}
+use Rattle.wf_args.specs.declared.Job.TheVariants.{Solve, Verify, Views, Preset}
+use Rattle.wf_args.specs.declared.WordsFault.{WordsFault}
+use Rattle.wf_args.specs.declared.WordsFault.TheVariants as fault
 use Rattle.wf_program.specs.AccountText.{account_line}
 use Rattle.wf_program.specs.VersionText.{version_line}
 use Rattle.wf_program.specs.declared.done.Done.{Done}

@@ -3,7 +3,7 @@
 ghost use Rattle.std.specs.Prelude.{◌≡◌, ◌<◌, ◌≤◌};
 ghost use Rattle.wf_io.specs.Ends.{CanCount, CanWrite};
 ghost use Rattle.wf_engine.specs.Texts.{SearchesInOrder, Solves};
-ghost use Rattle.wf_words.specs.Job.{IsWithinLimits};
+ghost use Rattle.wf_args.specs.Job.{IsWithinLimits};
 ghost use Rattle.wf_program.specs.Program.{CanServe, Declines, Does, Ends, IsAsked, Serves, Shows, VerifiesFile, outcome_status, solved, verified, written};
 
 use crate::done::{AccountLine, Done};
@@ -22,7 +22,7 @@ use wf_engine::{
 };
 use wf_io::{Sink, Source};
 use wf_pool::{Gate, MAX_WORKERS};
-use wf_words::{Job, WordsFault, read_words};
+use wf_args::{Job, WordsFault, read_words};
 
 /// Runs what the words ask for, the first of which is the program's own name, and answers the exit status. Where the
 /// words could not be had, that is the refusal.

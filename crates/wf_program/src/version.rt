@@ -4,7 +4,7 @@ ghost use Rattle.std.specs.Prelude.{Some};
 ghost use Rattle.wf_program.specs.VersionText.{version_line};
 
 use std::fmt;
-use wf_words::{LOGIC, VERSION};
+use wf_args::{LOGIC, VERSION};
 
 /// The line that names the program and the logic that proved it, for whoever cites an answer.
 #[derive(Clone, Copy, Debug)]

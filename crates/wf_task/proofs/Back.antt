@@ -61,23 +61,23 @@ tuples-read ts = rw (each-read tuple_data (list_of whole_of) ts (λ t k. tuple-r
 entry-read : (rule : Rule) → is_nonempty rule.input ≡ true → entry_of (rule_data rule) ≡ Some rule
 entry-read rule h = rw (tuples-read rule.tuples) (rw (simplex-read rule.input h) refl)
 
-draft-read : (t : Task) → ((s : Simplex) → Has s (facets (inputs t)) → is_nonempty s ≡ true) → ((s : Simplex) → Has s (facets t.outputs) → is_nonempty s ≡ true) → ((rule : Rule) → Has rule t.rules → is_nonempty rule.input ≡ true)
+draft-read : (t : Task) → ((s : Simplex) → Has s (facets (inputs t)) → is_nonempty s ≡ true) → ((s : Simplex) → Has s (facets t.outputs) → is_nonempty s ≡ true) → ((rule : Rule) → Has rule t.delta → is_nonempty rule.input ≡ true)
     → t.processes < 2 ^ 64 → draft_of (task_data t) ≡ Ok (listed_of t)
 unfolding draft_of
 draft-read t some_inputs some_outputs some_rules low = by t.restriction
   where
     with : Option ℕ → Task
-    with o = record { processes = t.processes; symmetric = t.symmetric; restriction = o; rules = t.rules; outputs = t.outputs }
+    with o = record { processes = t.processes; symmetric = t.symmetric; restriction = o; delta = t.delta; outputs = t.outputs }
 
     by : (o : Option ℕ) → draft_of (task_data (with o)) ≡ Ok (listed_of (with o))
     by None =
         rw (each-read simplex_data simplex_of (facets (inputs t)) (λ s k. simplex-read s (some_inputs s k)))
         (rw (each-read simplex_data simplex_of (facets t.outputs) (λ s k. simplex-read s (some_outputs s k)))
-        (rw (each-read rule_data entry_of t.rules (λ rule k. entry-read rule (some_rules rule k))) refl))
+        (rw (each-read rule_data entry_of t.delta (λ rule k. entry-read rule (some_rules rule k))) refl))
     by (Some m) =
         rw (each-read simplex_data simplex_of (facets (inputs t)) (λ s k. simplex-read s (some_inputs s k)))
         (rw (each-read simplex_data simplex_of (facets t.outputs) (λ s k. simplex-read s (some_outputs s k)))
-        (rw (each-read rule_data entry_of t.rules (λ rule k. entry-read rule (some_rules rule k))) refl))
+        (rw (each-read rule_data entry_of t.delta (λ rule k. entry-read rule (some_rules rule k))) refl))
 
 -- ---- tests of lists
 
@@ -177,7 +177,7 @@ module _ (t : Task) (h : IsListable t) where
   }
 
   input_count : length (inputs t) ≤ 4096
-  input_count = omega (arith, length-map t.rules (λ (rule : Rule). rule.input), h.task.few_inputs)
+  input_count = omega (arith, length-map t.delta (λ (rule : Rule). rule.input), h.task.few_inputs)
 
   inputs-complex : IsComplex (inputs t)
   inputs-complex = complex-is (inputs t) h.task.input_complex (omega (arith, input_count))
@@ -200,47 +200,47 @@ module _ (t : Task) (h : IsListable t) where
   facet-of : (complex : List Simplex) (s : Simplex) → Has s (facets complex) → Has s complex
   facet-of complex s k = (has-filter (λ u. not (is_inner complex u)) s complex k).0
 
-  rule-input : (rule : Rule) → Has rule t.rules → Has rule.input (inputs t)
-  rule-input rule k = map-has (λ (r : Rule). r.input) rule t.rules k
+  rule-input : (rule : Rule) → Has rule t.delta → Has rule.input (inputs t)
+  rule-input rule k = map-has (λ (r : Rule). r.input) rule t.delta k
 
-  rule-is : (rule : Rule) → Has rule t.rules → IsRule t.outputs rule
-  rule-is rule k = has_of_all (IsRule t.outputs) rule t.rules h.task.rules_within k
+  rule-is : (rule : Rule) → Has rule t.delta → IsRule t.outputs rule
+  rule-is rule k = has_of_all (IsRule t.outputs) rule t.delta h.task.rules_within k
 
-  tuple-there : (rule : Rule) (tuple : Tuple) → Has rule t.rules → Has tuple rule.tuples → Has (zip (processes_of rule.input) tuple) t.outputs
+  tuple-there : (rule : Rule) (tuple : Tuple) → Has rule t.delta → Has tuple rule.tuples → Has (zip (processes_of rule.input) tuple) t.outputs
   tuple-there rule tuple k j =
       contains-has (zip (processes_of rule.input) tuple) t.outputs (has_of_all (λ u. Contains t.outputs (zip (processes_of rule.input) u)) tuple rule.tuples (rule-is rule k).listed j)
 
-  tuple-long : (rule : Rule) (tuple : Tuple) → Has rule t.rules → Has tuple rule.tuples → length tuple ≡ length rule.input
+  tuple-long : (rule : Rule) (tuple : Tuple) → Has rule t.delta → Has tuple rule.tuples → length tuple ≡ length rule.input
   tuple-long rule tuple k j = has_of_all (λ u. length u ≡ length rule.input) tuple rule.tuples (rule-is rule k).long j
 
-  tuple-values : (rule : Rule) (tuple : Tuple) → Has rule t.rules → Has tuple rule.tuples → All (λ x. x ≤ largest) tuple
+  tuple-values : (rule : Rule) (tuple : Tuple) → Has rule t.delta → Has tuple rule.tuples → All (λ x. x ≤ largest) tuple
   tuple-values rule tuple k j =
       let long : length tuple ≡ length (processes_of rule.input) = tuple-long rule tuple k j ∙ sym (length-map rule.input (λ (v : Vertex). v.0)) in
       subst (All (λ x. x ≤ largest)) (values-zip-same (processes_of rule.input) tuple long) (output-is (zip (processes_of rule.input) tuple) (tuple-there rule tuple k j)).values
 
-  tuple-small : (rule : Rule) (tuple : Tuple) → Has rule t.rules → Has tuple rule.tuples → list_any (is_large largest) tuple ≡ false
+  tuple-small : (rule : Rule) (tuple : Tuple) → Has rule t.delta → Has tuple rule.tuples → list_any (is_large largest) tuple ≡ false
   tuple-small rule tuple k j = small-list largest tuple (tuple-values rule tuple k j)
 
-  rule-small : (rule : Rule) → Has rule t.rules → rule_has_large largest rule ≡ false
+  rule-small : (rule : Rule) → Has rule t.delta → rule_has_large largest rule ≡ false
   rule-small rule k =
       or_false (has_large largest rule.input) (list_any (list_any (is_large largest)) rule.tuples) (simplex-small t.processes largest rule.input (input-is rule.input (rule-input rule k)))
       (any_false (list_any (is_large largest)) rule.tuples (λ tuple j. tuple-small rule tuple k j))
 
   none-large : some_large (listed_of t) ≡ false
   none-large =
-      or_false (list_any (has_large largest) (facets (inputs t)) || list_any (has_large largest) (facets t.outputs)) (list_any (rule_has_large largest) t.rules)
+      or_false (list_any (has_large largest) (facets (inputs t)) || list_any (has_large largest) (facets t.outputs)) (list_any (rule_has_large largest) t.delta)
       (or_false (list_any (has_large largest) (facets (inputs t))) (list_any (has_large largest) (facets t.outputs))
       (any_false (has_large largest) (facets (inputs t)) (λ s k. simplex-small t.processes largest s (input-is s (facet-of (inputs t) s k))))
       (any_false (has_large largest) (facets t.outputs) (λ s k. simplex-small t.processes largest s (output-is s (facet-of t.outputs s k)))))
-      (any_false (rule_has_large largest) t.rules rule-small)
+      (any_false (rule_has_large largest) t.delta rule-small)
 
   all-coloured : all_colours (listed_of t) ≡ true
   all-coloured =
-      and_from (list_all (has_colours t.processes) (facets (inputs t)) && list_all (has_colours t.processes) (facets t.outputs)) (list_all (λ rule. has_colours t.processes rule.input) t.rules)
+      and_from (list_all (has_colours t.processes) (facets (inputs t)) && list_all (has_colours t.processes) (facets t.outputs)) (list_all (λ rule. has_colours t.processes rule.input) t.delta)
       (and_from (list_all (has_colours t.processes) (facets (inputs t))) (list_all (has_colours t.processes) (facets t.outputs))
       (all_true (has_colours t.processes) (facets (inputs t)) (λ s k. simplex-colours t.processes largest s (input-is s (facet-of (inputs t) s k))))
       (all_true (has_colours t.processes) (facets t.outputs) (λ s k. simplex-colours t.processes largest s (output-is s (facet-of t.outputs s k)))))
-      (all_true (λ (rule : Rule). has_colours t.processes rule.input) t.rules (λ rule k. simplex-colours t.processes largest rule.input (input-is rule.input (rule-input rule k))))
+      (all_true (λ (rule : Rule). has_colours t.processes rule.input) t.delta (λ rule k. simplex-colours t.processes largest rule.input (input-is rule.input (rule-input rule k))))
 
   numbers-pass : numbers_judged (listed_of t) ≡ Ok tt
   unfolding numbers_judged
@@ -253,22 +253,22 @@ module _ (t : Task) (h : IsListable t) where
       rw (le-ltb 64 (count_by (λ s. length s == 1) (inputs t)) h.task.few_vertices)
       (rw (le-ltb 4096 (length (inputs t)) input_count)
       (rw (le-ltb 65536 (length (facets t.outputs)) h.few)
-      (rw (le-ltb 65536 (sum_by (λ rule. length rule.tuples) t.rules) h.task.few_tuples) refl)))
+      (rw (le-ltb 65536 (sum_by (λ rule. length rule.tuples) t.delta) h.task.few_tuples) refl)))
 
-  entry : (s : Simplex) → Has s (inputs t) → (rule : Rule) × Has rule t.rules × (rule.input ≡ s) × (entries_in t.rules s ≡ rule ∷ [])
+  entry : (s : Simplex) → Has s (inputs t) → (rule : Rule) × Has rule t.delta × (rule.input ≡ s) × (entries_in t.delta s ≡ rule ∷ [])
   entry s k =
-      let rule = has-map (λ (r : Rule). r.input) s t.rules k in
-      (rule.0, rule.1, rule.2, subst (λ u. entries_in t.rules u ≡ rule.0 ∷ []) rule.2 (one-entry t.rules rule.0 inputs-complex.ascending rule.1))
+      let rule = has-map (λ (r : Rule). r.input) s t.delta k in
+      (rule.0, rule.1, rule.2, subst (λ u. entries_in t.delta u ≡ rule.0 ∷ []) rule.2 (one-entry t.delta rule.0 inputs-complex.ascending rule.1))
 
   entries-pass : entries_judged (listed_of t) (inputs t) ≡ Ok tt
   unfolding entries_judged
   entries-pass =
-      rw (none_from (λ s. length (entries_in t.rules s) == 0) 0 (inputs t) (λ s k. ap (λ (es : List Rule). length es == 0) (entry s k).3))
-      (rw (none_from (λ s. nat_lt 1 (length (entries_in t.rules s))) 0 (inputs t) (λ s k. ap (λ (es : List Rule). nat_lt 1 (length es)) (entry s k).3))
-      (rw (none_from (λ (rule : Rule). not (is_among (inputs t) rule.input)) 0 t.rules (λ rule k. ap not (has-among (inputs t) rule.input (rule-input rule k)))) refl))
+      rw (none_from (λ s. length (entries_in t.delta s) == 0) 0 (inputs t) (λ s k. ap (λ (es : List Rule). length es == 0) (entry s k).3))
+      (rw (none_from (λ s. nat_lt 1 (length (entries_in t.delta s))) 0 (inputs t) (λ s k. ap (λ (es : List Rule). nat_lt 1 (length es)) (entry s k).3))
+      (rw (none_from (λ (rule : Rule). not (is_among (inputs t) rule.input)) 0 t.delta (λ rule k. ap not (has-among (inputs t) rule.input (rule-input rule k)))) refl))
 
-  tuples-of : (rule : Rule) → Has rule t.rules → tuples_for (listed_of t) rule.input ≡ rule.tuples
-  tuples-of rule k = ap (flat_map (λ (r : Rule). r.tuples)) (one-entry t.rules rule inputs-complex.ascending k) ∙ append-nil rule.tuples
+  tuples-of : (rule : Rule) → Has rule t.delta → tuples_for (listed_of t) rule.input ≡ rule.tuples
+  tuples-of rule k = ap (flat_map (λ (r : Rule). r.tuples)) (one-entry t.delta rule inputs-complex.ascending k) ∙ append-nil rule.tuples
 
   tuples-at : (s : Simplex) (k : Has s (inputs t)) → tuples_for (listed_of t) s ≡ (entry s k).0.tuples
   tuples-at s k = let e = entry s k in ap (tuples_for (listed_of t)) (sym e.2) ∙ tuples-of e.0 e.1
@@ -294,10 +294,10 @@ module _ (t : Task) (h : IsListable t) where
   some-input = by (facets (inputs t)) inputs-back
     where
       by : (fs : List Simplex) → complex_of fs ≡ inputs t → (length fs == 0) ≡ false
-      by [] is = absurd (let none : ⊥ = omega (arith, ap length is, length-map t.rules (λ (rule : Rule). rule.input), h.task.some_input) in none)
+      by [] is = absurd (let none : ⊥ = omega (arith, ap length is, length-map t.delta (λ (rule : Rule). rule.input), h.task.some_input) in none)
       by (f ∷ fs) is = not_none (length fs)
 
-  rules-back : (rules : List Rule) → ((rule : Rule) → Has rule rules → Has rule t.rules) → map (rule_for (listed_of t)) (map (λ (rule : Rule). rule.input) rules) ≡ rules
+  rules-back : (rules : List Rule) → ((rule : Rule) → Has rule rules → Has rule t.delta) → map (rule_for (listed_of t)) (map (λ (rule : Rule). rule.input) rules) ≡ rules
   rules-back [] all = refl
   rules-back (rule ∷ rules) all =
       let tuples = ap (in_order (slice_cmp nat_cmp)) (tuples-of rule (all rule (inl refl))) ∙ (rule-is rule (all rule (inl refl))).ascending in
@@ -306,8 +306,8 @@ module _ (t : Task) (h : IsListable t) where
 
   drafted-back : drafted (listed_of t) ≡ t
   drafted-back =
-      let rules = ap (map (rule_for (listed_of t))) inputs-back ∙ rules-back t.rules (λ rule k. k) in
-      λ j. record { processes = t.processes; symmetric = t.symmetric; restriction = t.restriction; rules = rules j; outputs = outputs-back j }
+      let rules = ap (map (rule_for (listed_of t))) inputs-back ∙ rules-back t.delta (λ rule k. k) in
+      λ j. record { processes = t.processes; symmetric = t.symmetric; restriction = t.restriction; delta = rules j; outputs = outputs-back j }
 
   judged-back : judged (listed_of t) ≡ Ok t
   unfolding judged
@@ -340,7 +340,7 @@ module _ (t : Task) (h : IsListable t) where
       let process : v.0 < t.processes = has_of_all (λ p. p < t.processes) v.0 (processes_of s) k.processes (map-has (λ (w : Vertex). w.0) v s j) in
       (omega (arith, process, h.task.process_count.1), small v.1 (has_of_all (λ x. x ≤ largest) v.1 (values_of s) k.values (map-has (λ (w : Vertex). w.1) v s j))))
 
-  rule-short : (rule : Rule) → Has rule t.rules → length (compact_text (rule_data rule)) ≤ 63 + 19 * length rule.tuples
+  rule-short : (rule : Rule) → Has rule t.delta → length (compact_text (rule_data rule)) ≤ 63 + 19 * length rule.tuples
   rule-short rule k =
       let within = input-is rule.input (rule-input rule k) in
       let few = length-within 4 255 rule.input (within-four rule.input within) in

@@ -352,14 +352,14 @@ rows_of_faultless listed slots inputs rows h is of made =
     rows_long slots listed.delta (complex_of listed.inputs) rows (only_of listed slots h (subst (AreOf slots listed.delta) is of)) made ∙ ap length (sym is)
 
 pub rules_of_faultless : (listed : Listed) (slots : List Slot) (inputs : List Simplex) (rows : List (List Tuple)) → IsFaultless listed → inputs ≡ complex_of listed.inputs → AreOf slots listed.delta inputs
-    → rows ≡ map (rows_at listed.delta) slots → rules_seen inputs rows ≡ (drafted listed).rules
+    → rows ≡ map (rows_at listed.delta) slots → rules_seen inputs rows ≡ (drafted listed).delta
 rules_of_faultless listed slots inputs rows h is of made =
     ap (λ ss. rules_seen ss rows) is ∙ rules_are slots listed (complex_of listed.inputs) rows (only_of listed slots h (subst (AreOf slots listed.delta) is of)) made
 
-pub task_is : (listed : Listed) (rules : List Rule) (outputs : List Simplex) (t : Task) → t ≡ record { processes = listed.processes; symmetric = listed.symmetric; restriction = listed.restriction; rules = rules; outputs = outputs }
-    → rules ≡ (drafted listed).rules → outputs ≡ complex_of listed.outputs → t ≡ drafted listed
+pub task_is : (listed : Listed) (rules : List Rule) (outputs : List Simplex) (t : Task) → t ≡ record { processes = listed.processes; symmetric = listed.symmetric; restriction = listed.restriction; delta = rules; outputs = outputs }
+    → rules ≡ (drafted listed).delta → outputs ≡ complex_of listed.outputs → t ≡ drafted listed
 task_is listed rules outputs t is same complex =
-    is ∙ (λ j. record { processes = listed.processes; symmetric = listed.symmetric; restriction = listed.restriction; rules = same j; outputs = complex j })
+    is ∙ (λ j. record { processes = listed.processes; symmetric = listed.symmetric; restriction = listed.restriction; delta = same j; outputs = complex j })
 
 pub faultless : (listed : Listed) (inputs : List Simplex) (a b c d : Unit {0}) → ListsVertices listed → numbers_judged listed ≡ Ok a → inputs ≡ complex_of listed.inputs → sizes_judged listed inputs ≡ Ok b
     → entries_judged listed inputs ≡ Ok c → tuples_judged listed inputs ≡ Ok d → (length listed.inputs == 0) ≡ false → is_first_block listed.restriction ≡ true → IsFaultless listed

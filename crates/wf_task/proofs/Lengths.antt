@@ -130,11 +130,11 @@ pub record HasShortParts (t : Task) : Type 0 where
   pub restriction : IsFirstBlock t.restriction
   pub input_count : length (facets (inputs t)) ≤ 4096
   pub output_count : length (facets t.outputs) ≤ 65536
-  pub rule_count : length t.rules ≤ 4096
-  pub tuple_count : sum_by (λ rule. length rule.tuples) t.rules ≤ 65536
+  pub rule_count : length t.delta ≤ 4096
+  pub tuple_count : sum_by (λ rule. length rule.tuples) t.delta ≤ 65536
   pub input_parts : (s : Simplex) → Has s (facets (inputs t)) → length (compact_text (simplex_data s)) ≤ 46
   pub output_parts : (s : Simplex) → Has s (facets t.outputs) → length (compact_text (simplex_data s)) ≤ 46
-  pub rule_parts : (rule : Rule) → Has rule t.rules → length (compact_text (rule_data rule)) ≤ 63 + 19 * length rule.tuples
+  pub rule_parts : (rule : Rule) → Has rule t.delta → length (compact_text (rule_data rule)) ≤ 63 + 19 * length rule.tuples
 
 -- `first_block` before the other members
 block-long : (restriction : Option ℕ) (ms : Members) → IsFirstBlock restriction → length (members_text true (with_first_block restriction ms)) ≤ 18 + length (members_text true ms)
@@ -149,8 +149,8 @@ pub task-long : (t : Task) → HasShortParts t → length (compact_text (task_da
 task-long t h =
     let inner = list-long simplex_data 46 (facets (inputs t)) h.input_parts in
     let outer = list-long simplex_data 46 (facets t.outputs) h.output_parts in
-    let rules = rules-long false t.rules h.rule_parts in
-    let d = list_data rule_data t.rules in
+    let rules = rules-long false t.delta h.rule_parts in
+    let d = list_data rule_data t.delta in
     let i = list_data simplex_data (facets (inputs t)) in
     let o = list_data simplex_data (facets t.outputs) in
     let version : Members = member (codes "version") (number_data (version_of t.restriction)) no_members in
@@ -202,7 +202,7 @@ block-deep (Some m) ms h = member-deep (codes "first_block") (number_data m) ms 
 
 pub task-deep : (t : Task) → depth (task_data t) ≤ 127
 task-deep t =
-    let rules = list-deep rule_data 4 t.rules rule-deep in
+    let rules = list-deep rule_data 4 t.delta rule-deep in
     let inner = simplices-deep (facets (inputs t)) in
     let outer = simplices-deep (facets t.outputs) in
     let version : Members = member (codes "version") (number_data (version_of t.restriction)) no_members in
@@ -212,5 +212,5 @@ task-deep t =
     let inputs' : Members = member (codes "inputs") (list_data simplex_data (facets (inputs t))) outputs in
     let a = member-deep (codes "outputs") (list_data simplex_data (facets t.outputs)) processes (omega (arith, outer)) (omega arith) in
     let b = member-deep (codes "inputs") (list_data simplex_data (facets (inputs t))) outputs (omega (arith, inner)) a in
-    let c = member-deep (codes "delta") (list_data rule_data t.rules) (with_first_block t.restriction inputs') (omega (arith, rules)) (block-deep t.restriction inputs' b) in
+    let c = member-deep (codes "delta") (list_data rule_data t.delta) (with_first_block t.restriction inputs') (omega (arith, rules)) (block-deep t.restriction inputs' b) in
     omega (arith, c)

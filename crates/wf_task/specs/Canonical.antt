@@ -36,7 +36,7 @@ listed_of t = record {
   symmetric = t.symmetric;
   inputs = facets (inputs t);
   outputs = facets t.outputs;
-  delta = t.rules;
+  delta = t.delta;
 }
 
 -- ---- its JSON value
@@ -79,7 +79,7 @@ keyed restriction n symmetric inputs outputs delta =
 abbrev pub task_data : Task → Data
 task_data t =
     keyed t.restriction t.processes t.symmetric (list_data simplex_data (facets (inputs t)))
-    (list_data simplex_data (facets t.outputs)) (list_data rule_data t.rules)
+    (list_data simplex_data (facets t.outputs)) (list_data rule_data t.delta)
 
 -- compact JSON: no space anywhere
 unfoldable pub canonical_text : Task → List ℕ

@@ -148,7 +148,7 @@ drafted listed = record {
   processes = listed.processes;
   symmetric = listed.symmetric;
   restriction = listed.restriction;
-  rules = map (rule_for listed) (complex_of listed.inputs);
+  delta = map (rule_for listed) (complex_of listed.inputs);
   outputs = complex_of listed.outputs;
 }
 

@@ -19,7 +19,7 @@ restricted_task restriction n symmetric inputs tuples outputs = record {
   processes = n;
   symmetric = symmetric;
   restriction = restriction;
-  rules = rules_seen inputs tuples;
+  delta = rules_seen inputs tuples;
   outputs = outputs;
 }
 
@@ -38,4 +38,4 @@ pub record IsKept (t : Inside) : Type 0 where
 
 -- the tuples of the input simplex of this number, if there is one
 abbrev pub tuples_at : Task → ℕ → Option (List Tuple)
-tuples_at t simplex = option_map (λ rule. rule.tuples) (slice_get t.rules simplex)
+tuples_at t simplex = option_map (λ rule. rule.tuples) (slice_get t.delta simplex)

@@ -183,7 +183,7 @@ impl Task {
 
     /// The tuples of an input simplex, by its place in the input complex: ascending, each once.
     pub fn tuples(&self, simplex: u32) -> &[Row]
-        requires { simplex < length self.now.rules }
+        requires { simplex < length self.now.delta }
         ensures { tuples_at self.now simplex ≡ Some result.now }
     {
         let tuples = self.tuples.as_slice();

@@ -13,7 +13,7 @@ use std::{env, fs, io, rt};
 use wf_io::{Sink, Source};
 use wf_pool::{Gate, Moment};
 use wf_program::{Files, run_program};
-use wf_words::WordsFault;
+use wf_args::WordsFault;
 
 /// The files of the disk.
 #[derive(Drop)]

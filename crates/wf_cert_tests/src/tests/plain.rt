@@ -22,7 +22,7 @@ pub fn plain_task(alloc: Global, task: &Task) -> Result<PlainTask, AllocError> {
         processes: usize::from(task.processes()),
         symmetric: task.symmetric(),
         restriction: None,
-        rules,
+        delta: rules,
         outputs,
     })
 }

@@ -11,7 +11,7 @@ use std::thread::Threads;
 use wf_io::{Sink, Source};
 use wf_pool::Open;
 use wf_program::run_program;
-use wf_words::WordsFault;
+use wf_args::WordsFault;
 
 /// What a run wrote and answered.
 #[derive(Drop)]

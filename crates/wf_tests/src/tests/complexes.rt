@@ -162,7 +162,7 @@ fn has_simplices(
     plain: &PlainTask,
 ) -> Result<bool, AllocError> {
     let executions = executions(alloc, plain, protocol.rounds() as usize)?;
-    Ok(are_simplices(protocol, &plain.rules, &executions))
+    Ok(are_simplices(protocol, &plain.delta, &executions))
 }
 
 /// Whether these executions are on the input simplices of these rules.

@@ -35,7 +35,7 @@ fn plain_task(alloc: Global, task: &Task) -> Result<PlainTask, AllocError> {
         processes: usize::from(task.processes()),
         symmetric: task.symmetric(),
         restriction: None,
-        rules,
+        delta: rules,
         outputs,
     })
 }

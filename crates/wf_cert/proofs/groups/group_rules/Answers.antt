@@ -9,7 +9,7 @@ use Rattle.wf_cert.proofs.groups.group_rules.Goals as goal
 pub loop-number-preserved : goal.loop-number-preserved
 loop-number-preserved c =
     let k = c.loop-number in
-    let rules = c.args.task.now.rules in
+    let rules = c.args.task.now.delta in
     let grown = c.in_ok-push.ensures.items in
     let one = c.in_ok-group_tuples.field-0 in (
       ap length grown ∙ length-append k.groups.items (one ∷ []) ∙ ap (λ n. n + 1) k.invariant.0,

@@ -1,7 +1,7 @@
 //! Which preset the options of the command line ask for.
 
 ghost use Rattle.std.specs.Prelude.{◌≡◌};
-ghost use Rattle.wf_words.specs.Presets.{agreement_asked, inputs_asked, preset_asked, renaming_asked};
+ghost use Rattle.wf_args.specs.Presets.{agreement_asked, inputs_asked, preset_asked, renaming_asked};
 
 use wf_engine::{Inputs, Preset};
 

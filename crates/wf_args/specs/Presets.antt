@@ -5,7 +5,7 @@ use Rattle.wf_preset.specs.declared.preset.Inputs.{Inputs}
 use Rattle.wf_preset.specs.declared.preset.Inputs.TheVariants.{Own, All}
 use Rattle.wf_engine.specs.declared.preset.Preset.{Preset}
 use Rattle.wf_engine.specs.declared.preset.Preset.TheVariants.{SetAgreement, Renaming}
-use Rattle.wf_words.specs.declared.presets.Options.{Options}
+use Rattle.wf_args.specs.declared.presets.Options.{Options}
 
 -- the processes have their own inputs, unless there is a number of values
 abbrev pub inputs_asked : Option ℕ → Inputs

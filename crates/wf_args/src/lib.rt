@@ -2,7 +2,7 @@
 #![tactic(auto)]
 
 ghost use Rattle.std.specs.Prelude.{IfOk, IfErr, IfSome};
-ghost use Rattle.wf_words.specs.Job.{IsWithinLimits, IsClapMistake};
+ghost use Rattle.wf_args.specs.Job.{IsWithinLimits, IsClapMistake};
 
 mod forms;
 mod presets;
@@ -64,7 +64,7 @@ pub enum WordsFault {
 
 impl From<AllocError> for WordsFault {
     ghost use Rattle.std.specs.Prelude.{◌≡◌};
-    ghost use Rattle.wf_words.specs.declared.WordsFault.TheVariants.{OutOfMemory};
+    ghost use Rattle.wf_args.specs.declared.WordsFault.TheVariants.{OutOfMemory};
 
     ghost from_gives = { λ _ e. e ≡ OutOfMemory };
 
@@ -75,7 +75,7 @@ impl From<AllocError> for WordsFault {
 
 impl From<io::Error> for WordsFault {
     ghost use Rattle.std.specs.IoError.{error_kind};
-    ghost use Rattle.wf_words.specs.Arguments.{IsFaultOf};
+    ghost use Rattle.wf_args.specs.Arguments.{IsFaultOf};
 
     ghost from_gives = { λ x e. IsFaultOf (error_kind x) e };
 

@@ -1,7 +1,7 @@
 //! Which form of a report the flags of the command line ask for.
 
 ghost use Rattle.std.specs.Prelude.{◌≡◌};
-ghost use Rattle.wf_words.specs.Forms.{form_asked};
+ghost use Rattle.wf_args.specs.Forms.{form_asked};
 
 use wf_engine::Form;
 

@@ -2,8 +2,8 @@
 use Rattle.std.specs.Prelude.{◌≡◌, ◌≢◌, ◌⊎◌}
 use Rattle.std.specs.declared.io.ErrorKind.{ErrorKind}
 use Rattle.std.specs.declared.io.ErrorKind.TheVariants as kind
-use Rattle.wf_words.specs.declared.WordsFault.{WordsFault}
-use Rattle.wf_words.specs.declared.WordsFault.TheVariants.{Words, OutOfMemory}
+use Rattle.wf_args.specs.declared.WordsFault.{WordsFault}
+use Rattle.wf_args.specs.declared.WordsFault.TheVariants.{Words, OutOfMemory}
 
 -- out of memory is a fault of its own; after any other, the words are none
 abbrev pub IsFaultOf : ErrorKind → WordsFault → Type 0
