@@ -16,6 +16,7 @@ pub mod Laws
 pub mod LeastTree
 pub mod Report
 pub mod ViewsText
+pub mod PointsText
 pub mod Check
 pub mod AllSolutions
 pub mod Presets

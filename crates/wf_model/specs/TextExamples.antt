@@ -8,6 +8,8 @@ use Rattle.wf_model.specs.Refutation.{Line, remove, empty, branch, found}
 use Rattle.wf_model.specs.Closing.{canonical}
 use Rattle.wf_model.specs.Report.{Report, Reading, Body, a_map, none, least, report_text, report_of}
 use Rattle.wf_model.specs.ViewsText.{views_text}
+use Rattle.wf_model.specs.PointsText.{points_text, view_text}
+use Rattle.wf_model.specs.View.{base, seen, views_of}
 use Rattle.wf_model.specs.Check.{first_fault, first_least_fault, map_fault, report_fault, Refusal, wrong_header, wrong_length, unfinished, trailing, unsound, not_empty, not_open, no_such, violates, not_first, not_the_map}
 
 abbrev path_3_report : Report
@@ -181,3 +183,18 @@ after_found = refl
 pub renaming_views : views_text renaming_2_2 1 ≡ codes "wfcheck views 1\nprocesses 2\nrounds 1\nsimplices 3\nviews 4\npoints 3\nexecutions 5\nv 0 0 0\nv 1 2 0\nv 2 2 1\nend\n"
 unfolding digits
 renaming_views = refl
+
+-- ---- points in words
+
+pub path_3_points : points_text (path 3) 1 (0 ∷ 3 ∷ 2 ∷ 1 ∷ []) ≡ codes "0 p0 saw {p0=0} decides 0\n1 p1 saw {p1=0} decides 3\n2 p0 saw {p0=0, p1=0} decides 2\n3 p1 saw {p0=0, p1=0} decides 1\n"
+unfolding digits
+path_3_points = refl
+
+pub points_by_ranks : points_text renaming_2_2 1 [] ≡ codes "0 #0 saw {#0=0}\n1 #0 saw {#0=0, #1=0}\n2 #1 saw {#0=0, #1=0}\n"
+unfolding digits
+points_by_ranks = refl
+
+-- a view of two rounds
+pub a_view_of_views : view_text false (seen 1 (views_of (seen 0 (views_of (base 0 7 ∷ [])) ∷ seen 1 (views_of (base 0 7 ∷ base 1 12 ∷ [])) ∷ []))) ≡ codes "p1 saw {p0 saw {p0=7}, p1 saw {p0=7, p1=12}}"
+unfolding digits
+a_view_of_views = refl
