@@ -1,13 +1,6 @@
 -- The most that a problem within the limits has.
 use Rattle.std.specs.Prelude.{ℕ}
 
--- one point for each process of each execution
-abbrev pub most_points : ℕ
-most_points = 2000000
-
-abbrev pub most_executions : ℕ
-most_executions = 500000
-
 -- 256 candidates for each point
 abbrev pub most_candidates : ℕ
 most_candidates = 512000000

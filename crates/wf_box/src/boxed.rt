@@ -8,7 +8,7 @@ ghost use Rattle.wf_model.specs.Problem.{IsWellFormed, Problem};
 ghost use Rattle.wf_set.specs.Sets.{box_of, values_in};
 ghost use Rattle.wf_box.specs.Boxes.{Grows, IsFor, WasClosed, box_after, closed_if};
 ghost use Rattle.wf_box.specs.Least.{least_values};
-ghost use Rattle.wf_box.specs.Limits.{most_points};
+ghost use Rattle.wf_model.specs.Limits.{most_points};
 
 use crate::kept::KeptSets;
 use crate::marks::Marks;

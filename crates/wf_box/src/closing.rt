@@ -5,7 +5,7 @@ ghost use Rattle.wf_model.specs.Problem.{IsWellFormed};
 ghost use Rattle.wf_model.specs.Box.{count, first_empty};
 ghost use Rattle.wf_model.specs.Closing.{closing, sweep, sweep_from};
 ghost use Rattle.std.specs.Bool.{OnFalse, OnTrue};
-ghost use Rattle.wf_box.specs.Limits.{most_executions, most_points};
+ghost use Rattle.wf_model.specs.Limits.{most_executions, most_points};
 ghost use Rattle.wf_box.specs.Boxes.{Grows, IsClosedNow, IsFor};
 ghost use Rattle.wf_box.specs.Changes.{GrowsTo, KeepsTrack, sets_in};
 ghost use Rattle.wf_box.specs.Quiet.{AreSilent, AreTold, AreUsers, EmptiesNoneSince, IsSilent, IsTold, IsUntouchedSince, LeavesUntouched, MarksTell, StoodClosed};

@@ -1,7 +1,8 @@
 //! Marks on executions.
 
 ghost use Rattle.std.specs.Prelude.{◌≡◌, ◌<◌, ◌≤◌, ◌*◌, ◌/◌, ◌^◌, All, length, OnOk, IfSome, IfNone};
-ghost use Rattle.wf_box.specs.Limits.{most_executions, most_words};
+ghost use Rattle.wf_model.specs.Limits.{most_executions};
+ghost use Rattle.wf_box.specs.Limits.{most_words};
 ghost use Rattle.wf_box.specs.Marks.{AreSet, AreSetBelow, IsLast, IsLastHere, IsMore, IsNext, KeepsBitsBut, KeepsWordsBut, TopsTell, bit_of};
 
 use std::alloc::{AllocError, Global};

@@ -5,7 +5,7 @@ ghost use Rattle.wf_model.specs.Task.{IsTask};
 ghost use Rattle.wf_model.specs.Problem.{IsWellFormed, problem_of};
 ghost use Rattle.wf_complex.specs.Protocol.{IsProtocol};
 ghost use Rattle.wf_model.specs.Split.{most_values};
-ghost use Rattle.wf_box.specs.Limits.{most_executions, most_points};
+ghost use Rattle.wf_model.specs.Limits.{most_executions, most_points};
 ghost use Rattle.wf_box.specs.Problems.{AreExecutionsOf, AreWithin, IsRuleOf, IsWide, rule_seen};
 
 use crate::users::Users;
@@ -64,7 +64,7 @@ impl Model for Problem {
 
     ghost Value = { Problem };
 
-    ghost use Rattle.wf_box.specs.Limits.{most_executions, most_points};
+    ghost use Rattle.wf_model.specs.Limits.{most_executions, most_points};
     ghost use Rattle.wf_box.specs.Problems.{problem_seen, IsKept};
 
     ghost view = { problem_seen };

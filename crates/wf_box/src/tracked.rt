@@ -5,7 +5,8 @@ ghost use Rattle.wf_model.specs.Lists.{has};
 ghost use Rattle.wf_model.specs.Box.{candidates, count, decided, first_open};
 ghost use Rattle.wf_set.specs.Sets.{box_of, values_in};
 ghost use Rattle.wf_box.specs.Changes.{GrowsTo, HasFewer, KeepsTrack, KeepsTrackWith, Notes, UndoesLast, sets_in, words_at};
-ghost use Rattle.wf_box.specs.Limits.{most_candidates, most_points};
+ghost use Rattle.wf_model.specs.Limits.{most_points};
+ghost use Rattle.wf_box.specs.Limits.{most_candidates};
 
 use std::alloc::{AllocError, Global};
 use wf_lane::{count, first_open};

@@ -9,7 +9,7 @@ use Rattle.wf_set.specs.Sets.{box_of, values_in}
 use Rattle.wf_cert.proofs.BlockLemmas.{set_read}
 use Rattle.wf_model.specs.Box.{first_open}
 use Rattle.wf_model.specs.Problem.{Problem, constraint_at, no_constraint}
-use Rattle.wf_model.specs.Report.{most_number}
+use Rattle.wf_model.specs.Limits.{most_number}
 use Rattle.wf_model.specs.Check.{first_violated, satisfies}
 
 prefix_of-map : {X Y : Type 0} (f : X → Y) (q : Y → Bool) (xs : List X) → prefix_len (λ y. not (q y)) (map f xs) ≡ prefix_len (λ x. not (q (f x))) xs

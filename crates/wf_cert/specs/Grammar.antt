@@ -2,7 +2,8 @@
 use Rattle.std.specs.Prelude.{◌≡◌, ◌≤◌, ℕ, List}
 use Rattle.std.specs.List.{AllByRecursion}
 use Rattle.wf_model.specs.Refutation.{Line, remove, empty, branch, found}
-use Rattle.wf_model.specs.Report.{Body, Report, a_map, none, least, largest, most_number, report_text}
+use Rattle.wf_model.specs.Limits.{most_number}
+use Rattle.wf_model.specs.Report.{Body, Report, a_map, none, least, largest, report_text}
 
 -- the last process
 abbrev pub last_process : ℕ

@@ -1,7 +1,8 @@
 //! Reading the text of a report, line by line.
 
 ghost use Rattle.std.specs.Prelude.{◌≡◌, ◌==◌, ◌+◌, ◌<◌, ◌≤◌, ◌++◌, ◌∷◌, [], true, codes, length, map, option_map, IfOk, OnOk};
-ghost use Rattle.wf_model.specs.Report.{any_step, body_at, fixed_at, least_body, line, lines_of, map_body, most_number, none_body, number_at, number_of_line, number_upto, step_of_words, steps_from, value_of_line, values_at_front};
+ghost use Rattle.wf_model.specs.Limits.{most_number};
+ghost use Rattle.wf_model.specs.Report.{any_step, body_at, fixed_at, least_body, line, lines_of, map_body, none_body, number_at, number_of_line, number_upto, step_of_words, steps_from, value_of_line, values_at_front};
 ghost use Rattle.wf_model.specs.Refutation.{branch, empty};
 ghost use Rattle.wf_complex.specs.Lines.{line_of};
 ghost use Rattle.wf_cert.specs.Reading.{Gives, IsRead, lacks};

@@ -13,6 +13,7 @@ use Rattle.wf_model.specs.Task.{Task, Tuple, IsTask, IsSimplexWithin, inputs, la
 use Rattle.wf_model.specs.Problem.{Constraint, problem_of, values_at, constraint_at, no_constraint}
 use Rattle.wf_model.specs.Check.{satisfies}
 use Rattle.wf_model.proofs.WellFormed.{task_well_formed}
+use Rattle.wf_model.proofs.Tasks.{inputs_within}
 use Rattle.wf_simplex.proofs.Within.{length-within}
 use Rattle.wf_complex.specs.Protocol.{Built, IsProtocol}
 use Rattle.wf_complex.proofs.RuleAt.{constraint_there, got}
@@ -46,8 +47,8 @@ size_of : (t : Task) (n : ℕ) (rule : task.Rule) → IsTask t → slice_get t.d
 size_of t n rule is there =
     let low : n < length (inputs t) = omega (arith, slice_get_within t.delta n rule there, length-map t.delta (λ (r : task.Rule). r.input)) in
     let input : get_or (inputs t) n rule.input ≡ rule.input = get_or-map (λ (r : task.Rule). r.input) t.delta n rule rule.input (slice_get_within t.delta n rule there) ∙ ap (λ (r : task.Rule). r.input) (got t.delta n rule rule there) in
-    let within : IsSimplexWithin t.processes (largest_value t.restriction) rule.input = subst (IsSimplexWithin t.processes (largest_value t.restriction)) input (is.input_complex.within n rule.input low) in
-    omega (arith, length-within t.processes (largest_value t.restriction) rule.input within, is.process_count.1)
+    let within : IsSimplexWithin t.processes (largest_value t.restriction) rule.input = subst (IsSimplexWithin t.processes (largest_value t.restriction)) input (inputs_within t is n rule.input low) in
+    omega (arith, length-within t.processes (largest_value t.restriction) rule.input within, is.limits.processes)
 
 some_zipped : (xs ys : List ℕ) → 0 < length (zip xs ys) → 0 < length ys
 some_zipped [] ys h = absurd (let bad : ⊥ = omega (arith, h) in bad)

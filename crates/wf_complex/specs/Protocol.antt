@@ -1,6 +1,7 @@
 -- What a clause sees of a protocol complex, and of which task and rounds it is one.
 use Rattle.std.specs.Prelude.{◌≡◌, ◌<◌, ◌≤◌, ℕ, List, [], ◌∷◌, map, flat_map, length, Option, None, Some, Result, Ok, Err, ◌==◌, if◌then◌else◌}
 use Rattle.std.specs.List.{enumerate_from}
+use Rattle.wf_model.specs.Limits.{most_executions, most_rounds}
 use Rattle.wf_model.specs.Task.{Task, first_block}
 use Rattle.wf_model.specs.View.{View}
 use Rattle.wf_model.specs.Execution.{executions_on, executions}
@@ -34,10 +35,10 @@ pub record IsProtocol (t : Task) (r : ℕ) (b : Built) : Type 0 where
 
 -- what building answers: too many rounds first, then too many executions, and else the complex, unless memory ran out
 abbrev pub Builds : Task → ℕ → Result Built BuildFault → Type 0
-Builds t r (Ok b) = (r ≤ 8) × (length (executions t r) ≤ 500000) × IsProtocol t r b
+Builds t r (Ok b) = (r ≤ most_rounds) × (length (executions t r) ≤ most_executions) × IsProtocol t r b
 Builds t r (Err Rounds) = 8 < r
-Builds t r (Err TooManyExecutions) = (r ≤ 8) × (500000 < length (executions t r))
-Builds t r (Err OutOfMemory) = (r ≤ 8) × (length (executions t r) ≤ 500000)
+Builds t r (Err TooManyExecutions) = (r ≤ most_rounds) × (most_executions < length (executions t r))
+Builds t r (Err OutOfMemory) = (r ≤ most_rounds) × (length (executions t r) ≤ most_executions)
 
 -- the point of a process in an execution, if it takes part
 abbrev pub point_in : ℕ → List (ℕ × ℕ) → Option ℕ

@@ -1,6 +1,7 @@
 -- What a clause sees of the program's protocol complexes, and what each of them keeps.
 use Rattle.std.specs.Prelude.{◌≡◌, ◌<◌, ◌≤◌, ℕ, List, map, length, get_or, All, refl}
 use Rattle.std.specs.Coded.{Coded, code_by, coded×, coded_list, coded_ℕ}
+use Rattle.wf_model.specs.Limits.{most_executions, most_points}
 use Rattle.wf_model.specs.View.{View}
 use Rattle.wf_model.specs.ViewCode.{view_list_code}
 use Rattle.wf_complex.specs.Rounds.{views_at}
@@ -47,8 +48,8 @@ built_seen p = record {
 pub record IsKept (p : Inside) : Type 0 where
   pub pointed : length p.places.items ≡ length p.numbers.items
   pub within : All (EndsBy (length p.numbers.items)) p.executions.items
-  pub few_executions : length p.executions.items ≤ 500000
-  pub few_points : length p.classes.items ≤ 2000000
+  pub few_executions : length p.executions.items ≤ most_executions
+  pub few_points : length p.classes.items ≤ most_points
   pub viewed : All (λ id. id < length p.views) p.classes.items
   pub appearing : length p.firsts.items ≡ length p.classes.items
   pub placed : All (λ j. j < length p.places.items) p.firsts.items

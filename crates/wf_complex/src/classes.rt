@@ -2,6 +2,7 @@
 
 ghost use Rattle.std.specs.Prelude.{◌≡◌, ◌<◌, ◌≤◌, ◌+◌, ◌*◌, length, map, slice_index, All, IfOk, OnOk};
 ghost use Rattle.wf_model.specs.Lists.{distinct};
+ghost use Rattle.wf_model.specs.Limits.{most_number, most_points};
 ghost use Rattle.wf_model.specs.View.{same_view, normal};
 ghost use Rattle.wf_view.specs.Views.{view_at, count_within};
 ghost use Rattle.wf_complex.specs.Rounds.{views_at, Extends};
@@ -27,9 +28,9 @@ pub(crate) fn classes_of(
     symmetric: bool,
 ) -> Result<Classes, AllocError>
     requires lasts { All (λ k. k < length views.old) lasts.items }
-    requires few { length lasts.items ≤ 2000000 }
+    requires few { length lasts.items ≤ most_points }
     requires shallow { All (λ k. count_within (view_at views.old k) ≤ 36) lasts.items }
-    requires room { length views.old + 36 * length lasts.items ≤ 4294967295 }
+    requires room { length views.old + 36 * length lasts.items ≤ most_number }
     ensures extends { OnOk result (Extends views.old views.new) }
     ensures within { IfOk result (λ c. All (λ k. k < length views.new) c.ids.items) }
     ensures classes { IfOk result
@@ -55,7 +56,7 @@ pub(crate) fn classes_of(
 fn normals_of(alloc: Global, views: &mut Views, ids: &[u32]) -> Result<Vec<u32>, AllocError>
     requires ids { All (λ k. k < length views.old) ids.now }
     requires shallow { All (λ k. count_within (view_at views.old k) ≤ 36) ids.now }
-    requires room { length views.old + 36 * length ids.now ≤ 4294967295 }
+    requires room { length views.old + 36 * length ids.now ≤ most_number }
     ensures extends { OnOk result (Extends views.old views.new) }
     ensures within { IfOk result (λ ns. All (λ k. k < length views.new) ns.items) }
     ensures normals { IfOk result

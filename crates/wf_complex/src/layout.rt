@@ -1,6 +1,7 @@
 //! Where the executions of a task lie in the list of their last views.
 
 ghost use Rattle.std.specs.Prelude.{◌≡◌, ◌≤◌, ◌+◌, ◌*◌, ◌++◌, min, length, All, IfOk, OnOk};
+ghost use Rattle.wf_model.specs.Limits.{most_executions, most_inputs};
 ghost use Rattle.wf_complex.specs.Layout.{turns, execution_total, laid_on, laid_out};
 
 use std::alloc::{AllocError, Global};
@@ -58,8 +59,8 @@ pub(crate) fn lay_out(
 ) -> Result<Vec<Execution>, AllocError>
     requires one { 1 ≤ m }
     requires most { m ≤ 4 }
-    requires few { execution_total m rounds inputs.now ≤ 500000 }
-    requires inputs { length inputs.now ≤ 4096 }
+    requires few { execution_total m rounds inputs.now ≤ most_executions }
+    requires inputs { length inputs.now ≤ most_inputs }
     requires sizes { All (λ s. length s ≤ 4) inputs.now }
     ensures { IfOk result (λ es. es.items ≡ laid_out m rounds 0 0 inputs.now) }
 {

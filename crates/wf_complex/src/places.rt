@@ -1,6 +1,7 @@
 //! Which process stands at each place of the executions.
 
 ghost use Rattle.std.specs.Prelude.{◌≡◌, ◌<◌, ◌≤◌, ◌++◌, length, map, All, IfOk, OnOk};
+ghost use Rattle.wf_model.specs.Limits.{most_executions};
 ghost use Rattle.wf_complex.specs.Places.{EndsBy, place_of, places_on_all};
 
 use crate::layout::Execution;
@@ -23,7 +24,7 @@ pub(crate) fn places_of(
 ) -> Result<Vec<Place>, AllocError>
     requires lasts { All (λ k. k < length views.now) lasts.now }
     requires within { All (EndsBy (length lasts.now)) executions.now }
-    requires few { length executions.now ≤ 500000 }
+    requires few { length executions.now ≤ most_executions }
     ensures { IfOk result (λ ps. ps.items ≡ places_on_all views.now lasts.now executions.now) }
 {
     let mut places = Vec::new(alloc);

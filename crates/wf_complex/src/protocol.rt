@@ -2,7 +2,8 @@
 
 ghost use Rattle.std.specs.Prelude.{◌≡◌, ◌<◌, ◌≤◌, ℕ, Some, [], length, map, slice_get, All, IfOk};
 ghost use Rattle.std.specs.List.{slice_index_or};
-ghost use Rattle.wf_model.specs.Task.{IsSimplexWithin};
+ghost use Rattle.wf_model.specs.Limits.{most_executions, most_inputs, most_points, most_rounds};
+ghost use Rattle.wf_model.specs.Task.{IsTaskSimplex};
 ghost use Rattle.wf_complex.specs.Layout.{execution_total};
 ghost use Rattle.wf_complex.specs.Protocol.{Builds, point_in};
 ghost use Rattle.wf_complex.specs.ProtocolMade.{IsMade, pairs_of};
@@ -86,7 +87,7 @@ impl Protocol {
     /// How many points there are.
     pub fn points(&self) -> u32
         ensures points { result ≡ length self.now.points }
-        ensures few { result ≤ 2000000 }
+        ensures few { result ≤ most_points }
     {
         self.classes.len() as u32
     }
@@ -94,7 +95,7 @@ impl Protocol {
     /// How many executions there are.
     pub fn executions(&self) -> u32
         ensures executions { result ≡ length self.now.scopes }
-        ensures few { result ≤ 500000 }
+        ensures few { result ≤ most_executions }
     {
         self.executions.len() as u32
     }
@@ -171,10 +172,10 @@ fn made(
 ) -> Result<Protocol, AllocError>
     requires one { 1 ≤ m }
     requires most { m ≤ 4 }
-    requires rounds { rounds ≤ 8 }
-    requires executions { execution_total m rounds inputs.now ≤ 500000 }
-    requires few { length inputs.now ≤ 4096 }
-    requires simplices { All (IsSimplexWithin 4 255) inputs.now }
+    requires rounds { rounds ≤ most_rounds }
+    requires executions { execution_total m rounds inputs.now ≤ most_executions }
+    requires few { length inputs.now ≤ most_inputs }
+    requires simplices { All (IsTaskSimplex) inputs.now }
     ensures { IfOk result (IsMade inputs.now symmetric m rounds) }
 {
     let mut views = Views::start(alloc);

@@ -1,6 +1,7 @@
 //! One more round of immediate snapshots, on views by their numbers.
 
 ghost use Rattle.std.specs.Prelude.{◌≡◌, ◌<◌, ◌≤◌, ◌+◌, ◌++◌, length, map, take, flat_map, slice_index, All, IfOk, OnOk};
+ghost use Rattle.wf_model.specs.Limits.{most_number};
 ghost use Rattle.wf_model.specs.View.{round, base_views};
 ghost use Rattle.wf_model.specs.Word.{words};
 ghost use Rattle.wf_view.specs.Views.{view_at};
@@ -53,7 +54,7 @@ fn visible(current: &[u32], word: &Word, i: u8) -> Ids
 ///
 /// Refused where memory runs out; the views so far keep their numbers.
 fn first_views(views: &mut Views, simplex: &Simplex) -> Result<[u32; 4], AllocError>
-    requires room { length views.old + 4 ≤ 4294967295 }
+    requires room { length views.old + 4 ≤ most_number }
     ensures extends { Extends views.old views.new }
     ensures few { length views.new ≤ length views.old + length simplex.now }
     ensures views { IfOk result (λ ids. AreViews views.new (take (length simplex.now) ids)
@@ -76,7 +77,7 @@ fn first_views(views: &mut Views, simplex: &Simplex) -> Result<[u32; 4], AllocEr
 fn next_views(views: &mut Views, current: &[u32], word: &Word) -> Result<[u32; 4], AllocError>
     requires long { length current.now ≡ length word.now }
     requires views { AreViews views.old current.now }
-    requires room { length views.old + 4 ≤ 4294967295 }
+    requires room { length views.old + 4 ≤ most_number }
     ensures extends { Extends views.old views.new }
     ensures few { length views.new ≤ length views.old + length current.now }
     ensures views { IfOk result (λ ids. AreViews views.new (take (length current.now) ids)

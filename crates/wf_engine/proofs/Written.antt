@@ -18,7 +18,8 @@ use Rattle.wf_model.specs.Box.{Box, LiesIn, candidates, root, without, decided, 
 use Rattle.wf_model.specs.Refutation.{Line, remove, empty, branch, found, Tree, emptied, removed, branched, ended, Trees, no_trees, tree, lines, lines_each, Refutes, RefutesEach, IsUnsupported}
 use Rattle.wf_model.specs.Closing.{Step, Trace, Loss, same_candidate, continued, taken_out, take_out, take_out_each, places, lost_at, lost, sweep_from, sweep, unless_none, sweeps, closing_at, closing, before, in_turn, branching_at, branching, searched, search_within, canonical}
 use Rattle.wf_model.specs.LeastTree.{IsLeastTree, LeastAmong}
-use Rattle.wf_model.specs.Report.{Body, a_map, none, least, largest, most_number}
+use Rattle.wf_model.specs.Limits.{most_number}
+use Rattle.wf_model.specs.Report.{Body, a_map, none, least, largest}
 use Rattle.wf_model.specs.Laws.{report_about}
 use Rattle.wf_model.proofs.Accepting.{each_at}
 use Rattle.wf_model.proofs.Bridge.{weaker}
@@ -28,6 +29,7 @@ use Rattle.wf_model.proofs.Headline.{each_append, each_flat, each_map, each_of_m
 use Rattle.wf_model.proofs.Fuel.{Leaves}
 use Rattle.wf_model.proofs.Sound.{point_within}
 use Rattle.wf_model.proofs.WellFormed.{task_listed, each_execution_with, last_processes, scope_processes}
+use Rattle.wf_model.proofs.Tasks.{inputs_within, outputs_within}
 use Rattle.wf_simplex.proofs.Within.{length-within}
 use Rattle.wf_task.proofs.Drafted.{has_from_order}
 use Rattle.wf_complex.proofs.Different.{length-distinct}
@@ -262,15 +264,15 @@ module _ (t : Task) (r : ℕ) (task : IsTask t) where
   processes_within : (s : Simplex) → IsInput s → AllByRecursion (λ x. x ≤ last_process) (processes_of s)
   unfolding IsInput
   processes_within s h =
-      weaker (λ x. x < t.processes) (λ x. x ≤ last_process) (λ x k. omega (arith, k, task.process_count.1)) (processes_of s) (recursion_from_All _ (processes_of s) h.processes)
+      weaker (λ x. x < t.processes) (λ x. x ≤ last_process) (λ x k. omega (arith, k, task.limits.processes)) (processes_of s) (recursion_from_All _ (processes_of s) h.processes)
 
   inputs_few : (s : Simplex) → IsInput s → length s ≤ 4
   unfolding IsInput
-  inputs_few s h = omega (arith, length-within t.processes (largest_value t.restriction) s h, task.process_count.1)
+  inputs_few s h = omega (arith, length-within t.processes (largest_value t.restriction) s h, task.limits.processes)
 
   rules_have : AllByRecursion (λ rule. IsInput rule.input) t.delta
   unfolding IsInput
-  rules_have = each_of_map IsInput (λ (rule : Rule). rule.input) t.delta (recursion_from_All _ (inputs t) task.input_complex.within)
+  rules_have = each_of_map IsInput (λ (rule : Rule). rule.input) t.delta (recursion_from_All _ (inputs t) (inputs_within t task))
 
   executions_have : (P : Execution → Type 0) → ((e : Execution) → IsInput e.rule.input → map process_of (last_views e) ≡ processes_of e.rule.input → P e) → AllByRecursion P (executions t r)
   executions_have P f = each_execution_with P t r (λ rule. IsInput rule.input) rules_have (λ e s long. f e s (last_processes e long))
@@ -312,7 +314,7 @@ module _ (t : Task) (r : ℕ) (task : IsTask t) where
       each_flat IsSmall values_of t.outputs
       (weaker (IsSimplexWithin t.processes (largest_value t.restriction)) (λ s. AllByRecursion IsSmall (values_of s))
       (λ s h. weaker (λ x. x ≤ largest_value t.restriction) IsSmall (λ x k. omega (arith, k, largest_is t.restriction)) (values_of s) (recursion_from_All _ (values_of s) h.values))
-      t.outputs (recursion_from_All _ t.outputs task.output_complex.within))
+      t.outputs (recursion_from_All _ t.outputs (outputs_within t task)))
 
   values_small : AllByRecursion IsSmall (values t)
   values_small =
@@ -329,7 +331,7 @@ module _ (t : Task) (r : ℕ) (task : IsTask t) where
     -- the report is in the grammar where its body is
     about_within : (body : Body) → IsBodyWithin body → IsInGrammar (report_about t r body)
     about_within body h = record {
-      processes = omega (arith, task.process_count.1);
+      processes = omega (arith, task.limits.processes);
       rounds = omega (arith, within.1.0);
       points = few_points;
       executions = omega (arith, within.1.1);

@@ -7,6 +7,7 @@ pub mod Canonical
 pub mod Checked
 pub mod Stable
 pub mod Ascending
+pub mod Tasks
 pub mod WellFormed
 pub mod Numbers
 pub mod Accepting

@@ -13,6 +13,7 @@ use Rattle.wf_model.specs.Task.{Task, Tuple, Rule, IsTask, IsRule, IsSimplexWith
 use Rattle.wf_model.specs.Execution.{Execution, executions, executions_on, last_views}
 use Rattle.wf_model.specs.Points.{class, points}
 use Rattle.wf_model.specs.Problem.{Constraint, number_of, constraint_of, problem_of, IsWellFormed}
+use Rattle.wf_model.proofs.Tasks.{inputs_within}
 use Rattle.wf_model.proofs.Bridge.{weaker}
 use Rattle.wf_model.proofs.Headline.{each_flat, each_map, each_of_map, each_filter, both, always, problem_in_range}
 use Rattle.wf_model.proofs.Stable.{each_has}
@@ -46,7 +47,7 @@ task_listed t task =
     weaker (IsRule t.outputs) (λ rule. AllByRecursion (λ tuple. AllByRecursion (λ x. has (values t) x ≡ true) tuple) rule.tuples)
     (λ rule is. both (λ tuple. length tuple ≡ length rule.input) (λ tuple. Contains t.outputs (zip (processes_of rule.input) tuple)) (λ tuple. AllByRecursion (λ x. has (values t) x ≡ true) tuple)
     (tuple_listed t rule) rule.tuples (recursion_from_All _ rule.tuples is.long) (recursion_from_All _ rule.tuples is.listed))
-    t.delta (recursion_from_All _ t.delta task.rules_within)
+    t.delta (recursion_from_All _ t.delta task.decision.rules)
 
 -- ---- the processes of an execution
 
@@ -128,7 +129,7 @@ constraints_placed : (t : Task) (r : ℕ) → IsTask t → AllByRecursion HasPla
 constraints_placed t r task =
     each_map HasPlaces (constraint_of t (points t r)) (executions t r)
     (each_execution_with (λ e. HasPlaces (constraint_of t (points t r) e)) t r (λ rule. IsSimplexWithin t.processes (largest_value t.restriction) rule.input)
-    (each_of_map (IsSimplexWithin t.processes (largest_value t.restriction)) (λ rule. rule.input) t.delta (recursion_from_All _ (inputs t) task.input_complex.within))
+    (each_of_map (IsSimplexWithin t.processes (largest_value t.restriction)) (λ rule. rule.input) t.delta (recursion_from_All _ (inputs t) (inputs_within t task)))
     (λ e simplex long. has_places t (points t r) e simplex.is_simplex long))
 
 pub task_well_formed : (t : Task) (r : ℕ) → IsTask t → IsWellFormed (problem_of t r)

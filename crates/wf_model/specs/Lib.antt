@@ -1,4 +1,5 @@
 pub mod Lists
+pub mod Limits
 pub mod Simplex
 pub mod Word
 pub mod Task

@@ -1,6 +1,7 @@
 -- What is written while the root is cut into branches, with the branches in the place of their lines.
 use Rattle.std.specs.Prelude.{◌≡◌, ℕ, zero, suc, nat_lt, ◌&&◌, Bool, true, false, List, [], ◌∷◌, ◌++◌, map, length, flat_map, Option, Some, None}
 use Rattle.std.specs.List.{list_any}
+use Rattle.wf_model.specs.Limits.{enough_boxes, most_levels}
 use Rattle.wf_model.specs.Problem.{Problem}
 use Rattle.wf_model.specs.Box.{Box, root, first_open, branches_at}
 use Rattle.wf_model.specs.Refutation.{Line, branch}
@@ -45,14 +46,14 @@ abbrev pub opened_if : Bool → Problem → List Item → (List Item → List It
 opened_if false p items next = items
 opened_if true p items next = next (flat_map (opened p) items)
 
--- at most n levels, and none once there are 64 boxes or no open one
+-- at most n levels, and none once there are enough boxes or no open one
 abbrev pub opened_levels : ℕ → Problem → List Item → List Item
 opened_levels zero p items = items
-opened_levels (suc n) p items = opened_if (nat_lt (length (boxes_left_out items)) 64 && list_any is_open (boxes_left_out items)) p items (opened_levels n p)
+opened_levels (suc n) p items = opened_if (nat_lt (length (boxes_left_out items)) enough_boxes && list_any is_open (boxes_left_out items)) p items (opened_levels n p)
 
 -- the root of a problem, cut into its branches
 abbrev pub outline : Problem → List Item
-outline p = opened_levels 8 p (closed_to (closing p (root p)))
+outline p = opened_levels most_levels p (closed_to (closing p (root p)))
 
 -- an outline with lines in the place of its boxes, one list for each
 abbrev pub filled : List Item → List (List Line) → List Line

@@ -4,6 +4,7 @@ use Rattle.std.specs.List.{AllByRecursion}
 use Rattle.std.specs.Ordering.{nat_cmp}
 use Rattle.std.specs.Cmp.Lexicographic.{slice_cmp}
 use Rattle.wf_model.specs.Lists.{in_order, has}
+use Rattle.wf_model.specs.Limits.{most_processes, most_value, most_plain_value, most_vertices, most_inputs, most_tuples}
 use Rattle.wf_model.specs.Simplex.{Simplex, processes_of, values_of, is_simplex, complex_of}
 
 -- the values of a tuple, by ascending process
@@ -39,16 +40,15 @@ HasListedValues t = AllByRecursion (λ rule. AllByRecursion (λ tuple. AllByRecu
 
 -- ---- what every task that was read or made has
 
--- a simplex on processes below n, its values at most the largest
-pub record IsSimplexWithin (n largest : ℕ) (s : Simplex) : Type 0 where
+-- a simplex on processes below n
+pub record IsSimplexOn (n : ℕ) (s : Simplex) : Type 0 where
   pub is_simplex : is_simplex s ≡ true
   pub processes : All (λ p. p < n) (processes_of s)
-  pub values : All (λ x. x ≤ largest) (values_of s)
 
--- simplices in order, each once, with all their faces
-pub record IsComplexWithin (n largest : ℕ) (complex : List Simplex) : Type 0 where
+-- simplices on processes below n, in order, each once, with all their faces
+pub record IsComplexOn (n : ℕ) (complex : List Simplex) : Type 0 where
   pub is_complex : complex_of complex ≡ complex
-  pub within : All (IsSimplexWithin n largest) complex
+  pub on : All (IsSimplexOn n) complex
 
 -- tuples ascending, each once, and each a simplex of O on the processes of the input
 pub record IsRule (outputs : List Simplex) (rule : Rule) : Type 0 where
@@ -56,22 +56,53 @@ pub record IsRule (outputs : List Simplex) (rule : Rule) : Type 0 where
   pub long : All (λ tuple. length tuple ≡ length rule.input) rule.tuples
   pub listed : All (λ tuple. Contains outputs (zip (processes_of rule.input) tuple)) rule.tuples
 
+-- I and O are complexes on the processes, and Delta takes each simplex of I to simplices of O on its processes
+pub record IsDecisionTask (t : Task) : Type 0 where
+  pub some_process : 0 < t.processes
+  pub input_complex : IsComplexOn t.processes (inputs t)
+  pub output_complex : IsComplexOn t.processes t.outputs
+  pub rules : All (IsRule t.outputs) t.delta
+
 -- the largest value that a task may have
 abbrev pub largest_value : Option ℕ → ℕ
-largest_value None = 63
-largest_value (Some m) = 255
+largest_value None = most_plain_value
+largest_value (Some m) = most_value
 
 abbrev pub IsFirstBlock : Option ℕ → Type 0
 IsFirstBlock None = Unit {0}
-IsFirstBlock (Some m) = (1 ≤ m) × (m ≤ 4)
+IsFirstBlock (Some m) = (1 ≤ m) × (m ≤ most_processes)
+
+abbrev pub HasValuesUpTo : ℕ → Simplex → Type 0
+HasValuesUpTo largest s = All (λ x. x ≤ largest) (values_of s)
+
+-- what a text of a task may ask for
+pub record IsWithinLimits (t : Task) : Type 0 where
+  pub processes : t.processes ≤ most_processes
+  pub first_block : IsFirstBlock t.restriction
+  pub input_values : All (HasValuesUpTo (largest_value t.restriction)) (inputs t)
+  pub output_values : All (HasValuesUpTo (largest_value t.restriction)) t.outputs
+  pub some_input : 0 < length t.delta
+  pub vertices : count_by (λ s. length s == 1) (inputs t) ≤ most_vertices
+  pub inputs : length t.delta ≤ most_inputs
+  pub tuples : sum_by (λ rule. length rule.tuples) t.delta ≤ most_tuples
 
 pub record IsTask (t : Task) : Type 0 where
-  pub process_count : (1 ≤ t.processes) × (t.processes ≤ 4)
-  pub restriction_within : IsFirstBlock t.restriction
-  pub input_complex : IsComplexWithin t.processes (largest_value t.restriction) (inputs t)
-  pub output_complex : IsComplexWithin t.processes (largest_value t.restriction) t.outputs
-  pub rules_within : All (IsRule t.outputs) t.delta
-  pub some_input : 0 < length t.delta
-  pub few_vertices : count_by (λ s. length s == 1) (inputs t) ≤ 64
-  pub few_inputs : length t.delta ≤ 4096
-  pub few_tuples : sum_by (λ rule. length rule.tuples) t.delta ≤ 65536
+  pub decision : IsDecisionTask t
+  pub limits : IsWithinLimits t
+
+-- ---- simplices within limits
+
+-- a simplex on processes below n, its values at most the largest
+pub record IsSimplexWithin (n largest : ℕ) (s : Simplex) : Type 0 where
+  pub is_simplex : is_simplex s ≡ true
+  pub processes : All (λ p. p < n) (processes_of s)
+  pub values : All (λ x. x ≤ largest) (values_of s)
+
+-- a simplex that some task may have
+abbrev pub IsTaskSimplex : Simplex → Type 0
+IsTaskSimplex = IsSimplexWithin most_processes most_value
+
+-- simplices in order, each once, with all their faces
+pub record IsComplexWithin (n largest : ℕ) (complex : List Simplex) : Type 0 where
+  pub is_complex : complex_of complex ≡ complex
+  pub within : All (IsSimplexWithin n largest) complex

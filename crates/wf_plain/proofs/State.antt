@@ -16,6 +16,7 @@ use Rattle.wf_model.specs.Check.{satisfies}
 use Rattle.wf_model.proofs.Bridge.{weaker}
 use Rattle.wf_model.proofs.Least.{solution_in_root}
 use Rattle.wf_model.proofs.Trying.{satisfies_says, satisfies_tests}
+use Rattle.wf_model.proofs.Tasks.{outputs_within}
 use Rattle.wf_complex.specs.Protocol.{Built, IsProtocol}
 use Rattle.wf_plain.specs.Plain.{LiesBelow, AreEnds, IsTried}
 use Rattle.wf_plain.proofs.Tried.{Begins, begins_own, begins_seen, below_next, below_longer, below_nothing, below_zero, begins_below, not_below}
@@ -265,7 +266,7 @@ has_small (y ∷ ys) x h is = elim (or_cases (y == x) (has ys x) is) [
 pub small_solutions : (t : Task) (r : ℕ) → IsTask t → (m : List ℕ) → IsSolution (problem_of t r) m → AllByRecursion (λ x. x < 256) m
 small_solutions t r task m solves =
     let each : AllByRecursion (IsSimplexWithin t.processes (largest_value t.restriction)) t.outputs =
-    recursion_from_All (IsSimplexWithin t.processes (largest_value t.restriction)) t.outputs task.output_complex.within in
+    recursion_from_All (IsSimplexWithin t.processes (largest_value t.restriction)) t.outputs (outputs_within t task) in
     each_value (λ x. x < 256) t r m task solves (λ x h. has_small (values t) x (small_in_order (flat_map values_of t.outputs) (small_outputs t.processes t.restriction t.outputs each)) h)
 
 -- ---- the problem of a protocol complex

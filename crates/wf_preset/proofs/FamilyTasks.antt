@@ -14,6 +14,8 @@ use Rattle.std.proofs.lemmas.List.Sums.{sum_by-le-sum_by}
 use Rattle.wf_model.specs.Lists.{below, lists_of, in_order}
 use Rattle.wf_model.specs.Simplex.{Simplex, Vertex, processes_of, values_of, is_nonempty, is_ascending, is_simplex, complex_of}
 use Rattle.wf_model.specs.Task.{Rule, Tuple, IsTask, IsRule, IsSimplexWithin, IsComplexWithin}
+use Rattle.wf_model.proofs.Tasks.{on_processes, up_to}
+use Rattle.wf_model.specs.Limits.{most_processes, most_plain_value, most_vertices, most_inputs, most_tuples}
 use Rattle.wf_simplex.specs.Order.{nat_cmp-Equal}
 use Rattle.wf_simplex.proofs.Orders.{Has, has-in_order, sorted-in_order, in_order-sorted, length-in_order, has_at_place}
 use Rattle.wf_simplex.proofs.Faces.{has-filter}
@@ -90,14 +92,14 @@ some_vertex s h = (and_parts (is_nonempty s) (is_ascending (processes_of s)) h).
 -- inputs of so many processes, and no more tuples than a task may have
 pub record IsReady (n : ℕ) (family : Family) (inputs : List Simplex) : Type 0 where
   pub some : 1 ≤ n
-  pub few : n ≤ 4
+  pub few : n ≤ most_processes
   pub is_family : IsFamily family
   pub complex : complex_of inputs ≡ inputs
-  pub within : All (IsSimplexWithin n 63) inputs
+  pub within : All (IsSimplexWithin n most_plain_value) inputs
   pub some_input : 0 < length inputs
-  pub vertices : count_by (λ s. length s == 1) inputs ≤ 64
-  pub simplices : length inputs ≤ 4096
-  pub tuples : sum_by (λ s. length (tuples_for family s)) inputs ≤ 65536
+  pub vertices : count_by (λ s. length s == 1) inputs ≤ most_vertices
+  pub simplices : length inputs ≤ most_inputs
+  pub tuples : sum_by (λ s. length (tuples_for family s)) inputs ≤ most_tuples
 
 module _ (n : ℕ) (family : Family) (inputs : List Simplex) (h : IsReady n family inputs) where
   tuple-of : (s : Simplex) (t : Tuple) → Has s inputs → Has t (tuples_for family s) → IsSmallTuple (length s) t
@@ -123,21 +125,30 @@ module _ (n : ℕ) (family : Family) (inputs : List Simplex) (h : IsReady n fami
           facet-in (zip (processes_of s) t) (images_of family inputs) image (some_vertex (zip (processes_of s) t) within.is_simplex)
 
   pub task-is : (symmetric : Bool) → IsTask (task_for n symmetric family inputs)
-  task-is symmetric = record {
-    process_count = (h.some, h.few);
-    restriction_within = tt;
-    input_complex = subst (IsComplexWithin n 63) (sym (same_inputs family inputs)) (record { is_complex = h.complex; within = h.within });
-    output_complex = complex_is n 63 (images_of family inputs) images-within;
-    rules_within = All-map (IsRule (complex_of (images_of family inputs))) (rule_of_family family) inputs (all_of_has (λ s. IsRule (complex_of (images_of family inputs)) (rule_of_family family s)) inputs rule-is);
-    some_input = omega (arith, h.some_input, length-map inputs (rule_of_family family));
-    few_vertices = omega (arith, ap (count_by (λ (s : Simplex). length s == 1)) (same_inputs family inputs), h.vertices);
-    few_inputs = omega (arith, h.simplices, length-map inputs (rule_of_family family));
-    few_tuples = omega (arith, h.tuples, sum_by-map (λ (r : Rule). length r.tuples) (rule_of_family family) inputs);
-  }
+  task-is symmetric =
+      let inputs-are = subst (IsComplexWithin n most_plain_value) (sym (same_inputs family inputs)) (record { is_complex = h.complex; within = h.within }) in
+      let outputs-are = complex_is n most_plain_value (images_of family inputs) images-within in record {
+        decision = record {
+          some_process = h.some;
+          input_complex = on_processes n most_plain_value _ inputs-are;
+          output_complex = on_processes n most_plain_value _ outputs-are;
+          rules = All-map (IsRule (complex_of (images_of family inputs))) (rule_of_family family) inputs (all_of_has (λ s. IsRule (complex_of (images_of family inputs)) (rule_of_family family s)) inputs rule-is);
+        };
+        limits = record {
+          processes = h.few;
+          first_block = tt;
+          input_values = up_to n most_plain_value _ inputs-are;
+          output_values = up_to n most_plain_value _ outputs-are;
+          some_input = omega (arith, h.some_input, length-map inputs (rule_of_family family));
+          vertices = omega (arith, ap (count_by (λ (s : Simplex). length s == 1)) (same_inputs family inputs), h.vertices);
+          inputs = omega (arith, h.simplices, length-map inputs (rule_of_family family));
+          tuples = omega (arith, h.tuples, sum_by-map (λ (r : Rule). length r.tuples) (rule_of_family family) inputs);
+        };
+      }
 
 -- ---- the parts of the task
 
-pub few-images : (family : Family) (inputs : List Simplex) → sum_by (λ s. length (tuples_for family s)) inputs ≤ 65536 → length (images_of family inputs) ≤ 65536
+pub few-images : (family : Family) (inputs : List Simplex) → sum_by (λ s. length (tuples_for family s)) inputs ≤ most_tuples → length (images_of family inputs) ≤ 65536
 few-images family inputs few =
     omega (
       arith,

@@ -1,5 +1,6 @@
 -- Set agreement and renaming, unless their numbers or a limit refuse them.
 use Rattle.std.specs.Prelude.{ℕ, ◌==◌, ◌&&◌, ◌||◌, nat_le, nat_lt, Bool, true, not, List, length, count_by, Result, Ok}
+use Rattle.wf_model.specs.Limits.{most_inputs, most_vertices}
 use Rattle.wf_model.specs.Presets as model
 use Rattle.wf_model.specs.Simplex.{Simplex, complex_of}
 use Rattle.wf_model.specs.Task.{Task, inputs}
@@ -27,8 +28,8 @@ within_limits t = sizes_judged (listed_of t) (inputs t) >>= λ _. Ok t
 -- the input complex, or the first limit that it breaks
 unfoldable pub inputs_judged : List Simplex → Result (List Simplex) TaskFault
 inputs_judged complex = do
-  vertices ← refused_if (nat_lt 64 (count_by (λ s. length s == 1) complex)) (fault.TooMany limit.Vertices)
-  simplices ← refused_if (nat_lt 4096 (length complex)) (fault.TooMany limit.Simplices)
+  vertices ← refused_if (nat_lt most_vertices (count_by (λ s. length s == 1) complex)) (fault.TooMany limit.Vertices)
+  simplices ← refused_if (nat_lt most_inputs (length complex)) (fault.TooMany limit.Simplices)
   Ok complex
 
 -- as many processes, and as many values, as a task may have

@@ -3,7 +3,7 @@ ghost use Rattle.std.specs.Ordering.{nat_cmp};
 ghost use Rattle.wf_model.specs.Lists.{below, lists_of, in_order};
 ghost use Rattle.wf_model.specs.Presets.{different};
 ghost use Rattle.wf_model.specs.Simplex.{values_of};
-ghost use Rattle.wf_model.specs.Task.{IsSimplexWithin};
+ghost use Rattle.wf_model.specs.Task.{IsTaskSimplex};
 ghost use Rattle.wf_preset.specs.Family.{IsFamily, AreFew, values_for, allows, allowed_lists, tuples_for, tuple_count, tuple_total, at_most};
 
 use std::alloc::{AllocError, Global};
@@ -141,7 +141,7 @@ pub(crate) fn numbers_below(alloc: Global, bound: u8) -> Result<Vec<u8>, AllocEr
 fn values_of(alloc: Global, simplex: &Simplex) -> Result<Vec<u8>, AllocError>
     ensures values { IfOk result
         (λ values. values.items ≡ in_order nat_cmp (values_of simplex.now)) }
-    ensures simplex { IsSimplexWithin 4 255 simplex.now }
+    ensures simplex { IsTaskSimplex simplex.now }
 {
     let mut values = BTreeSet::new(alloc);
     for place in 0..simplex.colours() {

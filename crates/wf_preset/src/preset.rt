@@ -15,16 +15,9 @@ ghost use Rattle.wf_preset.specs.Preset.{inputs_seen, input_complex_of, has_proc
 use crate::family::{Family, list_at, list_count, numbers_below};
 use std::alloc::{AllocError, Global};
 use wf_simplex::{Complex, Simplex};
-use wf_task::{Limit, Row, Task, TaskFault};
-
-/// The most vertices that an input complex may have.
-const VERTICES: usize = 64;
-/// The most simplices that an input complex may have.
-const SIMPLICES: usize = 4_096;
-/// The most output simplices that a task may list.
-const OUTPUTS: usize = 65_536;
-/// The most tuples that a task may have.
-const TUPLES: usize = 65_536;
+use wf_task::{
+    Limit, MOST_INPUTS, MOST_OUTPUTS, MOST_TUPLES, MOST_VERTICES, Row, Task, TaskFault,
+};
 
 /// Which inputs the processes of set agreement may have.
 #[derive(Clone, Copy, Debug, PartialEq, Eq)]
@@ -130,7 +123,7 @@ pub fn set_agreement(
     let processes = processes as u8;
     let complex = input_complex(alloc, processes, inputs)?;
     let family = Family::Agreement(k);
-    if family.has_more_tuples(alloc, complex.simplices(), TUPLES)? {
+    if family.has_more_tuples(alloc, complex.simplices(), MOST_TUPLES)? {
         return Err(TaskFault::TooMany(Limit::Tuples));
     }
     Ok(task_for(alloc, processes, false, family, complex)?)
@@ -151,11 +144,11 @@ pub fn renaming(alloc: Global, processes: u32, names: u32) -> Result<Task, TaskF
     let processes = processes as u8;
     let whole = whole(processes);
     let family = Family::Naming(names as u8);
-    if family.count(alloc, &whole, OUTPUTS)?.is_none() {
+    if family.count(alloc, &whole, MOST_OUTPUTS)?.is_none() {
         return Err(TaskFault::TooMany(Limit::Outputs));
     }
     let complex = Complex::from_facets(alloc, &[whole])?;
-    if family.has_more_tuples(alloc, complex.simplices(), TUPLES)? {
+    if family.has_more_tuples(alloc, complex.simplices(), MOST_TUPLES)? {
         return Err(TaskFault::TooMany(Limit::Tuples));
     }
     Ok(task_for(alloc, processes, true, family, complex)?)
@@ -168,14 +161,14 @@ fn input_complex(alloc: Global, processes: u8, inputs: Inputs) -> Result<Complex
     requires values { has_input_values inputs ≡ true }
     ensures { Gives (λ c. c) result (inputs_judged (input_complex_of processes inputs)) }
 {
-    if inputs.vertex_count(processes) > VERTICES {
+    if inputs.vertex_count(processes) > MOST_VERTICES {
         return Err(TaskFault::TooMany(Limit::Vertices));
     }
-    if inputs.facet_count(processes) > SIMPLICES {
+    if inputs.facet_count(processes) > MOST_INPUTS {
         return Err(TaskFault::TooMany(Limit::Simplices));
     }
     let complex = Complex::from_facets(alloc, &inputs.facets(alloc, processes)?)?;
-    if complex.simplices().len() > SIMPLICES {
+    if complex.simplices().len() > MOST_INPUTS {
         return Err(TaskFault::TooMany(Limit::Simplices));
     }
     Ok(complex)

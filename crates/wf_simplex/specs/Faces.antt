@@ -4,13 +4,13 @@ use Rattle.std.specs.declared.cmp.Ordering.{Ordering}
 use Rattle.std.specs.List.Sorted.{IsStrictlySortedBy}
 use Rattle.wf_model.specs.Lists.{with_element}
 use Rattle.wf_model.specs.Simplex.{Simplex, is_nonempty, parts_of, simplex_cmp, complex_of}
-use Rattle.wf_model.specs.Task.{IsSimplexWithin}
+use Rattle.wf_model.specs.Task.{IsTaskSimplex}
 
 -- simplices in order, each once, with all their faces; so few that u32 numbers them
 pub record IsComplex (simplices : List Simplex) : Type 0 where
   pub ascending : IsStrictlySortedBy simplex_cmp simplices
   pub closed : complex_of simplices ≡ simplices
-  pub within : All (IsSimplexWithin 4 255) simplices
+  pub within : All (IsTaskSimplex) simplices
   pub countable : length simplices < 2 ^ 32
 
 -- the elements of the first list put into the second, the last first

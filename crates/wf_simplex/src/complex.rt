@@ -1,4 +1,5 @@
 ghost use Rattle.std.specs.Prelude.{◌≡◌, ◌<◌, ◌≤◌, ◌↔◌, IfOk, IfSome, OnOk, IsTrue, IsNone, Contains, length, slice_get, Some};
+ghost use Rattle.wf_model.specs.Limits.{most_facets};
 ghost use Rattle.wf_model.specs.Simplex.{complex_of};
 ghost use Rattle.wf_simplex.specs.Faces.{IsComplex};
 
@@ -29,7 +30,7 @@ impl Model for Complex {
 impl Complex {
     /// The faces of these simplices. It takes n log n steps, and memory for twice the different faces.
     pub fn from_facets(alloc: Global, facets: &[Simplex]) -> Result<Complex, AllocError>
-        requires { length facets.now ≤ 16777216 }
+        requires { length facets.now ≤ most_facets }
         ensures { IfOk result (λ c. c ≡ complex_of facets.now) }
     {
         let mut faces = BTreeSet::new(alloc);

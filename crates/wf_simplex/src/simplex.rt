@@ -1,7 +1,7 @@
 ghost use Rattle.std.specs.Prelude.{◌≡◌, ℕ, ◌<◌, ◌≤◌, ◌&&◌, Bool, List, [], ◌∷◌, length, None, Some, MatchResult, OnOk, slice_index, slice_index_or, drop, map};
 ghost use Rattle.std.specs.Ordering.{ordering_then};
 ghost use Rattle.wf_model.specs.Simplex.{processes_of, faces_of, is_face, simplex_cmp};
-ghost use Rattle.wf_model.specs.Task.{IsSimplexWithin};
+ghost use Rattle.wf_model.specs.Task.{IsTaskSimplex};
 ghost use Rattle.wf_simplex.specs.Faces.{with_all, faces_with, AreSmall};
 ghost use Rattle.wf_simplex.specs.Entries.{vertices_from, value_at, entry_cmp, is_within, ascends_from};
 ghost use Rattle.wf_simplex.specs.Reading.{read_fault};
@@ -49,7 +49,7 @@ pub struct Simplex {
 impl Model for Simplex {
     ghost use Rattle.std.specs.Prelude.{◌≡◌, ℕ, List, length};
     ghost use Rattle.wf_simplex.specs.Entries.{vertices_from, entries_of, entries_of-four};
-    ghost use Rattle.wf_model.specs.Task.{IsSimplexWithin};
+    ghost use Rattle.wf_model.specs.Task.{IsTaskSimplex};
     ghost use Rattle.std.proofs.Common.{ap};
 
     ghost Value = { List (ℕ × ℕ) };
@@ -57,7 +57,7 @@ impl Model for Simplex {
     ghost view = { λ s. vertices_from 0 s.values };
 
     ghost invariant = { λ s. (length s.values ≡ 4)
-        × IsSimplexWithin 4 255 (vertices_from 0 s.values) };
+        × IsTaskSimplex (vertices_from 0 s.values) };
 
     ghost inverse = { λ s. record { values = entries_of s } };
 
@@ -91,7 +91,7 @@ impl Simplex {
         ensures count { result ≡ length self.now }
         ensures some { 1 ≤ result }
         ensures few { result ≤ 4 }
-        ensures simplex { IsSimplexWithin 4 255 self.now }
+        ensures simplex { IsTaskSimplex self.now }
     {
         count(self.values)
     }
@@ -137,7 +137,7 @@ impl Simplex {
     pub(crate) fn add_faces(&self, faces: &mut BTreeSet<Simplex>) -> Result<(), AllocError>
         ensures added { OnOk result (faces.new.keys
             ≡ with_all simplex_cmp (faces_of self.now) faces.old.keys) }
-        ensures simplex { IsSimplexWithin 4 255 self.now }
+        ensures simplex { IsTaskSimplex self.now }
         ensures few { length self.now ≤ 4 }
     {
         add_faces(faces, self.values, [None; 4], 0)

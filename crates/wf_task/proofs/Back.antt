@@ -18,6 +18,7 @@ use Rattle.wf_model.specs.Lists.{in_order}
 use Rattle.wf_model.specs.Simplex.{Simplex, Vertex, processes_of, values_of, is_nonempty, is_ascending, simplex_cmp, complex_of}
 use Rattle.wf_model.specs.Task.{Task, Rule, Tuple, IsRule, IsSimplexWithin, IsComplexWithin, IsFirstBlock, largest_value, inputs}
 use Rattle.wf_model.proofs.Fuel.{length_filter}
+use Rattle.wf_model.proofs.Tasks.{inputs_within, outputs_within, inputs_are}
 use Rattle.wf_simplex.specs.Faces.{IsComplex}
 use Rattle.wf_simplex.specs.Order.{same_simplex, same_simplex-decides, simplex_cmp-total}
 use Rattle.wf_simplex.proofs.Orders.{Has}
@@ -166,7 +167,7 @@ module _ (t : Task) (h : IsListable t) where
   largest = largest_value t.restriction
 
   within-four : (s : Simplex) → IsSimplexWithin t.processes largest s → IsSimplexWithin 4 255 s
-  within-four s k = within_more t.processes largest 4 255 s h.task.process_count.1 (limit-few t.restriction) k
+  within-four s k = within_more t.processes largest 4 255 s h.task.limits.processes (limit-few t.restriction) k
 
   complex-is : (complex : List Simplex) → IsComplexWithin t.processes largest complex → length complex < 2 ^ 32 → IsComplex complex
   complex-is complex c few = record {
@@ -177,10 +178,10 @@ module _ (t : Task) (h : IsListable t) where
   }
 
   input_count : length (inputs t) ≤ 4096
-  input_count = omega (arith, length-map t.delta (λ (rule : Rule). rule.input), h.task.few_inputs)
+  input_count = omega (arith, length-map t.delta (λ (rule : Rule). rule.input), h.task.limits.inputs)
 
   inputs-complex : IsComplex (inputs t)
-  inputs-complex = complex-is (inputs t) h.task.input_complex (omega (arith, input_count))
+  inputs-complex = complex-is (inputs t) (inputs_are t h.task) (omega (arith, input_count))
 
   outputs-complex : IsComplex t.outputs
   outputs-complex = h.outputs
@@ -192,10 +193,10 @@ module _ (t : Task) (h : IsListable t) where
   outputs-back = complex_of-facets t.outputs outputs-complex
 
   input-is : (s : Simplex) → Has s (inputs t) → IsSimplexWithin t.processes largest s
-  input-is s k = has_of_all (IsSimplexWithin t.processes largest) s (inputs t) h.task.input_complex.within k
+  input-is s k = has_of_all (IsSimplexWithin t.processes largest) s (inputs t) (inputs_within t h.task) k
 
   output-is : (s : Simplex) → Has s t.outputs → IsSimplexWithin t.processes largest s
-  output-is s k = has_of_all (IsSimplexWithin t.processes largest) s t.outputs h.task.output_complex.within k
+  output-is s k = has_of_all (IsSimplexWithin t.processes largest) s t.outputs (outputs_within t h.task) k
 
   facet-of : (complex : List Simplex) (s : Simplex) → Has s (facets complex) → Has s complex
   facet-of complex s k = (has-filter (λ u. not (is_inner complex u)) s complex k).0
@@ -204,7 +205,7 @@ module _ (t : Task) (h : IsListable t) where
   rule-input rule k = map-has (λ (r : Rule). r.input) rule t.delta k
 
   rule-is : (rule : Rule) → Has rule t.delta → IsRule t.outputs rule
-  rule-is rule k = has_of_all (IsRule t.outputs) rule t.delta h.task.rules_within k
+  rule-is rule k = has_of_all (IsRule t.outputs) rule t.delta h.task.decision.rules k
 
   tuple-there : (rule : Rule) (tuple : Tuple) → Has rule t.delta → Has tuple rule.tuples → Has (zip (processes_of rule.input) tuple) t.outputs
   tuple-there rule tuple k j =
@@ -245,15 +246,15 @@ module _ (t : Task) (h : IsListable t) where
   numbers-pass : numbers_judged (listed_of t) ≡ Ok tt
   unfolding numbers_judged
   numbers-pass =
-      rw (version-passes t.restriction) (rw (le-leb 1 t.processes h.task.process_count.0) (rw (le-leb t.processes 4 h.task.process_count.1) (rw none-large (rw all-coloured refl))))
+      rw (version-passes t.restriction) (rw (le-leb 1 t.processes h.task.decision.some_process) (rw (le-leb t.processes 4 h.task.limits.processes) (rw none-large (rw all-coloured refl))))
 
   sizes-pass : sizes_judged (listed_of t) (inputs t) ≡ Ok tt
   unfolding sizes_judged
   sizes-pass =
-      rw (le-ltb 64 (count_by (λ s. length s == 1) (inputs t)) h.task.few_vertices)
+      rw (le-ltb 64 (count_by (λ s. length s == 1) (inputs t)) h.task.limits.vertices)
       (rw (le-ltb 4096 (length (inputs t)) input_count)
       (rw (le-ltb 65536 (length (facets t.outputs)) h.few)
-      (rw (le-ltb 65536 (sum_by (λ rule. length rule.tuples) t.delta) h.task.few_tuples) refl)))
+      (rw (le-ltb 65536 (sum_by (λ rule. length rule.tuples) t.delta) h.task.limits.tuples) refl)))
 
   entry : (s : Simplex) → Has s (inputs t) → (rule : Rule) × Has rule t.delta × (rule.input ≡ s) × (entries_in t.delta s ≡ rule ∷ [])
   entry s k =
@@ -294,7 +295,7 @@ module _ (t : Task) (h : IsListable t) where
   some-input = by (facets (inputs t)) inputs-back
     where
       by : (fs : List Simplex) → complex_of fs ≡ inputs t → (length fs == 0) ≡ false
-      by [] is = absurd (let none : ⊥ = omega (arith, ap length is, length-map t.delta (λ (rule : Rule). rule.input), h.task.some_input) in none)
+      by [] is = absurd (let none : ⊥ = omega (arith, ap length is, length-map t.delta (λ (rule : Rule). rule.input), h.task.limits.some_input) in none)
       by (f ∷ fs) is = not_none (length fs)
 
   rules-back : (rules : List Rule) → ((rule : Rule) → Has rule rules → Has rule t.delta) → map (rule_for (listed_of t)) (map (λ (rule : Rule). rule.input) rules) ≡ rules
@@ -316,7 +317,7 @@ module _ (t : Task) (h : IsListable t) where
       (rw (ap (sizes_judged (listed_of t)) inputs-back ∙ sizes-pass)
       (rw (ap (entries_judged (listed_of t)) inputs-back ∙ entries-pass)
       (rw (ap (tuples_judged (listed_of t)) inputs-back ∙ tuples-pass)
-      (rw some-input (rw (first_block-passes t.restriction h.task.restriction_within) (ap Ok drafted-back))))))
+      (rw some-input (rw (first_block-passes t.restriction h.task.limits.first_block) (ap Ok drafted-back))))))
 
   vertex-some : (s : Simplex) → IsSimplexWithin t.processes largest s → is_nonempty s ≡ true
   vertex-some s k = (and_parts (is_nonempty s) (is_ascending (processes_of s)) k.is_simplex).0
@@ -326,7 +327,7 @@ module _ (t : Task) (h : IsListable t) where
   unfolding task_of
   read-back =
       let read = draft-read t (λ s k. vertex-some s (input-is s (facet-of (inputs t) s k))) (λ s k. vertex-some s (output-is s (facet-of t.outputs s k))) (λ rule k. vertex-some rule.input (input-is rule.input (rule-input rule k)))
-      (let low : t.processes < 2 ^ 64 = omega (arith, h.task.process_count.1) in low) in
+      (let low : t.processes < 2 ^ 64 = omega (arith, h.task.limits.processes) in low) in
       ap (λ (r : Result Listed TaskFault). r >>= judged) read ∙ judged-back
 
   -- ---- the length of the canonical text
@@ -338,7 +339,7 @@ module _ (t : Task) (h : IsListable t) where
   simplex-short s k =
       simplex-long s (length-within 4 255 s (within-four s k)) (λ v j.
       let process : v.0 < t.processes = has_of_all (λ p. p < t.processes) v.0 (processes_of s) k.processes (map-has (λ (w : Vertex). w.0) v s j) in
-      (omega (arith, process, h.task.process_count.1), small v.1 (has_of_all (λ x. x ≤ largest) v.1 (values_of s) k.values (map-has (λ (w : Vertex). w.1) v s j))))
+      (omega (arith, process, h.task.limits.processes), small v.1 (has_of_all (λ x. x ≤ largest) v.1 (values_of s) k.values (map-has (λ (w : Vertex). w.1) v s j))))
 
   rule-short : (rule : Rule) → Has rule t.delta → length (compact_text (rule_data rule)) ≤ 63 + 19 * length rule.tuples
   rule-short rule k =
@@ -349,12 +350,12 @@ module _ (t : Task) (h : IsListable t) where
 
   short-parts : HasShortParts t
   short-parts = record {
-    processes = omega (arith, h.task.process_count.1);
-    restriction = h.task.restriction_within;
+    processes = omega (arith, h.task.limits.processes);
+    restriction = h.task.limits.first_block;
     input_count = omega (arith, length_filter (λ s. not (is_inner (inputs t) s)) (inputs t), input_count);
     output_count = h.few;
-    rule_count = h.task.few_inputs;
-    tuple_count = h.task.few_tuples;
+    rule_count = h.task.limits.inputs;
+    tuple_count = h.task.limits.tuples;
     input_parts = λ s k. simplex-short s (input-is s (facet-of (inputs t) s k));
     output_parts = λ s k. simplex-short s (output-is s (facet-of t.outputs s k));
     rule_parts = rule-short;

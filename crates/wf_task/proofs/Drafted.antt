@@ -12,6 +12,7 @@ use Rattle.std.proofs.lemmas.List.Sums.{sum_by-cons, sum_by-le-sum_by}
 use Rattle.wf_model.specs.Lists.{has, in_order}
 use Rattle.wf_model.specs.Simplex.{Simplex, processes_of, values_of, is_nonempty, is_ascending, parts_of, simplex_cmp, complex_of}
 use Rattle.wf_model.specs.Task.{Task, Rule, Tuple, IsTask, IsRule, IsSimplexWithin, IsComplexWithin, IsFirstBlock, inputs}
+use Rattle.wf_model.proofs.Tasks.{on_processes, up_to}
 use Rattle.wf_simplex.specs.Order.{same_simplex, same_simplex-decides, simplex_cmp-total, nat_cmp-Equal}
 use Rattle.wf_simplex.proofs.Orders.{Has, has-in_order, in_order-in_order, length-in_order, has_at_place}
 use Rattle.wf_simplex.proofs.Faces.{whole_is_part, filter-has, is_in_complex, complex_of-sorted, complex_of-complex_of}
@@ -300,16 +301,25 @@ drafted_is_task listed h =
     let few = are_few listed complex tt h.sizes in
     let same = same_inputs listed complex in
     let inside = complex_is listed.processes (limit_of listed) listed.inputs (inputs_within listed numbers h.vertices.inputs) in
+    let inputs-are = subst (IsComplexWithin listed.processes (limit_of listed)) (sym same) inside in
+    let outputs-are = complex_is listed.processes (limit_of listed) listed.outputs (outputs_within listed numbers h.vertices.outputs) in
     record {
-      process_count = (numbers.some, numbers.few);
-      restriction_within = first_block_is listed.restriction h.first_block;
-      input_complex = subst (IsComplexWithin listed.processes (limit_of listed)) (sym same) inside;
-      output_complex = complex_is listed.processes (limit_of listed) listed.outputs (outputs_within listed numbers h.vertices.outputs);
-      rules_within = rules_are_rules listed complex (are_outputs listed complex tt numbers h.tuples);
-      some_input = omega (arith, some_faces listed.inputs h.vertices.inputs h.input, length-map complex (rule_for listed));
-      few_vertices = omega (arith, ap (count_by (λ s. length s == 1)) same, few.vertices);
-      few_inputs = omega (arith, length-map complex (rule_for listed), few.simplices);
-      few_tuples = omega (arith, few_rows listed complex (complex_of-sorted listed.inputs), few.tuples);
+      decision = record {
+        some_process = numbers.some;
+        input_complex = on_processes listed.processes (limit_of listed) _ inputs-are;
+        output_complex = on_processes listed.processes (limit_of listed) _ outputs-are;
+        rules = rules_are_rules listed complex (are_outputs listed complex tt numbers h.tuples);
+      };
+      limits = record {
+        processes = numbers.few;
+        first_block = first_block_is listed.restriction h.first_block;
+        input_values = up_to listed.processes (limit_of listed) _ inputs-are;
+        output_values = up_to listed.processes (limit_of listed) _ outputs-are;
+        some_input = omega (arith, some_faces listed.inputs h.vertices.inputs h.input, length-map complex (rule_for listed));
+        vertices = omega (arith, ap (count_by (λ s. length s == 1)) same, few.vertices);
+        inputs = omega (arith, length-map complex (rule_for listed), few.simplices);
+        tuples = omega (arith, few_rows listed complex (complex_of-sorted listed.inputs), few.tuples);
+      };
     }
 
 -- ---- the values

@@ -4,6 +4,7 @@ use Rattle.std.specs.List.{list_any}
 use Rattle.serde_json.specs.Data.{Data, number, unsigned, boolean, array, object, Members, no_members, member}
 use Rattle.serde_json.specs.View.{items_of}
 use Rattle.serde_json.specs.Written.{compact_text}
+use Rattle.wf_model.specs.Limits.{most_outputs}
 use Rattle.wf_model.specs.Simplex.{Simplex, Vertex, is_face}
 use Rattle.wf_model.specs.Task.{Task, Rule, Tuple, IsTask, inputs}
 use Rattle.wf_simplex.specs.Faces.{IsComplex}
@@ -25,7 +26,7 @@ facets complex = filter (λ s. not (is_inner complex s)) complex
 
 -- no more of them than a task may list outputs
 abbrev pub HasFewFacets : List Simplex → Type 0
-HasFewFacets complex = length (facets complex) ≤ 65536
+HasFewFacets complex = length (facets complex) ≤ most_outputs
 
 -- the facets of the inputs and outputs, and an entry for each input simplex
 abbrev pub listed_of : Task → Listed

@@ -1,5 +1,6 @@
 -- Drafts that were read and judged.
 use Rattle.std.specs.Prelude.{◌≡◌, ◌≤◌, ◌==◌, true, false, All, length, Ok}
+use Rattle.wf_model.specs.Limits.{most_bytes}
 use Rattle.wf_model.specs.Simplex.{is_nonempty, complex_of}
 use Rattle.wf_task.specs.Draft.{Listed}
 use Rattle.wf_task.specs.Judge.{is_first_block, numbers_judged, sizes_judged, entries_judged, tuples_judged}
@@ -12,9 +13,9 @@ pub record ListsVertices (listed : Listed) : Type 0 where
 
 -- no list is longer than a text
 pub record ListsFew (listed : Listed) : Type 0 where
-  pub inputs : length listed.inputs ≤ 16777216
-  pub outputs : length listed.outputs ≤ 16777216
-  pub entries : length listed.delta ≤ 16777216
+  pub inputs : length listed.inputs ≤ most_bytes
+  pub outputs : length listed.outputs ≤ most_bytes
+  pub entries : length listed.delta ≤ most_bytes
 
 -- what the judgement of a draft without a fault went through
 pub record IsFaultless (listed : Listed) : Type 0 where

@@ -5,6 +5,7 @@ use Rattle.std.specs.Ordering.{nat_cmp}
 use Rattle.std.specs.Cmp.Lexicographic.{slice_cmp}
 use Rattle.serde_json.specs.Data.{Data}
 use Rattle.wf_model.specs.Lists.{in_order}
+use Rattle.wf_model.specs.Limits.{most_inputs, most_outputs, most_tuples, most_vertices}
 use Rattle.wf_model.specs.Simplex.{Simplex, processes_of, values_of, is_ascending, complex_of}
 use Rattle.wf_model.specs.Task.{Task, Rule, Tuple, largest_value}
 use Rattle.wf_simplex.specs.Order.{same_simplex}
@@ -118,10 +119,10 @@ numbers_judged listed = do
 -- 8: of how many there are, where inputs is the input complex
 unfoldable pub sizes_judged : Listed → List Simplex → Result (Unit {0}) TaskFault
 sizes_judged listed inputs = do
-  vertices ← refused_if (nat_lt 64 (count_by (λ s. length s == 1) inputs)) (fault.TooMany limit.Vertices)
-  simplices ← refused_if (nat_lt 4096 (length inputs)) (fault.TooMany limit.Simplices)
-  outputs ← refused_if (nat_lt 65536 (length listed.outputs)) (fault.TooMany limit.Outputs)
-  refused_if (nat_lt 65536 (sum_by (λ rule. length rule.tuples) listed.delta)) (fault.TooMany limit.Tuples)
+  vertices ← refused_if (nat_lt most_vertices (count_by (λ s. length s == 1) inputs)) (fault.TooMany limit.Vertices)
+  simplices ← refused_if (nat_lt most_inputs (length inputs)) (fault.TooMany limit.Simplices)
+  outputs ← refused_if (nat_lt most_outputs (length listed.outputs)) (fault.TooMany limit.Outputs)
+  refused_if (nat_lt most_tuples (sum_by (λ rule. length rule.tuples) listed.delta)) (fault.TooMany limit.Tuples)
 
 -- 9 to 11: of the entries, each simplex of the input complex has one, and no other has
 unfoldable pub entries_judged : Listed → List Simplex → Result (Unit {0}) TaskFault

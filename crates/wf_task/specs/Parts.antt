@@ -1,6 +1,7 @@
 -- How many values a JSON value has, with those inside it.
 use Rattle.std.specs.Prelude.{ℕ, suc, ◌+◌, ◌≤◌, Option, None, Some}
 use Rattle.serde_json.specs.Data.{Data, null, boolean, number, string, array, object, Items, no_items, item, Members, no_members, member}
+use Rattle.wf_model.specs.Limits.{most_bytes}
 
 abbrev mutual
   pub parts : Data → ℕ
@@ -21,9 +22,9 @@ abbrev mutual
 
 -- a value that a text of at most 16,777,216 bytes may have: a value for each byte, and one more
 abbrev pub IsOfText : Data → Type 0
-IsOfText d = parts d ≤ 16777217
+IsOfText d = parts d ≤ most_bytes + 1
 
 -- a value that is a part of such a value, if it is there
 abbrev pub IsPart : Option Data → Type 0
 IsPart None = Unit {0}
-IsPart (Some d) = parts d ≤ 16777216
+IsPart (Some d) = parts d ≤ most_bytes

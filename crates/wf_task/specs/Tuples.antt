@@ -4,7 +4,7 @@ use Rattle.wf_model.specs.Simplex.{Simplex}
 use Rattle.std.specs.Ordering.{nat_cmp}
 use Rattle.std.specs.Cmp.Lexicographic.{slice_cmp}
 use Rattle.wf_model.specs.Lists.{in_order}
-use Rattle.wf_model.specs.Task.{Rule, Tuple, IsSimplexWithin}
+use Rattle.wf_model.specs.Task.{Rule, Tuple, IsTaskSimplex}
 use Rattle.wf_task.specs.declared.slots.Slot.{Slot}
 use Rattle.wf_task.specs.Slots.{IsOnceBelow, lists_at}
 use Rattle.wf_task.specs.Draft.{Listed}
@@ -36,4 +36,4 @@ rows_at rules slot = in_order (slice_cmp nat_cmp) (lists_at slot rules)
 
 -- each of the entries is for a simplex of processes below four, with values up to 255
 abbrev pub HaveSmallInputs : List Rule → Type 0
-HaveSmallInputs rules = All (λ rule. IsSimplexWithin 4 255 rule.input) rules
+HaveSmallInputs rules = All (λ rule. IsTaskSimplex rule.input) rules

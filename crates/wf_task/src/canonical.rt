@@ -14,7 +14,7 @@ ghost use Rattle.std.specs.Prelude.{
 };
 ghost use Rattle.serde_json.specs.Data.{Data};
 ghost use Rattle.serde_json.specs.View.{view};
-ghost use Rattle.wf_model.specs.Task.{IsSimplexWithin};
+ghost use Rattle.wf_model.specs.Task.{IsTaskSimplex};
 ghost use Rattle.wf_simplex.specs.Faces.{IsComplex};
 ghost use Rattle.wf_task.specs.Borders.{borders_of, place_before};
 ghost use Rattle.wf_task.specs.Canonical.{
@@ -109,7 +109,7 @@ fn skipping(left_out: u8, place: u8) -> u8
 /// The vertex at a place: a process and its value.
 fn vertex(simplex: &Simplex, place: u8) -> (u8, u8)
     requires place { place < length simplex.now }
-    requires simplex { IsSimplexWithin 4 255 simplex.now }
+    requires simplex { IsTaskSimplex simplex.now }
     ensures { result ≡ slice_index_or simplex.now place (0, 0) }
 {
     let process = simplex.colour(place);

@@ -1,19 +1,21 @@
 ghost use Rattle.std.specs.Prelude.{◌≡◌, ◌==◌, ◌<◌, ◌≤◌, ℕ, All, List, map, count_by, nat_lt, length, IfOk};
+ghost use Rattle.wf_model.specs.Limits.{most_bytes};
 ghost use Rattle.wf_model.specs.Simplex.{complex_of};
-ghost use Rattle.wf_model.specs.Task.{IsSimplexWithin};
+ghost use Rattle.wf_model.specs.Task.{IsTaskSimplex};
 ghost use Rattle.wf_task.specs.Draft.{Gives};
 ghost use Rattle.wf_task.specs.DraftSeen.{draft_seen, pairs_seen, entry_seen};
 ghost use Rattle.wf_task.specs.Judge.{sizes_judged, tuple_total};
 
 use crate::draft::Draft;
 use crate::fault::{Limit, TaskFault};
+use crate::limits::{MOST_INPUTS, MOST_OUTPUTS, MOST_TUPLES, MOST_VERTICES};
 use crate::shape::{Entry, ListedSimplex};
 use std::alloc::{AllocError, Global};
 use wf_simplex::{Complex, Simplex};
 
 /// The simplex of pairs that were judged.
 pub(crate) fn simplex_of(pairs: &[(u64, u64)]) -> Simplex
-    requires { IsSimplexWithin 4 255 pairs.now }
+    requires { IsTaskSimplex pairs.now }
     ensures { result ≡ pairs.now }
 {
     let mut small = [(0u8, 0u8); 4];
@@ -28,8 +30,8 @@ pub(crate) fn simplex_of(pairs: &[(u64, u64)]) -> Simplex
 
 /// The faces of listed simplices that were judged.
 pub(crate) fn complex(alloc: Global, listed: &[ListedSimplex]) -> Result<Complex, AllocError>
-    requires within { All (IsSimplexWithin 4 255) (map pairs_seen listed.now) }
-    requires few { length listed.now ≤ 16777216 }
+    requires within { All (IsTaskSimplex) (map pairs_seen listed.now) }
+    requires few { length listed.now ≤ most_bytes }
     ensures { IfOk result (λ c. c ≡ complex_of (map pairs_seen listed.now)) }
 {
     let mut facets = Vec::new(alloc);
@@ -69,16 +71,16 @@ fn has_more_tuples(delta: &[Entry], most: usize) -> bool
 pub(crate) fn judge_sizes(draft: &Draft, inputs: &[Simplex]) -> Result<(), TaskFault>
     ensures { Gives (λ u. u) result (sizes_judged (draft_seen draft.now) inputs.now) }
 {
-    if count_vertices(inputs) > 64 {
+    if count_vertices(inputs) > MOST_VERTICES {
         return Err(TaskFault::TooMany(Limit::Vertices));
     }
-    if inputs.len() > 4096 {
+    if inputs.len() > MOST_INPUTS {
         return Err(TaskFault::TooMany(Limit::Simplices));
     }
-    if draft.outputs.len() > 65536 {
+    if draft.outputs.len() > MOST_OUTPUTS {
         return Err(TaskFault::TooMany(Limit::Outputs));
     }
-    if has_more_tuples(&draft.delta, 65536) {
+    if has_more_tuples(&draft.delta, MOST_TUPLES) {
         return Err(TaskFault::TooMany(Limit::Tuples));
     }
     Ok(())

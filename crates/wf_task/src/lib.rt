@@ -3,7 +3,8 @@
 //! - [`Task`]: input and output simplices, and for each input simplex the tuples that its processes may decide.
 //!   [`Task::read_text`] reads one, or says what is wrong with the text.
 //! - [`TaskFault`]: why a text is no task, with the [`Key`] or the [`Limit`] that it is about.
-//! - [`LONGEST`]: how many bytes a text may have.
+//! - [`LONGEST`]: how many bytes a text may have. [`MOST_VERTICES`], [`MOST_INPUTS`], [`MOST_OUTPUTS`], [`MOST_TUPLES`]: the
+//!   other limits.
 //! - [`Row`]: the output values of a tuple, one for each process of an input simplex. Copied, five bytes, no memory.
 #![tactic(auto)]
 
@@ -12,6 +13,7 @@ mod complexes;
 mod draft;
 pub mod fault;
 mod judge;
+pub mod limits;
 pub mod row;
 mod rows;
 mod shape;
@@ -21,5 +23,6 @@ mod text;
 mod tuples;
 
 pub use fault::{Key, Limit, TaskFault};
+pub use limits::{MOST_INPUTS, MOST_OUTPUTS, MOST_TUPLES, MOST_VERTICES};
 pub use row::Row;
 pub use task::{LONGEST, Task};

@@ -1,5 +1,6 @@
 ghost use Rattle.std.specs.Prelude.{◌≡◌, ◌≤◌, List, map, length, IfOk};
 ghost use Rattle.std.specs.List.{position_from};
+ghost use Rattle.wf_model.specs.Limits.{most_bytes, most_inputs};
 ghost use Rattle.wf_task.specs.Draft.{Gives};
 ghost use Rattle.wf_task.specs.DraftSeen.{entry_seen, draft_seen};
 ghost use Rattle.wf_task.specs.Judge.{entries_judged, first_stray};
@@ -101,8 +102,8 @@ pub(crate) fn judge_entries(
 ) -> Result<(), TaskFault>
     requires within { HaveSmallInputs (map entry_seen draft.now.delta.items) }
     requires slots { AreOf slots.now (map entry_seen draft.now.delta.items) inputs.now }
-    requires few_inputs { length inputs.now ≤ 4096 }
-    requires few_entries { length draft.now.delta.items ≤ 16777216 }
+    requires few_inputs { length inputs.now ≤ most_inputs }
+    requires few_entries { length draft.now.delta.items ≤ most_bytes }
     ensures { Gives (λ u. u) result (entries_judged (draft_seen draft.now) inputs.now) }
 {
     match first_missing(slots) {

@@ -1,5 +1,6 @@
 ghost use Rattle.std.specs.Prelude.{◌≡◌, ◌==◌, ◌≤◌, false, All, List, map, not, zip, length};
 ghost use Rattle.std.specs.List.{position_from};
+ghost use Rattle.wf_model.specs.Limits.{most_inputs, most_tuples};
 ghost use Rattle.wf_model.specs.Simplex.{processes_of, complex_of};
 ghost use Rattle.wf_model.specs.Task.{IsSimplexWithin};
 ghost use Rattle.wf_task.specs.Draft.{Gives};
@@ -115,8 +116,8 @@ pub(crate) fn judge_tuples(
 ) -> Result<(), TaskFault>
     requires only { AreOnly slots.now (map entry_seen draft.now.delta.items) inputs.now }
     requires small { some_large (draft_seen draft.now) ≡ false }
-    requires few_inputs { length inputs.now ≤ 4096 }
-    requires few_tuples { tuple_total (map entry_seen draft.now.delta.items) ≤ 65536 }
+    requires few_inputs { length inputs.now ≤ most_inputs }
+    requires few_tuples { tuple_total (map entry_seen draft.now.delta.items) ≤ most_tuples }
     requires outputs { outputs.now ≡ complex_of (map pairs_seen draft.now.outputs.items) }
     ensures { Gives (λ u. u) result (tuples_judged (draft_seen draft.now) inputs.now) }
 {

@@ -6,6 +6,7 @@ ghost use Rattle.std.specs.BTreeSet.{insert_key};
 ghost use Rattle.std.specs.List.{fold};
 ghost use Rattle.std.specs.Ordering.{nat_cmp};
 ghost use Rattle.wf_model.specs.Lists.{has, distinct};
+ghost use Rattle.wf_model.specs.Limits.{most_number};
 ghost use Rattle.wf_model.specs.Simplex.{is_ascending};
 ghost use Rattle.wf_model.specs.View.{base, process_of, same_view, normal};
 ghost use Rattle.wf_model.specs.Problem.{number_of};
@@ -68,7 +69,7 @@ impl Views {
     /// Where the view is new it gets the next number. Refused where memory runs out, which leaves the table as it was.
     pub fn base(&mut self, colour: u8, value: u8) -> Result<u32, AllocError>
         requires colour { colour ≤ 3 }
-        requires room { length self.old < 4294967295 }
+        requires room { length self.old < most_number }
         ensures table { self.new ≡ with_view_if (is_ok result) self.old (base colour value) }
         ensures number { IfOk result (λ n. n ≡ number_of self.new (base colour value)) }
         ensures stands { IfOk result (λ n. slice_get self.new n ≡ Some (base colour value)) }
@@ -85,7 +86,7 @@ impl Views {
         requires numbers { All (λ k. k < length self.old) parts.now }
         requires ascending { is_ascending (processes_at self.old parts.now) ≡ true }
         requires own { has (processes_at self.old parts.now) colour ≡ true }
-        requires room { length self.old < 4294967295 }
+        requires room { length self.old < most_number }
         ensures table { self.new
             ≡ with_view_if (is_ok result) self.old (view_seen self.old colour parts.now) }
         ensures number { IfOk result
@@ -129,7 +130,7 @@ impl Views {
     /// Refused where memory runs out, which leaves each number with its view; some of the new views may stand then.
     pub fn normal(&mut self, id: u32) -> Result<u32, AllocError>
         requires id { id < length self.old }
-        requires room { length self.old + count_within (view_at self.old id) ≤ 4294967295 }
+        requires room { length self.old + count_within (view_at self.old id) ≤ most_number }
         ensures grows { GrowsByAtMost (count_within (view_at self.old id)) self.old self.new }
         ensures number { IfOk result
             (λ n. n ≡ number_of self.new (normal (view_at self.old id))) }
@@ -172,7 +173,7 @@ impl Views {
         new: &[u32],
     ) -> Result<u32, AllocError>
         requires id { id < length self.old }
-        requires room { length self.old < 4294967295 }
+        requires room { length self.old < most_number }
         requires ascending { is_ascending old.now ≡ true }
         requires numbers { All (λ k. k < length self.old) old.now }
         requires fewer { length new.now ≤ length old.now }
@@ -197,7 +198,7 @@ impl Views {
 
     /// The number of an entry's view. A new view gets the next number.
     fn number(&mut self, node: Node, colours: u8) -> Result<u32, AllocError>
-        requires room { length self.old < 4294967295 }
+        requires room { length self.old < most_number }
         requires entry { IsEntry (length self.old) node }
         requires colours { colours ≡ colours_of (node_view self.old node) }
         ensures table { self.new ≡ with_view_if (is_ok result) self.old (node_view self.old node) }

@@ -4,24 +4,24 @@ use Rattle.wf_preset.specs.Preset.{inputs_seen}
 use Rattle.wf_preset.proofs.PresetLimits.{agreement_inputs, vertices-refused, simplices-refused, inputs-accepted, facets-within}
 use Rattle.wf_preset.proofs.preset.input_complex.Goals as goal
 
-pub returns-then-vertex_count-gt-VERTICES : goal.returns-then-vertex_count-gt-VERTICES
-returns-then-vertex_count-gt-VERTICES c =
-    vertices-refused (agreement_inputs c.args.processes (inputs_seen c.args.inputs)) (omega (arith, c.vertex_count.ensures, c.if-vertex_count-gt-VERTICES.true))
+pub returns-then-vertex_count-gt-MOST_VERTICES : goal.returns-then-vertex_count-gt-MOST_VERTICES
+returns-then-vertex_count-gt-MOST_VERTICES c =
+    vertices-refused (agreement_inputs c.args.processes (inputs_seen c.args.inputs)) (omega (arith, c.vertex_count.ensures, c.if-vertex_count-gt-MOST_VERTICES.true))
 
-pub returns-then-facet_count-gt-SIMPLICES : goal.returns-then-facet_count-gt-SIMPLICES
-returns-then-facet_count-gt-SIMPLICES c =
-    simplices-refused (agreement_inputs c.args.processes (inputs_seen c.args.inputs)) (omega (arith, c.vertex_count.ensures, c.if-vertex_count-gt-VERTICES.false))
-    (omega (arith, c.facet_count.ensures, c.if-facet_count-gt-SIMPLICES.true, facets-within c.args.processes (inputs_seen c.args.inputs) c.requires.some))
+pub returns-then-facet_count-gt-MOST_INPUTS : goal.returns-then-facet_count-gt-MOST_INPUTS
+returns-then-facet_count-gt-MOST_INPUTS c =
+    simplices-refused (agreement_inputs c.args.processes (inputs_seen c.args.inputs)) (omega (arith, c.vertex_count.ensures, c.if-vertex_count-gt-MOST_VERTICES.false))
+    (omega (arith, c.facet_count.ensures, c.if-facet_count-gt-MOST_INPUTS.true, facets-within c.args.processes (inputs_seen c.args.inputs) c.requires.some))
 
-pub returns-then-simplices-gt-SIMPLICES : goal.returns-then-simplices-gt-SIMPLICES
-returns-then-simplices-gt-SIMPLICES c =
+pub returns-then-simplices-gt-MOST_INPUTS : goal.returns-then-simplices-gt-MOST_INPUTS
+returns-then-simplices-gt-MOST_INPUTS c =
     let made = c.in_ok-complex.ensures ∙ ap complex_of (c.deref.ensures.value ∙ c.in_ok-facets.ensures) in
-    simplices-refused (agreement_inputs c.args.processes (inputs_seen c.args.inputs)) (omega (arith, c.vertex_count.ensures, c.if-vertex_count-gt-VERTICES.false))
-    (omega (arith, c.if-simplices-gt-SIMPLICES.true, ap length (c.simplices.ensures.simplices ∙ made)))
+    simplices-refused (agreement_inputs c.args.processes (inputs_seen c.args.inputs)) (omega (arith, c.vertex_count.ensures, c.if-vertex_count-gt-MOST_VERTICES.false))
+    (omega (arith, c.if-simplices-gt-MOST_INPUTS.true, ap length (c.simplices.ensures.simplices ∙ made)))
 
 pub returns : goal.returns
 returns c =
     let made = c.in_ok-complex.ensures ∙ ap complex_of (c.deref.ensures.value ∙ c.in_ok-facets.ensures) in
-    inputs-accepted (agreement_inputs c.args.processes (inputs_seen c.args.inputs)) (omega (arith, c.vertex_count.ensures, c.if-vertex_count-gt-VERTICES.false))
-    (omega (arith, c.if-simplices-gt-SIMPLICES.false, ap length (c.simplices.ensures.simplices ∙ made)))
+    inputs-accepted (agreement_inputs c.args.processes (inputs_seen c.args.inputs)) (omega (arith, c.vertex_count.ensures, c.if-vertex_count-gt-MOST_VERTICES.false))
+    (omega (arith, c.if-simplices-gt-MOST_INPUTS.false, ap length (c.simplices.ensures.simplices ∙ made)))
     ∙ ap Ok (sym made)

@@ -8,7 +8,7 @@ use Rattle.wf_preset.proofs.preset.task_for.Goals as goal
 
 pub from_facets-requires : goal.from_facets-requires
 from_facets-requires c =
-    let few = few-images c.args.family c.args.inputs (omega (arith, counted c.args.family c.args.inputs, c.requires.task.few_tuples)) in
+    let few = few-images c.args.family c.args.inputs (omega (arith, counted c.args.family c.args.inputs, c.requires.task.limits.tuples)) in
     let images = c.deref.ensures.value ∙ c.in_ok-tuples.ensures.images ∙ ap (images_of c.args.family) c.simplices.ensures.simplices in
     omega (arith, ap length images, few)
 

@@ -5,7 +5,7 @@ use Rattle.wf_task.proofs.task.Task.first_block.Goals as goal
 
 pub returns : goal.returns
 returns c =
-    let first = c.self.invariant.task.restriction_within in
+    let first = c.self.invariant.task.limits.first_block in
     let is = c.unwrap_or.ensures in
     record {
       first_block = is ∙ ap first_block c.self.view_is;

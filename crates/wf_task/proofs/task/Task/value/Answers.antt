@@ -11,7 +11,7 @@ pub facets-requires : goal.facets-requires
 facets-requires c =
     let inside = c.self.inside in
     let rows = map vec_items inside.tuples.items in
-    few_of inside.inputs (omega (arith, c.self.invariant.task.few_inputs, length-rules_seen inside.inputs rows c.self.invariant.each, c.self.invariant.each))
+    few_of inside.inputs (omega (arith, c.self.invariant.task.limits.inputs, length-rules_seen inside.inputs rows c.self.invariant.each, c.self.invariant.each))
 
 pub returns-clause-value : goal.returns-clause-value
 returns-clause-value c =
