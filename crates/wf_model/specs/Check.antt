@@ -2,7 +2,7 @@
 use Rattle.std.specs.Prelude.{◌≡◌, ℕ, suc, ◌==◌, ◌+◌, nat_lt, Bool, true, false, not, List, [], ◌∷◌, ◌++◌, length, Option, Some, None, position, slice_get, option_map, if◌then◌else◌}
 use Rattle.std.specs.List.{list_any}
 use Rattle.std.specs.Cmp.Lexicographic.{pointwise}
-use Rattle.wf_model.specs.Problem.{Problem, Constraint, values_at, problem_of}
+use Rattle.wf_model.specs.Problem.{Problem, Constraint, Participant, values_at, problem_of}
 use Rattle.wf_model.specs.Box.{Box, root, candidates, without, is_supported_in, branches_at, first_open}
 use Rattle.wf_model.specs.Refutation.{Line, remove, empty, branch, found}
 use Rattle.wf_model.specs.Report.{Report, Body, a_map, none, least}
@@ -22,7 +22,7 @@ pub data Refusal : Type 0 where
   not_the_map : ℕ → Refusal
 
 -- the place and the point of a process in an execution
-abbrev pub place_of : ℕ → ℕ → List (ℕ × ℕ) → Option (ℕ × ℕ)
+abbrev pub place_of : ℕ → ℕ → List Participant → Option (ℕ × ℕ)
 place_of n c [] = None
 place_of n c (at ∷ more) = if at.0 == c then Some (n, at.1) else place_of (suc n) c more
 

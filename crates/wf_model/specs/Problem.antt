@@ -8,9 +8,13 @@ use Rattle.wf_model.specs.View.{View, same_view, process_of}
 use Rattle.wf_model.specs.Execution.{Execution, executions, last_views}
 use Rattle.wf_model.specs.Points.{points, class}
 
--- an execution: its processes, each with its point, and the tuples that are allowed there
+-- a process that takes part in an execution, and its point there
+abbrev pub Participant : Type 0
+Participant = ℕ × ℕ
+
+-- an execution: its participants by ascending process, and the tuples that are allowed at their points
 pub record Constraint : Type 0 where
-  pub scope : List (ℕ × ℕ)
+  pub scope : List Participant
   pub tuples : List Tuple
 
 pub record Problem : Type 0 where
@@ -44,7 +48,7 @@ problem_of t r =
     record { points = length ps; values = values t; constraints = map (constraint_of t ps) (executions t r) }
 
 -- the values of a map at the points of an execution
-abbrev pub values_at : List ℕ → List (ℕ × ℕ) → List ℕ
+abbrev pub values_at : List ℕ → List Participant → List ℕ
 values_at m scope = map (λ at. slice_index m at.1) scope
 
 abbrev pub Satisfies : List ℕ → Constraint → Type 0
