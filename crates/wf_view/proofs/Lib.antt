@@ -8,3 +8,4 @@ pub mod Beside
 pub mod Renamed
 pub mod Collecting
 pub mod Ranked
+pub mod Laws
