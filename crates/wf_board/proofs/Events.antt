@@ -11,7 +11,7 @@ use Rattle.wf_core.specs.declared.event.Status.{Status}
 use Rattle.wf_core.specs.declared.event.Status.TheVariants as status
 use Rattle.wf_core.specs.declared.event.Event.TheVariants.{Look, Post, Searched, Cut}
 use Rattle.wf_core.specs.Core.{State as Core, Is, Saw, after, start}
-use Rattle.wf_core.proofs.Laws.{set_at, set_else, at_set, at_replicate, put_at}
+use Rattle.wf_core.proofs.Lemmas.{set_at, set_else, at_set, at_replicate, put_at}
 use Rattle.wf_board.specs.declared.table.View.{View}
 use Rattle.wf_board.specs.Desk.{Place, fresh_desk, known, looked, posted, searched, is_cut}
 use Rattle.wf_board.specs.Rule.{Stands}

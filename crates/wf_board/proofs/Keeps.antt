@@ -13,7 +13,7 @@ use Rattle.atomic_table.proofs.Lists.{at_set}
 use Rattle.wf_board.specs.declared.table.View.{View}
 use Rattle.wf_board.specs.declared.table.Ledger.{Ledger}
 use Rattle.wf_core.specs.Count.{total}
-use Rattle.wf_core.proofs.Laws.{put_at, total_set, total_bound, min_cases}
+use Rattle.wf_core.proofs.Lemmas.{put_at, total_set, total_bound, min_cases}
 use Rattle.wf_board.specs.Desk.{Desk, knows, known}
 use Rattle.wf_board.specs.Rule.{Posted, AtMost, Below, Fits, Shown, Seated, looks, posts, refutes, cuts}
 use Rattle.wf_board.proofs.Views.{stands_kept}

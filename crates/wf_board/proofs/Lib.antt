@@ -4,4 +4,4 @@ pub mod Parts
 pub mod Seats
 pub mod Gathered
 pub mod Events
-pub mod Laws
+pub mod Lemmas

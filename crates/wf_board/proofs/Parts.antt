@@ -12,7 +12,7 @@ use Rattle.atomic_table.proofs.Lists.{at_set, at_snoc, at_longer, set_else}
 use Rattle.wf_board.specs.declared.table.View.{View}
 use Rattle.wf_board.specs.declared.table.Ledger.{Ledger}
 use Rattle.wf_core.specs.Count.{total}
-use Rattle.wf_core.proofs.Laws.{put_at, total_set, total_bound, total_one, total-append}
+use Rattle.wf_core.proofs.Lemmas.{put_at, total_set, total_bound, total_one, total-append}
 use Rattle.wf_board.specs.Desk.{knows, joined, nothing, IsLeast}
 use Rattle.wf_board.specs.Rule.{Posted, AtMost, Below, Fits, Shown}
 use Rattle.wf_board.proofs.Views.{stands_kept}

@@ -4,7 +4,7 @@ use mathlib.Core.Logic.{dite}
 use native.Mathlib.Decide.{ℕ_discrete}
 use Rattle.atomic_table.specs.Seated.{TableId}
 use Rattle.wf_core.specs.Count.{times}
-use Rattle.wf_core.proofs.Laws.{times-append, times_same, times_other, once_in, length-le_below, times_more}
+use Rattle.wf_core.proofs.Lemmas.{times-append, times_same, times_other, once_in, length-le_below, times_more}
 use Rattle.wf_board.specs.Rule.{Seated, Sits}
 use Rattle.wf_board.specs.Desk.{Desk, desk, knows, known, settled, posted, searched, is_cut}
 

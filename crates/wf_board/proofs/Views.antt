@@ -6,7 +6,7 @@ use mathlib.Core.Logic.{dite}
 use native.Mathlib.Decide.{ℕ_discrete}
 use lib.ListN.{get_elem?}
 use Rattle.atomic_table.proofs.Lists.{at_set, set_else}
-use Rattle.wf_core.proofs.Laws.{put_at}
+use Rattle.wf_core.proofs.Lemmas.{put_at}
 use Rattle.wf_board.specs.declared.table.View.{View}
 use Rattle.wf_board.specs.Rule.{Stands}
 

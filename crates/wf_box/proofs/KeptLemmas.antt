@@ -9,7 +9,7 @@ use Rattle.std.proofs.lemmas.List.Sums.{position_or_len_is}
 use Rattle.wf_model.proofs.Fuel.{length_filter}
 use Rattle.wf_set.specs.Parts.{part_limit, part_values}
 use Rattle.wf_set.specs.Sets.{values_in}
-use Rattle.wf_set.proofs.Laws.{length-values_in, part_of, values_of_first}
+use Rattle.wf_set.proofs.Lemmas.{length-values_in, part_of, values_of_first}
 use Rattle.wf_box.specs.Kept.{is_narrow}
 
 -- ---- a test that each value passes

@@ -14,4 +14,4 @@ pub mod JoinLemmas
 pub mod SeenLemmas
 pub mod StandLemmas
 pub mod KeptLemmas
-pub mod Laws
+pub mod Lemmas

@@ -10,7 +10,7 @@ use Rattle.wf_complex.specs.declared.line.Line.{Line}
 use Rattle.wf_set.specs.Sets.{box_of, values_in}
 use Rattle.wf_box.specs.Closes.{more_sweeps, sweep_count}
 use Rattle.wf_box.specs.Steps.{reached}
-use Rattle.wf_lane.proofs.Laws.{few_values}
+use Rattle.wf_lane.proofs.Lemmas.{few_values}
 use Rattle.wf_box.proofs.StepLemmas.{then_then}
 
 -- ---- how many candidates there can be

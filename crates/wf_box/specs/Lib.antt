@@ -1,12 +1,14 @@
+-- What contracts say, here and in the crates above.
 pub mod Limits
-pub mod Problems
-pub mod Steps
 pub mod Closes
-pub mod Revising
 pub mod Least
-pub mod Marks
 pub mod Changes
-pub mod Quiet
-pub mod Stands
 pub mod Boxes
 pub mod Kept
+-- What only this crate's own code and proofs use.
+pub mod Problems
+pub mod Steps
+pub mod Revising
+pub mod Marks
+pub mod Quiet
+pub mod Stands

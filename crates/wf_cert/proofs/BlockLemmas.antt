@@ -10,7 +10,7 @@ use Rattle.wf_cert.specs.Blocks.{later, later_from}
 use Rattle.wf_cert.specs.declared.boxes.Entry.{Entry}
 use Rattle.wf_cert.specs.declared.boxes.Entry.TheVariants.{Was, Later}
 use Rattle.wf_model.specs.Lists.{has}
-use Rattle.wf_set.proofs.Laws.{filter_nothing}
+use Rattle.wf_set.proofs.Lemmas.{filter_nothing}
 
 -- one more entry
 pub later_push : (trail : List Entry) (e : Entry) (sets : List (List ℕ)) → later (trail ++ e ∷ []) sets ≡ later_from (e ∷ reverse trail) sets

@@ -7,7 +7,7 @@ use Rattle.wf_model.specs.Task as task
 use Rattle.wf_model.specs.Task.{Task, Tuple, inputs}
 use Rattle.wf_model.specs.Problem.{problem_of}
 use Rattle.wf_complex.specs.Protocol.{Built, IsProtocol}
-use Rattle.wf_complex.proofs.Laws.{rule_inside, rule_there, constraint_there}
+use Rattle.wf_complex.proofs.Lemmas.{rule_inside, rule_there, constraint_there}
 use Rattle.wf_cert.specs.Places.{constraint_on}
 
 -- by its simplex

@@ -15,4 +15,4 @@ pub mod ReadBackLemmas
 pub mod GroupLemmas
 pub mod SupportLemmas
 pub mod TruthLemmas
-pub mod Laws
+pub mod Lemmas

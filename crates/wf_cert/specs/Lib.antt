@@ -1,5 +1,9 @@
+-- What contracts say, here and in the crates above.
 pub mod Reports
 pub mod Faults
+pub mod Grammar
+pub mod Truth
+-- What only this crate's own code and proofs use.
 pub mod Blocks
 pub mod Settled
 pub mod Claims
@@ -7,6 +11,4 @@ pub mod Places
 pub mod Reading
 pub mod Numbers
 pub mod Steps
-pub mod Grammar
 pub mod Groups
-pub mod Truth

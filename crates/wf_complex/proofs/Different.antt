@@ -13,7 +13,7 @@ use Rattle.wf_model.proofs.Bridge.{same_itself, same_is, weaker}
 use Rattle.wf_model.proofs.Headline.{each_distinct, each_map}
 use Rattle.wf_model.proofs.Numbers.{Apart, apart_distinct, map_distinct}
 use Rattle.wf_view.specs.Views.{view_at}
-use Rattle.wf_view.proofs.Laws.{number_of-at}
+use Rattle.wf_view.proofs.Lemmas.{number_of-at}
 use Rattle.wf_complex.specs.Rounds.{views_at}
 use Rattle.wf_complex.specs.Numbering.{same_at, first_places}
 use Rattle.wf_model.proofs.Fuel.{length_filter}

@@ -14,7 +14,7 @@ use Rattle.wf_model.specs.Problem.{Constraint, problem_of, values_at, constraint
 use Rattle.wf_model.specs.Check.{satisfies}
 use Rattle.wf_model.proofs.WellFormed.{task_well_formed}
 use Rattle.wf_model.proofs.Tasks.{inputs_within}
-use Rattle.wf_simplex.proofs.Laws.{length-within}
+use Rattle.wf_simplex.proofs.Lemmas.{length-within}
 use Rattle.wf_complex.specs.Protocol.{Built, IsProtocol}
 use Rattle.wf_complex.proofs.RuleAt.{constraint_there, got}
 

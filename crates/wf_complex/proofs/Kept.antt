@@ -8,7 +8,7 @@ use Rattle.wf_model.specs.Lists.{distinct}
 use Rattle.wf_model.specs.Simplex.{Simplex, is_nonempty, is_ascending, processes_of}
 use Rattle.wf_model.specs.View.{View, same_view}
 use Rattle.wf_model.specs.Task.{Task, inputs, first_block, IsSimplexWithin}
-use Rattle.wf_simplex.proofs.Laws.{length-within}
+use Rattle.wf_simplex.proofs.Lemmas.{length-within}
 use Rattle.wf_complex.specs.declared.layout.Execution.{Execution}
 use Rattle.wf_complex.specs.declared.places.Place.{Place}
 use Rattle.wf_complex.specs.Rounds.{views_at, leaves_of, cost_of_each}

@@ -5,7 +5,7 @@ use Rattle.std.proofs.Math.Nat.{mul-le-mul_right, mul-le-mul_left}
 use Rattle.std.proofs.lemmas.List.{drop_more}
 use Rattle.wf_model.specs.Simplex.{Simplex}
 use Rattle.wf_model.specs.Word.{words}
-use Rattle.wf_simplex.proofs.Laws.{each_pair}
+use Rattle.wf_simplex.proofs.Lemmas.{each_pair}
 use Rattle.wf_complex.specs.declared.layout.Execution.{Execution}
 use Rattle.wf_complex.specs.Layout.{turns, execution_total, place_total, laid_on, laid_out}
 

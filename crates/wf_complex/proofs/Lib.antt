@@ -14,4 +14,4 @@ pub mod Kept
 pub mod Depth
 pub mod RuleAt
 pub mod ExecutionAt
-pub mod Laws
+pub mod Lemmas

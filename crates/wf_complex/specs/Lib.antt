@@ -1,10 +1,12 @@
+-- What contracts say, here and in the crates above.
 pub mod Lines
+pub mod Faults
+pub mod Protocol
+-- What only this crate's own code and proofs use.
 pub mod Rounds
 pub mod Numbering
 pub mod Layout
 pub mod Places
 pub mod Classes
-pub mod Faults
-pub mod Protocol
 pub mod ProtocolMade
 pub mod ProtocolSeen

@@ -7,4 +7,4 @@ pub mod Tied
 pub mod Kept
 pub mod Holding
 pub mod Writes
-pub mod Laws
+pub mod Lemmas

@@ -1,4 +1,6 @@
+-- What contracts say, here and in the crates above.
 pub mod Core
 pub mod Count
-pub mod Fields
 pub mod Laws
+-- What only this crate's own code and proofs use.
+pub mod Fields

@@ -19,7 +19,7 @@ use Rattle.wf_cert.specs.Grammar.{IsInGrammar}
 use Rattle.wf_cert.specs.Faults.{Fails}
 use Rattle.wf_cert.specs.declared.fault.CertFault.{CertFault}
 use Rattle.wf_cert.specs.declared.fault.CertFault.TheVariants as cert
-use Rattle.wf_cert.proofs.Laws.{written_read}
+use Rattle.wf_cert.proofs.Lemmas.{written_read}
 use Rattle.wf_engine.specs.declared.outcome.Outcome.{Outcome}
 use Rattle.wf_engine.specs.declared.outcome.Outcome.TheVariants as outcome
 use Rattle.wf_engine.specs.declared.outcome.Form.{Form}

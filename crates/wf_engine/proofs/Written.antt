@@ -30,9 +30,9 @@ use Rattle.wf_model.proofs.Fuel.{Leaves}
 use Rattle.wf_model.proofs.Sound.{point_within}
 use Rattle.wf_model.proofs.WellFormed.{task_listed, each_execution_with, last_processes, scope_processes}
 use Rattle.wf_model.proofs.Tasks.{inputs_within, outputs_within}
-use Rattle.wf_simplex.proofs.Laws.{length-within}
-use Rattle.wf_task.proofs.Laws.{has_from_order}
-use Rattle.wf_complex.proofs.Laws.{length-distinct}
+use Rattle.wf_simplex.proofs.Lemmas.{length-within}
+use Rattle.wf_task.proofs.Lemmas.{has_from_order}
+use Rattle.wf_complex.proofs.Lemmas.{length-distinct}
 use Rattle.wf_cert.specs.Grammar.{IsLineWithin, IsStepWithin, IsBodyWithin, IsInGrammar, last_process}
 use Rattle.wf_engine.specs.Run.{IsWithinLimits}
 

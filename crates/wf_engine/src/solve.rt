@@ -2,13 +2,12 @@
 
 ghost use Rattle.std.specs.Prelude.{◌≡◌, ◌<◌, ◌≤◌, IfOk, map};
 ghost use Rattle.wf_model.specs.Problem.{problem_of};
-ghost use Rattle.wf_model.specs.Laws.{report_about};
 ghost use Rattle.wf_io.specs.Ends.{CanCount, CanRead};
 ghost use Rattle.wf_complex.specs.Lines.{line_of};
 ghost use Rattle.wf_complex.specs.Protocol.{IsProtocol};
 ghost use Rattle.wf_pool.specs.Answers.{HasAccount, IsAnswer};
 ghost use Rattle.wf_pool.specs.Answers as pool;
-ghost use Rattle.wf_cert.specs.Reports.{report_seen, body_of};
+ghost use Rattle.wf_cert.specs.Reports.{body_of};
 ghost use Rattle.wf_engine.specs.Run.{Answers, Asks, answered};
 ghost use Rattle.wf_engine.specs.Texts.{IsInOrder, IsSolved, SearchesInOrder, Solves, lines_kept, map_body, none_body, text_of_report};
 
@@ -235,19 +234,5 @@ fn report_text(
     ensures { IfOk result (λ text. text.items
         ≡ text_of_report task.now protocol.now.rounds (body_of body)) }
 {
-    write_report(alloc, &report_of(task, protocol, body))
-}
-
-/// The report with this answer.
-fn report_of(task: &Task, protocol: &Protocol, body: Body) -> Report
-    requires { IsProtocol task.now protocol.now.rounds protocol.now }
-    ensures { report_seen result ≡ report_about task.now protocol.now.rounds (body_of body) }
-{
-    Report {
-        processes: u32::from(task.processes()),
-        rounds: protocol.rounds(),
-        points: protocol.points(),
-        executions: protocol.executions(),
-        body,
-    }
+    write_report(alloc, &Report::about(task, protocol, body))
 }

@@ -9,7 +9,7 @@ use Rattle.crossbeam_deque.specs.declared.steal.Steal.TheVariants.{Empty, Succes
 use Rattle.crossbeam_deque.specs.Tasks.{Pushes, Takes as Leaves, Forks, Merges, Finds, FindsFew}
 use Rattle.atomic_table.proofs.Lists.{at_set, at_snoc, set_else}
 use Rattle.wf_core.specs.Count.{times, total}
-use Rattle.wf_core.proofs.Laws.{total-append, total_set, total_one}
+use Rattle.wf_core.proofs.Lemmas.{total-append, total_set, total_one}
 use Rattle.wf_handout.specs.declared.deque.Pile.{Pile}
 use Rattle.wf_handout.specs.Piles.{pile, Knows, Held, Takes, AllTaken}
 use Rattle.wf_handout.specs.Parts.{DequeId, Part, part, grown, IsFair}

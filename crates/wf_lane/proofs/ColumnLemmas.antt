@@ -11,7 +11,7 @@ use Rattle.std.proofs.lemmas.List.{take_more, take_all, drop_all, drop-append-le
 use Rattle.std.specs.Int.Bits.{or_zero_r}
 use Rattle.wf_model.specs.Lists.{has}
 use Rattle.wf_set.specs.Parts.{part_values}
-use Rattle.wf_set.proofs.Laws.{has-part_values, has_large}
+use Rattle.wf_set.proofs.Lemmas.{has-part_values, has_large}
 use Rattle.wf_lane.specs.Words.{ors}
 use Rattle.wf_lane.specs.Rows.{IsCut, block_limit, is_value, row_set, row_sets}
 use Rattle.wf_lane.specs.declared.column.Column.{Column}

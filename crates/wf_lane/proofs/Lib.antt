@@ -9,4 +9,4 @@ pub mod RowLemmas
 pub mod BlockLemmas
 pub mod ColumnLemmas
 pub mod WideLaws
-pub mod Laws
+pub mod Lemmas

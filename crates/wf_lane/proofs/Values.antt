@@ -14,7 +14,7 @@ use Rattle.std.proofs.Math.Bool.{and-true}
 use Rattle.wf_model.specs.Lists.{has}
 use Rattle.wf_model.specs.Task.{Tuple}
 use Rattle.wf_model.specs.Box.{is_supported, is_alive, has_at}
-use Rattle.wf_set.proofs.Laws.{has-part_values, has_large, part_holds-or, part_holds-pow, holds_nothing}
+use Rattle.wf_set.proofs.Lemmas.{has-part_values, has_large, part_holds-or, part_holds-pow, holds_nothing}
 use Rattle.wf_set.specs.Parts.{part_holds, part_values}
 use Rattle.wf_set.specs.Sets.{values_in}
 use Rattle.wf_lane.specs.Words.{Words, is_live, joined_words, meets}

@@ -1,3 +1,4 @@
+-- What contracts say, here and in the crates above.
 pub mod Lists
 pub mod Limits
 pub mod Simplex
@@ -22,6 +23,7 @@ pub mod Check
 pub mod AllSolutions
 pub mod Presets
 pub mod ViewCode
+-- Worked examples: what the definitions give, by computation.
 pub mod ExampleTasks
 pub mod Examples
 pub mod LargeExamples

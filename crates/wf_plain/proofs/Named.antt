@@ -10,7 +10,7 @@ use Rattle.wf_model.specs.Problem.{problem_of, constraint_at}
 use Rattle.wf_model.proofs.WellFormed.{task_well_formed}
 use Rattle.wf_complex.specs.Protocol.{Built, IsProtocol}
 use Rattle.wf_plain.specs.Plain.{LiesBelow, AreEnds}
-use Rattle.wf_complex.proofs.Laws.{scope_is}
+use Rattle.wf_complex.proofs.Lemmas.{scope_is}
 
 pub more_bound : (xs : List ℕ) (i g n : ℕ) → i < length xs → All (λ v. v < g + 1) (take i xs) → g ≤ n → get_or xs i 0 ≤ n → All (λ v. v < n + 1) (take (i + 1) xs)
 more_bound xs i g n inside h more this = All-more (λ v. v < n + 1) xs i 0 inside (λ k d low. let a : get_or (take i xs) k d < g + 1 = h k d low in omega (arith, a, more)) (omega (arith, this))

@@ -16,9 +16,9 @@ use Rattle.wf_model.specs.Simplex.{Simplex, Vertex, processes_of, values_of, is_
 use Rattle.wf_model.specs.Task.{Tuple}
 use Rattle.wf_model.proofs.Fuel.{length_filter}
 use Rattle.wf_simplex.specs.Order.{simplex_cmp-total, simplex_cmp-Equal, nat_cmp-Equal}
-use Rattle.wf_simplex.proofs.Laws.{Has, has-in_order, in_order-has, same_in_order, has-filter, filter-has, has-flat_map, flat_map-has, of_some_facet, is_in_complex, complex_of-sorted}
+use Rattle.wf_simplex.proofs.Lemmas.{Has, has-in_order, in_order-has, same_in_order, has-filter, filter-has, has-flat_map, flat_map-has, of_some_facet, is_in_complex, complex_of-sorted}
 use Rattle.wf_task.specs.Canonical.{facets}
-use Rattle.wf_task.proofs.Laws.{length-lists_of, sorted-lists_of, sorted-pairs, sorted-below, map-has, has-map, has-lists_of, lists_of-has, has-below, below-has, length-among, length-pieces, each_has, has_each, different-among, vertex_of_part, facets-pure, length-zip-same, processes-zip-same, values-zip-same, sorted-zips, map-part, single-part, repeated, nonempty-long, long-nonempty, part-face, facet-in, complex_of-same, images, has-images, images-has}
+use Rattle.wf_task.proofs.Lemmas.{length-lists_of, sorted-lists_of, sorted-pairs, sorted-below, map-has, has-map, has-lists_of, lists_of-has, has-below, below-has, length-among, length-pieces, each_has, has_each, different-among, vertex_of_part, facets-pure, length-zip-same, processes-zip-same, values-zip-same, sorted-zips, map-part, single-part, repeated, nonempty-long, long-nonempty, part-face, facet-in, complex_of-same, images, has-images, images-has}
 
 length-below : (n : ℕ) → length (below n) ≡ n
 length-below n = length-range_with_len 0 n

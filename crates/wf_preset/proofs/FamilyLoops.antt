@@ -10,9 +10,9 @@ use Rattle.std.proofs.Math.Nat.{pow-le-pow_left, pow-le-pow_right, pow-succ', di
 use Rattle.wf_model.specs.Lists.{has, lists_of, in_order, with_element}
 use Rattle.wf_model.specs.Presets.{different}
 use Rattle.wf_simplex.specs.Order.{nat_cmp-Equal}
-use Rattle.wf_simplex.proofs.Laws.{Has, has-append, has-append_left, has-append_right, in_order-same, insert_key-with_element}
+use Rattle.wf_simplex.proofs.Lemmas.{Has, has-append, has-append_left, has-append_right, in_order-same, insert_key-with_element}
 use Rattle.wf_preset.specs.Family.{at_most}
-use Rattle.wf_task.proofs.Laws.{different-old, different-new, has-list, list-has, list_at, get_or-lists_of, some_lists}
+use Rattle.wf_task.proofs.Lemmas.{different-old, different-new, has-list, list-has, list_at, get_or-lists_of, some_lists}
 
 -- so few values have few lists
 pub few_lists : (m n : ℕ) → m ≤ 64 → n ≤ 4 → m ^ n ≤ 16777216

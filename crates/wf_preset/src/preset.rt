@@ -15,9 +15,7 @@ ghost use Rattle.wf_preset.specs.Preset.{inputs_seen, input_complex_of, has_proc
 use crate::family::{Family, list_at, list_count, numbers_below};
 use std::alloc::{AllocError, Global};
 use wf_simplex::{Complex, Simplex};
-use wf_task::{
-    Limit, MOST_INPUTS, MOST_OUTPUTS, MOST_TUPLES, MOST_VERTICES, Row, Task, TaskFault,
-};
+use wf_task::{Limit, MOST_INPUTS, MOST_OUTPUTS, MOST_TUPLES, MOST_VERTICES, Row, Task, TaskFault};
 
 /// Which inputs the processes of set agreement may have.
 #[derive(Clone, Copy, Debug, PartialEq, Eq)]

@@ -13,7 +13,7 @@ use Rattle.wf_engine.specs.declared.fault.RunFault.{RunFault}
 use Rattle.wf_engine.specs.declared.fault.RunFault.TheVariants as run
 use Rattle.wf_engine.specs.Texts.{IsSolved, IsViews}
 use Rattle.wf_engine.specs.Laws.{failed_reads, failed_writes, by_result, IsChecked, IsCounted, IsWritten}
-use Rattle.wf_engine.proofs.Laws.{checked, counted, handed, preset_counted}
+use Rattle.wf_engine.proofs.Lemmas.{checked, counted, handed, preset_counted}
 use Rattle.wf_program.specs.declared.done.Done.{Done}
 use Rattle.wf_program.specs.declared.refusal.Refusal.{Refusal}
 use Rattle.wf_program.specs.declared.refusal.Refusal.TheVariants as refusal

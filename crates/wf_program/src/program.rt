@@ -15,6 +15,7 @@ use std::alloc::Global;
 use std::fmt::Display;
 use std::io::{Read, Write};
 use std::thread::Threads;
+use wf_args::{Job, WordsFault, read_words};
 use wf_core::Account;
 use wf_engine::{
     Form, Outcome, RunFault, hand_out, run_preset, run_solve, run_solve_watched, run_verify,
@@ -22,7 +23,6 @@ use wf_engine::{
 };
 use wf_io::{Sink, Source};
 use wf_pool::{Gate, MAX_WORKERS};
-use wf_args::{Job, WordsFault, read_words};
 
 /// Runs what the words ask for, the first of which is the program's own name, and answers the exit status. Where the
 /// words could not be had, that is the refusal.

@@ -22,7 +22,7 @@ use Rattle.wf_set.specs.Sets.{values_in}
 use Rattle.wf_search.specs.declared.outline.Slot.{Slot}
 use Rattle.wf_search.specs.Cover.{each_seen}
 use Rattle.wf_box.specs.Boxes.{Grows, IsFor, Tracked, WasClosed, box_after}
-use Rattle.wf_box.proofs.Laws.{on_true, after_grown, closed_undone, grown_trail, still_closed}
+use Rattle.wf_box.proofs.Lemmas.{on_true, after_grown, closed_undone, grown_trail, still_closed}
 use Rattle.wf_search.specs.Outline.{IsClosedBox, IsJustClosed, as_written, slot_seen, slots_filled, is_to_open}
 use Rattle.wf_search.proofs.SearchLemmas.{branches_are_boxes}
 use Rattle.wf_search.proofs.PendingLemmas.{if_there, last_state}

@@ -1,4 +1,6 @@
-pub mod Pending
+-- What contracts say, here and in the crates above.
 pub mod Found
-pub mod Outline
 pub mod Cover
+-- What only this crate's own code and proofs use.
+pub mod Pending
+pub mod Outline

@@ -1,4 +1,4 @@
 pub mod SetLaws
 pub mod PartLaws
 pub mod Listing
-pub mod Laws
+pub mod Lemmas

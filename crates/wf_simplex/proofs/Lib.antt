@@ -9,4 +9,4 @@ pub mod SmallTables
 pub mod Search
 pub mod Within
 pub mod FromFacets
-pub mod Laws
+pub mod Lemmas

@@ -21,7 +21,7 @@ use Rattle.wf_model.proofs.Fuel.{length_filter}
 use Rattle.wf_model.proofs.Tasks.{inputs_within, outputs_within, inputs_are}
 use Rattle.wf_simplex.specs.Faces.{IsComplex}
 use Rattle.wf_simplex.specs.Order.{same_simplex, same_simplex-decides, simplex_cmp-total}
-use Rattle.wf_simplex.proofs.Laws.{Has, has-filter, complex_of-sorted, has_of_all, all_of_has, length-within}
+use Rattle.wf_simplex.proofs.Lemmas.{Has, has-filter, complex_of-sorted, has_of_all, all_of_has, length-within}
 use Rattle.wf_task.specs.declared.fault.TaskFault.{TaskFault}
 use Rattle.wf_task.specs.Shape.{each, whole_of, pair_of, simplex_of, tuples_of, rule_of, entry_of, list_of}
 use Rattle.wf_task.specs.Draft.{Listed, ◌>>=◌, draft_of}

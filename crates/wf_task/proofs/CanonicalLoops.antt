@@ -10,7 +10,7 @@ use Rattle.serde_json.specs.Data.{Data}
 use Rattle.wf_model.specs.Simplex.{Simplex, Vertex, processes_of, values_of, complex_of}
 use Rattle.wf_model.specs.Task.{Tuple, IsSimplexWithin}
 use Rattle.wf_simplex.specs.Faces.{IsComplex}
-use Rattle.wf_simplex.proofs.Laws.{Has, has_at_place, face_within, length-within}
+use Rattle.wf_simplex.proofs.Lemmas.{Has, has_at_place, face_within, length-within}
 use Rattle.wf_task.specs.Borders.{borders_if, borders_of, place_before}
 use Rattle.wf_task.specs.Canonical.{is_inner, facets, HasFewFacets, list_data, simplex_data, rule_data, keyed, task_data}
 use Rattle.wf_task.specs.Shape.{rule_of}

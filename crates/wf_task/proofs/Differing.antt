@@ -7,7 +7,7 @@ use Rattle.std.specs.Cmp.{nat_cmp_total}
 use Rattle.wf_model.specs.Lists.{in_order, with_element}
 use Rattle.wf_model.specs.Presets.{different, all_different}
 use Rattle.wf_simplex.specs.Order.{nat_cmp-Equal}
-use Rattle.wf_simplex.proofs.Laws.{Has, has-in_order, in_order-has, sorted-in_order, in_order-same, length-in_order}
+use Rattle.wf_simplex.proofs.Lemmas.{Has, has-in_order, in_order-has, sorted-in_order, in_order-same, length-in_order}
 use Rattle.wf_task.proofs.Listings.{length-among}
 
 length-with_new : (x : ℕ) (ys : List ℕ) → (Has x ys → ⊥) → length (with_element nat_cmp x ys) ≡ suc (length ys)

@@ -14,7 +14,7 @@ use Rattle.wf_model.specs.Simplex.{Simplex, processes_of, values_of, is_nonempty
 use Rattle.wf_model.specs.Task.{Task, Rule, Tuple, IsTask, IsRule, IsSimplexWithin, IsComplexWithin, IsFirstBlock, inputs}
 use Rattle.wf_model.proofs.Tasks.{on_processes, up_to}
 use Rattle.wf_simplex.specs.Order.{same_simplex, same_simplex-decides, simplex_cmp-total, nat_cmp-Equal}
-use Rattle.wf_simplex.proofs.Laws.{Has, has-in_order, in_order-in_order, length-in_order, has_at_place, whole_is_part, filter-has, is_in_complex, complex_of-sorted, complex_of-complex_of, all_of_has, has_of_all, complex_within, length-within}
+use Rattle.wf_simplex.proofs.Lemmas.{Has, has-in_order, in_order-in_order, length-in_order, has_at_place, whole_is_part, filter-has, is_in_complex, complex_of-sorted, complex_of-complex_of, all_of_has, has_of_all, complex_within, length-within}
 use Rattle.std.proofs.lemmas.Bool.{and_parts, or_parts, not-false}
 use Rattle.wf_task.specs.declared.slots.Slot.{Slot}
 use Rattle.wf_task.specs.declared.slots.Slot.TheVariants.{Missing, Once, Twice}

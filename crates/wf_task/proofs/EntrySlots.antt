@@ -11,7 +11,7 @@ use Rattle.std.proofs.lemmas.Map.Keys.{Less-from_sorted}
 use Rattle.std.proofs.lemmas.Option.{get_or_from_slice_get, slice_get_within}
 use Rattle.wf_model.specs.Simplex.{Simplex, simplex_cmp}
 use Rattle.wf_model.specs.Task.{Rule, IsSimplexWithin}
-use Rattle.wf_simplex.proofs.Laws.{Has, has_at_place}
+use Rattle.wf_simplex.proofs.Lemmas.{Has, has_at_place}
 use Rattle.wf_task.specs.declared.shape.Entry.{Entry}
 use Rattle.wf_task.specs.DraftSeen.{entry_seen}
 use Rattle.wf_task.specs.Judge.{is_among}

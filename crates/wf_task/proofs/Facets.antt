@@ -7,7 +7,7 @@ use Rattle.std.proofs.lemmas.List.Kept.{IsStrictlySortedBy-filter}
 use Rattle.wf_model.specs.Simplex.{Simplex, Vertex, same_vertex, is_face, is_nonempty, parts_of, simplex_cmp}
 use Rattle.wf_simplex.specs.Order.{simplex_cmp-total, simplex_cmp-Equal}
 use Rattle.wf_task.specs.Canonical.{is_inner, facets}
-use Rattle.wf_simplex.proofs.Laws.{Has, has-append, same_in_order, begins, has-filter, filter-has}
+use Rattle.wf_simplex.proofs.Lemmas.{Has, has-append, same_in_order, begins, has-filter, filter-has}
 
 -- ---- parts
 

@@ -5,7 +5,7 @@ use Rattle.std.proofs.lemmas.Bool.{and_parts, and_from, or_parts, not-false}
 use Rattle.std.proofs.lemmas.List.Elements.{All-nil, All-cons, All-head, All-tail}
 use Rattle.wf_model.specs.Simplex.{Simplex, processes_of, values_of, is_nonempty, is_ascending}
 use Rattle.wf_model.specs.Task.{IsSimplexWithin, largest_value}
-use Rattle.wf_simplex.proofs.Laws.{low_processes}
+use Rattle.wf_simplex.proofs.Lemmas.{low_processes}
 use Rattle.wf_task.specs.declared.fault.TaskFault.{TaskFault}
 use Rattle.wf_task.specs.declared.fault.TaskFault.TheVariants as fault
 use Rattle.wf_task.specs.Draft.{Listed, ◌>>=◌}

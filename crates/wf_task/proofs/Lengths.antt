@@ -9,7 +9,7 @@ use Rattle.serde_json.specs.View.{items_of}
 use Rattle.serde_json.specs.Written.{comma_if, compact_text, items_text, members_text}
 use Rattle.wf_model.specs.Simplex.{Simplex, Vertex}
 use Rattle.wf_model.specs.Task.{Task, Rule, Tuple, IsFirstBlock, inputs}
-use Rattle.wf_simplex.proofs.Laws.{Has}
+use Rattle.wf_simplex.proofs.Lemmas.{Has}
 use Rattle.wf_task.specs.Canonical.{facets, number_data, list_data, vertex_data, simplex_data, tuple_data, rule_data, with_first_block, version_of, task_data}
 
 -- ---- how long

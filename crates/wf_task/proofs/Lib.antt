@@ -25,4 +25,4 @@ pub mod OneMore
 pub mod Lengths
 pub mod Back
 pub mod Restriction
-pub mod Laws
+pub mod Lemmas

@@ -14,7 +14,7 @@ use Rattle.std.proofs.lemmas.List.Concat.{get_or-flat_map}
 use Rattle.wf_model.specs.Lists.{below, lists_of}
 use Rattle.wf_model.proofs.Bridge.{weaker}
 use Rattle.wf_model.proofs.Headline.{each_append, each_map, each_flat}
-use Rattle.wf_simplex.proofs.Laws.{Has, begins, has-flat_map, flat_map-has}
+use Rattle.wf_simplex.proofs.Lemmas.{Has, begins, has-flat_map, flat_map-has}
 
 -- ---- how many
 

@@ -14,7 +14,7 @@ use Rattle.wf_model.specs.Task.{Tuple, IsSimplexWithin}
 use Rattle.wf_model.proofs.Ascending.{Ascends, ascends_from}
 use Rattle.wf_simplex.specs.Entries.{value_at}
 use Rattle.wf_simplex.specs.Order.{nat_cmp-Equal, slice_cmp-Equal}
-use Rattle.wf_simplex.proofs.Laws.{Has, has-append, has-append_left, has-append_right, insert_key-with_element, in_order-same}
+use Rattle.wf_simplex.proofs.Lemmas.{Has, has-append, has-append_left, has-append_right, insert_key-with_element, in_order-same}
 use Rattle.wf_set.specs.Sets.{values_in}
 use Rattle.wf_task.specs.Mask.{HasMore, IsMaskOf}
 

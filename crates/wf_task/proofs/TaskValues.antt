@@ -6,7 +6,7 @@ use Rattle.wf_model.specs.Simplex.{values_of}
 use Rattle.wf_model.specs.Task.{Task, values}
 use Rattle.wf_model.proofs.Ascending.{ascends_from, has_in_order, in_order_ascends}
 use Rattle.wf_set.specs.Sets.{values_in}
-use Rattle.wf_set.proofs.Laws.{values_listed}
+use Rattle.wf_set.proofs.Lemmas.{values_listed}
 use Rattle.wf_task.specs.Mask.{IsMaskOf}
 use Rattle.wf_task.proofs.Drafted.{has_from_order}
 

@@ -1,15 +1,17 @@
-pub mod Filled
+-- What contracts say, here and in the crates above.
 pub mod FaultText
 pub mod Shape
 pub mod Draft
-pub mod DraftSeen
 pub mod Text
 pub mod Slots
 pub mod Judge
-pub mod Tuples
-pub mod Faultless
 pub mod Mask
 pub mod TaskSeen
-pub mod Parts
 pub mod Canonical
+-- What only this crate's own code and proofs use.
+pub mod Filled
+pub mod DraftSeen
+pub mod Tuples
+pub mod Faultless
+pub mod Parts
 pub mod Borders

@@ -8,4 +8,4 @@ pub mod Beside
 pub mod Renamed
 pub mod Collecting
 pub mod Ranked
-pub mod Laws
+pub mod Lemmas

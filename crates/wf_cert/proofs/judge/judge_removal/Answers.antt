@@ -5,7 +5,7 @@ use Rattle.wf_model.specs.Check.{removal}
 use Rattle.wf_cert.specs.Blocks.{box_now, boxes_later, boxes_left}
 use Rattle.wf_cert.specs.Faults.{Steps}
 use Rattle.wf_cert.specs.Groups.{IsGrouped}
-use Rattle.wf_complex.proofs.Laws.{known_points, rule_inside}
+use Rattle.wf_complex.proofs.Lemmas.{known_points, rule_inside}
 use Rattle.wf_cert.proofs.ExecutionLemmas.{execution_by_number}
 use Rattle.wf_cert.proofs.PlaceLemmas.{by_support, no_place, place_inside, same_support}
 use Rattle.wf_cert.proofs.judge.judge_removal.Goals as goal

@@ -2,7 +2,7 @@ use Rattle.std.proofs.Common.{◌≡◌, ◌<◌, length, get_or, Some, length-s
 use Rattle.wf_model.specs.Simplex.{values_of}
 use Rattle.wf_model.specs.View.{base, base_views}
 use Rattle.wf_simplex.specs.Entries.{value_at}
-use Rattle.wf_task.proofs.Laws.{value_there}
+use Rattle.wf_task.proofs.Lemmas.{value_there}
 use Rattle.wf_complex.proofs.RoundLemmas.{further}
 use Rattle.wf_complex.proofs.InputLemmas.{base_there, length-base_views, first_round}
 use Rattle.wf_complex.proofs.rounds.first_views.Goals as goal

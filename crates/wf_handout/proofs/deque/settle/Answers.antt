@@ -1,7 +1,7 @@
 use Rattle.std.proofs.Common.{◌≡◌, ◌+◌, ◌≤◌, ◌++◌, ◌∷◌, [], ℕ, List, length, ap, sym, ◌∙◌, refl, subst, arith, append_assoc, append-nil, cond, eqb}
 use Rattle.crossbeam_deque.specs.Handles.{view, worker_view}
 use Rattle.wf_core.specs.Count.{times, total}
-use Rattle.wf_core.proofs.Laws.{times-append, times_same}
+use Rattle.wf_core.proofs.Lemmas.{times-append, times_same}
 use Rattle.wf_handout.specs.declared.deque.Pile.{Pile}
 use Rattle.wf_handout.specs.Piles.{pile}
 use Rattle.wf_handout.proofs.Moves.{merges, nearer, fair, total_times, on_err}

@@ -3,7 +3,7 @@ use Rattle.std.specs.Prelude.{◌||◌, ◌&&◌}
 use Rattle.wf_model.specs.Lists.{has}
 use Rattle.wf_model.specs.Box.{has_at}
 use Rattle.wf_set.specs.Sets.{values_in}
-use Rattle.wf_set.proofs.Laws.{in_four}
+use Rattle.wf_set.proofs.Lemmas.{in_four}
 use Rattle.wf_lane.proofs.WideLaws.{each_set}
 use Rattle.wf_lane.proofs.wide.with_row.Goals as goal
 

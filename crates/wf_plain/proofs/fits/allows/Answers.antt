@@ -1,7 +1,7 @@
 use Rattle.std.proofs.Common.{◌<◌, length, sym, ◌∙◌, subst, All}
 use Rattle.std.proofs.lemmas.List.Elements.{All-map}
 use Rattle.wf_plain.specs.Plain.{scope_at}
-use Rattle.wf_complex.proofs.Laws.{right_there, rule_inside}
+use Rattle.wf_complex.proofs.Lemmas.{right_there, rule_inside}
 use Rattle.wf_plain.proofs.fits.allows.Goals as goal
 
 pub tuples-tuples-requires : goal.tuples-tuples-requires

@@ -1,6 +1,6 @@
 use Rattle.std.proofs.Common.{◌≡◌, ◌+◌, drop, cond, arith, sym, ap, ◌∙◌}
 use Rattle.wf_model.specs.Presets.{different}
-use Rattle.wf_task.proofs.Laws.{different-few}
+use Rattle.wf_task.proofs.Lemmas.{different-few}
 use Rattle.wf_preset.proofs.FamilyLoops.{counted_step}
 use Rattle.wf_preset.proofs.family.different.Goals as goal
 use Rattle.wf_preset.proofs.family.different.Goals.{then-not-contains, else-not-contains}

@@ -1,5 +1,5 @@
 use Rattle.std.proofs.Common.{length, sym, ◌∙◌, arith, length-set}
-use Rattle.wf_task.proofs.Laws.{get_or-lists_of}
+use Rattle.wf_task.proofs.Lemmas.{get_or-lists_of}
 use Rattle.wf_preset.proofs.FamilyLoops.{step_some, step_place, step_below, step_made, list_made}
 use Rattle.wf_preset.proofs.family.list_at.Goals as goal
 

@@ -1,5 +1,5 @@
 use Rattle.std.proofs.Common.{◌≡◌, ◌-◌, ◌^◌, ◌<◌, ◌++◌, length, take}
-use Rattle.wf_task.proofs.Laws.{list_at}
+use Rattle.wf_task.proofs.Lemmas.{list_at}
 use Rattle.wf_preset.proofs.family.list_at.Given as goal
 
 abbrev pub invariant-loop-place : goal.invariant-loop-place

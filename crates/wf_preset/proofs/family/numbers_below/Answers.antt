@@ -1,7 +1,7 @@
 use Rattle.std.proofs.Common.{◌≡◌, ◌≤◌, ◌++◌, ◌∷◌, [], sym, ap, ◌∙◌, subst, arith}
 use Rattle.wf_model.specs.Lists.{below}
 use Rattle.wf_preset.specs.Family.{AreFew}
-use Rattle.wf_task.proofs.Laws.{below_more}
+use Rattle.wf_task.proofs.Lemmas.{below_more}
 use Rattle.wf_preset.proofs.FamilyTasks.{numbers-are}
 use Rattle.wf_preset.proofs.family.numbers_below.Goals as goal
 

@@ -2,7 +2,7 @@ use Rattle.std.proofs.Common.{◌<◌, length, get_or, sym, ap, ◌∙◌, arith
 use Rattle.std.proofs.lemmas.List.{length-map}
 use Rattle.wf_model.specs.Simplex.{Vertex, values_of}
 use Rattle.wf_simplex.specs.Entries.{value_at}
-use Rattle.wf_task.proofs.Laws.{inner, value_there}
+use Rattle.wf_task.proofs.Lemmas.{inner, value_there}
 use Rattle.wf_preset.proofs.FamilyLoops.{value_more}
 use Rattle.wf_preset.proofs.family.values_of.Goals as goal
 

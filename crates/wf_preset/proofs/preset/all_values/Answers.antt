@@ -1,7 +1,7 @@
 use Rattle.std.proofs.Common.{◌^◌, ◌<◌, length, map, zip, ap, ◌∙◌, subst, arith, take_all}
 use Rattle.wf_model.specs.Lists.{lists_of}
 use Rattle.wf_model.specs.Simplex.{processes_of}
-use Rattle.wf_task.proofs.Laws.{length-lists_of}
+use Rattle.wf_task.proofs.Lemmas.{length-lists_of}
 use Rattle.wf_preset.proofs.FamilyLoops.{list_long}
 use Rattle.wf_preset.proofs.preset.all_values.Goals as goal
 

@@ -1,8 +1,8 @@
 use Rattle.std.proofs.Common.{◌≡◌, ◌<◌, ◌≤◌, ℕ, List, None, length, take, zip, sym, ap, ◌∙◌, arith, length-set, take_all}
 use Rattle.wf_model.specs.Simplex.{Simplex, processes_of}
 use Rattle.wf_simplex.specs.Reading.{read_fault}
-use Rattle.wf_simplex.proofs.Laws.{read_fault-within}
-use Rattle.wf_task.proofs.Laws.{zip_within, length-zip_processes, paired}
+use Rattle.wf_simplex.proofs.Lemmas.{read_fault-within}
+use Rattle.wf_task.proofs.Lemmas.{zip_within, length-zip_processes, paired}
 use Rattle.wf_preset.proofs.preset.with_values.Goals as goal
 
 pub loop-place-preserved : goal.loop-place-preserved

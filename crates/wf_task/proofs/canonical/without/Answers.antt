@@ -1,7 +1,7 @@
 use Rattle.std.specs.Prelude.{remove}
 use Rattle.std.proofs.Common.{◌≡◌, ◌<◌, ◌-◌, None, length, take, get_or, sym, ap, ◌∙◌, subst, arith, length-set}
 use Rattle.wf_simplex.specs.Reading.{read_fault}
-use Rattle.wf_simplex.proofs.Laws.{read_fault-within}
+use Rattle.wf_simplex.proofs.Lemmas.{read_fault-within}
 use Rattle.wf_task.proofs.CanonicalLoops.{before_below, kept_step, kept_within, kept_all}
 use Rattle.wf_task.proofs.canonical.without.Goals as goal
 

@@ -1,6 +1,6 @@
 use Rattle.std.proofs.Common.{◌≡◌, ◌<◌, length, take, None, sym, ap, ◌∙◌, arith, length-set, take_all}
 use Rattle.wf_simplex.specs.Reading.{read_fault}
-use Rattle.wf_simplex.proofs.Laws.{length-within, read_fault-within}
+use Rattle.wf_simplex.proofs.Lemmas.{length-within, read_fault-within}
 use Rattle.wf_task.proofs.Sizes.{process_below, value_below, copied}
 use Rattle.wf_task.proofs.complexes.simplex_of.Goals as goal
 

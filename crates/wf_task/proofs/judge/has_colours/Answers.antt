@@ -1,4 +1,4 @@
-use Rattle.wf_simplex.proofs.Laws.{colours_below}
+use Rattle.wf_simplex.proofs.Lemmas.{colours_below}
 use Rattle.wf_task.proofs.judge.has_colours.Goals as goal
 
 pub loop-process-init : goal.loop-process-init

@@ -1,6 +1,6 @@
 use Rattle.std.proofs.Common.{◌≡◌, drop}
 use Rattle.wf_task.specs.Judge.{has_colours}
-use Rattle.wf_simplex.proofs.Laws.{ascends_below}
+use Rattle.wf_simplex.proofs.Lemmas.{ascends_below}
 use Rattle.wf_task.proofs.judge.has_colours.Given as goal
 
 abbrev pub invariant-loop-process : goal.invariant-loop-process

@@ -1,6 +1,6 @@
 use Rattle.std.proofs.Common.{rules, ◌≡◌, ◌+◌, ◌*◌, ◌≤◌, List, [], ◌∷◌, ◌++◌, length, arith, ap, sym, ◌∙◌, refl, append-nil, length-append}
 use Rattle.std.proofs.Math.Nat.{mul-le-mul_right, add-mul}
-use Rattle.wf_core.proofs.Laws.{popped_has, popped_is, popped_length}
+use Rattle.wf_core.proofs.Lemmas.{popped_has, popped_is, popped_length}
 use Rattle.wf_board.specs.Desk.{Desk, Place, known, gathered}
 use Rattle.wf_board.specs.Rule.{Seated}
 use Rattle.wf_board.proofs.Parts.{joins}

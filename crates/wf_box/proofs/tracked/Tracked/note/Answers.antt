@@ -3,7 +3,7 @@ use Rattle.std.specs.List.{slice_set}
 use Rattle.std.proofs.lemmas.List.{get_or_read}
 use Rattle.wf_set.specs.Sets.{values_in}
 use Rattle.wf_box.specs.Changes.{IsTracked}
-use Rattle.wf_lane.proofs.Laws.{few_values}
+use Rattle.wf_lane.proofs.Lemmas.{few_values}
 use Rattle.wf_box.proofs.SweepLemmas.{count_few}
 use Rattle.wf_box.proofs.ChangeLemmas.{count_changed, one_change, room_now}
 use Rattle.wf_box.proofs.tracked.Tracked.note.Goals as goal

@@ -1,8 +1,8 @@
 use Rattle.std.proofs.Common.{◌≡◌, ◌≢◌, ℕ, ◌+◌, [], ◌∷◌, ap, ◌∙◌, arith}
 use Rattle.wf_core.specs.Count.{times}
-use Rattle.wf_core.proofs.Laws.{times_other}
+use Rattle.wf_core.proofs.Lemmas.{times_other}
 use Rattle.wf_board.specs.Desk.{Desk, settled, looked, posted, searched, is_cut}
-use Rattle.wf_board.proofs.Laws.{settled-posted, settled-searched, settled-is_cut}
+use Rattle.wf_board.proofs.Lemmas.{settled-posted, settled-searched, settled-is_cut}
 use Rattle.wf_pool_tests.proofs.tests.boards.settle.Goals as goal
 
 -- another branch is settled as often as before

@@ -1,5 +1,5 @@
 use Rattle.std.proofs.Common.{length-set}
-use Rattle.wf_handout.proofs.Laws.{all_set}
+use Rattle.wf_handout.proofs.Lemmas.{all_set}
 use Rattle.wf_pool_tests.proofs.tests.handouts.take_at.Goals as goal
 
 pub returns : goal.returns

@@ -1,7 +1,7 @@
 use Rattle.std.proofs.Common.{[], ap, sym, ◌∙◌, arith}
 use Rattle.wf_model.specs.Lists.{lists_of}
 use Rattle.wf_preset.specs.Family.{allows}
-use Rattle.wf_task.proofs.Laws.{length-lists_of}
+use Rattle.wf_task.proofs.Lemmas.{length-lists_of}
 use Rattle.wf_preset.proofs.FamilyLoops.{counted-out, counted-all}
 use Rattle.wf_preset.proofs.family.Family.count_allowed.Goals as goal
 

@@ -1,6 +1,6 @@
 use Rattle.std.proofs.Common.{◌≡◌, Some, IfSome, length, subst, sym}
 use Rattle.wf_box.specs.Boxes.{WasClosed}
-use Rattle.wf_box.proofs.Laws.{on_true, still_closed}
+use Rattle.wf_box.proofs.Lemmas.{on_true, still_closed}
 use Rattle.wf_tests.proofs.tests.closings.is_same_with.Goals as goal
 
 -- the box was closed when the mark was given, and has only changed further since
