@@ -131,7 +131,6 @@ fn executions(
         (λ executions. AreWithin rules.now (length protocol.now.points) executions.items) }
     ensures few { IfOk result (λ executions. length executions.items ≤ most_executions) }
 {
-    let _inputs = task.inputs();
     let count = protocol.executions();
     let mut executions = Vec::with_capacity(alloc, count as usize)?;
     for number in 0..count {

@@ -39,7 +39,6 @@ pub fn check<R: Threads + Sync>(
         Judges result (report_fault task.now r (report_seen report.now)) }
     ensures truth { OnOk result (HoldsOf task.now protocol.now.rounds (body_of report.now.body)) }
 {
-    let _inputs = task.inputs();
     judge_header(task, protocol, report)?;
     judge_body(rt, alloc, task, protocol, &report.body)
 }

@@ -66,7 +66,6 @@ pub(crate) fn judge_lines(
     ensures { let p = problem_of task.now protocol.now.rounds in
         Judges result (lines_fault p claim.entry first (map line_of lines.now) (root p ∷ [])) }
 {
-    let _inputs = task.inputs();
     let groups = group_rules(alloc, task)?;
     let mut blocks = Blocks::root(alloc, task.values(), protocol.points())?;
     let mut progress = Progress::Going;
@@ -235,7 +234,6 @@ fn judge_removal(
         (λ _. boxes_left true blocks.new) }
     ensures points { HasSamePoints blocks.old blocks.new }
 {
-    let _inputs = task.inputs();
     if removal.execution >= protocol.executions() {
         return Err(CertFault::NoSuch(at));
     }

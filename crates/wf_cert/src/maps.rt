@@ -47,7 +47,6 @@ fn is_right(task: &Task, protocol: &Protocol, execution: u32, values: &[u8]) -> 
     ensures { let p = problem_of task.now protocol.now.rounds in
         result ≡ satisfies values.now (constraint_at p execution) }
 {
-    let _inputs = task.inputs();
     let tuples = task.tuples(protocol.simplex_of(execution));
     has_tuple(tuples, values, protocol.points_of(execution))
 }

@@ -7,7 +7,7 @@ use Rattle.std.proofs.lemmas.List.Elements.{recursion_from_All}
 use Rattle.wf_model.specs.Lists.{distinct}
 use Rattle.wf_model.specs.Simplex.{Simplex, is_nonempty, is_ascending, processes_of}
 use Rattle.wf_model.specs.View.{View, same_view}
-use Rattle.wf_model.specs.Task.{Task, inputs, first_block, IsSimplexWithin}
+use Rattle.wf_model.specs.Task.{Task, IsTask, inputs, first_block, IsSimplexWithin}
 use Rattle.wf_simplex.proofs.Lemmas.{length-within}
 use Rattle.wf_complex.specs.declared.layout.Execution.{Execution}
 use Rattle.wf_complex.specs.declared.places.Place.{Place}
@@ -65,7 +65,7 @@ module _ (m r : ℕ) (ss : List Simplex) (few : execution_total m r ss ≤ 50000
 
 -- ---- what is built
 
-module _ (t : Task) (r : ℕ) (ss : List Simplex) (given : inputs t ≡ ss) (symmetric : Bool) (named : t.symmetric ≡ symmetric) (m : ℕ) (least : first_block t ≡ m)
+module _ (t : Task) (task : IsTask t) (r : ℕ) (ss : List Simplex) (given : inputs t ≡ ss) (symmetric : Bool) (named : t.symmetric ≡ symmetric) (m : ℕ) (least : first_block t ≡ m)
     (table : List View) (lasts : List ℕ) (made : views_at table lasts ≡ flat_map (leaves_of m r) ss)
     (es : List Execution) (laid : es ≡ laid_out m r 0 0 ss) (places : List Place) (marked : places ≡ flat_map (places_on table lasts) (enumerate_from 0 es))
     (grown : List View) (once : IsOnce grown) (cs : List ℕ) (within : All (λ k. k < length grown) cs) (classed : views_at grown cs ≡ map (class_by symmetric) (views_at table lasts))
@@ -94,6 +94,7 @@ module _ (t : Task) (r : ℕ) (ss : List Simplex) (given : inputs t ≡ ss) (sym
     scopes = scopes_seen places numbers es;
   })
   is_protocol = record {
+    task = task;
     rounds_are = refl;
     points_are = ap (points_seen grown) picked ∙ points_are t r table lasts the_lasts grown once cs within the_classes firsts first;
     views_are = counted ∙ view_count_is t r table lasts the_lasts;

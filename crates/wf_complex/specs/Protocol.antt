@@ -2,11 +2,11 @@
 use Rattle.std.specs.Prelude.{◌≡◌, ◌<◌, ◌≤◌, ℕ, List, [], ◌∷◌, map, flat_map, length, Option, None, Some, Result, Ok, Err, ◌==◌, if◌then◌else◌}
 use Rattle.std.specs.List.{enumerate_from}
 use Rattle.wf_model.specs.Limits.{most_executions, most_rounds}
-use Rattle.wf_model.specs.Task.{Task, first_block}
+use Rattle.wf_model.specs.Task.{Task, IsTask, first_block}
 use Rattle.wf_model.specs.View.{View}
 use Rattle.wf_model.specs.Execution.{executions_on, executions}
 use Rattle.wf_model.specs.Points.{points, last_view_count, first_appearances}
-use Rattle.wf_model.specs.Problem.{problem_of}
+use Rattle.wf_model.specs.Problem.{Participant, problem_of}
 use Rattle.wf_complex.specs.declared.fault.BuildFault.{BuildFault}
 use Rattle.wf_complex.specs.declared.fault.BuildFault.TheVariants.{Rounds, TooManyExecutions, OutOfMemory}
 
@@ -18,7 +18,7 @@ pub record Built : Type 0 where
   pub view_count : ℕ  -- how many different last views there are
   pub firsts : List (ℕ × ℕ)  -- for each point the execution and the process in which it appears first
   pub simplices : List ℕ  -- for each execution the number of its input simplex
-  pub scopes : List (List (ℕ × ℕ))  -- for each execution its processes, each with its point
+  pub scopes : List (List Participant)  -- those of each execution
 
 -- the number of the input simplex of each execution
 abbrev pub simplices_of : Task → ℕ → List ℕ
@@ -26,6 +26,7 @@ simplices_of t r = flat_map (λ at. map (λ e. at.0) (executions_on (first_block
 
 -- the protocol complex of this task after r rounds
 pub record IsProtocol (t : Task) (r : ℕ) (b : Built) : Type 0 where
+  pub task : IsTask t
   pub rounds_are : b.rounds ≡ r
   pub points_are : b.points ≡ points t r
   pub views_are : b.view_count ≡ last_view_count t r
@@ -36,11 +37,11 @@ pub record IsProtocol (t : Task) (r : ℕ) (b : Built) : Type 0 where
 -- what building answers: too many rounds first, then too many executions, and else the complex, unless memory ran out
 abbrev pub Builds : Task → ℕ → Result Built BuildFault → Type 0
 Builds t r (Ok b) = (r ≤ most_rounds) × (length (executions t r) ≤ most_executions) × IsProtocol t r b
-Builds t r (Err Rounds) = 8 < r
+Builds t r (Err Rounds) = most_rounds < r
 Builds t r (Err TooManyExecutions) = (r ≤ most_rounds) × (most_executions < length (executions t r))
 Builds t r (Err OutOfMemory) = (r ≤ most_rounds) × (length (executions t r) ≤ most_executions)
 
 -- the point of a process in an execution, if it takes part
-abbrev pub point_in : ℕ → List (ℕ × ℕ) → Option ℕ
+abbrev pub point_in : ℕ → List Participant → Option ℕ
 point_in c [] = None
 point_in c (at ∷ scope) = if at.0 == c then Some at.1 else point_in c scope

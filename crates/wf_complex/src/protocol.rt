@@ -175,7 +175,7 @@ fn made(
     requires rounds { rounds ≤ most_rounds }
     requires executions { execution_total m rounds inputs.now ≤ most_executions }
     requires few { length inputs.now ≤ most_inputs }
-    requires simplices { All (IsTaskSimplex) inputs.now }
+    requires simplices { All IsTaskSimplex inputs.now }
     ensures { IfOk result (IsMade inputs.now symmetric m rounds) }
 {
     let mut views = Views::start(alloc);

@@ -189,7 +189,6 @@ fn with_text(
         IsSolved protocol.now.rounds form task.now r.0 r.1.items) }
     ensures in_order { pool.IsInOrder answer account → IfOk result (λ r. IsInOrder r.0) }
 {
-    let _inputs = task.inputs();
     match answer {
         Answer::Map(values, lines) => {
             let text = report_text(alloc, task, protocol, map_body(form, values, lines))?;

@@ -18,7 +18,6 @@ pub(crate) fn ends_of(
     requires { IsProtocol task.now protocol.now.rounds protocol.now }
     ensures { IfOk result (λ ends. AreEndsIn protocol.now (map vec_items ends.items)) }
 {
-    let _inputs = task.inputs();
     let mut ends = no_ends(alloc, protocol.points())?;
     for execution in 0..protocol.executions() {
         let last = greatest(protocol.points_of(execution));

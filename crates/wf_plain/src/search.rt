@@ -47,7 +47,6 @@ fn search(task: &Task, protocol: &Protocol, ends: &[Vec<u32>], values: &mut [u8]
     ensures map { OnTrue result (IsLeastSolution (problem_on task.now protocol.now) values.new) }
     ensures none { OnFalse result (HasNoSolution (problem_on task.now protocol.now)) }
 {
-    let _inputs = task.inputs();
     let mut point = 0;
     let mut from = 0;
     while point < values.len() {
@@ -91,7 +90,6 @@ fn give_value(
         values.old point from 256) }
 {
     let all = task.values();
-    let _inputs = task.inputs();
     for value in from..VALUES {
         let value = value as u8;
         if !holds(all, value) {

@@ -10,7 +10,7 @@ use Rattle.wf_model.specs.Task.{IsTaskSimplex}
 pub record IsComplex (simplices : List Simplex) : Type 0 where
   pub ascending : IsStrictlySortedBy simplex_cmp simplices
   pub closed : complex_of simplices ≡ simplices
-  pub within : All (IsTaskSimplex) simplices
+  pub within : All IsTaskSimplex simplices
   pub countable : length simplices < 2 ^ 32
 
 -- the elements of the first list put into the second, the last first

@@ -30,7 +30,7 @@ pub(crate) fn simplex_of(pairs: &[(u64, u64)]) -> Simplex
 
 /// The faces of listed simplices that were judged.
 pub(crate) fn complex(alloc: Global, listed: &[ListedSimplex]) -> Result<Complex, AllocError>
-    requires within { All (IsTaskSimplex) (map pairs_seen listed.now) }
+    requires within { All IsTaskSimplex (map pairs_seen listed.now) }
     requires few { length listed.now ≤ most_bytes }
     ensures { IfOk result (λ c. c ≡ complex_of (map pairs_seen listed.now)) }
 {

@@ -101,14 +101,14 @@ invariant_of-result c =
     }
 
 pub returns : goal.returns
-returns c = λ t given named least.
+returns c = λ t task given named least.
     let r = c.args.rounds in
     let inputs = c.args.inputs.now in
     let first : c.in_ok-numbered.numbered.firsts.items ≡ first_places c.in_ok-ids.ids.ids.items (length c.in_ok-ids.ids.ids.items) =
     c.in_ok-numbered.ensures.firsts ∙ (λ i. first_places (c.deref-3.ensures.value i) (length (c.deref-3.ensures.value i))) in
     let found : map (λ p. slice_index c.in_ok-ids.ids.ids.items (slice_index c.in_ok-numbered.numbered.firsts.items p)) c.in_ok-numbered.numbered.places.items ≡ c.in_ok-ids.ids.ids.items =
     sym (λ i. map (λ p. slice_index (c.deref-3.ensures.value i) (slice_index c.in_ok-numbered.numbered.firsts.items p)) c.in_ok-numbered.numbered.places.items) ∙ c.in_ok-numbered.ensures.numbers ∙ c.deref-3.ensures.value in
-    is_protocol t r inputs given c.args.symmetric named c.args.m least
+    is_protocol t task r inputs given c.args.symmetric named c.args.m least
     c.last_views.new.views c.in_ok-lasts.lasts.items c.in_ok-lasts.ensures.made
     c.in_ok-executions.executions.items c.in_ok-executions.ensures c.in_ok-places.places.items
     (c.in_ok-places.ensures ∙ (λ i. flat_map (places_on c.last_views.new.views (c.deref.ensures.value i)) (enumerate_from 0 (c.deref-2.ensures.value i))))

@@ -20,7 +20,7 @@ loop-value-preserved-then-not-holds c =
       long = c.loop-value.invariant.long;
       kept = c.loop-value.invariant.kept;
       tried = λ before. next_tried (problem_of t r) ds v (c.loop-value.invariant.tried before)
-          (no_value t r ds v c.inputs-inputs.ensures.task
+          (no_value t r ds v c.requires.built.task
           (λ there. let none : ⊥ = false≢true (sym c.if-not-holds.true ∙ c.holds.ensures ∙ ap (λ vs. has vs v) c.values-all.ensures.values ∙ there) in none));
     }
 

@@ -59,7 +59,7 @@ returns-then-point-eq0-clause-none c =
     let t = c.args.task.now in
     let r = c.args.protocol.now.rounds in
     let p = problem_of t r in
-    state_none p c.loop-point.values (omega (arith, c.loop-point-test.true, c.loop-point.invariant.state.long)) (small_solutions t r c.inputs-inputs.ensures.task)
+    state_none p c.loop-point.values (omega (arith, c.loop-point-test.true, c.loop-point.invariant.state.long)) (small_solutions t r c.requires.built.task)
     (subst (λ i. IsTried p (take i c.loop-point.values ++ 256 ∷ [])) c.if-point-eq0.true (c.if-give_value.ensures.none c.loop-point.invariant.state.tried))
 
 -- going back to the point before
@@ -72,7 +72,7 @@ back c =
     let p = problem_of t r in
     let ends = map vec_items c.args.ends.now in
     state_back p ends c.loop-point.values c.give_value.new.values c.loop-point.point c.loop-point.from (ends_of_problem t r c.args.protocol.now ends c.requires.built c.requires.ends)
-    (small_solutions t r c.inputs-inputs.ensures.task) c.loop-point.invariant.state c.if-point-eq0.false (omega (arith, c.loop-point-test.true, c.loop-point.invariant.state.long))
+    (small_solutions t r c.requires.built.task) c.loop-point.invariant.state c.if-point-eq0.false (omega (arith, c.loop-point-test.true, c.loop-point.invariant.state.long))
     c.if-give_value.ensures.long c.if-give_value.ensures.kept (c.if-give_value.ensures.none c.loop-point.invariant.state.tried)
 
 pub overflow_add-from : goal.overflow_add-from

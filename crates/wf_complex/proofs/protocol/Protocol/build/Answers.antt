@@ -34,5 +34,5 @@ returns c =
     let long = length-executions t c.args.rounds ∙ sym (λ i. execution_total (c.first_block-m.ensures.first_block i) c.args.rounds ((c.simplices-inputs.ensures.simplices ∙ c.inputs.ensures.inputs) i)) in (
       omega arith,
       omega (arith, long, c.execution_count.ensures.count),
-      c.in_ok-made.ensures t (sym (c.simplices-inputs.ensures.simplices ∙ c.inputs.ensures.inputs)) (sym c.symmetric.ensures) (sym c.first_block-m.ensures.first_block),
+      c.in_ok-made.ensures t c.inputs.ensures.task (sym (c.simplices-inputs.ensures.simplices ∙ c.inputs.ensures.inputs)) (sym c.symmetric.ensures) (sym c.first_block-m.ensures.first_block),
     )
