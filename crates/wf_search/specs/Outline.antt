@@ -1,6 +1,7 @@
 -- The outline of a problem, as the code keeps it.
 use Rattle.std.specs.Prelude.{◌≡◌, ◌&&◌, ℕ, nat_lt, Bool, List, [], ◌∷◌, ◌++◌, map, length, flat_map, Vec, Some, None}
 use Rattle.std.specs.List.{AllByRecursion, list_any}
+use Rattle.wf_model.specs.Limits.{enough_boxes}
 use Rattle.wf_model.specs.Problem.{Problem}
 use Rattle.wf_model.specs.Box.{Box, branches_at, first_empty}
 use Rattle.wf_model.specs.Closing.{sweep}
@@ -44,7 +45,7 @@ AreJustClosed o = AllByRecursion (λ (s : Slot). IsJustClosed s.boxed) o.slots.i
 
 -- whether a further level is opened
 abbrev pub is_to_open : List Item → Bool
-is_to_open items = nat_lt (length (boxes_left_out items)) 64 && list_any is_open (boxes_left_out items)
+is_to_open items = nat_lt (length (boxes_left_out items)) enough_boxes && list_any is_open (boxes_left_out items)
 
 -- the closed branches of a box at a point
 abbrev pub branches_closed : Problem → Box → ℕ → List Item

@@ -11,6 +11,9 @@ use std::marker::Model;
 use wf_box::{Box0, Problem};
 use wf_complex::Lines;
 
+/// How often each box is branched at most.
+const MOST_LEVELS: u32 = 8;
+
 /// The branches of a problem's root, numbered from 0, and the lines that were written while the root was cut into them.
 ///
 /// Each branch is a closed box with a candidate at every point. Each decision map in the root lies in one branch, and
@@ -100,7 +103,7 @@ pub fn split(alloc: Global, problem: &Problem) -> Result<Cover, AllocError>
 {
     let _points = problem.points();
     let mut outline = Outline::of_root(alloc, problem)?;
-    let mut levels: u32 = 8;
+    let mut levels: u32 = MOST_LEVELS;
     'levels: while levels > 0 && outline.is_to_open() {
         outline = outline.opened(alloc, problem)?;
         levels -= 1;

@@ -19,6 +19,9 @@ use wf_box::{Box0, Closed, Problem, Snapshot, close};
 use wf_complex::{Line, Lines};
 use wf_set::split_first;
 
+/// Boxes that are enough to share out.
+const ENOUGH_BOXES: usize = 64;
+
 /// A box in the place of the lines that refute it, and the lines that come before.
 #[derive(Drop)]
 struct Slot {
@@ -91,7 +94,7 @@ impl Outline {
     pub(crate) fn is_to_open(&self) -> bool
         ensures { result ≡ is_to_open self.now }
     {
-        self.slots.len() < 64 && has_open(&self.slots)
+        self.slots.len() < ENOUGH_BOXES && has_open(&self.slots)
     }
 
     /// The lines with those of the lists in the places of the boxes.
