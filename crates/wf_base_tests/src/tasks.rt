@@ -1,12 +1,8 @@
 //! Rows, tasks, and how refusals are printed. Which texts are refused: checks/texts has the program read them.
 
 use std::test::Fail;
+use wf_examples::PATH_3;
 use wf_task::{Key, Limit, Row, Task, TaskFault};
-
-/// Two processes that begin with 0. Alone, process 0 decides 0 and process 1 decides 3; together they decide
-/// values of 0 to 3 that differ by at most 1.
-pub const PATH_3: &str =
-    r#"{"version":1,"processes":2,"symmetric":false,"inputs":[[[0,0],[1,0]]],"outputs":[[[0,0],[1,0]],[[0,0],[1,1]],[[0,1],[1,0]],[[0,1],[1,1]],[[0,1],[1,2]],[[0,2],[1,1]],[[0,2],[1,2]],[[0,2],[1,3]],[[0,3],[1,2]],[[0,3],[1,3]]],"delta":[{"in":[[0,0]],"out":[[0]]},{"in":[[1,0]],"out":[[3]]},{"in":[[0,0],[1,0]],"out":[[0,0],[0,1],[1,0],[1,1],[1,2],[2,1],[2,2],[2,3],[3,2],[3,3]]}]}"#;
 
 #[test]
 fn rows_are_their_values(rt: HostRuntime) {

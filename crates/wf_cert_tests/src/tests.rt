@@ -10,6 +10,7 @@ use wf_cert::{
     reports_are_written_as_read, write_report,
 };
 use wf_complex::{Line, Lines, Protocol};
+use wf_examples::PATH_3;
 use wf_oracle::{Problem, problem_of};
 use wf_task::Task;
 
@@ -25,7 +26,6 @@ use changes::{CHANGES, Change, changed, line_count};
 use full::{Full, LARGE, SMALL};
 use plain::plain_task;
 use rows::ROWS;
-use tasks::PATH_3;
 
 /// A full report's text.
 const PATH_3_REPORT: &str =

@@ -4,7 +4,6 @@ mod ends;
 mod engines;
 mod failing;
 mod rows;
-mod tasks;
 mod texts;
 mod watched;
 mod words;

@@ -1,19 +1,16 @@
 use std::test::Fail;
 
-mod boxes;
 mod closings;
 mod complexes;
-mod lanes;
 mod maps;
 mod plain;
 mod plain_closing;
 mod plain_search;
 mod searches;
-mod tables;
 mod tasks;
 
 use complexes::{Inputs, OWN, ZERO};
-use tasks::{
+use wf_examples::{
     AGREEMENT_2_2, AGREEMENT_3_2, AGREEMENT_3_3, ALL_ZERO_3, CONSENSUS_2, CONSENSUS_2_BINARY,
     ONE_PROCESS, ONE_WITHOUT_OUTPUT, ONE_WITHOUT_TUPLE, OWN_4, PATH_2, PATH_3, RENAMING_2_2,
     RENAMING_2_3, RENAMING_3_5, SYMMETRIC_4, SYMMETRIC_201, SYMMETRIC_GAP,

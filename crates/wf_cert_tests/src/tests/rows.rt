@@ -1,6 +1,5 @@
+use wf_examples::{CONSENSUS_2, PATH_2, PATH_3, RENAMING_2_2};
 //! Reports about small tasks, and what is answered about each.
-
-use super::tasks::{CONSENSUS_2, PATH_2, PATH_3, RENAMING_2_2};
 
 /// A report about a task, and what is answered: that it is accepted, or the refusal.
 #[derive(Clone, Copy)]

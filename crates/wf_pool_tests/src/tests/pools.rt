@@ -2,7 +2,7 @@ ghost use Rattle.std.specs.Prelude.{◌<◌, ◌≤◌};
 
 // Whole problems, by one worker and by several.
 use super::holds::{Barred, Hold, Rule};
-use super::tasks::{AGREEMENT_3_2, CONSENSUS_2, PATH_2, problem_of};
+use super::tasks::problem_of;
 use std::alloc::Global;
 use std::process::Abort;
 use std::test::Fail;
@@ -10,6 +10,7 @@ use std::thread::Threads;
 use wf_box::Problem;
 use wf_complex::Line;
 use wf_core::Account;
+use wf_examples::{AGREEMENT_3_2, CONSENSUS_2, PATH_2};
 use wf_handout::{Counter, Handout, Stealing};
 use wf_pool::{Answer, MAX_WORKERS, MapLines, Open, solve, solve_one};
 

@@ -1,12 +1,12 @@
 //! The command `verify`: each row writes, tells and answers what it is to, byte for byte.
 
 use super::ends::{Drip, Narrow, Shelf};
-use super::tasks::{PATH_3, RENAMING_2_2};
 use super::words::split;
 use std::alloc::{AllocError, Global};
 use std::process::Abort;
 use std::test::Fail;
 use std::thread::Threads;
+use wf_examples::{PATH_3, RENAMING_2_2};
 use wf_io::{Sink, Source};
 use wf_pool::Open;
 use wf_program::run_program;

@@ -2,16 +2,16 @@
 
 use super::ends::{Drip, EMPTY, Full, Narrow};
 use super::rows::{BEGINNINGS, DONE, Row};
-use super::tasks::{ONE_PROCESS, RENAMING_2_2};
 use super::words::split;
 use std::alloc::{AllocError, Global};
 use std::process::Abort;
 use std::test::Fail;
 use std::thread::Threads;
+use wf_args::WordsFault;
+use wf_examples::{ONE_PROCESS, RENAMING_2_2};
 use wf_io::{Sink, Source};
 use wf_pool::Open;
 use wf_program::run_program;
-use wf_args::WordsFault;
 
 /// What a run wrote and answered.
 #[derive(Drop)]

@@ -3,7 +3,6 @@
 ghost use Rattle.wf_io.specs.Ends.{CanCount};
 
 use super::ends::LineFeeds;
-use super::tasks::PATH_2;
 use std::alloc::Global;
 use std::io::{Read, Write};
 use std::test::Fail;
@@ -11,6 +10,7 @@ use std::thread::Threads;
 use wf_complex::BuildFault;
 use wf_core::Account;
 use wf_engine::{Form, Outcome, RunFault, run_solve, run_solve_one, run_verify, run_views};
+use wf_examples::PATH_2;
 use wf_io::{Sink, Source};
 use wf_task::TaskFault;
 

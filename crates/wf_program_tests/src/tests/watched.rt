@@ -1,11 +1,11 @@
 //! A gate is told of a search by several workers where the words ask for progress.
 
 use super::ends::EMPTY;
-use super::tasks::PATH_2;
 use super::words::split;
 use std::sync::atomic::AtomicU64;
 use std::sync::atomic::Ordering::SeqCst;
 use std::test::Fail;
+use wf_examples::PATH_2;
 use wf_io::{Sink, Source};
 use wf_pool::{Gate, Moment};
 use wf_program::run_program;

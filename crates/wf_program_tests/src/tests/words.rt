@@ -2,8 +2,8 @@
 
 use std::alloc::{AllocError, Global};
 use std::test::Fail;
-use wf_engine::{Inputs, Preset};
 use wf_args::{Job, WordsFault, read_words};
+use wf_engine::{Inputs, Preset};
 
 /// The words of a line, which are parted by one space.
 pub fn split(alloc: Global, line: &str) -> Result<Vec<String>, AllocError> {

@@ -1,10 +1,10 @@
 use Rattle.std.proofs.Common.{◌≡◌, ◌≤◌, length}
 use Rattle.std.specs.List.{All}
-use Rattle.wf_tests.proofs.tests.tables.pairs.Given as goal
+use Rattle.wf_search_tests.proofs.tests.tables.arrangements.Given as goal
 
 abbrev pub invariant-loop-code : goal.invariant-loop-code
 invariant-loop-code l =
     record {
-      long : All (λ row. length row ≡ 2) l.rows.items;
+      long : All (λ row. length row ≡ 4) l.rows.items;
       few : length l.rows.items ≤ l.code;
     }

@@ -3,12 +3,12 @@
 ghost use Rattle.std.specs.Prelude.{◌<◌, OnOk};
 ghost use Rattle.wf_box.specs.Boxes.{IsFor};
 
-use super::closings::with_value;
-use super::tasks::{CONSENSUS_2, ONE_WITHOUT_OUTPUT, PATH_2, SYMMETRIC_201, problem_of};
+use super::tasks::problem_of;
 use std::alloc::{AllocError, Global};
 use std::test::Fail;
 use wf_box::{Box0, Closed, Problem, close};
 use wf_complex::{Line, Lines};
+use wf_examples::{CONSENSUS_2, ONE_WITHOUT_OUTPUT, PATH_2, SYMMETRIC_201};
 use wf_set::{first_part, holds};
 
 /// The candidates of each point, a bit for each value, of which all are below 64.
@@ -110,12 +110,11 @@ fn try_value(
     requires boxed { IsFor problem.now boxed.now }
     requires value { value < 64 }
 {
-    if boxed.points() <= 3 {
+    if boxed.points() <= 3 || !holds(boxed.candidates(2), value) {
         return Ok(None);
     }
-    let Some(mut tried) = with_value(alloc, boxed, 2, value)? else {
-        return Ok(None);
-    };
+    let mut tried = boxed.copy(alloc)?;
+    tried.set(2, value);
     let mut lines: Lines = Vec::new(alloc);
     match close(alloc, problem, &mut tried, &mut lines)? {
         Closed::Open { sweeps } if tried.points() > 3 => {

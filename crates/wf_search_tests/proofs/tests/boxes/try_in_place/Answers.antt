@@ -1,7 +1,7 @@
 use Rattle.std.proofs.Common.{◌≡◌, Some, IfSome, length, subst, sym}
 use Rattle.wf_box.specs.Boxes.{WasClosed}
 use Rattle.wf_box.proofs.Lemmas.{on_true, still_closed}
-use Rattle.wf_tests.proofs.tests.boxes.try_in_place.Goals as goal
+use Rattle.wf_search_tests.proofs.tests.boxes.try_in_place.Goals as goal
 
 -- the box was closed when the mark was given, and has only changed further since
 pub returns-in-Open : goal.returns-in-Open

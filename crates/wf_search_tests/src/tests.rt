@@ -1,0 +1,5 @@
+mod boxes;
+mod lanes;
+mod searches;
+mod tables;
+mod tasks;
