@@ -27,7 +27,8 @@ impl Model for Board {
 
     ghost view = { λ b. place b.table.shared.table_id b.branches b.workers };
 
-    ghost invariant = { λ b. (b.table.shared.table_id.words ≡ 3) × (b.table.shared.table_id.slots ≡ 0)
+    ghost invariant = { λ b.
+        (b.table.shared.table_id.words ≡ 3) × (b.table.shared.table_id.slots ≡ 0)
         × (b.table.shared.key.branches ≡ b.branches) × (b.table.shared.key.workers ≡ b.workers)
         × (b.branches * b.workers < 2 ^ 32) × (0 < b.workers) };
 }
@@ -47,7 +48,8 @@ pub struct BoardSeat {
 impl Model for BoardSeat {
     ghost Value = { Desk };
 
-    ghost view = { λ s. desk s.seat.table_id s.branches s.seen s.seat.me.0.posted s.seat.me.0.refuted s.seat.me.0.cut };
+    ghost view = { λ s. desk s.seat.table_id s.branches s.seen
+        s.seat.me.0.posted s.seat.me.0.refuted s.seat.me.0.cut };
 
     ghost invariant = { λ s. Sits s.seen s.posts s.branches s.seat.me };
 }

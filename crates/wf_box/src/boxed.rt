@@ -133,7 +133,8 @@ impl Box0 {
         ensures sets { self.new.sets ≡ box_after mark.changes self.old }
         ensures trail { self.new.trail ≡ take mark.changes self.old.trail }
         ensures closed { self.new.closed ≡ closed_if mark.is_closed mark.changes }
-        ensures is { (p : Problem) → IsFor p self.old → OnTrue mark.is_closed (WasClosed p self.old mark.changes) → IsFor p self.new }
+        ensures is { (p : Problem) → IsFor p self.old
+            → OnTrue mark.is_closed (WasClosed p self.old mark.changes) → IsFor p self.new }
     {
         self.tracked.undo(mark.changes as usize);
         self.closed = if mark.is_closed {

@@ -47,7 +47,8 @@ fn verify_sources<T: Threads + Sync, R: Read, C: Read>(
 ) -> Result<(Outcome, Vec<u8>), RunFault>
     requires task { CanRead task_source.old }
     requires cert { CanRead cert_source.old }
-    ensures { Checks task_source.old task_source.new cert_source.old cert_source.new (answered result) }
+    ensures { Checks task_source.old task_source.new cert_source.old cert_source.new
+        (answered result) }
 {
     let task = read_task(alloc, task_source)?;
     let report = read_cert(alloc, cert_source)?;

@@ -72,7 +72,8 @@ pub struct Owner {
 impl Model for Owner {
     ghost Value = { Part };
 
-    ghost view = { λ o. part (worker_deque o.deque) (worker_view o.deque).dealt (worker_view o.deque).taken };
+    ghost view = { λ o.
+        part (worker_deque o.deque) (worker_view o.deque).dealt (worker_view o.deque).taken };
 
     ghost invariant = { λ o. (worker_flavor o.deque ≡ 0) × ((worker_view o.deque).parts ≡ 1) };
 }
@@ -88,9 +89,11 @@ pub struct Raider {
 impl Model for Raider {
     ghost Value = { Part };
 
-    ghost view = { λ r. part (r.pass.rows, r.pass.heap) (pass_view r.pass).dealt (pass_view r.pass).taken };
+    ghost view = { λ r.
+        part (r.pass.rows, r.pass.heap) (pass_view r.pass).dealt (pass_view r.pass).taken };
 
-    ghost invariant = { λ r. (r.pass.me.hand ≡ None) × (r.pass.me.spare ≡ None) × ((pass_view r.pass).parts ≡ 1) };
+    ghost invariant = { λ r. (r.pass.me.hand ≡ None) × (r.pass.me.spare ≡ None)
+        × ((pass_view r.pass).parts ≡ 1) };
 }
 
 /// The front of a deque, as other threads reach it.

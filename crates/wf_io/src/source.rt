@@ -26,7 +26,11 @@ impl<R: Read> Model for Source<R> {
 
     ghost Value = { Reading };
 
-    ghost view = { λ s. record { left = R.remaining s.reader; failures = s.failures; taken = s.taken } };
+    ghost view = { λ s. record {
+      left = R.remaining s.reader;
+      failures = s.failures;
+      taken = s.taken;
+    } };
 }
 
 impl<R: Read> Source<R> {

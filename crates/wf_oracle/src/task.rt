@@ -41,7 +41,13 @@ impl Model for Task {
 
     ghost Value = { TaskOfModel };
 
-    ghost view = { λ t. record { processes = t.processes; symmetric = t.symmetric; restriction = t.restriction; delta = t.delta.items; outputs = map vec_items t.outputs.items } };
+    ghost view = { λ t. record {
+      processes = t.processes;
+      symmetric = t.symmetric;
+      restriction = t.restriction;
+      delta = t.delta.items;
+      outputs = map vec_items t.outputs.items;
+    } };
 }
 
 impl Task {

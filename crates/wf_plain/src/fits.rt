@@ -28,7 +28,8 @@ pub(crate) fn fits(task: &Task, protocol: &Protocol, executions: &[u32], values:
 fn allows(task: &Task, protocol: &Protocol, execution: u32, values: &[u8]) -> bool
     requires built { IsProtocol task.now protocol.now.rounds protocol.now }
     requires valued { LiesBelow protocol.now.scopes (length values.now) execution }
-    ensures { result ≡ satisfies values.now (constraint_at (problem_on task.now protocol.now) execution) }
+    ensures { result ≡ satisfies values.now
+        (constraint_at (problem_on task.now protocol.now) execution) }
 {
     let tuples = task.tuples(protocol.simplex_of(execution));
     has_tuple(tuples, values, protocol.points_of(execution))

@@ -41,7 +41,8 @@ impl<'a, G: Gate> Stop for Watch<'a, G> {
 
     ghost use Rattle.std.proofs.Common.{◌∙◌};
 
-    ghost transitive = { λ u v w first next. (next.0 ∙ first.0, looked_on u.seat v.seat w.seat first.1 next.1) };
+    ghost transitive = { λ u v w first next.
+        (next.0 ∙ first.0, looked_on u.seat v.seat w.seat first.1 next.1) };
 }
 
 /// Settles a branch that the worker has taken.

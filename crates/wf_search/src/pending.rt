@@ -62,7 +62,8 @@ impl<'a> Pending<'a> {
 
     /// Closes the first box.
     pub(crate) fn close(&mut self, alloc: Global, lines: &mut Lines) -> Result<Closed, AllocError>
-        ensures lines { OnOk result (Adds lines.old.items lines.new.items (closed_first self.old).lines) }
+        ensures lines { OnOk result
+            (Adds lines.old.items lines.new.items (closed_first self.old).lines) }
         ensures leaves { IfOk result (Leaves (closed_first self.old).left (first self.new.boxes)) }
         ensures others { OnOk result (others self.new.boxes ≡ others self.old.boxes) }
         ensures problem { self.new.problem ≡ self.old.problem }
@@ -83,7 +84,8 @@ impl<'a> Pending<'a> {
     /// The least candidate of each point of the first box.
     pub(crate) fn least_values(&self, alloc: Global) -> Result<Vec<u8>, AllocError>
         requires filled { first_empty (first self.now.boxes) ≡ None }
-        ensures values { IfOk result (λ values. values.items ≡ least_values (first self.now.boxes)) }
+        ensures values { IfOk result (λ values.
+            values.items ≡ least_values (first self.now.boxes)) }
     {
         self.current.least_values(alloc)
     }

@@ -126,7 +126,9 @@ impl Model for Word {
 
     ghost inverse = { λ w. record { size = size_of w; index = index_of w } };
 
-    ghost inverse_ok = { λ w h. ap₂ (λ n k. record { size = n; index = k }) (length-word_at w.size w.index h) (index_of-word_at w.size w.index h) };
+    ghost inverse_ok = { λ w h.
+        ap₂ (λ n k. record { size = n; index = k })
+        (length-word_at w.size w.index h) (index_of-word_at w.size w.index h) };
 }
 
 impl Word {

@@ -32,7 +32,7 @@ pub static CHANGES: [Change; 9] = [
 ];
 
 /// How many lines a text has.
-pub fn line_count(text: &str) -> usize {
+pub(crate) fn line_count(text: &str) -> usize {
     text.split_inclusive('\n').count()
 }
 
@@ -42,7 +42,12 @@ fn line_at(text: &str, number: usize) -> &str {
 }
 
 /// The text with one line changed, the first of which is line 0.
-pub fn changed(alloc: Global, text: &str, at: usize, change: Change) -> Result<String, AllocError> {
+pub(crate) fn changed(
+    alloc: Global,
+    text: &str,
+    at: usize,
+    change: Change,
+) -> Result<String, AllocError> {
     let mut made = String::new(alloc);
     let next = at.saturating_add(1);
     let is_swapped = matches!(change, Change::Swapped);

@@ -10,7 +10,7 @@ use wf_oracle::{Constraint, Problem};
 type Sets = Vec<Vec<usize>>;
 
 /// Judges a report about a problem, which belongs to a task of so many processes after so many rounds.
-pub fn check(
+pub(crate) fn check(
     alloc: Global,
     processes: u32,
     rounds: u32,

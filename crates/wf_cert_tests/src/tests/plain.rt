@@ -6,7 +6,7 @@ use wf_simplex::Simplex;
 use wf_task::{Row, Task};
 
 /// The same task for the slow program.
-pub fn plain_task(alloc: Global, task: &Task) -> Result<PlainTask, AllocError> {
+pub(crate) fn plain_task(alloc: Global, task: &Task) -> Result<PlainTask, AllocError> {
     let inputs = task.inputs().simplices();
     let mut rules = Vec::new(alloc);
     for place in 0..inputs.len() {

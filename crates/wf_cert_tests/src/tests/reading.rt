@@ -41,7 +41,7 @@ pub enum Step {
 const NAMES: [&str; 4] = ["processes", "rounds", "points", "executions"];
 
 /// The report of a text.
-pub fn read(alloc: Global, text: &str) -> Result<Report, CertFault> {
+pub(crate) fn read(alloc: Global, text: &str) -> Result<Report, CertFault> {
     // line k stands at place k, and what stands behind the last line feed is no line
     let mut lines: Vec<&str> = Vec::new(alloc);
     put(&mut lines, "")?;
@@ -173,7 +173,7 @@ fn number_of(alloc: Global, word: &str, most: u32) -> Result<Option<u32>, AllocE
 }
 
 /// Adds one more.
-pub fn put<T: Drop>(list: &mut Vec<T>, one: T) -> Result<(), AllocError> {
+pub(crate) fn put<T: Drop>(list: &mut Vec<T>, one: T) -> Result<(), AllocError> {
     list.push(one)?;
     Ok(())
 }

@@ -17,7 +17,8 @@ const BRANCHES: u32 = 64;
 fn next_seat(board: &Board, seats: &mut Vec<BoardSeat>) -> BoardSeat
     requires { (0 < length seats.old.items) × All (λ d. d ≡ fresh_desk board.now) seats.old.items }
     ensures seat { result ≡ fresh_desk board.now }
-    ensures rest { (length seats.new.items + 1 ≡ length seats.old.items) × All (λ d. d ≡ fresh_desk board.now) seats.new.items }
+    ensures rest { (length seats.new.items + 1 ≡ length seats.old.items)
+        × All (λ d. d ≡ fresh_desk board.now) seats.new.items }
 {
     seats.pop().unwrap()
 }
@@ -29,7 +30,8 @@ fn account_of(
     first: BoardSeat,
     second: BoardSeat,
 ) -> Result<Account, AllocError>
-    requires { (board.workers ≡ 2) × (first.table ≡ board.table) × (first.branches ≡ board.branches) × (second.table ≡ board.table) × (second.branches ≡ board.branches) }
+    requires { (board.workers ≡ 2) × (first.table ≡ board.table) × (first.branches ≡ board.branches)
+        × (second.table ≡ board.table) × (second.branches ≡ board.branches) }
 {
     let mut seats = Vec::new(alloc);
     seats.push(first)?;
@@ -112,7 +114,8 @@ fn settle(board: &Board, seat: &mut BoardSeat, branch: u32, plan: Plan) -> Statu
     requires board { (seat.old.table ≡ board.now.table) × (seat.old.branches ≡ board.now.branches) }
     requires branch { (branch < board.now.branches) × (times branch (settled seat.old) ≡ 0) }
     ensures seat { (seat.new.table ≡ seat.old.table) × (seat.new.branches ≡ seat.old.branches) }
-    ensures settled { (x : ℕ) → ¬ (x ≡ branch) → times x (settled seat.new) ≡ times x (settled seat.old) }
+    ensures settled { (x : ℕ) → ¬ (x ≡ branch)
+        → times x (settled seat.new) ≡ times x (settled seat.old) }
     ensures status { ¬ (result ≡ Free) }
 {
     if matches!(plan, Plan::Post) {
@@ -133,7 +136,8 @@ fn settle(board: &Board, seat: &mut BoardSeat, branch: u32, plan: Plan) -> Statu
 
 // Settles every fourth branch, in scattered order.
 fn work(board: &Board, job: Job) -> Worked
-    requires { (board.now.branches ≡ BRANCHES) × (job.worker < 4) × (job.seat ≡ fresh_desk board.now) }
+    requires { (board.now.branches ≡ BRANCHES) × (job.worker < 4)
+        × (job.seat ≡ fresh_desk board.now) }
     ensures { (result.seat.table ≡ board.now.table) × (result.seat.branches ≡ board.now.branches) }
 {
     let Job {
@@ -156,8 +160,10 @@ fn two<R: Threads + Sync>(rt: &R, board: &Board, first: Job, second: Job) -> (Wo
     requires board { board.now.branches ≡ BRANCHES }
     requires first { (first.worker < 4) × (first.seat ≡ fresh_desk board.now) }
     requires second { (second.worker < 4) × (second.seat ≡ fresh_desk board.now) }
-    ensures first { (result.0.seat.table ≡ board.now.table) × (result.0.seat.branches ≡ board.now.branches) }
-    ensures second { (result.1.seat.table ≡ board.now.table) × (result.1.seat.branches ≡ board.now.branches) }
+    ensures first { (result.0.seat.table ≡ board.now.table)
+        × (result.0.seat.branches ≡ board.now.branches) }
+    ensures second { (result.1.seat.table ≡ board.now.table)
+        × (result.1.seat.branches ≡ board.now.branches) }
 {
     join(rt, move || work(board, first), move || work(board, second))
 }
@@ -176,20 +182,34 @@ fn four<R: Threads + Sync>(
     requires second { (second.worker < 4) × (second.seat ≡ fresh_desk board.now) }
     requires third { (third.worker < 4) × (third.seat ≡ fresh_desk board.now) }
     requires fourth { (fourth.worker < 4) × (fourth.seat ≡ fresh_desk board.now) }
-    ensures first { (result.0.0.seat.table ≡ board.now.table) × (result.0.0.seat.branches ≡ board.now.branches) }
-    ensures second { (result.0.1.seat.table ≡ board.now.table) × (result.0.1.seat.branches ≡ board.now.branches) }
-    ensures third { (result.1.0.seat.table ≡ board.now.table) × (result.1.0.seat.branches ≡ board.now.branches) }
-    ensures fourth { (result.1.1.seat.table ≡ board.now.table) × (result.1.1.seat.branches ≡ board.now.branches) }
+    ensures first { (result.0.0.seat.table ≡ board.now.table)
+        × (result.0.0.seat.branches ≡ board.now.branches) }
+    ensures second { (result.0.1.seat.table ≡ board.now.table)
+        × (result.0.1.seat.branches ≡ board.now.branches) }
+    ensures third { (result.1.0.seat.table ≡ board.now.table)
+        × (result.1.0.seat.branches ≡ board.now.branches) }
+    ensures fourth { (result.1.1.seat.table ≡ board.now.table)
+        × (result.1.1.seat.branches ≡ board.now.branches) }
 {
     join(
         rt,
         move || -> (Worked, Worked)
-            requires { IsSync R.row × (board.now.branches ≡ BRANCHES) × (first.worker < 4) × (first.seat ≡ fresh_desk board.now) × (second.worker < 4) × (second.seat ≡ fresh_desk board.now) }
-            ensures { (result.0.seat.table ≡ board.entry.now.table) × (result.0.seat.branches ≡ board.entry.now.branches) × (result.1.seat.table ≡ board.entry.now.table) × (result.1.seat.branches ≡ board.entry.now.branches) }
+            requires { IsSync R.row × (board.now.branches ≡ BRANCHES) × (first.worker < 4)
+                × (first.seat ≡ fresh_desk board.now) × (second.worker < 4)
+                × (second.seat ≡ fresh_desk board.now) }
+            ensures { (result.0.seat.table ≡ board.entry.now.table)
+                × (result.0.seat.branches ≡ board.entry.now.branches)
+                × (result.1.seat.table ≡ board.entry.now.table)
+                × (result.1.seat.branches ≡ board.entry.now.branches) }
         { two(rt, board, first, second) },
         move || -> (Worked, Worked)
-            requires { IsSync R.row × (board.now.branches ≡ BRANCHES) × (third.worker < 4) × (third.seat ≡ fresh_desk board.now) × (fourth.worker < 4) × (fourth.seat ≡ fresh_desk board.now) }
-            ensures { (result.0.seat.table ≡ board.entry.now.table) × (result.0.seat.branches ≡ board.entry.now.branches) × (result.1.seat.table ≡ board.entry.now.table) × (result.1.seat.branches ≡ board.entry.now.branches) }
+            requires { IsSync R.row × (board.now.branches ≡ BRANCHES) × (third.worker < 4)
+                × (third.seat ≡ fresh_desk board.now) × (fourth.worker < 4)
+                × (fourth.seat ≡ fresh_desk board.now) }
+            ensures { (result.0.seat.table ≡ board.entry.now.table)
+                × (result.0.seat.branches ≡ board.entry.now.branches)
+                × (result.1.seat.table ≡ board.entry.now.table)
+                × (result.1.seat.branches ≡ board.entry.now.branches) }
         { two(rt, board, third, fourth) },
     )
 }

@@ -15,7 +15,8 @@ fn dealt<H: Handout>(
     workers: u32,
 ) -> Result<(H, Vec<H::Share>), AllocError>
     requires { (0 < workers) × (branches * workers < 2 ^ 32) }
-    ensures { IfOk result (λ d. (length d.1.items ≡ workers) × (length d.1.items ≡ H.worker_count d.0) × AllAt (H.fits d.0) d.1.items) }
+    ensures { IfOk result (λ d. (length d.1.items ≡ workers)
+        × (length d.1.items ≡ H.worker_count d.0) × AllAt (H.fits d.0) d.1.items) }
 {
     let (handout, shares) = H::deal(alloc, branches, workers)?;
     Ok((handout, shares))
@@ -24,7 +25,8 @@ fn dealt<H: Handout>(
 // A take by one of several shares.
 fn take_at<H: Handout>(handout: &H, shares: &mut Vec<H::Share>, who: usize) -> Option<u32>
     requires { (who < length shares.old.items) × AllAt (H.fits handout.now) shares.old.items }
-    ensures shares { (length shares.new.items ≡ length shares.old.items) × AllAt (H.fits handout.now) shares.new.items }
+    ensures shares { (length shares.new.items ≡ length shares.old.items)
+        × AllAt (H.fits handout.now) shares.new.items }
 {
     handout.take(&mut shares[who])
 }

@@ -14,7 +14,7 @@ use wf_examples::PATH_2;
 use wf_io::{Sink, Source};
 use wf_task::TaskFault;
 
-pub const ONE: &str =
+pub(crate) const ONE: &str =
     r#"{"version":1,"processes":1,"symmetric":false,"inputs":[[[0,0]]],"outputs":[[[0,5]]],"delta":[{"in":[[0,0]],"out":[[5]]}]}"#;
 
 const REPORT: &str =
@@ -64,7 +64,7 @@ impl Engine {
     }
 }
 
-pub const ENGINES: [Engine; 3] = [Engine::Solve, Engine::Share, Engine::Views];
+pub(crate) const ENGINES: [Engine; 3] = [Engine::Solve, Engine::Share, Engine::Views];
 
 #[test]
 fn a_task_is_answered(rt: HostRuntime) -> Result<(), Fail> {

@@ -6,7 +6,7 @@ use wf_args::{Job, WordsFault, read_words};
 use wf_engine::{Inputs, Preset};
 
 /// The words of a line, which are parted by one space.
-pub fn split(alloc: Global, line: &str) -> Result<Vec<String>, AllocError> {
+pub(crate) fn split(alloc: Global, line: &str) -> Result<Vec<String>, AllocError> {
     let mut words = Vec::new(alloc);
     for word in line.split(' ') {
         words.push(String::from_str(alloc, word)?)?;

@@ -21,7 +21,7 @@ fn candidates_of(alloc: Global, boxed: &Box0) -> Result<Vec<u64>, AllocError> {
 }
 
 /// The line of a value that is lost.
-pub fn lost(execution: u32, process: u8, value: u8) -> Line {
+pub(crate) fn lost(execution: u32, process: u8, value: u8) -> Line {
     Line::P {
         execution,
         process,

@@ -19,7 +19,7 @@ use wf_oracle::Problem as PlainProblem;
 use wf_set::{Mask, count, holds};
 
 /// What differs first between the closings of a task, up to this many rounds.
-pub fn first_difference(
+pub(crate) fn first_difference(
     alloc: Global,
     text: &str,
     most: u32,
@@ -123,11 +123,18 @@ fn is_same_with(
 }
 
 /// The box in which a point has this candidate alone, if it has it.
-pub fn with_value(alloc: Global, boxed: &Box0, point: u32, value: u8) -> Result<Option<Box0>, Fail>
+pub(crate) fn with_value(
+    alloc: Global,
+    boxed: &Box0,
+    point: u32,
+    value: u8,
+) -> Result<Option<Box0>, Fail>
     requires point { point < length boxed.now.sets }
     requires value { value < 64 }
-    ensures decided { IfOk result (λ found. IfSome found (λ tried. tried.sets ≡ decided boxed.now.sets point value)) }
-    ensures is { IfOk result (λ found. IfSome found (λ tried. (p : model.Problem) → IsFor p boxed.now → IsFor p tried)) }
+    ensures decided { IfOk result (λ found.
+        IfSome found (λ tried. tried.sets ≡ decided boxed.now.sets point value)) }
+    ensures is { IfOk result (λ found.
+        IfSome found (λ tried. (p : model.Problem) → IsFor p boxed.now → IsFor p tried)) }
 {
     if !holds(boxed.candidates(point), value) {
         return Ok(None);
@@ -164,7 +171,7 @@ fn close_both(
 }
 
 /// Whether the points have these candidates.
-pub fn has_candidates(boxed: &Box0, sets: &[Vec<usize>]) -> bool {
+pub(crate) fn has_candidates(boxed: &Box0, sets: &[Vec<usize>]) -> bool {
     for point in 0..boxed.points() {
         let Some(set) = sets.get(point as usize) else {
             return false;

@@ -16,13 +16,13 @@ use wf_oracle::{
 pub type Inputs = Option<[usize; 4]>;
 
 /// Each process begins with 0.
-pub const ZERO: Inputs = Some([0; 4]);
+pub(crate) const ZERO: Inputs = Some([0; 4]);
 
 /// Each process begins with its own number.
-pub const OWN: Inputs = Some([0, 1, 2, 3]);
+pub(crate) const OWN: Inputs = Some([0, 1, 2, 3]);
 
 /// What differs first between the protocol complexes of a task and those of the slow program, up to this many rounds.
-pub fn first_difference(
+pub(crate) fn first_difference(
     alloc: Global,
     text: &str,
     inputs: Inputs,

@@ -10,7 +10,7 @@ use wf_task::Task;
 
 /// The first number of rounds, up to this many, at which the search does not answer the first of all decision maps, or
 /// none where there is none.
-pub fn first_difference(alloc: Global, text: &str, most: u32) -> Result<Option<u32>, Fail> {
+pub(crate) fn first_difference(alloc: Global, text: &str, most: u32) -> Result<Option<u32>, Fail> {
     for rounds in 0..=most {
         if !has_first_map(alloc, text, rounds)? {
             return Ok(Some(rounds));
@@ -49,7 +49,7 @@ fn is_first(
 }
 
 /// Whether two lists have the same values.
-pub fn are_values(map: &[u8], values: &[usize]) -> bool {
+pub(crate) fn are_values(map: &[u8], values: &[usize]) -> bool {
     map.len() == values.len()
         && map
             .iter()

@@ -7,13 +7,13 @@ use wf_simplex::Simplex;
 use wf_task::{Row, Task};
 
 /// The problem of a task's text after some rounds.
-pub fn plain_problem(alloc: Global, text: &str, rounds: u32) -> Result<PlainProblem, Fail> {
+pub(crate) fn plain_problem(alloc: Global, text: &str, rounds: u32) -> Result<PlainProblem, Fail> {
     let task = read_plain(alloc, text)?;
     Ok(problem_of(alloc, &task, rounds as usize)?)
 }
 
 /// The task of a text.
-pub fn read_plain(alloc: Global, text: &str) -> Result<PlainTask, Fail> {
+pub(crate) fn read_plain(alloc: Global, text: &str) -> Result<PlainTask, Fail> {
     let task = Task::read_text(alloc, text.as_bytes())?;
     Ok(plain_task(alloc, &task)?)
 }

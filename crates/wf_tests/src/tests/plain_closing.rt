@@ -18,7 +18,7 @@ struct Loss {
 }
 
 /// All values for each point.
-pub fn root(alloc: Global, problem: &Problem) -> Result<Sets, AllocError> {
+pub(crate) fn root(alloc: Global, problem: &Problem) -> Result<Sets, AllocError> {
     let mut sets = Vec::new(alloc);
     for _ in 0..problem.points {
         sets.push(Vec::from_slice(alloc, &problem.values)?)?;
@@ -27,7 +27,7 @@ pub fn root(alloc: Global, problem: &Problem) -> Result<Sets, AllocError> {
 }
 
 /// The same candidates, but one point has this value alone.
-pub fn with_value(
+pub(crate) fn with_value(
     alloc: Global,
     sets: &[Vec<usize>],
     point: usize,
@@ -45,7 +45,7 @@ pub fn with_value(
 }
 
 /// Sweeps until one loses nothing or a point has no candidate left, and adds the lines.
-pub fn close(
+pub(crate) fn close(
     alloc: Global,
     problem: &Problem,
     sets: &mut [Vec<usize>],

@@ -15,7 +15,7 @@ pub struct Trace {
 }
 
 /// The canonical search of the root.
-pub fn search(alloc: Global, problem: &Problem) -> Result<Trace, Fail> {
+pub(crate) fn search(alloc: Global, problem: &Problem) -> Result<Trace, Fail> {
     let mut lines: Lines = Vec::new(alloc);
     // the boxes that are still to be searched, the first one at the end
     let mut pending = Vec::new(alloc);
@@ -62,7 +62,7 @@ fn branches(alloc: Global, sets: &[Vec<usize>], point: usize) -> Result<Vec<Sets
 }
 
 /// The branches of the root.
-pub fn split(alloc: Global, problem: &Problem) -> Result<Vec<Sets>, Fail> {
+pub(crate) fn split(alloc: Global, problem: &Problem) -> Result<Vec<Sets>, Fail> {
     let mut boxes = Vec::new(alloc);
     push_closed(alloc, problem, root(alloc, problem)?, &mut boxes)?;
     for _level in 0..8 {

@@ -48,7 +48,7 @@ fn fill_up_to(
 }
 
 /// What differs first between the searches of a task, up to this many rounds.
-pub fn first_difference(
+pub(crate) fn first_difference(
     alloc: Global,
     text: &str,
     most: u32,

@@ -7,14 +7,14 @@ use wf_complex::Protocol;
 use wf_task::Task;
 
 /// The problem of a task's text after some rounds.
-pub fn problem_of(alloc: Global, text: &str, rounds: u32) -> Result<Problem, Fail> {
+pub(crate) fn problem_of(alloc: Global, text: &str, rounds: u32) -> Result<Problem, Fail> {
     let task = Task::read_text(alloc, text.as_bytes())?;
     let protocol = Protocol::build(alloc, &task, rounds)?;
     Ok(Problem::join(alloc, &task, &protocol)?)
 }
 
 /// The protocol complex of a task's text after some rounds.
-pub fn protocol_of(alloc: Global, text: &str, rounds: u32) -> Result<Protocol, Fail> {
+pub(crate) fn protocol_of(alloc: Global, text: &str, rounds: u32) -> Result<Protocol, Fail> {
     let task = Task::read_text(alloc, text.as_bytes())?;
     Ok(Protocol::build(alloc, &task, rounds)?)
 }
