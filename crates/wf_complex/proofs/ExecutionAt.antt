@@ -56,13 +56,13 @@ some_zipped (x ∷ xs) [] h = absurd (let bad : ⊥ = omega (arith, h) in bad)
 some_zipped (x ∷ xs) (y ∷ ys) h = omega arith
 
 -- the points of an execution: one to four, and each of the complex
-pub known_points : (t : Task) (r : ℕ) (b : Built) (e s : ℕ) (ps : List ℕ) → IsTask t → IsProtocol t r b → e < length b.scopes → slice_get b.simplices e ≡ Some s → ps ≡ map (λ at. at.1) (slice_index_or b.scopes e []) → (0 < length ps) × (length ps ≤ 4) × All (λ v. v < length b.points) ps
-known_points t r b e s ps is built inside on are =
+pub known_points : (t : Task) (r : ℕ) (b : Built) (e s : ℕ) (ps : List ℕ) → IsProtocol t r b → e < length b.scopes → slice_get b.simplices e ≡ Some s → ps ≡ map (λ at. at.1) (slice_index_or b.scopes e []) → (0 < length ps) × (length ps ≤ 4) × All (λ v. v < length b.points) ps
+known_points t r b e s ps built inside on are =
     let (rule, there, k_is, as_long) = constraint_there t r b e s built inside on in
     let p = problem_of t r in
     let qs : List ℕ = map (λ (at : ℕ × ℕ). at.1) (slice_index_or b.scopes e []) in
     let k : Constraint = record { scope = zip (processes_of rule.input) qs; tuples = rule.tuples } in
-    let well = task_well_formed t r is in
+    let well = task_well_formed t r built.task in
     let low = slice_get_within p.constraints e k k_is in
     let long : length qs ≡ length rule.input = length-map (slice_index_or b.scopes e []) (λ (at : ℕ × ℕ). at.1) ∙ as_long in
     let same_long : length qs ≡ length (processes_of rule.input) = long ∙ sym (length-map rule.input (λ v. v.0)) in
@@ -70,7 +70,7 @@ known_points t r b e s ps is built inside on are =
     let ranged : All (λ (at : ℕ × ℕ). at.1 < p.points) k.scope = subst (λ (c : Constraint). All (λ (at : ℕ × ℕ). at.1 < p.points) c.scope) (got p.constraints e k k k_is) (well.in_range e k low) in
     let points_in : All (λ v. v < p.points) qs = subst (All (λ v. v < p.points)) (seconds-zip (processes_of rule.input) qs same_long) (All-map (λ v. v < p.points) (λ (at : ℕ × ℕ). at.1) k.scope ranged) in (
       subst (λ (xs : List ℕ). 0 < length xs) (sym are) (some_zipped (processes_of rule.input) qs some),
-      omega (arith, ap length are, long, size_of t s rule is there),
+      omega (arith, ap length are, long, size_of t s rule built.task there),
       subst (λ n. All (λ v. v < n) ps) (ap length (sym built.points_are)) (subst (All (λ v. v < p.points)) (sym are) points_in),
     )
 

@@ -46,13 +46,13 @@ pub judge_value-requires-clause-few : goal.judge_value-requires-clause-few
 judge_value-requires-clause-few c =
     let b = c.args.protocol.now in
     let inside : c.args.removal.execution < length b.scopes = omega (arith, c.if-removal-executions.false, c.executions.ensures.executions) in
-    (known_points c.args.task.now b.rounds b c.args.removal.execution c.simplex_of-number.result c.points_of-points.result.now c.requires.built.task c.requires.built inside c.simplex_of-number.ensures c.points_of-points.ensures).1
+    (known_points c.args.task.now b.rounds b c.args.removal.execution c.simplex_of-number.result c.points_of-points.result.now c.requires.built inside c.simplex_of-number.ensures c.points_of-points.ensures).1
 
 pub judge_value-requires-clause-inside : goal.judge_value-requires-clause-inside
 judge_value-requires-clause-inside c =
     let b = c.args.protocol.now in
     let inside : c.args.removal.execution < length b.scopes = omega (arith, c.if-removal-executions.false, c.executions.ensures.executions) in
-    let known = known_points c.args.task.now b.rounds b c.args.removal.execution c.simplex_of-number.result c.points_of-points.result.now c.requires.built.task c.requires.built inside c.simplex_of-number.ensures c.points_of-points.ensures in
+    let known = known_points c.args.task.now b.rounds b c.args.removal.execution c.simplex_of-number.result c.points_of-points.result.now c.requires.built inside c.simplex_of-number.ensures c.points_of-points.ensures in
     subst (λ n. All (λ v. v < n) c.points_of-points.result.now) (sym c.requires.long) known.2
 
 pub returns-in_default-clause-step : goal.returns-in_default-clause-step
