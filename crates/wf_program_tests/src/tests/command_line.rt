@@ -8,10 +8,10 @@ use std::alloc::{AllocError, Global};
 use std::process::Abort;
 use std::test::Fail;
 use std::thread::Threads;
+use wf_args::WordsFault;
 use wf_io::{Sink, Source};
 use wf_pool::Open;
 use wf_program::run_program;
-use wf_args::WordsFault;
 
 /// What a run wrote and answered.
 #[derive(Drop)]
@@ -156,6 +156,8 @@ fn failed_calls_are_told(rt: HostRuntime) -> Result<(), Fail> {
             4,
         ),
         ("wfcheck views --rounds 8", 0, 11, "wfcheck: 31 Write\n", 4),
+        ("wfcheck points --rounds 8", 1, 0, "wfcheck: 30 Read\n", 4),
+        ("wfcheck points --rounds 8", 0, 11, "wfcheck: 31 Write\n", 4),
         ("wfcheck --help", 1, 11, "wfcheck: 31 Write\n", 4),
         ("wfcheck --version", 1, 11, "wfcheck: 31 Write\n", 4),
         (
