@@ -47,6 +47,11 @@ pub enum Job {
         /// How many rounds.
         rounds: u32,
     },
+    /// Tell the points of a task's protocol complex after some rounds in words.
+    Points {
+        /// How many rounds.
+        rounds: u32,
+    },
     /// Write the canonical text of a task that has a name.
     Preset(Preset),
 }
@@ -158,6 +163,14 @@ fn views_command<'a>(alloc: Global) -> Result<Command<'a>, AllocError> {
         .arg(number(alloc, "rounds", "How many rounds of immediate snapshots"))
 }
 
+fn points_command<'a>(alloc: Global) -> Result<Command<'a>, AllocError> {
+    Command::new(alloc, "points")
+        .about(
+            "Read a task on standard input, and tell in words who saw what at each point of its protocol complex",
+        )
+        .arg(number(alloc, "rounds", "How many rounds of immediate snapshots"))
+}
+
 fn preset_command<'a>(alloc: Global) -> Result<Command<'a>, AllocError> {
     let kind = Arg::new(alloc, "kind")
         .value_name("KIND")
@@ -191,6 +204,7 @@ fn whole_command<'a>(alloc: Global) -> Result<Command<'a>, AllocError> {
         .subcommand(solve_command(alloc)?)?
         .subcommand(verify_command(alloc)?)?
         .subcommand(views_command(alloc)?)?
+        .subcommand(points_command(alloc)?)?
         .subcommand(preset_command(alloc)?)
 }
 
@@ -233,6 +247,14 @@ fn views_job(found: &ArgMatches<'_>) -> Option<Job>
     Some(Job::Views { rounds })
 }
 
+/// The job of `points`.
+fn points_job(found: &ArgMatches<'_>) -> Option<Job>
+    ensures { IfSome result IsWithinLimits }
+{
+    let rounds = found.get_one::<u32>("rounds")?;
+    Some(Job::Points { rounds })
+}
+
 /// The job of `preset`.
 fn preset_job(found: &ArgMatches<'_>) -> Option<Job>
     ensures { IfSome result IsWithinLimits }
@@ -268,6 +290,7 @@ pub fn read_words(alloc: Global, words: &[String]) -> Result<Job, WordsFault>
         Some(("solve", inner)) => solve_job(inner).ok_or(WordsFault::Words),
         Some(("verify", inner)) => verify_job(alloc, inner),
         Some(("views", inner)) => views_job(inner).ok_or(WordsFault::Words),
+        Some(("points", inner)) => points_job(inner).ok_or(WordsFault::Words),
         Some(("preset", inner)) => preset_job(inner).ok_or(WordsFault::Words),
         _ => Err(WordsFault::Words),
     }

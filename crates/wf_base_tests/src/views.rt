@@ -60,6 +60,8 @@ fn ranks_stand_for_processes(rt: HostRuntime) -> Result<(), Fail> {
     }
     assert_eq!(rt; views.colour(5), 0);
     assert_eq!(rt; views.parts(5), [3, 4].as_slice());
+    assert_eq!(rt; views.input(4), Some(9));
+    assert_eq!(rt; views.input(5), None);
     assert_eq!(rt; views.base(0, 4)?, 3);
     Ok(())
 }

@@ -45,8 +45,8 @@ SolvingIsCounted =
 
 abbrev pub ListingIsCounted : Type 0
 ListingIsCounted =
-    (rounds : ℕ) (source source' : Reading) (sink sink' : Writing) (result : Result (Unit {0}) RunFault)
-    → Lists rounds source source' sink sink' result → IsCounted source source' sink sink' result
+    (text_of : Task → ℕ → List ℕ) (rounds : ℕ) (source source' : Reading) (sink sink' : Writing) (result : Result (Unit {0}) RunFault)
+    → Lists text_of rounds source source' sink sink' result → IsCounted source source' sink sink' result
 
 -- A failed write is told by 31, and no failed read is told. After any other refusal the sink is as it was.
 pub record IsWritten {X : Type 0} (sink sink' : Writing) (result : Result X RunFault) : Type 0 where

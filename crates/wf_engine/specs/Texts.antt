@@ -10,7 +10,7 @@ use Rattle.wf_model.specs.Refutation.{Line, Tree, lines, Refutes}
 use Rattle.wf_model.specs.LeastTree.{IsLeastTree}
 use Rattle.wf_model.specs.Report.{Body, a_map, none, least, report_text}
 use Rattle.wf_model.specs.Laws.{report_about}
-use Rattle.wf_model.specs.ViewsText.{views_text}
+use Rattle.wf_model.specs.PointsText.{points_text}
 use Rattle.wf_core.specs.declared.Account.{Account}
 use Rattle.wf_pool.specs.Answers.{HasAccountOfMap, HasAccountOfNone}
 use Rattle.wf_pool.specs.declared.answer.MapLines.{MapLines}
@@ -87,10 +87,14 @@ SearchesInOrder result = IfOk result IsInOrder
 
 -- ---- listing
 
--- the list of the points
-abbrev pub IsViews : ℕ → Task → Unit {0} → List ℕ → Type 0
-IsViews r t answer text = text ≡ views_text t r
+-- the points in words, without a map
+abbrev pub undecided_points : Task → ℕ → List ℕ
+undecided_points t r = points_text t r []
 
--- the points of the protocol complex of the source's task after r rounds were listed
-abbrev pub Lists : ℕ → Reading → Reading → Writing → Writing → Result (Unit {0}) RunFault → Type 0
-Lists r source source' sink sink' result = Ran (Asks (IsViews r) r source source') sink sink' result
+-- the text that a task and its r rounds have
+abbrev pub IsTextOf : (Task → ℕ → List ℕ) → ℕ → Task → Unit {0} → List ℕ → Type 0
+IsTextOf text_of r t answer text = text ≡ text_of t r
+
+-- the points of the protocol complex of the source's task after r rounds were listed, by such a text
+abbrev pub Lists : (Task → ℕ → List ℕ) → ℕ → Reading → Reading → Writing → Writing → Result (Unit {0}) RunFault → Type 0
+Lists text_of r source source' sink sink' result = Ran (Asks (IsTextOf text_of r) r source source') sink sink' result

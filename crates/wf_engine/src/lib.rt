@@ -3,6 +3,7 @@
 //! - [`run_solve_one`], [`run_solve`]: a task's text in, and the report of its least decision map or of none out, by one
 //!   worker or by up to [`MAX_WORKERS`]. [`run_solve_watched`] is `run_solve` with a gate, which is told of the workers.
 //! - [`run_views`]: a task's text in, and the list of the points of its protocol complex out.
+//! - [`run_points`]: a task's text in, and its points in words out.
 //! - [`run_verify`]: a task's text and a report's in, and what is accepted out.
 //! - [`run_preset`]: the canonical text of a [`Preset`] out.
 //! - [`hand_out`]: the last step of each run, for a text that is had without one.
@@ -16,6 +17,7 @@
 mod fault;
 mod laws;
 mod outcome;
+mod points;
 mod preset;
 mod solve;
 mod steps;
@@ -28,6 +30,7 @@ pub use laws::{
     verifying_is_counted,
 };
 pub use outcome::{Form, Outcome};
+pub use points::run_points;
 pub use preset::{Preset, run_preset};
 pub use solve::{run_solve, run_solve_one, run_solve_watched};
 pub use steps::hand_out;

@@ -8,7 +8,7 @@ ghost use Rattle.wf_model.specs.ViewsText.{views_text};
 ghost use Rattle.wf_io.specs.Ends.{CanCount, CanRead};
 ghost use Rattle.wf_complex.specs.Protocol.{IsProtocol};
 ghost use Rattle.wf_engine.specs.Run.{Answers, Asks, answered};
-ghost use Rattle.wf_engine.specs.Texts.{IsViews, Lists};
+ghost use Rattle.wf_engine.specs.Texts.{IsTextOf, Lists};
 ghost use Rattle.wf_engine.specs.Views.{header_text, appearances_text};
 
 use crate::fault::RunFault;
@@ -30,7 +30,7 @@ pub fn run_views<R: Read, W: Write>(
     rounds: u32,
 ) -> Result<(), RunFault>
     requires { CanCount source.old sink.old }
-    ensures { Lists rounds source.old source.new sink.old sink.new result }
+    ensures { Lists views_text rounds source.old source.new sink.old sink.new result }
 {
     let answer = list_source(alloc, source, rounds);
     hand_out(sink, answer)
@@ -43,7 +43,7 @@ fn list_source<R: Read>(
     rounds: u32,
 ) -> Result<((), Vec<u8>), RunFault>
     requires { CanRead source.old }
-    ensures { Asks (IsViews rounds) rounds source.old source.new (answered result) }
+    ensures { Asks (IsTextOf views_text rounds) rounds source.old source.new (answered result) }
 {
     let task = read_task(alloc, source)?;
     list_task(alloc, &task, rounds)
@@ -51,7 +51,7 @@ fn list_source<R: Read>(
 
 /// The list of the points of a task.
 fn list_task(alloc: Global, task: &Task, rounds: u32) -> Result<((), Vec<u8>), RunFault>
-    ensures { Answers (IsViews rounds) rounds task.now (answered result) }
+    ensures { Answers (IsTextOf views_text rounds) rounds task.now (answered result) }
 {
     let protocol = Protocol::build(alloc, task, rounds)?;
     Ok(((), write_views(alloc, task, &protocol)?))

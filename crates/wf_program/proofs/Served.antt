@@ -1,5 +1,6 @@
 -- What holds after every run of the program.
 use Rattle.std.proofs.Common.{◌≡◌, ◌≢◌, ℕ, Bool, zero, suc, ◌+◌, ◌≤◌, ◌⊎◌, inl, inr, List, Option, Some, None, Result, Ok, Err, IfOk, IfErr, refl, sym, ap, subst, ◌∙◌, arith}
+use Rattle.wf_model.specs.ViewsText.{views_text}
 use Rattle.wf_core.specs.declared.Account.{Account}
 use Rattle.wf_io.specs.Seen.{Reading, Writing}
 use Rattle.wf_task.specs.declared.task.TheConstants.{LONGEST}
@@ -11,7 +12,7 @@ use Rattle.wf_engine.specs.declared.outcome.Outcome.{Outcome}
 use Rattle.wf_engine.specs.declared.outcome.Outcome.TheVariants.{Map, Nothing, Least}
 use Rattle.wf_engine.specs.declared.fault.RunFault.{RunFault}
 use Rattle.wf_engine.specs.declared.fault.RunFault.TheVariants as run
-use Rattle.wf_engine.specs.Texts.{IsSolved, IsViews}
+use Rattle.wf_engine.specs.Texts.{IsSolved, IsTextOf, undecided_points}
 use Rattle.wf_engine.specs.Laws.{failed_reads, failed_writes, by_result, IsChecked, IsCounted, IsWritten}
 use Rattle.wf_engine.proofs.Lemmas.{checked, counted, handed, preset_counted}
 use Rattle.wf_program.specs.declared.done.Done.{Done}
@@ -134,7 +135,9 @@ module _ (source source' : Reading) (sink sink' : Writing) where
       subst (IsDone 1 source source' sink sink') (sym is) (after_verifying file file' result (checked file file' source source' sink sink' result verifies))
   did (Ok (job.Verify task)) done (result, inr (none, read, wrote), is) = not_opened done (is ∙ ap verified none) read wrote
   did (Ok (job.Views rounds)) done (result, lists, is) =
-      subst (IsDone 0 source source' sink sink') (sym is) (after_writing result (counted (IsViews rounds) rounds source source' sink sink' result lists))
+      subst (IsDone 0 source source' sink sink') (sym is) (after_writing result (counted (IsTextOf views_text rounds) rounds source source' sink sink' result lists))
+  did (Ok (job.Points rounds)) done (result, lists, is) =
+      subst (IsDone 0 source source' sink sink') (sym is) (after_writing result (counted (IsTextOf undecided_points rounds) rounds source source' sink sink' result lists))
   did (Ok (job.Preset preset)) done (result, writes, read, is) =
       subst (IsDone 0 source source' sink sink') (sym is) (after_preset result read (preset_counted preset sink sink' result writes))
   did (Err e) done (read, declines) = declined e done read declines

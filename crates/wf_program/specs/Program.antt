@@ -4,6 +4,7 @@ use Rattle.clap.specs.Words.{kind_of}
 use Rattle.clap.specs.declared.error.Error.{Error}
 use Rattle.clap.specs.declared.error.ErrorKind.TheVariants as kind
 use Rattle.wf_core.specs.declared.Account.{Account}
+use Rattle.wf_model.specs.ViewsText.{views_text}
 use Rattle.wf_io.specs.Seen.{Reading, Writing}
 use Rattle.wf_io.specs.Ends.{CanCount, CanWrite}
 use Rattle.wf_io.specs.Texts.{Told, Tells}
@@ -13,12 +14,12 @@ use Rattle.wf_engine.specs.declared.fault.RunFault.{RunFault}
 use Rattle.wf_engine.specs.declared.fault.RunFault.TheVariants as run
 use Rattle.wf_engine.specs.Faults.{fault_text}
 use Rattle.wf_engine.specs.Run.{Ran}
-use Rattle.wf_engine.specs.Texts.{Solves, Lists, SearchesInOrder}
+use Rattle.wf_engine.specs.Texts.{Solves, Lists, SearchesInOrder, undecided_points}
 use Rattle.wf_engine.specs.Verify.{Verifies}
 use Rattle.wf_engine.specs.Presets.{WritesPreset}
 use Rattle.wf_args.specs.Job.{IsWithinLimits, IsClapMistake}
 use Rattle.wf_args.specs.declared.Job.{Job}
-use Rattle.wf_args.specs.declared.Job.TheVariants.{Solve, Verify, Views, Preset}
+use Rattle.wf_args.specs.declared.Job.TheVariants.{Solve, Verify, Views, Points, Preset}
 use Rattle.wf_args.specs.declared.WordsFault.{WordsFault}
 use Rattle.wf_args.specs.declared.WordsFault.TheVariants as fault
 use Rattle.wf_program.specs.AccountText.{account_line}
@@ -105,7 +106,9 @@ Does (Solve rounds workers form account progress) source source' sink sink' done
 Does (Verify task) source source' sink sink' done =
     (result : Result Outcome RunFault) × VerifiesFile source source' sink sink' result × (done ≡ verified result)
 Does (Views rounds) source source' sink sink' done =
-    (result : Result (Unit {0}) RunFault) × Lists rounds source source' sink sink' result × (done ≡ written result)
+    (result : Result (Unit {0}) RunFault) × Lists views_text rounds source source' sink sink' result × (done ≡ written result)
+Does (Points rounds) source source' sink sink' done =
+    (result : Result (Unit {0}) RunFault) × Lists undecided_points rounds source source' sink sink' result × (done ≡ written result)
 Does (Preset preset) source source' sink sink' done =
     (result : Result (Unit {0}) RunFault) × WritesPreset preset sink sink' result × (source' ≡ source)
     × (done ≡ written result)

@@ -18,8 +18,8 @@ use std::thread::Threads;
 use wf_args::{Job, WordsFault, read_words};
 use wf_core::Account;
 use wf_engine::{
-    Form, Outcome, RunFault, hand_out, run_preset, run_solve, run_solve_watched, run_verify,
-    run_views,
+    Form, Outcome, RunFault, hand_out, run_points, run_preset, run_solve, run_solve_watched,
+    run_verify, run_views,
 };
 use wf_io::{Sink, Source};
 use wf_pool::{Gate, MAX_WORKERS};
@@ -88,6 +88,7 @@ fn do_job<T: Threads + Sync, F: Files, G: Gate, R: Read, W: Write>(
         }
         Job::Verify { task } => after_verifying(verify_file(rt, alloc, files, task, source, sink)),
         Job::Views { rounds } => after_writing(run_views(alloc, source, sink, *rounds)),
+        Job::Points { rounds } => after_writing(run_points(alloc, source, sink, *rounds)),
         Job::Preset(preset) => after_writing(run_preset(alloc, sink, *preset)),
     }
 }

@@ -1,5 +1,5 @@
 -- What the entries of a table say of its views.
-use Rattle.std.proofs.Common.{◌≡◌, ◌<◌, ◌≤◌, ◌^◌, ℕ, ◌+◌, true, List, [], ◌∷◌, map, length, take, get_or, All, nat_lt, sym, refl, ap, ◌∙◌, subst, arith, ltb-true}
+use Rattle.std.proofs.Common.{◌≡◌, ◌<◌, ◌≤◌, ◌^◌, ℕ, ◌+◌, true, List, [], ◌∷◌, map, length, take, get_or, All, Some, None, nat_lt, sym, refl, ap, ◌∙◌, subst, arith, ltb-true}
 use Rattle.std.specs.Int.Bits.{bit_or}
 use Rattle.std.specs.List.{AllByRecursion}
 use Rattle.std.proofs.lemmas.Bool.{and_parts, false≢true}
@@ -9,22 +9,22 @@ use Rattle.wf_model.specs.Lists.{has}
 use Rattle.wf_model.specs.Simplex.{is_ascending}
 use Rattle.wf_model.specs.View.{View, base, views_of, process_of}
 use Rattle.wf_view.specs.declared.node.Node.{Node}
-use Rattle.wf_view.specs.Views.{view_at, view_seen, list_of, inner_views, colours_of, colours_of_each}
+use Rattle.wf_view.specs.Views.{view_at, view_seen, list_of, input_of, inner_views, colours_of, colours_of_each}
 use Rattle.wf_view.specs.Table.{base_node, seen_node, padded, node_view, shown, IsEntry, is_base, is_seen, AreEntriesFrom, colours_at}
 use Rattle.wf_view.proofs.Shown.{node_view-seen, view_at-shown, entry_at, length-shown}
 
 -- ---- one entry
 
 entry_process : (n : ℕ) (vs : List View) (node : Node) → IsEntry n node → process_of (node_view vs node) ≡ node.process
-entry_process n vs node (is_base p x low) = refl
+entry_process n vs node (is_base p x low small) = refl
 entry_process n vs node (is_seen p ids low some few earlier) = ap process_of (node_view-seen vs p ids some few)
 
 pub entry_low : (n : ℕ) (node : Node) → IsEntry n node → node.process ≤ 3
-entry_low n node (is_base p x low) = low
+entry_low n node (is_base p x low small) = low
 entry_low n node (is_seen p ids low some few earlier) = low
 
 pub entry_count : (n : ℕ) (node : Node) → IsEntry n node → node.count ≤ 4
-entry_count n node (is_base p x low) = omega arith
+entry_count n node (is_base p x low small) = omega arith
 entry_count n node (is_seen p ids low some few earlier) = few
 
 list_of-views_of : (vs : List View) → list_of (views_of vs) ≡ vs
@@ -40,13 +40,25 @@ take-padded (a ∷ b ∷ c ∷ d ∷ []) h = refl
 take-padded (a ∷ b ∷ c ∷ d ∷ e ∷ more) h = absurd (let none : ⊥ = omega (arith, h) in none)
 
 entry_parts : (n : ℕ) (vs : List View) (node : Node) → IsEntry n node → map (view_at vs) (take node.count node.ids) ≡ inner_views (node_view vs node)
-entry_parts n vs node (is_base p x low) = refl
+entry_parts n vs node (is_base p x low small) = refl
 entry_parts n vs node (is_seen p ids low some few earlier) =
     ap (map (view_at vs)) (take-padded ids few) ∙ sym (list_of-views_of (map (view_at vs) ids)) ∙ sym (ap inner_views (node_view-seen vs p ids some few))
 
 pub entry_earlier : (n : ℕ) (node : Node) → IsEntry n node → All (λ k. k < n) (take node.count node.ids)
-entry_earlier n node (is_base p x low) = All-from_recursion (λ k. k < n) [] tt
+entry_earlier n node (is_base p x low small) = All-from_recursion (λ k. k < n) [] tt
 entry_earlier n node (is_seen p ids low some few earlier) = subst (All (λ k. k < n)) (sym (take-padded ids few)) earlier
+
+entry_input : (n : ℕ) (vs : List View) (node : Node) → IsEntry n node → node.count ≡ 0 → input_of (node_view vs node) ≡ Some (get_or node.ids 0 0)
+entry_input n vs node (is_base p x low small) none = refl
+entry_input n vs node (is_seen p ids low some few earlier) none = absurd (omega (arith, some, none))
+
+entry_small : (n : ℕ) (node : Node) → IsEntry n node → node.count ≡ 0 → get_or node.ids 0 0 ≤ 255
+entry_small n node (is_base p x low small) none = small
+entry_small n node (is_seen p ids low some few earlier) none = absurd (omega (arith, some, none))
+
+entry_no_input : (n : ℕ) (vs : List View) (node : Node) → IsEntry n node → (node.count ≡ 0 → ⊥) → input_of (node_view vs node) ≡ None
+entry_no_input n vs node (is_base p x low small) some = absurd (some refl)
+entry_no_input n vs node (is_seen p ids low some few earlier) other = ap input_of (node_view-seen vs p ids some few)
 
 -- ---- the entries of a table
 
@@ -109,6 +121,15 @@ module _ (xs : List Node) (entries : AreEntriesFrom 0 xs) (vs : List View) (is :
 
   pub parts_read : map (view_at vs) (take node.count node.ids) ≡ inner_views (view_at vs n)
   parts_read = entry_parts n vs node entry_read ∙ ap inner_views view_read
+
+  pub input_read : node.count ≡ 0 → Some (get_or node.ids 0 0) ≡ input_of (view_at vs n)
+  input_read none = sym (entry_input n vs node entry_read none) ∙ ap input_of view_read
+
+  pub small_read : node.count ≡ 0 → get_or node.ids 0 0 ≤ 255
+  small_read none = entry_small n node entry_read none
+
+  pub no_input_read : (node.count ≡ 0 → ⊥) → None ≡ input_of (view_at vs n)
+  no_input_read some = sym (entry_no_input n vs node entry_read some) ∙ ap input_of view_read
 
   pub process_read : node.process ≡ process_of (view_at vs n)
   process_read = sym (entry_process n vs node entry_read) ∙ ap process_of view_read

@@ -17,7 +17,7 @@ use Rattle.wf_view.proofs.Shown.{node_view-seen, view_at-shown, entry_at, length
 -- ---- equal views have equal entries
 
 pub entry_more : (n m : ℕ) (x : Node) → n ≤ m → IsEntry n x → IsEntry m x
-entry_more n m x h (is_base p a low) = is_base p a low
+entry_more n m x h (is_base p a low small) = is_base p a low small
 entry_more n m x h (is_seen p ids low some few earlier) = is_seen p ids low some few (All-from_recursion _ ids (weaker (λ k. k < n) (λ k. k < m) (λ k below. omega (arith, below, h)) ids (recursion_from_All _ ids earlier)))
 
 module _ (vs : List View) (n : ℕ) (apart : (i j : ℕ) → i < n → j < n → view_at vs i ≡ view_at vs j → i ≡ j) where
@@ -31,12 +31,12 @@ module _ (vs : List View) (n : ℕ) (apart : (i j : ℕ) → i < n → j < n →
       λ i. apart x y h.0 k.0 first i ∷ same_ids xs ys h.1 k.1 rest i
 
   pub same_entries : (a b : Node) → IsEntry n a → IsEntry n b → node_view vs a ≡ node_view vs b → a ≡ b
-  same_entries a b (is_base p x low) (is_base q y low') e =
+  same_entries a b (is_base p x low small) (is_base q y low' small') e =
       let ps : p ≡ q = cc in
       let xs : x ≡ y = cc in
       λ i. base_node (ps i) (xs i)
-  same_entries a b (is_base p x low) (is_seen q ids low' some few earlier) e = (let f : base p x ≡ view_seen vs q ids = e ∙ node_view-seen vs q ids some few in cc)
-  same_entries a b (is_seen p ids low some few earlier) (is_base q y low') e = (let f : view_seen vs p ids ≡ base q y = sym (node_view-seen vs p ids some few) ∙ e in cc)
+  same_entries a b (is_base p x low small) (is_seen q ids low' some few earlier) e = (let f : base p x ≡ view_seen vs q ids = e ∙ node_view-seen vs q ids some few in cc)
+  same_entries a b (is_seen p ids low some few earlier) (is_base q y low' small') e = (let f : view_seen vs p ids ≡ base q y = sym (node_view-seen vs p ids some few) ∙ e in cc)
   same_entries a b (is_seen p ids low some few earlier) (is_seen q ids' low' some' few' earlier') e =
       let f : view_seen vs p ids ≡ view_seen vs q ids' = sym (node_view-seen vs p ids some few) ∙ e ∙ node_view-seen vs q ids' some' few' in
       let ps : p ≡ q = cc in

@@ -34,7 +34,7 @@ module _ (vs : List View) (g f : ℕ → ℕ) (low : (p : ℕ) → g p ≤ p) wh
   IsNew k = (f k < length vs) × (view_at vs (f k) ≡ renamed g (view_at vs k))
 
   new_entry : (n : ℕ) (node : Node) → IsEntry n node → AllByRecursion IsNew (take node.count node.ids) → IsEntry (length vs) (renumbered_node (g node.process) f node)
-  new_entry n node (is_base p x h) known = is_base (g p) x (omega (arith, h, low p))
+  new_entry n node (is_base p x h small) known = is_base (g p) x (omega (arith, h, low p)) small
   new_entry n node (is_seen p ids h some few earlier) known =
       let there : AllByRecursion IsNew ids = subst (AllByRecursion IsNew) (take-padded ids few) known in
       let numbers : AllByRecursion (λ k. k < length vs) (map f ids) = each_map (λ k. k < length vs) f ids (weaker IsNew (λ k. f k < length vs) (λ k is. is.0) ids there) in
@@ -46,7 +46,7 @@ module _ (vs : List View) (g f : ℕ → ℕ) (low : (p : ℕ) → g p ≤ p) wh
   views_renamed (k ∷ ids) h = λ i. view (h.0.1 i) (views_renamed ids h.1 i)
 
   new_view : (n : ℕ) (node : Node) → IsEntry n node → AllByRecursion IsNew (take node.count node.ids) → node_view vs (renumbered_node (g node.process) f node) ≡ renamed g (node_view vs node)
-  new_view n node (is_base p x h) known = refl
+  new_view n node (is_base p x h small) known = refl
   new_view n node (is_seen p ids h some few earlier) known =
       let there : AllByRecursion IsNew ids = subst (AllByRecursion IsNew) (take-padded ids few) known in
       ap (node_view vs) (renumbered-seen (g p) p f ids few)
@@ -55,7 +55,7 @@ module _ (vs : List View) (g f : ℕ → ℕ) (low : (p : ℕ) → g p ≤ p) wh
       ∙ sym (ap (renamed g) (node_view-seen vs p ids some few))
 
 pub entry_colours : (vs : List View) (node : Node) → IsEntry (length vs) node → bit_or (2 ^ node.process) (colours_at (map colours_of vs) (take node.count node.ids)) ≡ colours_of (node_view vs node)
-entry_colours vs node (is_base p x h) = or_zero_r (2 ^ p)
+entry_colours vs node (is_base p x h small) = or_zero_r (2 ^ p)
 entry_colours vs node (is_seen p ids h some few earlier) =
     ap (λ ks. bit_or (2 ^ p) (colours_at (map colours_of vs) ks)) (take-padded ids few) ∙ colours_of-seen vs p ids earlier some few
 

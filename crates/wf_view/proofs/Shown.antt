@@ -51,7 +51,7 @@ views_at_front vs more (k ∷ ids) h = λ i. get_or-append vs more (base 0 0) k 
 
 -- an entry's view is by the views before it alone
 pub node_view-more : (vs more : List View) (node : Node) → IsEntry (length vs) node → node_view (vs ++ more) node ≡ node_view vs node
-node_view-more vs more node (is_base p x low) = refl
+node_view-more vs more node (is_base p x low small) = refl
 node_view-more vs more node (is_seen p ids low some few earlier) =
     node_view-seen (vs ++ more) p ids some few
     ∙ ap (λ xs. seen p (views_of xs)) (views_at_front vs more ids (recursion_from_All _ ids earlier))

@@ -41,7 +41,7 @@ shown nodes = shown_after [] nodes
 
 -- an entry is an input, or has one to four views that stand before place n
 pub data IsEntry (n : ℕ) : Node → Type 0 where
-  is_base : (p x : ℕ) → p ≤ 3 → IsEntry n (base_node p x)
+  is_base : (p x : ℕ) → p ≤ 3 → x ≤ 255 → IsEntry n (base_node p x)
   is_seen : (p : ℕ) (ids : List ℕ) → p ≤ 3 → 0 < length ids → length ids ≤ 4 → All (λ k. k < n) ids → IsEntry n (seen_node p ids)
 
 abbrev pub AreEntriesFrom : ℕ → List Node → Type 0

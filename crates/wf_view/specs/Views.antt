@@ -1,5 +1,5 @@
 -- What contracts say of a table of views. A table is seen as the list of its views in the order of their numbers.
-use Rattle.std.specs.Prelude.{◌≡◌, ◌≤◌, ℕ, ◌^◌, Bool, List, [], ◌∷◌, ◌++◌, map, length, get_or, bit_or, if◌then◌else◌}
+use Rattle.std.specs.Prelude.{◌≡◌, ◌≤◌, ℕ, ◌^◌, Bool, List, [], ◌∷◌, ◌++◌, map, length, get_or, bit_or, Option, Some, None, if◌then◌else◌}
 use Rattle.std.specs.List.{list_any}
 use Rattle.wf_model.specs.Lists.{distinct}
 use Rattle.wf_model.specs.View.{View, base, seen, Views, no_views, view, views_of, process_of, same_view}
@@ -31,6 +31,11 @@ GrowsByAtMost n old new = (more : List View) × (new ≡ old ++ more) × (length
 abbrev pub list_of : Views → List View
 list_of no_views = []
 list_of (view v vs) = v ∷ list_of vs
+
+-- the value of an input
+abbrev pub input_of : View → Option ℕ
+input_of (base p x) = Some x
+input_of (seen p vs) = None
 
 -- what a view saw: nothing, where it is an input
 abbrev pub inner_views : View → List View

@@ -10,7 +10,7 @@ ghost use Rattle.wf_model.specs.Limits.{most_number};
 ghost use Rattle.wf_model.specs.Simplex.{is_ascending};
 ghost use Rattle.wf_model.specs.View.{base, process_of, same_view, normal};
 ghost use Rattle.wf_model.specs.Problem.{number_of};
-ghost use Rattle.wf_view.specs.Views.{view_at, view_seen, processes_at, with_view_if, inner_views, colours_of, count_within, GrowsByAtMost};
+ghost use Rattle.wf_view.specs.Views.{view_at, view_seen, processes_at, with_view_if, input_of, inner_views, colours_of, count_within, GrowsByAtMost};
 ghost use Rattle.wf_view.specs.Table.{same_node, colours_at};
 ghost use Rattle.wf_view.specs.Renaming.{rank_in, renamed_at, SawAmong, AreInside, AreRenamed};
 
@@ -104,6 +104,19 @@ impl Views {
         ensures process { result ≡ process_of (view_at self.now id) }
     {
         self.nodes[id as usize].process
+    }
+
+    /// The value of an input; `None` for the view of a process that saw views.
+    pub fn input(&self, id: u32) -> Option<u8>
+        requires { id < length self.now }
+        ensures value { result ≡ input_of (view_at self.now id) }
+    {
+        let node = &self.nodes[id as usize];
+        if node.count == 0 {
+            Some(node.ids[0] as u8)
+        } else {
+            None
+        }
     }
 
     /// The processes that occur in a view, at any depth: bit p is set where process p does.

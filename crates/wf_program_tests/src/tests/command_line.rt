@@ -156,6 +156,8 @@ fn failed_calls_are_told(rt: HostRuntime) -> Result<(), Fail> {
             4,
         ),
         ("wfcheck views --rounds 8", 0, 11, "wfcheck: 31 Write\n", 4),
+        ("wfcheck points --rounds 8", 1, 0, "wfcheck: 30 Read\n", 4),
+        ("wfcheck points --rounds 8", 0, 11, "wfcheck: 31 Write\n", 4),
         ("wfcheck --help", 1, 11, "wfcheck: 31 Write\n", 4),
         ("wfcheck --version", 1, 11, "wfcheck: 31 Write\n", 4),
         (

@@ -9,7 +9,9 @@ use std::test::Fail;
 use std::thread::Threads;
 use wf_complex::BuildFault;
 use wf_core::Account;
-use wf_engine::{Form, Outcome, RunFault, run_solve, run_solve_one, run_verify, run_views};
+use wf_engine::{
+    Form, Outcome, RunFault, run_points, run_solve, run_solve_one, run_verify, run_views,
+};
 use wf_examples::PATH_2;
 use wf_io::{Sink, Source};
 use wf_task::TaskFault;
@@ -23,6 +25,10 @@ const REPORT: &str =
 const LIST: &str =
     "wfcheck views 1\nprocesses 1\nrounds 8\nsimplices 1\nviews 1\npoints 1\nexecutions 1\nv 0 0 0\nend\n";
 
+/// One process sees itself alone, eight times.
+const TOLD: &str =
+    "0 p0 saw {p0 saw {p0 saw {p0 saw {p0 saw {p0 saw {p0 saw {p0 saw {p0=0}}}}}}}}\n";
+
 /// The least report about the path of length 2 after one round: points 2 and 3 have two candidates each once the root is
 /// closed, and the lower ones are the map's.
 const LEAST: &str =
@@ -34,10 +40,11 @@ pub enum Engine {
     Solve,
     Share,
     Views,
+    Points,
 }
 
 impl Engine {
-    /// Runs it for some rounds: a search by one worker, one by three, or a listing.
+    /// Runs it for some rounds: a search by one worker, one by three, or one of the two listings.
     pub fn run<T: Threads + Sync, R: Read, W: Write>(
         self,
         rt: &T,
@@ -52,6 +59,7 @@ impl Engine {
             Engine::Solve => run_solve(rt, alloc, source, sink, rounds, 1, Form::Verdict).err(),
             Engine::Share => run_solve(rt, alloc, source, sink, rounds, 3, Form::Full).err(),
             Engine::Views => run_views(alloc, source, sink, rounds).err(),
+            Engine::Points => run_points(alloc, source, sink, rounds).err(),
         }
     }
 
@@ -60,11 +68,12 @@ impl Engine {
         match self {
             Engine::Solve | Engine::Share => REPORT,
             Engine::Views => LIST,
+            Engine::Points => TOLD,
         }
     }
 }
 
-pub(crate) const ENGINES: [Engine; 3] = [Engine::Solve, Engine::Share, Engine::Views];
+pub(crate) const ENGINES: [Engine; 4] = [Engine::Solve, Engine::Share, Engine::Views, Engine::Points];
 
 #[test]
 fn a_task_is_answered(rt: HostRuntime) -> Result<(), Fail> {

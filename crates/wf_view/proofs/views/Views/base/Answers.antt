@@ -1,6 +1,7 @@
-use Rattle.std.proofs.Common.{length, sym, subst}
+use Rattle.std.proofs.Common.{length, sym, subst, arith}
 use Rattle.wf_view.specs.Table.{IsEntry, is_base}
 use Rattle.wf_view.proofs.views.Views.base.Goals as goal
 
 pub number-requires-clause-entry : goal.number-requires-clause-entry
-number-requires-clause-entry c = subst (IsEntry (length c.args.self.now)) (sym c.input.ensures) (is_base c.args.colour c.args.value c.requires.colour)
+number-requires-clause-entry c =
+    subst (IsEntry (length c.args.self.now)) (sym c.input.ensures) (is_base c.args.colour c.args.value c.requires.colour (omega (arith, c.ranges.value.fits)))
