@@ -46,9 +46,9 @@ pub(crate) fn classes_of(
             view_count,
         });
     }
-    let found = picked(alloc, &lasts, &different.firsts)?;
+    let found = pick(alloc, &lasts, &different.firsts)?;
     let normals = normals_of(alloc, views, &found)?;
-    let ids = picked(alloc, &normals, &different.places)?;
+    let ids = pick(alloc, &normals, &different.places)?;
     Ok(Classes { ids, view_count })
 }
 
@@ -71,7 +71,7 @@ fn normals_of(alloc: Global, views: &mut Views, ids: &[u32]) -> Result<Vec<u32>,
 }
 
 /// The numbers at these places of a list.
-pub(crate) fn picked(alloc: Global, ids: &[u32], places: &[u32]) -> Result<Vec<u32>, AllocError>
+pub(crate) fn pick(alloc: Global, ids: &[u32], places: &[u32]) -> Result<Vec<u32>, AllocError>
     requires { All (λ p. p < length ids.now) places.now }
     ensures { IfOk result (λ v. v.items ≡ map (λ p. slice_index ids.now p) places.now) }
 {

@@ -8,7 +8,7 @@ ghost use Rattle.wf_complex.specs.Layout.{execution_total};
 ghost use Rattle.wf_complex.specs.Protocol.{Builds, point_in};
 ghost use Rattle.wf_complex.specs.ProtocolMade.{IsMade, pairs_of};
 
-use crate::classes::{classes_of, picked};
+use crate::classes::{classes_of, pick};
 use crate::fault::BuildFault;
 use crate::layout::{Execution, MOST_EXECUTIONS, execution_count, lay_out};
 use crate::numbering::number_all;
@@ -74,7 +74,7 @@ impl Protocol {
         if execution_count(inputs, m, rounds) > MOST_EXECUTIONS {
             return Err(BuildFault::TooManyExecutions);
         }
-        Ok(made(alloc, inputs, task.symmetric(), m, rounds)?)
+        Ok(complex_from(alloc, inputs, task.symmetric(), m, rounds)?)
     }
 
     /// The number of rounds.
@@ -163,7 +163,7 @@ impl Protocol {
 
 /// The complex of these input simplices, with words whose first block has at least m participants, or all where they are
 /// fewer.
-fn made(
+fn complex_from(
     alloc: Global,
     inputs: &[Simplex],
     symmetric: bool,
@@ -184,7 +184,7 @@ fn made(
     let places = places_of(alloc, &views, &lasts, &executions)?;
     let ids = classes_of(alloc, &mut views, lasts, symmetric)?;
     let numbered = number_all(alloc, &ids.ids, views.len() as usize)?;
-    let classes = picked(alloc, &ids.ids, &numbered.firsts)?;
+    let classes = pick(alloc, &ids.ids, &numbered.firsts)?;
     Ok(Protocol {
         rounds,
         views,

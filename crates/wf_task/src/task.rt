@@ -70,7 +70,7 @@ impl Task {
         let value = json(alloc, bytes)?;
         let draft = Draft::of(alloc, &value)?;
         drop(value);
-        judged(alloc, &draft)
+        judge(alloc, &draft)
     }
 
     /// The task of these parts, the tuples of each input simplex in the order of the inputs.
@@ -201,7 +201,7 @@ impl Task {
 
 /// The task that a draft lists, or its first fault.
 #[tactic(auto, unfolding(crate::specs::Judge::judged))]
-fn judged(alloc: Global, draft: &Draft) -> Result<Task, TaskFault>
+fn judge(alloc: Global, draft: &Draft) -> Result<Task, TaskFault>
     requires vertices { ListsVertices (draft_seen draft.now) }
     requires few { ListsFew (draft_seen draft.now) }
     ensures { Gives (λ t. t) result (judged (draft_seen draft.now)) }
@@ -217,11 +217,11 @@ fn judged(alloc: Global, draft: &Draft) -> Result<Task, TaskFault>
         return Err(TaskFault::NoInput);
     }
     judge_first_block(draft)?;
-    Ok(drafted(alloc, draft, inputs, outputs, &slots)?)
+    Ok(task_of(alloc, draft, inputs, outputs, &slots)?)
 }
 
 /// The same number of participants in fewer bits.
-fn narrowed(restriction: Option<u64>) -> Option<u8>
+fn narrow(restriction: Option<u64>) -> Option<u8>
     requires { is_first_block restriction ≡ true }
     ensures { result ≡ restriction }
 {
@@ -232,7 +232,7 @@ fn narrowed(restriction: Option<u64>) -> Option<u8>
 }
 
 /// The task that a draft without a fault lists.
-fn drafted(
+fn task_of(
     alloc: Global,
     draft: &Draft,
     inputs: Complex,
@@ -254,6 +254,6 @@ fn drafted(
         outputs,
         tuples,
         values,
-        restriction: narrowed(draft.restriction),
+        restriction: narrow(draft.restriction),
     })
 }

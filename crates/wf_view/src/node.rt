@@ -48,7 +48,7 @@ pub fn snapshot(process: u8, ids: &[u32]) -> Node
 
 /// The entry with this process, and with the new number of each view in it. The new numbers stand beside the old ones,
 /// which ascend.
-pub fn renumbered(node: Node, process: u8, old: &[u32], new: &[u32]) -> Node
+pub fn renumber(node: Node, process: u8, old: &[u32], new: &[u32]) -> Node
     requires count { node.count ≤ 4 }
     requires ascending { is_ascending old.now ≡ true }
     requires fewer { length new.now ≤ length old.now }

@@ -14,7 +14,7 @@ ghost use Rattle.wf_view.specs.Views.{view_at, view_seen, processes_at, with_vie
 ghost use Rattle.wf_view.specs.Table.{same_node, colours_at};
 ghost use Rattle.wf_view.specs.Renaming.{rank_in, renamed_at, SawAmong, AreInside, AreRenamed};
 
-use crate::node::{Node, input, number_beside, renumbered, snapshot};
+use crate::node::{Node, input, number_beside, renumber, snapshot};
 use std::alloc::{AllocError, Global};
 use std::collections::{BTreeSet, HashMap};
 use std::marker::Model;
@@ -200,7 +200,7 @@ impl Views {
             (λ n. slice_get self.new n ≡ Some (renamed_at self.old (rank_in processes) id)) }
     {
         let node = self.nodes[id as usize];
-        let entry = renumbered(node, rank(processes, node.process), old, new);
+        let entry = renumber(node, rank(processes, node.process), old, new);
         let colours = colours_seen(
             &self.colours,
             entry.process,

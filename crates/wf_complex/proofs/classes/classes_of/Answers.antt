@@ -26,8 +26,8 @@ returns-then-not-symmetric-clause-count c =
     ∙ (λ i. length (first_places (c.deref.ensures.value i) (length (c.deref.ensures.value i))))
     ∙ sym (length-distinct_views c.args.views.now c.len.ensures.once c.args.lasts.items c.requires.lasts)
 
-pub picked-requires : goal.picked-requires
-picked-requires c =
+pub pick-requires : goal.pick-requires
+pick-requires c =
     let first : c.in_ok-different.different.firsts.items ≡ first_places c.args.lasts.items (length c.args.lasts.items) =
     c.in_ok-different.ensures.firsts ∙ (λ i. first_places (c.deref.ensures.value i) (length (c.deref.ensures.value i))) in
     subst (λ xs. All (λ p. p < length xs) c.deref-3.result.now) (sym c.deref-2.ensures.value)

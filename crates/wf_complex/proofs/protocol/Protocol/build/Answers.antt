@@ -22,8 +22,8 @@ refused t r (Err Rounds) low few h = absurd (let none : ⊥ = cc in none)
 refused t r (Err TooManyExecutions) low few h = absurd (let none : ⊥ = cc in none)
 refused t r (Err OutOfMemory) low few h = (low, few)
 
-pub returns-in_err-made : goal.returns-in_err-made
-returns-in_err-made c =
+pub returns-in_err-complex_from : goal.returns-in_err-complex_from
+returns-in_err-complex_from c =
     let t = c.args.task.now in
     let long = length-executions t c.args.rounds ∙ sym (λ i. execution_total (c.first_block-m.ensures.first_block i) c.args.rounds ((c.simplices-inputs.ensures.simplices ∙ c.inputs.ensures.inputs) i)) in
     refused t c.args.rounds c.from_residual.result (omega arith) (omega (arith, long, c.execution_count.ensures.count)) c.from_residual.ensures.1
@@ -34,5 +34,5 @@ returns c =
     let long = length-executions t c.args.rounds ∙ sym (λ i. execution_total (c.first_block-m.ensures.first_block i) c.args.rounds ((c.simplices-inputs.ensures.simplices ∙ c.inputs.ensures.inputs) i)) in (
       omega arith,
       omega (arith, long, c.execution_count.ensures.count),
-      c.in_ok-made.ensures t c.inputs.ensures.task (sym (c.simplices-inputs.ensures.simplices ∙ c.inputs.ensures.inputs)) (sym c.symmetric.ensures) (sym c.first_block-m.ensures.first_block),
+      c.in_ok-complex_from.ensures t c.inputs.ensures.task (sym (c.simplices-inputs.ensures.simplices ∙ c.inputs.ensures.inputs)) (sym c.symmetric.ensures) (sym c.first_block-m.ensures.first_block),
     )

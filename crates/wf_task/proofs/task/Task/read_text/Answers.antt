@@ -9,10 +9,10 @@ use Rattle.wf_task.proofs.task.Task.read_text.Goals as goal
 pub of-requires : goal.of-requires
 of-requires c = let parts = parts-json_of c.args.bytes.now (view c.in_ok-value.value) (found_value _ _ c.in_ok-value.ensures) in omega (arith, parts, c.if-bytes-gt-LONGEST.false)
 
-pub judged-requires-clause-vertices : goal.judged-requires-clause-vertices
-judged-requires-clause-vertices c = vertices_listed _ (draft_seen c.in_ok-draft.draft) c.in_ok-draft.ensures
+pub judge-requires-clause-vertices : goal.judge-requires-clause-vertices
+judge-requires-clause-vertices c = vertices_listed _ (draft_seen c.in_ok-draft.draft) c.in_ok-draft.ensures
 
-pub judged-requires-clause-few : goal.judged-requires-clause-few
-judged-requires-clause-few c =
+pub judge-requires-clause-few : goal.judge-requires-clause-few
+judge-requires-clause-few c =
     let parts = parts-json_of c.args.bytes.now (view c.in_ok-value.value) (found_value _ _ c.in_ok-value.ensures) in
     few_listed (view c.in_ok-value.value) (draft_seen c.in_ok-draft.draft) (omega (arith, parts, c.if-bytes-gt-LONGEST.false)) c.in_ok-draft.ensures

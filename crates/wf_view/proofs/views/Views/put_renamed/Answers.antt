@@ -20,39 +20,39 @@ rank-requires c =
     entry_low c.args.id c.index-node.result.now
     (entry_read c.self.inside.nodes.items c.self.invariant.entries c.args.self.now c.self.view_is c.args.id c.index-node.result.now c.requires.id c.index-node.ensures)
 
-pub renumbered-entry-requires-clause-count : goal.renumbered-entry-requires-clause-count
-renumbered-entry-requires-clause-count c =
+pub renumber-entry-requires-clause-count : goal.renumber-entry-requires-clause-count
+renumber-entry-requires-clause-count c =
     count_read c.self.inside.nodes.items c.self.invariant.entries c.args.self.now c.self.view_is c.args.id c.index-node.result.now c.requires.id c.index-node.ensures
 
-pub renumbered-entry-requires-clause-known : goal.renumbered-entry-requires-clause-known
-renumbered-entry-requires-clause-known c =
+pub renumber-entry-requires-clause-known : goal.renumber-entry-requires-clause-known
+renumber-entry-requires-clause-known c =
     known c.self.inside.nodes.items c.self.invariant.entries c.self.invariant.once c.args.self.now c.self.view_is c.args.id c.index-node.result.now c.requires.id c.index-node.ensures
     c.args.processes c.args.old.now c.args.new.now c.requires.numbers c.requires.parts
 
 pub shared_ref_as_front-colours_seen : goal.shared_ref_as_front-colours_seen
 shared_ref_as_front-colours_seen c =
-    let same = ap (λ (n : Node). n.count) c.renumbered-entry.ensures in
+    let same = ap (λ (n : Node). n.count) c.renumber-entry.ensures in
     let low = count_read c.self.inside.nodes.items c.self.invariant.entries c.args.self.now c.self.view_is c.args.id c.index-node.result.now c.requires.id c.index-node.ensures in
     omega (arith, same, low)
 
-entry_then : (c : goal.After-colours_seen-arg-2-1) → IsEntry (length c.args.self.now) c.renumbered-entry.result
+entry_then : (c : goal.After-colours_seen-arg-2-1) → IsEntry (length c.args.self.now) c.renumber-entry.result
 entry_then c =
     renamed_entry c.self.inside.nodes.items c.self.invariant.entries c.self.invariant.once c.args.self.now c.self.view_is c.args.id c.index-node.result.now c.requires.id c.index-node.ensures
-    c.args.processes c.args.old.now c.args.new.now c.requires.numbers c.requires.parts c.requires.renamed c.rank.result c.rank.ensures c.renumbered-entry.result c.renumbered-entry.ensures
+    c.args.processes c.args.old.now c.args.new.now c.requires.numbers c.requires.parts c.requires.renamed c.rank.result c.rank.ensures c.renumber-entry.result c.renumber-entry.ensures
 
 pub colours_seen-colours-requires-clause-process : goal.colours_seen-colours-requires-clause-process
-colours_seen-colours-requires-clause-process c = entry_low (length c.args.self.now) c.renumbered-entry.result (entry_then c)
+colours_seen-colours-requires-clause-process c = entry_low (length c.args.self.now) c.renumber-entry.result (entry_then c)
 
 pub colours_seen-colours-requires-clause-numbers : goal.colours_seen-colours-requires-clause-numbers
 colours_seen-colours-requires-clause-numbers c =
     let long : length c.args.self.now ≡ length c.deref.result.now =
     sym (ap length (c.deref.ensures.value ∙ c.self.invariant.coloured) ∙ length-map (shown c.self.inside.nodes.items) colours_of ∙ ap length c.self.view_is) in
-    subst (λ n. All (λ k. k < n) (take c.renumbered-entry.result.count c.renumbered-entry.result.ids)) long (entry_earlier (length c.args.self.now) c.renumbered-entry.result (entry_then c))
+    subst (λ n. All (λ k. k < n) (take c.renumber-entry.result.count c.renumber-entry.result.ids)) long (entry_earlier (length c.args.self.now) c.renumber-entry.result (entry_then c))
 
-entry_made : (c : goal.After-number-arg-1) → IsEntry (length c.args.self.now) c.renumbered-entry.result
+entry_made : (c : goal.After-number-arg-1) → IsEntry (length c.args.self.now) c.renumber-entry.result
 entry_made c =
     renamed_entry c.self.inside.nodes.items c.self.invariant.entries c.self.invariant.once c.args.self.now c.self.view_is c.args.id c.index-node.result.now c.requires.id c.index-node.ensures
-    c.args.processes c.args.old.now c.args.new.now c.requires.numbers c.requires.parts c.requires.renamed c.rank.result c.rank.ensures c.renumbered-entry.result c.renumbered-entry.ensures
+    c.args.processes c.args.old.now c.args.new.now c.requires.numbers c.requires.parts c.requires.renamed c.rank.result c.rank.ensures c.renumber-entry.result c.renumber-entry.ensures
 
 pub number-requires-clause-entry : goal.number-requires-clause-entry
 number-requires-clause-entry c = entry_made c
@@ -60,14 +60,14 @@ number-requires-clause-entry c = entry_made c
 pub number-requires-clause-colours : goal.number-requires-clause-colours
 number-requires-clause-colours c =
     c.colours_seen-colours.ensures
-    ∙ ap (λ cs. bit_or (2 ^ c.renumbered-entry.result.process) (colours_at cs (take c.renumbered-entry.result.count c.renumbered-entry.result.ids)))
+    ∙ ap (λ cs. bit_or (2 ^ c.renumber-entry.result.process) (colours_at cs (take c.renumber-entry.result.count c.renumber-entry.result.ids)))
     (c.deref.ensures.value ∙ c.self.invariant.coloured ∙ ap (map colours_of) c.self.view_is)
-    ∙ entry_colours c.args.self.now c.renumbered-entry.result (entry_made c)
+    ∙ entry_colours c.args.self.now c.renumber-entry.result (entry_made c)
 
-view_made : (c : goal.After-number) → node_view c.args.self.now c.renumbered-entry.result ≡ renamed (rank_in c.args.processes) (view_at c.args.self.now c.args.id)
+view_made : (c : goal.After-number) → node_view c.args.self.now c.renumber-entry.result ≡ renamed (rank_in c.args.processes) (view_at c.args.self.now c.args.id)
 view_made c =
     renamed_view c.self.inside.nodes.items c.self.invariant.entries c.self.invariant.once c.args.self.now c.self.view_is c.args.id c.index-node.result.now c.requires.id c.index-node.ensures
-    c.args.processes c.args.old.now c.args.new.now c.requires.numbers c.requires.parts c.requires.renamed c.rank.result c.rank.ensures c.renumbered-entry.result c.renumbered-entry.ensures
+    c.args.processes c.args.old.now c.args.new.now c.requires.numbers c.requires.parts c.requires.renamed c.rank.result c.rank.ensures c.renumber-entry.result c.renumber-entry.ensures
 
 pub returns-clause-table : goal.returns-clause-table
 returns-clause-table c = c.number.ensures.table ∙ ap (λ v. if is_ok c.number.result then with_view c.args.self.now v else c.args.self.now) (view_made c)

@@ -2,7 +2,7 @@ use Rattle.std.proofs.Common.{◌≡◌, ◌≤◌, ◌<◌, true, length, take,
 use Rattle.wf_model.specs.Lists.{has}
 use Rattle.wf_view.specs.Renaming.{number_beside}
 use Rattle.wf_view.proofs.Beside.{next_known}
-use Rattle.wf_view.proofs.node.renumbered.Goals as goal
+use Rattle.wf_view.proofs.node.renumber.Goals as goal
 
 pub number_beside-requires-clause-known : goal.number_beside-requires-clause-known
 number_beside-requires-clause-known c =

@@ -9,7 +9,7 @@ use Rattle.wf_complex.specs.Numbering.{first_places}
 use Rattle.wf_complex.proofs.Different.{firsts_low, few_firsts, all_picked}
 use Rattle.wf_complex.proofs.Kept.{all_sized, all_small, few_views, few_lasts, lasts_end, few_laid, length-marked, length-classed, is_protocol}
 use Rattle.wf_complex.proofs.Depth.{lasts_shallow}
-use Rattle.wf_complex.proofs.protocol.made.Goals as goal
+use Rattle.wf_complex.proofs.protocol.complex_from.Goals as goal
 
 pub last_views-requires : goal.last_views-requires
 last_views-requires c =
@@ -58,8 +58,8 @@ number_all-requires-clause-few c =
     let same = length-classed c.args.m c.args.rounds inputs c.requires.executions (all_sized inputs c.requires.simplices) c.last_views.new.views c.in_ok-lasts.lasts.items c.in_ok-lasts.ensures.made (class_by c.args.symmetric) c.classes_of.new.views c.in_ok-ids.ids.ids.items c.in_ok-ids.ensures.classes in
     omega (arith, ap length c.deref-3.ensures.value, few, same)
 
-pub picked-requires : goal.picked-requires
-picked-requires c =
+pub pick-requires : goal.pick-requires
+pick-requires c =
     let first : c.in_ok-numbered.numbered.firsts.items ≡ first_places c.in_ok-ids.ids.ids.items (length c.in_ok-ids.ids.ids.items) =
     c.in_ok-numbered.ensures.firsts ∙ (λ i. first_places (c.deref-3.ensures.value i) (length (c.deref-3.ensures.value i))) in
     subst (λ xs. All (λ p. p < length xs) c.deref-5.result.now) (sym c.deref-4.ensures.value)
