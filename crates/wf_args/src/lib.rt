@@ -52,6 +52,11 @@ pub enum Job {
         /// How many rounds.
         rounds: u32,
     },
+    /// Tell the points with what the map of a report decides there.
+    Decisions {
+        /// The file that has the task.
+        task: String,
+    },
     /// Write the canonical text of a task that has a name.
     Preset(Preset),
 }
@@ -143,16 +148,18 @@ fn solve_command<'a>(alloc: Global) -> Result<Command<'a>, AllocError> {
         .arg(progress)
 }
 
-fn verify_command<'a>(alloc: Global) -> Result<Command<'a>, AllocError> {
-    let task = Arg::new(alloc, "task")
+fn task_file<'a>(alloc: Global, help: &'a str) -> Arg<'a> {
+    Arg::new(alloc, "task")
         .long("task")
         .value_name("FILE")
-        .help("The file that has the task")
-        .required(true)
-        .action(ArgAction::Set);
+        .help(help)
+        .action(ArgAction::Set)
+}
+
+fn verify_command<'a>(alloc: Global) -> Result<Command<'a>, AllocError> {
     Command::new(alloc, "verify")
         .about("Read a report on standard input, and check it without a search")
-        .arg(task)
+        .arg(task_file(alloc, "The file that has the task").required(true))
 }
 
 fn views_command<'a>(alloc: Global) -> Result<Command<'a>, AllocError> {
@@ -166,9 +173,17 @@ fn views_command<'a>(alloc: Global) -> Result<Command<'a>, AllocError> {
 fn points_command<'a>(alloc: Global) -> Result<Command<'a>, AllocError> {
     Command::new(alloc, "points")
         .about(
-            "Read a task on standard input, and tell in words who saw what at each point of its protocol complex",
+            "Tell in words who saw what at each point of a task's protocol complex, with --rounds, or with --task also what a report decides there",
         )
-        .arg(number(alloc, "rounds", "How many rounds of immediate snapshots"))
+        .arg(optional(
+            alloc,
+            "rounds",
+            "How many rounds of immediate snapshots, where the task is on standard input",
+        ))?
+        .arg(task_file(
+            alloc,
+            "The file that has the task, where a report about it is on standard input",
+        ))
 }
 
 fn preset_command<'a>(alloc: Global) -> Result<Command<'a>, AllocError> {
@@ -247,12 +262,18 @@ fn views_job(found: &ArgMatches<'_>) -> Option<Job>
     Some(Job::Views { rounds })
 }
 
-/// The job of `points`.
-fn points_job(found: &ArgMatches<'_>) -> Option<Job>
-    ensures { IfSome result IsWithinLimits }
+/// The job of `points`: there is one with `--rounds` or with `--task`, and none with both.
+fn points_job(alloc: Global, found: &ArgMatches<'_>) -> Result<Job, WordsFault>
+    ensures ok { IfOk result IsWithinLimits }
+    ensures err { IfErr result IsClapMistake }
 {
-    let rounds = found.get_one::<u32>("rounds")?;
-    Some(Job::Points { rounds })
+    match (found.get_one::<u32>("rounds"), found.get_str("task")) {
+        (Some(rounds), None) => Ok(Job::Points { rounds }),
+        (None, Some(task)) => Ok(Job::Decisions {
+            task: String::from_str(alloc, task)?,
+        }),
+        _ => Err(WordsFault::Words),
+    }
 }
 
 /// The job of `preset`.
@@ -290,7 +311,7 @@ pub fn read_words(alloc: Global, words: &[String]) -> Result<Job, WordsFault>
         Some(("solve", inner)) => solve_job(inner).ok_or(WordsFault::Words),
         Some(("verify", inner)) => verify_job(alloc, inner),
         Some(("views", inner)) => views_job(inner).ok_or(WordsFault::Words),
-        Some(("points", inner)) => points_job(inner).ok_or(WordsFault::Words),
+        Some(("points", inner)) => points_job(alloc, inner),
         Some(("preset", inner)) => preset_job(inner).ok_or(WordsFault::Words),
         _ => Err(WordsFault::Words),
     }

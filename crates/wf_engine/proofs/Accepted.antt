@@ -28,7 +28,7 @@ use Rattle.wf_engine.specs.declared.fault.RunFault.{RunFault}
 use Rattle.wf_engine.specs.declared.fault.RunFault.TheVariants as run
 use Rattle.wf_engine.specs.Run.{IsWithinLimits}
 use Rattle.wf_engine.specs.Texts.{IsRefutation, IsSolved, LeadsToMap, text_of_report}
-use Rattle.wf_engine.specs.Verify.{ChecksText, IsVerified, outcome_of}
+use Rattle.wf_engine.specs.Verify.{ChecksText, IsOutcome, IsVerified, outcome_of}
 use Rattle.wf_engine.specs.Laws.{Accepts, accepted_as}
 use Rattle.wf_engine.proofs.Written.{map_within, none_within, least_within}
 
@@ -54,8 +54,8 @@ unrefused cert.OutOfMemory found clear other fails = absurd (other refl)
 
 -- the answer about a report without a fault
 faultless : (t : Task) (report : Report) (answer : Result (Outcome × List ℕ) RunFault) → IsWithinLimits report.rounds t → report_fault t report.rounds report ≡ None
-    → IsVerified t report answer → Accepts (outcome_of report.body) answer
-faultless t report (Ok answer) within clear is = is.outcome_is
+    → IsVerified IsOutcome t report answer → Accepts (outcome_of report.body) answer
+faultless t report (Ok answer) within clear is = is.1.0
 faultless t report (Err run.OutOfMemory) within clear is = tt
 faultless t report (Err (run.Cert cert.OutOfMemory)) within clear is = absurd is
 faultless t report (Err (run.Cert e)) within clear is = unrefused e (report_fault t report.rounds report) clear (λ same. let bad : ⊥ = cc in bad) is.1
@@ -70,7 +70,7 @@ text_accepted : (t : Task) (report : Report) (answer : Result (Outcome × List �
 text_accepted t report answer grammar short within clear (Ok read, is, next) =
     let known : report_of 2 (report_text report) ≡ Ok report = written_read report grammar in
     let same : read ≡ report = cc in
-    faultless t report answer within clear (subst (λ r. IsVerified t r answer) same next)
+    faultless t report answer within clear (subst (λ r. IsVerified IsOutcome t r answer) same next)
 text_accepted t report answer grammar short within clear (Err (run.Cert (cert.Syntax k)), is, next) =
     let known : report_of 2 (report_text report) ≡ Ok report = written_read report grammar in
     absurd (let bad : ⊥ = cc in bad)

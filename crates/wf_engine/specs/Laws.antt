@@ -14,7 +14,7 @@ use Rattle.wf_engine.specs.declared.preset.Preset.{Preset}
 use Rattle.wf_engine.specs.Run.{IsWithinLimits}
 use Rattle.wf_engine.specs.Presets.{WritesPreset}
 use Rattle.wf_engine.specs.Texts.{IsSolved, Solves, Lists}
-use Rattle.wf_engine.specs.Verify.{ChecksText, Verifies}
+use Rattle.wf_engine.specs.Verify.{ChecksText, Decides, Verifies}
 
 -- how many reads, and how many writes, failed by a refusal
 abbrev pub failed_reads : RunFault → ℕ
@@ -68,7 +68,7 @@ pub record AreCounted (task task' cert cert' : Reading) (failed : ℕ) : Type 0 
   pub all : of_task + of_cert ≡ failed
 
 -- The same over two sources, a task's and a report's: a failed read of either is told by 30.
-pub record IsChecked (task task' cert cert' : Reading) (sink sink' : Writing) (result : Result Outcome RunFault) : Type 0 where
+pub record IsChecked {X : Type 0} (task task' cert cert' : Reading) (sink sink' : Writing) (result : Result X RunFault) : Type 0 where
   pub task_taken : task'.taken ≤ task.taken + (LONGEST + 1)
   pub cert_taken : cert'.taken ≤ cert.taken + (LONGEST + 1)
   pub reads : AreCounted task task' cert cert' (by_result failed_reads result)
@@ -79,6 +79,11 @@ abbrev pub VerifyingIsCounted : Type 0
 VerifyingIsCounted =
     (task task' cert cert' : Reading) (sink sink' : Writing) (result : Result Outcome RunFault)
     → Verifies task task' cert cert' sink sink' result → IsChecked task task' cert cert' sink sink' result
+
+abbrev pub DecidingIsCounted : Type 0
+DecidingIsCounted =
+    (task task' cert cert' : Reading) (sink sink' : Writing) (result : Result (Unit {0}) RunFault)
+    → Decides task task' cert cert' sink sink' result → IsChecked task task' cert cert' sink sink' result
 
 -- the answer of a check says what the search found, or memory ran out
 abbrev pub Accepts : Outcome → Result (Outcome × List ℕ) RunFault → Type 0

@@ -3,9 +3,11 @@ use Rattle.std.specs.Prelude.{◌≡◌, ◌<◌, ℕ, List, [], length, codes, 
 use Rattle.wf_model.specs.Task.{Task}
 use Rattle.wf_model.specs.Report.{Report, Body, a_map, none, least, line, report_of}
 use Rattle.wf_model.specs.Check.{report_fault}
+use Rattle.wf_model.specs.PointsText.{points_text}
 use Rattle.wf_io.specs.Seen.{Reading, Writing}
 use Rattle.wf_io.specs.Ends.{CanRead, CanCount}
 use Rattle.wf_task.specs.declared.task.TheConstants.{LONGEST}
+use Rattle.wf_complex.specs.Protocol.{Built, IsProtocol}
 use Rattle.wf_cert.specs.declared.report.Report as code
 use Rattle.wf_cert.specs.Reports.{report_seen}
 use Rattle.wf_cert.specs.Faults.{Fails}
@@ -35,39 +37,64 @@ accepted_text (a_map m) = line (codes "accepted map") []
 accepted_text (none ls) = line (codes "accepted none") []
 accepted_text (least m ls) = line (codes "accepted least") []
 
+-- what a report answers, and the line that says so
+abbrev pub IsOutcome : Task → Report → Outcome → List ℕ → Type 0
+IsOutcome t r outcome text = (outcome ≡ outcome_of r.body) × (text ≡ accepted_text r.body)
+
+-- the values of a map; there are none where there is no map
+abbrev pub values_of : Body → List ℕ
+values_of (a_map m) = m
+values_of (none ls) = []
+values_of (least m ls) = m
+
+-- the points in words, with the values of the report's map
+abbrev pub AreDecisions : Task → Report → Unit {0} → List ℕ → Type 0
+AreDecisions t r answer text = text ≡ points_text t r.rounds (values_of r.body)
+
 -- The report's rounds are within the limits and the checker finds no fault. So it is true: a map is a decision map, a
 -- map with a certificate is the least one, and where there is none, no function on the views is a decision map.
-pub record IsAccepted (t : Task) (r : Report) (outcome : Outcome) (text : List ℕ) : Type 0 where
+pub record IsFaultless (t : Task) (r : Report) : Type 0 where
   pub within : IsWithinLimits r.rounds t
   pub faultless : report_fault t r.rounds r ≡ None
   pub holds : HoldsOf t r.rounds r.body
-  pub outcome_is : outcome ≡ outcome_of r.body
-  pub text_is : text ≡ accepted_text r.body
 
--- the report is accepted; or its first fault, or why there is no protocol complex for its rounds
-abbrev pub IsVerified : Task → Report → Result (Outcome × List ℕ) RunFault → Type 0
-IsVerified t r (Ok answer) = IsAccepted t r answer.0 answer.1
-IsVerified t r (Err (Cert cert.OutOfMemory)) = ⊥
-IsVerified t r (Err (Cert e)) = IsWithinLimits r.rounds t × Fails e (report_fault t r.rounds r)
-IsVerified t r (Err e) = IsBeyondLimits r.rounds t e
+-- a report's first fault, or why there is no protocol complex for its rounds
+abbrev pub IsFaultOf : Task → Report → RunFault → Type 0
+IsFaultOf t r (Cert cert.OutOfMemory) = ⊥
+IsFaultOf t r (Cert e) = IsWithinLimits r.rounds t × Fails e (report_fault t r.rounds r)
+IsFaultOf t r e = IsBeyondLimits r.rounds t e
+
+-- the protocol complex for the rounds of a report that is accepted; or it is refused
+abbrev pub Judges : Task → Report → Result Built RunFault → Type 0
+Judges t r (Ok b) = IsFaultless t r × IsProtocol t r.rounds b
+Judges t r (Err e) = IsFaultOf t r e
+
+-- the report is accepted, where is_text says which answer and text it has then; or it is refused
+abbrev pub IsVerified : {X : Type 0} → (Task → Report → X → List ℕ → Type 0) → Task → Report → Result (X × List ℕ) RunFault → Type 0
+IsVerified is_text t r (Ok answer) = IsFaultless t r × is_text t r answer.0 answer.1
+IsVerified is_text t r (Err e) = IsFaultOf t r e
 
 -- the text is read as a report, and that is checked about the task
 abbrev pub ChecksText : Task → List ℕ → Result (Outcome × List ℕ) RunFault → Type 0
-ChecksText t text result = (r : Result Report RunFault) × IsReportOf text r × Next (IsVerified t) r result
+ChecksText t text result = (r : Result Report RunFault) × IsReportOf text r × Next (IsVerified IsOutcome t) r result
 
 -- the report is read where there is a task, and is else left alone
-abbrev pub ChecksFor : Reading → Reading → Result Task RunFault → Result (Outcome × List ℕ) RunFault → Type 0
-ChecksFor cert cert' (Ok t) result =
-    (r : Result Report RunFault) × Reads IsReportOf cert cert' r × Next (IsVerified t) r result
-ChecksFor cert cert' (Err e) result = (result ≡ Err e) × (cert' ≡ cert)
+abbrev pub ChecksFor : {X : Type 0} → (Task → Report → X → List ℕ → Type 0) → Reading → Reading → Result Task RunFault → Result (X × List ℕ) RunFault → Type 0
+ChecksFor is_text cert cert' (Ok t) result =
+    (r : Result Report RunFault) × Reads IsReportOf cert cert' r × Next (IsVerified is_text t) r result
+ChecksFor is_text cert cert' (Err e) result = (result ≡ Err e) × (cert' ≡ cert)
 
-abbrev pub Checks : Reading → Reading → Reading → Reading → Result (Outcome × List ℕ) RunFault → Type 0
-Checks task task' cert cert' result =
-    (t : Result Task RunFault) × Reads IsTaskOf task task' t × ChecksFor cert cert' t result
+abbrev pub Checks : {X : Type 0} → (Task → Report → X → List ℕ → Type 0) → Reading → Reading → Reading → Reading → Result (X × List ℕ) RunFault → Type 0
+Checks is_text task task' cert cert' result =
+    (t : Result Task RunFault) × Reads IsTaskOf task task' t × ChecksFor is_text cert cert' t result
 
 -- the report of a source was checked against the task of another one, and what is accepted was written
 abbrev pub Verifies : Reading → Reading → Reading → Reading → Writing → Writing → Result Outcome RunFault → Type 0
-Verifies task task' cert cert' sink sink' result = Ran (Checks task task' cert cert') sink sink' result
+Verifies task task' cert cert' sink sink' result = Ran (Checks IsOutcome task task' cert cert') sink sink' result
+
+-- the same, and what the report's map decides at each point was written
+abbrev pub Decides : Reading → Reading → Reading → Reading → Writing → Writing → Result (Unit {0}) RunFault → Type 0
+Decides task task' cert cert' sink sink' result = Ran (Checks AreDecisions task task' cert cert') sink sink' result
 
 -- all three ends can count what a run asks of them
 abbrev pub CanVerify : Reading → Reading → Writing → Type 0

@@ -1,6 +1,6 @@
 //! Laws of runs: what holds after each, whatever it answers.
 
-ghost use Rattle.wf_engine.specs.Laws.{ListingIsCounted, PresetsAreCounted, SolvedReportsAreAccepted, SolvingIsCounted, VerifyingIsCounted};
+ghost use Rattle.wf_engine.specs.Laws.{DecidingIsCounted, ListingIsCounted, PresetsAreCounted, SolvedReportsAreAccepted, SolvingIsCounted, VerifyingIsCounted};
 
 /// A search takes at most one byte more than a text may have, tells each failed call, and writes nothing where it is
 /// refused for anything but a failed write.
@@ -18,6 +18,12 @@ pub fn listing_is_counted()
 /// writes nothing where it is refused for anything but a failed write.
 pub fn verifying_is_counted()
     ensures { VerifyingIsCounted }
+{}
+
+/// A telling of decisions takes at most one byte more than a text may have of each of its two sources, tells each failed
+/// call, and writes nothing where it is refused for anything but a failed write.
+pub fn deciding_is_counted()
+    ensures { DecidingIsCounted }
 {}
 
 /// The writing of a preset tells a failed write, tells no failed read, and writes nothing where it is refused for anything

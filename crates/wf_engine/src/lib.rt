@@ -5,6 +5,7 @@
 //! - [`run_views`]: a task's text in, and the list of the points of its protocol complex out.
 //! - [`run_points`]: a task's text in, and its points in words out.
 //! - [`run_verify`]: a task's text and a report's in, and what is accepted out.
+//! - [`run_decisions`]: the same, and what the report's map decides at each point out.
 //! - [`run_preset`]: the canonical text of a [`Preset`] out.
 //! - [`hand_out`]: the last step of each run, for a text that is had without one.
 //! - [`RunFault`]: why a run is refused, with its number and its name.
@@ -14,6 +15,7 @@
 //! the relation alone.
 #![tactic(auto)]
 
+mod decisions;
 mod fault;
 mod laws;
 mod outcome;
@@ -24,10 +26,11 @@ mod steps;
 mod verify;
 mod views;
 
+pub use decisions::run_decisions;
 pub use fault::RunFault;
 pub use laws::{
-    listing_is_counted, presets_are_counted, solved_reports_are_accepted, solving_is_counted,
-    verifying_is_counted,
+    deciding_is_counted, listing_is_counted, presets_are_counted, solved_reports_are_accepted,
+    solving_is_counted, verifying_is_counted,
 };
 pub use outcome::{Form, Outcome};
 pub use points::run_points;

@@ -4,7 +4,7 @@ ghost use Rattle.std.specs.Prelude.{◌≡◌, IfOk};
 ghost use Rattle.wf_io.specs.Ends.{CanRead};
 ghost use Rattle.wf_cert.specs.Reports.{AreNumbered, body_length, body_of, report_seen};
 ghost use Rattle.wf_engine.specs.Run.{Reads, answered};
-ghost use Rattle.wf_engine.specs.Verify.{CanVerify, Checks, IsReportOf, IsVerified, Verifies, accepted_text, outcome_of, seen};
+ghost use Rattle.wf_engine.specs.Verify.{CanVerify, Checks, IsOutcome, IsReportOf, IsVerified, Judges, Verifies, accepted_text, outcome_of, seen};
 
 use crate::fault::RunFault;
 use crate::outcome::Outcome;
@@ -47,7 +47,7 @@ fn verify_sources<T: Threads + Sync, R: Read, C: Read>(
 ) -> Result<(Outcome, Vec<u8>), RunFault>
     requires task { CanRead task_source.old }
     requires cert { CanRead cert_source.old }
-    ensures { Checks task_source.old task_source.new cert_source.old cert_source.new
+    ensures { Checks IsOutcome task_source.old task_source.new cert_source.old cert_source.new
         (answered result) }
 {
     let task = read_task(alloc, task_source)?;
@@ -56,7 +56,7 @@ fn verify_sources<T: Threads + Sync, R: Read, C: Read>(
 }
 
 /// The report of a source's text.
-fn read_cert<C: Read>(alloc: Global, source: &mut Source<C>) -> Result<Report, RunFault>
+pub(crate) fn read_cert<C: Read>(alloc: Global, source: &mut Source<C>) -> Result<Report, RunFault>
     requires { CanRead source.old }
     ensures read { Reads IsReportOf source.old source.new (seen result) }
     ensures few { IfOk result (λ report. AreNumbered (body_length report.body)) }
@@ -81,11 +81,25 @@ fn verify<T: Threads + Sync>(
     report: &Report,
 ) -> Result<(Outcome, Vec<u8>), RunFault>
     requires { AreNumbered (body_length report.now.body) }
-    ensures { IsVerified task.now (report_seen report.now) (answered result) }
+    ensures { IsVerified IsOutcome task.now (report_seen report.now) (answered result) }
+{
+    let _protocol = judged(rt, alloc, task, report)?;
+    Ok(accepted(alloc, &report.body)?)
+}
+
+/// The protocol complex for the rounds of a report about a task, where the checker finds no fault in it.
+pub(crate) fn judged<T: Threads + Sync>(
+    rt: &T,
+    alloc: Global,
+    task: &Task,
+    report: &Report,
+) -> Result<Protocol, RunFault>
+    requires { AreNumbered (body_length report.now.body) }
+    ensures { Judges task.now (report_seen report.now) result }
 {
     let protocol = Protocol::build(alloc, task, report.rounds)?;
     check(rt, alloc, task, &protocol, report)?;
-    Ok(accepted(alloc, &report.body)?)
+    Ok(protocol)
 }
 
 /// What a report with this answer says, with the line that tells it.

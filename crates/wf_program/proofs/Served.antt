@@ -14,6 +14,7 @@ use Rattle.wf_engine.specs.declared.fault.RunFault.{RunFault}
 use Rattle.wf_engine.specs.declared.fault.RunFault.TheVariants as run
 use Rattle.wf_engine.specs.Texts.{IsSolved, IsTextOf, undecided_points}
 use Rattle.wf_engine.specs.Laws.{failed_reads, failed_writes, by_result, IsChecked, IsCounted, IsWritten}
+use Rattle.wf_engine.specs.Verify.{AreDecisions, IsOutcome}
 use Rattle.wf_engine.proofs.Lemmas.{checked, counted, handed, preset_counted}
 use Rattle.wf_program.specs.declared.done.Done.{Done}
 use Rattle.wf_program.specs.declared.refusal.Refusal.{Refusal}
@@ -104,19 +105,30 @@ module _ (source source' : Reading) (sink sink' : Writing) where
   declined words.Words done read (is, same) = subst (IsDone 0 source source' sink sink') (sym is) (untouched refusal.Words refl read same)
   declined words.OutOfMemory done read (is, same) = subst (IsDone 0 source source' sink sink') (sym is) (untouched (refusal.Run run.OutOfMemory) refl read same)
 
-  -- a check of the source's report about the task of a file
-  after_verifying : (file file' : Reading) (result : Result Outcome RunFault) → IsChecked file file' source source' sink sink' result → IsDone 1 source source' sink sink' (verified result)
+  -- a check of the source's report about the task of a file, without and with a fault
+  checked_well : {X : Type 0} (file file' : Reading) (x : X) (d : Done) → d.status ≤ 1 → IsChecked file file' source source' sink sink' (Ok x) → IsDone 1 source source' sink sink' (Ok d)
   unfolding failed
-  after_verifying file file' (Ok outcome) h =
+  checked_well file file' x d most h =
       let all = h.reads.all in
       let cert = h.reads.cert_failures in
-      record { most = omega arith; failures = (h.reads.of_task, omega (arith, all), omega (arith, all, cert, h.writes)); taken = h.cert_taken; unwritten = tt }
-  after_verifying file file' (Err e) h =
+      record { most = most; failures = (h.reads.of_task, omega (arith, all), omega (arith, all, cert, h.writes)); taken = h.cert_taken; unwritten = tt }
+
+  checked_badly : {X : Type 0} (file file' : Reading) (e : RunFault) → IsChecked {X = X} file file' source source' sink sink' (Err e) → IsDone 1 source source' sink sink' (Err (refusal.Run e))
+  unfolding failed
+  checked_badly file file' e h =
       let all = h.reads.all in
       let cert = h.reads.cert_failures in
       let calls = calls_of_fault e in
       let few = one_read e in
       record { most = tt; failures = (h.reads.of_task, omega (arith, all, few), omega (arith, all, cert, h.writes, calls)); taken = h.cert_taken; unwritten = λ other. h.unwritten (λ same. other (ap fault_status same)) }
+
+  after_verifying : (file file' : Reading) (result : Result Outcome RunFault) → IsChecked file file' source source' sink sink' result → IsDone 1 source source' sink sink' (verified result)
+  after_verifying file file' (Ok outcome) h = checked_well file file' outcome _ (omega arith) h
+  after_verifying file file' (Err e) h = checked_badly file file' e h
+
+  after_deciding : (file file' : Reading) (result : Result (Unit {0}) RunFault) → IsChecked file file' source source' sink sink' result → IsDone 1 source source' sink sink' (written result)
+  after_deciding file file' (Ok done) h = checked_well file file' done _ (omega arith) h
+  after_deciding file file' (Err e) h = checked_badly file file' e h
 
   -- a file that could not be opened
   not_opened : (done : Result Done Refusal) → done ≡ Err (refusal.Run run.Read) → source' ≡ source → sink' ≡ sink → IsDone 1 source source' sink sink' done
@@ -132,12 +144,15 @@ module _ (source source' : Reading) (sink sink' : Writing) where
   did (Ok (job.Solve rounds workers form tells progress)) done (result, solves, ordered, is) =
       subst (IsDone 0 source source' sink sink') (sym is) (after_solving tells result (counted (IsSolved rounds form) rounds source source' sink sink' result solves))
   did (Ok (job.Verify task)) done (result, inl (file, file', verifies), is) =
-      subst (IsDone 1 source source' sink sink') (sym is) (after_verifying file file' result (checked file file' source source' sink sink' result verifies))
+      subst (IsDone 1 source source' sink sink') (sym is) (after_verifying file file' result (checked IsOutcome file file' source source' sink sink' result verifies))
   did (Ok (job.Verify task)) done (result, inr (none, read, wrote), is) = not_opened done (is ∙ ap verified none) read wrote
   did (Ok (job.Views rounds)) done (result, lists, is) =
       subst (IsDone 0 source source' sink sink') (sym is) (after_writing result (counted (IsTextOf views_text rounds) rounds source source' sink sink' result lists))
   did (Ok (job.Points rounds)) done (result, lists, is) =
       subst (IsDone 0 source source' sink sink') (sym is) (after_writing result (counted (IsTextOf undecided_points rounds) rounds source source' sink sink' result lists))
+  did (Ok (job.Decisions task)) done (result, inl (file, file', decides), is) =
+      subst (IsDone 1 source source' sink sink') (sym is) (after_deciding file file' result (checked AreDecisions file file' source source' sink sink' result decides))
+  did (Ok (job.Decisions task)) done (result, inr (none, read, wrote), is) = not_opened done (is ∙ ap written none) read wrote
   did (Ok (job.Preset preset)) done (result, writes, read, is) =
       subst (IsDone 0 source source' sink sink') (sym is) (after_preset result read (preset_counted preset sink sink' result writes))
   did (Err e) done (read, declines) = declined e done read declines

@@ -5,13 +5,14 @@ use Rattle.wf_core.specs.declared.Account.{Account}
 use Rattle.wf_io.specs.Seen.{Reading, Writing}
 use Rattle.wf_task.specs.declared.task.TheConstants.{LONGEST}
 use Rattle.wf_args.specs.declared.Job.{Job}
-use Rattle.wf_args.specs.declared.Job.TheVariants.{Verify}
+use Rattle.wf_args.specs.declared.Job.TheVariants.{Verify, Decisions}
 use Rattle.wf_args.specs.declared.WordsFault.{WordsFault}
 use Rattle.wf_program.specs.Program.{IsAsked, Serves, TellsAccount}
 
 -- how many files a job opens
 abbrev pub file_count : Result Job WordsFault → ℕ
 file_count (Ok (Verify task)) = 1
+file_count (Ok (Decisions task)) = 1
 file_count asked = 0
 
 -- how many calls failed, by the status

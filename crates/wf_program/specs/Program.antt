@@ -15,11 +15,11 @@ use Rattle.wf_engine.specs.declared.fault.RunFault.TheVariants as run
 use Rattle.wf_engine.specs.Faults.{fault_text}
 use Rattle.wf_engine.specs.Run.{Ran}
 use Rattle.wf_engine.specs.Texts.{Solves, Lists, SearchesInOrder, undecided_points}
-use Rattle.wf_engine.specs.Verify.{Verifies}
+use Rattle.wf_engine.specs.Verify.{Verifies, Decides}
 use Rattle.wf_engine.specs.Presets.{WritesPreset}
 use Rattle.wf_args.specs.Job.{IsWithinLimits, IsClapMistake}
 use Rattle.wf_args.specs.declared.Job.{Job}
-use Rattle.wf_args.specs.declared.Job.TheVariants.{Solve, Verify, Views, Points, Preset}
+use Rattle.wf_args.specs.declared.Job.TheVariants.{Solve, Verify, Views, Points, Decisions, Preset}
 use Rattle.wf_args.specs.declared.WordsFault.{WordsFault}
 use Rattle.wf_args.specs.declared.WordsFault.TheVariants as fault
 use Rattle.wf_program.specs.AccountText.{account_line}
@@ -91,11 +91,11 @@ abbrev pub written : Result (Unit {0}) RunFault → Result Done Refusal
 written (Ok done) = Ok (record { status = 0; account = None })
 written (Err e) = Err (Run e)
 
--- A file was opened, and its task read; the source's report was checked about it. Or no file could be opened, and
--- nothing was read or written.
-abbrev pub VerifiesFile : Reading → Reading → Writing → Writing → Result Outcome RunFault → Type 0
-VerifiesFile source source' sink sink' result =
-    ((file : Reading) × (file' : Reading) × Verifies file file' source source' sink sink' result)
+-- A file was opened, and this was done with its task and the source's report. Or no file could be opened, and nothing
+-- was read or written.
+abbrev pub WithFile : {X : Type 0} → (Reading → Reading → Reading → Reading → Writing → Writing → Result X RunFault → Type 0) → Reading → Reading → Writing → Writing → Result X RunFault → Type 0
+WithFile does source source' sink sink' result =
+    ((file : Reading) × (file' : Reading) × does file file' source source' sink sink' result)
     ⊎ ((result ≡ Err run.Read) × (source' ≡ source) × (sink' ≡ sink))
 
 -- what a job asks for was done
@@ -104,11 +104,13 @@ Does (Solve rounds workers form account progress) source source' sink sink' done
     (result : Result (Outcome × Account) RunFault) × Solves rounds form source source' sink sink' result
     × (workers ≡ 1 → SearchesInOrder result) × (done ≡ solved account result)
 Does (Verify task) source source' sink sink' done =
-    (result : Result Outcome RunFault) × VerifiesFile source source' sink sink' result × (done ≡ verified result)
+    (result : Result Outcome RunFault) × WithFile Verifies source source' sink sink' result × (done ≡ verified result)
 Does (Views rounds) source source' sink sink' done =
     (result : Result (Unit {0}) RunFault) × Lists views_text rounds source source' sink sink' result × (done ≡ written result)
 Does (Points rounds) source source' sink sink' done =
     (result : Result (Unit {0}) RunFault) × Lists undecided_points rounds source source' sink sink' result × (done ≡ written result)
+Does (Decisions task) source source' sink sink' done =
+    (result : Result (Unit {0}) RunFault) × WithFile Decides source source' sink sink' result × (done ≡ written result)
 Does (Preset preset) source source' sink sink' done =
     (result : Result (Unit {0}) RunFault) × WritesPreset preset sink sink' result × (source' ≡ source)
     × (done ≡ written result)

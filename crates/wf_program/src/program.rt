@@ -3,8 +3,9 @@
 ghost use Rattle.std.specs.Prelude.{◌≡◌, ◌<◌, ◌≤◌};
 ghost use Rattle.wf_io.specs.Ends.{CanCount, CanWrite};
 ghost use Rattle.wf_engine.specs.Texts.{SearchesInOrder, Solves};
+ghost use Rattle.wf_engine.specs.Verify.{Decides, Verifies};
 ghost use Rattle.wf_args.specs.Job.{IsWithinLimits};
-ghost use Rattle.wf_program.specs.Program.{CanServe, Declines, Does, Ends, IsAsked, Serves, Shows, VerifiesFile, outcome_status, solved, verified, written};
+ghost use Rattle.wf_program.specs.Program.{CanServe, Declines, Does, Ends, IsAsked, Serves, Shows, WithFile, outcome_status, solved, verified, written};
 
 use crate::done::{AccountLine, Done};
 use crate::files::Files;
@@ -18,8 +19,8 @@ use std::thread::Threads;
 use wf_args::{Job, WordsFault, read_words};
 use wf_core::Account;
 use wf_engine::{
-    Form, Outcome, RunFault, hand_out, run_points, run_preset, run_solve, run_solve_watched,
-    run_verify, run_views,
+    Form, Outcome, RunFault, hand_out, run_decisions, run_points, run_preset, run_solve,
+    run_solve_watched, run_verify, run_views,
 };
 use wf_io::{Sink, Source};
 use wf_pool::{Gate, MAX_WORKERS};
@@ -89,6 +90,9 @@ fn do_job<T: Threads + Sync, F: Files, G: Gate, R: Read, W: Write>(
         Job::Verify { task } => after_verifying(verify_file(rt, alloc, files, task, source, sink)),
         Job::Views { rounds } => after_writing(run_views(alloc, source, sink, *rounds)),
         Job::Points { rounds } => after_writing(run_points(alloc, source, sink, *rounds)),
+        Job::Decisions { task } => {
+            after_writing(decide_file(rt, alloc, files, task, source, sink))
+        }
         Job::Preset(preset) => after_writing(run_preset(alloc, sink, *preset)),
     }
 }
@@ -125,10 +129,28 @@ fn verify_file<T: Threads + Sync, F: Files, R: Read, W: Write>(
     sink: &mut Sink<W>,
 ) -> Result<Outcome, RunFault>
     requires { CanCount source.old sink.old }
-    ensures { VerifiesFile source.old source.new sink.old sink.new result }
+    ensures { WithFile Verifies source.old source.new sink.old sink.new result }
 {
     match files.open(path) {
         Ok(file) => run_verify(rt, alloc, &mut Source::new(file), source, sink),
+        Err(_) => Err(RunFault::Read),
+    }
+}
+
+/// Tells what the map of the source's report decides for the task in a file. A file that can't be opened is a failed read.
+fn decide_file<T: Threads + Sync, F: Files, R: Read, W: Write>(
+    rt: &T,
+    alloc: Global,
+    files: &F,
+    path: &str,
+    source: &mut Source<R>,
+    sink: &mut Sink<W>,
+) -> Result<(), RunFault>
+    requires { CanCount source.old sink.old }
+    ensures { WithFile Decides source.old source.new sink.old sink.new result }
+{
+    match files.open(path) {
+        Ok(file) => run_decisions(rt, alloc, &mut Source::new(file), source, sink),
         Err(_) => Err(RunFault::Read),
     }
 }

@@ -10,7 +10,8 @@ use std::thread::Threads;
 use wf_complex::BuildFault;
 use wf_core::Account;
 use wf_engine::{
-    Form, Outcome, RunFault, run_points, run_solve, run_solve_one, run_verify, run_views,
+    Form, Outcome, RunFault, run_decisions, run_points, run_solve, run_solve_one, run_verify,
+    run_views,
 };
 use wf_examples::PATH_2;
 use wf_io::{Sink, Source};
@@ -33,6 +34,9 @@ const TOLD: &str =
 /// closed, and the lower ones are the map's.
 const LEAST: &str =
     "wfcheck report 1\nprocesses 2\nrounds 1\npoints 4\nexecutions 5\nanswer least\nm 0\nm 2\nm 1\nm 0\np 0 0 1\np 0 0 2\np 1 1 0\np 1 1 1\np 3 1 2\np 4 0 0\nb 2\nb 3\nf\nend\n";
+
+const DECIDED: &str =
+    "0 p0 saw {p0=0} decides 0\n1 p1 saw {p1=0} decides 2\n2 p0 saw {p0=0, p1=0} decides 1\n3 p1 saw {p0=0, p1=0} decides 0\n";
 
 /// An engine over one source.
 #[derive(Clone, Copy, Debug)]
@@ -139,6 +143,19 @@ fn a_least_map_is_accepted_by_its_lines(rt: HostRuntime) -> Result<(), Fail> {
     assert_eq!(rt; found, Ok(Outcome::Least));
     drop(sink);
     assert_eq!(rt; written.as_slice(), "accepted least\n".as_bytes());
+    Ok(())
+}
+
+#[test]
+fn what_a_map_decides_is_told(rt: HostRuntime) -> Result<(), Fail> {
+    let mut task = Source::new(PATH_2.as_bytes());
+    let mut report = Source::new(LEAST.as_bytes());
+    let mut written = Vec::new(rt.alloc());
+    let mut sink = Sink::new(&mut written);
+    let found = run_decisions(&rt, rt.alloc(), &mut task, &mut report, &mut sink);
+    assert_eq!(rt; found, Ok(()));
+    drop(sink);
+    assert_eq!(rt; written.as_slice(), DECIDED.as_bytes());
     Ok(())
 }
 

@@ -57,7 +57,9 @@ fn words_are_a_job_or_a_fault(rt: HostRuntime) -> Result<(), Fail> {
         ("wfcheck views --rounds 3", "views 3"),
         ("wfcheck views", "clap MissingRequiredArgument"),
         ("wfcheck points --rounds 3", "points 3"),
-        ("wfcheck points", "clap MissingRequiredArgument"),
+        ("wfcheck points --task a/b.json", "decisions a/b.json"),
+        ("wfcheck points --task a/b.json --rounds 3", "words"),
+        ("wfcheck points", "words"),
         ("wfcheck verify --task a/b.json", "verify a/b.json"),
         ("wfcheck verify", "clap MissingRequiredArgument"),
         ("wfcheck verify --task a --rounds 1", "clap UnknownArgument"),
@@ -153,6 +155,7 @@ fn judged(alloc: Global, line: &str) -> Result<String, AllocError> {
         Ok(Job::Verify { task }) => format!(in alloc; "verify {task}"),
         Ok(Job::Views { rounds }) => format!(in alloc; "views {rounds}"),
         Ok(Job::Points { rounds }) => format!(in alloc; "points {rounds}"),
+        Ok(Job::Decisions { task }) => format!(in alloc; "decisions {task}"),
         Ok(Job::Preset(preset)) => shown(alloc, preset),
         Err(WordsFault::Clap(error)) => {
             let kind = error.kind();

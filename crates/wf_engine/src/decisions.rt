@@ -1,0 +1,80 @@
+//! Telling what a map decides.
+
+ghost use Rattle.std.specs.Prelude.{◌≡◌};
+ghost use Rattle.wf_io.specs.Ends.{CanRead};
+ghost use Rattle.wf_cert.specs.Reports.{AreNumbered, body_length, body_of, report_seen};
+ghost use Rattle.wf_engine.specs.Run.{answered};
+ghost use Rattle.wf_engine.specs.Verify.{AreDecisions, CanVerify, Checks, Decides, IsVerified, values_of};
+
+use crate::fault::RunFault;
+use crate::points::write_points;
+use crate::steps::{hand_out, read_task};
+use crate::verify::{judged, read_cert};
+use std::alloc::Global;
+use std::io::{Read, Write};
+use std::thread::Threads;
+use wf_cert::{Body, Report};
+use wf_io::{Sink, Source};
+use wf_task::Task;
+
+/// Reads a task and a report about it, and checks the report, as [`run_verify`](crate::run_verify) does; then it tells
+/// the points of the protocol complex for the report's rounds in words, each with the value that the report's map has
+/// there. Where the report says that there is no map, the points are told without values.
+pub fn run_decisions<T: Threads + Sync, R: Read, C: Read, W: Write>(
+    rt: &T,
+    alloc: Global,
+    task_source: &mut Source<R>,
+    cert_source: &mut Source<C>,
+    sink: &mut Sink<W>,
+) -> Result<(), RunFault>
+    requires { CanVerify task_source.old cert_source.old sink.old }
+    ensures { Decides task_source.old task_source.new cert_source.old cert_source.new
+        sink.old sink.new result }
+{
+    let answer = decide_sources(rt, alloc, task_source, cert_source);
+    hand_out(sink, answer)
+}
+
+/// What the map of a source's report decides at the points of another source's task.
+fn decide_sources<T: Threads + Sync, R: Read, C: Read>(
+    rt: &T,
+    alloc: Global,
+    task_source: &mut Source<R>,
+    cert_source: &mut Source<C>,
+) -> Result<((), Vec<u8>), RunFault>
+    requires task { CanRead task_source.old }
+    requires cert { CanRead cert_source.old }
+    ensures { Checks AreDecisions task_source.old task_source.new cert_source.old cert_source.new
+        (answered result) }
+{
+    let task = read_task(alloc, task_source)?;
+    let report = read_cert(alloc, cert_source)?;
+    decide(rt, alloc, &task, &report)
+}
+
+/// What a report's map decides at the points of a task.
+fn decide<T: Threads + Sync>(
+    rt: &T,
+    alloc: Global,
+    task: &Task,
+    report: &Report,
+) -> Result<((), Vec<u8>), RunFault>
+    requires { AreNumbered (body_length report.now.body) }
+    ensures { IsVerified AreDecisions task.now (report_seen report.now) (answered result) }
+{
+    let protocol = judged(rt, alloc, task, report)?;
+    Ok((
+        (),
+        write_points(alloc, task, &protocol, values_of(&report.body))?,
+    ))
+}
+
+/// The values of a report's map; none where it says that there is no map.
+fn values_of(body: &Body) -> &[u8]
+    ensures { result.now ≡ values_of (body_of body.now) }
+{
+    match body {
+        Body::Map(values) | Body::Least(values, _) => values,
+        Body::Nothing(_) => &[],
+    }
+}
