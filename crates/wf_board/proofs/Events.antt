@@ -1,22 +1,25 @@
 -- Each step of the board is an event of the pool.
-use Rattle.std.proofs.Common.{◌≡◌, ◌≢◌, ◌⊎◌, ℕ, zero, suc, min, List, [], ◌∷◌, ◌++◌, set, replicate, slice_index, slice_set, refl, sym, ap, ◌∙◌, subst, ⊎_elim, arith, inl, inr}
+use Rattle.std.proofs.Common.{◌≡◌, ◌≢◌, ◌⊎◌, ℕ, zero, suc, ◌+◌, ◌≤◌, min, List, [], ◌∷◌, ◌++◌, set, replicate, slice_index, slice_set, refl, sym, ap, ◌∙◌, subst, ⊎_elim, arith, inl, inr}
 use Rattle.std.specs.Prelude.{Contains, Some, slice_get}
 use Rattle.std.proofs.lemmas.List.Elements.{Contains-push, Contains-push_cases, Contains-append_left}
 use Rattle.std.proofs.lemmas.Option.{same_Some}
 use mathlib.Core.Option.{some, some-ne-none, some-injective}
+use mathlib.Core.Logic.{dite}
+use native.Mathlib.Decide.{ℕ_discrete}
 use lib.ListN.{get_elem?}
 use Rattle.atomic_table.specs.Table.{State}
 use Rattle.atomic_table.proofs.Lists.{at_set as view_set}
 use Rattle.wf_core.specs.declared.event.Status.{Status}
 use Rattle.wf_core.specs.declared.event.Status.TheVariants as status
-use Rattle.wf_core.specs.declared.event.Event.TheVariants.{Look, Post, Searched, Cut}
+use Rattle.wf_core.specs.declared.event.Event.TheVariants.{Take, Look, Post, Searched, Cut, End}
 use Rattle.wf_core.specs.Core.{State as Core, Is, Saw, after, start}
-use Rattle.wf_core.proofs.Lemmas.{set_at, set_else, at_set, at_replicate, put_at}
+use Rattle.wf_core.specs.Count.{times, times_in}
+use Rattle.wf_core.proofs.Lemmas.{set_at, set_else, at_set, at_replicate, put_at, times-append, times_same, times_other, total_set}
 use Rattle.wf_board.specs.declared.table.View.{View}
 use Rattle.wf_board.specs.Desk.{Place, fresh_desk, known, looked, posted, searched, is_cut}
 use Rattle.wf_board.specs.Rule.{Stands}
-use Rattle.wf_board.specs.Shows.{Agree, StartIsShown, LookIsEvent, PostIsEvent, SearchedIsEvent, CutIsEvent}
-use Rattle.wf_board.proofs.Views.{stands_kept, stands_before}
+use Rattle.wf_board.specs.Shows.{Agree, Shows, StartIsShown, LookIsEvent, PostIsEvent, SearchedIsEvent, CutIsEvent, TakeIsShown, EndIsShown}
+use Rattle.wf_board.proofs.Views.{stands_kept, stands_before, stands_not}
 
 -- a list that the step leaves alone, and a status that the event does not touch
 same_list : (f : View → List ℕ) (views : List View) (w : ℕ) (v u : View) (c d : Core) (x : Status) → get_elem? views w ≡ some v → f u ≡ f v
@@ -27,12 +30,17 @@ same_list f views w v u c d x at e there back a = record {
       (λ (q : Contains (f u) i). a.listed i (w, v, at, subst (λ (l : List ℕ). Contains l i) e q))
       (stands_before f views w u i p));
   stands = λ i p. stands_kept f views w v u at (λ y q. subst (λ (l : List ℕ). Contains l y) (sym e) q) i (a.stands i (back i p));
+  once = λ i.
+      let was = a.once i in
+      let sum = total_set (λ x. times i (f x)) views w v u at in
+      let same = ap (times i) e in
+      omega arith;
 }
 
 -- the list that gets the branch, and the status that the branch gets
 more_list : (f : View → List ℕ) (views : List View) (w : ℕ) (v u : View) (c d : Core) (x : Status) (b : ℕ) → get_elem? views w ≡ some v → f u ≡ f v ++ b ∷ []
-    → ((i : ℕ) → Is c i x → Is d i x) → Is d b x → ((i : ℕ) → Is d i x → (i ≡ b) ⊎ Is c i x) → Agree f views c x → Agree f (set views w u) d x
-more_list f views w v u c d x b at e there new back a = record {
+    → ((i : ℕ) → Is c i x → Is d i x) → Is d b x → ((i : ℕ) → Is d i x → (i ≡ b) ⊎ Is c i x) → ¬ (Is c b x) → Agree f views c x → Agree f (set views w u) d x
+more_list f views w v u c d x b at e there new back absent a = record {
   listed = λ i p. ⊎_elim
       (λ (q : Stands f views i). there i (a.listed i q))
       (λ (q : Contains (f u) i). ⊎_elim
@@ -44,22 +52,36 @@ more_list f views w v u c d x b at e there new back a = record {
       (λ (r : i ≡ b). (w, u, put_at views w v u at, subst (λ (y : ℕ). Contains (f u) y) (sym r) (subst (λ (l : List ℕ). Contains l b) (sym e) (Contains-push (f v) b))))
       (λ (q : Is c i x). stands_kept f views w v u at (λ y r. subst (λ (l : List ℕ). Contains l y) (sym e) (Contains-append_left (f v) (b ∷ []) y r)) i (a.stands i q))
       (back i p);
+  once = λ i.
+      let was = a.once i in
+      let sum = total_set (λ y. times i (f y)) views w v u at in
+      let more = ap (times i) e ∙ times-append i (f v) (b ∷ []) in
+      dite (ℕ_discrete i b)
+      (λ (k : i ≡ b).
+      let none : times_in f i views ≡ 0 = stands_not f views i (λ q. absent (subst (λ (y : ℕ). Is c y x) k (a.listed i q))) in
+      let one = times_same i b [] k in
+      omega arith)
+      (λ (ne : i ≢ b). let other = times_other i b [] ne in omega arith);
 }
 
--- a held branch becomes something else
-module _ (c : Core) (w b : ℕ) (now : Status) (l : ℕ) (seen : List ℕ) (held : Is c b (status.Held w)) where
+-- a branch of one status gets another
+module _ (c : Core) (was : Status) (b : ℕ) (now : Status) (l : ℕ) (seen : List ℕ) (at : Is c b was) where
   abbrev d : Core
   d = record c { branches = set c.branches b now; least = l; seen = seen }
 
-  there : (x : Status) → ¬ (status.Held w ≡ x) → (i : ℕ) → Is c i x → Is d i x
+  there : (x : Status) → ¬ (was ≡ x) → (i : ℕ) → Is c i x → Is d i x
   there x ne i p = set_else c.branches b i now
-      (λ e. ne (same_Some (status.Held w) x (sym held ∙ subst (λ (y : ℕ). slice_get c.branches y ≡ Some x) e p))) ∙ p
+      (λ e. ne (same_Some was x (sym at ∙ subst (λ (y : ℕ). slice_get c.branches y ≡ Some x) e p))) ∙ p
 
   back : (x : Status) → ¬ (now ≡ x) → (i : ℕ) → Is d i x → Is c i x
   back x ne i p = ⊎_elim (λ (t : (i ≡ b) × (now ≡ x)). absurd (ne t.1)) (λ (t : (i ≢ b) × Is c i x). t.1) (at_set c.branches b i now x p)
 
   new : Is d b now
-  new = set_at c.branches b (status.Held w) now held
+  new = set_at c.branches b was now at
+
+  -- it did not have it before
+  not_before : ¬ (was ≡ now) → ¬ (Is c b now)
+  not_before ne p = ne (same_Some was now (sym at ∙ p))
 
   back_new : (i : ℕ) → Is d i now → (i ≡ b) ⊎ Is c i now
   back_new i p = ⊎_elim (λ (t : (i ≡ b) × (now ≡ now)). inl t.0) (λ (t : (i ≢ b) × Is c i now). inr t.1) (at_set c.branches b i now now p)
@@ -122,9 +144,9 @@ post_is_event ledger s c w d i seat held =
       record {
         least = word_set s.words h.least h.refuted h.cut (min low i) h.words ∙ ap (λ (n : ℕ). min n i) k.least;
         seen = sees s.views w (known d) u c.seen o.0 l at o.2 (ap (λ (n : ℕ). min n i ∷ []) k.least) k.seen;
-        posted = more_list (λ x. x.posted) s.views w (known d) u c e status.Posted i at refl (there c w i status.Posted l seen held status.Posted (λ q. cc)) (new c w i status.Posted l seen held) (back_new c w i status.Posted l seen held) k.posted;
-        refuted = same_list (λ x. x.refuted) s.views w (known d) u c e status.Refuted at refl (there c w i status.Posted l seen held status.Refuted (λ q. cc)) (back c w i status.Posted l seen held status.Refuted (λ q. cc)) k.refuted;
-        cut = same_list (λ x. x.cut) s.views w (known d) u c e status.Cut at refl (there c w i status.Posted l seen held status.Cut (λ q. cc)) (back c w i status.Posted l seen held status.Cut (λ q. cc)) k.cut;
+        posted = more_list (λ x. x.posted) s.views w (known d) u c e status.Posted i at refl (there c (status.Held w) i status.Posted l seen held status.Posted (λ q. cc)) (new c (status.Held w) i status.Posted l seen held) (back_new c (status.Held w) i status.Posted l seen held) (not_before c (status.Held w) i status.Posted l seen held (λ q. cc)) k.posted;
+        refuted = same_list (λ x. x.refuted) s.views w (known d) u c e status.Refuted at refl (there c (status.Held w) i status.Posted l seen held status.Refuted (λ q. cc)) (back c (status.Held w) i status.Posted l seen held status.Refuted (λ q. cc)) k.refuted;
+        cut = same_list (λ x. x.cut) s.views w (known d) u c e status.Cut at refl (there c (status.Held w) i status.Posted l seen held status.Cut (λ q. cc)) (back c (status.Held w) i status.Posted l seen held status.Cut (λ q. cc)) k.cut;
       },
     )
 
@@ -141,9 +163,9 @@ searched_is_event ledger s c w d i seat held =
       record {
         least = word_kept s.words h.least h.refuted h.cut 0 _ h.words ∙ k.least;
         seen = sees_same s.views w (known d) u c.seen at refl k.seen;
-        posted = same_list (λ x. x.posted) s.views w (known d) u c e status.Posted at refl (there c w i status.Refuted l c.seen held status.Posted (λ q. cc)) (back c w i status.Refuted l c.seen held status.Posted (λ q. cc)) k.posted;
-        refuted = more_list (λ x. x.refuted) s.views w (known d) u c e status.Refuted i at refl (there c w i status.Refuted l c.seen held status.Refuted (λ q. cc)) (new c w i status.Refuted l c.seen held) (back_new c w i status.Refuted l c.seen held) k.refuted;
-        cut = same_list (λ x. x.cut) s.views w (known d) u c e status.Cut at refl (there c w i status.Refuted l c.seen held status.Cut (λ q. cc)) (back c w i status.Refuted l c.seen held status.Cut (λ q. cc)) k.cut;
+        posted = same_list (λ x. x.posted) s.views w (known d) u c e status.Posted at refl (there c (status.Held w) i status.Refuted l c.seen held status.Posted (λ q. cc)) (back c (status.Held w) i status.Refuted l c.seen held status.Posted (λ q. cc)) k.posted;
+        refuted = more_list (λ x. x.refuted) s.views w (known d) u c e status.Refuted i at refl (there c (status.Held w) i status.Refuted l c.seen held status.Refuted (λ q. cc)) (new c (status.Held w) i status.Refuted l c.seen held) (back_new c (status.Held w) i status.Refuted l c.seen held) (not_before c (status.Held w) i status.Refuted l c.seen held (λ q. cc)) k.refuted;
+        cut = same_list (λ x. x.cut) s.views w (known d) u c e status.Cut at refl (there c (status.Held w) i status.Refuted l c.seen held status.Cut (λ q. cc)) (back c (status.Held w) i status.Refuted l c.seen held status.Cut (λ q. cc)) k.cut;
       },
     )
 
@@ -162,9 +184,9 @@ cut_is_event ledger s c w d i seat held below =
       record {
         least = word_kept s.words h.least h.refuted h.cut 1 _ h.words ∙ k.least;
         seen = sees_same s.views w (known d) u c.seen at refl k.seen;
-        posted = same_list (λ x. x.posted) s.views w (known d) u c e status.Posted at refl (there c w i status.Cut l c.seen held status.Posted (λ q. cc)) (back c w i status.Cut l c.seen held status.Posted (λ q. cc)) k.posted;
-        refuted = same_list (λ x. x.refuted) s.views w (known d) u c e status.Refuted at refl (there c w i status.Cut l c.seen held status.Refuted (λ q. cc)) (back c w i status.Cut l c.seen held status.Refuted (λ q. cc)) k.refuted;
-        cut = more_list (λ x. x.cut) s.views w (known d) u c e status.Cut i at refl (there c w i status.Cut l c.seen held status.Cut (λ q. cc)) (new c w i status.Cut l c.seen held) (back_new c w i status.Cut l c.seen held) k.cut;
+        posted = same_list (λ x. x.posted) s.views w (known d) u c e status.Posted at refl (there c (status.Held w) i status.Cut l c.seen held status.Posted (λ q. cc)) (back c (status.Held w) i status.Cut l c.seen held status.Posted (λ q. cc)) k.posted;
+        refuted = same_list (λ x. x.refuted) s.views w (known d) u c e status.Refuted at refl (there c (status.Held w) i status.Cut l c.seen held status.Refuted (λ q. cc)) (back c (status.Held w) i status.Cut l c.seen held status.Refuted (λ q. cc)) k.refuted;
+        cut = more_list (λ x. x.cut) s.views w (known d) u c e status.Cut i at refl (there c (status.Held w) i status.Cut l c.seen held status.Cut (λ q. cc)) (new c (status.Held w) i status.Cut l c.seen held) (back_new c (status.Held w) i status.Cut l c.seen held) (not_before c (status.Held w) i status.Cut l c.seen held (λ q. cc)) k.cut;
       },
     )
 
@@ -186,7 +208,11 @@ agree_start f s p x views empty apart = record {
       let none : Contains [] i = subst (λ (l : List ℕ). Contains l i) empty (subst (λ (v : View). Contains (f v) i) (sym same.0) q.3) in
       absurd (let lt = none.1 in omega arith);
   stands = λ i q. absurd (none_free x p.branches i apart q);
-}
+  once = λ i. let none = none_listed p.workers i in let same = ap (times_in f i) views in omega arith;
+} where
+  none_listed : (n i : ℕ) → times_in f i (replicate n (known (fresh_desk p))) ≡ 0
+  none_listed zero i = refl
+  none_listed (suc n) i = let rest = none_listed n i in let here = ap (times i) empty in omega arith
 
 pub start_is_shown : StartIsShown
 start_is_shown s p words views = record {
@@ -198,3 +224,34 @@ start_is_shown s p words views = record {
   refuted = agree_start (λ v. v.refuted) s p status.Refuted views refl (λ e. cc);
   cut = agree_start (λ v. v.cut) s p status.Cut views refl (λ e. cc);
 }
+
+-- a list is that of a status whose branches are the same after the event
+same_branches : (f : View → List ℕ) (views : List View) (c d : Core) (x : Status) → ((i : ℕ) → Is c i x → Is d i x) → ((i : ℕ) → Is d i x → Is c i x) → Agree f views c x → Agree f views d x
+same_branches f views c d x there back a =
+    record { listed = λ i p. there i (a.listed i p); stands = λ i p. a.stands i (back i p); once = a.once }
+
+pub take_is_shown : TakeIsShown
+take_is_shown s c d w i k step =
+    let l = c.least in
+    let e = after c (Take w i) in
+    let now = status.Held w in
+    let free = step.0.2 in
+    subst (Shows s) (sym step.1) (record {
+      least = k.least;
+      seen = k.seen;
+      posted = same_branches (λ x. x.posted) s.views c e status.Posted (there c status.Free i now l c.seen free status.Posted (λ q. cc)) (back c status.Free i now l c.seen free status.Posted (λ q. cc)) k.posted;
+      refuted = same_branches (λ x. x.refuted) s.views c e status.Refuted (there c status.Free i now l c.seen free status.Refuted (λ q. cc)) (back c status.Free i now l c.seen free status.Refuted (λ q. cc)) k.refuted;
+      cut = same_branches (λ x. x.cut) s.views c e status.Cut (there c status.Free i now l c.seen free status.Cut (λ q. cc)) (back c status.Free i now l c.seen free status.Cut (λ q. cc)) k.cut;
+    })
+
+pub end_is_shown : EndIsShown
+end_is_shown s c d w k step =
+    let e = after c (End w) in
+    let same : (x : Status) (i : ℕ) → Is c i x → Is c i x = λ x i p. p in
+    subst (Shows s) (sym step.1) (record {
+      least = k.least;
+      seen = k.seen;
+      posted = same_branches (λ x. x.posted) s.views c e status.Posted (same status.Posted) (same status.Posted) k.posted;
+      refuted = same_branches (λ x. x.refuted) s.views c e status.Refuted (same status.Refuted) (same status.Refuted) k.refuted;
+      cut = same_branches (λ x. x.cut) s.views c e status.Cut (same status.Cut) (same status.Cut) k.cut;
+    })

@@ -4,4 +4,5 @@ pub mod Parts
 pub mod Seats
 pub mod Gathered
 pub mod Events
+pub mod Accounted
 pub mod Lemmas

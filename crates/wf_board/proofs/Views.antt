@@ -1,12 +1,13 @@
 -- What stands in the seats' lists, after one view has changed.
-use Rattle.std.proofs.Common.{◌≡◌, ◌≢◌, ◌⊎◌, ℕ, List, set, sym, ◌∙◌, subst, ⊎_elim, inl, inr}
+use Rattle.std.proofs.Common.{◌≡◌, ◌≢◌, ◌⊎◌, ℕ, suc, ◌+◌, ◌<◌, ◌≤◌, List, [], ◌∷◌, set, refl, sym, ◌∙◌, subst, ⊎_elim, inl, inr, arith}
 use Rattle.std.specs.Prelude.{Contains}
 use mathlib.Core.Option.{some, some-injective}
 use mathlib.Core.Logic.{dite}
-use native.Mathlib.Decide.{ℕ_discrete}
+use native.Mathlib.Decide.{ℕ_discrete, dec_lt}
 use lib.ListN.{get_elem?}
 use Rattle.atomic_table.proofs.Lists.{at_set, set_else}
-use Rattle.wf_core.proofs.Lemmas.{put_at}
+use Rattle.wf_core.specs.Count.{times, times_in}
+use Rattle.wf_core.proofs.Lemmas.{Contains-times, put_at, times-Contains, total_one}
 use Rattle.wf_board.specs.declared.table.View.{View}
 use Rattle.wf_board.specs.Rule.{Stands}
 
@@ -25,3 +26,22 @@ stands_before f views id w x p = ⊎_elim
     (λ (t : (p.0 ≡ id) × (w ≡ p.1)). inr (subst (λ (u : View). Contains (f u) x) (sym t.1) p.3))
     (λ (t : (p.0 ≢ id) × (get_elem? views p.0 ≡ some p.1)). inl (p.0, p.1, t.1, p.3))
     (at_set views id p.0 w p.1 p.2)
+
+-- what is counted stands there, and what stands there is counted
+
+pub counted_stands : (f : View → List ℕ) (views : List View) (x : ℕ) → 0 < times_in f x views → Stands f views x
+counted_stands f [] x h = absurd (omega arith)
+counted_stands f (v ∷ vs) x h = dite (dec_lt 0 (times x (f v)))
+    (λ (here : 0 < times x (f v)). (0, v, refl, times-Contains x (f v) here))
+    (λ (apart : ¬ (0 < times x (f v))). let rest = counted_stands f vs x (omega arith) in (suc rest.0, rest.1, rest.2, rest.3))
+
+pub stands_counted : (f : View → List ℕ) (views : List View) (x : ℕ) → Stands f views x → 0 < times_in f x views
+stands_counted f views x p =
+    let here = Contains-times x (f p.1) p.3 in
+    let part = total_one (λ v. times x (f v)) views p.0 p.1 p.2 in
+    omega arith
+
+pub stands_not : (f : View → List ℕ) (views : List View) (x : ℕ) → ¬ (Stands f views x) → times_in f x views ≡ 0
+stands_not f views x absent = dite (dec_lt 0 (times_in f x views))
+    (λ (some_time : 0 < times_in f x views). absurd (absent (counted_stands f views x some_time)))
+    (λ (never : ¬ (0 < times_in f x views)). omega arith)

@@ -1,28 +1,34 @@
--- The table of the board shows a state of the pool, and each call's step is one event of the pool.
-use Rattle.std.specs.Prelude.{◌≡◌, ℕ, ◌+◌, ◌%◌, ◌^◌, ◌<◌, min, List, [], ◌∷◌, replicate, slice_index}
+-- The table of the board shows a state of the pool, each call's step is one event of the pool, and what `finish`
+-- answers is the account of the state that is shown.
+use Rattle.std.specs.Prelude.{◌≡◌, ℕ, ◌+◌, ◌%◌, ◌^◌, ◌<◌, ◌≤◌, min, List, [], ◌∷◌, length, map, replicate, slice_index}
+use Rattle.std.specs.List.Sorted.{IsPermutation}
 use mathlib.Core.Option.{some}
 use lib.ListN.{get_elem?}
 use Rattle.atomic_table.specs.Table.{State, stepped, keeps}
 use Rattle.wf_core.specs.declared.event.Status.{Status}
 use Rattle.wf_core.specs.declared.event.Status.TheVariants as status
 use Rattle.wf_core.specs.declared.event.Event.{Event}
-use Rattle.wf_core.specs.declared.event.Event.TheVariants.{Look, Post, Searched, Cut}
+use Rattle.wf_core.specs.declared.event.Event.TheVariants.{Take, Look, Post, Searched, Cut, End}
+use Rattle.wf_core.specs.declared.event.Account.{Account}
+use Rattle.wf_core.specs.Account.{account_of}
 use Rattle.wf_core.specs.Core.{State as Core, Is, Saw, IsActive, Step, start}
+use Rattle.wf_core.specs.Count.{times_in}
 use Rattle.wf_board.specs.declared.table.View.{View}
 use Rattle.wf_board.specs.declared.table.Ledger.{Ledger}
-use Rattle.wf_board.specs.Desk.{Place, Desk, fresh_desk, known, looked, posted, searched, is_cut}
+use Rattle.wf_board.specs.Desk.{Place, Desk, fresh_desk, known, looked, posted, searched, is_cut, IsLeast, all_posted, all_cut, count_searched}
 use Rattle.wf_board.specs.Rule.{Stands, Shown}
 
 abbrev pub Table : Type 0
 Table = State (Unit {0}) View
 
--- the branches in these lists are those of this status
+-- the branches in these lists are those of this status, each once
 pub record Agree (f : View → List ℕ) (views : List View) (c : Core) (status : Status) : Type 0 where
   pub listed : (i : ℕ) → Stands f views i → Is c i status
   pub stands : (i : ℕ) → Is c i status → Stands f views i
+  pub once : (i : ℕ) → times_in f i views ≤ 1
 
 -- The least word is the least number, the seat of a worker's number has seen what the worker has, and the lists hold
--- the branches that were settled
+-- the branches that were settled, each once
 pub record Shows (s : Table) (c : Core) : Type 0 where
   pub least : slice_index s.words 0 ≡ c.least
   pub seen : (w : ℕ) (v : View) → get_elem? s.views w ≡ some v → (n : ℕ) × (v.seen ≡ n ∷ []) × Saw c w n
@@ -67,3 +73,32 @@ CutIsEvent = (ledger : Ledger) (s : Table) (c : Core) (w : ℕ) (d : Desk) (i : 
 abbrev pub StartIsShown : Type 0
 StartIsShown = (s : Table) (p : Place) → s.words ≡ p.branches ∷ 0 ∷ 0 ∷ [] → s.views ≡ replicate p.workers (known (fresh_desk p))
     → Shows s (start p.branches p.workers)
+
+-- to take a branch and to end are no calls: the table shows the state after them as it is
+
+abbrev pub TakeIsShown : Type 0
+TakeIsShown = (s : Table) (c d : Core) (w i : ℕ) → Shows s c → Step c (Take w i) d → Shows s d
+
+abbrev pub EndIsShown : Type 0
+EndIsShown = (s : Table) (c d : Core) (w : ℕ) → Shows s c → Step c (End w) d → Shows s d
+
+abbrev pub ledger_of : Place → Ledger
+ledger_of p = record { branches = p.branches; workers = p.workers }
+
+-- These are all seats, in any order, of a table that the rule allows and that shows the state c of a pool with as
+-- many branches as the board
+pub record AreSeatsAt (p : Place) (s : Table) (c : Core) (ds : List Desk) : Type 0 where
+  pub rule : Shown (ledger_of p) s
+  pub shows : Shows s c
+  pub branches : length c.branches ≡ p.branches
+  pub seats : IsPermutation (map known ds) s.views
+
+-- what `finish` answers by its clauses, from these seats, is the state's account
+abbrev pub FinishAnswersTheAccount : Type 0
+FinishAnswersTheAccount = (p : Place) (s : Table) (c : Core) (ds : List Desk) (a : Account)
+    → AreSeatsAt p s c ds
+    → a.branches ≡ p.branches
+    → IsLeast p.branches (all_posted ds) a.least
+    → a.searched ≡ count_searched ds
+    → a.cut ≡ length (all_cut ds)
+    → a ≡ account_of c

@@ -9,4 +9,4 @@ mod laws;
 mod table;
 
 pub use board::{Board, BoardSeat};
-pub use laws::calls_are_events;
+pub use laws::{calls_are_events, finish_answers_the_account};

@@ -45,6 +45,12 @@ times-Contains x (y ∷ ys) h = dite (ℕ_discrete x y)
     let c = times-Contains x ys (omega arith) in
     (suc c.0, (let k = c.1 in omega arith), c.2))
 
+-- and an element is counted
+pub Contains-times : (x : ℕ) (xs : List ℕ) → Contains xs x → 0 < times x xs
+Contains-times x [] c = absurd (let lt = c.1 in omega arith)
+Contains-times x (y ∷ ys) (zero, lt, e) = let t = times_same x y ys (sym e) in omega arith
+Contains-times x (y ∷ ys) (suc k, lt, e) = let rest = Contains-times x ys (k, omega arith, e) in omega arith
+
 -- the list with no b in it
 abbrev pub without : ℕ → List ℕ → List ℕ
 without b [] = []
@@ -56,7 +62,7 @@ without_same b y ys e = ap (λ (t : Bool). cond t (without b ys) (y ∷ without 
 without_other : (b y : ℕ) (ys : List ℕ) → b ≢ y → without b (y ∷ ys) ≡ y ∷ without b ys
 without_other b y ys ne = ap (λ (t : Bool). cond t (without b ys) (y ∷ without b ys)) (ne_eqb b y ne)
 
-length-without : (b : ℕ) (xs : List ℕ) → length xs ≡ times b xs + length (without b xs)
+pub length-without : (b : ℕ) (xs : List ℕ) → length xs ≡ times b xs + length (without b xs)
 length-without b [] = omega arith
 length-without b (y ∷ ys) =
     let e = length-without b ys in
@@ -64,7 +70,7 @@ length-without b (y ∷ ys) =
     (λ (is : b ≡ y). let s = times_same b y ys is in let t = ap length (without_same b y ys is) in omega arith)
     (λ (no : b ≢ y). let s = times_other b y ys no in let t : length (without b (y ∷ ys)) ≡ suc (length (without b ys)) = ap length (without_other b y ys no) in omega arith)
 
-times-without_same : (b : ℕ) (xs : List ℕ) → times b (without b xs) ≡ 0
+pub times-without_same : (b : ℕ) (xs : List ℕ) → times b (without b xs) ≡ 0
 times-without_same b [] = refl
 times-without_same b (y ∷ ys) =
     let e = times-without_same b ys in
@@ -72,7 +78,7 @@ times-without_same b (y ∷ ys) =
     (λ (is : b ≡ y). ap (times b) (without_same b y ys is) ∙ e)
     (λ (no : b ≢ y). ap (times b) (without_other b y ys no) ∙ (times_other b y (without b ys) no ∙ e))
 
-times-without_other : (b x : ℕ) (xs : List ℕ) → x ≢ b → times x (without b xs) ≡ times x xs
+pub times-without_other : (b x : ℕ) (xs : List ℕ) → x ≢ b → times x (without b xs) ≡ times x xs
 times-without_other b x [] ne = refl
 times-without_other b x (y ∷ ys) ne =
     let r = times-without_other b x ys ne in

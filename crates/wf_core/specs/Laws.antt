@@ -1,9 +1,10 @@
 -- What holds after every list of legal events.
-use Rattle.std.specs.Prelude.{◌≡◌, ℕ, ◌<◌, ◌≤◌, ◌⊎◌, ◌↔◌, Bool, true, false, List, ◌∷◌, ◌++◌, None, All, slice_index_or}
+use Rattle.std.specs.Prelude.{◌≡◌, ℕ, ◌+◌, ◌<◌, ◌≤◌, ◌⊎◌, ◌↔◌, Bool, true, false, List, ◌∷◌, ◌++◌, None, All, slice_index_or}
 use Rattle.wf_core.specs.declared.event.Status.TheVariants as status
 use Rattle.wf_core.specs.declared.event.Event.{Event}
 use Rattle.wf_core.specs.declared.event.Event.TheVariants.{Take, Post, Searched, Cut}
 use Rattle.wf_core.specs.declared.event.Illegal.{Illegal}
+use Rattle.wf_core.specs.Account.{account_of}
 use Rattle.wf_core.specs.Core.{State, Is, Saw, Step, Run, IsFirstIllegal, start, refusal}
 
 abbrev pub EventsThatAreNotRefusedHaveAStep : Type 0
@@ -93,3 +94,21 @@ FirstTruePlace = (branches workers : ℕ) (events : List Event) (s : State) (map
     → ((i : ℕ) → Is s i status.Refuted → has_map maps i ≡ false)
     → ((i : ℕ) → i < branches → IsSettled s i)
     → IsFirstTrue maps branches s.least
+
+abbrev pub AccountsHaveAllBranches : Type 0
+AccountsHaveAllBranches = (branches workers : ℕ) (events : List Event) (s : State)
+    → Run (start branches workers) events s
+    → (account_of s).branches ≡ branches
+
+-- once every branch is settled, each was searched or cut
+abbrev pub AccountsAddUp : Type 0
+AccountsAddUp = (branches workers : ℕ) (events : List Event) (s : State)
+    → Run (start branches workers) events s
+    → ((i : ℕ) → i < branches → IsSettled s i)
+    → (account_of s).searched + (account_of s).cut ≡ branches
+
+abbrev pub NoneIsCutWithoutAPost : Type 0
+NoneIsCutWithoutAPost = (branches workers : ℕ) (events : List Event) (s : State)
+    → Run (start branches workers) events s
+    → ((i : ℕ) → ¬ (Is s i status.Posted))
+    → ((account_of s).least ≡ branches) × ((account_of s).cut ≡ 0)

@@ -1,4 +1,5 @@
 -- What contracts say, here and in the crates above.
+pub mod Account
 pub mod Core
 pub mod Count
 pub mod Laws

@@ -3,6 +3,7 @@ ghost use Rattle.wf_core.specs.Laws.{EventsThatAreNotRefusedHaveAStep, AStepLeav
 ghost use Rattle.wf_core.specs.Laws.{ListsRunOrStop, ListsThatRunDoNotStop, ARunLeavesOneState, ListsStopAtOnePlace};
 ghost use Rattle.wf_core.specs.Laws.{LeastIsPosted, SeenWasPosted, CutLiesAbove, HeldIsHeld, OneWorker, OneBranch};
 ghost use Rattle.wf_core.specs.Laws.{FirstTruePlace};
+ghost use Rattle.wf_core.specs.Laws.{AccountsHaveAllBranches, AccountsAddUp, NoneIsCutWithoutAPost};
 
 /// An event is refused exactly where it has no step, and a step leaves one state.
 pub fn steps_are_legal()
@@ -38,4 +39,12 @@ pub fn no_branch_is_held_twice()
 /// for every list of truth values that is true at each posted and false at each refuted branch.
 pub fn first_true_place()
     ensures { FirstTruePlace }
+{}
+
+/// What the account of a state says: once all branches are settled, those that were searched and those that were cut
+/// are all branches. Where none is posted, none was cut, and the least number is the number of branches.
+pub fn accounts_add_up()
+    ensures branches { AccountsHaveAllBranches }
+    ensures sum { AccountsAddUp }
+    ensures no_post { NoneIsCutWithoutAPost }
 {}

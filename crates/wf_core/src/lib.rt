@@ -14,6 +14,7 @@ mod machine;
 
 pub use event::{Account, CoreFault, Event, Illegal, Status};
 pub use laws::{
-    first_true_place, lists_run_or_stop, no_branch_is_held_twice, steps_are_legal, what_runs_keep,
+    accounts_add_up, first_true_place, lists_run_or_stop, no_branch_is_held_twice, steps_are_legal,
+    what_runs_keep,
 };
 pub use machine::Core;
