@@ -48,20 +48,21 @@ def point_of(view, symmetric):
 
 
 class Complex:
-    """The executions of a task after some rounds: for each the points at its processes, and what is allowed there."""
+    """The points of a task after some rounds, by number; and its executions: for each the points at its processes, and what is
+    allowed there."""
 
     def __init__(self, task, rounds):
         inputs = sorted({f for s in task["inputs"] for f in faces(simplex_of(s))}, key=lambda s: (len(s), s))
         allowed = {simplex_of(e["in"]): {tuple(t) for t in e["out"]} for e in task["delta"]}
-        numbers, self.executions = {}, []
+        self.numbers, self.executions = {}, []
         for s in inputs:
             for round_words in itertools.product(words_of(task, s), repeat=rounds):
                 views = [(p, v) for p, v in s]
                 for word in round_words:
                     views = seen_after(views, word)
-                points = [numbers.setdefault(point_of(v, task["symmetric"]), len(numbers)) for v in views]
+                points = [self.numbers.setdefault(point_of(v, task["symmetric"]), len(self.numbers)) for v in views]
                 self.executions.append(([p for p, _ in s], points, allowed[s]))
-        self.points = len(numbers)
+        self.points = len(self.numbers)
         self.values = {v for s in task["outputs"] for _, v in s}
 
     def wrong_map(self, values):

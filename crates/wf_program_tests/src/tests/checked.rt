@@ -1,4 +1,4 @@
-//! The command `verify`: each row writes, tells and answers what it is to, byte for byte.
+//! The commands over a task and a report: each row writes, tells and answers what it is to, byte for byte.
 
 use super::ends::{Drip, Narrow, Shelf};
 use super::words::split;
@@ -47,6 +47,9 @@ static CHECKED: [Checked; 3] = [
 
 /// The words of each row.
 const LINE: &str = "wfcheck verify --task task.json";
+
+/// The same report, told in words.
+const DECISIONS: &str = "wfcheck points --task task.json";
 
 /// What a check wrote, told and answered.
 #[derive(Drop)]
@@ -123,35 +126,37 @@ fn failed_calls_of_a_check_are_told(rt: HostRuntime) -> Result<(), Fail> {
         ("task.json", 0, 0, 1, "wfcheck: 31 Write\n"),
     ];
     for (name, opened, read, write, text) in rows {
-        let files = Shelf {
-            name,
-            text: PATH_3,
-            fails_at: opened,
-        };
-        let Some(row) = CHECKED.first() else {
-            return Err(Fail::new("no row"));
-        };
-        let mut output = Vec::new(rt.alloc());
-        let mut errors = Vec::new(rt.alloc());
-        let mut source = Source::new(Drip::new(row.report.as_bytes(), read));
-        let mut sink = Sink::new(Narrow::new(&mut output, write));
-        let mut told = Sink::new(&mut errors);
-        let words = split(rt.alloc(), LINE)?;
-        let status = run_program(
-            &rt,
-            rt.alloc(),
-            &files,
-            &Open,
-            Ok(words),
-            &mut source,
-            &mut sink,
-            &mut told,
-        );
-        drop(sink);
-        drop(told);
-        assert_eq!(rt; errors.as_slice(), text.as_bytes(), "{name}");
-        assert_eq!(rt; status, 4, "{name}");
-        assert_eq!(rt; output.len(), 0, "{name}");
+        for line in [LINE, DECISIONS] {
+            let files = Shelf {
+                name,
+                text: PATH_3,
+                fails_at: opened,
+            };
+            let Some(row) = CHECKED.first() else {
+                return Err(Fail::new("no row"));
+            };
+            let mut output = Vec::new(rt.alloc());
+            let mut errors = Vec::new(rt.alloc());
+            let mut source = Source::new(Drip::new(row.report.as_bytes(), read));
+            let mut sink = Sink::new(Narrow::new(&mut output, write));
+            let mut told = Sink::new(&mut errors);
+            let words = split(rt.alloc(), line)?;
+            let status = run_program(
+                &rt,
+                rt.alloc(),
+                &files,
+                &Open,
+                Ok(words),
+                &mut source,
+                &mut sink,
+                &mut told,
+            );
+            drop(sink);
+            drop(told);
+            assert_eq!(rt; errors.as_slice(), text.as_bytes(), "{line} of {name}");
+            assert_eq!(rt; status, 4, "{line} of {name}");
+            assert_eq!(rt; output.len(), 0, "{line} of {name}");
+        }
     }
     Ok(())
 }
