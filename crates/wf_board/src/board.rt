@@ -199,7 +199,7 @@ impl Board {
             seats.push(self.hand(&mut rest))?;
         }
         let Rest { seat, left: _ } = rest;
-        seats.push(self.seated(seat))?;
+        seats.push(self.seat_of(seat))?;
         Ok(seats)
     }
 
@@ -213,10 +213,10 @@ impl Board {
     {
         let seat = self.table.shared.split_seat::<Hand>(&mut rest.seat);
         rest.left -= 1;
-        self.seated(seat)
+        self.seat_of(seat)
     }
 
-    fn seated(&self, seat: Seat<(), View>) -> BoardSeat
+    fn seat_of(&self, seat: Seat<(), View>) -> BoardSeat
         requires { IsLeft self.now seat.table_id seat.me 1 }
         ensures { result ≡ fresh_desk self.now }
     {

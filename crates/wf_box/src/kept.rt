@@ -27,7 +27,7 @@ impl KeptSets {
         ensures narrow { IfOk result (λ kept. is_one_word kept ≡ are_narrow (box_of sets.now)) }
     {
         if are_narrow(sets) {
-            Ok(KeptSets::Narrow(narrowed(alloc, sets)?))
+            Ok(KeptSets::Narrow(narrow(alloc, sets)?))
         } else {
             Ok(KeptSets::Wide(sets.to_vec(alloc)?))
         }
@@ -38,7 +38,7 @@ impl KeptSets {
         ensures { IfOk result (λ sets. box_of sets.items ≡ box_kept self.now) }
     {
         match self {
-            KeptSets::Narrow(parts) => widened(alloc, parts),
+            KeptSets::Narrow(parts) => widen(alloc, parts),
             KeptSets::Wide(sets) => sets.as_slice().to_vec(alloc),
         }
     }
@@ -75,7 +75,7 @@ fn is_narrow(set: Mask) -> bool
 }
 
 /// The values below 64 of each set.
-fn narrowed(alloc: Global, sets: &[Mask]) -> Result<Vec<Part>, AllocError>
+fn narrow(alloc: Global, sets: &[Mask]) -> Result<Vec<Part>, AllocError>
     ensures { IfOk result (λ parts. map part_values parts.items ≡ low_values (box_of sets.now)) }
 {
     let mut parts = Vec::with_capacity(alloc, sets.len())?;
@@ -86,7 +86,7 @@ fn narrowed(alloc: Global, sets: &[Mask]) -> Result<Vec<Part>, AllocError>
 }
 
 /// The sets of these parts.
-fn widened(alloc: Global, parts: &[Part]) -> Result<Vec<Mask>, AllocError>
+fn widen(alloc: Global, parts: &[Part]) -> Result<Vec<Mask>, AllocError>
     ensures { IfOk result (λ sets. box_of sets.items ≡ map part_values parts.now) }
 {
     let mut sets = Vec::with_capacity(alloc, parts.len())?;

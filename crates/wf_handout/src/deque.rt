@@ -124,14 +124,14 @@ pub fn deal(
     ensures taken { IfOk result (λ d. d.0.taken ≡ []) }
     ensures ends { IfOk result (λ d. (d.0.deque ≡ d.1) × (d.2 ≡ d.0)) }
 {
-    let mut deque = filled(alloc, branches, workers, worker)?;
+    let mut deque = deal_to(alloc, branches, workers, worker)?;
     let stealer = deque.stealer()?;
     let pass = deque.another::<Roles>();
     Ok((Owner { deque }, Door { stealer }, Raider { pass }))
 }
 
 // It is made with room for all of its branches.
-fn filled(alloc: Global, branches: u32, workers: u32, worker: u32) -> Result<Deque, AllocError>
+fn deal_to(alloc: Global, branches: u32, workers: u32, worker: u32) -> Result<Deque, AllocError>
     requires { worker < workers }
     ensures dealt { IfOk result (λ d. IsDealt branches workers worker (worker_view d).dealt) }
     ensures whole { IfOk result (λ d. ((worker_view d).parts ≡ 2) × ((worker_view d).taken ≡ [])) }

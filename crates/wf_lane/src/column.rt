@@ -103,7 +103,7 @@ fn push_value(
 
 impl Column {
     /// These rows, uncut.
-    pub(crate) fn uncut(alloc: Global, words: Vec<u64>) -> Column
+    pub(crate) fn whole(alloc: Global, words: Vec<u64>) -> Column
         ensures words { result.words.items ≡ words.items }
         ensures blocks { result.blocks ≡ 0 }
         ensures cut { IsCut result }

@@ -118,7 +118,7 @@ fn column(alloc: Global, rows: &[Row], place: u8, blocks: usize) -> Result<Colum
 {
     let words = words_at(alloc, rows, place)?;
     if blocks == 0 {
-        return Ok(Column::uncut(alloc, words));
+        return Ok(Column::whole(alloc, words));
     }
     Column::cut(alloc, words, blocks)
 }

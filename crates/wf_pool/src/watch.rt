@@ -77,7 +77,7 @@ pub(crate) fn settle<G: Gate>(
         seat,
     } = watch;
     let me = Worker { seat, finds };
-    let settled = me.settled(alloc, site.board, site.kept, branch, found)?;
+    let settled = me.settle(alloc, site.board, site.kept, branch, found)?;
     site.gate.at(worker, Moment::Settled(branch));
     Ok(settled)
 }

@@ -95,7 +95,7 @@ impl Worker {
     }
 
     // Settles a branch by what a search of it found. The lines that lead to a map are dropped first where none are kept.
-    pub(crate) fn settled(
+    pub(crate) fn settle(
         self,
         alloc: Global,
         board: &Board,

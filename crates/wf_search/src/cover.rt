@@ -71,7 +71,7 @@ impl Cover {
         ensures refutes { IfOk result (RefutesRoot self.now lists.items) }
         ensures canonical { IfOk result (IsCanonicalInRoot self.now lists.items) }
     {
-        self.outline.filled(alloc, lists)
+        self.outline.fill(alloc, lists)
     }
 
     /// The lines of the root up to the last of some lists, one for each of the first branches, in order, with those of the
@@ -88,7 +88,7 @@ impl Cover {
         ensures filled { IfOk result (IsFilledUpTo self.now lists.items) }
         ensures leads { IfOk result (LeadsToMapInRoot self.now lists.items) }
     {
-        self.outline.filled_up_to(alloc, lists)
+        self.outline.fill_up_to(alloc, lists)
     }
 }
 
@@ -105,7 +105,7 @@ pub fn split(alloc: Global, problem: &Problem) -> Result<Cover, AllocError>
     let mut outline = Outline::of_root(alloc, problem)?;
     let mut levels: u32 = MOST_LEVELS;
     'levels: while levels > 0 && outline.is_to_open() {
-        outline = outline.opened(alloc, problem)?;
+        outline = outline.open_each(alloc, problem)?;
         levels -= 1;
     }
     Ok(Cover { outline })

@@ -98,7 +98,7 @@ impl Outline {
     }
 
     /// The lines with those of the lists in the places of the boxes.
-    pub(crate) fn filled(&self, alloc: Global, lists: Vec<Lines>) -> Result<Lines, AllocError>
+    pub(crate) fn fill(&self, alloc: Global, lists: Vec<Lines>) -> Result<Lines, AllocError>
         requires { length lists.items ≡ length (boxes_left_out self.now) }
         ensures { IfOk result (IsFilled self.now lists.items) }
     {
@@ -108,7 +108,7 @@ impl Outline {
     }
 
     /// The lines up to the last of the lists, with those of the lists in the places of the first boxes.
-    pub(crate) fn filled_up_to(&self, alloc: Global, lists: Vec<Lines>) -> Result<Lines, AllocError>
+    pub(crate) fn fill_up_to(&self, alloc: Global, lists: Vec<Lines>) -> Result<Lines, AllocError>
         requires some { 0 < length lists.items }
         requires few { length lists.items ≤ length (boxes_left_out self.now) }
         ensures { IfOk result (IsFilledUpTo self.now lists.items) }
@@ -206,7 +206,7 @@ impl Outline {
     }
 
     /// Each open box gives way to its branches, and the others stay.
-    pub(crate) fn opened(self, alloc: Global, problem: &Problem) -> Result<Outline, AllocError>
+    pub(crate) fn open_each(self, alloc: Global, problem: &Problem) -> Result<Outline, AllocError>
         requires { AllByRecursion (IsClosedBox problem.now) (boxes_left_out self) }
         ensures { IfOk result (λ outline. outline ≡ flat_map (opened problem.now) self) }
     {

@@ -5,9 +5,9 @@ use Rattle.wf_set.specs.Sets.{box_of}
 use Rattle.wf_box.proofs.KeptLemmas.{each_stays}
 use Rattle.wf_box.proofs.kept.KeptSets.of.Goals as goal
 
-pub returns-in_ok-narrowed-clause-sets : goal.returns-in_ok-narrowed-clause-sets
-returns-in_ok-narrowed-clause-sets c =
-    c.in_ok-narrowed.ensures ∙ each_stays (λ v. nat_lt v part_limit) (box_of c.args.sets.now) (sym c.are_narrow.ensures ∙ c.if-are_narrow.true)
+pub returns-in_ok-narrow-clause-sets : goal.returns-in_ok-narrow-clause-sets
+returns-in_ok-narrow-clause-sets c =
+    c.in_ok-narrow.ensures ∙ each_stays (λ v. nat_lt v part_limit) (box_of c.args.sets.now) (sym c.are_narrow.ensures ∙ c.if-are_narrow.true)
 
 pub returns-in_ok-to_vec-clause-sets : goal.returns-in_ok-to_vec-clause-sets
 returns-in_ok-to_vec-clause-sets c = ap box_of (c.in_ok-to_vec.ensures.items_if_clones_equal (λ x y e. each_same x y e.whole))

@@ -9,6 +9,6 @@ use Rattle.wf_search.proofs.cover.Cover.fill_least.Goals as goal
 
 pub returns-clause-leads : goal.returns-clause-leads
 returns-clause-leads c =
-    IfOk-weaker c.filled_up_to.result _ _
+    IfOk-weaker c.fill_up_to.result _ _
     (λ lines is p m same lead.
-    subst (HasCanonicalMap p m (root p)) (sym (is ∙ ap (λ items. filled_up_to items (each_seen c.args.lists.items)) (c.self.view_is ∙ same))) (filled_leads p m (each_seen c.args.lists.items) lead)) c.filled_up_to.ensures
+    subst (HasCanonicalMap p m (root p)) (sym (is ∙ ap (λ items. filled_up_to items (each_seen c.args.lists.items)) (c.self.view_is ∙ same))) (filled_leads p m (each_seen c.args.lists.items) lead)) c.fill_up_to.ensures

@@ -4,7 +4,7 @@ use Rattle.crossbeam_deque.specs.Handles.{worker_view}
 use Rattle.wf_handout.specs.declared.deque.Pile.{Pile}
 use Rattle.wf_handout.specs.Parts.{IsDealt}
 use Rattle.wf_handout.proofs.Dealing.{goes_on, ends}
-use Rattle.wf_handout.proofs.deque.filled.Goals as goal
+use Rattle.wf_handout.proofs.deque.deal_to.Goals as goal
 
 pub loop-branch-preserved : goal.loop-branch-preserved
 loop-branch-preserved c =

@@ -1,7 +1,7 @@
 use Rattle.std.proofs.Common.{◌≡◌, ◌≤◌, nat_lt, filter, length, map, take, vec_capacity}
 use Rattle.wf_set.specs.Parts.{part_limit, part_values}
 use Rattle.wf_set.specs.Sets.{values_in}
-use Rattle.wf_box.proofs.kept.narrowed.Given as goal
+use Rattle.wf_box.proofs.kept.narrow.Given as goal
 
 abbrev pub invariant-loop-set : goal.invariant-loop-set
 invariant-loop-set l =

@@ -2,7 +2,7 @@ use Rattle.std.proofs.Common.{nat_lt, filter, map, ap, sym, ◌∙◌, take_all}
 use Rattle.std.proofs.lemmas.Simd.{map-map}
 use Rattle.wf_set.specs.Parts.{part_limit}
 use Rattle.wf_set.specs.Sets.{values_in}
-use Rattle.wf_box.proofs.kept.narrowed.Goals as goal
+use Rattle.wf_box.proofs.kept.narrow.Goals as goal
 
 pub returns : goal.returns
 returns c =

@@ -1,7 +1,7 @@
 use Rattle.std.proofs.Common.{◌≡◌, ◌≤◌, length, map, take, vec_capacity}
 use Rattle.wf_set.specs.Parts.{part_values}
 use Rattle.wf_set.specs.Sets.{box_of}
-use Rattle.wf_box.proofs.kept.widened.Given as goal
+use Rattle.wf_box.proofs.kept.widen.Given as goal
 
 abbrev pub invariant-loop-part : goal.invariant-loop-part
 invariant-loop-part l =

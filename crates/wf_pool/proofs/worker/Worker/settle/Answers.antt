@@ -2,7 +2,7 @@ use Rattle.std.proofs.Common.{sym, subst}
 use Rattle.wf_pool.specs.Branches.{IsMapAt}
 use Rattle.wf_pool.specs.Work.{IsFoundAt}
 use Rattle.wf_pool.proofs.Branches.{map_kept}
-use Rattle.wf_pool.proofs.worker.Worker.settled.Goals as goal
+use Rattle.wf_pool.proofs.worker.Worker.settle.Goals as goal
 
 pub returns-in-Map-clause-honest : goal.returns-in-Map-clause-honest
 returns-in-Map-clause-honest c = λ p kept h found.

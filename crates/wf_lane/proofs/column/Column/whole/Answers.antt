@@ -2,7 +2,7 @@ use Rattle.std.proofs.Common.{refl, ap, ◌∙◌}
 use Rattle.wf_lane.specs.Words.{ors}
 use Rattle.wf_lane.specs.declared.column.Column.{Column}
 use Rattle.wf_lane.proofs.ColumnLemmas.{none_cut}
-use Rattle.wf_lane.proofs.column.Column.uncut.Goals as goal
+use Rattle.wf_lane.proofs.column.Column.whole.Goals as goal
 
 pub returns-clause-cut : goal.returns-clause-cut
 returns-clause-cut c =
