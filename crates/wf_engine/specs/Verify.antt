@@ -1,5 +1,5 @@
 -- A run over two sources: a task, and a report about it.
-use Rattle.std.specs.Prelude.{◌≡◌, ◌<◌, ℕ, List, [], length, codes, Result, Ok, Err, None, false}
+use Rattle.std.specs.Prelude.{◌≡◌, ◌<◌, ℕ, List, [], length, codes, Result, Ok, Err, None}
 use Rattle.wf_model.specs.Task.{Task}
 use Rattle.wf_model.specs.Report.{Report, Body, a_map, none, least, line, report_of}
 use Rattle.wf_model.specs.Check.{report_fault}

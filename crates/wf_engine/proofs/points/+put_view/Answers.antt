@@ -1,4 +1,4 @@
-use Rattle.std.proofs.Common.{string_bytes, sym, arith}
+use Rattle.std.proofs.Common.{string_bytes, arith}
 use Rattle.wf_view.specs.Views.{view_at}
 use Rattle.wf_engine.proofs.Telling.{view_told}
 use Rattle.wf_engine.proofs.points.+put_view.Goals as goal

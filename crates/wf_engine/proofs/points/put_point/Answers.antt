@@ -1,4 +1,4 @@
-use Rattle.std.proofs.Common.{◌≡◌, ◌++◌, ◌∷◌, [], codes, string_bytes, ap, sym, ◌∙◌}
+use Rattle.std.proofs.Common.{◌++◌, string_bytes, ap, ◌∙◌}
 use Rattle.wf_model.specs.PointsText.{decision_text}
 use Rattle.wf_view.specs.Views.{view_at}
 use Rattle.wf_engine.proofs.Telling.{one_view, point_told}
