@@ -2,7 +2,7 @@ use Rattle.std.proofs.Common.{◌∙◌, ◌++◌, ap, flat_map, length, arith}
 use Rattle.wf_model.specs.Outline.{boxes_left_out}
 use Rattle.wf_search.specs.Outline.{as_written, slot_seen}
 use Rattle.wf_search.proofs.OutlineLemmas.{number_seen, fill_last}
-use Rattle.wf_search.proofs.outline.Outline.filled.Goals as goal
+use Rattle.wf_search.proofs.outline.Outline.fill.Goals as goal
 
 pub returns : goal.returns
 returns c =

@@ -3,7 +3,7 @@ use Rattle.std.proofs.lemmas.Result.{IfOk-weaker}
 use Rattle.wf_model.specs.Outline.{boxes_left_out}
 use Rattle.wf_search.specs.Outline.{as_written, slot_seen}
 use Rattle.wf_search.proofs.OutlineLemmas.{number_seen, fill_first}
-use Rattle.wf_search.proofs.outline.Outline.filled_up_to.Goals as goal
+use Rattle.wf_search.proofs.outline.Outline.fill_up_to.Goals as goal
 
 pub returns : goal.returns
 returns c =

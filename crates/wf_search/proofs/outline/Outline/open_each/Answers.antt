@@ -4,7 +4,7 @@ use Rattle.wf_model.specs.Outline.{opened}
 use Rattle.wf_search.specs.declared.outline.Slot.{Slot}
 use Rattle.wf_search.specs.Outline.{IsClosedBox, IsJustClosed, slot_seen}
 use Rattle.wf_search.proofs.OutlineLemmas.{opened_step, opened_last, boxes_of_slots, closed_for, none_of}
-use Rattle.wf_search.proofs.outline.Outline.opened.Goals as goal
+use Rattle.wf_search.proofs.outline.Outline.open_each.Goals as goal
 
 pub loop-slot-init : goal.loop-slot-init
 loop-slot-init c = record {

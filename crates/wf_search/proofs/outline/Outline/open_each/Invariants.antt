@@ -2,7 +2,7 @@ use Rattle.std.proofs.Common.{◌≡◌, ◌++◌, flat_map, map}
 use Rattle.std.specs.List.{AllByRecursion}
 use Rattle.wf_model.specs.Outline.{opened}
 use Rattle.wf_search.specs.Outline.{IsClosedBox, IsJustClosed, slot_seen}
-use Rattle.wf_search.proofs.outline.Outline.opened.Given as goal
+use Rattle.wf_search.proofs.outline.Outline.open_each.Given as goal
 
 abbrev pub invariant-loop-slot : goal.invariant-loop-slot
 invariant-loop-slot l = record {
