@@ -10,10 +10,10 @@ use std::process::ExitCode;
 use std::sync::atomic::AtomicU64;
 use std::sync::atomic::Ordering::SeqCst;
 use std::{env, fs, io, rt};
+use wf_args::WordsFault;
 use wf_io::{Sink, Source};
 use wf_pool::{Gate, Moment};
 use wf_program::{Files, run_program};
-use wf_args::WordsFault;
 
 /// The files of the disk.
 #[derive(Drop)]

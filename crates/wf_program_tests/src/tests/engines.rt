@@ -77,7 +77,12 @@ impl Engine {
     }
 }
 
-pub(crate) const ENGINES: [Engine; 4] = [Engine::Solve, Engine::Share, Engine::Views, Engine::Points];
+pub(crate) const ENGINES: [Engine; 4] = [
+    Engine::Solve,
+    Engine::Share,
+    Engine::Views,
+    Engine::Points,
+];
 
 #[test]
 fn a_task_is_answered(rt: HostRuntime) -> Result<(), Fail> {
