@@ -40,7 +40,8 @@ fn tell_source<R: Read>(
     rounds: u32,
 ) -> Result<((), Vec<u8>), RunFault>
     requires { CanRead source.old }
-    ensures { Asks (IsTextOf undecided_points rounds) rounds source.old source.new (answered result) }
+    ensures { Asks (IsTextOf undecided_points rounds) rounds source.old source.new
+        (answered result) }
 {
     let task = read_task(alloc, source)?;
     tell_task(alloc, &task, rounds)
