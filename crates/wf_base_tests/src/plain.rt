@@ -1,8 +1,8 @@
 //! The plain search.
 
-use crate::tasks::PATH_3;
 use std::test::Fail;
 use wf_complex::Protocol;
+use wf_examples::PATH_3;
 use wf_plain::least_map;
 use wf_task::Task;
 

@@ -1,8 +1,9 @@
+//! Full reports about small tasks.
+
 use wf_examples::{
     AGREEMENT_3_2, AGREEMENT_3_3, CONSENSUS_2, CONSENSUS_2_BINARY, ONE_PROCESS, ONE_WITHOUT_OUTPUT,
     ONE_WITHOUT_TUPLE, PATH_2, PATH_3, RENAMING_2_1, RENAMING_2_2, RENAMING_2_3, RENAMING_3_5,
 };
-//! Full reports about small tasks.
 
 /// A full report about a task and some rounds.
 #[derive(Clone, Copy)]

@@ -1,5 +1,6 @@
-use wf_examples::{CONSENSUS_2, PATH_2, PATH_3, RENAMING_2_2};
 //! Reports about small tasks, and what is answered about each.
+
+use wf_examples::{CONSENSUS_2, PATH_2, PATH_3, RENAMING_2_2};
 
 /// A report about a task, and what is answered: that it is accepted, or the refusal.
 #[derive(Clone, Copy)]
