@@ -57,7 +57,7 @@ fn count(counts: &[AtomicU64; BRANCHES], branch: u32) {
 }
 
 impl Hold {
-    pub fn new(rule: Rule) -> Hold {
+    pub(crate) fn new(rule: Rule) -> Hold {
         Hold {
             rule,
             barred: Barred::Nobody,
@@ -73,34 +73,34 @@ impl Hold {
     }
 
     // A gate by which these workers may not start.
-    pub fn without(barred: Barred) -> Hold {
+    pub(crate) fn without(barred: Barred) -> Hold {
         let mut hold = Hold::new(Rule::Nobody);
         hold.barred = barred;
         hold
     }
 
     // Whether a worker was held until it gave up.
-    pub fn has_given_up(&self) -> bool {
+    pub(crate) fn has_given_up(&self) -> bool {
         self.given_up.load(SeqCst) > 0
     }
 
     // How many workers were to be started.
-    pub fn starts(&self) -> u64 {
+    pub(crate) fn starts(&self) -> u64 {
         self.asked.load(SeqCst)
     }
 
     // How often it was told how many branches there are, before any was taken, and how many there are.
-    pub fn branches_told(&self) -> (u64, u64) {
+    pub(crate) fn branches_told(&self) -> (u64, u64) {
         (self.tellings.load(SeqCst), self.branches.load(SeqCst))
     }
 
     // How many branches were settled.
-    pub fn settled(&self) -> u64 {
+    pub(crate) fn settled(&self) -> u64 {
         self.settled.load(SeqCst)
     }
 
     // Whether a turn was taken at this branch.
-    pub fn had_turn(&self, branch: usize) -> bool {
+    pub(crate) fn had_turn(&self, branch: usize) -> bool {
         match self.turns.get(branch) {
             Some(n) => n.load(SeqCst) > 0,
             None => false,

@@ -14,7 +14,7 @@ pub struct Drip<'a> {
 
 impl<'a> Drip<'a> {
     /// No call has been made.
-    pub fn new(bytes: &'a [u8], fails_at: usize) -> Drip<'a> {
+    pub(crate) fn new(bytes: &'a [u8], fails_at: usize) -> Drip<'a> {
         Drip {
             bytes,
             calls: 0,
@@ -50,7 +50,7 @@ pub struct Narrow<'a> {
 
 impl<'a> Narrow<'a> {
     /// Adds to these bytes. No call has been made.
-    pub fn new(taken: &'a mut Vec<u8>, fails_at: usize) -> Narrow<'a> {
+    pub(crate) fn new(taken: &'a mut Vec<u8>, fails_at: usize) -> Narrow<'a> {
         Narrow {
             taken,
             calls: 0,
@@ -107,7 +107,7 @@ pub struct LineFeeds<'a> {
 
 impl<'a> LineFeeds<'a> {
     /// Adds to this count.
-    pub fn new(given: &'a mut usize) -> LineFeeds<'a> {
+    pub(crate) fn new(given: &'a mut usize) -> LineFeeds<'a> {
         LineFeeds { given }
     }
 }

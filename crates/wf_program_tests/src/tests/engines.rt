@@ -49,7 +49,7 @@ pub enum Engine {
 
 impl Engine {
     /// Runs it for some rounds: a search by one worker, one by three, or one of the two listings.
-    pub fn run<T: Threads + Sync, R: Read, W: Write>(
+    pub(crate) fn run<T: Threads + Sync, R: Read, W: Write>(
         self,
         rt: &T,
         alloc: Global,
@@ -68,7 +68,7 @@ impl Engine {
     }
 
     /// What it writes of the task of one process after eight rounds.
-    pub fn text(self) -> &'static str {
+    pub(crate) fn text(self) -> &'static str {
         match self {
             Engine::Solve | Engine::Share => REPORT,
             Engine::Views => LIST,
