@@ -16,9 +16,6 @@ outputs_within t task = simplices_within t.processes (largest_value t.restrictio
 pub inputs_are : (t : Task) → IsTask t → IsComplexWithin t.processes (largest_value t.restriction) (inputs t)
 inputs_are t task = record { is_complex = task.decision.input_complex.is_complex; within = inputs_within t task }
 
-pub outputs_are : (t : Task) → IsTask t → IsComplexWithin t.processes (largest_value t.restriction) t.outputs
-outputs_are t task = record { is_complex = task.decision.output_complex.is_complex; within = outputs_within t task }
-
 pub on_processes : (n largest : ℕ) (ss : List Simplex) → IsComplexWithin n largest ss → IsComplexOn n ss
 on_processes n largest ss h = record {
   is_complex = h.is_complex;

@@ -76,7 +76,7 @@ abbrev pub HasValuesUpTo : ℕ → Simplex → Type 0
 HasValuesUpTo largest s = All (λ x. x ≤ largest) (values_of s)
 
 -- what a text of a task may ask for
-pub record IsWithinLimits (t : Task) : Type 0 where
+pub record IsWithinTextLimits (t : Task) : Type 0 where
   pub processes : t.processes ≤ most_processes
   pub first_block : IsFirstBlock t.restriction
   pub input_values : All (HasValuesUpTo (largest_value t.restriction)) (inputs t)
@@ -88,7 +88,7 @@ pub record IsWithinLimits (t : Task) : Type 0 where
 
 pub record IsTask (t : Task) : Type 0 where
   pub decision : IsDecisionTask t
-  pub limits : IsWithinLimits t
+  pub limits : IsWithinTextLimits t
 
 -- ---- simplices within limits
 
