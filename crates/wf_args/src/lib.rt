@@ -2,7 +2,7 @@
 #![tactic(auto)]
 
 ghost use Rattle.std.specs.Prelude.{IfOk, IfErr, IfSome};
-ghost use Rattle.wf_args.specs.Job.{IsWithinLimits, IsClapMistake};
+ghost use Rattle.wf_args.specs.Job.{CanBeDone, IsClapMistake};
 
 mod forms;
 mod presets;
@@ -225,7 +225,7 @@ fn whole_command<'a>(alloc: Global) -> Result<Command<'a>, AllocError> {
 
 /// The job of `solve`, whose number of workers `clap` has judged. There is none with both `--verdict` and `--least`.
 fn solve_job(found: &ArgMatches<'_>) -> Option<Job>
-    ensures { IfSome result IsWithinLimits }
+    ensures { IfSome result CanBeDone }
 {
     let rounds = found.get_one::<u32>("rounds")?;
     let workers = found.get_one::<u32>("workers")?;
@@ -243,7 +243,7 @@ fn solve_job(found: &ArgMatches<'_>) -> Option<Job>
 
 /// The job of `verify`.
 fn verify_job(alloc: Global, found: &ArgMatches<'_>) -> Result<Job, WordsFault>
-    ensures ok { IfOk result IsWithinLimits }
+    ensures ok { IfOk result CanBeDone }
     ensures err { IfErr result IsClapMistake }
 {
     match found.get_str("task") {
@@ -256,7 +256,7 @@ fn verify_job(alloc: Global, found: &ArgMatches<'_>) -> Result<Job, WordsFault>
 
 /// The job of `views`.
 fn views_job(found: &ArgMatches<'_>) -> Option<Job>
-    ensures { IfSome result IsWithinLimits }
+    ensures { IfSome result CanBeDone }
 {
     let rounds = found.get_one::<u32>("rounds")?;
     Some(Job::Views { rounds })
@@ -264,7 +264,7 @@ fn views_job(found: &ArgMatches<'_>) -> Option<Job>
 
 /// The job of `points`: there is one with `--rounds` or with `--task`, and none with both.
 fn points_job(alloc: Global, found: &ArgMatches<'_>) -> Result<Job, WordsFault>
-    ensures ok { IfOk result IsWithinLimits }
+    ensures ok { IfOk result CanBeDone }
     ensures err { IfErr result IsClapMistake }
 {
     match (found.get_one::<u32>("rounds"), found.get_str("task")) {
@@ -278,7 +278,7 @@ fn points_job(alloc: Global, found: &ArgMatches<'_>) -> Result<Job, WordsFault>
 
 /// The job of `preset`.
 fn preset_job(found: &ArgMatches<'_>) -> Option<Job>
-    ensures { IfSome result IsWithinLimits }
+    ensures { IfSome result CanBeDone }
 {
     let kind = found.get_str("kind")?;
     let options = Options {
@@ -294,7 +294,7 @@ fn preset_job(found: &ArgMatches<'_>) -> Option<Job>
 ///
 /// A fault of `clap` carries the text to be printed; out of memory is never handed out as one.
 pub fn read_words(alloc: Global, words: &[String]) -> Result<Job, WordsFault>
-    ensures ok { IfOk result IsWithinLimits }
+    ensures ok { IfOk result CanBeDone }
     ensures err { IfErr result IsClapMistake }
 {
     let command = whole_command(alloc)?;

@@ -26,7 +26,7 @@ use Rattle.wf_engine.specs.declared.outcome.Form.{Form}
 use Rattle.wf_engine.specs.declared.outcome.Form.TheVariants as form
 use Rattle.wf_engine.specs.declared.fault.RunFault.{RunFault}
 use Rattle.wf_engine.specs.declared.fault.RunFault.TheVariants as run
-use Rattle.wf_engine.specs.Run.{IsWithinLimits}
+use Rattle.wf_engine.specs.Run.{HasComplex}
 use Rattle.wf_engine.specs.Texts.{IsRefutation, IsSolved, LeadsToMap, text_of_report}
 use Rattle.wf_engine.specs.Verify.{ChecksText, IsOutcome, IsVerified, outcome_of}
 use Rattle.wf_engine.specs.Laws.{Accepts, accepted_as}
@@ -53,7 +53,7 @@ unrefused (cert.NotTheMap k) found clear other fails = unnamed found _ clear fai
 unrefused cert.OutOfMemory found clear other fails = absurd (other refl)
 
 -- the answer about a report without a fault
-faultless : (t : Task) (report : Report) (answer : Result (Outcome × List ℕ) RunFault) → IsWithinLimits report.rounds t → report_fault t report.rounds report ≡ None
+faultless : (t : Task) (report : Report) (answer : Result (Outcome × List ℕ) RunFault) → HasComplex report.rounds t → report_fault t report.rounds report ≡ None
     → IsVerified IsOutcome t report answer → Accepts (outcome_of report.body) answer
 faultless t report (Ok answer) within clear is = is.1.0
 faultless t report (Err run.OutOfMemory) within clear is = tt
@@ -65,7 +65,7 @@ faultless t report (Err (run.Build build.OutOfMemory)) within clear is = absurd 
 faultless t report (Err e) within clear is = absurd is
 
 -- the answer about the text of such a report
-text_accepted : (t : Task) (report : Report) (answer : Result (Outcome × List ℕ) RunFault) → IsInGrammar report → length (report_text report) ≤ LONGEST → IsWithinLimits report.rounds t
+text_accepted : (t : Task) (report : Report) (answer : Result (Outcome × List ℕ) RunFault) → IsInGrammar report → length (report_text report) ≤ LONGEST → HasComplex report.rounds t
     → report_fault t report.rounds report ≡ None → ChecksText t (report_text report) answer → Accepts (outcome_of report.body) answer
 text_accepted t report answer grammar short within clear (Ok read, is, next) =
     let known : report_of 2 (report_text report) ≡ Ok report = written_read report grammar in
@@ -88,18 +88,18 @@ finds_none t r task fails = by_map (canonical (problem_of t r) (root (problem_of
 
 module _ (t : Task) (r : ℕ) where
   -- what is answered about the text of a report with this body
-  body_accepted : (body : Body) (text : List ℕ) (answer : Result (Outcome × List ℕ) RunFault) → IsInGrammar (report_about t r body) → IsWithinLimits r t → report_fault t r (report_about t r body) ≡ None
+  body_accepted : (body : Body) (text : List ℕ) (answer : Result (Outcome × List ℕ) RunFault) → IsInGrammar (report_about t r body) → HasComplex r t → report_fault t r (report_about t r body) ≡ None
       → text ≡ text_of_report t r body → length text ≤ LONGEST → ChecksText t text answer → Accepts (outcome_of body) answer
   unfolding text_of_report
   body_accepted body text answer grammar within clear is short checks =
       text_accepted t (report_about t r body) answer grammar (subst (λ x. length x ≤ LONGEST) is short) within clear (subst (λ x. ChecksText t x answer) is checks)
 
-  map_text_accepted : (m : View → ℕ) (text : List ℕ) (answer : Result (Outcome × List ℕ) RunFault) → IsTask t → IsWithinLimits r t → IsDecisionMap t r m
+  map_text_accepted : (m : View → ℕ) (text : List ℕ) (answer : Result (Outcome × List ℕ) RunFault) → IsTask t → HasComplex r t → IsDecisionMap t r m
       → text ≡ text_of_report t r (a_map (listed t r m)) → length text ≤ LONGEST → ChecksText t text answer → Accepts outcome.Map answer
   map_text_accepted m text answer task within decides is short checks =
       body_accepted (a_map (listed t r m)) text answer (map_within t r task within m decides) within (map_accepted t r m decides) is short checks
 
-  none_text_accepted : (ls : List Line) (text : List ℕ) (answer : Result (Outcome × List ℕ) RunFault) → IsTask t → IsWithinLimits r t → IsRefutation t r ls
+  none_text_accepted : (ls : List Line) (text : List ℕ) (answer : Result (Outcome × List ℕ) RunFault) → IsTask t → HasComplex r t → IsRefutation t r ls
       → text ≡ text_of_report t r (none ls) → length text ≤ LONGEST → ChecksText t text answer → Accepts outcome.Nothing answer
   none_text_accepted ls text answer task within refuted is short checks =
       let lines : List Line = (canonical (problem_of t r) (root (problem_of t r))).lines in
@@ -108,7 +108,7 @@ module _ (t : Task) (r : ℕ) where
       body_accepted (none lines) text answer (none_within t r task within refutation.0 (refutation.1 ∙ refuted.canonical_lines) refutation.2) within
       (canonical_none_accepted t r task (finds_none t r task refuted.no_map)) written short checks
 
-  least_text_accepted : (m : View → ℕ) (ls : List Line) (text : List ℕ) (answer : Result (Outcome × List ℕ) RunFault) → IsTask t → IsWithinLimits r t → IsDecisionMap t r m → LeadsToMap t r (listed t r m) ls
+  least_text_accepted : (m : View → ℕ) (ls : List Line) (text : List ℕ) (answer : Result (Outcome × List ℕ) RunFault) → IsTask t → HasComplex r t → IsDecisionMap t r m → LeadsToMap t r (listed t r m) ls
       → text ≡ text_of_report t r (least (listed t r m) ls) → length text ≤ LONGEST → ChecksText t text answer → Accepts outcome.Least answer
   least_text_accepted m ls text answer task within decides leads is short checks =
       let lines : List Line = (canonical (problem_of t r) (root (problem_of t r))).lines in
@@ -119,7 +119,7 @@ module _ (t : Task) (r : ℕ) where
       (subst (λ x. report_fault t r (report_about t r (least (listed t r m) x)) ≡ None) same (least_tree_accepted t r m shape.0 task decides shape.2)) written short checks
 
 pub solved_accepted : (t : Task) (r : ℕ) (asked : Form) (found : Outcome × Account) (text : List ℕ) (answer : Result (Outcome × List ℕ) RunFault)
-    → IsTask t → IsWithinLimits r t → asked ≢ form.Verdict → IsSolved r asked t found text → length text ≤ LONGEST
+    → IsTask t → HasComplex r t → asked ≢ form.Verdict → IsSolved r asked t found text → length text ≤ LONGEST
     → ChecksText t text answer → Accepts (accepted_as asked found.0) answer
 solved_accepted t r form.Full (outcome.Map, a) text answer task within shows (m, ls, is_least, leads, account, is) short checks =
     map_text_accepted t r m text answer task within is_least.decides is short checks

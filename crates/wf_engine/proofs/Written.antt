@@ -34,7 +34,7 @@ use Rattle.wf_simplex.proofs.Lemmas.{length-within}
 use Rattle.wf_task.proofs.Lemmas.{has_from_order}
 use Rattle.wf_complex.proofs.Lemmas.{length-distinct}
 use Rattle.wf_cert.specs.Grammar.{IsLineWithin, IsStepWithin, IsBodyWithin, IsInGrammar, last_process}
-use Rattle.wf_engine.specs.Run.{IsWithinLimits}
+use Rattle.wf_engine.specs.Run.{HasComplex}
 
 -- ---- the values of removed candidates
 
@@ -324,7 +324,7 @@ module _ (t : Task) (r : ℕ) (task : IsTask t) where
   root_small : AreSmall (root (problem_of t r))
   root_small = recursion_from_All _ (root (problem_of t r)) (All-replicate (λ set. AllByRecursion IsSmall set) (length (points t r)) (values t) values_small)
 
-  module _ (within : IsWithinLimits r t) where
+  module _ (within : HasComplex r t) where
     few_points : length (points t r) ≤ most_number
     few_points = omega (arith, points_few t r task, within.1.1)
 

@@ -11,7 +11,7 @@ use Rattle.wf_engine.specs.declared.outcome.Form.TheVariants as form
 use Rattle.wf_engine.specs.declared.fault.RunFault.{RunFault}
 use Rattle.wf_engine.specs.declared.fault.RunFault.TheVariants.{OutOfMemory, Read, Write}
 use Rattle.wf_engine.specs.declared.preset.Preset.{Preset}
-use Rattle.wf_engine.specs.Run.{IsWithinLimits}
+use Rattle.wf_engine.specs.Run.{HasComplex}
 use Rattle.wf_engine.specs.Presets.{WritesPreset}
 use Rattle.wf_engine.specs.Texts.{IsSolved, Solves, Lists}
 use Rattle.wf_engine.specs.Verify.{ChecksText, Decides, Verifies}
@@ -103,5 +103,5 @@ accepted_as form.Least outcome.Least = outcome.Least
 abbrev pub SolvedReportsAreAccepted : Type 0
 SolvedReportsAreAccepted =
     (t : Task) (r : ℕ) (asked : Form) (found : Outcome × Account) (text : List ℕ) (answer : Result (Outcome × List ℕ) RunFault)
-    → IsTask t → IsWithinLimits r t → asked ≢ form.Verdict → IsSolved r asked t found text → length text ≤ LONGEST
+    → IsTask t → HasComplex r t → asked ≢ form.Verdict → IsSolved r asked t found text → length text ≤ LONGEST
     → ChecksText t text answer → Accepts (accepted_as asked found.0) answer

@@ -37,8 +37,8 @@ IsTaskOf text (Err OutOfMemory) = Unit {0}
 IsTaskOf text (Err e) = (fault : TaskFault) × (text_of text ≡ Err fault) × (e ≡ of_task fault)
 
 -- there is a protocol complex: the rounds are few enough, and so are the executions
-abbrev pub IsWithinLimits : ℕ → Task → Type 0
-IsWithinLimits r t = (b : Built) × Builds t r (Ok b)
+abbrev pub HasComplex : ℕ → Task → Type 0
+HasComplex r t = (b : Built) × Builds t r (Ok b)
 
 -- why a task has no answer for r rounds
 abbrev pub IsBeyondLimits : ℕ → Task → RunFault → Type 0
@@ -49,7 +49,7 @@ IsBeyondLimits r t e = ⊥
 
 -- the answer for a task and r rounds with its text, where is_text says which text an answer has
 abbrev pub Answers : {X : Type 0} → (Task → X → List ℕ → Type 0) → ℕ → Task → Result (X × List ℕ) RunFault → Type 0
-Answers is_text r t (Ok answer) = IsWithinLimits r t × is_text t answer.0 answer.1
+Answers is_text r t (Ok answer) = HasComplex r t × is_text t answer.0 answer.1
 Answers is_text r t (Err e) = IsBeyondLimits r t e
 
 -- the answer for the source's task and r rounds

@@ -13,7 +13,7 @@ use Rattle.wf_cert.specs.Reports.{report_seen}
 use Rattle.wf_cert.specs.Faults.{Fails}
 use Rattle.wf_cert.specs.Truth.{HoldsOf}
 use Rattle.wf_cert.specs.declared.fault.CertFault.TheVariants as cert
-use Rattle.wf_engine.specs.Run.{Next, Ran, Reads, IsTaskOf, IsWithinLimits, IsBeyondLimits}
+use Rattle.wf_engine.specs.Run.{Next, Ran, Reads, IsTaskOf, HasComplex, IsBeyondLimits}
 use Rattle.wf_engine.specs.declared.outcome.Outcome.{Outcome}
 use Rattle.wf_engine.specs.declared.outcome.Outcome.TheVariants.{Map, Nothing, Least}
 use Rattle.wf_engine.specs.declared.fault.RunFault.{RunFault}
@@ -54,14 +54,14 @@ AreDecisions t r answer text = text ≡ points_text t r.rounds (values_of r.body
 -- The report's rounds are within the limits and the checker finds no fault. So it is true: a map is a decision map, a
 -- map with a certificate is the least one, and where there is none, no function on the views is a decision map.
 pub record IsFaultless (t : Task) (r : Report) : Type 0 where
-  pub within : IsWithinLimits r.rounds t
+  pub within : HasComplex r.rounds t
   pub faultless : report_fault t r.rounds r ≡ None
   pub holds : HoldsOf t r.rounds r.body
 
 -- a report's first fault, or why there is no protocol complex for its rounds
 abbrev pub IsFaultOf : Task → Report → RunFault → Type 0
 IsFaultOf t r (Cert cert.OutOfMemory) = ⊥
-IsFaultOf t r (Cert e) = IsWithinLimits r.rounds t × Fails e (report_fault t r.rounds r)
+IsFaultOf t r (Cert e) = HasComplex r.rounds t × Fails e (report_fault t r.rounds r)
 IsFaultOf t r e = IsBeyondLimits r.rounds t e
 
 -- the protocol complex for the rounds of a report that is accepted; or it is refused

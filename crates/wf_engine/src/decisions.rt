@@ -9,7 +9,7 @@ ghost use Rattle.wf_engine.specs.Verify.{AreDecisions, CanVerify, Checks, Decide
 use crate::fault::RunFault;
 use crate::points::write_points;
 use crate::steps::{hand_out, read_task};
-use crate::verify::{judged, read_cert};
+use crate::verify::{check_report, read_cert};
 use std::alloc::Global;
 use std::io::{Read, Write};
 use std::thread::Threads;
@@ -62,7 +62,7 @@ fn decide<T: Threads + Sync>(
     requires { AreNumbered (body_length report.now.body) }
     ensures { IsVerified AreDecisions task.now (report_seen report.now) (answered result) }
 {
-    let protocol = judged(rt, alloc, task, report)?;
+    let protocol = check_report(rt, alloc, task, report)?;
     Ok((
         (),
         write_points(alloc, task, &protocol, values_of(&report.body))?,

@@ -83,12 +83,12 @@ fn verify<T: Threads + Sync>(
     requires { AreNumbered (body_length report.now.body) }
     ensures { IsVerified IsOutcome task.now (report_seen report.now) (answered result) }
 {
-    let _protocol = judged(rt, alloc, task, report)?;
-    Ok(accepted(alloc, &report.body)?)
+    let _protocol = check_report(rt, alloc, task, report)?;
+    Ok(tell_accepted(alloc, &report.body)?)
 }
 
 /// The protocol complex for the rounds of a report about a task, where the checker finds no fault in it.
-pub(crate) fn judged<T: Threads + Sync>(
+pub(crate) fn check_report<T: Threads + Sync>(
     rt: &T,
     alloc: Global,
     task: &Task,
@@ -103,7 +103,7 @@ pub(crate) fn judged<T: Threads + Sync>(
 }
 
 /// What a report with this answer says, with the line that tells it.
-fn accepted(alloc: Global, body: &Body) -> Result<(Outcome, Vec<u8>), AllocError>
+fn tell_accepted(alloc: Global, body: &Body) -> Result<(Outcome, Vec<u8>), AllocError>
     ensures outcome { IfOk result (λ answer. answer.0 ≡ outcome_of (body_of body.now)) }
     ensures text { IfOk result (λ answer. answer.1.items ≡ accepted_text (body_of body.now)) }
 {

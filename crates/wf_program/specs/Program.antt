@@ -17,7 +17,7 @@ use Rattle.wf_engine.specs.Run.{Ran}
 use Rattle.wf_engine.specs.Texts.{Solves, Lists, SearchesInOrder, undecided_points}
 use Rattle.wf_engine.specs.Verify.{Verifies, Decides}
 use Rattle.wf_engine.specs.Presets.{WritesPreset}
-use Rattle.wf_args.specs.Job.{IsWithinLimits, IsClapMistake}
+use Rattle.wf_args.specs.Job.{CanBeDone, IsClapMistake}
 use Rattle.wf_args.specs.declared.Job.{Job}
 use Rattle.wf_args.specs.declared.Job.TheVariants.{Solve, Verify, Views, Points, Decisions, Preset}
 use Rattle.wf_args.specs.declared.WordsFault.{WordsFault}
@@ -56,7 +56,7 @@ refusal_text (Clap e) = None
 
 -- a job or why there is none; where the words could not be had, that is why
 abbrev pub IsAsked : {X : Type 0} → Result X WordsFault → Result Job WordsFault → Type 0
-IsAsked (Ok words) (Ok job) = IsWithinLimits job
+IsAsked (Ok words) (Ok job) = CanBeDone job
 IsAsked (Ok words) (Err e) = IsClapMistake e
 IsAsked (Err e) asked = asked ≡ Err e
 

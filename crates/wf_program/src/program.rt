@@ -4,7 +4,7 @@ ghost use Rattle.std.specs.Prelude.{◌≡◌, ◌<◌, ◌≤◌};
 ghost use Rattle.wf_io.specs.Ends.{CanCount, CanWrite};
 ghost use Rattle.wf_engine.specs.Texts.{SearchesInOrder, Solves};
 ghost use Rattle.wf_engine.specs.Verify.{Decides, Verifies};
-ghost use Rattle.wf_args.specs.Job.{IsWithinLimits};
+ghost use Rattle.wf_args.specs.Job.{CanBeDone};
 ghost use Rattle.wf_program.specs.Program.{CanServe, Declines, Does, Ends, IsAsked, Serves, Shows, WithFile, outcome_status, solved, verified, written};
 
 use crate::done::{AccountLine, Done};
@@ -72,7 +72,7 @@ fn do_job<T: Threads + Sync, F: Files, G: Gate, R: Read, W: Write>(
     job: &Job,
 ) -> Result<Done, Refusal>
     requires ends { CanCount source.old sink.old }
-    requires limits { IsWithinLimits job.now }
+    requires limits { CanBeDone job.now }
     ensures { Does job.now source.old source.new sink.old sink.new result }
 {
     match job {

@@ -2,6 +2,7 @@
 use Rattle.std.specs.Prelude.{◌≡◌, ◌<◌, ◌≤◌, ◌==◌, ◌&&◌, ℕ, zero, suc, Bool, true, false, List, [], ◌∷◌, ◌++◌, length, map, take, get_or, bit_or, All, Option, Some, None, option_map}
 use Rattle.std.specs.Cmp.Lexicographic.{pointwise}
 use Rattle.std.specs.HashMap.{HashMap, get}
+use Rattle.wf_model.specs.Limits.{most_value}
 use Rattle.wf_model.specs.View.{View, base}
 use Rattle.wf_view.specs.declared.node.Node.{Node}
 use Rattle.wf_view.specs.Views.{view_seen, colours_of}
@@ -41,7 +42,7 @@ shown nodes = shown_after [] nodes
 
 -- an entry is an input, or has one to four views that stand before place n
 pub data IsEntry (n : ℕ) : Node → Type 0 where
-  is_base : (p x : ℕ) → p ≤ 3 → x ≤ 255 → IsEntry n (base_node p x)
+  is_base : (p x : ℕ) → p ≤ 3 → x ≤ most_value → IsEntry n (base_node p x)
   is_seen : (p : ℕ) (ids : List ℕ) → p ≤ 3 → 0 < length ids → length ids ≤ 4 → All (λ k. k < n) ids → IsEntry n (seen_node p ids)
 
 abbrev pub AreEntriesFrom : ℕ → List Node → Type 0
