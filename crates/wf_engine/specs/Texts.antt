@@ -13,8 +13,8 @@ use Rattle.wf_model.specs.Laws.{report_about}
 use Rattle.wf_model.specs.PointsText.{points_text}
 use Rattle.wf_core.specs.declared.Account.{Account}
 use Rattle.wf_pool.specs.Answers.{HasAccountOfMap, HasAccountOfNone}
-use Rattle.wf_pool.specs.declared.answer.MapLines.{MapLines}
-use Rattle.wf_pool.specs.declared.answer.MapLines.TheVariants.{Kept, Dropped}
+use Rattle.wf_pool.specs.declared.answer.KeptLines.{KeptLines}
+use Rattle.wf_pool.specs.declared.answer.KeptLines.TheVariants as keep
 use Rattle.wf_io.specs.Seen.{Reading, Writing}
 use Rattle.wf_engine.specs.Run.{Asks, Ran}
 use Rattle.wf_engine.specs.declared.fault.RunFault.{RunFault}
@@ -41,11 +41,12 @@ pub record LeadsToMap (t : Task) (r : ℕ) (m : List ℕ) (ls : List Line) : Typ
   pub canonical_lines : ls ≡ (canonical (problem_of t r) (root (problem_of t r))).lines
   pub leads : (tree : Tree) × (lines tree ≡ ls) × IsLeastTree (problem_of t r) m tree (root (problem_of t r))
 
--- the search keeps the lines that lead to a map for the least form alone
-abbrev pub lines_kept : Form → MapLines
-lines_kept form.Full = Dropped
-lines_kept form.Verdict = Dropped
-lines_kept form.Least = Kept
+-- the search keeps the lines that the form shows: in the verdict form none, and those that lead to a map in the least form
+-- alone
+abbrev pub lines_kept : Form → KeptLines
+lines_kept form.Full = keep.Refuting
+lines_kept form.Verdict = keep.Neither
+lines_kept form.Least = keep.All
 
 -- the body of a report of none: in the verdict form the lines are left out
 abbrev pub none_body : Form → List Line → Body

@@ -9,7 +9,7 @@ ghost use Rattle.wf_pool.specs.Answers.{HasAccount, IsAnswer};
 ghost use Rattle.wf_pool.specs.Answers as pool;
 ghost use Rattle.wf_cert.specs.Reports.{body_of};
 ghost use Rattle.wf_engine.specs.Run.{Answers, Asks, answered};
-ghost use Rattle.wf_engine.specs.Texts.{IsInOrder, IsSolved, SearchesInOrder, Solves, lines_kept, map_body, none_body, text_of_report};
+ghost use Rattle.wf_engine.specs.Texts.{IsInOrder, IsSolved, SearchesInOrder, Solves, lines_kept, map_body, text_of_report};
 
 use crate::fault::RunFault;
 use crate::outcome::{Form, Outcome};
@@ -23,7 +23,7 @@ use wf_complex::{Lines, Protocol};
 use wf_core::Account;
 use wf_handout::Stealing;
 use wf_io::{Sink, Source};
-use wf_pool::{Answer, Gate, MAX_WORKERS, MapLines, Open, solve, solve_one};
+use wf_pool::{Answer, Gate, KeptLines, MAX_WORKERS, Open, solve, solve_one};
 use wf_task::Task;
 
 /// How branches are handed to workers.
@@ -163,17 +163,19 @@ fn solve_task<T: Threads + Sync, G: Gate>(
     Ok(with_text(alloc, task, &protocol, answer, account, form)?)
 }
 
-/// What a search keeps of the lines that lead to a map: the least form alone shows them.
-fn lines_kept(form: Form) -> MapLines
+/// What lines a search keeps: those that the form shows.
+fn lines_kept(form: Form) -> KeptLines
     ensures { result ≡ lines_kept form }
 {
     match form {
-        Form::Full | Form::Verdict => MapLines::Dropped,
-        Form::Least => MapLines::Kept,
+        Form::Full => KeptLines::Refuting,
+        Form::Verdict => KeptLines::Neither,
+        Form::Least => KeptLines::All,
     }
 }
 
-/// What a search answers, with the text of the report about it.
+/// What a search answers, with the text of the report about it. Where there is no map the report has the lines that the
+/// search kept: in the verdict form none.
 fn with_text(
     alloc: Global,
     task: &Task,
@@ -195,7 +197,7 @@ fn with_text(
             Ok(((Outcome::Map, account), text))
         }
         Answer::Nothing(lines) => {
-            let text = report_text(alloc, task, protocol, none_body(alloc, form, lines))?;
+            let text = report_text(alloc, task, protocol, Body::Nothing(lines))?;
             Ok(((Outcome::Nothing, account), text))
         }
     }
@@ -208,16 +210,6 @@ fn map_body(form: Form, values: Vec<u8>, lines: Lines) -> Body
     match form {
         Form::Full | Form::Verdict => Body::Map(values),
         Form::Least => Body::Least(values, lines),
-    }
-}
-
-/// What a report says where there is no map: in the verdict form no lines.
-fn none_body(alloc: Global, form: Form, lines: Lines) -> Body
-    ensures { body_of result ≡ none_body form (map line_of lines.items) }
-{
-    match form {
-        Form::Full | Form::Least => Body::Nothing(lines),
-        Form::Verdict => Body::Nothing(Vec::new(alloc)),
     }
 }
 

@@ -9,16 +9,16 @@ use Rattle.wf_core.specs.declared.event.Account.{Account}
 use Rattle.wf_complex.specs.Lines.{line_of}
 use Rattle.wf_pool.specs.declared.answer.Answer.{Answer}
 use Rattle.wf_pool.specs.declared.answer.Answer.TheVariants as answer
-use Rattle.wf_pool.specs.declared.answer.MapLines.{MapLines}
-pub use Rattle.wf_pool.specs.Branches.{map_lines}
+use Rattle.wf_pool.specs.declared.answer.KeptLines.{KeptLines}
+pub use Rattle.wf_pool.specs.Branches.{map_lines, refuting_lines}
 use Rattle.wf_pool.specs.Branches.{IsMapAt, AreLinesAt, branch_of}
 
--- The answer of the canonical search of the root: its map, with its lines if they are kept; or its lines where it has
--- none
-abbrev pub IsAnswer : Problem → MapLines → Answer → Type 0
+-- The answer of the canonical search of the root: its map, or none, and its lines, as far as such lines are kept
+abbrev pub IsAnswer : Problem → KeptLines → Answer → Type 0
 IsAnswer p kept (answer.Map m ls) =
     ((canonical p (root p)).map ≡ Some m.items) × (map line_of ls.items ≡ map_lines kept (canonical p (root p)).lines)
-IsAnswer p _ (answer.Nothing ls) = ((canonical p (root p)).map ≡ None) × (map line_of ls.items ≡ (canonical p (root p)).lines)
+IsAnswer p kept (answer.Nothing ls) =
+    ((canonical p (root p)).map ≡ None) × (map line_of ls.items ≡ refuting_lines kept (canonical p (root p)).lines)
 
 -- The least is the branch whose box holds the map, and whose canonical search ends with it; every branch up to it was
 -- searched, and each other one was searched or cut
@@ -46,11 +46,11 @@ IsInOrder (answer.Map m ls) a = a.searched ≡ a.least + 1
 IsInOrder (answer.Nothing ls) a = a.searched ≡ a.branches
 
 -- what branch i has
-abbrev pub IsAnswerAt : Problem → MapLines → ℕ → Answer → Type 0
+abbrev pub IsAnswerAt : Problem → KeptLines → ℕ → Answer → Type 0
 IsAnswerAt p kept i (answer.Map m ls) = IsMapAt p kept i m.items ls.items
-IsAnswerAt p _ i (answer.Nothing ls) = AreLinesAt p i ls.items
+IsAnswerAt p kept i (answer.Nothing ls) = AreLinesAt p kept i ls.items
 
--- the same map and the same lines that lead to it, or the same lines
+-- the same map, or none, and the same lines
 abbrev pub IsSame : Answer → Answer → Type 0
 IsSame (answer.Map m ls) (answer.Map n ks) = (m.items ≡ n.items) × (map line_of ls.items ≡ map line_of ks.items)
 IsSame (answer.Map m ls) (answer.Nothing ks) = ⊥
@@ -59,4 +59,4 @@ IsSame (answer.Nothing ls) (answer.Nothing ks) = map line_of ls.items ≡ map li
 
 -- any two runs about a problem give the same answer
 abbrev pub OneAnswer : Type 0
-OneAnswer = (p : Problem) (kept : MapLines) (one other : Answer) → IsAnswer p kept one → IsAnswer p kept other → IsSame one other
+OneAnswer = (p : Problem) (kept : KeptLines) (one other : Answer) → IsAnswer p kept one → IsAnswer p kept other → IsSame one other

@@ -10,13 +10,19 @@ use Rattle.wf_model.specs.Outline.{Item, outline, boxes_left_out}
 use Rattle.wf_model.specs.Laws.{HasCanonicalMap, IsBoxOf}
 use Rattle.wf_complex.specs.declared.line.Line.{Line}
 use Rattle.wf_complex.specs.Lines.{line_of}
-use Rattle.wf_pool.specs.declared.answer.MapLines.{MapLines}
-use Rattle.wf_pool.specs.declared.answer.MapLines.TheVariants.{Kept, Dropped}
+use Rattle.wf_pool.specs.declared.answer.KeptLines.{KeptLines}
+use Rattle.wf_pool.specs.declared.answer.KeptLines.TheVariants as keep
 
--- what is left of the lines that lead to a map
-abbrev pub map_lines : MapLines → List refutation.Line → List refutation.Line
-map_lines Kept ls = ls
-map_lines Dropped ls = []
+-- what is kept of the lines that lead to a map, and of those that refute
+abbrev pub map_lines : KeptLines → List refutation.Line → List refutation.Line
+map_lines keep.All ls = ls
+map_lines keep.Refuting ls = []
+map_lines keep.Neither ls = []
+
+abbrev pub refuting_lines : KeptLines → List refutation.Line → List refutation.Line
+refuting_lines keep.All ls = ls
+refuting_lines keep.Refuting ls = ls
+refuting_lines keep.Neither ls = []
 
 -- the box, or the lines, at a place of a list
 abbrev pub box_at : List Box → ℕ → Box
@@ -30,12 +36,12 @@ abbrev pub IsMapOf : Problem → Box → List ℕ → Type 0
 IsMapOf p box m = (canonical p box).map ≡ Some m
 
 -- these are the canonical search's lines of the box, as far as those that lead to a map are kept
-abbrev pub LeadInBox : Problem → MapLines → Box → List Line → Type 0
+abbrev pub LeadInBox : Problem → KeptLines → Box → List Line → Type 0
 LeadInBox p kept box ls = map line_of ls ≡ map_lines kept (canonical p box).lines
 
--- the canonical search of the box ends with no map, and these are its lines
-abbrev pub AreLinesOf : Problem → Box → List Line → Type 0
-AreLinesOf p box ls = ((canonical p box).map ≡ None) × (map line_of ls ≡ (canonical p box).lines)
+-- the canonical search of the box ends with no map, and these are its lines, as far as those that refute are kept
+abbrev pub AreLinesOf : Problem → KeptLines → Box → List Line → Type 0
+AreLinesOf p kept box ls = ((canonical p box).map ≡ None) × (map line_of ls ≡ refuting_lines kept (canonical p box).lines)
 
 -- branch i of the problem
 abbrev pub branch_of : Problem → ℕ → Box
@@ -48,33 +54,33 @@ branch_count p = length (split p)
 unfoldable pub has_map : Problem → ℕ → Bool
 has_map p i = is_some (canonical p (branch_of p i)).map
 
--- m is what the canonical search of branch i ends with, and these are its lines if they are kept; or these are its lines,
--- and there is no map
-unfoldable pub IsMapAt : Problem → MapLines → ℕ → List ℕ → List Line → Type 0
+-- m is what the canonical search of branch i ends with, and these are its lines if they are kept; or there is no map, and
+-- these are its lines if they are kept
+unfoldable pub IsMapAt : Problem → KeptLines → ℕ → List ℕ → List Line → Type 0
 IsMapAt p kept i m ls = (i < branch_count p) × IsMapOf p (branch_of p i) m × LeadInBox p kept (branch_of p i) ls
 
-unfoldable pub AreLinesAt : Problem → ℕ → List Line → Type 0
-AreLinesAt p i ls = (i < branch_count p) × AreLinesOf p (branch_of p i) ls
+unfoldable pub AreLinesAt : Problem → KeptLines → ℕ → List Line → Type 0
+AreLinesAt p kept i ls = (i < branch_count p) × AreLinesOf p kept (branch_of p i) ls
 
 -- the list at place i is that of the lines of branch i
-abbrev pub HasLines : Problem → List (List Line) → ℕ → Type 0
-HasLines p lists i = AreLinesAt p i (lines_at lists i)
+abbrev pub HasLines : Problem → KeptLines → List (List Line) → ℕ → Type 0
+HasLines p kept lists i = AreLinesAt p kept i (lines_at lists i)
 
--- the lines of each of so many branches stand in its place
-abbrev pub HasEachLines : {A : Type 0} → Problem → ℕ → List (Vec Line A) → Type 0
-HasEachLines p n lists = (i : ℕ) → i < n → HasLines p (map (λ l. l.items) lists) i
+-- the lines of each of so many branches, as far as they are kept, stand in its place
+abbrev pub HasEachLines : {A : Type 0} → Problem → KeptLines → ℕ → List (Vec Line A) → Type 0
+HasEachLines p kept n lists = (i : ℕ) → i < n → HasLines p kept (map (λ l. l.items) lists) i
 
 -- the lines that were in their places still are, and so are those of these branches, as far as there are places
-abbrev pub Places : {A : Type 0} → Problem → (ℕ → Type 0) → List (Vec Line A) → List (Vec Line A) → Type 0
-Places p branches old new =
-    (i : ℕ) → i < length old → HasLines p (map (λ l. l.items) old) i ⊎ branches i → HasLines p (map (λ l. l.items) new) i
+abbrev pub Places : {A : Type 0} → Problem → KeptLines → (ℕ → Type 0) → List (Vec Line A) → List (Vec Line A) → Type 0
+Places p kept branches old new =
+    (i : ℕ) → i < length old → HasLines p kept (map (λ l. l.items) old) i ⊎ branches i → HasLines p kept (map (λ l. l.items) new) i
 
 -- where branch n has this map, to which its own lines lead, the root has it, to which these lines lead
 abbrev pub LeadInRoot : Problem → ℕ → List Line → List Line → Type 0
-LeadInRoot p n own ls = (m : List ℕ) → IsMapAt p Kept n m own → HasCanonicalMap p m (root p) (map line_of ls)
+LeadInRoot p n own ls = (m : List ℕ) → IsMapAt p keep.All n m own → HasCanonicalMap p m (root p) (map line_of ls)
 
 -- the same, as far as lines that lead to a map are kept
-abbrev pub LeadIfKept : Problem → MapLines → ℕ → List Line → List Line → Type 0
+abbrev pub LeadIfKept : Problem → KeptLines → ℕ → List Line → List Line → Type 0
 LeadIfKept p kept n own ls = (m : List ℕ) → IsMapAt p kept n m own → LeadInBox p kept (root p) ls
 
 -- no branch below this one has a map

@@ -6,8 +6,8 @@ use Rattle.wf_core.specs.Count.{times, times_in, once_below}
 use Rattle.wf_board.specs.Desk.{Place, Desk, looked, settled}
 use Rattle.wf_search.specs.declared.searching.Found.{Found}
 use Rattle.wf_search.specs.declared.searching.Found.TheVariants as found
-use Rattle.wf_pool.specs.declared.answer.MapLines.{MapLines}
-use Rattle.wf_pool.specs.declared.answer.MapLines.TheVariants.{Kept}
+use Rattle.wf_pool.specs.declared.answer.KeptLines.{KeptLines}
+use Rattle.wf_pool.specs.declared.answer.KeptLines.TheVariants as keep
 use Rattle.wf_pool.specs.declared.worker.MapAt.{MapAt}
 use Rattle.wf_pool.specs.declared.worker.LinesAt.{LinesAt}
 use Rattle.wf_pool.specs.declared.worker.Finds.{Finds}
@@ -22,21 +22,21 @@ abbrev pub lines_branches : {A : Type 0} → Vec LinesAt A → List ℕ
 lines_branches ls = map (λ l. l.branch) ls.items
 
 -- a map, if there is one, or lines, which are what a search of their branch finds
-abbrev pub IsMapFound : Problem → MapLines → Option MapAt → Type 0
+abbrev pub IsMapFound : Problem → KeptLines → Option MapAt → Type 0
 IsMapFound p kept m = IfSome m (λ k. IsMapAt p kept k.branch k.map.items k.lines.items)
 
-abbrev pub AreLinesFound : {A : Type 0} → Problem → Vec LinesAt A → Type 0
-AreLinesFound p ls = All (λ l. AreLinesAt p l.branch l.lines.items) ls.items
+abbrev pub AreLinesFound : {A : Type 0} → Problem → KeptLines → Vec LinesAt A → Type 0
+AreLinesFound p kept ls = All (λ l. AreLinesAt p kept l.branch l.lines.items) ls.items
 
 -- what is kept is what a search of the branch finds
-pub record AreFinds (p : Problem) (kept : MapLines) (f : Finds) : Type 0 where
+pub record AreFinds (p : Problem) (kept : KeptLines) (f : Finds) : Type 0 where
   pub map : IsMapFound p kept f.map
-  pub lines : AreLinesFound p f.lines
+  pub lines : AreLinesFound p kept f.lines
 
 -- What a worker has settled is so, and what it found is kept as long as it may be asked for: the map of a branch that
--- it posted, unless it has seen a lower branch posted; the lines of a branch that it refuted, unless it has seen that
--- branch or a lower one posted.
-pub record IsHonest (p : Problem) (kept : MapLines) (d : Desk) (f : Finds) : Type 0 where
+-- it posted, unless it has seen a lower branch posted; what is kept of the lines of a branch that it refuted, unless it
+-- has seen that branch or a lower one posted.
+pub record IsHonest (p : Problem) (kept : KeptLines) (d : Desk) (f : Finds) : Type 0 where
   pub posted : All (λ i. has_map p i ≡ true) d.posted
   pub refuted : All (λ i. has_map p i ≡ false) d.refuted
   pub cut : All (λ i. d.seen < i) d.cut
@@ -54,11 +54,11 @@ pub record HasLooked (d e : Desk) : Type 0 where
   pub down : e.seen ≤ d.seen
 
 -- a worker of the board that tells the truth about the problem
-abbrev pub IsWorker : Problem → MapLines → Place → Worker → Type 0
+abbrev pub IsWorker : Problem → KeptLines → Place → Worker → Type 0
 IsWorker p kept b w = IsSeat b w.seat × IsHonest p kept w.seat w.finds
 
 -- a worker that has settled nothing
-abbrev pub IsFresh : Problem → MapLines → Place → Worker → Type 0
+abbrev pub IsFresh : Problem → KeptLines → Place → Worker → Type 0
 IsFresh p kept b w = IsWorker p kept b w × (settled w.seat ≡ [])
 
 -- the worker has settled what its share has taken
@@ -85,7 +85,7 @@ abbrev pub IsAlike : {X A : Type 0} → Vec X A → Vec X A → Type 0
 IsAlike old new = (length new.items ≡ length old.items) × (vec_capacity new ≡ vec_capacity old)
 
 -- workers of the board, and what they have settled
-abbrev pub AreWorkers : Problem → MapLines → Place → List Worker → Type 0
+abbrev pub AreWorkers : Problem → KeptLines → Place → List Worker → Type 0
 AreWorkers p kept b ws = All (IsWorker p kept b) ws
 
 abbrev pub times_settled : ℕ → List Worker → ℕ
@@ -116,14 +116,14 @@ HasSettledEach left old new = (x : ℕ) → times x (settled new.seat) ≡ times
 abbrev pub HasSettled : ℕ → Worker → Worker → Type 0
 HasSettled i old new = HasSettledEach (i ∷ []) old new
 
--- a worker that told the truth about a problem still does, whether lines that lead to a map are kept or not; and so it
--- does where this holds of the problem
+-- a worker that told the truth about a problem still does, whatever lines are kept; and so it does where this holds of the
+-- problem
 abbrev pub StaysHonest : Worker → Worker → Type 0
-StaysHonest old new = (p : Problem) (kept : MapLines) → IsHonest p kept old.seat old.finds → IsHonest p kept new.seat new.finds
+StaysHonest old new = (p : Problem) (kept : KeptLines) → IsHonest p kept old.seat old.finds → IsHonest p kept new.seat new.finds
 
-abbrev pub StaysHonestIf : (Problem → MapLines → Type 0) → Worker → Worker → Type 0
+abbrev pub StaysHonestIf : (Problem → KeptLines → Type 0) → Worker → Worker → Type 0
 StaysHonestIf P old new =
-    (p : Problem) (kept : MapLines) → IsHonest p kept old.seat old.finds → P p kept → IsHonest p kept new.seat new.finds
+    (p : Problem) (kept : KeptLines) → IsHonest p kept old.seat old.finds → P p kept → IsHonest p kept new.seat new.finds
 
 -- the branches of the problem are those that the board counts
 pub record IsGround (p : Problem) (c : List Item) (b : Place) : Type 0 where
@@ -132,6 +132,6 @@ pub record IsGround (p : Problem) (c : List Item) (b : Place) : Type 0 where
 
 -- what a search of branch i found
 abbrev pub IsFoundAt : Problem → ℕ → Found → Type 0
-IsFoundAt p i (found.Map m ls) = IsMapAt p Kept i m.items ls.items
-IsFoundAt p i (found.Refuted ls) = AreLinesAt p i ls.items
+IsFoundAt p i (found.Map m ls) = IsMapAt p keep.All i m.items ls.items
+IsFoundAt p i (found.Refuted ls) = AreLinesAt p keep.All i ls.items
 IsFoundAt p i found.Stopped = Unit {0}

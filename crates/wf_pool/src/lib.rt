@@ -2,8 +2,7 @@
 //!
 //! [`solve_one`] searches the branches in order, in this thread. [`solve`] has workers share them out; each worker has
 //! a seat at the board, where it sees the least branch that has a map so far, and a share of the handout. Both answer
-//! what the canonical search of the whole problem finds: its least map, with the lines that lead to it if they are kept,
-//! or the lines of why there is none.
+//! what the canonical search of the whole problem finds: its least map, or none; and its lines, if such lines are kept.
 //!
 //! - `gate`: what a caller may watch and hold of the workers.
 //! - `worker`: a seat, and what the worker keeps of what it found.
@@ -13,10 +12,11 @@
 //! - `answer`: what the workers kept, brought together by branch.
 //! - `solving`: from a problem to its answer and the account of the work.
 //!
-//! A worker keeps one map at most, that of the least branch that it posted, with its lines if such lines are kept, and
-//! the lines of the branches that it refuted, as long as it has seen no lower branch posted. In the end the lines are
-//! moved to their places in a list of the branches, or of those up to the first with a map, and none is copied but into
-//! the lines of the root: this takes one list for each branch, and a step for each list of lines.
+//! A worker keeps one map at most, that of the least branch that it posted, and the lines of the branches that it refuted,
+//! as long as it has seen no lower branch posted. Lines that aren't kept for the answer are given back as soon as their
+//! branch is searched. In the end the others are moved to their places in a list of the branches, or of those up to the
+//! first with a map, and none is copied but into the lines of the root: this takes one list for each branch, and a step
+//! for each list of lines.
 #![tactic(auto)]
 
 mod answer;
@@ -28,7 +28,7 @@ mod solving;
 mod watch;
 mod worker;
 
-pub use answer::{Answer, MapLines};
+pub use answer::{Answer, KeptLines};
 pub use gate::{Gate, Moment, Open};
 pub use laws::a_problem_has_one_answer;
 pub use solving::{MAX_WORKERS, solve, solve_one};

@@ -1,7 +1,7 @@
 // What all workers share.
 ghost use Rattle.wf_pool.specs.Work.{IsGround};
 
-use crate::answer::MapLines;
+use crate::answer::KeptLines;
 use wf_board::Board;
 use wf_box::Problem;
 use wf_search::Cover;
@@ -10,7 +10,7 @@ use wf_search::Cover;
 #[derive(Drop)]
 pub(crate) struct Site<'a, G> {
     pub(crate) problem: &'a Problem,
-    pub(crate) kept: MapLines,
+    pub(crate) kept: KeptLines,
     pub(crate) cover: &'a Cover,
     pub(crate) board: &'a Board,
     pub(crate) gate: &'a G,

@@ -2,13 +2,15 @@
 ghost use Rattle.std.specs.Prelude.{ℕ, ◌≡◌, ◌+◌, ◌*◌, ◌^◌, ◌<◌, ◌≤◌, map, length, All, IfOk};
 ghost use Rattle.wf_model.specs.Outline.{boxes_left_out};
 ghost use Rattle.wf_board.specs.Desk.{fresh_desk};
-ghost use Rattle.wf_pool.specs.Branches.{HasEachLines, IsCoverOf, LeadIfKept, LeadInRoot, branch_count};
+ghost use Rattle.wf_model.specs.Box.{root};
+ghost use Rattle.wf_pool.specs.Branches.{AreLinesOf, HasEachLines, IsCoverOf, LeadIfKept, LeadInRoot, branch_count};
+ghost use Rattle.wf_pool.specs.declared.answer.KeptLines.TheVariants as keep;
 ghost use Rattle.wf_pool.specs.Work.{AreAllBut, AreAllSettled, AreToSettle, AreWorkers, HasSettledEach, IsFresh, IsGround};
 ghost use Rattle.wf_pool.specs.Sites.{AreWorkersOf, IsWorkerOf};
 ghost use Rattle.wf_pool.specs.Together.{Tells};
 ghost use Rattle.wf_pool.specs.Answers.{IsAnswer, IsAnswerAt, HasAccount, IsInOrder};
 
-use crate::answer::{AllFinds, Answer, MapLines, apart, in_order, map_of};
+use crate::answer::{AllFinds, Answer, KeptLines, apart, in_order, map_of};
 use crate::crew::crew;
 use crate::gate::Gate;
 use crate::site::Site;
@@ -27,8 +29,8 @@ use wf_search::{Cover, Found, Never, search, split};
 pub const MAX_WORKERS: u32 = 64;
 
 /// The answer about a problem that several workers find together, and the account of their work. It is the answer of
-/// [`solve_one`], in any schedule: the same map and, if they are kept, the same lines that lead to it, or the same lines
-/// that refute.
+/// [`solve_one`], in any schedule: the same map, or none, with the same lines, as far as they are kept. The lines of a
+/// branch that aren't kept are given back as soon as it is searched.
 ///
 /// No more workers are used than there are branches, and this thread is always the first of them. Each other one has a
 /// thread of its own, unless the gate forbids it or none can be had: then this thread does that worker's work after its
@@ -41,7 +43,7 @@ pub fn solve<R: Threads + Sync, H: Handout, G: Gate>(
     alloc: Global,
     problem: &Problem,
     workers: u32,
-    kept: MapLines,
+    kept: KeptLines,
     gate: &G,
 ) -> Result<(Answer, Account), AllocError>
     requires { (0 < workers) × (workers ≤ MAX_WORKERS) }
@@ -60,12 +62,13 @@ pub fn solve<R: Threads + Sync, H: Handout, G: Gate>(
 }
 
 /// The answer about a problem, and the account of the search: the branches in order, up to the first with a map, whose
-/// map is the least of all. The lines that lead to it, if they are kept, are those of these branches in their places. It
-/// starts no thread, and returns. Refused out of memory alone.
+/// map is the least of all. The lines that are kept are those of these branches in their places among the lines of the
+/// root, and the others are given back as soon as their branch is searched. It starts no thread, and returns. Refused out
+/// of memory alone.
 pub fn solve_one(
     alloc: Global,
     problem: &Problem,
-    kept: MapLines,
+    kept: KeptLines,
 ) -> Result<(Answer, Account), AllocError>
     ensures answer { IfOk result (λ r. IsAnswer problem.now kept r.0) }
     ensures account { IfOk result (λ r. HasAccount problem.now r.0 r.1) }
@@ -89,7 +92,7 @@ pub fn solve_one(
             Answer::Nothing(lines) => lists.push(lines)?,
         }
     }
-    let lines = cover.fill(alloc, lists)?;
+    let lines = lines_of_none(alloc, problem, kept, &cover, lists)?;
     let account = Account {
         branches,
         least: branches,
@@ -107,11 +110,11 @@ fn branches_of(alloc: Global, problem: &Problem) -> Result<Cover, AllocError>
     split(alloc, problem)
 }
 
-/// What a branch has. The lines that lead to a map are dropped as soon as it is found if they aren't kept.
+/// What a branch has. Of its lines those that aren't kept are dropped as soon as it is searched.
 fn search_whole(
     alloc: Global,
     problem: &Problem,
-    kept: MapLines,
+    kept: KeptLines,
     cover: &Cover,
     branch: u32,
 ) -> Result<Answer, AllocError>
@@ -121,8 +124,8 @@ fn search_whole(
 {
     let boxed = cover.branch(alloc, branch)?;
     match search(alloc, problem, boxed, &mut Never)? {
-        Found::Map(map, lines) => Ok(Answer::Map(map, kept.of(alloc, lines))),
-        Found::Refuted(lines) => Ok(Answer::Nothing(lines)),
+        Found::Map(map, lines) => Ok(Answer::Map(map, kept.map_lines(alloc, lines))),
+        Found::Refuted(lines) => Ok(Answer::Nothing(kept.refuting_lines(alloc, lines))),
         Found::Stopped => unreachable!(),
     }
 }
@@ -132,20 +135,20 @@ fn search_whole(
 fn lines_to_map(
     alloc: Global,
     problem: &Problem,
-    kept: MapLines,
+    kept: KeptLines,
     cover: &Cover,
     below: Vec<Lines>,
     own: Lines,
 ) -> Result<Lines, AllocError>
     requires cover { IsCoverOf problem.now cover.now }
     requires branch { length below.items < branch_count problem.now }
-    requires below { HasEachLines problem.now (length below.items) below.items }
+    requires below { HasEachLines problem.now kept (length below.items) below.items }
     ensures { let n = length below.items in
         IfOk result (λ ls. LeadIfKept problem.now kept n own.items ls.items) }
 {
     match kept {
-        MapLines::Kept => fill_to_map(alloc, problem, cover, below, own),
-        MapLines::Dropped => Ok(own),
+        KeptLines::All => fill_to_map(alloc, problem, cover, below, own),
+        KeptLines::Refuting | KeptLines::Neither => Ok(own),
     }
 }
 
@@ -159,7 +162,7 @@ fn fill_to_map(
 ) -> Result<Lines, AllocError>
     requires cover { IsCoverOf problem.now cover.now }
     requires branch { length below.items < branch_count problem.now }
-    requires below { HasEachLines problem.now (length below.items) below.items }
+    requires below { HasEachLines problem.now keep.All (length below.items) below.items }
     ensures { let n = length below.items in
         IfOk result (λ ls. LeadInRoot problem.now n own.items ls.items) }
 {
@@ -168,12 +171,32 @@ fn fill_to_map(
     cover.fill_least(alloc, lists)
 }
 
+/// The lines that refute the root, if they are kept: those of all branches, in order, in their places among those of the
+/// root.
+fn lines_of_none(
+    alloc: Global,
+    problem: &Problem,
+    kept: KeptLines,
+    cover: &Cover,
+    lists: Vec<Lines>,
+) -> Result<Lines, AllocError>
+    requires cover { IsCoverOf problem.now cover.now }
+    requires count { length lists.items ≡ branch_count problem.now }
+    requires lists { HasEachLines problem.now kept (branch_count problem.now) lists.items }
+    ensures { IfOk result (λ ls. AreLinesOf problem.now kept (root problem.now) ls.items) }
+{
+    match kept {
+        KeptLines::All | KeptLines::Refuting => cover.fill(alloc, lists),
+        KeptLines::Neither => Ok(Vec::new(alloc)),
+    }
+}
+
 /// Workers with these seats settle all branches.
 fn search_all<R: Threads + Sync, H: Handout, G: Gate>(
     rt: &R,
     alloc: Global,
     problem: &Problem,
-    kept: MapLines,
+    kept: KeptLines,
     cover: &Cover,
     board: &Board,
     seats: Vec<BoardSeat>,
@@ -206,7 +229,7 @@ fn search_all<R: Threads + Sync, H: Handout, G: Gate>(
 fn fresh_workers(
     alloc: Global,
     problem: &Problem,
-    kept: MapLines,
+    kept: KeptLines,
     board: &Board,
     seats: Vec<BoardSeat>,
 ) -> Result<Vec<Worker>, AllocError>
@@ -271,7 +294,7 @@ fn settle_each<G: Gate>(
 fn finish(
     alloc: Global,
     problem: &Problem,
-    kept: MapLines,
+    kept: KeptLines,
     board: Board,
     workers: Vec<Worker>,
 ) -> Result<(Account, AllFinds), AllocError>
@@ -285,12 +308,12 @@ fn finish(
     Ok((board.finish(seats), finds))
 }
 
-/// The map of the least branch that has one, and the lines that lead to it if they are kept; or the lines of all
-/// branches, filled into those of the root.
+/// The map of the least branch that has one, and the lines that lead to it if they are kept; or none, and the lines that
+/// refute the root if they are kept.
 fn answer_of(
     alloc: Global,
     problem: &Problem,
-    kept: MapLines,
+    kept: KeptLines,
     cover: &Cover,
     finds: AllFinds,
     account: Account,
@@ -304,15 +327,20 @@ fn answer_of(
     if account.least < account.branches {
         return map_answer(alloc, problem, kept, cover, finds, account);
     }
-    let lists = in_order(alloc, problem, finds.lines, account.branches)?;
-    Ok(Answer::Nothing(cover.fill(alloc, lists)?))
+    match kept {
+        KeptLines::All | KeptLines::Refuting => {
+            let lists = in_order(alloc, problem, kept, finds.lines, account.branches)?;
+            Ok(Answer::Nothing(cover.fill(alloc, lists)?))
+        }
+        KeptLines::Neither => Ok(Answer::Nothing(Vec::new(alloc))),
+    }
 }
 
 /// The map of the least branch, and the lines that lead to it if they are kept.
 fn map_answer(
     alloc: Global,
     problem: &Problem,
-    kept: MapLines,
+    kept: KeptLines,
     cover: &Cover,
     finds: AllFinds,
     account: Account,
@@ -327,11 +355,11 @@ fn map_answer(
     let AllFinds { maps, lines } = finds;
     let (map, own) = map_of(problem, kept, maps, account.least);
     match kept {
-        MapLines::Kept => {
-            let below = in_order(alloc, problem, lines, account.least)?;
+        KeptLines::All => {
+            let below = in_order(alloc, problem, kept, lines, account.least)?;
             let lines = fill_to_map(alloc, problem, cover, below, own)?;
             Ok(Answer::Map(map, lines))
         }
-        MapLines::Dropped => Ok(Answer::Map(map, own)),
+        KeptLines::Refuting | KeptLines::Neither => Ok(Answer::Map(map, own)),
     }
 }

@@ -4,7 +4,7 @@ ghost use Rattle.wf_pool.specs.Branches.{IsMapAt, AreLinesAt};
 ghost use Rattle.wf_search.specs.Found.{OnStopped};
 ghost use Rattle.wf_pool.specs.Work.{HasSettled, IsFoundAt, IsSeat, IsToSettle, StaysHonest, StaysHonestIf};
 
-use crate::answer::MapLines;
+use crate::answer::KeptLines;
 use std::alloc::{AllocError, Global};
 use wf_board::{Board, BoardSeat};
 use wf_complex::Lines;
@@ -18,14 +18,14 @@ pub(crate) struct MapAt {
     pub(crate) lines: Lines,
 }
 
-/// The lines of a branch that has no map.
+/// A branch that has no map, and the lines that refute it if they are kept.
 #[derive(Drop)]
 pub(crate) struct LinesAt {
     pub(crate) branch: u32,
     pub(crate) lines: Lines,
 }
 
-/// What a worker keeps: the map of the least branch that it posted, and the lines of the branches that it refuted.
+/// What a worker keeps: the map of the least branch that it posted, and the branches that it refuted, with their lines.
 #[derive(Drop)]
 pub(crate) struct Finds {
     pub(crate) map: Option<MapAt>,
@@ -73,7 +73,7 @@ impl Worker {
         ensures seat { OnOk result (IsSeat board.now self.new.seat) }
         ensures settled { OnOk result (HasSettled branch self.old self.new) }
         ensures honest { OnOk result (StaysHonestIf
-            (λ p kept. AreLinesAt p branch lines.items) self.old self.new) }
+            (λ p kept. AreLinesAt p kept branch lines.items) self.old self.new) }
     {
         board.searched(&mut self.seat, branch);
         if branch < self.seat.seen() {
@@ -94,12 +94,12 @@ impl Worker {
         board.cut(&mut self.seat, branch);
     }
 
-    // Settles a branch by what a search of it found. The lines that lead to a map are dropped first where none are kept.
+    // Settles a branch by what a search of it found. Of its lines those that aren't kept are dropped first.
     pub(crate) fn settle(
         self,
         alloc: Global,
         board: &Board,
-        kept: MapLines,
+        kept: KeptLines,
         branch: u32,
         found: Found,
     ) -> Result<Worker, AllocError>
@@ -114,12 +114,12 @@ impl Worker {
         let mut me = self;
         match found {
             Found::Map(map, lines) => {
-                me.post(board, branch, map, kept.of(alloc, lines));
+                me.post(board, branch, map, kept.map_lines(alloc, lines));
                 me.forget();
                 Ok(me)
             }
             Found::Refuted(lines) => {
-                me.refute(board, branch, lines)?;
+                me.refute(board, branch, kept.refuting_lines(alloc, lines))?;
                 Ok(me)
             }
             Found::Stopped => {

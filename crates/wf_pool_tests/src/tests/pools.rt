@@ -12,7 +12,7 @@ use wf_complex::Line;
 use wf_core::Account;
 use wf_examples::{AGREEMENT_3_2, CONSENSUS_2, PATH_2};
 use wf_handout::{Counter, Handout, Stealing};
-use wf_pool::{Answer, MAX_WORKERS, MapLines, Open, solve, solve_one};
+use wf_pool::{Answer, KeptLines, MAX_WORKERS, Open, solve, solve_one};
 
 // The least map of `PATH_2` after one round.
 const MAP: [u8; 4] = [0, 2, 1, 0];
@@ -73,10 +73,10 @@ const AGREEMENT_ACCOUNT: Account = Account {
 };
 
 // Whether the answer is `MAP`, with the lines that lead to it if they are kept.
-fn is_map(answer: &Answer, kept: MapLines) -> bool {
+fn is_map(answer: &Answer, kept: KeptLines) -> bool {
     let wanted: &[Line] = match kept {
-        MapLines::Kept => &MAP_LINES,
-        MapLines::Dropped => &[],
+        KeptLines::All => &MAP_LINES,
+        KeptLines::Refuting | KeptLines::Neither => &[],
     };
     match answer {
         Answer::Map(map, lines) => map.as_slice() == MAP.as_slice() && lines.as_slice() == wanted,
@@ -95,7 +95,7 @@ fn lines_of(answer: &Answer) -> &[Line] {
 #[test]
 fn one_worker_stops_at_the_first_map(rt: HostRuntime) -> Result<(), Fail> {
     let problem = problem_of(rt.alloc(), PATH_2, 1)?;
-    for kept in [MapLines::Kept, MapLines::Dropped] {
+    for kept in [KeptLines::All, KeptLines::Refuting, KeptLines::Neither] {
         let (answer, account) = solve_one(rt.alloc(), &problem, kept)?;
         assert!(rt; is_map(&answer, kept));
         assert_eq!(rt; account, FIRST_ALONE);
@@ -106,7 +106,7 @@ fn one_worker_stops_at_the_first_map(rt: HostRuntime) -> Result<(), Fail> {
 #[test]
 fn a_root_without_branches(rt: HostRuntime) -> Result<(), Fail> {
     let problem = problem_of(rt.alloc(), CONSENSUS_2, 0)?;
-    let (answer, account) = solve_one(rt.alloc(), &problem, MapLines::Kept)?;
+    let (answer, account) = solve_one(rt.alloc(), &problem, KeptLines::All)?;
     let wanted = [
         Line::P {
             execution: 0,
@@ -138,7 +138,7 @@ fn a_root_without_branches(rt: HostRuntime) -> Result<(), Fail> {
         rt.alloc(),
         &problem,
         MAX_WORKERS,
-        MapLines::Dropped,
+        KeptLines::Refuting,
         &Open,
     )?;
     assert_eq!(rt; lines_of(&answer), wanted.as_slice());
@@ -146,14 +146,14 @@ fn a_root_without_branches(rt: HostRuntime) -> Result<(), Fail> {
     Ok(())
 }
 
-// How many workers, and whether the lines that lead to a map are kept.
-const RUNS: [(u32, MapLines); 6] = [
-    (1, MapLines::Kept),
-    (1, MapLines::Dropped),
-    (2, MapLines::Kept),
-    (2, MapLines::Dropped),
-    (8, MapLines::Kept),
-    (8, MapLines::Dropped),
+// How many workers, and what lines are kept: those that refute in each.
+const RUNS: [(u32, KeptLines); 6] = [
+    (1, KeptLines::All),
+    (1, KeptLines::Refuting),
+    (2, KeptLines::All),
+    (2, KeptLines::Refuting),
+    (8, KeptLines::All),
+    (8, KeptLines::Refuting),
 ];
 
 // The same answers in each of these runs: these lines, and nothing is cut; and the least map of another problem.
@@ -175,7 +175,7 @@ fn refutes<R: Threads + Sync + Abort, H: Handout>(
 #[test]
 fn lines_are_the_same_for_any_number_of_workers(rt: HostRuntime) -> Result<(), Fail> {
     let problem = problem_of(rt.alloc(), AGREEMENT_3_2, 1)?;
-    let (answer, account) = solve_one(rt.alloc(), &problem, MapLines::Kept)?;
+    let (answer, account) = solve_one(rt.alloc(), &problem, KeptLines::All)?;
     let lines = lines_of(&answer);
     assert_eq!(rt; account, AGREEMENT_ACCOUNT);
     assert_eq!(rt; lines.len(), AGREEMENT_LINES);
@@ -188,7 +188,7 @@ fn account_under<R: Threads + Sync + Abort, H: Handout>(
     rt: &R,
     alloc: Global,
     workers: u32,
-    kept: MapLines,
+    kept: KeptLines,
     gate: &Hold,
 ) -> Result<Account, Fail>
     requires { (0 < workers) × (workers ≤ MAX_WORKERS) }
@@ -207,13 +207,19 @@ fn goes_on_beside_one_that_is_held<R: Threads + Sync + Abort, H: Handout>(
     rt: &R,
     alloc: Global,
 ) -> Result<(), Fail> {
-    let account = account_under::<R, H>(rt, alloc, 1, MapLines::Dropped, &Hold::new(Rule::Nobody))?;
+    let account = account_under::<R, H>(
+        rt,
+        alloc,
+        1,
+        KeptLines::Refuting,
+        &Hold::new(Rule::Nobody),
+    )?;
     assert_eq!(rt; account, FIRST_ALONE);
     let account = account_under::<R, H>(
         rt,
         alloc,
         2,
-        MapLines::Kept,
+        KeptLines::All,
         &Hold::new(Rule::FirstTaker),
     )?;
     assert_eq!(rt; account.branches, 3);
@@ -226,13 +232,59 @@ fn a_worker_goes_on_beside_one_that_is_held(rt: HostRuntime) -> Result<(), Fail>
     goes_on_beside_one_that_is_held::<_, Stealing>(&rt, rt.alloc())
 }
 
+// Whether the answer is none, without lines.
+fn is_none_without_lines(answer: &Answer) -> bool {
+    match answer {
+        Answer::Map(_, _) => false,
+        Answer::Nothing(lines) => lines.is_empty(),
+    }
+}
+
+// Where no lines are kept the answers and the accounts are the same: the least map of a problem, and none of another one.
+fn answers_without_lines<R: Threads + Sync + Abort, H: Handout>(
+    rt: &R,
+    alloc: Global,
+    refuted: &Problem,
+) -> Result<(), Fail> {
+    for workers in [1, 2, 8] {
+        let gate = Hold::new(Rule::Nobody);
+        let account = account_under::<R, H>(rt, alloc, workers, KeptLines::Neither, &gate)?;
+        assert_eq!(rt; (account.branches, account.least), (3, 0));
+        let (answer, account) = solve::<R, H, Open>(
+            rt,
+            alloc,
+            refuted,
+            workers,
+            KeptLines::Neither,
+            &Open,
+        )?;
+        assert!(rt; is_none_without_lines(&answer));
+        assert_eq!(rt; account, AGREEMENT_ACCOUNT);
+    }
+    Ok(())
+}
+
+#[test]
+fn no_lines_where_none_are_kept(rt: HostRuntime) -> Result<(), Fail> {
+    let mapped = problem_of(rt.alloc(), PATH_2, 1)?;
+    let (answer, account) = solve_one(rt.alloc(), &mapped, KeptLines::Neither)?;
+    assert!(rt; is_map(&answer, KeptLines::Neither));
+    assert_eq!(rt; account, FIRST_ALONE);
+    let refuted = problem_of(rt.alloc(), AGREEMENT_3_2, 1)?;
+    let (answer, account) = solve_one(rt.alloc(), &refuted, KeptLines::Neither)?;
+    assert!(rt; is_none_without_lines(&answer));
+    assert_eq!(rt; account, AGREEMENT_ACCOUNT);
+    answers_without_lines::<_, Counter>(&rt, rt.alloc(), &refuted)?;
+    answers_without_lines::<_, Stealing>(&rt, rt.alloc(), &refuted)
+}
+
 // Branches are cut whose workers see a lower one posted before their first turn.
 fn cuts_without_a_turn<R: Threads + Sync + Abort, H: Handout>(
     rt: &R,
     alloc: Global,
 ) -> Result<(), Fail> {
     let gate = Hold::new(Rule::LaterBranches);
-    let account = account_under::<R, H>(rt, alloc, 3, MapLines::Kept, &gate)?;
+    let account = account_under::<R, H>(rt, alloc, 3, KeptLines::All, &gate)?;
     assert_eq!(rt; account, FIRST_ALONE);
     assert!(rt; !gate.had_turn(1) && !gate.had_turn(2));
     Ok(())
@@ -250,7 +302,7 @@ fn searches_two_at_once<R: Threads + Sync + Abort, H: Handout>(
     alloc: Global,
 ) -> Result<(), Fail> {
     let gate = Hold::new(Rule::FirstTurns);
-    let account = account_under::<R, H>(rt, alloc, 2, MapLines::Kept, &gate)?;
+    let account = account_under::<R, H>(rt, alloc, 2, KeptLines::All, &gate)?;
     let wanted = Account {
         branches: 3,
         least: 0,
@@ -276,7 +328,7 @@ fn needs_no_thread<R: Threads + Sync + Abort, H: Handout>(
 ) -> Result<(), Fail> {
     for workers in [3, MAX_WORKERS] {
         let gate = Hold::without(Barred::All);
-        let account = account_under::<R, H>(rt, alloc, workers, MapLines::Dropped, &gate)?;
+        let account = account_under::<R, H>(rt, alloc, workers, KeptLines::Refuting, &gate)?;
         assert_eq!(rt; account, FIRST_ALONE);
         assert_eq!(rt; gate.starts(), 2);
     }
@@ -298,7 +350,7 @@ fn needs_no_worker<R: Threads + Sync + Abort, H: Handout>(
 ) -> Result<(), Fail> {
     for barred in [Barred::Worker(1), Barred::Worker(2), Barred::All] {
         let gate = Hold::without(barred);
-        let account = account_under::<R, H>(rt, alloc, 3, MapLines::Kept, &gate)?;
+        let account = account_under::<R, H>(rt, alloc, 3, KeptLines::All, &gate)?;
         assert_eq!(rt; (account.branches, account.least), (3, 0));
         assert!(rt; account.searched > 0 && account.searched <= 3);
         assert_eq!(rt; account.cut, 3 - account.searched);
@@ -308,7 +360,7 @@ fn needs_no_worker<R: Threads + Sync + Abort, H: Handout>(
             alloc,
             refuted,
             3,
-            MapLines::Dropped,
+            KeptLines::Refuting,
             &gate,
         )?;
         assert_eq!(rt; lines_of(&answer), lines);
@@ -321,7 +373,7 @@ fn needs_no_worker<R: Threads + Sync + Abort, H: Handout>(
 #[test]
 fn some_workers_that_may_not_start(rt: HostRuntime) -> Result<(), Fail> {
     let problem = problem_of(rt.alloc(), AGREEMENT_3_2, 1)?;
-    let (answer, _) = solve_one(rt.alloc(), &problem, MapLines::Kept)?;
+    let (answer, _) = solve_one(rt.alloc(), &problem, KeptLines::All)?;
     let lines = lines_of(&answer);
     assert_eq!(rt; lines.len(), AGREEMENT_LINES);
     needs_no_worker::<_, Counter>(&rt, rt.alloc(), &problem, lines)?;
@@ -341,10 +393,10 @@ fn finds_the_least_map<R: Threads + Sync + Abort, H: Handout>(
             alloc,
             &problem,
             workers,
-            MapLines::Kept,
+            KeptLines::All,
             &Open,
         )?;
-        assert!(rt; is_map(&answer, MapLines::Kept));
+        assert!(rt; is_map(&answer, KeptLines::All));
         assert_eq!(rt; (account.branches, account.least), (3, 0));
         assert!(rt; account.searched > 0 && account.searched <= 3);
         assert_eq!(rt; account.cut, 3 - account.searched);

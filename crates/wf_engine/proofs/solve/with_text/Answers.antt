@@ -24,4 +24,4 @@ returns-in_ok-text-in-Nothing-clause-solved c =
     let account = subst (λ a. HasAccount (problem_of t r) a c.args.account) c.in-Nothing.is c.requires.account in
     let lines = map line_of c.in-Nothing.lines.items in
     none_verdict t r c.args.form lines _ c.args.account c.requires.built.task answer.0 answer.1 account
-    (c.in_ok-text-in-Nothing.ensures ∙ ap (text_of_report t r) c.none_body.ensures)
+    c.in_ok-text-in-Nothing.ensures

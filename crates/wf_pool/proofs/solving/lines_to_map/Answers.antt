@@ -1,9 +1,10 @@
-use Rattle.std.proofs.Common.{length, sym, subst}
-use Rattle.wf_pool.specs.Branches.{LeadIfKept}
+use Rattle.std.proofs.Common.{length, subst}
+use Rattle.wf_pool.specs.Branches.{HasEachLines}
 use Rattle.wf_pool.proofs.Branches.{lead_dropped}
 use Rattle.wf_pool.proofs.solving.lines_to_map.Goals as goal
 
-pub returns-in-Dropped : goal.returns-in-Dropped
-returns-in-Dropped c =
-    let n = length c.args.below.items in
-    subst (λ kept. LeadIfKept c.args.problem.now kept n c.args.own.items c.args.own.items) (sym c.in-Dropped.is) (lead_dropped c.args.problem.now n c.args.own.items)
+pub fill_to_map-requires-clause-below : goal.fill_to_map-requires-clause-below
+fill_to_map-requires-clause-below c = subst (λ kept. HasEachLines c.args.problem.now kept (length c.args.below.items) c.args.below.items) c.in-All.is c.requires.below
+
+pub returns-in-Refuting : goal.returns-in-Refuting
+returns-in-Refuting c = lead_dropped c.args.problem.now c.args.kept (length c.args.below.items) c.args.own.items c.in-Refuting.is

@@ -1,25 +1,33 @@
+use Rattle.std.proofs.Common.{ℕ, ◌<◌, length, subst}
+use Rattle.wf_pool.specs.Branches.{HasEachLines}
 use Rattle.wf_pool.proofs.Answering.{account_of_map, dropped_answer, kept_answer}
 use Rattle.wf_pool.proofs.solving.map_answer.Goals as goal
 
-pub returns-in_ok-lines-in-Kept-clause-answer : goal.returns-in_ok-lines-in-Kept-clause-answer
-returns-in_ok-lines-in-Kept-clause-answer c =
-    let found = c.map_of-map in
-    kept_answer c.args.problem.now c.args.kept c.args.account.least _ found.result.0.items found.result.1.items c.in_ok-lines-in-Kept.lines.items
-    c.requires.cover.well_formed c.in-Kept.is c.in_ok-below-in-Kept.ensures.count found.ensures c.requires.tells.none c.in_ok-lines-in-Kept.ensures
+pub fill_to_map-requires-clause-below : goal.fill_to_map-requires-clause-below
+fill_to_map-requires-clause-below c =
+    let below = c.in_ok-below-in-All.below.items in
+    let has = c.in_ok-below-in-All.ensures in
+    subst (λ kept. HasEachLines c.args.problem.now kept (length below) below) c.in-All.is (λ i inside. has.lists i (subst (λ (n : ℕ). i < n) has.count inside))
 
-pub returns-in_ok-lines-in-Kept-clause-account : goal.returns-in_ok-lines-in-Kept-clause-account
-returns-in_ok-lines-in-Kept-clause-account c =
+pub returns-in_ok-lines-in-All-clause-answer : goal.returns-in_ok-lines-in-All-clause-answer
+returns-in_ok-lines-in-All-clause-answer c =
+    let found = c.map_of-map in
+    kept_answer c.args.problem.now c.args.kept c.args.account.least _ found.result.0.items found.result.1.items c.in_ok-lines-in-All.lines.items
+    c.requires.cover.well_formed c.in-All.is c.in_ok-below-in-All.ensures.count found.ensures c.requires.tells.none c.in_ok-lines-in-All.ensures
+
+pub returns-in_ok-lines-in-All-clause-account : goal.returns-in_ok-lines-in-All-clause-account
+returns-in_ok-lines-in-All-clause-account c =
     let tells = c.requires.tells in
     let found = c.map_of-map in
     account_of_map c.args.problem.now c.args.kept found.result.0.items found.result.1.items c.args.account c.requires.cover.well_formed c.requires.branches found.ensures (tells.enough c.requires.some) tells.all
 
-pub returns-in-Dropped-clause-answer : goal.returns-in-Dropped-clause-answer
-returns-in-Dropped-clause-answer c =
+pub returns-in-Refuting-clause-answer : goal.returns-in-Refuting-clause-answer
+returns-in-Refuting-clause-answer c =
     let found = c.map_of-map in
-    dropped_answer c.args.problem.now c.args.kept c.args.account.least found.result.0.items found.result.1.items c.requires.cover.well_formed c.in-Dropped.is found.ensures c.requires.tells.none
+    dropped_answer c.args.problem.now c.args.kept c.args.account.least found.result.0.items found.result.1.items c.requires.cover.well_formed c.in-Refuting.is found.ensures c.requires.tells.none
 
-pub returns-in-Dropped-clause-account : goal.returns-in-Dropped-clause-account
-returns-in-Dropped-clause-account c =
+pub returns-in-Refuting-clause-account : goal.returns-in-Refuting-clause-account
+returns-in-Refuting-clause-account c =
     let tells = c.requires.tells in
     let found = c.map_of-map in
     account_of_map c.args.problem.now c.args.kept found.result.0.items found.result.1.items c.args.account c.requires.cover.well_formed c.requires.branches found.ensures (tells.enough c.requires.some) tells.all

@@ -1,9 +1,8 @@
-use Rattle.std.proofs.Common.{◌≡◌, ◌<◌, ◌∷◌, [], ℕ, length, map, refl, ap, sym, ◌∙◌, subst, arith, vec_items, length-append}
+use Rattle.std.proofs.Common.{◌∷◌, [], length, map, refl, ap, sym, ◌∙◌, subst, arith, vec_items, length-append}
 use Rattle.std.proofs.lemmas.List.{map-append, length-map}
-use Rattle.wf_model.specs.Box.{root}
 use Rattle.wf_pool.specs.Branches.{HasLines, LeadIfKept}
 use Rattle.wf_pool.specs.Answers.{IsAnswerAt}
-use Rattle.wf_pool.proofs.Branches.{count_of_cover, lines_are, lines_of_box, lists_of_cover}
+use Rattle.wf_pool.proofs.Branches.{count_of_cover, lines_are}
 use Rattle.wf_pool.proofs.Answering.{account_of_map, account_of_none, first_answer}
 use Rattle.wf_pool.proofs.Placing.{one_more}
 use Rattle.wf_pool.proofs.solving.solve_one.Goals as goal
@@ -22,7 +21,7 @@ returns-in-Map-clause-answer c =
     let lines = c.in_ok-lines-in-Map.lines.items in
     first_answer p c.args.kept c.loop-branch.branch c.in-Map.map.items own lines c.in_ok-cover.ensures.well_formed
     (subst (IsAnswerAt p c.args.kept c.loop-branch.branch) c.in-Map.is c.in_ok-map.ensures)
-    (λ j low. lines_are p j _ (c.loop-branch.invariant.1 j low))
+    (λ j low. lines_are p c.args.kept j _ (c.loop-branch.invariant.1 j low))
     (subst (λ n. LeadIfKept p c.args.kept n own lines) c.loop-branch.invariant.0 c.in_ok-lines-in-Map.ensures)
 
 pub returns-in-Map-clause-account : goal.returns-in-Map-clause-account
@@ -44,19 +43,26 @@ loop-branch-preserved c =
     let l = ap length more in
     let n = h.0 in (
       omega arith,
-      λ i lt. subst (λ xs. HasLines p xs i) (sym (ap (map vec_items) more ∙ map-append vec_items lists (lines ∷ [])))
-          (one_more p (map vec_items lists) lines.items c.loop-branch.branch (length-map lists vec_items ∙ h.0) h.1 (subst (IsAnswerAt p c.args.kept c.loop-branch.branch) c.in-Nothing.is c.in_ok-map.ensures) i lt),
+      λ i lt. subst (λ xs. HasLines p c.args.kept xs i) (sym (ap (map vec_items) more ∙ map-append vec_items lists (lines ∷ [])))
+          (one_more p c.args.kept (map vec_items lists) lines.items c.loop-branch.branch (length-map lists vec_items ∙ h.0) h.1 (subst (IsAnswerAt p c.args.kept c.loop-branch.branch) c.in-Nothing.is c.in_ok-map.ensures) i lt),
     )
 
-pub returns-clause-answer : goal.returns-clause-answer
-returns-clause-answer c =
+pub lines_of_none-requires-clause-count : goal.lines_of_none-requires-clause-count
+lines_of_none-requires-clause-count c =
     let p = c.args.problem.now in
     let count = c.branches-branches.ensures.branches ∙ count_of_cover p c.in_ok-cover.cover c.in_ok-cover.ensures in
-    let end : c.loop-branch.branch ≡ c.branches-branches.result = (let a = c.loop-branch-test.false in let b = c.loop-branch.auto.branch-end in omega arith) in
-    let has = c.loop-branch.invariant in
-    lines_of_box p (root p) c.in_ok-lines.lines.items
-    (c.in_ok-lines.ensures.canonical p c.in_ok-cover.ensures.outline
-    (lists_of_cover p c.loop-branch.lists.items (has.0 ∙ end ∙ count) (λ i inside. has.1 i (subst (λ (n : ℕ). i < n) (sym (end ∙ count)) inside))))
+    let here = c.loop-branch.invariant.0 in
+    let low = c.loop-branch-test.false in
+    let end = c.loop-branch.auto.branch-end in
+    omega arith
+
+pub lines_of_none-requires-clause-lists : goal.lines_of_none-requires-clause-lists
+lines_of_none-requires-clause-lists c = λ i inside.
+    let p = c.args.problem.now in
+    let count = c.branches-branches.ensures.branches ∙ count_of_cover p c.in_ok-cover.cover c.in_ok-cover.ensures in
+    let low = c.loop-branch-test.false in
+    let end = c.loop-branch.auto.branch-end in
+    c.loop-branch.invariant.1 i (omega arith)
 
 pub returns-clause-account : goal.returns-clause-account
 returns-clause-account c =
