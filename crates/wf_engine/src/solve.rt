@@ -4,11 +4,11 @@ ghost use Rattle.std.specs.Prelude.{◌≡◌, ◌<◌, ◌≤◌, IfOk, map};
 ghost use Rattle.wf_model.specs.Problem.{problem_of};
 ghost use Rattle.wf_io.specs.Ends.{CanCount, CanRead};
 ghost use Rattle.wf_complex.specs.Lines.{line_of};
-ghost use Rattle.wf_complex.specs.Protocol.{IsProtocol};
 ghost use Rattle.wf_pool.specs.Answers.{HasAccount, IsAnswer};
 ghost use Rattle.wf_pool.specs.Answers as pool;
 ghost use Rattle.wf_cert.specs.Reports.{body_of};
 ghost use Rattle.wf_engine.specs.Run.{Answers, Asks, answered};
+ghost use Rattle.wf_engine.specs.Heads.{IsHead, Poses};
 ghost use Rattle.wf_engine.specs.Texts.{IsInOrder, IsSolved, SearchesInOrder, Solves, lines_kept, map_body, text_of_report};
 
 use crate::fault::RunFault;
@@ -137,10 +137,9 @@ fn solve_task_one(
     ensures answers { Answers (IsSolved rounds form) rounds task.now (answered result) }
     ensures in_order { IfOk result (λ answer. IsInOrder answer.0) }
 {
-    let protocol = Protocol::build(alloc, task, rounds)?;
-    let problem = Problem::join(alloc, task, &protocol)?;
+    let (head, problem) = pose(alloc, task, rounds)?;
     let (answer, account) = solve_one(alloc, &problem, lines_kept(form))?;
-    Ok(with_text(alloc, task, &protocol, answer, account, form)?)
+    Ok(with_text(alloc, task, rounds, head, answer, account, form)?)
 }
 
 /// The answer for a task, with the text of its report, by some workers.
@@ -156,11 +155,21 @@ fn solve_task<T: Threads + Sync, G: Gate>(
     requires { (0 < workers) × (workers ≤ MAX_WORKERS) }
     ensures { Answers (IsSolved rounds form) rounds task.now (answered result) }
 {
-    let protocol = Protocol::build(alloc, task, rounds)?;
-    let problem = Problem::join(alloc, task, &protocol)?;
+    let (head, problem) = pose(alloc, task, rounds)?;
     let kept = lines_kept(form);
     let (answer, account) = solve::<T, Branches, G>(rt, alloc, &problem, workers, kept, gate)?;
-    Ok(with_text(alloc, task, &protocol, answer, account, form)?)
+    Ok(with_text(alloc, task, rounds, head, answer, account, form)?)
+}
+
+/// The head of the report about a task, with an answer still to come, and the problem to solve for it. The complex, which
+/// takes more memory than either, is given back before the search begins.
+fn pose(alloc: Global, task: &Task, rounds: u32) -> Result<(Report, Problem), RunFault>
+    ensures { Poses rounds task.now result }
+{
+    let protocol = Protocol::build(alloc, task, rounds)?;
+    let problem = Problem::join(alloc, task, &protocol)?;
+    let head = Report::about(task, &protocol, Body::Map(Vec::new(alloc)));
+    Ok((head, problem))
 }
 
 /// What lines a search keeps: those that the form shows.
@@ -179,25 +188,25 @@ fn lines_kept(form: Form) -> KeptLines
 fn with_text(
     alloc: Global,
     task: &Task,
-    protocol: &Protocol,
+    rounds: u32,
+    head: Report,
     answer: Answer,
     account: Account,
     form: Form,
 ) -> Result<((Outcome, Account), Vec<u8>), AllocError>
-    requires built { IsProtocol task.now protocol.now.rounds protocol.now }
-    requires answer { IsAnswer (problem_of task.now protocol.now.rounds) (lines_kept form) answer }
-    requires account { HasAccount (problem_of task.now protocol.now.rounds) answer account }
-    ensures solved { IfOk result (λ r.
-        IsSolved protocol.now.rounds form task.now r.0 r.1.items) }
+    requires head { IsHead rounds task.now head }
+    requires answer { IsAnswer (problem_of task.now rounds) (lines_kept form) answer }
+    requires account { HasAccount (problem_of task.now rounds) answer account }
+    ensures solved { IfOk result (λ r. IsSolved rounds form task.now r.0 r.1.items) }
     ensures in_order { pool.IsInOrder answer account → IfOk result (λ r. IsInOrder r.0) }
 {
     match answer {
         Answer::Map(values, lines) => {
-            let text = report_text(alloc, task, protocol, map_body(form, values, lines))?;
+            let text = report_text(alloc, task, rounds, head, map_body(form, values, lines))?;
             Ok(((Outcome::Map, account), text))
         }
         Answer::Nothing(lines) => {
-            let text = report_text(alloc, task, protocol, Body::Nothing(lines))?;
+            let text = report_text(alloc, task, rounds, head, Body::Nothing(lines))?;
             Ok(((Outcome::Nothing, account), text))
         }
     }
@@ -213,17 +222,18 @@ fn map_body(form: Form, values: Vec<u8>, lines: Lines) -> Body
     }
 }
 
-/// The text of the report with this answer.
+/// The text of the report with this head and this answer.
 #[tactic(auto, unfolding(crate::specs::Texts::text_of_report))]
 fn report_text(
     alloc: Global,
     task: &Task,
-    protocol: &Protocol,
+    rounds: u32,
+    head: Report,
     body: Body,
 ) -> Result<Vec<u8>, AllocError>
-    requires { IsProtocol task.now protocol.now.rounds protocol.now }
+    requires { IsHead rounds task.now head }
     ensures { IfOk result (λ text. text.items
-        ≡ text_of_report task.now protocol.now.rounds (body_of body)) }
+        ≡ text_of_report task.now rounds (body_of body)) }
 {
-    write_report(alloc, &Report::about(task, protocol, body))
+    write_report(alloc, &Report { body, ..head })
 }

@@ -9,19 +9,19 @@ use Rattle.wf_engine.proofs.solve.with_text.Goals as goal
 pub returns-in_ok-text-in-Map-clause-solved : goal.returns-in_ok-text-in-Map-clause-solved
 returns-in_ok-text-in-Map-clause-solved c =
     let t = c.args.task.now in
-    let r = c.args.protocol.now.rounds in
+    let r = c.args.rounds in
     let answer = subst (IsAnswer (problem_of t r) (lines_kept c.args.form)) c.in-Map.is c.requires.answer in
     let account = subst (λ a. HasAccount (problem_of t r) a c.args.account) c.in-Map.is c.requires.account in
     let lines = map line_of c.in-Map.lines.items in
-    map_verdict t r c.args.form c.in-Map.values.items lines _ c.args.account c.requires.built.task answer.0 answer.1 account
+    map_verdict t r c.args.form c.in-Map.values.items lines _ c.args.account c.requires.head.task answer.0 answer.1 account
     (c.in_ok-text-in-Map.ensures ∙ ap (text_of_report t r) c.map_body.ensures)
 
 pub returns-in_ok-text-in-Nothing-clause-solved : goal.returns-in_ok-text-in-Nothing-clause-solved
 returns-in_ok-text-in-Nothing-clause-solved c =
     let t = c.args.task.now in
-    let r = c.args.protocol.now.rounds in
+    let r = c.args.rounds in
     let answer = subst (IsAnswer (problem_of t r) (lines_kept c.args.form)) c.in-Nothing.is c.requires.answer in
     let account = subst (λ a. HasAccount (problem_of t r) a c.args.account) c.in-Nothing.is c.requires.account in
     let lines = map line_of c.in-Nothing.lines.items in
-    none_verdict t r c.args.form lines _ c.args.account c.requires.built.task answer.0 answer.1 account
+    none_verdict t r c.args.form lines _ c.args.account c.requires.head.task answer.0 answer.1 account
     c.in_ok-text-in-Nothing.ensures
