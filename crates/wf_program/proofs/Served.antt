@@ -19,7 +19,7 @@ use Rattle.wf_engine.proofs.Lemmas.{checked, counted, handed, preset_counted}
 use Rattle.wf_program.specs.declared.done.Done.{Done}
 use Rattle.wf_program.specs.declared.refusal.Refusal.{Refusal}
 use Rattle.wf_program.specs.declared.refusal.Refusal.TheVariants as refusal
-use Rattle.wf_program.specs.Program.{fault_status, refusal_status, solved, verified, written, IsShown, Shows, Declines, DoesAsked, Ends}
+use Rattle.wf_program.specs.Program.{fault_status, refusal_status, Opens, solved, verified, written, unread, IsShown, Shows, Declines, DoesAsked, Ends}
 use Rattle.wf_program.specs.VersionText.{version_line}
 use Rattle.wf_program.specs.Laws.{IsServed, failed_calls, file_count}
 
@@ -140,22 +140,22 @@ module _ (source source' : Reading) (sink sink' : Writing) where
       subst (IsDone 1 source source' sink sink') (sym is)
       (record { most = tt; failures = (1, omega arith, omega (arith, reads, writes)); taken = omega (arith, takes); unwritten = λ other. wrote })
 
-  did : (asked : Result Job WordsFault) (done : Result Done Refusal) → DoesAsked asked source source' sink sink' done → IsDone (file_count asked) source source' sink sink' done
-  did (Ok (job.Solve rounds workers form tells progress)) done (result, solves, ordered, is) =
+  did : (opens : Opens) (asked : Result Job WordsFault) (done : Result Done Refusal) → DoesAsked opens asked source source' sink sink' done → IsDone (file_count asked) source source' sink sink' done
+  did opens (Ok (job.Solve rounds workers form tells progress)) done (result, solves, ordered, is) =
       subst (IsDone 0 source source' sink sink') (sym is) (after_solving tells result (counted (IsSolved rounds form) rounds source source' sink sink' result solves))
-  did (Ok (job.Verify task)) done (result, inl (file, file', verifies), is) =
-      subst (IsDone 1 source source' sink sink') (sym is) (after_verifying file file' result (checked IsOutcome file file' source source' sink sink' result verifies))
-  did (Ok (job.Verify task)) done (result, inr (none, read, wrote), is) = not_opened done (is ∙ ap verified none) read wrote
-  did (Ok (job.Views rounds)) done (result, lists, is) =
+  did opens (Ok (job.Verify task)) done (result, inl (left, file', opened, verifies), is) =
+      subst (IsDone 1 source source' sink sink') (sym is) (after_verifying (unread left) file' result (checked IsOutcome (unread left) file' source source' sink sink' result verifies))
+  did opens (Ok (job.Verify task)) done (result, inr (none, read, wrote), is) = not_opened done (is ∙ ap verified none) read wrote
+  did opens (Ok (job.Views rounds)) done (result, lists, is) =
       subst (IsDone 0 source source' sink sink') (sym is) (after_writing result (counted (IsTextOf views_text rounds) rounds source source' sink sink' result lists))
-  did (Ok (job.Points rounds)) done (result, lists, is) =
+  did opens (Ok (job.Points rounds)) done (result, lists, is) =
       subst (IsDone 0 source source' sink sink') (sym is) (after_writing result (counted (IsTextOf undecided_points rounds) rounds source source' sink sink' result lists))
-  did (Ok (job.Decisions task)) done (result, inl (file, file', decides), is) =
-      subst (IsDone 1 source source' sink sink') (sym is) (after_deciding file file' result (checked AreDecisions file file' source source' sink sink' result decides))
-  did (Ok (job.Decisions task)) done (result, inr (none, read, wrote), is) = not_opened done (is ∙ ap written none) read wrote
-  did (Ok (job.Preset preset)) done (result, writes, read, is) =
+  did opens (Ok (job.Decisions task)) done (result, inl (left, file', opened, decides), is) =
+      subst (IsDone 1 source source' sink sink') (sym is) (after_deciding (unread left) file' result (checked AreDecisions (unread left) file' source source' sink sink' result decides))
+  did opens (Ok (job.Decisions task)) done (result, inr (none, read, wrote), is) = not_opened done (is ∙ ap written none) read wrote
+  did opens (Ok (job.Preset preset)) done (result, writes, read, is) =
       subst (IsDone 0 source source' sink sink') (sym is) (after_preset result read (preset_counted preset sink sink' result writes))
-  did (Err e) done (read, declines) = declined e done read declines
+  did opens (Err e) done (read, declines) = declined e done read declines
 
 -- the status of a refusal is 2, 3 or 4
 of_fault : (e : RunFault) → (2 ≤ fault_status e) × (fault_status e ≤ 4)
@@ -178,11 +178,11 @@ two_or_three : (a b : ℕ) → a ≡ b → (a ≡ 2) ⊎ (a ≡ 3) → b ≢ 4
 two_or_three a b is (inl two) four = omega arith
 two_or_three a b is (inr three) four = omega arith
 
-pub served : (source source' : Reading) (sink sink' errors errors' : Writing) (asked : Result Job WordsFault) (done : Result Done Refusal) (status : ℕ)
-    → DoesAsked asked source source' sink sink' done → Ends errors errors' done status → IsServed asked source source' sink sink' errors errors' status
+pub served : (opens : Opens) (source source' : Reading) (sink sink' errors errors' : Writing) (asked : Result Job WordsFault) (done : Result Done Refusal) (status : ℕ)
+    → DoesAsked opens asked source source' sink sink' done → Ends errors errors' done status → IsServed asked source source' sink sink' errors errors' status
 unfolding failed
-served source source' sink sink' errors errors' asked (Ok d) status does (is, told) =
-    let h = did source source' sink sink' asked (Ok d) does in
+served opens source source' sink sink' errors errors' asked (Ok d) status does (is, told) =
+    let h = did source source' sink sink' opens asked (Ok d) does in
     let most : d.status ≤ 1 = h.most in
     let none : failed_calls status ≡ 0 = small status (omega arith) in
     record {
@@ -192,8 +192,8 @@ served source source' sink sink' errors errors' asked (Ok d) status does (is, to
       quiet = λ few. (d.account, told);
       unwritten = λ bad. absurd (elim bad [ inl two ↦ omega arith | inr three ↦ omega arith ]);
     }
-served source source' sink sink' errors errors' asked (Err e) status does (is, told) =
-    let h = did source source' sink sink' asked (Err e) does in
+served opens source source' sink sink' errors errors' asked (Err e) status does (is, told) =
+    let h = did source source' sink sink' opens asked (Err e) does in
     let range = of_refusal e in
     record {
       most = omega (arith, is, range.1);

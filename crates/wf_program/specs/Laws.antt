@@ -7,7 +7,7 @@ use Rattle.wf_task.specs.declared.task.TheConstants.{LONGEST}
 use Rattle.wf_args.specs.declared.Job.{Job}
 use Rattle.wf_args.specs.declared.Job.TheVariants.{Verify, Decisions}
 use Rattle.wf_args.specs.declared.WordsFault.{WordsFault}
-use Rattle.wf_program.specs.Program.{IsAsked, Serves, TellsAccount}
+use Rattle.wf_program.specs.Program.{IsAsked, Opens, Serves, TellsAccount}
 
 -- how many files a job opens
 abbrev pub file_count : Result Job WordsFault → ℕ
@@ -29,8 +29,8 @@ pub record IsServed (asked : Result Job WordsFault) (source source' : Reading) (
   pub quiet : status ≤ 1 → (account : Option Account) × TellsAccount errors errors' account
   pub unwritten : (status ≡ 2) ⊎ (status ≡ 3) → sink' ≡ sink
 
-abbrev pub ServingIsCounted : Type 0
-ServingIsCounted =
+abbrev pub ServingIsCounted : Opens → Type 0
+ServingIsCounted opens =
     (words : Result (Vec (String Global) Global) WordsFault) (source source' : Reading) (sink sink' errors errors' : Writing) (status : ℕ)
-    → Serves words source source' sink sink' errors errors' status
+    → Serves opens words source source' sink sink' errors errors' status
     → (asked : Result Job WordsFault) × IsAsked words asked × IsServed asked source source' sink sink' errors errors' status

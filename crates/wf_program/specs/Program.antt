@@ -1,5 +1,5 @@
 -- What a run of the program reads, writes, tells and answers.
-use Rattle.std.specs.Prelude.{◌≡◌, ◌≢◌, ◌⊎◌, ℕ, Bool, true, false, List, [], ◌∷◌, ◌++◌, Option, Some, None, Result, Ok, Err, codes}
+use Rattle.std.specs.Prelude.{◌≡◌, ◌≢◌, ◌⊎◌, ℕ, Bool, true, false, List, [], ◌∷◌, ◌++◌, Option, Some, None, Result, Ok, Err, codes, string_bytes}
 use Rattle.clap.specs.Words.{kind_of}
 use Rattle.clap.specs.declared.error.Error.{Error}
 use Rattle.clap.specs.declared.error.ErrorKind.TheVariants as kind
@@ -91,27 +91,37 @@ abbrev pub written : Result (Unit {0}) RunFault → Result Done Refusal
 written (Ok done) = Ok (record { status = 0; account = None })
 written (Err e) = Err (Run e)
 
--- A file was opened, and this was done with its task and the source's report. Or no file could be opened, and nothing
--- was read or written.
-abbrev pub WithFile : {X : Type 0} → (Reading → Reading → Reading → Reading → Writing → Writing → Result X RunFault → Type 0) → Reading → Reading → Writing → Writing → Result X RunFault → Type 0
-WithFile does source source' sink sink' result =
-    ((file : Reading) × (file' : Reading) × does file file' source source' sink sink' result)
+-- which bytes a file may have, where they are known, that is opened under a path
+abbrev pub Opens : Type 1
+Opens = List ℕ → Option (List ℕ) → Type 0
+
+-- a source that nothing was read of yet
+abbrev pub unread : Option (List ℕ) → Reading
+unread left = record { left = left; failures = 0; taken = 0 }
+
+-- A file was opened that has what is asked for, and this was done with its task and the source's report. Or no file
+-- could be opened, and nothing was read or written.
+abbrev pub WithFile : {X : Type 0} → (Option (List ℕ) → Type 0) → (Reading → Reading → Reading → Reading → Writing → Writing → Result X RunFault → Type 0) → Reading → Reading → Writing → Writing → Result X RunFault → Type 0
+WithFile is_opened does source source' sink sink' result =
+    ((left : Option (List ℕ)) × (file' : Reading) × is_opened left × does (unread left) file' source source' sink sink' result)
     ⊎ ((result ≡ Err run.Read) × (source' ≡ source) × (sink' ≡ sink))
 
--- what a job asks for was done
-abbrev pub Does : Job → Reading → Reading → Writing → Writing → Result Done Refusal → Type 0
-Does (Solve rounds workers form account progress) source source' sink sink' done =
+-- what a job asks for was done, its file among those that may be opened under its path
+abbrev pub Does : Opens → Job → Reading → Reading → Writing → Writing → Result Done Refusal → Type 0
+Does opens (Solve rounds workers form account progress) source source' sink sink' done =
     (result : Result (Outcome × Account) RunFault) × Solves rounds form source source' sink sink' result
     × (workers ≡ 1 → SearchesInOrder result) × (done ≡ solved account result)
-Does (Verify task) source source' sink sink' done =
-    (result : Result Outcome RunFault) × WithFile Verifies source source' sink sink' result × (done ≡ verified result)
-Does (Views rounds) source source' sink sink' done =
+Does opens (Verify task) source source' sink sink' done =
+    (result : Result Outcome RunFault) × WithFile (opens (string_bytes task)) Verifies source source' sink sink' result
+    × (done ≡ verified result)
+Does opens (Views rounds) source source' sink sink' done =
     (result : Result (Unit {0}) RunFault) × Lists views_text rounds source source' sink sink' result × (done ≡ written result)
-Does (Points rounds) source source' sink sink' done =
+Does opens (Points rounds) source source' sink sink' done =
     (result : Result (Unit {0}) RunFault) × Lists undecided_points rounds source source' sink sink' result × (done ≡ written result)
-Does (Decisions task) source source' sink sink' done =
-    (result : Result (Unit {0}) RunFault) × WithFile Decides source source' sink sink' result × (done ≡ written result)
-Does (Preset preset) source source' sink sink' done =
+Does opens (Decisions task) source source' sink sink' done =
+    (result : Result (Unit {0}) RunFault) × WithFile (opens (string_bytes task)) Decides source source' sink sink' result
+    × (done ≡ written result)
+Does opens (Preset preset) source source' sink sink' done =
     (result : Result (Unit {0}) RunFault) × WritesPreset preset sink sink' result × (source' ≡ source)
     × (done ≡ written result)
 
@@ -144,9 +154,9 @@ Declines fault.Words sink sink' done = (done ≡ Err Words) × (sink' ≡ sink)
 Declines fault.OutOfMemory sink sink' done = (done ≡ Err (Run run.OutOfMemory)) × (sink' ≡ sink)
 
 -- the job was done; or there is none, and nothing was read
-abbrev pub DoesAsked : Result Job WordsFault → Reading → Reading → Writing → Writing → Result Done Refusal → Type 0
-DoesAsked (Ok job) source source' sink sink' done = Does job source source' sink sink' done
-DoesAsked (Err e) source source' sink sink' done = (source' ≡ source) × Declines e sink sink' done
+abbrev pub DoesAsked : Opens → Result Job WordsFault → Reading → Reading → Writing → Writing → Result Done Refusal → Type 0
+DoesAsked opens (Ok job) source source' sink sink' done = Does opens job source source' sink sink' done
+DoesAsked opens (Err e) source source' sink sink' done = (source' ≡ source) × Declines e sink sink' done
 
 -- ---- a whole run
 
@@ -156,10 +166,10 @@ Ends errors errors' (Ok done) result = (result ≡ done.status) × TellsAccount 
 Ends errors errors' (Err e) result = (result ≡ refusal_status e) × Tells errors errors' (refusal_text e)
 
 -- the words were judged, what they ask for was done, and it was told how that ended
-abbrev pub Serves : {X : Type 0} → Result X WordsFault → Reading → Reading → Writing → Writing → Writing → Writing → ℕ → Type 0
-Serves words source source' sink sink' errors errors' status =
+abbrev pub Serves : {X : Type 0} → Opens → Result X WordsFault → Reading → Reading → Writing → Writing → Writing → Writing → ℕ → Type 0
+Serves opens words source source' sink sink' errors errors' status =
     (asked : Result Job WordsFault) × (done : Result Done Refusal) × IsAsked words asked
-    × DoesAsked asked source source' sink sink' done × Ends errors errors' done status
+    × DoesAsked opens asked source source' sink sink' done × Ends errors errors' done status
 
 -- all three ends can count what a run asks of them
 abbrev pub CanServe : Reading → Writing → Writing → Type 0
