@@ -2,7 +2,8 @@
 //
 //   baseline solve|verdict|least ROUNDS [WORKERS] < TASK     the report: in full, without lines, or with those of a map
 //   baseline check ROUNDS REPORT < TASK                      what the report shows
-//   baseline stages ROUNDS [REPEATS [LAST]] < TASK           nanoseconds of processor time: read, build, close, search
+//   baseline stages ROUNDS [REPEATS [LAST]] < TASK           nanoseconds of processor time that reading the task and the
+//                                                            stages up to the last take: join, close or search
 //
 // The algorithms are the program's: views by number, sets of rows for each value of a table of tuples, a trail of changes,
 // marks on executions, and branches that threads share out. The task file has to be right, with values below 64, of
@@ -26,7 +27,7 @@ static u64 processor_time() {
 
 // The sum of each stage's times.
 struct Stages {
-    u64 read = 0, build = 0, close = 0, search = 0;
+    u64 read = 0, build = 0, join = 0, close = 0, search = 0;
     u64 last = processor_time();
 
     void end(u64& stage) {
@@ -36,32 +37,33 @@ struct Stages {
     }
 };
 
-// All stages up to the last one that is asked for.
-static size_t run_stages(const std::string& text, u32 rounds, int stages, Stages& times) {
+// What it answers is only there so that no stage is left out.
+static size_t run_stages(const std::string& text, u32 rounds, const std::string& final, Stages& times) {
     times.last = processor_time();
     Task task = TaskReader{text.c_str()}.task();
     times.end(times.read);
     Complex complex = Builder(task, rounds).build();
-    Problem problem(task, complex);
     times.end(times.build);
-    if (stages < 2) return complex.executions.size();
+    Problem problem(task, complex);
+    times.end(times.join);
+    if (final == "join") return problem.users.size();
     Search search(problem, true);
     bool is_left = search.close();
     times.end(times.close);
-    if (stages < 3 || !is_left) return search.count;
+    if (final == "close" || !is_left) return search.count;
     search.run();
     times.end(times.search);
     return search.count;
 }
 
-static int print_stages(const std::string& text, u32 rounds, u32 repeats, const std::string& last) {
+static int print_stages(const std::string& text, u32 rounds, u32 repeats, const std::string& final) {
     Stages times;
-    int stages = last == "build" ? 1 : last == "close" ? 2 : 3;
-    size_t check = 0;
-    for (u32 i = 0; i < repeats; i++) check += run_stages(text, rounds, stages, times);
-    printf("read %zu build %zu close %zu search %zu\n", times.read / repeats, times.build / repeats, times.close / repeats,
-           times.search / repeats);
-    return check == 0;
+    size_t done = 0;
+    for (u32 i = 0; i < repeats; i++) done += run_stages(text, rounds, final, times);
+    fprintf(stderr, "%zu\n", done);
+    printf("read %zu build %zu join %zu close %zu search %zu\n", times.read / repeats, times.build / repeats,
+           times.join / repeats, times.close / repeats, times.search / repeats);
+    return 0;
 }
 
 static int print_check(const Problem& problem, u32 rounds, const char* file) {
