@@ -1,13 +1,21 @@
-//! Times `TupleTable::revise`. The arguments are how many rows of four values the table has, and how many calls are
-//! made; it prints a checksum of what was found, and the nanoseconds of processor time that the calls took. With no
-//! arguments it prints two checksums, and no time.
+//! Times `TupleTable::revise`, or the stages of a search.
+//!
+//! - `wf_bench ROWS CALLS` makes so many calls on a table of so many rows of four values, and prints a checksum of what was
+//!   found, and the nanoseconds of processor time that the calls took.
+//! - `wf_bench stages ROUNDS [REPEATS [LAST]]` reads a task from standard input, and prints the nanoseconds of processor
+//!   time that reading it took, and then the stages of its search up to the last, which is `join`, `close` or `search`.
+//! - With no arguments it prints two checksums, and no time.
 #![tactic(auto)]
 
 ghost use Rattle.std.specs.Prelude.{◌≤◌};
 
+mod stages;
+
+use anyhow::Result;
+use stages::{Last, time_stages};
 use std::alloc::{AllocError, Global};
-use std::env;
 use std::time::CpuClock;
+use std::{env, io};
 use wf_lane::TupleTable;
 use wf_set::of_part;
 use wf_task::Row;
@@ -62,14 +70,23 @@ fn number(word: Option<String>) -> Option<u32> {
     word?.parse().ok()
 }
 
-fn main(rt: HostRuntime) -> anyhow::Result<()> {
-    let mut words = env::args(&rt)?.skip(1);
-    let (Some(size), Some(calls)) = (number(words.next()), number(words.next())) else {
-        let large = table_of(rt.alloc(), 300)?;
-        let small = table_of(rt.alloc(), 24)?;
-        println!(rt; "{} {}", repeat(&large, 1000), repeat(&small, 1000))?;
-        return Ok(());
-    };
+fn last_stage(word: Option<String>) -> Last {
+    match word.as_deref() {
+        Some("join") => Last::Join,
+        Some("close") => Last::Close,
+        _ => Last::Search,
+    }
+}
+
+// The checksums of two tables.
+fn print_sums(rt: &HostRuntime) -> Result<()> {
+    let large = table_of(rt.alloc(), 300)?;
+    let small = table_of(rt.alloc(), 24)?;
+    println!(rt; "{} {}", repeat(&large, 1000), repeat(&small, 1000))?;
+    Ok(())
+}
+
+fn time_table(rt: &HostRuntime, size: u32, calls: u32) -> Result<()> {
     let table = table_of(rt.alloc(), size)?;
     let start = rt.process_cpu_time()?;
     let total = repeat(&table, calls);
@@ -77,4 +94,20 @@ fn main(rt: HostRuntime) -> anyhow::Result<()> {
     let spent = end.checked_sub(start).unwrap_or_default();
     println!(rt; "{total} {}", spent.as_nanos())?;
     Ok(())
+}
+
+fn main(rt: HostRuntime) -> Result<()> {
+    let mut words = env::args(&rt)?.skip(1);
+    let Some(first) = words.next() else {
+        return print_sums(&rt);
+    };
+    let second = number(words.next()).unwrap_or(1);
+    if first.as_str() == "stages" {
+        let text = io::read_to_string(rt.alloc(), rt.reader())?;
+        let repeats = number(words.next()).unwrap_or(1);
+        let last = last_stage(words.next());
+        return time_stages(&rt, &text, second, repeats, last);
+    }
+    let size = number(Some(first)).unwrap_or(1);
+    time_table(&rt, size, second)
 }
