@@ -419,6 +419,10 @@ fn take_place(
     ensures room { OnFalse result (HasRoom lines.new tracked.new.words.items) }
     ensures spent { OnFalse result (IsPaid lines.old tracked.old lines.new tracked.new) }
 {
+    // what most places lose
+    if is_empty(lost) {
+        return false;
+    }
     let before = tracked.words[place.point as usize];
     let emptied = take_each(lost, place, &mut tracked.words, lines);
     if tracked.words[place.point as usize] == before {
