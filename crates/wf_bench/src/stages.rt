@@ -1,6 +1,7 @@
 //! The processor time of each stage of a search, one by one.
 
-ghost use Rattle.std.specs.Prelude.{◌≤◌};
+ghost use Rattle.std.specs.Prelude.{◌≤◌, IfOk};
+ghost use Rattle.wf_box.specs.Boxes.{IsFor};
 
 use anyhow::{Result, anyhow};
 use std::io;
@@ -107,32 +108,55 @@ pub(crate) fn time_stages(
 }
 
 /// Runs the stages up to the last one that is asked for.
-fn run_stages(
-    rt: &(impl CpuClock + AllocGlobal),
+fn run_stages<R: CpuClock + AllocGlobal>(
+    rt: &R,
     text: &str,
     rounds: u32,
     last: Last,
 ) -> Result<Spent> {
-    let alloc = rt.alloc();
-    let mut watch = Watch::start(rt)?;
     let mut spent = Spent::NONE;
-    let task = Task::read_text(alloc, text.as_bytes())?;
-    spent.read = watch.lap()?;
-    let protocol = Protocol::build(alloc, &task, rounds).map_err(|fault| anyhow!("{fault}"))?;
-    spent.build = watch.lap()?;
-    let problem = Problem::join(alloc, &task, &protocol)?;
-    spent.join = watch.lap()?;
+    let problem = join(rt, text, rounds, &mut spent)?;
     if last == Last::Join {
         return Ok(spent);
     }
-    let mut root = Box0::root(alloc, &problem)?;
-    let mut lines = Vec::new(alloc);
-    close(alloc, &problem, &mut root, &mut lines)?;
-    spent.close = watch.lap()?;
-    if last == Last::Close {
-        return Ok(spent);
+    let root = close_root(rt, &problem, &mut spent)?;
+    if last == Last::Search {
+        let mut watch = Watch::start(rt)?;
+        let _found = search(rt.alloc(), &problem, root, &mut Never)?;
+        spent.search = watch.lap()?;
     }
-    let _found = search(alloc, &problem, root, &mut Never)?;
-    spent.search = watch.lap()?;
     Ok(spent)
+}
+
+/// Reads a task, builds its complex and makes its problem.
+fn join<R: CpuClock + AllocGlobal>(
+    rt: &R,
+    text: &str,
+    rounds: u32,
+    spent: &mut Spent,
+) -> Result<Problem> {
+    let mut watch = Watch::start(rt)?;
+    let task = Task::read_text(rt.alloc(), text.as_bytes())?;
+    spent.read = watch.lap()?;
+    let protocol = Protocol::build(rt.alloc(), &task, rounds).map_err(|fault| anyhow!("{fault}"))?;
+    spent.build = watch.lap()?;
+    let problem = Problem::join(rt.alloc(), &task, &protocol)?;
+    spent.join = watch.lap()?;
+    Ok(problem)
+}
+
+/// Closes the root of a problem.
+fn close_root<R: CpuClock + AllocGlobal>(
+    rt: &R,
+    problem: &Problem,
+    spent: &mut Spent,
+) -> Result<Box0>
+    ensures { IfOk result (IsFor problem.now) }
+{
+    let mut watch = Watch::start(rt)?;
+    let mut root = Box0::root(rt.alloc(), problem)?;
+    let mut lines = Vec::new(rt.alloc());
+    close(rt.alloc(), problem, &mut root, &mut lines)?;
+    spent.close = watch.lap()?;
+    Ok(root)
 }
