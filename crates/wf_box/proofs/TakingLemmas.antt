@@ -39,12 +39,12 @@ some_left e x box [] some = absurd (some refl)
 some_left e x box (a ∷ s) some = refl
 
 pub taken_on : (old : List Line) (words : List (List ℕ)) (e p v a : ℕ) (set : List ℕ) → v < length words → values_in set ≡ filter (λ b. not (b == a)) (values_in (get_or words v [])) → (values_in set ≡ [] → ⊥)
-    → reached (old ++ line.P e p a ∷ []) None (slice_set words v set) ≡ and_then (reached old None words) (take_out e (loss p v a))
+    → reached (old ++ line.P p a e ∷ []) None (slice_set words v set) ≡ and_then (reached old None words) (take_out e (loss p v a))
 taken_on old words e p v a set inside is some =
     let taken : take_out e (loss p v a) (box_of words) ≡ record { lines = refutation.remove e p a ∷ []; left = Some (without (box_of words) v a) } =
     some_left e (loss p v a) (without (box_of words) v a) (candidates (without (box_of words) v a) v) (λ gone. some (sym (left_there words v a set inside is) ∙ gone)) in
     λ i. record {
-      lines = (map-append line_of old (line.P e p a ∷ []) ∙ ap (λ (s : Step). map line_of old ++ s.lines) (sym taken)) i;
+      lines = (map-append line_of old (line.P p a e ∷ []) ∙ ap (λ (s : Step). map line_of old ++ s.lines) (sym taken)) i;
       left = (ap Some (set_without words v a set inside is) ∙ ap (λ (s : Step). s.left) (sym taken)) i;
     }
 
@@ -54,12 +54,12 @@ none_left e x box [] h = refl
 none_left e x box (a ∷ s) h = absurd (let none : ⊥ = cc in none)
 
 pub taken_last : (old : List Line) (words : List (List ℕ)) (e p v a : ℕ) (set : List ℕ) → v < length words → values_in set ≡ filter (λ b. not (b == a)) (values_in (get_or words v [])) → values_in set ≡ []
-    → reached ((old ++ line.P e p a ∷ []) ++ line.Z v ∷ []) (Some v) (slice_set words v set) ≡ and_then (reached old None words) (take_out e (loss p v a))
+    → reached ((old ++ line.P p a e ∷ []) ++ line.Z v ∷ []) (Some v) (slice_set words v set) ≡ and_then (reached old None words) (take_out e (loss p v a))
 taken_last old words e p v a set inside is gone =
     let taken : take_out e (loss p v a) (box_of words) ≡ record { lines = refutation.remove e p a ∷ refutation.empty v ∷ []; left = None } =
     none_left e (loss p v a) (without (box_of words) v a) (candidates (without (box_of words) v a) v) (left_there words v a set inside is ∙ gone) in
     λ i. record {
-      lines = (ap (map line_of) (append_assoc old (line.P e p a ∷ []) (line.Z v ∷ [])) ∙ map-append line_of old (line.P e p a ∷ line.Z v ∷ []) ∙ ap (λ (s : Step). map line_of old ++ s.lines) (sym taken)) i;
+      lines = (ap (map line_of) (append_assoc old (line.P p a e ∷ []) (line.Z v ∷ [])) ∙ map-append line_of old (line.P p a e ∷ line.Z v ∷ []) ∙ ap (λ (s : Step). map line_of old ++ s.lines) (sym taken)) i;
       left = ap (λ (s : Step). s.left) (sym taken) i;
     }
 

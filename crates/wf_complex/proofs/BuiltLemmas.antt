@@ -17,10 +17,9 @@ use Rattle.wf_model.proofs.Numbers.{Apart, apart_distinct, map_same}
 use Rattle.wf_view.specs.Views.{view_at}
 use Rattle.wf_view.proofs.Lemmas.{number_of-at}
 use Rattle.wf_complex.specs.declared.layout.Execution.{Execution}
-use Rattle.wf_complex.specs.declared.places.Place.{Place}
 use Rattle.wf_complex.specs.Rounds.{views_at, leaves_of}
 use Rattle.wf_complex.specs.Layout.{turns, place_total, laid_on, laid_out}
-use Rattle.wf_complex.specs.Places.{part_of, EndsBy, place_of, places_on}
+use Rattle.wf_complex.specs.Places.{Place, part_of, EndsBy, place_of, places_on}
 use Rattle.wf_complex.specs.Classes.{class_by}
 use Rattle.wf_complex.specs.Numbering.{same_at, first_places}
 use Rattle.wf_complex.specs.ProtocolMade.{pairs_of}

@@ -6,7 +6,7 @@ use Rattle.std.proofs.lemmas.Option.{slice_get_within, get_or_from_slice_get}
 use Rattle.wf_model.specs.View.{View, base, normal}
 use Rattle.wf_view.specs.Views.{view_at, count_within}
 use Rattle.wf_complex.specs.Rounds.{views_at, Extends}
-use Rattle.wf_complex.specs.Classes.{class_by}
+use Rattle.wf_complex.specs.Classes.{class_by, most_within}
 use Rattle.wf_complex.proofs.RoundLemmas.{views_kept, within_kept, views_push}
 use Rattle.wf_model.proofs.Numbers.{map_same}
 use Rattle.wf_model.proofs.Bridge.{weaker}
@@ -32,8 +32,8 @@ module _ (old now : List View) (grown : Extends old now) (ids : List ℕ) (i : �
   pub same_there : view_at now (slice_index ids i) ≡ view_at old (slice_index ids i)
   same_there = (let e : views_at now (slice_index ids i ∷ []) ≡ views_at old (slice_index ids i ∷ []) = views_kept old now (slice_index ids i ∷ []) grown (low, tt) in cc)
 
-  pub shallow_there : All (λ k. count_within (view_at old k) ≤ 36) ids → count_within (view_at now (slice_index ids i)) ≤ 36
-  shallow_there h = subst (λ v. count_within v ≤ 36) (sym same_there) (All-get_or (λ k. count_within (view_at old k) ≤ 36) ids i 0 place h)
+  pub shallow_there : All (λ k. count_within (view_at old k) ≤ most_within) ids → count_within (view_at now (slice_index ids i)) ≤ most_within
+  shallow_there h = subst (λ v. count_within v ≤ most_within) (sym same_there) (All-get_or (λ k. count_within (view_at old k) ≤ most_within) ids i 0 place h)
 
   pub normal_more : (normals : List ℕ) → All (λ k. k < length now) normals → views_at now normals ≡ map normal (views_at old (take i ids)) → (new : List View) → Extends now new → (n : ℕ) → slice_get new n ≡ Some (normal (view_at now (slice_index ids i))) →
       All (λ k. k < length new) (normals ++ n ∷ []) × (views_at new (normals ++ n ∷ []) ≡ map normal (views_at old (take (i + 1) ids)))

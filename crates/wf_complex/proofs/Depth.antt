@@ -18,6 +18,7 @@ use Rattle.wf_complex.proofs.Bounds.{IsSized, suc_times}
 use Rattle.wf_complex.proofs.LayoutLemmas.{product_small}
 use Rattle.wf_complex.proofs.InputLemmas.{length-base_views}
 use Rattle.wf_complex.proofs.RoundLemmas.{length-round}
+use Rattle.wf_complex.specs.Classes.{most_within}
 
 -- ---- views of which all that is inside is among some views
 
@@ -78,22 +79,22 @@ held_bases : (zs : List View) (s : Simplex) → AllByRecursion (Among zs) (base_
 held_bases zs [] h = tt
 held_bases zs (v ∷ s) h = ((h.0, tt), held_bases zs s h.1)
 
-on_simplex : (m r : ℕ) (s : Simplex) → r ≤ 8 → IsSized s → AllByRecursion (λ v. count_within v ≤ 36) (leaves_of m r s)
+on_simplex : (m r : ℕ) (s : Simplex) → r ≤ 8 → IsSized s → AllByRecursion (λ v. count_within v ≤ most_within) (leaves_of m r s)
 on_simplex m r s rounds h =
     let few : r * length s ≤ 8 * 4 = product_small r (length s) 8 4 rounds h.1 in
-    weaker (λ v. count_within v ≤ length (base_views s) + r * length s) (λ v. count_within v ≤ 36) (λ v k. omega (arith, k, few, length-base_views s, h.1)) (leaves_of m r s)
+    weaker (λ v. count_within v ≤ length (base_views s) + r * length s) (λ v. count_within v ≤ most_within) (λ v k. omega (arith, k, few, length-base_views s, h.1)) (leaves_of m r s)
     (leaves_shallow (length s) (words m (length s)) (words_long m (length s)) r (base_views s) (base_views s) (length-base_views s) (held_bases (base_views s) s (each_among_itself (base_views s))))
 
-on_simplices : (m r : ℕ) (ss : List Simplex) → r ≤ 8 → AllByRecursion IsSized ss → AllByRecursion (λ v. count_within v ≤ 36) (flat_map (leaves_of m r) ss)
+on_simplices : (m r : ℕ) (ss : List Simplex) → r ≤ 8 → AllByRecursion IsSized ss → AllByRecursion (λ v. count_within v ≤ most_within) (flat_map (leaves_of m r) ss)
 on_simplices m r [] rounds h = tt
-on_simplices m r (s ∷ ss) rounds h = each_append (λ v. count_within v ≤ 36) (leaves_of m r s) (flat_map (leaves_of m r) ss) (on_simplex m r s rounds h.0) (on_simplices m r ss rounds h.1)
+on_simplices m r (s ∷ ss) rounds h = each_append (λ v. count_within v ≤ most_within) (leaves_of m r s) (flat_map (leaves_of m r) ss) (on_simplex m r s rounds h.0) (on_simplices m r ss rounds h.1)
 
 by_number : (P : View → Type 0) (table : List View) (ids : List ℕ) → AllByRecursion P (views_at table ids) → AllByRecursion (λ k. P (view_at table k)) ids
 by_number P table [] h = tt
 by_number P table (k ∷ ids) h = (h.0, by_number P table ids h.1)
 
--- at most 36 views are inside a last view of at most 8 rounds
-pub lasts_shallow : (m r : ℕ) (ss : List Simplex) → r ≤ 8 → AllByRecursion IsSized ss → (table : List View) (lasts : List ℕ) → views_at table lasts ≡ flat_map (leaves_of m r) ss → All (λ k. count_within (view_at table k) ≤ 36) lasts
+-- at most so many views are inside a last view of at most 8 rounds
+pub lasts_shallow : (m r : ℕ) (ss : List Simplex) → r ≤ 8 → AllByRecursion IsSized ss → (table : List View) (lasts : List ℕ) → views_at table lasts ≡ flat_map (leaves_of m r) ss → All (λ k. count_within (view_at table k) ≤ most_within) lasts
 lasts_shallow m r ss rounds h table lasts made =
-    All-from_recursion (λ k. count_within (view_at table k) ≤ 36) lasts
-    (by_number (λ v. count_within v ≤ 36) table lasts (subst (AllByRecursion (λ v. count_within v ≤ 36)) (sym made) (on_simplices m r ss rounds h)))
+    All-from_recursion (λ k. count_within (view_at table k) ≤ most_within) lasts
+    (by_number (λ v. count_within v ≤ most_within) table lasts (subst (AllByRecursion (λ v. count_within v ≤ most_within)) (sym made) (on_simplices m r ss rounds h)))

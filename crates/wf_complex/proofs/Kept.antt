@@ -10,10 +10,9 @@ use Rattle.wf_model.specs.View.{View, same_view}
 use Rattle.wf_model.specs.Task.{Task, IsTask, inputs, first_block, IsSimplexWithin}
 use Rattle.wf_simplex.proofs.Lemmas.{length-within}
 use Rattle.wf_complex.specs.declared.layout.Execution.{Execution}
-use Rattle.wf_complex.specs.declared.places.Place.{Place}
 use Rattle.wf_complex.specs.Rounds.{views_at, leaves_of, cost_of_each}
 use Rattle.wf_complex.specs.Layout.{execution_total, place_total, laid_out}
-use Rattle.wf_complex.specs.Places.{EndsBy, places_on}
+use Rattle.wf_complex.specs.Places.{Place, EndsBy, places_on}
 use Rattle.wf_complex.specs.Classes.{class_by}
 use Rattle.wf_complex.specs.Numbering.{first_places}
 use Rattle.wf_complex.specs.Protocol.{IsProtocol}

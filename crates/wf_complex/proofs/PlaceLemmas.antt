@@ -4,8 +4,7 @@ use Rattle.std.proofs.lemmas.List.{take-map, drop-map, drop_more, get_or-map, le
 use Rattle.std.proofs.lemmas.List.Elements.{All-get_or}
 use Rattle.std.proofs.lemmas.Bool.{cases_Bool}
 use Rattle.wf_complex.specs.declared.layout.Execution.{Execution}
-use Rattle.wf_complex.specs.declared.places.Place.{Place}
-use Rattle.wf_complex.specs.Places.{part_of, EndsBy}
+use Rattle.wf_complex.specs.Places.{Place, part_of, EndsBy}
 use Rattle.wf_complex.specs.ProtocolMade.{pairs_of}
 use Rattle.wf_complex.specs.ProtocolSeen.{scopes_seen}
 use Rattle.wf_complex.specs.Protocol.{point_in}

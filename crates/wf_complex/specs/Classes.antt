@@ -1,5 +1,6 @@
 -- The classes of views.
-use Rattle.std.specs.Prelude.{ℕ, Bool, List, map, if◌then◌else◌}
+use Rattle.std.specs.Prelude.{ℕ, ◌+◌, ◌*◌, Bool, List, map, if◌then◌else◌}
+use Rattle.wf_model.specs.Limits.{most_processes, most_rounds}
 use Rattle.wf_model.specs.View.{View, normal}
 use Rattle.wf_complex.specs.Rounds.{views_at}
 
@@ -10,3 +11,7 @@ class_by symmetric v = if symmetric then normal v else v
 -- the classes of the views of these numbers
 abbrev pub classes_at : Bool → List View → List ℕ → List View
 classes_at symmetric table ids = map (class_by symmetric) (views_at table ids)
+
+-- how many views are inside a last view at most: of each round one of each process, and those of the inputs
+abbrev pub most_within : ℕ
+most_within = most_processes + most_rounds * most_processes

@@ -4,7 +4,7 @@ use Rattle.wf_complex.specs.declared.line.Line.{Line}
 use Rattle.wf_complex.specs.declared.line.Line.TheVariants as line
 
 abbrev pub line_of : Line → refutation.Line
-line_of (line.P e c a) = refutation.remove e c a
+line_of (line.P c a e) = refutation.remove e c a
 line_of (line.Z v) = refutation.empty v
 line_of (line.B v) = refutation.branch v
 line_of line.F = refutation.found

@@ -1,10 +1,21 @@
 -- Which process stands at each place of the executions.
-use Rattle.std.specs.Prelude.{ℕ, ◌+◌, ◌≤◌, List, map, flat_map, take, drop}
+use Rattle.std.specs.Prelude.{ℕ, ◌+◌, ◌*◌, ◌/◌, ◌%◌, ◌≤◌, List, map, flat_map, take, drop}
 use Rattle.std.specs.List.{enumerate_from}
 use Rattle.wf_model.specs.View.{View, process_of}
 use Rattle.wf_view.specs.Views.{view_at}
 use Rattle.wf_complex.specs.declared.layout.Execution.{Execution}
-use Rattle.wf_complex.specs.declared.places.Place.{Place}
+
+-- a process in an execution
+pub record Place : Type 0 where
+  pub execution : ℕ
+  pub process : ℕ
+
+-- such a process as one number, and the other way round
+abbrev pub code_of : Place → ℕ
+code_of p = 256 * p.execution + p.process
+
+abbrev pub place_of_code : ℕ → Place
+place_of_code n = record { execution = n / 256; process = n % 256 }
 
 -- what stands at the places of an execution
 abbrev pub part_of : {X : Type 0} → List X → Execution → List X

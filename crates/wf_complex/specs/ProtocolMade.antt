@@ -2,7 +2,7 @@
 use Rattle.std.specs.Prelude.{◌≡◌, ℕ, Bool, List, map, zip}
 use Rattle.wf_model.specs.Simplex.{Simplex}
 use Rattle.wf_model.specs.Task.{Task, IsTask, inputs, first_block}
-use Rattle.wf_complex.specs.declared.places.Place.{Place}
+use Rattle.wf_complex.specs.Places.{Place}
 use Rattle.wf_complex.specs.Protocol.{Built, IsProtocol}
 
 -- it is the complex of each task that has these input simplices, and words with a first block of m at least or of all

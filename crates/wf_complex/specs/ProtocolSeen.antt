@@ -5,11 +5,10 @@ use Rattle.wf_model.specs.Limits.{most_executions, most_points}
 use Rattle.wf_model.specs.View.{View}
 use Rattle.wf_model.specs.ViewCode.{view_list_code}
 use Rattle.wf_complex.specs.Rounds.{views_at}
-use Rattle.wf_complex.specs.Places.{part_of, EndsBy}
+use Rattle.wf_complex.specs.Places.{Place, part_of, EndsBy}
 use Rattle.wf_complex.specs.ProtocolMade.{pairs_of}
 use Rattle.wf_complex.specs.Protocol.{Built}
 use Rattle.wf_complex.specs.declared.layout.Execution.{Execution}
-use Rattle.wf_complex.specs.declared.places.Place.{Place}
 use Rattle.wf_complex.specs.declared.protocol.Protocol.TheInside.{Inside}
 
 -- a protocol complex is stored as the tuple of its fields

@@ -6,7 +6,7 @@ ghost use Rattle.wf_model.specs.Limits.{most_number, most_points};
 ghost use Rattle.wf_model.specs.View.{same_view, normal};
 ghost use Rattle.wf_view.specs.Views.{view_at, count_within};
 ghost use Rattle.wf_complex.specs.Rounds.{views_at, Extends};
-ghost use Rattle.wf_complex.specs.Classes.{classes_at};
+ghost use Rattle.wf_complex.specs.Classes.{classes_at, most_within};
 
 use crate::numbering::number_all;
 use std::alloc::{AllocError, Global};
@@ -29,8 +29,8 @@ pub(crate) fn classes_of(
 ) -> Result<Classes, AllocError>
     requires lasts { All (λ k. k < length views.old) lasts.items }
     requires few { length lasts.items ≤ most_points }
-    requires shallow { All (λ k. count_within (view_at views.old k) ≤ 36) lasts.items }
-    requires room { length views.old + 36 * length lasts.items ≤ most_number }
+    requires shallow { All (λ k. count_within (view_at views.old k) ≤ most_within) lasts.items }
+    requires room { length views.old + most_within * length lasts.items ≤ most_number }
     ensures extends { OnOk result (Extends views.old views.new) }
     ensures within { IfOk result (λ c. All (λ k. k < length views.new) c.ids.items) }
     ensures classes { IfOk result
@@ -55,8 +55,8 @@ pub(crate) fn classes_of(
 /// The numbers of views with the names of their processes forgotten, in the order of the views.
 fn normals_of(alloc: Global, views: &mut Views, ids: &[u32]) -> Result<Vec<u32>, AllocError>
     requires ids { All (λ k. k < length views.old) ids.now }
-    requires shallow { All (λ k. count_within (view_at views.old k) ≤ 36) ids.now }
-    requires room { length views.old + 36 * length ids.now ≤ most_number }
+    requires shallow { All (λ k. count_within (view_at views.old k) ≤ most_within) ids.now }
+    requires room { length views.old + most_within * length ids.now ≤ most_number }
     ensures extends { OnOk result (Extends views.old views.new) }
     ensures within { IfOk result (λ ns. All (λ k. k < length views.new) ns.items) }
     ensures normals { IfOk result

@@ -7,12 +7,13 @@ pub enum Line {
     /// The process can't decide the value in the execution: no tuple that is allowed there has it among the
     /// candidates. The value is taken out at the process's point.
     P {
-        /// The number of the execution.
-        execution: u32,
+        // in this order a line takes eight bytes
         /// The process.
         process: u8,
         /// The value.
         value: u8,
+        /// The number of the execution.
+        execution: u32,
     },
     /// The point has no candidate left, which ends the block.
     Z {

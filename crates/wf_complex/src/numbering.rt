@@ -1,6 +1,7 @@
 //! Numbers in the order of first appearance.
 
-ghost use Rattle.std.specs.Prelude.{◌≡◌, ◌<◌, ◌∷◌, [], ◌++◌, ℕ, length, vec_len, All, IfOk, OnOk, Ok, Some, None, get_or, slice_set};
+ghost use Rattle.std.specs.Prelude.{◌≡◌, ◌<◌, ◌≤◌, ◌∷◌, [], ◌++◌, ℕ, length, vec_len, All, IfOk, OnOk, Ok, Some, None, get_or, slice_set};
+ghost use Rattle.wf_model.specs.Limits.{most_number};
 ghost use Rattle.wf_complex.specs.Numbering.{first_places, numbers_at};
 
 use std::alloc::{AllocError, Global};
@@ -17,7 +18,7 @@ pub(crate) struct Numbered {
 /// Numbers the different numbers of a list, all below a bound, in the order of first appearance.
 pub(crate) fn number_all(alloc: Global, ids: &[u32], bound: usize) -> Result<Numbered, AllocError>
     requires bound { All (λ id. id < bound) ids.now }
-    requires few { length ids.now < 4294967296 }
+    requires few { length ids.now ≤ most_number }
     ensures firsts { IfOk result (λ n. n.firsts.items ≡ first_places ids.now (length ids.now)) }
     ensures places { IfOk result (λ n. All (λ p. p < length n.firsts.items) n.places.items) }
     ensures numbers { IfOk result
@@ -41,7 +42,7 @@ fn number_one(
     i: u32,
 ) -> Result<u32, AllocError>
     requires id { id < vec_len numbers.old }
-    requires room { vec_len firsts.old < 4294967296 }
+    requires room { vec_len firsts.old ≤ most_number }
     ensures numbers { vec_len numbers.new ≡ vec_len numbers.old }
     ensures met { (k : ℕ) → get_or numbers.old.items id None ≡ Some k → (result ≡ Ok k)
         × (numbers.new.items ≡ numbers.old.items) × (firsts.new.items ≡ firsts.old.items) }

@@ -6,13 +6,55 @@ ghost use Rattle.wf_complex.specs.Places.{EndsBy, place_of, places_on_all};
 
 use crate::layout::Execution;
 use std::alloc::{AllocError, Global};
+use std::marker::Model;
 use wf_view::Views;
 
-/// A process in an execution.
+/// A process in an execution, in four bytes.
 #[derive(Clone, Copy, Debug)]
 pub(crate) struct Place {
-    pub execution: u32,
-    pub process: u8,
+    // 256 times the number of the execution, and the process
+    code: u32,
+}
+
+impl Model for Place {
+    ghost use Rattle.wf_complex.specs.Places.{Place, code_of, place_of_code};
+    ghost use Rattle.std.proofs.Common.{ap};
+    ghost use Rattle.std.proofs.Math.Nat.{div-add-mod};
+
+    ghost Value = { Place };
+
+    ghost view = { λ p. place_of_code p.code };
+
+    ghost inverse = { λ place. record { code = code_of place } };
+
+    ghost inverse_ok = { λ p _. ap (λ n. record { code = n }) (div-add-mod p.code 256) };
+}
+
+impl Place {
+    /// A process in the execution of this number.
+    fn new(execution: u32, process: u8) -> Place
+        requires { execution ≤ most_executions }
+        ensures execution { result.execution ≡ execution }
+        ensures process { result.process ≡ process }
+    {
+        Place {
+            code: 256 * execution + u32::from(process),
+        }
+    }
+
+    /// The number of the execution.
+    pub(crate) fn execution(self) -> u32
+        ensures { result ≡ self.execution }
+    {
+        self.code / 256
+    }
+
+    /// The process.
+    pub(crate) fn process(self) -> u8
+        ensures { result ≡ self.process }
+    {
+        (self.code % 256) as u8
+    }
 }
 
 /// The execution and the process of each place. The process is that of the last view there.
@@ -43,13 +85,14 @@ fn add_places(
     execution: u32,
     lasts: &[u32],
 ) -> Result<(), AllocError>
-    requires { All (λ k. k < length views.now) lasts.now }
+    requires lasts { All (λ k. k < length views.now) lasts.now }
+    requires few { execution ≤ most_executions }
     ensures { OnOk result (places.new.items
         ≡ places.old.items ++ map (place_of views.now execution) lasts.now) }
 {
     for id in lasts {
         let process = views.colour(*id);
-        places.push(Place { execution, process })?;
+        places.push(Place::new(execution, process))?;
     }
     Ok(())
 }

@@ -2,7 +2,7 @@
 
 ghost use Rattle.std.specs.Prelude.{◌≡◌, ◌<◌, ◌≤◌, ℕ, Some, [], length, map, slice_get, All, IfOk};
 ghost use Rattle.std.specs.List.{slice_index_or};
-ghost use Rattle.wf_model.specs.Limits.{most_executions, most_inputs, most_points, most_rounds};
+ghost use Rattle.wf_model.specs.Limits.{most_executions, most_inputs, most_points, most_processes, most_rounds};
 ghost use Rattle.wf_model.specs.Task.{IsTaskSimplex};
 ghost use Rattle.wf_complex.specs.Layout.{execution_total};
 ghost use Rattle.wf_complex.specs.Protocol.{Builds, point_in};
@@ -70,11 +70,11 @@ impl Protocol {
             return Err(BuildFault::Rounds);
         }
         let inputs = task.inputs().simplices();
-        let m = task.first_block();
-        if execution_count(inputs, m, rounds) > MOST_EXECUTIONS {
+        let first_block = task.first_block();
+        if execution_count(inputs, first_block, rounds) > MOST_EXECUTIONS {
             return Err(BuildFault::TooManyExecutions);
         }
-        Ok(complex_from(alloc, inputs, task.symmetric(), m, rounds)?)
+        Ok(complex_from(alloc, inputs, task.symmetric(), first_block, rounds)?)
     }
 
     /// The number of rounds.
@@ -105,7 +105,7 @@ impl Protocol {
         requires { execution < length self.now.scopes }
         ensures { slice_get self.now.simplices execution ≡ Some result }
     {
-        self.executions[execution as usize].simplex
+        u32::from(self.executions[execution as usize].simplex)
     }
 
     /// The point of a process in an execution; `None` where it does not take part.
@@ -143,7 +143,7 @@ impl Protocol {
         ensures { slice_get self.now.firsts point ≡ Some result }
     {
         let place = self.places[self.firsts[point as usize] as usize];
-        (place.execution, place.process)
+        (place.execution(), place.process())
     }
 
     /// How many different last views there are. In a symmetric task several may be one point.
@@ -161,26 +161,26 @@ impl Protocol {
     }
 }
 
-/// The complex of these input simplices, with words whose first block has at least m participants, or all where they are
-/// fewer.
+/// The complex of these input simplices, with words whose first block has at least `first_block` participants, or all
+/// where they are fewer.
 fn complex_from(
     alloc: Global,
     inputs: &[Simplex],
     symmetric: bool,
-    m: u8,
+    first_block: u8,
     rounds: u32,
 ) -> Result<Protocol, AllocError>
-    requires one { 1 ≤ m }
-    requires most { m ≤ 4 }
+    requires one { 1 ≤ first_block }
+    requires most { first_block ≤ most_processes }
     requires rounds { rounds ≤ most_rounds }
-    requires executions { execution_total m rounds inputs.now ≤ most_executions }
+    requires executions { execution_total first_block rounds inputs.now ≤ most_executions }
     requires few { length inputs.now ≤ most_inputs }
     requires simplices { All IsTaskSimplex inputs.now }
-    ensures { IfOk result (IsMade inputs.now symmetric m rounds) }
+    ensures { IfOk result (IsMade inputs.now symmetric first_block rounds) }
 {
     let mut views = Views::start(alloc);
-    let lasts = last_views(alloc, &mut views, inputs, m, rounds)?;
-    let executions = lay_out(alloc, inputs, m, rounds)?;
+    let lasts = last_views(alloc, &mut views, inputs, first_block, rounds)?;
+    let executions = lay_out(alloc, inputs, first_block, rounds)?;
     let places = places_of(alloc, &views, &lasts, &executions)?;
     let ids = classes_of(alloc, &mut views, lasts, symmetric)?;
     let numbered = number_all(alloc, &ids.ids, views.len() as usize)?;
@@ -203,7 +203,7 @@ fn point_among(places: &[Place], points: &[u32], process: u8) -> Option<u32>
     ensures { result ≡ point_in process (pairs_of places.now points.now) }
 {
     for (i, place) in places.iter().enumerate() {
-        if place.process == process {
+        if place.process() == process {
             return Some(points[i]);
         }
     }

@@ -1,7 +1,7 @@
 //! One more round of immediate snapshots, on views by their numbers.
 
 ghost use Rattle.std.specs.Prelude.{◌≡◌, ◌<◌, ◌≤◌, ◌+◌, ◌++◌, length, map, take, flat_map, slice_index, All, IfOk, OnOk};
-ghost use Rattle.wf_model.specs.Limits.{most_number};
+ghost use Rattle.wf_model.specs.Limits.{most_number, most_processes};
 ghost use Rattle.wf_model.specs.View.{round, base_views};
 ghost use Rattle.wf_model.specs.Word.{words};
 ghost use Rattle.wf_view.specs.Views.{view_at};
@@ -94,62 +94,63 @@ fn next_views(views: &mut Views, current: &[u32], word: &Word) -> Result<[u32; 4
 }
 
 /// Adds the views after all rounds, execution by execution, to the last views of those before. The first block of each
-/// word has at least m participants, or all where they are fewer.
+/// word has at least `first_block` participants, or all where they are fewer.
 ///
 /// Refused where memory runs out; the views so far keep their numbers.
 fn walk(
     views: &mut Views,
     lasts: &mut Vec<u32>,
     current: &[u32],
-    m: u8,
+    first_block: u8,
     rounds: u32,
 ) -> Result<(), AllocError>
-    requires one { 1 ≤ m }
-    requires most { m ≤ 4 }
+    requires one { 1 ≤ first_block }
+    requires most { first_block ≤ most_processes }
     requires some { 1 ≤ length current.now }
-    requires few { length current.now ≤ 4 }
+    requires few { length current.now ≤ most_processes }
     requires views { AreViews views.old current.now }
     requires lasts { All (λ k. k < length views.old) lasts.old.items }
-    requires room { length views.old + cost m (length current.now) rounds ≤ 4294967291 }
+    requires room { length views.old + cost first_block (length current.now) rounds + 4 ≤ most_number }
     ensures extends { Extends views.old views.new }
-    ensures added { length views.new ≤ length views.old + cost m (length current.now) rounds }
+    ensures added { length views.new ≤ length views.old + cost first_block (length current.now) rounds }
     ensures within { OnOk result (All (λ k. k < length views.new) lasts.new.items) }
     ensures made { OnOk result (views_at views.new lasts.new.items
         ≡ views_at views.old lasts.old.items
-        ++ leaves (words m (length current.now)) rounds (views_at views.old current.now)) }
+        ++ leaves (words first_block (length current.now)) rounds
+        (views_at views.old current.now)) }
 {
     if rounds == 0 {
         lasts.extend_from_slice(current)?;
         return Ok(());
     }
     let size = current.len();
-    let mut word = Word::first_allowed(size as u8, m);
-    for turn in 0..allowed_count(size as u8, m) {
+    let mut word = Word::first_allowed(size as u8, first_block);
+    for turn in 0..allowed_count(size as u8, first_block) {
         let next = next_views(views, current, &word)?;
-        walk(views, lasts, &next[..size], m, rounds - 1)?;
-        word.next_allowed(m);
+        walk(views, lasts, &next[..size], first_block, rounds - 1)?;
+        word.next_allowed(first_block);
     }
     Ok(())
 }
 
-/// The last views of all executions on these simplices whose first blocks have at least m participants, or all where they
-/// are fewer, one after another: simplex by simplex, execution by execution, and by ascending process.
+/// The last views of all executions on these simplices whose first blocks have at least `first_block` participants, or
+/// all where they are fewer, one after another: simplex by simplex, execution by execution, and by ascending process.
 pub(crate) fn last_views(
     alloc: Global,
     views: &mut Views,
     simplices: &[Simplex],
-    m: u8,
+    first_block: u8,
     rounds: u32,
 ) -> Result<Vec<u32>, AllocError>
-    requires one { 1 ≤ m }
-    requires most { m ≤ 4 }
-    requires room { length views.old + cost_of_each m rounds simplices.now ≤ 4294967291 }
+    requires one { 1 ≤ first_block }
+    requires most { first_block ≤ most_processes }
+    requires room { length views.old + cost_of_each first_block rounds simplices.now + 4 ≤ most_number }
     ensures extends { Extends views.old views.new }
     ensures added { OnOk result
-        (length views.new ≤ length views.old + cost_of_each m rounds simplices.now) }
+        (length views.new ≤ length views.old + cost_of_each first_block rounds simplices.now) }
     ensures within { IfOk result (λ lasts. All (λ k. k < length views.new) lasts.items) }
-    ensures made { IfOk result
-        (λ lasts. views_at views.new lasts.items ≡ flat_map (leaves_of m rounds) simplices.now) }
+    ensures made { IfOk result (λ lasts. views_at views.new lasts.items
+        ≡ flat_map (leaves_of first_block rounds) simplices.now) }
 {
     let mut lasts = Vec::new(alloc);
     for simplex in simplices {
@@ -158,7 +159,7 @@ pub(crate) fn last_views(
             views,
             &mut lasts,
             &first[..simplex.colours() as usize],
-            m,
+            first_block,
             rounds,
         )?;
     }

@@ -7,6 +7,7 @@ use Rattle.wf_complex.specs.Numbering.{first_places}
 use Rattle.wf_complex.proofs.Different.{firsts_low, few_firsts, all_picked, length-distinct_views}
 use Rattle.wf_complex.proofs.ClassLemmas.{classes_are_views, classes_are_normals, low_places}
 use Rattle.wf_complex.proofs.classes.classes_of.Goals as goal
+use Rattle.wf_complex.specs.Classes.{most_within}
 
 pub overflow_cast-view_count : goal.overflow_cast-view_count
 overflow_cast-view_count c =
@@ -48,8 +49,8 @@ normals_of-requires-clause-shallow c =
     c.in_ok-different.ensures.firsts ∙ (λ i. first_places (c.deref.ensures.value i) (length (c.deref.ensures.value i))) in
     let found : c.deref-4.result.now ≡ map (λ j. slice_index c.args.lasts.items j) c.in_ok-different.different.firsts.items =
     c.deref-4.ensures.value ∙ c.in_ok-found.ensures ∙ (λ i. map (λ j. slice_index (c.deref-2.ensures.value i) j) (c.deref-3.ensures.value i)) in
-    subst (All (λ k. count_within (view_at c.args.views.now k) ≤ 36)) (sym found)
-    (all_picked (λ k. count_within (view_at c.args.views.now k) ≤ 36) c.args.lasts.items c.in_ok-different.different.firsts.items c.requires.shallow (firsts_low c.args.lasts.items c.in_ok-different.different.firsts.items first))
+    subst (All (λ k. count_within (view_at c.args.views.now k) ≤ most_within)) (sym found)
+    (all_picked (λ k. count_within (view_at c.args.views.now k) ≤ most_within) c.args.lasts.items c.in_ok-different.different.firsts.items c.requires.shallow (firsts_low c.args.lasts.items c.in_ok-different.different.firsts.items first))
 
 pub normals_of-requires-clause-room : goal.normals_of-requires-clause-room
 normals_of-requires-clause-room c =

@@ -5,5 +5,5 @@ use Rattle.wf_complex.proofs.layout.execution_count.Given as goal
 abbrev pub invariant-loop-simplex : goal.invariant-loop-simplex
 invariant-loop-simplex l = record {
   small : l.total ≤ 500001;
-  rest : min (l.total + execution_total l.m l.rounds (drop l.simplex-index l.inputs)) 500001 ≡ min (execution_total l.m l.rounds l.inputs) 500001;
+  rest : min (l.total + execution_total l.first_block l.rounds (drop l.simplex-index l.inputs)) 500001 ≡ min (execution_total l.first_block l.rounds l.inputs) 500001;
 }

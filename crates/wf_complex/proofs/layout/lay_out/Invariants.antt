@@ -4,7 +4,7 @@ use Rattle.wf_complex.proofs.layout.lay_out.Given as goal
 
 abbrev pub invariant-loop-number : goal.invariant-loop-number
 invariant-loop-number l = record {
-  place : l.place + place_total l.m l.rounds (drop l.number l.inputs) ≡ place_total l.m l.rounds l.inputs;
-  few : execution_total l.m l.rounds (drop l.number l.inputs) ≤ execution_total l.m l.rounds l.inputs;
-  laid : l.executions.items ++ laid_out l.m l.rounds l.number l.place (drop l.number l.inputs) ≡ laid_out l.m l.rounds 0 0 l.inputs;
+  place : l.place + place_total l.first_block l.rounds (drop l.number l.inputs) ≡ place_total l.first_block l.rounds l.inputs;
+  few : execution_total l.first_block l.rounds (drop l.number l.inputs) ≤ execution_total l.first_block l.rounds l.inputs;
+  laid : l.executions.items ++ laid_out l.first_block l.rounds l.number l.place (drop l.number l.inputs) ≡ laid_out l.first_block l.rounds 0 0 l.inputs;
 }

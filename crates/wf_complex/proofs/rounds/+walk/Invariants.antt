@@ -9,11 +9,11 @@ decreases-walk l = l.rounds
 
 abbrev pub invariant-loop-turn : goal.invariant-loop-turn
 invariant-loop-turn l = record {
-  word : l.turn < length (words l.m (length l.current)) → slice_get (words l.m (length l.current)) l.turn ≡ Some l.word;
+  word : l.turn < length (words l.first_block (length l.current)) → slice_get (words l.first_block (length l.current)) l.turn ≡ Some l.word;
   size : length l.word ≡ length l.current;
   extends : Extends l.initial.views l.views;
-  added : length l.views ≤ length l.initial.views + l.turn * (length l.current + cost l.m (length l.current) (l.rounds - 1));
+  added : length l.views ≤ length l.initial.views + l.turn * (length l.current + cost l.first_block (length l.current) (l.rounds - 1));
   within : All (λ k. k < length l.views) l.lasts.items;
   made : views_at l.views l.lasts.items
-      ≡ views_at l.initial.views l.initial.lasts.items ++ flat_map (λ w. leaves (words l.m (length l.current)) (l.rounds - 1) (round (views_at l.initial.views l.current) w)) (take l.turn (words l.m (length l.current)));
+      ≡ views_at l.initial.views l.initial.lasts.items ++ flat_map (λ w. leaves (words l.first_block (length l.current)) (l.rounds - 1) (round (views_at l.initial.views l.current) w)) (take l.turn (words l.first_block (length l.current)));
 }

@@ -12,7 +12,7 @@ use Rattle.wf_complex.proofs.protocol.Protocol.build.Goals as goal
 pub returns-then-execution_count-gt-MOST_EXECUTIONS : goal.returns-then-execution_count-gt-MOST_EXECUTIONS
 returns-then-execution_count-gt-MOST_EXECUTIONS c =
     let t = c.args.task.now in
-    let long = length-executions t c.args.rounds ∙ sym (λ i. execution_total (c.first_block-m.ensures.first_block i) c.args.rounds ((c.simplices-inputs.ensures.simplices ∙ c.inputs.ensures.inputs) i)) in
+    let long = length-executions t c.args.rounds ∙ sym (λ i. execution_total (c.first_block-first_block.ensures.first_block i) c.args.rounds ((c.simplices-inputs.ensures.simplices ∙ c.inputs.ensures.inputs) i)) in
     (omega arith, omega (arith, long, c.execution_count.ensures.count))
 
 -- where memory ran out, within the limits
@@ -25,14 +25,14 @@ refused t r (Err OutOfMemory) low few h = (low, few)
 pub returns-in_err-complex_from : goal.returns-in_err-complex_from
 returns-in_err-complex_from c =
     let t = c.args.task.now in
-    let long = length-executions t c.args.rounds ∙ sym (λ i. execution_total (c.first_block-m.ensures.first_block i) c.args.rounds ((c.simplices-inputs.ensures.simplices ∙ c.inputs.ensures.inputs) i)) in
+    let long = length-executions t c.args.rounds ∙ sym (λ i. execution_total (c.first_block-first_block.ensures.first_block i) c.args.rounds ((c.simplices-inputs.ensures.simplices ∙ c.inputs.ensures.inputs) i)) in
     refused t c.args.rounds c.from_residual.result (omega arith) (omega (arith, long, c.execution_count.ensures.count)) c.from_residual.ensures.1
 
 pub returns : goal.returns
 returns c =
     let t = c.args.task.now in
-    let long = length-executions t c.args.rounds ∙ sym (λ i. execution_total (c.first_block-m.ensures.first_block i) c.args.rounds ((c.simplices-inputs.ensures.simplices ∙ c.inputs.ensures.inputs) i)) in (
+    let long = length-executions t c.args.rounds ∙ sym (λ i. execution_total (c.first_block-first_block.ensures.first_block i) c.args.rounds ((c.simplices-inputs.ensures.simplices ∙ c.inputs.ensures.inputs) i)) in (
       omega arith,
       omega (arith, long, c.execution_count.ensures.count),
-      c.in_ok-complex_from.ensures t c.inputs.ensures.task (sym (c.simplices-inputs.ensures.simplices ∙ c.inputs.ensures.inputs)) (sym c.symmetric.ensures) (sym c.first_block-m.ensures.first_block),
+      c.in_ok-complex_from.ensures t c.inputs.ensures.task (sym (c.simplices-inputs.ensures.simplices ∙ c.inputs.ensures.inputs)) (sym c.symmetric.ensures) (sym c.first_block-first_block.ensures.first_block),
     )
