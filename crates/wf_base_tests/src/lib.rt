@@ -14,6 +14,8 @@ mod plain;
 #[cfg(test)]
 mod simplices;
 #[cfg(test)]
+mod supports;
+#[cfg(test)]
 mod tasks;
 #[cfg(test)]
 mod views;

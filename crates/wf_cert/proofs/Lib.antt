@@ -12,7 +12,6 @@ pub mod LineLemmas
 pub mod BodyLemmas
 pub mod WrittenLemmas
 pub mod ReadBackLemmas
-pub mod GroupLemmas
 pub mod SupportLemmas
 pub mod TruthLemmas
 pub mod Lemmas

@@ -1,21 +1,13 @@
 -- Places of an execution: their processes, points and values.
 use Rattle.std.proofs.Common.{◌≡◌, ℕ, zero, suc, ◌-◌, ◌<◌, ◌≤◌, ◌==◌, List, [], ◌∷◌, map, zip, length, get_or, Bool, true, false, cond, Some, None, refl, sym, ◌∙◌, ap, arith}
+use Rattle.std.specs.Prelude.{◌++◌, option_map, slice_get, take}
 use Rattle.std.proofs.lemmas.List.{length-map}
+use Rattle.std.proofs.lemmas.Option.{slice_get-get_or, slice_get-map}
 use Rattle.wf_model.specs.Simplex.{Simplex, processes_of}
-use Rattle.wf_model.specs.Task.{Tuple}
-use Rattle.wf_model.specs.Box.{Box, has_at, candidates, is_supported, without}
+use Rattle.wf_model.specs.Task.{Rule, Tuple}
+use Rattle.wf_model.specs.Box.{Box, candidates, is_supported, without}
 use Rattle.wf_model.specs.Check.{place_of, removal_at, fault, left, no_such, unsound}
-use Rattle.wf_cert.specs.Places.{constraint_on, place_in, unless_supported}
-
-pub has_at_past : (row : List ℕ) (c a : ℕ) → length row ≤ c → has_at row c a ≡ false
-has_at_past [] c a h = refl
-has_at_past (x ∷ xs) zero a h = absurd (omega (arith, h))
-has_at_past (x ∷ xs) (suc c) a h = has_at_past xs c a (omega (arith, h))
-
-pub has_at_place : (row : List ℕ) (c a : ℕ) → c < length row → has_at row c a ≡ (get_or row c 0 == a)
-has_at_place [] c a h = absurd (omega (arith, h))
-has_at_place (x ∷ xs) zero a h = refl
-has_at_place (x ∷ xs) (suc c) a h = has_at_place xs c a (omega (arith, h))
+use Rattle.wf_cert.specs.Places.{constraint_on, place_in, tuples_of, unless_supported}
 
 -- ---- a process and its point
 
@@ -85,7 +77,17 @@ place_inside c j s vs long h =
     let place = place_some 0 c j (processes_of s) vs (long ∙ sym (length-map s (λ v. v.0))) h in
     omega (arith, place.inside)
 
--- tuples that support the same value give the same verdict
-pub same_support : (some tuples : List Tuple) (vs : List ℕ) (j a k : ℕ) (box : Box) (boxes : List Box) → is_supported some (map (candidates box) vs) j a ≡ is_supported tuples (map (candidates box) vs) j a
-    → unless_supported some vs j a k box boxes ≡ unless_supported tuples vs j a k box boxes
-same_support some tuples vs j a k box boxes same = ap (λ b. cond b (fault (unsound k)) (left (without box (get_or vs j 0) a ∷ boxes))) same
+-- ---- the tuples of a rule, by its number
+
+pub rule_by_number : (rules : List Rule) (supports : List (List Tuple)) (n : ℕ) (tuples : List Tuple) → supports ≡ tuples_of rules → n < length rules → tuples ≡ get_or supports n tuples
+    → option_map (λ (rule : Rule). rule.tuples) (slice_get rules n) ≡ Some tuples
+rule_by_number rules supports n tuples all inside is =
+    sym (slice_get-map (λ (rule : Rule). rule.tuples) rules n)
+    ∙ ap (λ l. slice_get l n) (sym all)
+    ∙ slice_get-get_or supports n tuples (omega (arith, inside, ap length all, length-map rules (λ (rule : Rule). rule.tuples)))
+    ∙ ap (λ l. Some l) (sym is)
+
+pub one_rule_more : (rules : List Rule) (n : ℕ) (tuples : List Tuple) → option_map (λ (rule : Rule). rule.tuples) (slice_get rules n) ≡ Some tuples → tuples_of (take (suc n) rules) ≡ tuples_of (take n rules) ++ tuples ∷ []
+one_rule_more [] n tuples h = absurd (let bad : ⊥ = cc in bad)
+one_rule_more (rule ∷ rules) zero tuples h = let same : rule.tuples ≡ tuples = cc in ap (λ l. l ∷ []) same
+one_rule_more (rule ∷ rules) (suc n) tuples h = ap (λ l. rule.tuples ∷ l) (one_rule_more rules n tuples h)

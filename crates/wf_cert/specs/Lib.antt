@@ -11,4 +11,3 @@ pub mod Places
 pub mod Reading
 pub mod Numbers
 pub mod Steps
-pub mod Groups

@@ -1,7 +1,7 @@
 -- Where a process stands, and what an execution allows.
 use Rattle.std.specs.Prelude.{ℕ, suc, ◌==◌, List, [], ◌∷◌, map, zip, get_or, Option, Some, None, if◌then◌else◌}
 use Rattle.wf_model.specs.Simplex.{Simplex, processes_of}
-use Rattle.wf_model.specs.Task.{Tuple}
+use Rattle.wf_model.specs.Task.{Rule, Tuple}
 use Rattle.wf_model.specs.Problem.{Constraint}
 use Rattle.wf_model.specs.Box.{Box, candidates, is_supported, without}
 use Rattle.wf_model.specs.Check.{Verdict, fault, left, unsound}
@@ -10,6 +10,10 @@ use Rattle.wf_model.specs.Check.{Verdict, fault, left, unsound}
 abbrev pub place_in : ℕ → ℕ → List ℕ → Option ℕ
 place_in n c [] = None
 place_in n c (p ∷ ps) = if p == c then Some n else place_in (suc n) c ps
+
+-- the tuples of each rule
+abbrev pub tuples_of : List Rule → List (List Tuple)
+tuples_of rules = map (λ rule. rule.tuples) rules
 
 -- the constraint of an execution on this simplex, with its tuples and these points
 abbrev pub constraint_on : Simplex → List Tuple → List ℕ → Constraint

@@ -11,18 +11,17 @@ ghost use Rattle.wf_complex.specs.Protocol.{IsProtocol};
 ghost use Rattle.wf_complex.specs.Lines.{line_of};
 ghost use Rattle.wf_cert.specs.Blocks.{HasSamePoints, box_now, boxes_later, boxes_left};
 ghost use Rattle.wf_cert.specs.Claims.{Ends, Judged, is_branch_of, lines_fault, verdict_on};
-ghost use Rattle.wf_cert.specs.Places.{place_in, unless_supported};
+ghost use Rattle.wf_cert.specs.Places.{place_in, tuples_of, unless_supported};
 ghost use Rattle.wf_cert.specs.Faults.{Judges, Steps};
-ghost use Rattle.wf_cert.specs.Groups.{AreGrouped};
 
 use crate::boxes::Blocks;
 use crate::fault::CertFault;
-use crate::groups::{group_rules, tuples_with};
-use crate::support::is_supported;
+use crate::support::{is_supported, support_all};
 use std::alloc::Global;
 use wf_complex::{Line, Protocol};
 use wf_set::is_empty;
-use wf_task::{Row, Task};
+use wf_support::Support;
+use wf_task::Task;
 
 /// A value that a line takes out.
 #[derive(Clone, Copy, Debug)]
@@ -66,7 +65,7 @@ pub(crate) fn judge_lines(
     ensures { let p = problem_of task.now protocol.now.rounds in
         Judges result (lines_fault p claim.entry first (map line_of lines.now) (root p ∷ [])) }
 {
-    let groups = group_rules(alloc, task)?;
+    let supports = support_all(alloc, task)?;
     let mut blocks = Blocks::root(alloc, task.values(), protocol.points())?;
     let mut progress = Progress::Going;
     let mut at = first;
@@ -74,7 +73,7 @@ pub(crate) fn judge_lines(
         let Progress::Going = progress else {
             return Err(CertFault::Trailing(at));
         };
-        progress = judge_line(task, protocol, &groups, claim, *line, at, &mut blocks)?;
+        progress = judge_line(task, protocol, &supports, claim, *line, at, &mut blocks)?;
         at += 1;
     }
     match (claim, progress) {
@@ -87,15 +86,14 @@ pub(crate) fn judge_lines(
 fn judge_line(
     task: &Task,
     protocol: &Protocol,
-    groups: &[Vec<Vec<Row>>],
+    supports: &[Support],
     claim: Claim,
     line: Line,
     at: u32,
     blocks: &mut Blocks,
 ) -> Result<Progress, CertFault>
     requires built { IsProtocol task.now protocol.now.rounds protocol.now }
-    requires grouped { AreGrouped task.now.delta groups.now }
-    requires all { length groups.now ≡ length task.now.delta }
+    requires supports { supports.now ≡ tuples_of task.now.delta }
     requires long { length blocks.old.sets.items ≡ length protocol.now.points }
     ensures step { let p = problem_of task.now protocol.now.rounds in
         Judged result p claim.entry at (line_of line) blocks.old blocks.new }
@@ -112,7 +110,7 @@ fn judge_line(
                 process,
                 value,
             };
-            judge_removal(task, protocol, groups, removal, at, blocks)?;
+            judge_removal(task, protocol, supports, removal, at, blocks)?;
             Ok(Progress::Going)
         }
         Line::Z { point } => {
@@ -219,14 +217,13 @@ fn judge_end(claim: Claim, at: u32, blocks: &Blocks) -> Result<(), CertFault>
 fn judge_removal(
     task: &Task,
     protocol: &Protocol,
-    groups: &[Vec<Vec<Row>>],
+    supports: &[Support],
     removal: Removal,
     at: u32,
     blocks: &mut Blocks,
 ) -> Result<(), CertFault>
     requires built { IsProtocol task.now protocol.now.rounds protocol.now }
-    requires grouped { AreGrouped task.now.delta groups.now }
-    requires all { length groups.now ≡ length task.now.delta }
+    requires supports { supports.now ≡ tuples_of task.now.delta }
     requires long { length blocks.old.sets.items ≡ length protocol.now.points }
     ensures step { let p = problem_of task.now protocol.now.rounds in
         let line = remove removal.execution removal.process removal.value in
@@ -239,18 +236,16 @@ fn judge_removal(
     }
     let number = protocol.simplex_of(removal.execution);
     let points = protocol.points_of(removal.execution);
-    let tuples = task.tuples(number);
     let Some(place) = place_of(task, number, removal.process) else {
         return Err(CertFault::NoSuch(at));
     };
-    let group = groups[number as usize].as_slice();
-    let able = tuples_with(tuples, group, place, removal.value);
-    judge_value(able, points, place, removal.value, at, blocks)
+    let support = &supports[number as usize];
+    judge_value(support, points, place, removal.value, at, blocks)
 }
 
 /// Takes the value out at the point of this place, if no tuple supports it there.
 fn judge_value(
-    tuples: &[Row],
+    support: &Support,
     points: &[u32],
     place: u8,
     value: u8,
@@ -261,11 +256,11 @@ fn judge_value(
     requires few { length points.now ≤ 4 }
     requires inside { All (λ v. v < length blocks.old.sets.items) points.now }
     ensures step { let box = box_now blocks.old in let boxes = boxes_later blocks.old in
-        Steps result (unless_supported tuples.now points.now place value at box boxes)
+        Steps result (unless_supported support.now points.now place value at box boxes)
         (λ _. boxes_left true blocks.new) }
     ensures points { HasSamePoints blocks.old blocks.new }
 {
-    if is_supported(tuples, points, blocks.sets(), place as usize, value) {
+    if is_supported(support, points, blocks.sets(), place as usize, value) {
         return Err(CertFault::Unsound(at));
     }
     blocks.take_out(points[place as usize], value)?;

@@ -1,6 +1,6 @@
 //! Reports: what is written about a task and a number of rounds, and the checker of what was written.
 //!
-//! This crate stands on sets of values, tasks and protocol complexes alone: what it accepts rests on nothing of the
+//! This crate stands on sets of values, support, tasks and protocol complexes alone: what it accepts rests on nothing of the
 //! search.
 #![tactic(auto)]
 
@@ -9,7 +9,6 @@ mod boxes;
 mod bytes;
 mod checking;
 mod fault;
-mod groups;
 mod judge;
 mod laws;
 mod maps;

@@ -1,0 +1,4 @@
+mod RowLemmas
+mod BlockLemmas
+mod BuildLemmas
+mod GroupLemmas

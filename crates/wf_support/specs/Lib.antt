@@ -1,0 +1,3 @@
+-- What only this crate's own code and proofs use.
+pub mod Blocks
+pub mod Groups
