@@ -7,7 +7,8 @@ use Rattle.wf_task.specs.declared.task.TheConstants.{LONGEST}
 use Rattle.wf_args.specs.declared.Job.{Job}
 use Rattle.wf_args.specs.declared.Job.TheVariants.{Verify, Decisions}
 use Rattle.wf_args.specs.declared.WordsFault.{WordsFault}
-use Rattle.wf_program.specs.Program.{IsAsked, Opens, Serves, TellsAccount}
+use Rattle.wf_program.specs.Files.{Opens}
+use Rattle.wf_program.specs.Program.{IsAsked, Serves, TellsAccount}
 
 -- how many files a job opens
 abbrev pub file_count : Result Job WordsFault → ℕ

@@ -17,11 +17,12 @@ use Rattle.wf_engine.specs.Run.{Ran}
 use Rattle.wf_engine.specs.Texts.{Solves, Lists, SearchesInOrder, undecided_points}
 use Rattle.wf_engine.specs.Verify.{Verifies, Decides}
 use Rattle.wf_engine.specs.Presets.{WritesPreset}
-use Rattle.wf_args.specs.Job.{CanBeDone, IsClapMistake}
+use Rattle.wf_args.specs.Job.{CanBeDone, HidesNoWantOfMemory}
 use Rattle.wf_args.specs.declared.Job.{Job}
 use Rattle.wf_args.specs.declared.Job.TheVariants.{Solve, Verify, Views, Points, Decisions, Preset}
 use Rattle.wf_args.specs.declared.WordsFault.{WordsFault}
 use Rattle.wf_args.specs.declared.WordsFault.TheVariants as fault
+use Rattle.wf_program.specs.Files.{Opening, Opens, opened, refused}
 use Rattle.wf_program.specs.AccountText.{account_line}
 use Rattle.wf_program.specs.VersionText.{version_line}
 use Rattle.wf_program.specs.declared.done.Done.{Done}
@@ -57,7 +58,7 @@ refusal_text (Clap e) = None
 -- a job or why there is none; where the words could not be had, that is why
 abbrev pub IsAsked : {X : Type 0} → Result X WordsFault → Result Job WordsFault → Type 0
 IsAsked (Ok words) (Ok job) = CanBeDone job
-IsAsked (Ok words) (Err e) = IsClapMistake e
+IsAsked (Ok words) (Err e) = HidesNoWantOfMemory e
 IsAsked (Err e) asked = asked ≡ Err e
 
 -- ---- the account of a search
@@ -91,20 +92,16 @@ abbrev pub written : Result (Unit {0}) RunFault → Result Done Refusal
 written (Ok done) = Ok (record { status = 0; account = None })
 written (Err e) = Err (Run e)
 
--- which bytes a file may have, where they are known, that is opened under a path
-abbrev pub Opens : Type 1
-Opens = List ℕ → Option (List ℕ) → Type 0
-
 -- a source that nothing was read of yet
 abbrev pub unread : Option (List ℕ) → Reading
 unread left = record { left = left; failures = 0; taken = 0 }
 
--- A file was opened that has what is asked for, and this was done with its task and the source's report. Or no file
--- could be opened, and nothing was read or written.
-abbrev pub WithFile : {X : Type 0} → (Option (List ℕ) → Type 0) → (Reading → Reading → Reading → Reading → Writing → Writing → Result X RunFault → Type 0) → Reading → Reading → Writing → Writing → Result X RunFault → Type 0
-WithFile is_opened does source source' sink sink' result =
-    ((left : Option (List ℕ)) × (file' : Reading) × is_opened left × does (unread left) file' source source' sink sink' result)
-    ⊎ ((result ≡ Err run.Read) × (source' ≡ source) × (sink' ≡ sink))
+-- A file was opened, and this was done with its task and the source's report. Or it can't be opened, which is a failed
+-- read, and nothing was read or written.
+abbrev pub WithFile : {X : Type 0} → (Opening → Type 0) → (Reading → Reading → Reading → Reading → Writing → Writing → Result X RunFault → Type 0) → Reading → Reading → Writing → Writing → Result X RunFault → Type 0
+WithFile comes does source source' sink sink' result =
+    ((left : Option (List ℕ)) × (file' : Reading) × comes (opened left) × does (unread left) file' source source' sink sink' result)
+    ⊎ (comes refused × (result ≡ Err run.Read) × (source' ≡ source) × (sink' ≡ sink))
 
 -- what a job asks for was done, its file among those that may be opened under its path
 abbrev pub Does : Opens → Job → Reading → Reading → Writing → Writing → Result Done Refusal → Type 0

@@ -1,6 +1,7 @@
 //! The files that words name.
 
-ghost use Rattle.std.specs.Prelude.{ℕ, List, Option, IfOk};
+ghost use Rattle.std.specs.Prelude.{ℕ, List, IfErr, IfOk};
+ghost use Rattle.wf_program.specs.Files.{Opening, opened, refused};
 
 use std::io;
 use std::io::Read;
@@ -10,10 +11,12 @@ pub trait Files {
     /// A file that is read.
     type File: Read + Drop;
 
-    // A file that is opened under this path may have these bytes, where they are known. Of a disk's files nothing is.
-    ghost opens: { Self → List ℕ → Option (List ℕ) → Type 0 } = { λ _ _ _. Unit {0} };
+    // What may come of opening the file under a path. Of a disk anything may.
+    ghost opens: { Self → List ℕ → Opening → Type 0 } = { λ _ _ _. Unit {0} };
 
     /// Opens a file, to be read from its beginning.
     fn open(&self, path: &str) -> io::Result<Self::File>
-        ensures { IfOk result (λ file. opens self.now path.now (Self.File.remaining file)) };
+        ensures file { IfOk result
+            (λ file. opens self.now path.now (opened (Self.File.remaining file))) }
+        ensures none { IfErr result (λ _. opens self.now path.now refused) };
 }

@@ -45,7 +45,8 @@ pub fn run_program<T: Threads + Sync, F: Files, G: Gate, R: Read, W: Write, E: W
     errors: &mut Sink<E>,
 ) -> u8
     requires { CanServe source.old sink.old errors.old }
-    ensures { Serves (F.opens files.now) words source.old source.new sink.old sink.new errors.old errors.new result }
+    ensures { Serves (F.opens files.now) words source.old source.new sink.old sink.new
+        errors.old errors.new result }
 {
     let done = match job_of(alloc, words) {
         Ok(job) => do_job(rt, alloc, files, gate, source, sink, &job),
@@ -129,7 +130,8 @@ fn verify_file<T: Threads + Sync, F: Files, R: Read, W: Write>(
     sink: &mut Sink<W>,
 ) -> Result<Outcome, RunFault>
     requires { CanCount source.old sink.old }
-    ensures { WithFile (F.opens files.now path.now) Verifies source.old source.new sink.old sink.new result }
+    ensures { WithFile (F.opens files.now path.now) Verifies source.old source.new
+        sink.old sink.new result }
 {
     match files.open(path) {
         Ok(file) => run_verify(rt, alloc, &mut Source::new(file), source, sink),
@@ -147,7 +149,8 @@ fn decide_file<T: Threads + Sync, F: Files, R: Read, W: Write>(
     sink: &mut Sink<W>,
 ) -> Result<(), RunFault>
     requires { CanCount source.old sink.old }
-    ensures { WithFile (F.opens files.now path.now) Decides source.old source.new sink.old sink.new result }
+    ensures { WithFile (F.opens files.now path.now) Decides source.old source.new
+        sink.old sink.new result }
 {
     match files.open(path) {
         Ok(file) => run_decisions(rt, alloc, &mut Source::new(file), source, sink),
