@@ -2,7 +2,7 @@
 #![tactic(auto)]
 
 ghost use Rattle.std.specs.Prelude.{IfOk, IfErr, IfSome};
-ghost use Rattle.wf_args.specs.Job.{CanBeDone, IsClapMistake};
+ghost use Rattle.wf_args.specs.Job.{CanBeDone, HidesNoWantOfMemory};
 
 mod forms;
 mod presets;
@@ -117,14 +117,21 @@ fn flag<'a>(alloc: Global, name: &'a str, help: &'a str) -> Arg<'a> {
 }
 
 fn solve_command<'a>(alloc: Global) -> Result<Command<'a>, AllocError> {
-    let workers = number(alloc, "workers", "How many workers share the search").value_parser(
-        value_parser!(u32).range(1..=MAX_WORKERS as i64),
+    let workers = number(
+        alloc,
+        "workers",
+        "How many workers share the search, 1 to 64",
+    )
+    .value_parser(value_parser!(u32).range(1..=MAX_WORKERS as i64));
+    let verdict = flag(
+        alloc,
+        "verdict",
+        "Leave out the lines of a refutation; not beside --least",
     );
-    let verdict = flag(alloc, "verdict", "Leave out the lines of a refutation");
     let least = flag(
         alloc,
         "least",
-        "With a map, write the lines that show that no decision map is smaller",
+        "With a map, write the lines that show that no decision map is smaller; not beside --verdict",
     );
     let account = flag(
         alloc,
@@ -140,7 +147,11 @@ fn solve_command<'a>(alloc: Global) -> Result<Command<'a>, AllocError> {
         .about(
             "Read a task on standard input, and write its least decision map, or a refutation that there is none",
         )
-        .arg(number(alloc, "rounds", "How many rounds of immediate snapshots"))?
+        .arg(number(
+            alloc,
+            "rounds",
+            "How many rounds of immediate snapshots, 0 to 8",
+        ))?
         .arg(workers)?
         .arg(verdict)?
         .arg(least)?
@@ -167,7 +178,11 @@ fn views_command<'a>(alloc: Global) -> Result<Command<'a>, AllocError> {
         .about(
             "Read a task on standard input, and list the points of its protocol complex by first appearance",
         )
-        .arg(number(alloc, "rounds", "How many rounds of immediate snapshots"))
+        .arg(number(
+            alloc,
+            "rounds",
+            "How many rounds of immediate snapshots, 0 to 8",
+        ))
 }
 
 fn points_command<'a>(alloc: Global) -> Result<Command<'a>, AllocError> {
@@ -178,11 +193,11 @@ fn points_command<'a>(alloc: Global) -> Result<Command<'a>, AllocError> {
         .arg(optional(
             alloc,
             "rounds",
-            "How many rounds of immediate snapshots, where the task is on standard input",
+            "How many rounds of immediate snapshots, 0 to 8, where the task is on standard input",
         ))?
         .arg(task_file(
             alloc,
-            "The file that has the task, where a report about it is on standard input",
+            "The file that has the task, where a report about it is on standard input; not beside --rounds",
         ))
 }
 
@@ -192,11 +207,15 @@ fn preset_command<'a>(alloc: Global) -> Result<Command<'a>, AllocError> {
         .help("set-agreement, with --k and perhaps --values, or renaming, with --names")
         .required(true)
         .action(ArgAction::Set);
-    let k = optional(alloc, "k", "How many different values may be decided");
+    let k = optional(
+        alloc,
+        "k",
+        "How many different values may be decided, at least 1",
+    );
     let values = optional(
         alloc,
         "values",
-        "How many values each process may have as input; without it each has its own number",
+        "How many values each process may have as input, 1 to 64; without it each has its own number",
     );
     let names = optional(alloc, "names", "How many names there are, 1 to 64");
     Command::new(alloc, "preset")
@@ -244,7 +263,7 @@ fn solve_job(found: &ArgMatches<'_>) -> Option<Job>
 /// The job of `verify`.
 fn verify_job(alloc: Global, found: &ArgMatches<'_>) -> Result<Job, WordsFault>
     ensures ok { IfOk result CanBeDone }
-    ensures err { IfErr result IsClapMistake }
+    ensures err { IfErr result HidesNoWantOfMemory }
 {
     match found.get_str("task") {
         Some(task) => Ok(Job::Verify {
@@ -265,7 +284,7 @@ fn views_job(found: &ArgMatches<'_>) -> Option<Job>
 /// The job of `points`: there is one with `--rounds` or with `--task`, and none with both.
 fn points_job(alloc: Global, found: &ArgMatches<'_>) -> Result<Job, WordsFault>
     ensures ok { IfOk result CanBeDone }
-    ensures err { IfErr result IsClapMistake }
+    ensures err { IfErr result HidesNoWantOfMemory }
 {
     match (found.get_one::<u32>("rounds"), found.get_str("task")) {
         (Some(rounds), None) => Ok(Job::Points { rounds }),
@@ -295,7 +314,7 @@ fn preset_job(found: &ArgMatches<'_>) -> Option<Job>
 /// A fault of `clap` carries the text to be printed; out of memory is never handed out as one.
 pub fn read_words(alloc: Global, words: &[String]) -> Result<Job, WordsFault>
     ensures ok { IfOk result CanBeDone }
-    ensures err { IfErr result IsClapMistake }
+    ensures err { IfErr result HidesNoWantOfMemory }
 {
     let command = whole_command(alloc)?;
     let found = match command.try_get_matches_from(words) {

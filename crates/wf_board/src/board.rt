@@ -1,4 +1,5 @@
-// The board and its seats.
+//! The board and its seats.
+
 ghost use Rattle.std.specs.Prelude.{◌≡◌, ◌+◌, ◌*◌, ◌^◌, ◌<◌, ◌≤◌, [], ◌∷◌, ◌++◌, length, IfOk};
 ghost use Rattle.wf_board.specs.Rule.{Sits, IsLeft, Ends};
 ghost use Rattle.wf_board.specs.Desk.{Desk, Place, desk, place, fresh_desk, gathered};

@@ -1,4 +1,5 @@
-// What the board's steps are in the pool.
+//! What the board's steps are in the pool.
+
 ghost use Rattle.wf_board.specs.Shows.{StartIsShown, LookIsEvent, PostIsEvent, SearchedIsEvent, CutIsEvent};
 ghost use Rattle.wf_board.specs.Shows.{TakeIsShown, EndIsShown, FinishAnswersTheAccount};
 

@@ -1,4 +1,5 @@
-// The board's table: what its seats know, and what each step does.
+//! The board's table: what its seats know, and what each step does.
+
 ghost use Rattle.std.specs.Prelude.{ℕ, [], take, drop};
 ghost use Rattle.wf_board.specs.Desk.{knows, joined, nothing};
 ghost use Rattle.wf_board.specs.Rule.{Shown, opening_view, looks, posts, refutes, cuts};

@@ -1,3 +1,5 @@
+//! Tests of reports and of their checker.
+
 ghost use Rattle.std.specs.Prelude.{◌<◌};
 ghost use Rattle.wf_complex.specs.Protocol.{IsProtocol};
 

@@ -1,4 +1,5 @@
-// What happens to the pool, and how an event is refused.
+//! What happens to the pool, and how an event is refused.
+
 ghost use Rattle.std.specs.Prelude.{◌≡◌};
 ghost use Rattle.wf_core.specs.declared.event.CoreFault.TheVariants.{OutOfMemory};
 

@@ -1,4 +1,5 @@
-// What holds after every list of legal events. Each law is the contract of a function that does nothing.
+//! What holds after every list of legal events. Each law is the contract of a function that does nothing.
+
 ghost use Rattle.wf_core.specs.Laws.{EventsThatAreNotRefusedHaveAStep, AStepLeavesOneState};
 ghost use Rattle.wf_core.specs.Laws.{ListsRunOrStop, ListsThatRunDoNotStop, ARunLeavesOneState, ListsStopAtOnePlace};
 ghost use Rattle.wf_core.specs.Laws.{LeastIsPosted, SeenWasPosted, CutLiesAbove, HeldIsHeld, OneWorker, OneBranch};

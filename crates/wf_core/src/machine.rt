@@ -1,4 +1,5 @@
-// The machine: its state, and its steps.
+//! The machine: its state, and its steps.
+
 ghost use Rattle.std.specs.Prelude.{ℕ, ◌≡◌, ◌<◌, Some, None, length, slice_set, IfOk, IfErr, OnOk, OnErr};
 ghost use Rattle.wf_core.specs.declared.event.Status.TheVariants.{Free, Held};
 ghost use Rattle.wf_core.specs.Core.{Is, Saw, IsActive, HoldsNothing, HasSizes, Needs, Step, Run};

@@ -1,4 +1,5 @@
-// Tables whose rows are cut into blocks: 512 rows a step.
+//! Tables whose rows are cut into blocks: 512 rows a step.
+
 ghost use Rattle.std.specs.Prelude.{◌≡◌, ◌<◌, ◌≤◌, ◌*◌, ◌^◌, ◌==◌, true, not, length, cond, filter, count_ones, sum_by};
 ghost use Rattle.std.specs.List.{All};
 ghost use Rattle.wf_model.specs.Lists.{has};

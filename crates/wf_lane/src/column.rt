@@ -1,4 +1,5 @@
-// The values of a table's rows at one place: a word a row, and of a large table also the set of rows of each value.
+//! The values of a table's rows at one place: a word a row, and of a large table also the set of rows of each value.
+
 ghost use Rattle.std.specs.Prelude.{◌≡◌, ◌<◌, ◌≤◌, ◌+◌, ◌*◌, ◌++◌, [], cond, length, IfOk, OnOk};
 ghost use Rattle.std.specs.List.{All};
 ghost use Rattle.wf_model.specs.Lists.{has};

@@ -1,3 +1,5 @@
+//! The tuples of a rule, in the form that suits how many there are and how large their values.
+
 ghost use Rattle.std.specs.Prelude.{◌≡◌, ℕ, ◌<◌, ◌≤◌, ◌^◌, ◌*◌, [], All, IfOk, length, map, slice_index, slice_index_or, count_by};
 ghost use Rattle.wf_model.specs.Box.{is_alive};
 ghost use Rattle.wf_set.specs.Parts.{part_limit, part_values};

@@ -15,8 +15,9 @@
 //!
 //! The public functions below are laws: a body is empty, and the clauses are what is proved. Each
 //! clause is one name, which `specs/Laws` defines in the file of the same subject. The main law is
-//! [`the_canonical_answer`], and [`accepted_reports_are_true`] is what a user of a checker reads. A crate above cites a law's lemma, or calls the law, which puts its clauses among the facts
-//! that are known there.
+//! [`the_canonical_answer`], and [`accepted_reports_are_true`] is what a user of a checker reads. A
+//! crate above cites a law's lemma, or calls the law, which puts its clauses among the facts that
+//! are known there.
 #![tactic(auto)]
 
 mod closing;
@@ -46,7 +47,8 @@ pub use maps::{
     problems_of_tasks_are_well_formed, solutions_lie_in_the_root, tasks_have_listed_values,
 };
 pub use outlines::{
-    a_filled_outline_is_canonical, a_filled_outline_refutes, an_outline_leaves_out_the_branches,
+    a_filled_outline_is_canonical, a_filled_outline_leads_to_the_map, a_filled_outline_refutes,
+    an_outline_leaves_out_the_branches,
 };
 pub use refutations::{
     a_refutation_leaves_no_map, accepted_lines_refute, no_tree_refutes_a_solution,

@@ -1,4 +1,5 @@
-// The workers, each in a thread of its own where one can be had.
+//! The workers, each in a thread of its own where one can be had.
+
 ghost use Rattle.std.specs.Prelude.{◌≡◌, ◌^◌, ◌<◌, ◌↔◌, length, IfOk, IfSome, IsSome, All};
 ghost use Rattle.std.specs.Thread.{IsSync};
 ghost use Rattle.wf_handout.specs.Shares.{AllAt};

@@ -1,4 +1,5 @@
-// What all workers share.
+//! What all workers share.
+
 ghost use Rattle.wf_pool.specs.Work.{IsGround};
 
 use crate::answer::KeptLines;

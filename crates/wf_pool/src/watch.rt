@@ -1,4 +1,5 @@
-// A worker at a branch: it takes a turn only where it sees no lower branch posted.
+//! A worker at a branch: it takes a turn only where it sees no lower branch posted.
+
 ghost use Rattle.std.specs.Prelude.{◌≡◌, ◌<◌, IfOk};
 ghost use Rattle.wf_pool.specs.Work.{HasLooked, HasSettled, IsToSettle};
 ghost use Rattle.wf_pool.specs.Sites.{IsWorkerOf};

@@ -1,4 +1,5 @@
-// A worker: its seat at the board, and what it keeps of what it found.
+//! A worker: its seat at the board, and what it keeps of what it found.
+
 ghost use Rattle.std.specs.Prelude.{◌≡◌, ◌<◌, IfOk, OnOk, filter, nat_lt};
 ghost use Rattle.wf_pool.specs.Branches.{IsMapAt, AreLinesAt};
 ghost use Rattle.wf_search.specs.Found.{OnStopped};

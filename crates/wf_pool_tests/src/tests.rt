@@ -1,3 +1,5 @@
+//! Tests of the pool and of its parts.
+
 mod boards;
 mod cores;
 mod handouts;

@@ -1,3 +1,5 @@
+//! Families of tasks: which values may be decided together.
+
 ghost use Rattle.std.specs.Prelude.{◌≡◌, ◌^◌, ◌<◌, ◌≤◌, nat_lt, [], IfOk, length, slice_index_or};
 ghost use Rattle.std.specs.Ordering.{nat_cmp};
 ghost use Rattle.wf_model.specs.Lists.{below, lists_of, in_order};

@@ -1,3 +1,5 @@
+//! Texts of tasks.
+
 /// Consensus of two processes, each with its own input.
 pub(crate) const CONSENSUS_OF_TWO: &str =
     r#"{"delta":[{"in":[[0,0]],"out":[[0]]},{"in":[[1,1]],"out":[[1]]},{"in":[[0,0],[1,1]],"out":[[0,0],[1,1]]}],"inputs":[[[0,0],[1,1]]],"outputs":[[[0,0],[1,0]],[[0,1],[1,1]]],"processes":2,"symmetric":false,"version":1}"#;

@@ -1,3 +1,5 @@
+//! Tests of the engines and of the whole program.
+
 mod checked;
 mod command_line;
 mod ends;

@@ -1,3 +1,5 @@
+//! Tests of kernels, boxes and searches.
+
 mod boxes;
 mod lanes;
 mod searches;

@@ -1,3 +1,5 @@
+//! Complexes: simplices with all their faces.
+
 ghost use Rattle.std.specs.Prelude.{◌≡◌, ◌<◌, ◌≤◌, ◌↔◌, IfOk, IfSome, OnOk, IsTrue, IsNone, Contains, length, slice_get, Some};
 ghost use Rattle.wf_model.specs.Limits.{most_facets};
 ghost use Rattle.wf_model.specs.Simplex.{complex_of};

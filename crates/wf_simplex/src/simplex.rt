@@ -1,3 +1,5 @@
+//! Simplices: vertices of different processes.
+
 ghost use Rattle.std.specs.Prelude.{◌≡◌, ℕ, ◌<◌, ◌≤◌, ◌&&◌, Bool, List, [], ◌∷◌, length, None, Some, MatchResult, OnOk, slice_index, slice_index_or, drop, map};
 ghost use Rattle.std.specs.Ordering.{ordering_then};
 ghost use Rattle.wf_model.specs.Simplex.{processes_of, faces_of, is_face, simplex_cmp};

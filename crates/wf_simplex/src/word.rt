@@ -1,3 +1,5 @@
+//! Words: ordered partitions of the participants.
+
 ghost use Rattle.std.specs.Prelude.{◌≡◌, ℕ, ◌+◌, ◌<◌, ◌≤◌, ◌==◌, Contains, IsTrue, false, nat_le, length, count_by, slice_get, slice_index, Some};
 ghost use Rattle.std.specs.Bool.{OnFalse};
 ghost use Rattle.wf_model.specs.Word.{is_allowed, words};

@@ -1,3 +1,5 @@
+//! The canonical text of a task.
+
 ghost use Rattle.std.specs.Prelude.{
   ◌≡◌,
   ◌++◌,

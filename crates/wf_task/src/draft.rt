@@ -1,3 +1,5 @@
+//! What a text says before it is judged.
+
 ghost use Rattle.std.specs.Prelude.{◌≡◌, ◌==◌, List, map, option_map};
 ghost use Rattle.serde_json.specs.Find.{as_bool};
 ghost use Rattle.serde_json.specs.View.{view};

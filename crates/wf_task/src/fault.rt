@@ -1,3 +1,5 @@
+//! Why a text is refused.
+
 ghost use Rattle.std.specs.Prelude.{◌≡◌, Some};
 ghost use Rattle.wf_task.specs.declared.fault.TaskFault.TheVariants.{OutOfMemory};
 

@@ -1,3 +1,5 @@
+//! From a draft to its task, or its first fault.
+
 ghost use Rattle.std.specs.Prelude.{◌≡◌, ℕ, ◌<◌, ◌≤◌, All, List, map, nat_lt, nat_le, not, ◌&&◌, sum_by, length, IfOk};
 ghost use Rattle.std.specs.List.{list_any, list_all};
 ghost use Rattle.wf_model.specs.Simplex.{complex_of};

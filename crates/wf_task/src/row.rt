@@ -1,3 +1,5 @@
+//! A tuple of at most four values.
+
 ghost use Rattle.std.specs.Prelude.{◌≡◌, ℕ, ◌<◌, ◌≤◌, All, length, slice_index};
 
 use std::cmp::Ordering;

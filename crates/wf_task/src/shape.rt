@@ -1,3 +1,5 @@
+//! From a JSON value to a draft, or to what of it has the wrong shape.
+
 ghost use Rattle.std.specs.Prelude.{◌≡◌, ℕ, List, map, vec_len, ◌<◌, Option, option_map, option_and_then, IfOk};
 ghost use Rattle.serde_json.specs.Data.{Data};
 ghost use Rattle.serde_json.specs.View.{view, items_view};

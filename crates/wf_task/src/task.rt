@@ -1,3 +1,5 @@
+//! Decision tasks.
+
 ghost use Rattle.std.specs.Prelude.{◌≡◌, ◌<◌, ◌≤◌, length, map, true, Some, None, Ok, IfOk, OnOk, vec_items};
 ghost use Rattle.wf_model.specs.Simplex.{complex_of};
 ghost use Rattle.wf_model.specs.Task.{IsTask, first_block, inputs, values};

@@ -1,3 +1,5 @@
+//! From bytes to a JSON value.
+
 ghost use Rattle.serde_json.specs.View.{view};
 ghost use Rattle.wf_task.specs.Draft.{Gives, or_fault};
 ghost use Rattle.wf_task.specs.Text.{json_of};

@@ -1,3 +1,5 @@
+//! The tuples of the entries of delta.
+
 ghost use Rattle.std.specs.Prelude.{◌≡◌, ◌==◌, ◌≤◌, false, All, List, map, not, zip, length};
 ghost use Rattle.std.specs.List.{position_from};
 ghost use Rattle.wf_model.specs.Limits.{most_inputs, most_tuples};

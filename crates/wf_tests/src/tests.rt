@@ -1,3 +1,5 @@
+//! Tests beside the slow program and plain ones.
+
 use std::test::Fail;
 
 mod closings;

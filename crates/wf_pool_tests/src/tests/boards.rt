@@ -1,4 +1,5 @@
-// The board in one thread, in a known order, and under four threads, in whatever order.
+//! The board in one thread, in a known order, and under four threads, in whatever order.
+
 ghost use Rattle.std.specs.Prelude.{ℕ, ◌≡◌, ◌+◌, ◌<◌, length, All};
 ghost use Rattle.std.specs.Thread.{IsSync};
 ghost use Rattle.wf_core.specs.Count.{times};

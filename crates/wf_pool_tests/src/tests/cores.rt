@@ -1,4 +1,5 @@
-// Lists of events with what they leave, worked out by hand.
+//! Lists of events with what they leave, worked out by hand.
+
 use std::test::Fail;
 use wf_core::{Core, CoreFault, Event, Illegal, Status};
 

@@ -1,4 +1,5 @@
-// Takes in one thread, in a known order, and in several threads, in whatever order.
+//! Takes in one thread, in a known order, and in several threads, in whatever order.
+
 ghost use Rattle.std.specs.Prelude.{ℕ, ◌≡◌, ◌*◌, ◌^◌, ◌<◌, length, IfOk};
 ghost use Rattle.wf_handout.specs.Shares.{AllAt};
 

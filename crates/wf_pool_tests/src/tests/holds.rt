@@ -1,4 +1,5 @@
-// A gate that holds workers, and notes what they reach.
+//! A gate that holds workers, and notes what they reach.
+
 use std::sync::atomic::AtomicU64;
 use std::sync::atomic::Ordering::SeqCst;
 use wf_pool::{Gate, Moment};

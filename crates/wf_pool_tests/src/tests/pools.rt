@@ -1,6 +1,7 @@
+//! Whole problems, by one worker and by several.
+
 ghost use Rattle.std.specs.Prelude.{◌<◌, ◌≤◌};
 
-// Whole problems, by one worker and by several.
 use super::holds::{Barred, Hold, Rule};
 use super::tasks::problem_of;
 use std::alloc::Global;

@@ -1,4 +1,5 @@
-// Tasks as texts, and their problems.
+//! Tasks as texts, and their problems.
+
 use std::alloc::Global;
 use std::test::Fail;
 use wf_box::Problem;
