@@ -1,4 +1,5 @@
-# Everything needs the toolchain alone: the command `rt` on the path.
+# Needs the toolchain's command `rt` on the path, and Python 3. `bench` needs g++ and rustc as well; where there is a C compiler, `test`
+# also has calls of the operating system fail in turn.
 
 .PHONY: demo build quick test definitions bench
 
