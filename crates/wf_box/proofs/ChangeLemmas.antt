@@ -2,7 +2,7 @@
 use Rattle.std.proofs.Common.{◌≡◌, ◌≢◌, ℕ, zero, suc, ◌+◌, ◌<◌, ◌≤◌, List, [], ◌∷◌, ◌++◌, length, get_or, drop, take, refl, sym, ap, ◌∙◌, subst, arith, inl, inr, ⊎_elim, length-set, length-append, append-nil, append_assoc, Bool, true, false, cond, Option, Some, None}
 use Rattle.std.specs.List.{slice_set}
 use Rattle.std.proofs.lemmas.Bool.{cases_eq, cases_lt, false≢true}
-use Rattle.std.proofs.lemmas.List.{drop-append-le, drop-map, length-map, set-get_or, get_or_read}
+use Rattle.std.proofs.lemmas.List.{drop-append-le, drop-map, length-map, set-get_or, get_or_read, drop_all}
 use Rattle.std.proofs.lemmas.List.Elements.{All-append, All-from_recursion}
 use Rattle.std.specs.Prelude.{nat_lt, position}
 use Rattle.std.specs.List.{position_from}
@@ -13,7 +13,8 @@ use Rattle.wf_model.proofs.Order.{only as only_value}
 use Rattle.wf_set.specs.Sets.{box_of, values_in}
 use Rattle.wf_box.specs.Changes.{IsGrown, IsTracked, IsUndone, taken_back, words_after}
 use Rattle.wf_box.specs.declared.tracked.Change.{Change}
-use Rattle.wf_box.proofs.TakingLemmas.{set_there, word_at}
+use Rattle.wf_box.proofs.TakingLemmas.{set_there}
+use Rattle.wf_set.proofs.Lemmas.{set_at}
 
 pub back_more : (cs ds : List Change) (words : List (List ℕ)) → taken_back (cs ++ ds) words ≡ taken_back cs (taken_back ds words)
 back_more [] ds words = refl
@@ -36,12 +37,6 @@ changed_there (w ∷ words) (suc v) (suc u) word other = changed_there words v u
 after_more : (n : ℕ) (trail : List Change) (c : Change) (words : List (List ℕ)) → n ≤ length trail → words_after n (trail ++ c ∷ []) words ≡ words_after n trail (slice_set words c.point c.before)
 after_more n trail c words low = ap (λ cs. taken_back cs words) (drop-append-le n trail (c ∷ []) low) ∙ back_more (drop n trail) (c ∷ []) words
 
-past_all : {X : Type 0} (xs : List X) (n : ℕ) → length xs ≤ n → drop n xs ≡ []
-past_all [] zero h = refl
-past_all [] (suc n) h = refl
-past_all (x ∷ xs) zero h = absurd (let none : ⊥ = omega (arith, h) in none)
-past_all (x ∷ xs) (suc n) h = past_all xs n (omega (arith, h))
-
 pub one_change : (words : List (List ℕ)) (trail : List Change) (capacity counted left open_from v : ℕ) (before : List ℕ) → IsTracked (slice_set words v before) trail capacity counted open_from → v < length words → length (values_in (get_or words v [])) < length (values_in before)
     → left + length (values_in before) ≡ counted + length (values_in (get_or words v [])) → IsTracked words (trail ++ record { point = v; before = before } ∷ []) capacity left open_from
 one_change words trail capacity counted left open_from v before kept within fewer counts = record {
@@ -50,12 +45,12 @@ one_change words trail capacity counted left open_from v before kept within fewe
   count_is = omega (arith, kept.count_is, counts, count_changed words v before within);
   room = λ n low. ⊎_elim
       (λ (earlier : n < suc (length trail)). subst (λ ws. n + count (box_of ws) ≤ capacity) (sym (after_more n trail c words (omega (arith, earlier)))) (kept.room n (omega (arith, earlier))))
-      (λ (last : suc (length trail) ≤ n). subst (λ cs. n + count (box_of (taken_back cs words)) ≤ capacity) (sym (past_all (trail ++ c ∷ []) n (omega (arith, last, length-append trail (c ∷ []))))) (at_end n (omega (arith, low, last, length-append trail (c ∷ [])))))
+      (λ (last : suc (length trail) ≤ n). subst (λ cs. n + count (box_of (taken_back cs words)) ≤ capacity) (sym (drop_all n (trail ++ c ∷ []) (omega (arith, last, length-append trail (c ∷ []))))) (at_end n (omega (arith, low, last, length-append trail (c ∷ [])))))
       (cases_lt n (suc (length trail)));
   within = All-append (λ (c : Change). c.point < length words) trail (c ∷ []) (λ k d low. omega (arith, kept.within k d low, long)) (All-from_recursion (λ c. c.point < length words) (c ∷ []) (within, tt));
   open_within = omega (arith, kept.open_within, long);
   single = λ u low. elim (cases_eq u v) [
-    | inl here ↦ omega (arith, fewer, kept.single u low, ap (λ w. length (candidates (box_of (slice_set words v before)) w)) here, ap length (set_there words v before within), ap (λ w. length (candidates (box_of words) w)) here, ap length (word_at words v within))
+    | inl here ↦ omega (arith, fewer, kept.single u low, ap (λ w. length (candidates (box_of (slice_set words v before)) w)) here, ap length (set_there words v before within), ap (λ w. length (candidates (box_of words) w)) here, ap length (set_at words v within))
     | inr other ↦ subst (λ set. length set ≤ 1) (changed_there words v u before other) (kept.single u low)
   ];
 }
@@ -69,13 +64,13 @@ one_change words trail capacity counted left open_from v before kept within fewe
     at_end : (n : ℕ) → n ≡ suc (length trail) → n + count (box_of words) ≤ capacity
     at_end n is =
         let all = kept.room (length trail) (omega arith) in
-        let now : words_after (length trail) trail (slice_set words v before) ≡ slice_set words v before = ap (λ cs. taken_back cs (slice_set words v before)) (past_all trail (length trail) (omega arith)) in
+        let now : words_after (length trail) trail (slice_set words v before) ≡ slice_set words v before = ap (λ cs. taken_back cs (slice_set words v before)) (drop_all (length trail) trail (omega arith)) in
         omega (arith, all, is, ap (λ ws. count (box_of ws)) now, count_changed words v before within, fewer)
 
 -- there is room for a further change
 pub room_now : (words : List (List ℕ)) (trail : List Change) (capacity counted open_from : ℕ) → IsTracked words trail capacity counted open_from → length trail + count (box_of words) ≤ capacity
 room_now words trail capacity counted open_from kept =
-    subst (λ cs. length trail + count (box_of (taken_back cs words)) ≤ capacity) (past_all trail (length trail) (omega arith)) (kept.room (length trail) (omega arith))
+    subst (λ cs. length trail + count (box_of (taken_back cs words)) ≤ capacity) (drop_all (length trail) trail (omega arith)) (kept.room (length trail) (omega arith))
 
 -- ---- one change less
 

@@ -3,7 +3,7 @@ use Rattle.std.proofs.Common.{◌≡◌, ℕ, zero, suc, ◌+◌, ◌<◌, ◌�
 use Rattle.std.specs.Prelude.{nat_lt, position}
 use Rattle.std.specs.List.{list_all, position_or_len}
 use Rattle.std.proofs.Math.ListN.{get_or-map}
-use Rattle.std.proofs.lemmas.Bool.{cases_eq, eq-eqb, false≢true, le-ltb, lt-ltb, ne_eqb}
+use Rattle.std.proofs.lemmas.Bool.{cases_eq, eq-eqb, false≢true, le-ltb, lt-ltb, ne_eqb, and_parts}
 use Rattle.std.proofs.lemmas.List.{length-map}
 use Rattle.std.proofs.lemmas.List.Sums.{position_or_len_is}
 use Rattle.wf_model.proofs.Fuel.{length_filter}
@@ -11,12 +11,9 @@ use Rattle.wf_set.specs.Parts.{part_limit, part_values}
 use Rattle.wf_set.specs.Sets.{values_in}
 use Rattle.wf_set.proofs.Lemmas.{length-values_in, part_of, values_of_first}
 use Rattle.wf_box.specs.Kept.{is_narrow}
+use Rattle.wf_model.proofs.Basics.{suc_not_zero}
 
 -- ---- a test that each value passes
-
-both : (a b : Bool) → (a && b) ≡ true → (a ≡ true) × (b ≡ true)
-both true b h = (refl, h)
-both false b h = absurd (false≢true h)
 
 one_more : (m n : ℕ) → (suc m == suc n) ≡ (m == n)
 one_more m n = ⊎_elim (λ (e : m ≡ n). eq-eqb (suc m) (suc n) (ap suc e) ∙ sym (eq-eqb m n e)) (λ (ne : m ≡ n → ⊥). ne_eqb (suc m) (suc n) (λ e. ne (omega (arith, e))) ∙ sym (ne_eqb m n ne)) (cases_eq m n)
@@ -30,13 +27,10 @@ all_counted : (p : ℕ → Bool) (xs : List ℕ) → (length xs == length (filte
 all_counted p [] = refl
 all_counted p (x ∷ xs) = counted (p x) x xs (filter p xs) (length_filter p xs) ∙ ap (λ b. p x && b) (all_counted p xs)
 
-not_none : (n : ℕ) → (suc n == 0) ≡ false
-not_none n = ne_eqb (suc n) 0 (λ e. absurd (omega (arith, e)))
-
 all_here : (a b c d : ℕ) → (a + b + c + d == a) ≡ ((b == 0 && c == 0) && d == 0)
-all_here a (suc b) c d = ne_eqb (a + suc b + c + d) a (λ e. absurd (omega (arith, e))) ∙ sym (ap (λ t. (t && c == 0) && d == 0) (not_none b))
-all_here a zero (suc c) d = ne_eqb (a + 0 + suc c + d) a (λ e. absurd (omega (arith, e))) ∙ sym (ap (λ t. t && d == 0) (not_none c))
-all_here a zero zero (suc d) = ne_eqb (a + 0 + 0 + suc d) a (λ e. absurd (omega (arith, e))) ∙ sym (not_none d)
+all_here a (suc b) c d = ne_eqb (a + suc b + c + d) a (λ e. absurd (omega (arith, e))) ∙ sym (ap (λ t. (t && c == 0) && d == 0) (suc_not_zero b))
+all_here a zero (suc c) d = ne_eqb (a + 0 + suc c + d) a (λ e. absurd (omega (arith, e))) ∙ sym (ap (λ t. t && d == 0) (suc_not_zero c))
+all_here a zero zero (suc d) = ne_eqb (a + 0 + 0 + suc d) a (λ e. absurd (omega (arith, e))) ∙ sym (suc_not_zero d)
 all_here a zero zero zero = eq-eqb (a + 0 + 0 + 0) a (omega arith)
 
 -- all values have their bit in the first word where the others are empty
@@ -51,14 +45,14 @@ others_empty set =
 all_stay : (p : ℕ → Bool) (xs : List ℕ) → list_all p xs ≡ true → filter p xs ≡ xs
 all_stay p [] h = refl
 all_stay p (x ∷ xs) h =
-    let each = both (p x) (list_all p xs) h in
+    let each = and_parts (p x) (list_all p xs) h in
     let stays : cond (p x) (x ∷ filter p xs) (filter p xs) ≡ x ∷ filter p xs = ap (λ b. cond b (x ∷ filter p xs) (filter p xs)) each.0 in
     stays ∙ ap (λ ys. x ∷ ys) (all_stay p xs each.1)
 
 pub each_stays : (p : ℕ → Bool) (box : List (List ℕ)) → list_all (list_all p) box ≡ true → map (filter p) box ≡ box
 each_stays p [] h = refl
 each_stays p (set ∷ box) h =
-    let each = both (list_all p set) (list_all (list_all p) box) h in
+    let each = and_parts (list_all p set) (list_all (list_all p) box) h in
     ap (λ s. s ∷ map (filter p) box) (all_stay p set each.0) ∙ ap (λ b. set ∷ b) (each_stays p box each.1)
 
 -- ---- the first part that passes

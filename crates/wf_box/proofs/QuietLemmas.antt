@@ -27,7 +27,7 @@ use Rattle.std.proofs.lemmas.List.Elements.{All-from_recursion}
 use Rattle.wf_model.proofs.Order.{position_none}
 use Rattle.wf_model.proofs.Solved.{sweep_nothing}
 use Rattle.wf_box.proofs.CloseLemmas.{empty_there, point_there}
-use Rattle.wf_box.proofs.TakingLemmas.{word_at}
+use Rattle.wf_set.proofs.Lemmas.{set_at}
 
 -- the executions of a point are marked
 pub marked_user : (u : Users) (v e : ℕ) (numbers marks : List ℕ) → numbers ≡ users_of u v → ((i : ℕ) → i < length numbers → bit_of marks (slice_index numbers i) ≡ 1) → bit_of marks e ≡ 0 → IsUser u v e → ⊥
@@ -142,7 +142,7 @@ pub lost_kept : (rules : List Rule) (x : Execution) (words fewer : List (List �
     → lost (box_of fewer) (constraint_seen rules x) ≡ lost (box_of words) (constraint_seen rules x)
 lost_kept rules x words fewer within long same =
     lost_same (box_of fewer) (box_of words) (constraint_seen rules x) _ x.points refl
-    (λ i low. let inside = within i 0 low in word_at fewer (get_or x.points i 0) (omega (arith, inside, long)) ∙ ap values_in (same i low) ∙ sym (word_at words (get_or x.points i 0) inside))
+    (λ i low. let inside = within i 0 low in set_at fewer (get_or x.points i 0) (omega (arith, inside, long)) ∙ ap values_in (same i low) ∙ sym (set_at words (get_or x.points i 0) inside))
 
 -- so after it was revised each one without a mark is quiet again
 pub quiet_again : (rules : List Rule) (es : List Execution) (u : Users) (number : ℕ) (words : List (List ℕ)) (marks : List ℕ) (fewer : List (List ℕ)) (more : List ℕ) → All (IsWithin (length rules) (length words)) es → AreTold u es → length fewer ≡ length words
@@ -222,6 +222,6 @@ still_filled words after long filled kept = by_answer (first_empty (box_of words
     by_answer None is = refl
     by_answer (Some v) is =
         let within : v < length words = omega (arith, point_there (box_of words) v is, length-map words values_in) in
-        let gone = kept v (sym (word_at words v within) ∙ empty_there (box_of words) v is) in
+        let gone = kept v (sym (set_at words v within) ∙ empty_there (box_of words) v is) in
         let none = All-from_recursion (λ set. (length set == 0) ≡ false) (box_of after) (position_none (λ set. length set == 0) (box_of after) filled) v [] (omega (arith, within, long, length-map after values_in)) in
-        absurd (let bad : true ≡ false = sym (ap (λ set. length set == 0) (word_at after v (omega (arith, within, long)) ∙ gone)) ∙ none in false≢true (sym bad))
+        absurd (let bad : true ≡ false = sym (ap (λ set. length set == 0) (set_at after v (omega (arith, within, long)) ∙ gone)) ∙ none in false≢true (sym bad))

@@ -12,11 +12,9 @@ use Rattle.wf_box.specs.Closes.{more_sweeps, sweep_count}
 use Rattle.wf_box.specs.Steps.{reached}
 use Rattle.wf_lane.proofs.Lemmas.{few_values}
 use Rattle.wf_box.proofs.StepLemmas.{then_then}
+use Rattle.wf_model.proofs.Fuel.{count_cons}
 
 -- ---- how many candidates there can be
-
-count_cons : (s : List ℕ) (box : Box) → count (s ∷ box) ≡ length s + count box
-count_cons s box = refl
 
 pub count_few : (words : List (List ℕ)) → count (box_of words) ≤ 256 * length words
 count_few [] = omega arith

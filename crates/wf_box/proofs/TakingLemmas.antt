@@ -14,16 +14,13 @@ use Rattle.wf_complex.specs.Lines.{line_of}
 use Rattle.wf_complex.specs.declared.line.Line.{Line}
 use Rattle.wf_complex.specs.declared.line.Line.TheVariants as line
 use Rattle.wf_box.specs.Steps.{reached, loss}
-
--- the candidates of a point are the values of its set
-pub word_at : (words : List (List ℕ)) (v : ℕ) → v < length words → candidates (box_of words) v ≡ values_in (get_or words v [])
-word_at words v inside = get_or-map values_in words v [] [] inside
+use Rattle.wf_set.proofs.Lemmas.{set_at}
 
 -- the box without a candidate is that of the sets with one set changed
 pub set_without : (words : List (List ℕ)) (v a : ℕ) (set : List ℕ) → v < length words → values_in set ≡ filter (λ b. not (b == a)) (values_in (get_or words v [])) → box_of (slice_set words v set) ≡ without (box_of words) v a
 set_without words v a set inside is =
     map-set values_in words v set
-    ∙ ap (λ s. slice_set (box_of words) v s) (is ∙ ap (filter (λ b. not (b == a))) (sym (word_at words v inside)))
+    ∙ ap (λ s. slice_set (box_of words) v s) (is ∙ ap (filter (λ b. not (b == a))) (sym (set_at words v inside)))
 
 pub set_there : (words : List (List ℕ)) (v : ℕ) (set : List ℕ) → v < length words → candidates (box_of (slice_set words v set)) v ≡ values_in set
 set_there [] v set h = absurd (let none : ⊥ = omega (arith, h) in none)

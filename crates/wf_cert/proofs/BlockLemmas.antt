@@ -10,7 +10,7 @@ use Rattle.wf_cert.specs.Blocks.{later, later_from}
 use Rattle.wf_cert.specs.declared.boxes.Entry.{Entry}
 use Rattle.wf_cert.specs.declared.boxes.Entry.TheVariants.{Was, Later}
 use Rattle.wf_model.specs.Lists.{has}
-use Rattle.wf_set.proofs.Lemmas.{filter_nothing}
+use Rattle.wf_set.proofs.Lemmas.{filter_nothing, one_value, set_at}
 
 -- one more entry
 pub later_push : (trail : List Entry) (e : Entry) (sets : List (List ℕ)) → later (trail ++ e ∷ []) sets ≡ later_from (e ∷ reverse trail) sets
@@ -24,14 +24,6 @@ set_twice (s ∷ sets) (suc v) x d = ap (λ rest. s ∷ rest) (set_twice sets v 
 
 pub later_changed : (trail : List Entry) (sets : List (List ℕ)) (v : ℕ) (set d : List ℕ) → later (trail ++ Was v (get_or sets v d) ∷ []) (slice_set sets v set) ≡ later trail sets
 later_changed trail sets v set d = later_push trail (Was v (get_or sets v d)) (slice_set sets v set) ∙ ap (later trail) (set_twice sets v set d)
-
--- the candidates of a point are the values of its set
-pub set_at : (sets : List (List ℕ)) (v : ℕ) → v < length sets → candidates (box_of sets) v ≡ values_in (get_or sets v [])
-set_at sets v inside = get_or-map values_in sets v [] [] inside
-
--- a point that is given one value
-pub one_value : (sets : List (List ℕ)) (v a : ℕ) (set : List ℕ) → values_in set ≡ a ∷ [] → box_of (slice_set sets v set) ≡ decided (box_of sets) v a
-one_value sets v a set alone = map-set values_in sets v set ∙ ap (slice_set (box_of sets) v) alone
 
 -- a set that is read, whatever stands for one that is not there
 pub set_read : (sets : List (List ℕ)) (v : ℕ) (w : List ℕ) → v < length sets → w ≡ get_or sets v w → w ≡ get_or sets v []

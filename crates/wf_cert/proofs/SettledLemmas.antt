@@ -8,14 +8,15 @@ use Rattle.wf_cert.specs.declared.boxes.Entry.{Entry}
 use Rattle.wf_cert.specs.declared.boxes.Entry.TheVariants.{Was, Later}
 use Rattle.wf_cert.proofs.BlockLemmas.{set_twice}
 use Rattle.wf_cert.proofs.FirstLemmas.{IsSettled}
-use Rattle.wf_cert.proofs.ReadLemmas.{both, not_true}
+use Rattle.wf_cert.proofs.ReadLemmas.{not_true}
+use Rattle.std.proofs.lemmas.Bool.{and_parts}
 
 pub settled_at : (low : ℕ) (sets : List (List ℕ)) → is_settled low sets ≡ true → IsSettled low sets
 settled_at zero sets h v low inside = absurd (omega (arith, low))
 settled_at (suc n) [] h v low inside = absurd (omega (arith, inside))
-settled_at (suc n) (s ∷ sets) h zero low inside = not_true (nat_lt 1 (length (values_in s))) (both (not (nat_lt 1 (length (values_in s)))) (is_settled n sets) h).0
+settled_at (suc n) (s ∷ sets) h zero low inside = not_true (nat_lt 1 (length (values_in s))) (and_parts (not (nat_lt 1 (length (values_in s)))) (is_settled n sets) h).0
 settled_at (suc n) (s ∷ sets) h (suc v) low inside =
-    settled_at n sets (both (not (nat_lt 1 (length (values_in s)))) (is_settled n sets) h).1 v (omega (arith, low)) (omega (arith, inside))
+    settled_at n sets (and_parts (not (nat_lt 1 (length (values_in s)))) (is_settled n sets) h).1 v (omega (arith, low)) (omega (arith, inside))
 
 pub settled_by : (low : ℕ) (sets : List (List ℕ)) → IsSettled low sets → is_settled low sets ≡ true
 settled_by zero sets h = refl
@@ -29,7 +30,7 @@ settled_set zero (suc n) v sets x below before h = absurd (omega (arith, below))
 settled_set (suc low) (suc n) zero sets x below before h = absurd (omega (arith, before))
 settled_set (suc low) (suc n) (suc v) [] x below before h = refl
 settled_set (suc low) (suc n) (suc v) (s ∷ sets) x below before h =
-    let parts = both (not (nat_lt 1 (length (values_in s)))) (is_settled low sets) h in
+    let parts = and_parts (not (nat_lt 1 (length (values_in s)))) (is_settled low sets) h in
     (λ i. parts.0 i && settled_set low n v sets x (omega (arith, below)) (omega (arith, before)) parts.1 i)
 
 -- one more entry, and one less

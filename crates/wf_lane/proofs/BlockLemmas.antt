@@ -14,21 +14,17 @@ use Rattle.std.proofs.lemmas.List.Elements.{All-head, All-tail, All-nil, All-con
 use Rattle.std.proofs.lemmas.List.Folds.{list_any-append}
 use Rattle.std.proofs.lemmas.List.Sums.{sum_by-append, sum_by-cons}
 use Rattle.wf_model.specs.Lists.{has}
-use Rattle.wf_model.proofs.Basics.{or_assoc}
+use Rattle.wf_model.proofs.Basics.{or_assoc, equal_turned, and_turned, has-filter}
 use Rattle.wf_set.specs.Parts.{part_holds, part_values}
-use Rattle.wf_set.proofs.Lemmas.{has-part_values, part_holds-or, holds_nothing}
+use Rattle.wf_set.proofs.Lemmas.{has-part_values, part_holds-or, holds_nothing, one_bit}
 use Rattle.wf_lane.specs.Words.{Words, is_live, joined_words, ors, meets}
 use Rattle.wf_lane.specs.Table.{IsOneHot, AreOneHot, value_of}
 use Rattle.wf_lane.specs.declared.column.Column.{Column}
 use Rattle.wf_lane.specs.Rows.{AreLeft, OccurIn, is_among, is_met, is_one_of, is_value, row_sets}
-use Rattle.wf_lane.proofs.Values.{has-filter, joined_small, meets_list, value_small, word_holds}
+use Rattle.wf_lane.proofs.Values.{joined_small, meets_list, value_small, word_holds}
 use Rattle.wf_lane.proofs.RowLemmas.{rows_either, rows_both, rows_cong, rows_none, rows_of-map, any_row, length-row_sets}
 
 -- ---- values in a set
-
-swapped : (a b : ℕ) → (a == b) ≡ (b == a)
-swapped a b =
-    ⊎_elim (λ (e : a ≡ b). eq-eqb a b e ∙ sym (eq-eqb b a (sym e))) (λ (ne : a ≡ b → ⊥). ne_eqb a b ne ∙ sym (ne_eqb b a (λ e. ne (sym e)))) (cases_eq a b)
 
 both_true : (x y : Bool) → (x && y) ≡ true → x ≡ true
 both_true true y e = refl
@@ -86,18 +82,12 @@ among_step joined left t others words start split =
     ∙ ap (zip2 bit_or joined)
     (rows_either (is_value t) (is_one_of others) words start 8
     ∙ rows_cong (λ w. is_value t w || is_one_of others w) (is_one_of left) words start 8
-    (λ w. ap (λ b. b || is_one_of others w) (swapped (value_of w) t) ∙ sym (ap (λ vs. has vs (value_of w)) split)))
+    (λ w. ap (λ b. b || is_one_of others w) (equal_turned (value_of w) t) ∙ sym (ap (λ vs. has vs (value_of w)) split)))
 
 -- ---- values that are met
 
-and_swapped : (a b : Bool) → (a && b) ≡ (b && a)
-and_swapped true true = refl
-and_swapped true false = refl
-and_swapped false true = refl
-and_swapped false false = refl
-
 kept_if : (b : Bool) (t v : ℕ) (xs : List ℕ) → has (cond b (filter (λ x. not (x == t)) xs) xs) v ≡ (has xs v && not (b && (v == t)))
-kept_if true t v xs = has-filter (λ x. not (x == t)) xs v ∙ and_swapped (not (v == t)) (has xs v)
+kept_if true t v xs = has-filter (λ x. not (x == t)) xs v ∙ and_turned (not (v == t)) (has xs v)
 kept_if false t v xs = sym (and-true (has xs v))
 
 -- the value that was taken, which is met or isn't
@@ -324,15 +314,6 @@ joined_holds s t w v one (r ∷ rows) h same =
     part_holds-or (cond (is_live s r) (w r) 0) (joined_words s w rows) v
     ∙ ap (λ b. b || part_holds (joined_words s w rows) v) (kept_word (is_live s r) (w r) v (one r (All-head AreOneHot r rows h)) ∙ ap (λ b. b && is_value v (w r)) (sym (All-head (λ k. is_among t k ≡ is_live s k) r rows same)))
     ∙ ap (λ b. has_value t w v r || b) (joined_holds s t w v one rows (All-tail AreOneHot r rows h) (All-tail (λ k. is_among t k ≡ is_live s k) r rows same))
-
-one_bit : (m n : ℕ) → m < 2 → n < 2 → (m == 1) ≡ (n == 1) → m ≡ n
-one_bit zero zero h k e = refl
-one_bit zero (suc zero) h k e = cc
-one_bit (suc zero) zero h k e = cc
-one_bit (suc zero) (suc zero) h k e = refl
-one_bit (suc (suc m)) n h k e = absurd (omega arith)
-one_bit zero (suc (suc n)) h k e = absurd (omega arith)
-one_bit (suc zero) (suc (suc n)) h k e = absurd (omega arith)
 
 mask_test : (h a : Bool) → (not (h && not a) && h) ≡ (h && a)
 mask_test true true = refl

@@ -19,6 +19,7 @@ use Rattle.wf_set.specs.Parts.{part_holds, part_values}
 use Rattle.wf_set.specs.Sets.{values_in}
 use Rattle.wf_lane.specs.Words.{Words, is_live, joined_words, meets}
 use Rattle.wf_lane.specs.Table.{AreFirstParts, AreOneHot, IsFirstPart, IsOneHot, four_values, opened, row_of, sets_of, value_of}
+use Rattle.wf_model.proofs.Basics.{has-filter, has_at-take}
 
 test_bit : (b x : ℕ) → b < 2 → 0 < x → not (b * x == 0) ≡ (b == 1)
 test_bit zero x h pos = ap not (eq-eqb (0 * x) 0 (omega arith))
@@ -69,10 +70,6 @@ every_value word h = meets_holds word 18446744073709551615 h ∙ all_held (value
 pub meets_list : (word set : ℕ) → IsOneHot word → meets word set ≡ has (part_values set) (value_of word)
 meets_list word set h = meets_holds word set h ∙ sym (has-part_values set (value_of word) (value_small word h))
 
--- a filter keeps the values that pass its test
-pub has-filter : (p : ℕ → Bool) (xs : List ℕ) (v : ℕ) → has (filter p xs) v ≡ (p v && has xs v)
-has-filter p xs v = any-filter_same (λ y. y == v) p (p v) (λ k e. ap p (eqb-true k v e)) xs
-
 -- the first part of a set is all of it that a word can meet
 meets_set : (word part : ℕ) (set : List ℕ) → IsOneHot word → IsFirstPart part set → meets word part ≡ has (values_in set) (value_of word)
 meets_set word part set h first =
@@ -107,12 +104,6 @@ live_is (suc (suc (suc (suc (suc n))))) parts s0 s1 s2 s3 r some narrow h f = ab
 kept_holds : (b : Bool) (w a : ℕ) → IsOneHot w → part_holds (cond b w 0) a ≡ ((value_of w == a) && b)
 kept_holds true w a h = word_holds w a h ∙ sym (and-true (value_of w == a))
 kept_holds false w a h = holds_nothing a ∙ sym (and_right (value_of w == a) false refl)
-
-has_at-take : (xs : Tuple) (n place v : ℕ) → place < n → has_at (take n xs) place v ≡ has_at xs place v
-has_at-take xs zero place v h = absurd (omega arith)
-has_at-take [] (suc n) place v h = refl
-has_at-take (x ∷ xs) (suc n) zero v h = refl
-has_at-take (x ∷ xs) (suc n) (suc place) v h = has_at-take xs n place v (omega arith)
 
 module _ (width : ℕ) (parts : List ℕ) (s0 s1 s2 s3 : List ℕ) (some : 1 ≤ width) (narrow : width ≤ 4) (firsts : AreFirstParts parts (s0 ∷ s1 ∷ s2 ∷ s3 ∷ [])) where
   abbrev sets : List (List ℕ)

@@ -2,7 +2,7 @@
 use Rattle.std.proofs.Common.{◌≡◌, ℕ, zero, suc, ◌+◌, ◌<◌, ◌≤◌, ◌^◌, List, [], ◌∷◌, length, take, get_or, cond, Bool, true, false, ◌&&◌, refl, sym, ◌∙◌, ap, arith, subst, ⊎_elim}
 use Rattle.std.specs.Prelude.{◌||◌, count_by, slice_index_or}
 use Rattle.std.specs.List.{All, list_any, list_all}
-use Rattle.std.proofs.lemmas.Bool.{cases_lt, eq-eqb, ltb-true}
+use Rattle.std.proofs.lemmas.Bool.{cases_lt, eq-eqb, ltb-true, and_parts}
 use Rattle.std.proofs.lemmas.List.{get_or_past}
 use Rattle.std.proofs.lemmas.List.Elements.{All-head, All-tail, All-nil, All-cons}
 use Rattle.std.proofs.lemmas.List.Folds.{list_any_more}
@@ -17,20 +17,16 @@ use Rattle.wf_lane.proofs.Revising.{both_ways, nothing_in}
 
 -- ---- which table is narrow
 
-both_so : (a b : Bool) → (a && b) ≡ true → (a ≡ true) × (b ≡ true)
-both_so true b e = (refl, e)
-both_so false b e = absurd (let no : false ≡ true = e in cc)
-
 narrow_row : (row : Tuple) → list_all is_below row ≡ true → All (λ x. x < 64) row
 narrow_row [] h = All-nil (λ x. x < 64)
 narrow_row (x ∷ row) h =
-    let k = both_so (is_below x) (list_all is_below row) h in
+    let k = and_parts (is_below x) (list_all is_below row) h in
     All-cons (λ x. x < 64) x row (ltb-true x 64 k.0) (narrow_row row k.1)
 
 pub narrow_rows : (rows : List Tuple) → list_all (list_all is_below) rows ≡ true → AreNarrow rows
 narrow_rows [] h = All-nil (λ (row : List ℕ). All (λ x. x < 64) row)
 narrow_rows (row ∷ rows) h =
-    let k = both_so (list_all is_below row) (list_all (list_all is_below) rows) h in
+    let k = and_parts (list_all is_below row) (list_all (list_all is_below) rows) h in
     All-cons (λ (row : List ℕ). All (λ x. x < 64) row) row rows (narrow_row row k.0) (narrow_rows rows k.1)
 
 -- ---- one row more

@@ -20,6 +20,7 @@ use Rattle.wf_model.proofs.Kept.{Full, Ascending, ascending_after, candidates_as
 use Rattle.wf_model.proofs.Solved.{Single, single_unless_open, values_in, only_one}
 use Rattle.wf_model.proofs.Closed.{each_with_value}
 use Rattle.wf_model.proofs.LeastTrees.{lies_by_tree}
+use Rattle.wf_model.proofs.Least.{no_map_is}
 
 -- a map of a branch has the branch's value
 pub decided_value : (m : List ℕ) (box : Box) (v a : ℕ) → v < length box → LiesIn m (decided box v a) → a ≡ slice_index m v
@@ -32,9 +33,6 @@ decided_value (x ∷ m) (s ∷ box) (suc v) a within lies = decided_value m box 
 single_exactly : (box : Box) → Single box → box ≡ exactly (values_in box)
 single_exactly [] h = refl
 single_exactly (s ∷ box) h = λ i. only_one s h.0 i ∷ single_exactly box h.1 i
-
-no_map_is : {X : Type 0} {m : List ℕ} → None ≡ Some m → X
-no_map_is h = absurd (let none : ⊥ = cc in none)
 
 module _ (p : Problem) (m : List ℕ) where
   -- among trees that lead to the map, one has the map's value

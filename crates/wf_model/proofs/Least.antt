@@ -27,8 +27,8 @@ use Rattle.wf_model.proofs.Kept.{Ascending, ascending_after, candidates_ascend, 
 use Rattle.wf_model.proofs.Solved.{single_unless_open, values_in, values_lie, values_alone, single_solves}
 
 -- no map is found where one was
-two_maps : {X : Type 0} {m : List ℕ} → None ≡ Some m → X
-two_maps h = absurd (let none : ⊥ = cc in none)
+pub no_map_is : {X : Type 0} {m : List ℕ} → None ≡ Some m → X
+no_map_is h = absurd (let none : ⊥ = cc in none)
 
 -- ---- boxes one after another
 
@@ -45,7 +45,7 @@ module _ (p : Problem) where
     least : (other : List ℕ) → IsSolution p other → OneOf (LiesIn other) boxes → (m ≡ other) ⊎ IsBelow m other
 
   least_in_turn : (f : Box → Trace) (boxes : List Box) → AllByRecursion (λ b. Answers b (f b)) boxes → EachPair Before boxes → (m : List ℕ) → (in_turn f boxes).map ≡ Some m → IsLeastAmong boxes m
-  least_in_turn f [] answers pairs m h = two_maps h
+  least_in_turn f [] answers pairs m h = no_map_is h
   least_in_turn f (box ∷ boxes) answers pairs m h = by_map (f box).map refl h (λ k. least_in_turn f boxes answers.1 pairs.1 m k)
     where
       by_map : (o : Option (List ℕ)) → (f box).map ≡ o → (before (f box).lines o (in_turn f boxes)).map ≡ Some m → ((in_turn f boxes).map ≡ Some m → IsLeastAmong boxes m) → IsLeastAmong (box ∷ boxes) m
@@ -141,7 +141,7 @@ module _ (p : Problem) (well : IsWellFormed p) where
 
   least_searched : (n : ℕ) (f : Box → Trace) → IsAnswering n f → (box : Box) → length box ≡ p.points → Ascending box → count box ≤ n → (ls : List Line) (left : Option Box) →
       Leaves (IsClosed box) left → ((other : List ℕ) → IsSolution p other → LiesIn other box → Leaves (LiesIn other) left) → (m : List ℕ) → (searched ls left (branching f)).map ≡ Some m → IsLeastIn p box m
-  least_searched n f s box long up few ls None closed keeps m h = two_maps h
+  least_searched n f s box long up few ls None closed keeps m h = no_map_is h
   least_searched n f s box long up few ls (Some b) closed keeps m h =
       let least = least_branching n f s box b closed.inside long up closed.stable (let c : count b ≤ count box = closed.fewer in omega (arith, c, few)) m h in record {
         solves = least.solves;

@@ -26,7 +26,7 @@ has_flat f [] k z d h is = absurd (let none : ⊥ = omega (arith, h) in none)
 has_flat f (x ∷ xs) zero z d h is = list_any-append (λ y. y == z) (f x) (flat_map f xs) ∙ or_left (has (f x) z) _ is
 has_flat f (x ∷ xs) (suc k) z d h is = list_any-append (λ y. y == z) (f x) (flat_map f xs) ∙ or_right (has (f x) z) _ (has_flat f xs k z d (omega (arith, h)) is)
 
-values_of_zip : (ps tuple : List ℕ) → length tuple ≡ length ps → values_of (zip ps tuple) ≡ tuple
+pub values_of_zip : (ps tuple : List ℕ) → length tuple ≡ length ps → values_of (zip ps tuple) ≡ tuple
 values_of_zip [] [] h = refl
 values_of_zip [] (x ∷ tuple) h = absurd (let none : ⊥ = cc in none)
 values_of_zip (p ∷ ps) [] h = absurd (let none : ⊥ = cc in none)
@@ -112,7 +112,7 @@ scope_processes t ps (v ∷ vs) = ap (λ xs. process_of v ∷ xs) (scope_process
 HasPlaces : Constraint → Type 0
 HasPlaces k = (0 < length k.scope) × (is_ascending (map (λ at. at.0) k.scope) ≡ true)
 
-nonempty_length : {X : Type 0} (xs : List X) → is_nonempty xs ≡ true → 0 < length xs
+pub nonempty_length : {X : Type 0} (xs : List X) → is_nonempty xs ≡ true → 0 < length xs
 nonempty_length [] h = absurd (false≢true h)
 nonempty_length (x ∷ xs) h = omega arith
 

@@ -20,6 +20,7 @@ use Rattle.wf_model.proofs.Tasks.{outputs_within}
 use Rattle.wf_complex.specs.Protocol.{Built, IsProtocol}
 use Rattle.wf_plain.specs.Plain.{LiesBelow, AreEnds, IsTried}
 use Rattle.wf_plain.proofs.Tried.{Begins, begins_own, begins_seen, below_next, below_longer, below_nothing, below_zero, begins_below, not_below}
+use Rattle.wf_task.proofs.Lemmas.{limit-few}
 
 abbrev pub scopes_of : Problem → List (List (ℕ × ℕ))
 scopes_of p = map (λ k. k.scope) p.constraints
@@ -243,16 +244,11 @@ joined : (xs ys : List ℕ) → AllByRecursion (λ y. y ≤ 255) xs → AllByRec
 joined [] ys h k = k
 joined (x ∷ xs) ys h k = (h.0, joined xs ys h.1 k)
 
--- no task has a larger value
-most_value : (o : Option ℕ) → largest_value o ≤ 255
-most_value None = omega arith
-most_value (Some m) = omega arith
-
 small_outputs : (n : ℕ) (o : Option ℕ) (ss : List Simplex) → AllByRecursion (IsSimplexWithin n (largest_value o)) ss → AllByRecursion (λ y. y ≤ 255) (flat_map values_of ss)
 small_outputs n o [] h = tt
 small_outputs n o (s ∷ ss) h =
     joined (values_of s) (flat_map values_of ss)
-    (weaker (λ y. y ≤ largest_value o) (λ y. y ≤ 255) (λ y k. omega (arith, k, most_value o)) (values_of s) (recursion_from_All (λ y. y ≤ largest_value o) (values_of s) h.0.values))
+    (weaker (λ y. y ≤ largest_value o) (λ y. y ≤ 255) (λ y k. omega (arith, k, limit-few o)) (values_of s) (recursion_from_All (λ y. y ≤ largest_value o) (values_of s) h.0.values))
     (small_outputs n o ss h.1)
 
 has_small : (xs : List ℕ) (x : ℕ) → AllByRecursion (λ y. y ≤ 255) xs → has xs x ≡ true → x < 256

@@ -18,10 +18,9 @@ use Rattle.wf_model.proofs.Fuel.{length_filter}
 use Rattle.wf_simplex.specs.Order.{simplex_cmp-total, simplex_cmp-Equal, nat_cmp-Equal}
 use Rattle.wf_simplex.proofs.Lemmas.{Has, has-in_order, in_order-has, same_in_order, has-filter, filter-has, has-flat_map, flat_map-has, of_some_facet, is_in_complex, complex_of-sorted}
 use Rattle.wf_task.specs.Canonical.{facets}
-use Rattle.wf_task.proofs.Lemmas.{length-lists_of, sorted-lists_of, sorted-pairs, sorted-below, map-has, has-map, has-lists_of, lists_of-has, has-below, below-has, length-among, length-pieces, each_has, has_each, different-among, vertex_of_part, facets-pure, length-zip-same, processes-zip-same, values-zip-same, sorted-zips, map-part, single-part, repeated, nonempty-long, long-nonempty, part-face, facet-in, complex_of-same, images, has-images, images-has}
-
-length-below : (n : ℕ) → length (below n) ≡ n
-length-below n = length-range_with_len 0 n
+use Rattle.wf_task.proofs.Lemmas.{length-lists_of, sorted-lists_of, sorted-pairs, sorted-below, map-has, has-map, has-lists_of, lists_of-has, has-below, below-has, length-among, length-pieces, each_has, has_each, different-among, vertex_of_part, facets-pure, length-zip-same, processes-zip-same, sorted-zips, map-part, single-part, repeated, nonempty-long, part-face, facet-in, complex_of-same, images, has-images, images-has}
+use Rattle.wf_model.proofs.Basics.{length-below}
+use Rattle.wf_model.proofs.WellFormed.{values_of_zip, nonempty_length}
 
 -- ---- input facets
 
@@ -100,10 +99,10 @@ module _ (n k : ℕ) (choice : Inputs) (some : 1 ≤ n) where
       let a = has-agreed k s tuple agrees in
       let beside : length v.0 ≡ length (below n) = v.1.long ∙ sym (length-below n) in
       let processes : processes_of f.0 ≡ below n = ap processes_of (sym v.1.same) ∙ processes-zip-same (below n) v.0 beside in
-      let values : values_of f.0 ≡ v.0 = ap values_of (sym v.1.same) ∙ values-zip-same (below n) v.0 beside in
+      let values : values_of f.0 ≡ v.0 = ap values_of (sym v.1.same) ∙ values_of_zip (below n) v.0 beside in
       let ps : Has (processes_of s) (parts_of (below n)) = subst (λ qs. Has (processes_of s) (parts_of qs)) processes (map-part (λ (w : Vertex). w.0) f.0 s face.0) in
       let long : length tuple ≡ length (processes_of s) = a.long ∙ sym (length-map s (λ (w : Vertex). w.0)) in
-      by tuple long a.few (λ x h. known f.0 v.0 face.0 values v.1.values x (a.values x h)) ps (omega (arith, a.long, long-nonempty s face.1))
+      by tuple long a.few (λ x h. known f.0 v.0 face.0 values v.1.values x (a.values x h)) ps (omega (arith, a.long, nonempty_length s face.1))
     where
       known : (f : Simplex) (v : List ℕ) → Has s (parts_of f) → values_of f ≡ v → ((x : ℕ) → Has x v → Has x (input_values n choice)) → (x : ℕ) → Has x (values_of s) → Has x (input_values n choice)
       known f v part values vals x h =
@@ -133,7 +132,7 @@ module _ (n k : ℕ) (choice : Inputs) (some : 1 ≤ n) where
       let long : length s ≡ n = length-zip-same (below n) v.0 beside ∙ length-below n in
       let here = facet-in s (input_facets n choice) v.1.there (facet-nonempty n v.0 some v.1.long) in
       let agrees = agreeing-has k (length s) (in_order nat_cmp (values_of s)) tuple (list.0 ∙ sym long) (leb-true (different tuple) k passes.1)
-      (λ x g. in_order-has nat_cmp nat_cmp_total nat_cmp-Equal x (values_of s) (subst (Has x) (sym (values-zip-same (below n) v.0 beside)) (v.1.values x g))) in
+      (λ x g. in_order-has nat_cmp nat_cmp_total nat_cmp-Equal x (values_of s) (subst (Has x) (sym (values_of_zip (below n) v.0 beside)) (v.1.values x g))) in
       subst (λ qs. Has (zip qs tuple) (images (agreed k) (complex_of (input_facets n choice)))) (processes-zip-same (below n) v.0 beside)
       (images-has (agreed k) (complex_of (input_facets n choice)) s tuple here agrees)
 
@@ -240,7 +239,7 @@ vertex-low n m w h =
     let beside : length v.0 ≡ length (below n) = v.1.long ∙ sym (length-below n) in
     let here = vertex_of_part w f.0 (w ∷ []) (has-filter is_nonempty (w ∷ []) (parts_of f.0) f.2).0 (inl refl) in
     let process : Has w.0 (below n) = subst (Has w.0) (ap processes_of (sym v.1.same) ∙ processes-zip-same (below n) v.0 beside) (map-has (λ (u : Vertex). u.0) w f.0 here) in
-    let value : Has w.1 (below m) = v.1.values w.1 (subst (Has w.1) (ap values_of (sym v.1.same) ∙ values-zip-same (below n) v.0 beside) (map-has (λ (u : Vertex). u.1) w f.0 here)) in
+    let value : Has w.1 (below m) = v.1.values w.1 (subst (Has w.1) (ap values_of (sym v.1.same) ∙ values_of_zip (below n) v.0 beside) (map-has (λ (u : Vertex). u.1) w f.0 here)) in
     flat_map-has (λ p. map (λ x. (p, x) ∷ []) (below m)) (w ∷ []) w.0 (below n) process (map-has (λ (x : ℕ). (w.0, x) ∷ []) w.1 (below m) value)
 
 -- the vertices of the input complex

@@ -17,12 +17,13 @@ use Rattle.wf_model.specs.Task.{Rule, Tuple, IsTask, IsRule, IsSimplexWithin, Is
 use Rattle.wf_model.proofs.Tasks.{on_processes, up_to}
 use Rattle.wf_model.specs.Limits.{most_processes, most_plain_value, most_vertices, most_inputs, most_tuples}
 use Rattle.wf_simplex.specs.Order.{nat_cmp-Equal}
-use Rattle.wf_simplex.proofs.Lemmas.{Has, has-in_order, sorted-in_order, in_order-sorted, length-in_order, has_at_place, has-filter, all_of_has, has_of_all, length-within}
+use Rattle.wf_simplex.proofs.Lemmas.{Has, has-in_order, sorted-in_order, in_order-sorted, length-in_order, has_at_place, has-filter, all_of_has, has_of_all, length-within, nonempty_of_simplex}
 use Rattle.wf_preset.specs.declared.family.Family.{Family}
 use Rattle.wf_preset.specs.declared.family.Family.TheVariants.{Agreement, Naming}
 use Rattle.wf_preset.specs.Family.{values_for, allows, tuples_for, IsFamily, AreFew, images_of, task_for}
 use Rattle.wf_task.specs.TaskSeen.{rules_seen, task_of_parts}
-use Rattle.wf_task.proofs.Lemmas.{complex_is, seen_by, within_more, values-zip-same, facet-in, has-images, images-has, sorted-lists_of, sorted-below, has-lists_of, has-below, each_has, tuple_cmp-Equal, sum_by-map, zip_within}
+use Rattle.wf_task.proofs.Lemmas.{complex_is, seen_by, within_more, facet-in, has-images, images-has, sorted-lists_of, sorted-below, has-lists_of, has-below, each_has, tuple_cmp-Equal, sum_by-map, zip_within}
+use Rattle.wf_model.proofs.WellFormed.{values_of_zip}
 
 -- ---- values
 
@@ -63,7 +64,7 @@ image-within n s t h tuple =
     record {
       is_simplex = wide.is_simplex;
       processes = wide.processes;
-      values = subst (All (λ x. x ≤ 63)) (sym (values-zip-same (processes_of s) t (tuple.0 ∙ sym (length-map s (λ (v : Vertex). v.0))))) tuple.1;
+      values = subst (All (λ x. x ≤ 63)) (sym (values_of_zip (processes_of s) t (tuple.0 ∙ sym (length-map s (λ (v : Vertex). v.0))))) tuple.1;
     }
 
 tuples-sorted : (family : Family) (s : Simplex) → IsStrictlySortedBy (slice_cmp nat_cmp) (tuples_for family s)
@@ -77,9 +78,6 @@ rule_of_family family s = record { input = s; tuples = tuples_for family s }
 pub same_inputs : (family : Family) (ss : List Simplex) → map (λ (rule : Rule). rule.input) (map (rule_of_family family) ss) ≡ ss
 same_inputs family [] = refl
 same_inputs family (s ∷ ss) = ap (λ rest. s ∷ rest) (same_inputs family ss)
-
-some_vertex : (s : Simplex) → is_simplex s ≡ true → is_nonempty s ≡ true
-some_vertex s h = (and_parts (is_nonempty s) (is_ascending (processes_of s)) h).0
 
 -- inputs of so many processes, and no more tuples than a task may have
 pub record IsReady (n : ℕ) (family : Family) (inputs : List Simplex) : Type 0 where
@@ -114,7 +112,7 @@ module _ (n : ℕ) (family : Family) (inputs : List Simplex) (h : IsReady n fami
       listed t g =
           let image = images-has (tuples_for family) inputs s t here g in
           let within = has_of_all (IsSimplexWithin n 63) (zip (processes_of s) t) (images_of family inputs) images-within image in
-          facet-in (zip (processes_of s) t) (images_of family inputs) image (some_vertex (zip (processes_of s) t) within.is_simplex)
+          facet-in (zip (processes_of s) t) (images_of family inputs) image (nonempty_of_simplex (zip (processes_of s) t) within.is_simplex)
 
   pub task-is : (symmetric : Bool) → IsTask (task_for n symmetric family inputs)
   task-is symmetric =

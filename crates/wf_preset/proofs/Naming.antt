@@ -14,10 +14,9 @@ use Rattle.wf_model.proofs.Fuel.{length_filter}
 use Rattle.wf_simplex.specs.Order.{simplex_cmp-total, simplex_cmp-Equal}
 use Rattle.wf_simplex.proofs.Lemmas.{Has, has-append, has-in_order, in_order-has, sorted-in_order, same_in_order, length-in_order, begins, has-filter, filter-has, has-flat_map, flat_map-has, whole_is_part, part_of_part, of_some_facet, is_in_complex, complex_of-sorted}
 use Rattle.wf_task.specs.Canonical.{is_inner, facets}
-use Rattle.wf_task.proofs.Lemmas.{sorted-lists_of, sorted-below, map-has, has-map, has-lists_of, lists_of-has, has-below, below-has, each_has, has_each, Differ, differ, all_different-from, vertex_of_part, facets-pure, length-zip-same, sorted-zips, map-part, named, unzipped, nonempty-long, long-nonempty, part-face, facet-in, images, has-images, images-has}
-
-length-below : (n : ℕ) → length (below n) ≡ n
-length-below n = length-range_with_len 0 n
+use Rattle.wf_task.proofs.Lemmas.{sorted-lists_of, sorted-below, map-has, has-map, has-lists_of, lists_of-has, has-below, below-has, each_has, has_each, Differ, differ, all_different-from, vertex_of_part, facets-pure, length-zip-same, sorted-zips, map-part, named, unzipped, nonempty-long, part-face, facet-in, images, has-images, images-has}
+use Rattle.wf_model.proofs.Basics.{length-below}
+use Rattle.wf_model.proofs.WellFormed.{nonempty_length}
 
 -- the inputs before a name is taken
 abbrev pub start : ℕ → Simplex
@@ -78,7 +77,7 @@ face-naming : (n names : ℕ) (t u : Simplex) (ps ys : List ℕ) → IsNaming n 
 face-naming n names t u ps ys h g =
     let face = has-filter is_nonempty u (parts_of t) g in
     let r = unzipped ps ys u h.long (subst (λ w. Has u (parts_of w)) (sym h.same) face.0) in
-    let wide : 0 < length u = long-nonempty u face.1 in (
+    let wide : 0 < length u = nonempty_length u face.1 in (
       r.0,
       r.1,
       record {
@@ -133,7 +132,7 @@ naming-image n names t ps ys h =
 
 naming-nonempty : (n names : ℕ) (t : Simplex) (ps ys : List ℕ) → IsNaming n names t ps ys → is_nonempty t ≡ true
 naming-nonempty n names t ps ys h =
-    let wide = long-nonempty ps h.some in
+    let wide = nonempty_length ps h.some in
     nonempty-long t (omega (arith, wide, ap length h.same, length-zip-same ps ys h.long))
 
 -- all tuples of all input simplices

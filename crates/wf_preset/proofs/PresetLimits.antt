@@ -22,10 +22,11 @@ use Rattle.wf_preset.specs.declared.preset.Inputs.{Inputs}
 use Rattle.wf_preset.specs.declared.preset.Inputs.TheVariants.{Own, All}
 use Rattle.wf_preset.specs.Preset.{within_limits, inputs_judged, inputs_seen, has_processes, has_values, has_input_values, set_agreement_of, renaming_of}
 use Rattle.wf_preset.proofs.Agreeing.{agreement-outputs, agreement-facets, length-wholes, length-input_facets, few-own, facets-few, is_facet}
-use Rattle.wf_task.proofs.Lemmas.{has-some, length-zip-same, processes-zip-same, values-zip-same, nonempty-long, facet-in, has-map, has-below}
+use Rattle.wf_task.proofs.Lemmas.{has-some, length-zip-same, processes-zip-same, nonempty-long, facet-in, has-map, has-below}
 use Rattle.wf_preset.proofs.FamilyTasks.{rule_of_family, same_inputs, counted, task-is}
 use Rattle.wf_preset.proofs.FamilyLoops.{few_lists}
 use Rattle.wf_preset.proofs.Naming.{start, processes-start, renaming-outputs, many-facets}
+use Rattle.wf_model.proofs.WellFormed.{values_of_zip}
 
 -- ---- the limits of a task, one after another
 
@@ -120,7 +121,7 @@ values-within n v some few long small =
           (nonempty-long (zip (below n) v) (omega (arith, length-zip-same (below n) v beside, length-range_with_len 0 n, some)))
           (ap is_ascending (processes-zip-same (below n) v beside) ∙ ascending-below n few);
       processes = subst (Each (λ p. p < n)) (sym (processes-zip-same (below n) v beside)) (all_of_has (λ p. p < n) (below n) (λ p h. has-below p n h));
-      values = subst (Each (λ x. x ≤ 63)) (sym (values-zip-same (below n) v beside)) (all_of_has (λ x. x ≤ 63) v small);
+      values = subst (Each (λ x. x ≤ 63)) (sym (values_of_zip (below n) v beside)) (all_of_has (λ x. x ≤ 63) v small);
     }
 
 -- numbers of values that are accepted

@@ -1,4 +1,5 @@
 pub mod SetLaws
 pub mod PartLaws
 pub mod Listing
+pub mod Boxes
 pub mod Lemmas

@@ -16,6 +16,7 @@ use Rattle.std.proofs.lemmas.List.Folds.{list_any_at}
 use Rattle.std.proofs.lemmas.Map.Views.{any-filter_same}
 use Rattle.std.proofs.Math.Bool.{and-true}
 use Rattle.wf_set.specs.Parts.{part_holds, part_values}
+use Rattle.wf_model.proofs.Basics.{equal_turned}
 
 -- ---- the bits of a word
 
@@ -108,10 +109,7 @@ not_test (suc (suc m)) h = absurd (omega arith)
 pub part_holds-not : (x v : ℕ) → x < 2 ^ 64 → v < 64 → part_holds (bit_not w64 x) v ≡ not (part_holds x v)
 part_holds-not x v fits small = ap (λ b. b == 1) (bit_at_not w64 x v fits small) ∙ not_test (bit_at x v) (bit_at-lt x v)
 
-same_test : (a b : ℕ) → (a == b) ≡ (b == a)
-same_test a b = ⊎_elim (λ (e : a ≡ b). eq-eqb a b e ∙ sym (eq-eqb b a (sym e))) (λ (ne : a ≡ b → ⊥). ne_eqb a b ne ∙ sym (ne_eqb b a (λ e. ne (sym e)))) (cases_eq a b)
-
-one_bit : (m n : ℕ) → m < 2 → n < 2 → (m == 1) ≡ (n == 1) → m ≡ n
+pub one_bit : (m n : ℕ) → m < 2 → n < 2 → (m == 1) ≡ (n == 1) → m ≡ n
 one_bit zero zero h k e = refl
 one_bit zero (suc zero) h k e = cc
 one_bit (suc zero) zero h k e = cc
@@ -246,7 +244,7 @@ values_of_one v small =
 pub values_without : (word v : ℕ) → v < 64 → part_values (bit_and word (bit_not w64 (2 ^ v))) ≡ filter (λ b. not (b == v)) (part_values word)
 values_without word v small =
     values-filter word (bit_and word (bit_not w64 (2 ^ v))) (λ b. not (b == v))
-    (λ b in_word. part_holds-and word (bit_not w64 (2 ^ v)) b ∙ ap (λ t. part_holds word b && t) (part_holds-not (2 ^ v) b (pow_below v 64 small) in_word ∙ ap not (part_holds-pow v b ∙ same_test v b)))
+    (λ b in_word. part_holds-and word (bit_not w64 (2 ^ v)) b ∙ ap (λ t. part_holds word b && t) (part_holds-not (2 ^ v) b (pow_below v 64 small) in_word ∙ ap not (part_holds-pow v b ∙ equal_turned v b)))
 
 -- the word in the code, `word & !(1 << v)`
 pub values_cleared : (word v : ℕ) → v < 64 → part_values (bit_and word (bit_not w64 (1 * 2 ^ v % 2 ^ 64))) ≡ filter (λ b. not (b == v)) (part_values word)

@@ -13,6 +13,7 @@ use Rattle.wf_model.proofs.Ascending.{Ascends, ascends_filter}
 use Rattle.wf_set.specs.Parts.{part_holds, part_values}
 use Rattle.wf_set.specs.Sets.{holds, values_in}
 use Rattle.wf_set.proofs.PartLaws.{by_two, part_holds-or, has-part_values, holds_nothing, in_below, in_run, run_agrees, run_ascends, run_of_none, values_of_nothing as values_of_no_part}
+use Rattle.wf_model.proofs.Basics.{and_turned, or_none, has-filter}
 
 -- ---- a set's words, one after another
 
@@ -114,10 +115,6 @@ values_ascend set = ascends_filter (holds set) (below 256) (run_ascends 0 256)
 
 -- ---- tests that keep some values
 
--- a filter finds what passes and was there
-has-filter : (p : ℕ → Bool) (xs : List ℕ) (v : ℕ) → has (filter p xs) v ≡ (p v && has xs v)
-has-filter p xs v = any-filter_same (λ y. y == v) p (p v) (λ k e. ap p (eqb-true k v e)) xs
-
 -- a word that has those values of another that pass a test
 part_passes : (word other : ℕ) (p : ℕ → Bool) → part_values other ≡ filter p (part_values word) → (u : ℕ) → u < 64 → part_holds other u ≡ (p u && part_holds word u)
 part_passes word other p same u small =
@@ -135,12 +132,6 @@ word_there v h = omega (arith, h)
 
 bit_there : (v : ℕ) → v % 64 < 64
 bit_there v = omega arith
-
-and_turned : (x y : Bool) → (x && y) ≡ (y && x)
-and_turned true true = refl
-and_turned true false = refl
-and_turned false true = refl
-and_turned false false = refl
 
 -- the words that two sets have at a place, and there the values that the first has and the other keeps by its word
 abbrev pub IsKeptBy : (ℕ → ℕ → Bool) → List ℕ → List ℕ → List ℕ → ℕ → Type 0
@@ -244,10 +235,6 @@ values_of_part word = four_parts (word ∷ 0 ∷ 0 ∷ 0 ∷ []) ∙ same_joined
     unmoved (x ∷ xs) = ap (λ n. n ∷ joined xs [] [] []) (let same : 64 * 0 + x ≡ x = omega arith in same) ∙ ap (λ ys. x ∷ ys) (unmoved xs)
 
 -- ---- one value
-
-or_none : (b : Bool) → (b || false) ≡ b
-or_none true = refl
-or_none false = refl
 
 -- no set has a value past the limit
 pub too_large : (set : List ℕ) (v : ℕ) → 256 ≤ v → has (values_in set) v ≡ false

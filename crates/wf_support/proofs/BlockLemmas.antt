@@ -17,6 +17,7 @@ use Rattle.wf_set.specs.Sets.{values_in}
 use Rattle.wf_set.proofs.Lemmas.{has-part_values, has_large, part_holds-or}
 use Rattle.wf_support.specs.Blocks.{IsBlock, IsPlain, is_one_of}
 use Rattle.wf_support.proofs.RowLemmas.{has_at_place}
+use Rattle.wf_model.proofs.Basics.{equal_turned, and_turned}
 
 -- ---- words as sets of rows
 
@@ -51,13 +52,6 @@ some_row p (x ∷ xs) rows none same =
     ap not (ne_eqb (length (x ∷ xs)) 0 (λ e. absurd (omega (arith, e))))
     ∙ sym (any_at p rows x none (sym (same x) ∙ ap (λ b. b || has xs x) (eq-eqb x x refl)))
 
--- the rows of both
-and_turned : (b c : Bool) → (b && c) ≡ (c && b)
-and_turned true true = refl
-and_turned true false = refl
-and_turned false true = refl
-and_turned false false = refl
-
 pub has_met : (rows others : List ℕ) (r : ℕ) → has (filter (has others) rows) r ≡ (has rows r && has others r)
 has_met rows others r =
     any-filter_same (λ y. y == r) (has others) (has others r) (λ k e. ap (has others) (eqb-true k r e)) rows ∙ and_turned (has others r) (has rows r)
@@ -78,13 +72,10 @@ one_is words rows place r small block (v ∷ vs) =
     ap (λ b. b || is_one_of words place vs r) (word_is words rows v place r small block)
     ∙ ap (λ b. has_at (get_or rows r []) place v || b) (one_is words rows place r small block vs)
 
-turned : (a b : ℕ) → (a == b) ≡ (b == a)
-turned a b = ⊎_elim (λ (e : a ≡ b). eq-eqb a b e ∙ sym (eq-eqb b a (sym e))) (λ (ne : a ≡ b → ⊥). ne_eqb a b ne ∙ sym (ne_eqb b a (λ e. ne (sym e)))) (cases_eq a b)
-
 has_among : (row : Tuple) (place : ℕ) → place < length row → (values : List ℕ) → list_any (λ v. has_at row place v) values ≡ has values (get_or row place 0)
 has_among row place inside [] = refl
 has_among row place inside (v ∷ vs) =
-    ap (λ b. b || list_any (λ u. has_at row place u) vs) (has_at_place row place v inside ∙ turned (get_or row place 0) v)
+    ap (λ b. b || list_any (λ u. has_at row place u) vs) (has_at_place row place v inside ∙ equal_turned (get_or row place 0) v)
     ∙ ap (λ b. (v == get_or row place 0) || b) (has_among row place inside vs)
 
 has_narrow : (set : List ℕ) (x : ℕ) → x < 64 → has (filter (λ v. nat_lt v 64) set) x ≡ has set x

@@ -10,14 +10,9 @@ use Rattle.wf_set.specs.Parts.{part_values}
 use Rattle.wf_set.proofs.Lemmas.{values_of_nothing}
 use Rattle.wf_support.specs.Blocks.{IsBlock}
 use Rattle.wf_support.proofs.RowLemmas.{has_at_past, has_at_place}
+use Rattle.wf_model.proofs.Basics.{or_none, has_at-take}
 
 -- ---- the first values of a row
-
-has_at-take : (row : Tuple) (n place v : ℕ) → place < n → has_at (take n row) place v ≡ has_at row place v
-has_at-take row zero place v h = absurd (omega (arith, h))
-has_at-take [] (suc n) place v h = refl
-has_at-take (x ∷ xs) (suc n) zero v h = refl
-has_at-take (x ∷ xs) (suc n) (suc place) v h = has_at-take xs n place v (omega (arith, h))
 
 value_new : (row : Tuple) (k v : ℕ) → k < length row → has_at (take (k + 1) row) k v ≡ (get_or row k 0 == v)
 value_new row k v lt = has_at-take row (k + 1) k v (omega arith) ∙ has_at_place row k v lt
@@ -88,10 +83,6 @@ no_rows n words rows is i r =
     ap (λ ws. has (part_values (get_or ws i 0)) r) is
     ∙ ap (λ w. has (part_values w) r) (⊎_elim (λ (low : i < n). get_or-replicate n i 0 0 low) (λ (high : n ≤ i). get_or_past (replicate n 0) i 0 (omega (arith, length-replicate {A = ℕ} n 0, high))) (cases_lt i n))
     ∙ ap (λ vs. has vs r) values_of_nothing
-
-or_none : (b : Bool) → (b || false) ≡ b
-or_none true = refl
-or_none false = refl
 
 pub row_added : (rows : List Tuple) (row : Tuple) (old now : List ℕ) (k : ℕ) → k < length rows → row ≡ get_or rows k row
     → ((i r : ℕ) → has (part_values (get_or now i 0)) r ≡ (has (part_values (get_or old i 0)) r || (k == r && has_at row (i % 4) (i / 4))))

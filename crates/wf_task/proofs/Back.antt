@@ -33,10 +33,11 @@ use Rattle.wf_task.specs.Canonical.{is_inner, facets, IsListable, version_of, li
 use Rattle.wf_task.proofs.Judged.{limit-few}
 use Rattle.wf_task.proofs.Drafted.{within_more}
 use Rattle.wf_task.proofs.Lengths.{HasShortParts, simplex-long, tuple-long as tuple-short, rule-long, task-long, task-deep}
-use Rattle.wf_task.proofs.Extending.{values-zip-same}
 use Rattle.wf_task.proofs.Faceted.{complex_of-facets}
 use Rattle.wf_task.proofs.Facets.{any-has}
 use Rattle.wf_task.proofs.Listings.{contains-has, map-has, has-map, each_has}
+use Rattle.wf_model.proofs.Basics.{suc_not_zero}
+use Rattle.wf_model.proofs.WellFormed.{values_of_zip}
 
 -- ---- reading the value
 
@@ -98,13 +99,6 @@ no_answers f n (s ∷ ss) h = rw (h s (inl refl)) (no_answers f (n + 1) ss (λ u
 
 has-among : (complex : List Simplex) (s : Simplex) → Has s complex → is_among complex s ≡ true
 has-among complex s h = any-has (same_simplex s) s complex h ((same_simplex-decides s s).1 refl)
-
-not_none : (n : ℕ) → (suc n == 0) ≡ false
-not_none n = by (suc n == 0) refl
-  where
-    by : (b : Bool) → (suc n == 0) ≡ b → b ≡ false
-    by true is = absurd (let none : ⊥ = omega (arith, eqb-true (suc n) 0 is) in none)
-    by false is = refl
 
 -- ---- numbers
 
@@ -215,7 +209,7 @@ module _ (t : Task) (h : IsListable t) where
   tuple-values : (rule : Rule) (tuple : Tuple) → Has rule t.delta → Has tuple rule.tuples → All (λ x. x ≤ largest) tuple
   tuple-values rule tuple k j =
       let long : length tuple ≡ length (processes_of rule.input) = tuple-long rule tuple k j ∙ sym (length-map rule.input (λ (v : Vertex). v.0)) in
-      subst (All (λ x. x ≤ largest)) (values-zip-same (processes_of rule.input) tuple long) (output-is (zip (processes_of rule.input) tuple) (tuple-there rule tuple k j)).values
+      subst (All (λ x. x ≤ largest)) (values_of_zip (processes_of rule.input) tuple long) (output-is (zip (processes_of rule.input) tuple) (tuple-there rule tuple k j)).values
 
   tuple-small : (rule : Rule) (tuple : Tuple) → Has rule t.delta → Has tuple rule.tuples → list_any (is_large largest) tuple ≡ false
   tuple-small rule tuple k j = small-list largest tuple (tuple-values rule tuple k j)
@@ -294,7 +288,7 @@ module _ (t : Task) (h : IsListable t) where
     where
       by : (fs : List Simplex) → complex_of fs ≡ inputs t → (length fs == 0) ≡ false
       by [] is = absurd (let none : ⊥ = omega (arith, ap length is, length-map t.delta (λ (rule : Rule). rule.input), h.task.limits.some_input) in none)
-      by (f ∷ fs) is = not_none (length fs)
+      by (f ∷ fs) is = suc_not_zero (length fs)
 
   rules-back : (rules : List Rule) → ((rule : Rule) → Has rule rules → Has rule t.delta) → map (rule_for (listed_of t)) (map (λ (rule : Rule). rule.input) rules) ≡ rules
   rules-back [] all = refl

@@ -20,6 +20,7 @@ use Rattle.wf_task.specs.Draft.{or_fault}
 use Rattle.wf_task.specs.Text.{json_of}
 use Rattle.wf_task.specs.Parts.{parts, item_parts, member_parts, IsOfText, IsPart}
 use Rattle.wf_task.proofs.Vertices.{found_both, first_and_rest}
+use Rattle.wf_model.proofs.Basics.{some_of}
 
 -- ---- from bytes to tokens
 
@@ -192,13 +193,6 @@ takes-value (suc d) =
 
 -- ---- the value's members, each key once
 
-found_by : {A B : Type 0} (f : A → B) (o : Option A) (y : B) → option_map f o ≡ Some y → (x : A) × (o ≡ Some x) × (f x ≡ y)
-found_by f None y h = cc
-found_by {A} {B} f (Some x) y h = (x, refl, inner h)
-  where
-    inner : Some (f x) ≡ Some y → f x ≡ y
-    inner e = cc
-
 parts-put : (k : List ℕ) (d : Data) (ms : Members) → member_parts (put k d ms) ≤ parts d + member_parts ms
 parts-put k d no_members = omega arith
 parts-put k d (member l e ms) = by (slice_cmp nat_cmp k l) (parts-put k d ms)
@@ -213,16 +207,16 @@ mutual
   parts-of_json : (j : json.Json) (d : Data) → of_json j ≡ Some d → parts d ≤ tree_parts j
   parts-of_json json.null d h = let same : null ≡ d = cc in omega (arith, ap parts same)
   parts-of_json (json.boolean b) d h = let same : boolean b ≡ d = cc in omega (arith, ap parts same)
-  parts-of_json (json.number s) d h = let n = found_by number (number_of s) d h in omega (arith, ap parts n.2)
+  parts-of_json (json.number s) d h = let n = some_of number (number_of s) d h in omega (arith, ap parts n.2)
   parts-of_json (json.string s) d h = let same : string s ≡ d = cc in omega (arith, ap parts same)
-  parts-of_json (json.array js) d h = let ds = found_by array (of_items js) d h in omega (arith, ap parts ds.2, parts-of_items js ds.0 ds.1)
-  parts-of_json (json.object ms) d h = let ds = found_by object (of_members ms no_members) d h in omega (arith, ap parts ds.2, parts-of_members ms no_members ds.0 ds.1)
+  parts-of_json (json.array js) d h = let ds = some_of array (of_items js) d h in omega (arith, ap parts ds.2, parts-of_items js ds.0 ds.1)
+  parts-of_json (json.object ms) d h = let ds = some_of object (of_members ms no_members) d h in omega (arith, ap parts ds.2, parts-of_members ms no_members ds.0 ds.1)
 
   parts-of_items : (js : json.Items) (ds : Items) → of_items js ≡ Some ds → item_parts ds ≤ tree_items js
   parts-of_items json.no_items ds h = let same : no_items ≡ ds = cc in omega (arith, ap item_parts same)
   parts-of_items (json.item j js) ds h =
       let first = found_both (λ d. option_map (item d) (of_items js)) (of_json j) ds h in
-      let rest = found_by (item first.0) (of_items js) ds first.2 in
+      let rest = some_of (item first.0) (of_items js) ds first.2 in
       omega (arith, parts-of_json j first.0 first.1, parts-of_items js rest.0 rest.1, ap item_parts rest.2)
 
   parts-of_members : (ms : json.Members) (found made : Members) → of_members ms found ≡ Some made → member_parts made ≤ tree_members ms + member_parts found

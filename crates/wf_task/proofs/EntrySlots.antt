@@ -1,5 +1,5 @@
 -- One entry more.
-use Rattle.std.proofs.Common.{◌≡◌, ◌≢◌, ℕ, ◌+◌, ◌<◌, ◌≤◌, Bool, true, false, not, List, [], ◌∷◌, ◌++◌, length, map, take, cond, slice_set, slice_get, slice_index_or, Some, Contains, refl, sym, ap, ap₂, ◌∙◌, subst, subst₂, arith, append-nil, length-append, length-set, get_or-set_same, get_or-set_other, inl, inr, nat_lt, ◌==◌, zero, suc, drop, All, add-one, drop-cons, length-take-le, eqb-true, ne_eqb, ltb-true, ltb-false, lt-ltb}
+use Rattle.std.proofs.Common.{◌≡◌, ◌≢◌, ℕ, ◌+◌, ◌<◌, ◌≤◌, Bool, true, false, IsTrue, not, List, [], ◌∷◌, ◌++◌, length, map, take, cond, slice_set, slice_get, slice_index_or, Some, Contains, refl, sym, ap, ap₂, ◌∙◌, subst, subst₂, arith, append-nil, length-append, length-set, get_or-set_same, get_or-set_other, inl, inr, nat_lt, ◌==◌, zero, suc, drop, All, add-one, drop-cons, length-take-le, eqb-true, ne_eqb, ltb-true, ltb-false, lt-ltb}
 use Rattle.std.proofs.lemmas.Bool.{eqb-false}
 use Rattle.std.specs.List.{position_from}
 use Rattle.std.specs.declared.cmp.Ordering.TheVariants.{Less, Equal}
@@ -194,3 +194,7 @@ pub stray_step : (slots new : List Slot) (delta : List Entry) (i : ℕ) (e : Ent
     → AreOf slots (map entry_seen (take i delta)) inputs → (Contains inputs (entry_seen e).input → ⊥) → new ≡ slots → AreOf new (map entry_seen (take (i + 1) delta)) inputs
 stray_step slots new delta i e inputs inside is h none new-is =
     subst₂ (λ ss rs. AreOf ss rs inputs) (sym new-is) (sym (entries_more delta i e inside is)) (slots-stray slots (map entry_seen (take i delta)) inputs (entry_seen e) h none)
+
+pub not_both : (b : Bool) → b ≡ false → IsTrue b → ⊥
+not_both true e h = cc
+not_both false e h = cc

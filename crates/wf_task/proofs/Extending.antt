@@ -27,12 +27,6 @@ processes-zip-same [] xs h = refl
 processes-zip-same (q ∷ qs) [] h = absurd (let none : ⊥ = omega (arith, h) in none)
 processes-zip-same (q ∷ qs) (x ∷ xs) h = ap (λ rest. q ∷ rest) (processes-zip-same qs xs (omega (arith, h)))
 
-pub values-zip-same : (qs xs : List ℕ) → length xs ≡ length qs → values_of (zip qs xs) ≡ xs
-values-zip-same [] [] h = refl
-values-zip-same [] (x ∷ xs) h = absurd (let none : ⊥ = omega (arith, h) in none)
-values-zip-same (q ∷ qs) [] h = absurd (let none : ⊥ = omega (arith, h) in none)
-values-zip-same (q ∷ qs) (x ∷ xs) h = ap (λ rest. x ∷ rest) (values-zip-same qs xs (omega (arith, h)))
-
 zip_cmp : (qs t u : List ℕ) → length t ≡ length qs → length u ≡ length qs → slice_cmp vertex_cmp (zip qs t) (zip qs u) ≡ slice_cmp nat_cmp t u
 zip_cmp [] [] [] h k = refl
 zip_cmp [] [] (y ∷ u) h k = absurd (let none : ⊥ = omega (arith, k) in none)

@@ -16,7 +16,8 @@ use Rattle.wf_task.proofs.Listings.{has-map, map-has, has-below, below-has, leng
 use Rattle.wf_task.specs.Canonical.{is_inner, facets}
 use Rattle.wf_task.proofs.Facets.{length-part, whole-part, part-is_face, any-has, has-any}
 use Rattle.wf_task.proofs.Extending.{with_first, without_first, no_part}
-use Rattle.wf_task.proofs.Images.{nonempty-long, long-nonempty, part-face, facet-in, complex_of-same}
+use Rattle.wf_task.proofs.Images.{nonempty-long, part-face, facet-in, complex_of-same}
+use Rattle.wf_model.proofs.WellFormed.{nonempty_length}
 
 -- ---- faces are parts
 
@@ -138,7 +139,7 @@ module _ (complex : List Simplex) (h : IsComplex complex) where
   inner-border s here inner =
       let t = outer s here inner in
       let i = missing s t.0 t.1.part t.1.larger in
-      let wide : 1 < length t.0 = omega (arith, t.1.larger, long-nonempty s (nonempty-complex s here)) in
+      let wide : 1 < length t.0 = omega (arith, t.1.larger, nonempty_length s (nonempty-complex s here)) in
       is_in_complex s (remove t.0 i.0) (flat_map borders_of complex)
       (flat_map-has borders_of (remove t.0 i.0) t.0 complex t.1.there (subst (λ b. Has (remove t.0 i.0) (borders_if b t.0)) (sym (lt-ltb 1 (length t.0) wide)) (map-has (remove t.0) i.0 (below (length t.0)) (below-has i.0 (length t.0) i.1))))
       (part-face (remove t.0 i.0) s i.2 (nonempty-complex s here))

@@ -10,10 +10,6 @@ pub nonempty-long : {X : Type 0} (s : List X) → 0 < length s → is_nonempty s
 nonempty-long [] h = absurd (let none : ⊥ = omega (arith, h) in none)
 nonempty-long (x ∷ s) h = refl
 
-pub long-nonempty : {X : Type 0} (s : List X) → is_nonempty s ≡ true → 0 < length s
-long-nonempty [] h = cc
-long-nonempty (x ∷ s) h = omega arith
-
 pub part-face : (s t : Simplex) → Has t (parts_of s) → is_nonempty t ≡ true → Has t (faces_of s)
 part-face s t h some = filter-has is_nonempty t (parts_of s) h some
 

@@ -13,8 +13,9 @@ use Rattle.std.proofs.lemmas.List.{length-map, get_or-map, length-take-le}
 use Rattle.std.proofs.lemmas.List.Concat.{get_or-flat_map}
 use Rattle.wf_model.specs.Lists.{below, lists_of}
 use Rattle.wf_model.proofs.Bridge.{weaker}
-use Rattle.wf_model.proofs.Headline.{each_append, each_map, each_flat}
+use Rattle.wf_model.proofs.Headline.{each_append, each_map, each_flat, always}
 use Rattle.wf_simplex.proofs.Lemmas.{Has, begins, has-flat_map, flat_map-has}
+use Rattle.wf_model.proofs.Basics.{nat_cmp-Less}
 
 -- ---- how many
 
@@ -70,10 +71,6 @@ module _ {X : Type 0} (cmp : X → X → Ordering) where
   sorted-append [] ys h g b = g
   sorted-append (x ∷ xs) ys h g b = (each_append (λ y. cmp x y ≡ Less) xs ys h.0 b.0, sorted-append xs ys h.1 g b.1)
 
-every : {X : Type 0} (P : X → Type 0) → ((x : X) → P x) → (xs : List X) → AllByRecursion P xs
-every P all [] = tt
-every P all (x ∷ xs) = (all x, every P all xs)
-
 module _ {X Y Z : Type 0} (a : X → X → Ordering) (b : Y → Y → Ordering) (c : Z → Z → Ordering) (pair : X → Y → Z)
     (first : (x u : X) (y v : Y) → a x u ≡ Less → c (pair x y) (pair u v) ≡ Less)
     (second : (x : X) (y v : Y) → b y v ≡ Less → c (pair x y) (pair x v) ≡ Less) where
@@ -92,13 +89,10 @@ module _ {X Y Z : Type 0} (a : X → X → Ordering) (b : Y → Y → Ordering) 
   sorted-pairs (x ∷ xs) ys h g =
       sorted-append c (map (pair x) ys) (flat_map (λ u. map (pair u) ys) xs) (sorted-row x ys g) (sorted-pairs xs ys h.1 g)
       (each_map (λ z. AllByRecursion (λ w. c z w ≡ Less) (flat_map (λ u. map (pair u) ys) xs)) (pair x) ys
-      (every (λ y. AllByRecursion (λ w. c (pair x y) w ≡ Less) (flat_map (λ u. map (pair u) ys) xs))
+      (always (λ y. AllByRecursion (λ w. c (pair x y) w ≡ Less) (flat_map (λ u. map (pair u) ys) xs))
       (λ y. each_flat (λ w. c (pair x y) w ≡ Less) (λ u. map (pair u) ys) xs
       (weaker (λ u. a x u ≡ Less) (λ u. AllByRecursion (λ w. c (pair x y) w ≡ Less) (map (pair u) ys))
-      (λ u l. each_map (λ w. c (pair x y) w ≡ Less) (pair u) ys (every (λ v. c (pair x y) (pair u v) ≡ Less) (λ v. first x u y v l) ys)) xs h.0)) ys))
-
-pub nat_cmp-Less : (x y : ℕ) → x < y → nat_cmp x y ≡ Less
-nat_cmp-Less x y h = rw (lt-ltb x y h) refl
+      (λ u l. each_map (λ w. c (pair x y) w ≡ Less) (pair u) ys (always (λ v. c (pair x y) (pair u v) ≡ Less) (λ v. first x u y v l) ys)) xs h.0)) ys))
 
 tuple_first : (x u : ℕ) (t v : List ℕ) → nat_cmp x u ≡ Less → slice_cmp nat_cmp (x ∷ t) (u ∷ v) ≡ Less
 tuple_first x u t v h = ap (λ o. ordering_then o (slice_cmp nat_cmp t v)) h

@@ -22,6 +22,3 @@ range_more a (suc n) =
     let same : (a + 1) + n ≡ a + suc n = omega arith in
     let longer : suc n + 1 ≡ suc (n + 1) = omega arith in
     ap (range_with_len a) longer ∙ ap (λ rest. a ∷ rest) (range_more (a + 1) n ∙ ap (λ x. range_with_len (a + 1) n ++ x ∷ []) same)
-
-pub below_more : (n : ℕ) → below (n + 1) ≡ below n ++ n ∷ []
-below_more n = let same : 0 + n ≡ n = omega arith in range_more 0 n ∙ ap (λ x. below n ++ x ∷ []) same

@@ -17,6 +17,7 @@ use Rattle.wf_simplex.specs.Order.{nat_cmp-Equal, slice_cmp-Equal}
 use Rattle.wf_simplex.proofs.Lemmas.{Has, has-append, has-append_left, has-append_right, insert_key-with_element, in_order-same}
 use Rattle.wf_set.specs.Sets.{values_in}
 use Rattle.wf_task.specs.Mask.{HasMore, IsMaskOf}
+use Rattle.wf_model.proofs.Basics.{or_none}
 
 -- ---- rows
 
@@ -65,10 +66,6 @@ value_there s i h within = at_process s i (ascends_from (processes_of s) (and_pa
 
 has_joined : (xs ys : List ℕ) (v : ℕ) → has (xs ++ ys) v ≡ (has xs v || has ys v)
 has_joined xs ys v = list_any-append (λ y. y == v) xs ys
-
-or_none : (b : Bool) → (b || false) ≡ b
-or_none true = refl
-or_none false = refl
 
 or_turned : (a b c : Bool) → ((a || b) || c) ≡ (a || (b || c))
 or_turned true b c = refl

@@ -1,11 +1,7 @@
 use Rattle.std.proofs.Common.{◌≡◌, Bool, true, false, IsTrue, Contains, sym, ◌∙◌, subst}
 use Rattle.wf_model.specs.Task.{IsSimplexWithin}
-use Rattle.wf_task.proofs.EntrySlots.{entry_within, stray_here}
+use Rattle.wf_task.proofs.EntrySlots.{entry_within, stray_here, not_both}
 use Rattle.wf_task.proofs.slots.first_stray.Goals as goal
-
-not_both : (b : Bool) → b ≡ false → IsTrue b → ⊥
-not_both true e h = cc
-not_both false e h = cc
 
 pub simplex_of-requires : goal.simplex_of-requires
 simplex_of-requires c =

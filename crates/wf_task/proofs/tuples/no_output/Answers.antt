@@ -2,13 +2,9 @@ use Rattle.std.proofs.Common.{◌≡◌, Bool, true, false, IsTrue, Contains, le
 use Rattle.wf_model.specs.Simplex.{processes_of}
 use Rattle.wf_task.specs.Judge.{is_among}
 use Rattle.wf_task.specs.Tuples.{IsTupleOf}
-use Rattle.wf_task.proofs.EntrySlots.{among-absent}
+use Rattle.wf_task.proofs.EntrySlots.{among-absent, not_both}
 use Rattle.wf_task.proofs.TupleLemmas.{seen_here, first_here}
 use Rattle.wf_task.proofs.tuples.no_output.Goals as goal
-
-not_both : (b : Bool) → b ≡ false → IsTrue b → ⊥
-not_both true e h = cc
-not_both false e h = cc
 
 pub on_processes-requires : goal.on_processes-requires
 on_processes-requires c =

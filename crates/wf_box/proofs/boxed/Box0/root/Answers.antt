@@ -4,9 +4,9 @@ use Rattle.std.specs.List.{each_same}
 use Rattle.wf_model.specs.Problem.{Problem}
 use Rattle.wf_model.specs.Box.{root}
 use Rattle.wf_set.specs.Sets.{values_in}
-use Rattle.wf_box.proofs.BoxLemmas.{same_sets}
 use Rattle.wf_box.proofs.CloseLemmas.{is_box}
 use Rattle.wf_box.proofs.boxed.Box0.root.Goals as goal
+use Rattle.wf_set.proofs.Lemmas.{same_sets}
 
 pub returns-clause-root : goal.returns-clause-root
 returns-clause-root c =

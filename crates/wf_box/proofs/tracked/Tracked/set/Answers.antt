@@ -3,10 +3,10 @@ use Rattle.std.specs.List.{slice_set}
 use Rattle.std.proofs.lemmas.List.{get_or_read}
 use Rattle.wf_set.specs.Sets.{box_of, values_in}
 use Rattle.wf_box.specs.Changes.{IsTracked}
-use Rattle.wf_box.proofs.BoxLemmas.{one_left, point_there}
+use Rattle.wf_box.proofs.BoxLemmas.{point_there}
 use Rattle.wf_box.proofs.ChangeLemmas.{decided_already, grown_one, set_back}
-use Rattle.wf_box.proofs.TakingLemmas.{word_at}
 use Rattle.wf_box.proofs.tracked.Tracked.set.Goals as goal
+use Rattle.wf_set.proofs.Lemmas.{one_value, set_at}
 
 pub note-requires-clause-kept : goal.note-requires-clause-kept
 note-requires-clause-kept c =
@@ -15,7 +15,7 @@ note-requires-clause-kept c =
     subst (λ ws. IsTracked ws c.args.self.now.trail.items (vec_capacity c.args.self.now.trail) c.args.self.now.count c.args.self.now.open_from) (sym (set_back words c.args.point c.only.result c.index-before.result.now here)) c.requires.kept
 
 pub returns-then-has_two-clause-decided : goal.returns-then-has_two-clause-decided
-returns-then-has_two-clause-decided c = ap box_of c.note.ensures.words ∙ one_left c.args.self.now.words.items c.args.point c.args.value c.only.result c.only.ensures
+returns-then-has_two-clause-decided c = ap box_of c.note.ensures.words ∙ one_value c.args.self.now.words.items c.args.point c.args.value c.only.result c.only.ensures
 
 pub returns-then-has_two-clause-grown : goal.returns-then-has_two-clause-grown
 returns-then-has_two-clause-grown c =
@@ -27,6 +27,6 @@ pub returns-else-has_two-clause-decided : goal.returns-else-has_two-clause-decid
 returns-else-has_two-clause-decided c =
     let words = c.args.self.now.words.items in
     let within = point_there words c.args.point c.args.value c.requires.there in
-    let set = word_at words c.args.point within ∙ ap values_in (sym (get_or_read words c.args.point c.index-before.result.now within c.index-before.ensures [])) in
+    let set = set_at words c.args.point within ∙ ap values_in (sym (get_or_read words c.args.point c.index-before.result.now within c.index-before.ensures [])) in
     let few : length (values_in c.index-before.result.now) ≤ 1 = grind (arith, c.if-has_two.ensures) in
     decided_already (box_of words) c.args.point c.args.value c.requires.there (omega (arith, few, ap length set))
