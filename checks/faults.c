@@ -1,6 +1,7 @@
 // Loaded before the program by checks/faults: refuses one call, or moves one byte a call. What it does is in the environment:
 //   FAULT=alloc, read, write, out, thread   which calls are counted; out: writes to standard output alone
-//   FAULT=other, open                       other: allocations of any thread but the main one; open: a file's opening
+//   FAULT=other, open                       other: allocations of any thread but the main one; open: a file's opening, and
+//                                           none of `/`, which only holds the place of a closed stream
 //   FAULT_AT=K                              the Kth of them is refused, from 1
 //   FAULT_ON=1                              and all after it
 //   FAULT_ERROR=E                           with this error number; 0: nothing is moved, and no error is told
@@ -66,7 +67,7 @@ int open(const char *path, int how, ...) {
     va_start(more, how);
     mode_t mode = how & O_CREAT ? va_arg(more, mode_t) : 0;
     va_end(more);
-    return refused("open") ? -1 : syscall(SYS_openat, AT_FDCWD, path, how, mode);
+    return strcmp(path, "/") && refused("open") ? -1 : syscall(SYS_openat, AT_FDCWD, path, how, mode);
 }
 
 static size_t most(size_t size) { return said("FAULT_SHORT") && size > 1 ? 1 : size; }

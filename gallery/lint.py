@@ -2,15 +2,18 @@
 """lint.py TASK.json: where a task file is refused, in words; or what in it most likely is a slip.
 
 A refused file has the number that `wfcheck` would answer, and the place that it means: which simplex, which key, which item.
-Of a file that is accepted it names what the definitions allow, but hardly anybody means:
+Of a file that is accepted it names what the definitions allow, but hardly anybody means, as a `slip`:
 
   - a rule that allows nothing: then there is no decision map for any number of rounds;
-  - a value list that those who take part may decide, but no larger simplex can go on from: no map ever uses it, since the
-    others may all come later (the rules are not monotone there);
   - in a symmetric task two simplices with the same values, rank by rank, and different rules;
-  - processes that no input has, and outputs that no rule uses.
+  - processes that no input has, and outputs that no rule uses;
 
-The status is 0 where there is nothing to say, 1 where it is likely a slip, 2 where the file is refused."""
+and as a `note` what many tasks of the literature have on purpose:
+
+  - a value list that those who take part may decide, but no larger simplex can go on from: no map ever uses it, since the
+    others may all come later (the rules are not monotone there).
+
+The status is 0 where there is no slip, 1 where there is one, 2 where the file is refused."""
 import collections
 import itertools
 import json
@@ -22,6 +25,13 @@ MOST = {"vertices": 64, "simplices": 4096, "outputs": 65536, "tuples": 65536}
 LARGEST = {1: 63, 2: 255}
 LISTS = ["inputs", "outputs", "delta"]
 STRING = re.compile(r'"(?:[^"\\]|\\.)*"', re.S)
+
+
+class NotWhole:
+    """A number that is none of the whole numbers that a task file has, as it is written."""
+
+    def __init__(self, digits):
+        self.digits = digits
 
 
 class Refused(Exception):
@@ -56,7 +66,7 @@ def finite(digits):
     """A number that is not whole: what it is doesn't matter, but it has to be finite."""
     if float(digits) in (float("inf"), float("-inf")):
         raise ValueError(f"the number {digits[:20]}.. is too large")
-    return 0.5
+    return NotWhole(digits)
 
 
 def whole_or_not(digits):
@@ -132,7 +142,8 @@ def judge_shape(value):
 
 
 def shown(it):
-    text = json.dumps(it)
+    """A value as it stands in the file, as far as there is room."""
+    text = re.sub(r'"\\u007f(.*?)\\u007f"', r"\1", json.dumps(it, default=lambda number: f"\x7f{number.digits}\x7f"))
     return text if len(text) <= 60 else text[:57] + ".."
 
 
@@ -236,13 +247,16 @@ def read(text):
     return value, {simplex_of(entry["in"]): {tuple(t) for t in entry["out"]} for entry in value["delta"]}
 
 
-def slips(value, rules):
-    inputs = complex_of(value["inputs"])
+def naming(inputs):
+    """How an input simplex is named."""
     number = {s: n for n, s in enumerate(inputs)}
-    named = lambda s: f"input simplex {number[s]}, {shown(s)},"
-    for s in inputs:
-        if not rules[s]:
-            yield f"{named(s)} allows nothing: there is no decision map for any number of rounds"
+    return lambda s: f"input simplex {number[s]}, {shown(s)},"
+
+
+def notes(value, rules):
+    """What many tasks have on purpose."""
+    inputs = complex_of(value["inputs"])
+    named = naming(inputs)
     for s in inputs:
         for face in faces(s)[:-1]:
             at = [s.index(v) for v in face]
@@ -251,6 +265,15 @@ def slips(value, rules):
             if rules[s] and lost:
                 more = f", and {len(lost) - 1} more" if len(lost) > 1 else ""
                 yield f"{named(face)} allows {shown(lost[0])}{more}, from which {named(s)} can't go on"
+
+
+def slips(value, rules):
+    """What hardly anybody means."""
+    inputs = complex_of(value["inputs"])
+    named = naming(inputs)
+    for s in inputs:
+        if not rules[s]:
+            yield f"{named(s)} allows nothing: there is no decision map for any number of rounds"
     if value["symmetric"]:
         by_rank = collections.defaultdict(list)
         for s in inputs:
@@ -282,8 +305,9 @@ def main():
     except Refused as refused:
         print(f"refused, {refused.line}: {refused.words}")
         return 2
-    found = list(slips(value, rules))
-    print("\n".join(found) or "nothing to say")
+    found = [f"slip: {it}" for it in slips(value, rules)]
+    said = [*found, *(f"note: {it}" for it in notes(value, rules))]
+    print("\n".join(said) or "nothing to say")
     return 1 if found else 0
 
 

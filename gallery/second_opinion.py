@@ -116,30 +116,75 @@ class Complex:
         return f"{len(boxes)} cases are not closed" if boxes else None
 
 
-def judge(task, report):
-    lines = report.split("\n")
-    if lines[-2:] != ["end", ""] or lines[0] != "wfcheck report 1" or len(lines) < 8:
-        return None, "it is no report"
-    names = ["processes", "rounds", "points", "executions"]
-    header = {name: int(line.split(" ")[1]) for name, line in zip(names, lines[1:5])}
+# ---- reading a report, by the format alone
+
+MOST = {"line": 2**32 - 1, "process": 3, "value": 255, "rounds": 8}
+HEADER = [("processes", "line"), ("rounds", "line"), ("points", "line"), ("executions", "line")]
+VALUES, STEPS = {"m": ["value"]}, {"p": ["line", "process", "value"], "z": ["line"], "b": ["line"]}
+BODIES = {"map": (VALUES, {}), "none": ({}, STEPS), "least": (VALUES, {**STEPS, "f": []})}
+
+
+class Unreadable(Exception):
+    pass
+
+
+def number(word, kind, at):
+    """A decimal number without sign and without a zero before another digit."""
+    if not word.isascii() or not word.isdigit() or str(int(word[:10])) != word or int(word) > MOST[kind]:
+        raise Unreadable(f"line {at}: {word!r} is no number that may stand there")
+    return int(word)
+
+
+def numbers(line, name, kinds, at):
+    word, *rest = line.split(" ")
+    if word != name or len(rest) != len(kinds):
+        raise Unreadable(f"line {at}: it is not `{' '.join([name, *kinds])}`")
+    return [number(it, kind, at) for it, kind in zip(rest, kinds)]
+
+
+def report_of(text):
+    """The header's numbers, the answer, the values of a map, and the lines behind them, each with its number."""
+    *lines, last = text.split("\n")
+    if last or len(lines) < 7 or lines[0] != "wfcheck report 1" or lines[-1] != "end":
+        raise Unreadable("it does not begin with `wfcheck report 1`, or does not end with `end` and a line feed")
+    header = {name: numbers(lines[at], name, [kind], at + 1)[0] for at, (name, kind) in enumerate(HEADER, 1)}
+    answer = lines[5].removeprefix("answer ")
+    if answer not in BODIES or lines[5] != f"answer {answer}":
+        raise Unreadable("line 6: it is not `answer map`, `answer none` or `answer least`")
+    first, later = BODIES[answer]
+    body = list(enumerate(lines[6:-1], 7))
+    front = [*itertools.takewhile(lambda it: "m" in first and it[1].startswith("m "), body)]
+    values, steps = [numbers(line, "m", first["m"], at)[0] for at, line in front], []
+    for at, line in body[len(front):]:
+        kind = line.split(" ")[0]
+        if kind not in later:
+            raise Unreadable(f"line {at}: it may not stand there")
+        steps.append((at, (kind, *numbers(line, kind, later[kind], at))))
+    return header, answer, values, steps
+
+
+def judge(task, text):
+    """The answer of a report, and what is wrong with it or None."""
+    try:
+        header, answer, values, steps = report_of(text)
+    except Unreadable as fault:
+        return None, f"it is no report: {fault}"
+    if header["rounds"] > MOST["rounds"]:
+        return None, f"there are more than {MOST['rounds']} rounds"
     made = Complex(task, header["rounds"])
     right = {"processes": task["processes"], "points": made.points, "executions": len(made.executions)}
-    for name, number in right.items():
-        if header[name] != number:
-            return None, f"{name} should be {number}"
-    body = [(at, (kind, *map(int, rest))) for at, (kind, *rest) in enumerate(map(str.split, lines[6:-2]), 7)]
-    values = [value for _, (_, value) in itertools.takewhile(lambda it: it[1][0] == "m", body)]
-    if lines[5] == "answer map":
-        return "map", made.wrong_map([numbers[0] for _, (_, *numbers) in body])
-    if lines[5] == "answer least":
-        return "least", made.wrong_map(values) or made.wrong_lines(body[len(values):], values)
-    return ("none", made.wrong_lines(body)) if body else ("none, by the header alone", None)
+    for name, it in right.items():
+        if header[name] != it:
+            return None, f"{name} should be {it}"
+    if answer == "none":
+        return ("none", made.wrong_lines(steps)) if steps else ("none, by the header alone", None)
+    return answer, made.wrong_map(values) or (made.wrong_lines(steps, values) if answer == "least" else None)
 
 
 if __name__ == "__main__":
     if len(sys.argv) != 3:
         sys.exit(__doc__)
-    with open(sys.argv[1]) as task_file, open(sys.argv[2]) as report_file:
+    with open(sys.argv[1]) as task_file, open(sys.argv[2], newline="", errors="replace") as report_file:
         answer, wrong = judge(json.load(task_file), report_file.read())
     if wrong:
         sys.exit(f"does not hold: {wrong}")

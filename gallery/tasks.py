@@ -22,6 +22,11 @@ import sys
 
 HERE = pathlib.Path(__file__).resolve().parent
 Task = collections.namedtuple("Task", "name text")
+MOST_PROCESSES, LARGEST, LARGEST_PLAIN = 4, 255, 63
+
+
+class Mistake(SystemExit):
+    """What a task can't be made from, in a sentence."""
 
 
 def faces(items):
@@ -38,10 +43,11 @@ def task(name, processes, inputs, legal, values, symmetric=False, first_block=No
     the file has version 2, and its values may be up to 255: in every round the first block has at least so many of those that
     take part, or all of them; 1 leaves all words."""
     listed = [tuple(sorted(dict(each if isinstance(each, dict) else enumerate(each)).items())) for each in inputs]
-    if any(p not in range(processes) for simplex in listed for p, _ in simplex):
-        raise ValueError(f"{name}: an input is of a process that is not there")
+    judge(name, processes, listed, set(values), LARGEST_PLAIN if first_block is None else LARGEST)
     starts = sorted({face for simplex in listed for face in faces(simplex)}, key=by_size)
-    rules = {start: sorted(tuples(start, legal, set(values))) for start in starts}
+    rules = {start: sorted(tuples(name, start, legal, set(values))) for start in starts}
+    if not any(rules.values()):
+        raise Mistake(f"{name}: the predicate allows nothing, whatever the processes begin with")
     ends = {tuple(zip((p for p, _ in start), each)) for start, rule in rules.items() for each in rule}
     whole = {
         "version": 1 if first_block is None else 2, "processes": processes, "symmetric": symmetric,
@@ -53,15 +59,34 @@ def task(name, processes, inputs, legal, values, symmetric=False, first_block=No
     return Task(name, json.dumps(whole, separators=(",", ":"), sort_keys=True) + "\n")
 
 
+def judge(name, processes, listed, values, largest):
+    """Refuses what no task file may have."""
+    if processes not in range(1, MOST_PROCESSES + 1):
+        raise Mistake(f"{name}: a task has 1 to {MOST_PROCESSES} processes, and not {processes}")
+    if not listed or not all(listed):
+        raise Mistake(f"{name}: there is no input, or one in which nobody takes part")
+    strangers = sorted({p for simplex in listed for p, _ in simplex if p not in range(processes)}, key=repr)
+    if strangers:
+        raise Mistake(f"{name}: an input is of process {strangers[0]!r}, and the processes are 0 to {processes - 1}")
+    beyond = [v for v in [*values, *(v for simplex in listed for _, v in simplex)] if type(v) is not int or not 0 <= v <= largest]
+    if beyond:
+        more = "" if largest == LARGEST else f"; up to {LARGEST} with first_block=1, which is version 2 of the file"
+        raise Mistake(f"{name}: the value {beyond[0]!r} is not a whole number from 0 to {largest}{more}")
+
+
 def by_size(simplex):
     return len(simplex), simplex
 
 
-def tuples(start, legal, values):
+def tuples(name, start, legal, values):
     """The values that those who take part may decide, in the order of the processes."""
     processes = [p for p, _ in start]
     choices = itertools.product(sorted(values), repeat=len(processes))
-    return [choice for choice in choices if legal(dict(start), dict(zip(processes, choice)))]
+    try:
+        return [choice for choice in choices if legal(dict(start), dict(zip(processes, choice)))]
+    except KeyError as missing:
+        raise Mistake(f"{name}: the predicate looks up {missing} where {dict(start)} take part: it is asked for each part of each "
+                      "input, since some may run alone, and `start` and `end` have those that take part")
 
 
 def facets(simplices):

@@ -3,8 +3,8 @@ use Rattle.std.specs.Prelude.{ℕ, List, Option, None, Some, codes, if◌then◌
 use Rattle.std.specs.Str.{bytes_eq}
 use Rattle.wf_preset.specs.declared.preset.Inputs.{Inputs}
 use Rattle.wf_preset.specs.declared.preset.Inputs.TheVariants.{Own, All}
-use Rattle.wf_engine.specs.declared.preset.Preset.{Preset}
-use Rattle.wf_engine.specs.declared.preset.Preset.TheVariants.{SetAgreement, Renaming}
+use Rattle.wf_preset.specs.declared.named.Preset.{Preset}
+use Rattle.wf_preset.specs.declared.named.Preset.TheVariants.{SetAgreement, Renaming}
 use Rattle.wf_args.specs.declared.presets.Options.{Options}
 
 -- the processes have their own inputs, unless there is a number of values

@@ -15,7 +15,9 @@ use clap::{Arg, ArgAction, ArgMatches, Command, value_parser};
 use std::alloc::{AllocError, Global};
 use std::io;
 pub use version::{LOGIC, VERSION};
-use wf_engine::{Form, MAX_WORKERS, Preset};
+use wf_pool::MAX_WORKERS;
+use wf_preset::Preset;
+use wf_report::Form;
 
 /// What the help of `preset` says of the kinds.
 const KINDS: &str =
@@ -41,6 +43,8 @@ pub enum Job {
     Verify {
         /// The file that has the task.
         task: String,
+        /// How many rounds the report is to be for, where they are asked for.
+        rounds: Option<u32>,
     },
     /// List the points of a task's protocol complex after some rounds.
     Views {
@@ -49,6 +53,18 @@ pub enum Job {
     },
     /// Tell the points of a task's protocol complex after some rounds in words.
     Points {
+        /// How many rounds.
+        rounds: u32,
+    },
+    /// Write the question whether a task has a decision map after some rounds as a formula for SAT solvers.
+    Cnf {
+        /// How many rounds.
+        rounds: u32,
+    },
+    /// Check the model that a solver found of such a formula, and report its decision map.
+    Model {
+        /// The file that has the task.
+        task: String,
         /// How many rounds.
         rounds: u32,
     },
@@ -170,7 +186,12 @@ fn task_file<'a>(alloc: Global, help: &'a str) -> Arg<'a> {
 fn verify_command<'a>(alloc: Global) -> Result<Command<'a>, AllocError> {
     Command::new(alloc, "verify")
         .about("Read a report on standard input, and check it without a search")
-        .arg(task_file(alloc, "The file that has the task").required(true))
+        .arg(task_file(alloc, "The file that has the task").required(true))?
+        .arg(optional(
+            alloc,
+            "rounds",
+            "How many rounds the report is to be for: one for others is refused, and the answer tells them",
+        ))
 }
 
 fn views_command<'a>(alloc: Global) -> Result<Command<'a>, AllocError> {
@@ -198,6 +219,31 @@ fn points_command<'a>(alloc: Global) -> Result<Command<'a>, AllocError> {
         .arg(task_file(
             alloc,
             "The file that has the task, where a report about it is on standard input; not beside --rounds",
+        ))
+}
+
+fn cnf_command<'a>(alloc: Global) -> Result<Command<'a>, AllocError> {
+    Command::new(alloc, "cnf")
+        .about(
+            "Read a task on standard input, and write for SAT solvers the question whether it has a decision map",
+        )
+        .arg(number(
+            alloc,
+            "rounds",
+            "How many rounds of immediate snapshots, 0 to 8",
+        ))
+}
+
+fn model_command<'a>(alloc: Global) -> Result<Command<'a>, AllocError> {
+    Command::new(alloc, "model")
+        .about(
+            "Read what a SAT solver says of the question that cnf writes, and report the decision map of its model",
+        )
+        .arg(task_file(alloc, "The file that has the task").required(true))?
+        .arg(number(
+            alloc,
+            "rounds",
+            "How many rounds of immediate snapshots, 0 to 8",
         ))
 }
 
@@ -239,6 +285,8 @@ fn whole_command<'a>(alloc: Global) -> Result<Command<'a>, AllocError> {
         .subcommand(verify_command(alloc)?)?
         .subcommand(views_command(alloc)?)?
         .subcommand(points_command(alloc)?)?
+        .subcommand(cnf_command(alloc)?)?
+        .subcommand(model_command(alloc)?)?
         .subcommand(preset_command(alloc)?)
 }
 
@@ -268,6 +316,7 @@ fn verify_job(alloc: Global, found: &ArgMatches<'_>) -> Result<Job, WordsFault>
     match found.get_str("task") {
         Some(task) => Ok(Job::Verify {
             task: String::from_str(alloc, task)?,
+            rounds: found.get_one::<u32>("rounds"),
         }),
         None => Err(WordsFault::Words),
     }
@@ -290,6 +339,28 @@ fn points_job(alloc: Global, found: &ArgMatches<'_>) -> Result<Job, WordsFault>
         (Some(rounds), None) => Ok(Job::Points { rounds }),
         (None, Some(task)) => Ok(Job::Decisions {
             task: String::from_str(alloc, task)?,
+        }),
+        _ => Err(WordsFault::Words),
+    }
+}
+
+/// The job of `cnf`.
+fn cnf_job(found: &ArgMatches<'_>) -> Option<Job>
+    ensures { IfSome result CanBeDone }
+{
+    let rounds = found.get_one::<u32>("rounds")?;
+    Some(Job::Cnf { rounds })
+}
+
+/// The job of `model`.
+fn model_job(alloc: Global, found: &ArgMatches<'_>) -> Result<Job, WordsFault>
+    ensures ok { IfOk result CanBeDone }
+    ensures err { IfErr result HidesNoWantOfMemory }
+{
+    match (found.get_str("task"), found.get_one::<u32>("rounds")) {
+        (Some(task), Some(rounds)) => Ok(Job::Model {
+            task: String::from_str(alloc, task)?,
+            rounds,
         }),
         _ => Err(WordsFault::Words),
     }
@@ -331,6 +402,8 @@ pub fn read_words(alloc: Global, words: &[String]) -> Result<Job, WordsFault>
         Some(("verify", inner)) => verify_job(alloc, inner),
         Some(("views", inner)) => views_job(inner).ok_or(WordsFault::Words),
         Some(("points", inner)) => points_job(alloc, inner),
+        Some(("cnf", inner)) => cnf_job(inner).ok_or(WordsFault::Words),
+        Some(("model", inner)) => model_job(alloc, inner),
         Some(("preset", inner)) => preset_job(inner).ok_or(WordsFault::Words),
         _ => Err(WordsFault::Words),
     }

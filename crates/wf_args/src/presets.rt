@@ -3,7 +3,7 @@
 ghost use Rattle.std.specs.Prelude.{◌≡◌};
 ghost use Rattle.wf_args.specs.Presets.{agreement_asked, inputs_asked, preset_asked, renaming_asked};
 
-use wf_engine::{Inputs, Preset};
+use wf_preset::{Inputs, Preset};
 
 /// The options of `preset`, as they were given.
 #[derive(Clone, Copy)]

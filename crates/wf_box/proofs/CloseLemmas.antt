@@ -12,7 +12,7 @@ use Rattle.wf_model.specs.Closing.{Step, and_then, closing, closing_at, sweep, s
 use Rattle.wf_model.specs.Laws.{IsBoxOf}
 use Rattle.wf_model.proofs.Ascending.{is_ascending_from}
 use Rattle.wf_model.proofs.Closed.{solution_left, closed_branch, closed_supports}
-use Rattle.wf_complex.specs.declared.line.Line.{Line}
+use Rattle.wf_lines.specs.declared.line.Line.{Line}
 use Rattle.wf_set.specs.Sets.{box_of, values_in}
 use Rattle.wf_set.proofs.Lemmas.{values_ascend}
 use Rattle.wf_box.specs.Changes.{taken_back, words_after}

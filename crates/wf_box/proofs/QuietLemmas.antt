@@ -19,8 +19,8 @@ use Rattle.wf_box.specs.Steps.{reached}
 use Rattle.wf_box.specs.declared.problem.Rule.{Rule}
 use Rattle.wf_box.specs.declared.problem.Execution.{Execution}
 use Rattle.wf_box.specs.declared.users.Users.{Users}
-use Rattle.wf_complex.specs.Lines.{line_of}
-use Rattle.wf_complex.specs.declared.line.Line.{Line}
+use Rattle.wf_lines.specs.Lines.{line_of}
+use Rattle.wf_lines.specs.declared.line.Line.{Line}
 use Rattle.wf_box.proofs.StepLemmas.{then_keeps, then_then}
 use Rattle.std.specs.Prelude.{◌==◌}
 use Rattle.std.proofs.lemmas.List.Elements.{All-from_recursion}

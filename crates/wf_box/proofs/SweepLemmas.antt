@@ -5,8 +5,8 @@ use Rattle.wf_model.specs.Problem.{Problem}
 use Rattle.wf_model.specs.Box.{Box, count}
 use Rattle.wf_model.specs.Refutation as refutation
 use Rattle.wf_model.specs.Closing.{Step, and_then, continued, sweep, sweeps, unless_none}
-use Rattle.wf_complex.specs.Lines.{line_of}
-use Rattle.wf_complex.specs.declared.line.Line.{Line}
+use Rattle.wf_lines.specs.Lines.{line_of}
+use Rattle.wf_lines.specs.declared.line.Line.{Line}
 use Rattle.wf_set.specs.Sets.{box_of, values_in}
 use Rattle.wf_box.specs.Closes.{more_sweeps, sweep_count}
 use Rattle.wf_box.specs.Steps.{reached}

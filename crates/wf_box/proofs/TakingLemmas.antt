@@ -1,7 +1,7 @@
 -- One candidate is taken out, and then each of some values.
 use Rattle.std.proofs.Common.{◌≡◌, ℕ, zero, suc, ◌<◌, ◌==◌, true, not, List, [], ◌∷◌, ◌++◌, map, filter, length, get_or, Some, None, refl, sym, ap, ◌∙◌, subst, append_assoc, arith, false, eqb-true}
 use Rattle.std.specs.List.{slice_set}
-use Rattle.std.proofs.lemmas.List.{map-set, map-append, get_or-map, nil_from_length}
+use Rattle.std.proofs.lemmas.List.{map-set, map-append, nil_from_length}
 use Rattle.std.proofs.lemmas.Bool.{eq-eqb, false≢true}
 use Rattle.wf_model.specs.Lists.{has}
 use Rattle.wf_model.specs.Box.{Box, candidates, without, count}
@@ -10,9 +10,9 @@ use Rattle.wf_model.specs.Closing.{Step, Loss, and_then, taken_out, take_out}
 use Rattle.wf_model.proofs.Fuel.{count_set_less}
 use Rattle.wf_model.proofs.Stable.{filter_less}
 use Rattle.wf_set.specs.Sets.{box_of, values_in}
-use Rattle.wf_complex.specs.Lines.{line_of}
-use Rattle.wf_complex.specs.declared.line.Line.{Line}
-use Rattle.wf_complex.specs.declared.line.Line.TheVariants as line
+use Rattle.wf_lines.specs.Lines.{line_of}
+use Rattle.wf_lines.specs.declared.line.Line.{Line}
+use Rattle.wf_lines.specs.declared.line.Line.TheVariants as line
 use Rattle.wf_box.specs.Steps.{reached, loss}
 use Rattle.wf_set.proofs.Lemmas.{set_at}
 
@@ -36,12 +36,12 @@ some_left e x box [] some = absurd (some refl)
 some_left e x box (a ∷ s) some = refl
 
 pub taken_on : (old : List Line) (words : List (List ℕ)) (e p v a : ℕ) (set : List ℕ) → v < length words → values_in set ≡ filter (λ b. not (b == a)) (values_in (get_or words v [])) → (values_in set ≡ [] → ⊥)
-    → reached (old ++ line.P p a e ∷ []) None (slice_set words v set) ≡ and_then (reached old None words) (take_out e (loss p v a))
+    → reached (old ++ line.Remove p a e ∷ []) None (slice_set words v set) ≡ and_then (reached old None words) (take_out e (loss p v a))
 taken_on old words e p v a set inside is some =
     let taken : take_out e (loss p v a) (box_of words) ≡ record { lines = refutation.remove e p a ∷ []; left = Some (without (box_of words) v a) } =
     some_left e (loss p v a) (without (box_of words) v a) (candidates (without (box_of words) v a) v) (λ gone. some (sym (left_there words v a set inside is) ∙ gone)) in
     λ i. record {
-      lines = (map-append line_of old (line.P p a e ∷ []) ∙ ap (λ (s : Step). map line_of old ++ s.lines) (sym taken)) i;
+      lines = (map-append line_of old (line.Remove p a e ∷ []) ∙ ap (λ (s : Step). map line_of old ++ s.lines) (sym taken)) i;
       left = (ap Some (set_without words v a set inside is) ∙ ap (λ (s : Step). s.left) (sym taken)) i;
     }
 
@@ -51,12 +51,12 @@ none_left e x box [] h = refl
 none_left e x box (a ∷ s) h = absurd (let none : ⊥ = cc in none)
 
 pub taken_last : (old : List Line) (words : List (List ℕ)) (e p v a : ℕ) (set : List ℕ) → v < length words → values_in set ≡ filter (λ b. not (b == a)) (values_in (get_or words v [])) → values_in set ≡ []
-    → reached ((old ++ line.P p a e ∷ []) ++ line.Z v ∷ []) (Some v) (slice_set words v set) ≡ and_then (reached old None words) (take_out e (loss p v a))
+    → reached ((old ++ line.Remove p a e ∷ []) ++ line.Empty v ∷ []) (Some v) (slice_set words v set) ≡ and_then (reached old None words) (take_out e (loss p v a))
 taken_last old words e p v a set inside is gone =
     let taken : take_out e (loss p v a) (box_of words) ≡ record { lines = refutation.remove e p a ∷ refutation.empty v ∷ []; left = None } =
     none_left e (loss p v a) (without (box_of words) v a) (candidates (without (box_of words) v a) v) (left_there words v a set inside is ∙ gone) in
     λ i. record {
-      lines = (ap (map line_of) (append_assoc old (line.P p a e ∷ []) (line.Z v ∷ [])) ∙ map-append line_of old (line.P p a e ∷ line.Z v ∷ []) ∙ ap (λ (s : Step). map line_of old ++ s.lines) (sym taken)) i;
+      lines = (ap (map line_of) (append_assoc old (line.Remove p a e ∷ []) (line.Empty v ∷ [])) ∙ map-append line_of old (line.Remove p a e ∷ line.Empty v ∷ []) ∙ ap (λ (s : Step). map line_of old ++ s.lines) (sym taken)) i;
       left = ap (λ (s : Step). s.left) (sym taken) i;
     }
 

@@ -71,11 +71,11 @@ abbrev pub change_seen : Change → Was
 change_seen c = record { point = c.point; set = values_in c.before }
 
 abbrev pub box_seen : Inside → Tracked
-box_seen b = record { sets = box_of b.tracked.words.items; trail = map change_seen b.tracked.trail.items; closed = b.closed }
+box_seen b = record { sets = box_of b.workspace.tracked.words.items; trail = map change_seen b.workspace.tracked.trail.items; closed = b.closed }
 
 pub record IsKeptBox (b : Inside) : Type 0 where
-  pub tracked : KeepsTrack b.tracked
-  pub closed : IfSome b.closed (λ n. n ≤ length b.tracked.trail.items)
+  pub tracked : KeepsTrack b.workspace.tracked
+  pub closed : IfSome b.closed (λ n. n ≤ length b.workspace.tracked.trail.items)
 
 -- a box without a change to take back
 abbrev pub snapshot_seen : snapshot.Inside → Tracked

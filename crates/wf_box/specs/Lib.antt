@@ -12,3 +12,4 @@ pub mod Revising
 pub mod Marks
 pub mod Quiet
 pub mod Stands
+pub mod Working

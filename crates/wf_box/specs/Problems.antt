@@ -5,9 +5,10 @@ use Rattle.wf_model.specs.Task as task
 use Rattle.wf_model.specs.Problem.{Problem, Constraint, IsWellFormed, problem_of}
 use Rattle.wf_set.specs.Sets.{values_in}
 use Rattle.wf_model.specs.Limits.{most_executions, most_points}
-use Rattle.wf_box.specs.Quiet.{AreTold, AreUsers}
+use Rattle.wf_box.specs.Quiet.{AreTold, AreUsers, no_execution}
 use Rattle.wf_box.specs.declared.problem.Rule.{Rule}
 use Rattle.wf_box.specs.declared.problem.Execution.{Execution}
+use Rattle.wf_box.specs.declared.problem.Network.{Network}
 use Rattle.wf_box.specs.declared.problem.Problem.TheInside.{Inside}
 
 -- no input simplex at all
@@ -35,7 +36,7 @@ abbrev pub constraints_seen : List Rule → List Execution → List Constraint
 constraints_seen rules es = map (constraint_seen rules) es
 
 abbrev pub problem_seen : Inside → Problem
-problem_seen p = record { points = p.points; values = values_in p.values; constraints = map (constraint_seen p.rules.items) p.executions.items }
+problem_seen p = record { points = p.network.points; values = values_in p.values; constraints = map (constraint_seen p.network.rules.items) p.network.executions.items }
 
 -- an execution with a rule that is there and four points that are there, of which those past its size are not used
 pub record IsWithin (rules points : ℕ) (e : Execution) : Type 0 where
@@ -55,11 +56,23 @@ IsRuleOf simplex tuples rule = rule_seen rule ≡ record { input = simplex; tupl
 abbrev pub AreExecutionsOf : task.Task → ℕ → List Rule → List Execution → Type 0
 AreExecutionsOf t rounds rules es = map (constraint_seen rules) es ≡ (problem_of t rounds).constraints
 
+-- the constraint of an execution
+abbrev pub constraint_in : Network → ℕ → Constraint
+constraint_in n e = constraint_seen n.rules.items (get_or n.executions.items e no_execution)
+
+-- the constraints of all executions
+abbrev pub constraints_in : Network → List Constraint
+constraints_in n = constraints_seen n.rules.items n.executions.items
+
+-- each execution has a rule and points that are there, and each of its points knows it
+pub record IsNetwork (n : Network) : Type 0 where
+  pub few_points : n.points ≤ most_points
+  pub few_executions : length n.executions.items ≤ most_executions
+  pub wide : All IsWide n.rules.items
+  pub within : All (IsWithin (length n.rules.items) n.points) n.executions.items
+  pub users : AreUsers n.users n.points (length n.executions.items)
+  pub told : AreTold n.users n.executions.items
+
 pub record IsKept (p : Inside) : Type 0 where
-  pub few_points : p.points ≤ most_points
-  pub few_executions : length p.executions.items ≤ most_executions
-  pub wide : All IsWide p.rules.items
-  pub within : All (IsWithin (length p.rules.items) p.points) p.executions.items
-  pub users : AreUsers p.users p.points (length p.executions.items)
-  pub told : AreTold p.users p.executions.items
+  pub network : IsNetwork p.network
   pub well_formed : IsWellFormed (problem_seen p)

@@ -42,10 +42,6 @@ pub record AreUsers (u : Users) (points executions : ℕ) : Type 0 where
 abbrev pub IsUntouched : Users → List (List ℕ) → List ℕ → List (List ℕ) → List ℕ → Type 0
 IsUntouched u words marks fewer more = (e : ℕ) → bit_of more e ≡ 0 → (bit_of marks e ≡ 0) × ((v : ℕ) → IsUser u v e → get_or fewer v [] ≡ get_or words v [])
 
--- an execution without a mark had none before, and its points have the candidates that they had
-abbrev pub LeavesUntouched : Users → Tracked → Marks → Tracked → Marks → Type 0
-LeavesUntouched u old marks new more = IsUntouched u old.words.items marks.words.items new.words.items more.words.items
-
 -- the points of an execution without a mark have the candidates that they had after so many changes
 abbrev pub IsUntouchedSince : ℕ → Users → Tracked → Marks → Type 0
 IsUntouchedSince n u t marks = (e : ℕ) → bit_of marks.words.items e ≡ 0 → (v : ℕ) → IsUser u v e → get_or (words_at n t) v [] ≡ get_or t.words.items v []
@@ -54,21 +50,9 @@ IsUntouchedSince n u t marks = (e : ℕ) → bit_of marks.words.items e ≡ 0 �
 abbrev pub EmptiesNoneSince : ℕ → Tracked → Type 0
 EmptiesNoneSince n t = (v : ℕ) → values_in (get_or t.words.items v []) ≡ [] → values_in (get_or (words_at n t) v []) ≡ []
 
--- where the execution is not marked, no candidate was taken out
-abbrev pub IsSilent : ℕ → Marks → Tracked → Tracked → Type 0
-IsSilent e marks old new = bit_of marks.words.items e ≡ 0 → new.words.items ≡ old.words.items
-
--- where an execution of the point is not marked, no candidate was taken out
-abbrev pub AreSilent : Users → ℕ → Marks → Tracked → Tracked → Type 0
-AreSilent u v marks old new = (e : ℕ) → IsUser u v e → IsSilent e marks old new
-
 -- no execution
 abbrev pub no_execution : Execution
 no_execution = record { rule = 0; points = [] }
-
--- each of its four points knows the execution
-abbrev pub IsTold : Users → Execution → ℕ → Type 0
-IsTold u x e = (place : ℕ) → place < 4 → IsUser u (slice_index x.points place) e
 
 -- each of its four points knows an execution
 abbrev pub AreTold : Users → List Execution → Type 0

@@ -15,6 +15,7 @@ use crate::marks::Marks;
 use crate::problem::Problem;
 use crate::snapshot::Snapshot;
 use crate::tracked::Tracked;
+use crate::workspace::Workspace;
 use std::alloc::{AllocError, Global};
 use std::marker::Model;
 use wf_set::{Mask, first};
@@ -26,11 +27,9 @@ use wf_set::{Mask, first};
 /// one last, and after how many of these it was closed last.
 #[derive(Drop)]
 pub struct Box0 {
-    pub(crate) tracked: Tracked,
+    pub(crate) workspace: Workspace,
     // after how many changes it was closed last; none where that is not known
     pub(crate) closed: Option<u32>,
-    // these are all clear between two calls, or it is not known that they are
-    pub(crate) marks: Marks,
 }
 
 impl Model for Box0 {
@@ -61,11 +60,13 @@ impl Box0 {
         ensures open { IfOk result (λ boxed. boxed.closed ≡ None) }
         ensures well_formed { IsWellFormed problem.now }
     {
-        let words = vec![in alloc; problem.values; problem.points as usize]?;
+        let words = vec![in alloc; problem.values; problem.network.points as usize]?;
         Ok(Box0 {
-            tracked: Tracked::new(alloc, words)?,
+            workspace: Workspace {
+                tracked: Tracked::new(alloc, words)?,
+                marks: Marks::new(alloc),
+            },
             closed: None,
-            marks: Marks::new(alloc),
         })
     }
 
@@ -79,11 +80,13 @@ impl Box0 {
         ensures open { self.now.closed ≢ Some (length self.now.trail)
             → IfOk result (λ boxed. boxed.closed ≡ None) }
     {
-        let words = self.tracked.words.as_slice().to_vec(alloc)?;
+        let words = self.workspace.tracked.words.as_slice().to_vec(alloc)?;
         Ok(Box0 {
-            tracked: Tracked::new(alloc, words)?,
+            workspace: Workspace {
+                tracked: Tracked::new(alloc, words)?,
+                marks: Marks::new(alloc),
+            },
             closed: if self.is_closed() { Some(0) } else { None },
-            marks: Marks::new(alloc),
         })
     }
 
@@ -99,7 +102,7 @@ impl Box0 {
     {
         let is_closed = self.is_closed();
         Ok(Snapshot {
-            sets: KeptSets::of(alloc, &self.tracked.words)?,
+            sets: KeptSets::of(alloc, &self.workspace.tracked.words)?,
             is_closed,
         })
     }
@@ -110,7 +113,7 @@ impl Box0 {
         ensures open { OnFalse result (self.now.closed ≢ Some (length self.now.trail)) }
     {
         match self.closed {
-            Some(changes) => changes as usize == self.tracked.trail.len(),
+            Some(changes) => changes as usize == self.workspace.tracked.trail.len(),
             None => false,
         }
     }
@@ -122,7 +125,7 @@ impl Box0 {
         ensures open { OnFalse result.is_closed (self.now.closed ≢ Some (length self.now.trail)) }
     {
         Mark {
-            changes: self.tracked.trail.len() as u32,
+            changes: self.workspace.tracked.trail.len() as u32,
             is_closed: self.is_closed(),
         }
     }
@@ -136,13 +139,13 @@ impl Box0 {
         ensures is { (p : Problem) → IsFor p self.old
             → OnTrue mark.is_closed (WasClosed p self.old mark.changes) → IsFor p self.new }
     {
-        self.tracked.undo(mark.changes as usize);
+        self.workspace.tracked.undo(mark.changes as usize);
         self.closed = if mark.is_closed {
             Some(mark.changes)
         } else {
             None
         };
-        self.marks.clear();
+        self.workspace.marks.clear();
     }
 
     /// Leaves a point one of its candidates. It takes no memory.
@@ -153,7 +156,7 @@ impl Box0 {
         ensures closed { self.new.closed ≡ self.old.closed }
         ensures is { (p : Problem) → IsFor p self.old → IsFor p self.new }
     {
-        self.tracked.set(point, value);
+        self.workspace.tracked.set(point, value);
     }
 
     /// The candidates of a point. It takes no memory.
@@ -161,7 +164,7 @@ impl Box0 {
         requires { point < length self.now.sets }
         ensures { values_in result ≡ candidates self.now.sets point }
     {
-        self.tracked.words[point as usize]
+        self.workspace.tracked.words[point as usize]
     }
 
     /// How many points it has. It takes no memory.
@@ -169,14 +172,14 @@ impl Box0 {
         ensures points { result ≡ length self.now.sets }
         ensures few { result ≤ most_points }
     {
-        self.tracked.words.len() as u32
+        self.workspace.tracked.words.len() as u32
     }
 
     /// The first point with two candidates or more; none where each point has one at most. It takes no memory.
     pub fn first_open(&self) -> Option<u32>
         ensures { result ≡ first_open self.now.sets }
     {
-        self.tracked.first_open()
+        self.workspace.tracked.first_open()
     }
 
     /// The same, and the next search for it starts there. It takes no memory.
@@ -184,7 +187,7 @@ impl Box0 {
         ensures found { result ≡ first_open self.old.sets }
         ensures same { self.new ≡ self.old }
     {
-        self.tracked.find_open()
+        self.workspace.tracked.find_open()
     }
 
     /// The least candidate of each point, which has to have one: in a decided box its only one. Refused for want of
@@ -193,7 +196,7 @@ impl Box0 {
         requires filled { first_empty self.now.sets ≡ None }
         ensures values { IfOk result (λ values. values.items ≡ least_values self.now.sets) }
     {
-        least_each(alloc, &self.tracked.words)
+        least_each(alloc, &self.workspace.tracked.words)
     }
 }
 

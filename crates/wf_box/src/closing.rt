@@ -1,31 +1,30 @@
 //! Closing.
 
 ghost use Rattle.std.specs.Prelude.{◌≡◌, ◌<◌, ◌≤◌, ◌*◌, None, length, map, IfOk, IfSome, OnOk, OnErr, IfNone, [], All, get_or};
-ghost use Rattle.wf_model.specs.Problem.{IsWellFormed};
 ghost use Rattle.wf_model.specs.Box.{count, first_empty};
 ghost use Rattle.wf_model.specs.Closing.{closing, sweep, sweep_from};
-ghost use Rattle.std.specs.Bool.{OnFalse, OnTrue};
-ghost use Rattle.wf_model.specs.Limits.{most_executions, most_points};
+ghost use Rattle.std.specs.Bool.{OnTrue};
+ghost use Rattle.wf_model.specs.Limits.{most_points};
 ghost use Rattle.wf_box.specs.Boxes.{Grows, IsClosedNow, IsFor};
-ghost use Rattle.wf_box.specs.Changes.{GrowsTo, KeepsTrack, sets_in};
-ghost use Rattle.wf_box.specs.Quiet.{AreSilent, AreTold, AreUsers, EmptiesNoneSince, IsSilent, IsTold, IsUntouchedSince, LeavesUntouched, MarksTell, StoodClosed};
-ghost use Rattle.wf_model.specs.Laws.{IsBoxOf};
+ghost use Rattle.wf_box.specs.Changes.{KeepsTrack, sets_in};
+ghost use Rattle.wf_box.specs.Quiet.{EmptiesNoneSince, IsUntouchedSince, MarksTell, StoodClosed};
 ghost use Rattle.wf_set.specs.Sets.{box_of};
 ghost use Rattle.wf_lane.specs.Table.{HasSupported};
-ghost use Rattle.wf_box.specs.Problems.{AreWithin, IsWide, IsWithin, constraint_seen, constraints_seen, no_rule};
+ghost use Rattle.wf_box.specs.Problems.{IsNetwork, constraint_in, constraints_in, no_rule};
 ghost use Rattle.wf_box.specs.Revising.{IsRevised};
-ghost use Rattle.wf_box.specs.Steps.{ClosesTo, HasRoom, IsPaid, NamesAll, NamesAt, NamesIn, NamesLost, Reaches, SweepsTo, TakesEach, revision};
-ghost use Rattle.wf_box.specs.Closes.{AddsClosing, AreFew, EndsAt, IsEmptied, IsSupported, KeepsSolutions, Leaves, LosesNamed, Takes, sweeps_to_close};
+ghost use Rattle.wf_box.specs.Steps.{ClosesTo, NamesAll, NamesAt, NamesIn, NamesLost, Reaches, SweepsTo, TakesEach, box_in, point_if, revision};
+ghost use Rattle.wf_box.specs.Closes.{AddsClosing, AreFew, IsEmptied, IsSupported, KeepsSolutions, Leaves, LosesNamed, Takes, emptied_by, sweeps_to_close};
+ghost use Rattle.wf_box.specs.Working.{AreMarked, AreSilent, IsSilent, IsWorkingFor, IsWorkingOn, LeavesUntouched, ProceedsFor, ProceedsOn};
 
 use crate::boxed::Box0;
 use crate::marks::Marks;
-use crate::problem::{Execution, Problem, Rule};
+use crate::problem::{Execution, Network, Problem, Rule};
 use crate::taking::{Place, put, take_each};
 use crate::tracked::Tracked;
-use crate::users::Users;
+use crate::workspace::Workspace;
 use std::alloc::{AllocError, Global};
-use wf_complex::{Line, Lines};
 use wf_lane::first_empty;
+use wf_lines::{Line, Lines};
 use wf_set::{Mask, difference, is_empty};
 
 /// How closing ended.
@@ -76,17 +75,12 @@ pub fn close(
     ensures refused_lines { OnErr result (lines.new.items ≡ lines.old.items) }
     ensures refused_box { OnErr result (boxed.new ≡ boxed.old) }
 {
-    lines.reserve(boxed.tracked.count as usize + 1)?;
-    boxed.marks.reserve(alloc, problem.executions.len() as u32)?;
-    let closed = close_tracked(
-        problem,
-        boxed.closed,
-        &mut boxed.tracked,
-        &mut boxed.marks,
-        lines,
-    );
+    lines.reserve(boxed.workspace.tracked.count as usize + 1)?;
+    let executions = problem.network.executions.len() as u32;
+    boxed.workspace.marks.reserve(alloc, executions)?;
+    let closed = close_tracked(problem, boxed.closed, &mut boxed.workspace, lines);
     boxed.closed = match closed {
-        Closed::Open { .. } => Some(boxed.tracked.trail.len() as u32),
+        Closed::Open { .. } => Some(boxed.workspace.tracked.trail.len() as u32),
         Closed::Empty(_) => None,
     };
     Ok(closed)
@@ -96,32 +90,24 @@ pub fn close(
 fn close_tracked(
     problem: &Problem,
     closed: Option<u32>,
-    tracked: &mut Tracked,
-    marks: &mut Marks,
+    workspace: &mut Workspace,
     lines: &mut Lines,
 ) -> Closed
-    requires boxed { IsBoxOf problem.now (sets_in tracked.old) }
-    requires kept { KeepsTrack tracked.old }
-    requires room { HasRoom lines.old tracked.old.words.items }
-    requires marks_long { length problem.now.constraints ≤ 64 * length marks.old.words.items }
-    requires closed { IfSome closed (StoodClosed problem.now tracked.old) }
-    ensures step { ClosesTo problem.now lines.old tracked.old lines.new tracked.new result }
-    ensures kept { KeepsTrack tracked.new }
-    ensures grown { GrowsTo tracked.old tracked.new }
-    ensures marks_long { length marks.new.words.items ≡ length marks.old.words.items }
-    ensures shape { IsBoxOf problem.now (sets_in tracked.new) }
-    ensures emptied { IsEmptied lines.new.items (sets_in tracked.new) result }
-    ensures named { LosesNamed problem.now (sets_in tracked.old) (sets_in tracked.new) }
-    ensures solutions { KeepsSolutions problem.now (sets_in tracked.old) (sets_in tracked.new) }
-    ensures supported { IsSupported problem.now (sets_in tracked.new) result }
-    ensures sweeps { AreFew (count (sets_in tracked.old)) (count (sets_in tracked.new)) result }
-    ensures sweep_count { Takes (sweeps_to_close problem.now (sets_in tracked.old)) result }
+    requires working { IsWorkingFor problem.now lines.old workspace.old }
+    requires closed { IfSome closed (StoodClosed problem.now workspace.old.tracked) }
+    ensures step { ClosesTo problem.now lines.old workspace.old lines.new workspace.new result }
+    ensures proceeds { ProceedsFor problem.now
+        lines.old workspace.old lines.new workspace.new (emptied_by result) }
+    ensures named { LosesNamed problem.now (box_in workspace.old) (box_in workspace.new) }
+    ensures sweeps { AreFew (count (box_in workspace.old)) (count (box_in workspace.new)) result }
+    ensures sweep_count { Takes (sweeps_to_close problem.now (box_in workspace.old)) result }
 {
-    if let Some(point) = prepare(problem, closed, tracked, marks) {
-        put(lines, Line::Z { point });
+    let prepared = prepare(problem, closed, &workspace.tracked, &mut workspace.marks);
+    if let Some(point) = prepared {
+        put(lines, Line::Empty { point });
         return Closed::Empty(point);
     }
-    sweeps(problem, tracked, marks, lines)
+    sweeps(problem, workspace, lines)
 }
 
 /// Marks the executions in which something may be lost, and answers the first point without a candidate.
@@ -131,8 +117,8 @@ fn prepare(
     tracked: &Tracked,
     marks: &mut Marks,
 ) -> Option<u32>
-    requires boxed { IsBoxOf problem.now (sets_in tracked.now) }
     requires kept { KeepsTrack tracked.now }
+    requires long { length tracked.now.words.items ≡ problem.now.points }
     requires marks_long { length problem.now.constraints ≤ 64 * length marks.old.words.items }
     requires closed { IfSome closed (StoodClosed problem.now tracked.now) }
     ensures empty { result ≡ first_empty (sets_in tracked.now) }
@@ -152,8 +138,8 @@ fn mark_problem(
     tracked: &Tracked,
     marks: &mut Marks,
 ) -> bool
-    requires boxed { IsBoxOf problem.now (sets_in tracked.now) }
     requires kept { KeepsTrack tracked.now }
+    requires long { length tracked.now.words.items ≡ problem.now.points }
     requires marks_long { length problem.now.constraints ≤ 64 * length marks.old.words.items }
     requires closed { IfSome closed (StoodClosed problem.now tracked.now) }
     ensures quiet { MarksTell problem.now.constraints marks.new tracked.now }
@@ -165,38 +151,26 @@ fn mark_problem(
             marks.mark_all();
             false
         }
-        Some(changes) => mark_changed(
-            problem.executions.len() as u32,
-            &problem.users,
-            changes as usize,
-            tracked,
-            marks,
-        ),
+        Some(changes) => mark_changed(&problem.network, changes as usize, tracked, marks),
     }
 }
 
 /// Marks the executions of each point that changed past so many changes, and says whether each of these points has a
 /// candidate.
-fn mark_changed(
-    executions: u32,
-    users: &Users,
-    changes: usize,
-    tracked: &Tracked,
-    marks: &mut Marks,
-) -> bool
+fn mark_changed(network: &Network, changes: usize, tracked: &Tracked, marks: &mut Marks) -> bool
+    requires network { IsNetwork network.now }
     requires kept { KeepsTrack tracked.now }
-    requires users { AreUsers users.now (length tracked.now.words.items) executions }
-    requires marks_long { executions ≤ 64 * length marks.old.words.items }
+    requires long { length tracked.now.words.items ≡ network.now.points }
+    requires marks_long { length network.now.executions.items ≤ 64 * length marks.old.words.items }
     requires changes { changes ≤ length tracked.now.trail.items }
-    ensures untouched { IsUntouchedSince changes users.now tracked.now marks.new }
+    ensures untouched { IsUntouchedSince changes network.now.users tracked.now marks.new }
     ensures full { OnTrue result (EmptiesNoneSince changes tracked.now) }
     ensures long { length marks.new.words.items ≡ length marks.old.words.items }
 {
-    let points = tracked.words.len() as u32;
     let mut full = true;
     for number in changes..tracked.trail.len() {
         let point = tracked.trail[number].point;
-        marks.mark_each(users.of(point, points, executions));
+        marks.mark_each(network.users_of(point));
         if is_empty(tracked.words[point as usize]) {
             full = false;
         }
@@ -216,27 +190,20 @@ fn empty_point(sets: &[Mask]) -> Option<u32>
 }
 
 /// Sweeps until one changes nothing or a point is emptied.
-fn sweeps(problem: &Problem, tracked: &mut Tracked, marks: &mut Marks, lines: &mut Lines) -> Closed
-    requires kept { KeepsTrack tracked.old }
-    requires long { length tracked.old.words.items ≡ problem.now.points }
-    requires room { HasRoom lines.old tracked.old.words.items }
-    requires marks_long { length problem.now.constraints ≤ 64 * length marks.old.words.items }
-    requires quiet { MarksTell problem.now.constraints marks.old tracked.old }
-    ensures step { SweepsTo problem.now lines.old tracked.old lines.new tracked.new result }
-    ensures kept { KeepsTrack tracked.new }
-    ensures grown { GrowsTo tracked.old tracked.new }
-    ensures long { length tracked.new.words.items ≡ length tracked.old.words.items }
-    ensures marks_long { length marks.new.words.items ≡ length marks.old.words.items }
-    ensures emptied { IsEmptied lines.new.items (sets_in tracked.new) result }
-    ensures named { NamesLost problem.now lines.old tracked.old lines.new tracked.new }
-    ensures sweeps { AreFew (count (sets_in tracked.old)) (count (sets_in tracked.new)) result }
-    ensures sweep_count { Takes (sweeps_to_close problem.now (sets_in tracked.old)) result }
-    ensures problem { IsWellFormed problem.now }
+fn sweeps(problem: &Problem, workspace: &mut Workspace, lines: &mut Lines) -> Closed
+    requires working { IsWorkingFor problem.now lines.old workspace.old }
+    requires marked { AreMarked problem.now.constraints workspace.old }
+    ensures step { SweepsTo problem.now lines.old workspace.old lines.new workspace.new result }
+    ensures proceeds { ProceedsFor problem.now
+        lines.old workspace.old lines.new workspace.new (emptied_by result) }
+    ensures named { NamesLost problem.now lines.old workspace.old lines.new workspace.new }
+    ensures sweeps { AreFew (count (box_in workspace.old)) (count (box_in workspace.new)) result }
+    ensures sweep_count { Takes (sweeps_to_close problem.now (box_in workspace.old)) result }
 {
     let mut sweeps = 1;
     'sweeping: loop {
         let before = lines.len();
-        if let Some(point) = sweep(problem, tracked, marks, lines) {
+        if let Some(point) = sweep(problem, workspace, lines) {
             return Closed::Empty(point);
         }
         if lines.len() == before {
@@ -248,88 +215,39 @@ fn sweeps(problem: &Problem, tracked: &mut Tracked, marks: &mut Marks, lines: &m
 
 /// Takes out of each execution in turn what is not supported there: of those that are marked, since the others have
 /// lost nothing. The point that this empties, if there is one.
-fn sweep(
-    problem: &Problem,
-    tracked: &mut Tracked,
-    marks: &mut Marks,
-    lines: &mut Lines,
-) -> Option<u32>
-    requires kept { KeepsTrack tracked.old }
-    requires long { length tracked.old.words.items ≡ problem.now.points }
-    requires room { HasRoom lines.old tracked.old.words.items }
-    requires marks_long { length problem.now.constraints ≤ 64 * length marks.old.words.items }
-    requires quiet { MarksTell problem.now.constraints marks.old tracked.old }
-    ensures step { Reaches (sweep problem.now) lines.old tracked.old lines.new tracked.new result }
-    ensures kept { KeepsTrack tracked.new }
-    ensures grown { GrowsTo tracked.old tracked.new }
-    ensures long { length tracked.new.words.items ≡ length tracked.old.words.items }
-    ensures marks_long { length marks.new.words.items ≡ length marks.old.words.items }
-    ensures quiet { IfNone result (MarksTell problem.now.constraints marks.new tracked.new) }
-    ensures emptied { IfSome result (EndsAt lines.new.items (sets_in tracked.new)) }
-    ensures named { NamesLost problem.now lines.old tracked.old lines.new tracked.new }
-    ensures room { IfNone result (HasRoom lines.new tracked.new.words.items) }
-    ensures spent { IfNone result (IsPaid lines.old tracked.old lines.new tracked.new) }
-    ensures problem { IsWellFormed problem.now }
+fn sweep(problem: &Problem, workspace: &mut Workspace, lines: &mut Lines) -> Option<u32>
+    requires working { IsWorkingFor problem.now lines.old workspace.old }
+    requires marked { AreMarked problem.now.constraints workspace.old }
+    ensures step { Reaches (sweep problem.now)
+        lines.old workspace.old lines.new workspace.new result }
+    ensures proceeds { ProceedsFor problem.now
+        lines.old workspace.old lines.new workspace.new result }
+    ensures marked { IfNone result (AreMarked problem.now.constraints workspace.new) }
+    ensures named { NamesLost problem.now lines.old workspace.old lines.new workspace.new }
 {
-    sweep_marked(
-        &problem.executions,
-        &problem.rules,
-        &problem.users,
-        tracked,
-        marks,
-        lines,
-    )
+    sweep_marked(&problem.network, workspace, lines)
 }
 
-/// Takes out of each of these executions in turn that is marked what is not supported there. The point that this
-/// empties, if there is one.
-fn sweep_marked(
-    executions: &[Execution],
-    rules: &[Rule],
-    users: &Users,
-    tracked: &mut Tracked,
-    marks: &mut Marks,
-    lines: &mut Lines,
-) -> Option<u32>
-    requires few { length executions.now ≤ most_executions }
-    requires within { AreWithin rules.now (length tracked.old.words.items) executions.now }
-    requires wide { All IsWide rules.now }
-    requires users { AreUsers users.now (length tracked.old.words.items) (length executions.now) }
-    requires told { AreTold users.now executions.now }
-    requires kept { KeepsTrack tracked.old }
-    requires room { HasRoom lines.old tracked.old.words.items }
-    requires marks_long { length executions.now ≤ 64 * length marks.old.words.items }
-    requires quiet { MarksTell (constraints_seen rules.now executions.now) marks.old tracked.old }
-    ensures step { Reaches (sweep_from 0 (constraints_seen rules.now executions.now))
-        lines.old tracked.old lines.new tracked.new result }
-    ensures kept { KeepsTrack tracked.new }
-    ensures grown { GrowsTo tracked.old tracked.new }
-    ensures long { length tracked.new.words.items ≡ length tracked.old.words.items }
-    ensures marks_long { length marks.new.words.items ≡ length marks.old.words.items }
-    ensures quiet { IfNone result
-        (MarksTell (constraints_seen rules.now executions.now) marks.new tracked.new) }
-    ensures emptied { IfSome result (EndsAt lines.new.items (sets_in tracked.new)) }
-    ensures named { NamesAll rules.now executions.now lines.old tracked.old lines.new tracked.new }
-    ensures room { IfNone result (HasRoom lines.new tracked.new.words.items) }
-    ensures spent { IfNone result (IsPaid lines.old tracked.old lines.new tracked.new) }
+/// Takes out of each execution in turn that is marked what is not supported there. The point that this empties, if
+/// there is one.
+fn sweep_marked(network: &Network, workspace: &mut Workspace, lines: &mut Lines) -> Option<u32>
+    requires network { IsNetwork network.now }
+    requires working { IsWorkingOn network.now lines.old workspace.old }
+    requires marked { AreMarked (constraints_in network.now) workspace.old }
+    ensures step { Reaches (sweep_from 0 (constraints_in network.now))
+        lines.old workspace.old lines.new workspace.new result }
+    ensures proceeds { ProceedsOn network.now
+        lines.old workspace.old lines.new workspace.new result }
+    ensures marked { IfNone result (AreMarked (constraints_in network.now) workspace.new) }
+    ensures named { NamesAll network.now lines.old workspace.old lines.new workspace.new }
 {
     let mut last = None;
     let mut next = 0;
-    'marked: while let Some(number) = marks.take_next(next) {
-        if number as usize >= executions.len() {
+    'marked: while let Some(number) = workspace.marks.take_next(next) {
+        if number as usize >= network.executions.len() {
             return None;
         }
-        if let Some(point) = revise(
-            number,
-            executions[number as usize],
-            executions.len() as u32,
-            rules,
-            users,
-            tracked,
-            marks,
-            lines,
-            &mut last,
-        ) {
+        if let Some(point) = revise(number, network, workspace, lines, &mut last) {
             return Some(point);
         }
         next = number + 1;
@@ -341,40 +259,28 @@ fn sweep_marked(
 /// the executions of the points that lose something. The point that this empties, if there is one.
 fn revise(
     number: u32,
-    execution: Execution,
-    executions: u32,
-    rules: &[Rule],
-    users: &Users,
-    tracked: &mut Tracked,
-    marks: &mut Marks,
+    network: &Network,
+    workspace: &mut Workspace,
     lines: &mut Lines,
     last: &mut Option<Revised>,
 ) -> Option<u32>
-    requires within { IsWithin (length rules.now) (length tracked.old.words.items) execution }
-    requires wide { All IsWide rules.now }
-    requires last { IsRevised rules.now last.old }
-    requires users { AreUsers users.now (length tracked.old.words.items) executions }
-    requires told { IsTold users.now execution number }
-    requires kept { KeepsTrack tracked.old }
-    requires room { HasRoom lines.old tracked.old.words.items }
-    requires marks_long { executions ≤ 64 * length marks.old.words.items }
-    ensures step { Reaches (revision number (constraint_seen rules.now execution))
-        lines.old tracked.old lines.new tracked.new result }
-    ensures kept { KeepsTrack tracked.new }
-    ensures grown { GrowsTo tracked.old tracked.new }
-    ensures long { length tracked.new.words.items ≡ length tracked.old.words.items }
-    ensures marks_long { length marks.new.words.items ≡ length marks.old.words.items }
-    ensures untouched { LeavesUntouched users.now tracked.old marks.old tracked.new marks.new }
-    ensures silent { IsSilent number marks.new tracked.old tracked.new }
-    ensures last { IsRevised rules.now last.new }
-    ensures emptied { IfSome result (EndsAt lines.new.items (sets_in tracked.new)) }
-    ensures named { NamesIn rules.now execution number lines.old tracked.old lines.new tracked.new }
-    ensures room { IfNone result (HasRoom lines.new tracked.new.words.items) }
-    ensures spent { IfNone result (IsPaid lines.old tracked.old lines.new tracked.new) }
+    requires network { IsNetwork network.now }
+    requires number { number < length network.now.executions.items }
+    requires working { IsWorkingOn network.now lines.old workspace.old }
+    requires last { IsRevised network.now.rules.items last.old }
+    ensures step { Reaches (revision number (constraint_in network.now number))
+        lines.old workspace.old lines.new workspace.new result }
+    ensures proceeds { ProceedsOn network.now
+        lines.old workspace.old lines.new workspace.new result }
+    ensures untouched { LeavesUntouched network.now workspace.old workspace.new }
+    ensures silent { IsSilent number workspace.old workspace.new }
+    ensures last { IsRevised network.now.rules.items last.new }
+    ensures named { NamesIn network.now number lines.old workspace.old lines.new workspace.new }
 {
-    let found = candidates_at(execution, &tracked.words);
-    let supported = supported_at(execution.rule, found, rules, last);
-    let rule = &rules[execution.rule as usize];
+    let execution = network.executions[number as usize];
+    let found = candidates_at(execution, &workspace.tracked.words);
+    let supported = supported_at(execution.rule, found, &network.rules, last);
+    let rule = &network.rules[execution.rule as usize];
     'places: for place in 0..rule.simplex.colours() {
         let at = Place {
             execution: number,
@@ -382,7 +288,7 @@ fn revise(
             point: execution.points[place as usize],
         };
         let lost = difference(found[place as usize], supported[place as usize]);
-        if take_place(lost, at, executions, users, tracked, marks, lines) {
+        if take_place(lost, at, network, workspace, lines) {
             return Some(at.point);
         }
     }
@@ -394,43 +300,33 @@ fn revise(
 fn take_place(
     lost: Mask,
     place: Place,
-    executions: u32,
-    users: &Users,
-    tracked: &mut Tracked,
-    marks: &mut Marks,
+    network: &Network,
+    workspace: &mut Workspace,
     lines: &mut Lines,
 ) -> bool
-    requires users { AreUsers users.now (length tracked.old.words.items) executions }
-    requires marks_long { executions ≤ 64 * length marks.old.words.items }
-    requires kept { KeepsTrack tracked.old }
-    requires point { place.point < length tracked.old.words.items }
-    requires room { HasRoom lines.old tracked.old.words.items }
-    ensures step { TakesEach lost place lines.old tracked.old.words.items
-        lines.new tracked.new.words.items result }
-    ensures kept { KeepsTrack tracked.new }
-    ensures grown { GrowsTo tracked.old tracked.new }
-    ensures long { length tracked.new.words.items ≡ length tracked.old.words.items }
-    ensures marks_long { length marks.new.words.items ≡ length marks.old.words.items }
-    ensures untouched { LeavesUntouched users.now tracked.old marks.old tracked.new marks.new }
-    ensures silent { AreSilent users.now place.point marks.new tracked.old tracked.new }
-    ensures emptied { OnTrue result (EndsAt lines.new.items (sets_in tracked.new) place.point) }
-    ensures named { NamesAt place lines.old tracked.old.words.items
-        lines.new tracked.new.words.items }
-    ensures room { OnFalse result (HasRoom lines.new tracked.new.words.items) }
-    ensures spent { OnFalse result (IsPaid lines.old tracked.old lines.new tracked.new) }
+    requires network { IsNetwork network.now }
+    requires point { place.point < network.now.points }
+    requires working { IsWorkingOn network.now lines.old workspace.old }
+    ensures step { TakesEach lost place lines.old workspace.old.tracked.words.items
+        lines.new workspace.new.tracked.words.items result }
+    ensures proceeds { ProceedsOn network.now
+        lines.old workspace.old lines.new workspace.new (point_if result place.point) }
+    ensures untouched { LeavesUntouched network.now workspace.old workspace.new }
+    ensures silent { AreSilent network.now place.point workspace.old workspace.new }
+    ensures named { NamesAt place lines.old workspace.old.tracked.words.items
+        lines.new workspace.new.tracked.words.items }
 {
     // what most places lose
     if is_empty(lost) {
         return false;
     }
-    let before = tracked.words[place.point as usize];
-    let emptied = take_each(lost, place, &mut tracked.words, lines);
-    if tracked.words[place.point as usize] == before {
+    let before = workspace.tracked.words[place.point as usize];
+    let emptied = take_each(lost, place, &mut workspace.tracked.words, lines);
+    if workspace.tracked.words[place.point as usize] == before {
         return emptied;
     }
-    let points = tracked.words.len() as u32;
-    tracked.note(place.point, before);
-    marks.mark_each(users.of(place.point, points, executions));
+    workspace.tracked.note(place.point, before);
+    workspace.marks.mark_each(network.users_of(place.point));
     emptied
 }
 

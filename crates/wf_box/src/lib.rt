@@ -16,6 +16,7 @@ mod snapshot;
 mod taking;
 mod tracked;
 mod users;
+mod workspace;
 
 pub use boxed::{Box0, Mark};
 pub use closing::{Closed, close};

@@ -6,7 +6,8 @@ ghost use Rattle.wf_model.specs.Problem.{IsWellFormed, problem_of};
 ghost use Rattle.wf_complex.specs.Protocol.{IsProtocol};
 ghost use Rattle.wf_model.specs.Split.{most_values};
 ghost use Rattle.wf_model.specs.Limits.{most_executions, most_points};
-ghost use Rattle.wf_box.specs.Problems.{AreExecutionsOf, AreWithin, IsRuleOf, IsWide, rule_seen};
+ghost use Rattle.wf_box.specs.Problems.{AreExecutionsOf, AreWithin, IsNetwork, IsRuleOf, IsWide, rule_seen};
+ghost use Rattle.wf_box.specs.Quiet.{users_of};
 
 use crate::users::Users;
 use std::alloc::{AllocError, Global};
@@ -45,18 +46,38 @@ pub(crate) struct Execution {
     pub(crate) points: [u32; 4],
 }
 
+/// The constraints of a problem as they are kept: a rule for each input simplex, the executions, and the executions of
+/// each point.
+#[derive(Drop)]
+pub(crate) struct Network {
+    pub(crate) points: u32,
+    pub(crate) rules: Vec<Rule>,
+    pub(crate) executions: Vec<Execution>,
+    pub(crate) users: Users,
+}
+
+impl Network {
+    /// The executions in which a point stands.
+    pub(crate) fn users_of(&self, point: u32) -> &[u32]
+        requires network { IsNetwork self.now }
+        requires point { point < self.now.points }
+        ensures users { result.now ≡ users_of self.now.users point }
+        ensures below { All (λ e. e < length self.now.executions.items) result.now }
+    {
+        self.users
+            .of(point, self.points, self.executions.len() as u32)
+    }
+}
+
 /// The constraint problem of a task after some rounds: a decision map gives each point a value, so that in each
 /// execution the values at its points are a tuple that the task allows.
 ///
 /// Points and executions have the numbers of the protocol complex. The tuples of an input simplex are kept once.
 #[derive(Drop)]
 pub struct Problem {
-    pub(crate) points: u32,
     // those that occur in the outputs
     pub(crate) values: Mask,
-    pub(crate) rules: Vec<Rule>,
-    pub(crate) executions: Vec<Execution>,
-    pub(crate) users: Users,
+    pub(crate) network: Network,
 }
 
 impl Model for Problem {
@@ -83,11 +104,13 @@ impl Problem {
         let points = protocol.points();
         let users = Users::of_points(alloc, points, &executions)?;
         Ok(Problem {
-            points,
             values: task.values(),
-            rules,
-            executions,
-            users,
+            network: Network {
+                points,
+                rules,
+                executions,
+                users,
+            },
         })
     }
 
@@ -98,7 +121,7 @@ impl Problem {
         ensures few_values { length self.now.values ≤ most_values }
         ensures well_formed { IsWellFormed self.now }
     {
-        self.points
+        self.network.points
     }
 }
 

@@ -7,6 +7,7 @@ use crate::boxed::Box0;
 use crate::kept::KeptSets;
 use crate::marks::Marks;
 use crate::tracked::Tracked;
+use crate::workspace::Workspace;
 use std::alloc::{AllocError, Global};
 use std::marker::Model;
 
@@ -39,9 +40,11 @@ impl Snapshot {
     {
         let sets = self.sets.to_sets(alloc)?;
         Ok(Box0 {
-            tracked: Tracked::new(alloc, sets)?,
+            workspace: Workspace {
+                tracked: Tracked::new(alloc, sets)?,
+                marks: Marks::new(alloc),
+            },
             closed: if self.is_closed { Some(0) } else { None },
-            marks: Marks::new(alloc),
         })
     }
 

@@ -9,7 +9,7 @@ ghost use Rattle.wf_set.specs.Sets.{box_of};
 ghost use Rattle.wf_box.specs.Closes.{EndsAt};
 ghost use Rattle.wf_box.specs.Steps.{HasRoom, IsSpent, NamesAt, TakesEach, TakesOut};
 
-use wf_complex::{Line, Lines};
+use wf_lines::{Line, Lines};
 use wf_set::{Mask, holds, is_empty, split_first, without};
 
 /// A process of an execution, and its point.
@@ -67,14 +67,14 @@ fn take_out(value: u8, place: Place, sets: &mut [Mask], lines: &mut Lines) -> bo
     sets[point] = set;
     put(
         lines,
-        Line::P {
+        Line::Remove {
             execution: place.execution,
             process: place.process,
             value,
         },
     );
     if is_empty(set) {
-        put(lines, Line::Z { point: place.point });
+        put(lines, Line::Empty { point: place.point });
         return true;
     }
     false

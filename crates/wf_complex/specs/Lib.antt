@@ -1,5 +1,4 @@
 -- What contracts say, here and in the crates above.
-pub mod Lines
 pub mod Faults
 pub mod Protocol
 -- What only this crate's own code and proofs use.

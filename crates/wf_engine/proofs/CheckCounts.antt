@@ -1,17 +1,17 @@
 -- The counts of a run over two sources.
-use Rattle.std.proofs.Common.{◌≡◌, ℕ, ◌+◌, ◌≤◌, List, Result, Ok, Err, refl, sym, ap, ◌∙◌, arith}
+use Rattle.std.proofs.Common.{◌≡◌, ℕ, ◌+◌, ◌≤◌, inl, inr, List, Option, Some, None, Result, Ok, Err, refl, sym, ap, ◌∙◌, arith}
 use Rattle.wf_model.specs.Task.{Task}
 use Rattle.wf_model.specs.Report.{Report}
 use Rattle.wf_io.specs.Seen.{Reading, Writing}
 use Rattle.wf_io.specs.Texts as io
 use Rattle.wf_io.specs.declared.source.ReadFault.{ReadFault}
 use Rattle.wf_io.specs.declared.source.ReadFault.TheVariants as read
-use Rattle.wf_task.specs.declared.task.TheConstants.{LONGEST}
+use Rattle.wf_model.specs.Limits.{most_bytes}
 use Rattle.wf_engine.specs.declared.fault.RunFault.{RunFault}
 use Rattle.wf_engine.specs.declared.fault.RunFault.TheVariants as run
-use Rattle.wf_engine.specs.Run.{Next, Judged, Ran}
+use Rattle.wf_engine.specs.Run.{Hands, IsTaskOf, Next, Judged, Ran, Reads}
 use Rattle.wf_engine.specs.Laws.{failed_reads, failed_writes, by_result, IsChecked}
-use Rattle.wf_engine.specs.Verify.{IsReportOf, IsVerified, Checks, ChecksFor}
+use Rattle.wf_engine.specs.Verify.{IsReportOf, IsVerified, IsVerifiedFor, Checks, ChecksFor}
 use Rattle.wf_engine.proofs.Counts.{beyond, few, handed, judged}
 
 judged_report : (text : Result (List ℕ) ReadFault) (r : Result Report RunFault) → Judged IsReportOf text r → (io.failed_reads text ≡ by_result failed_reads r) × (by_result failed_writes r ≡ 0)
@@ -23,34 +23,31 @@ judged_report (Err read.TooLong) r j = (sym (ap (by_result failed_reads) j), ap 
 judged_report (Err read.OutOfMemory) r j = (sym (ap (by_result failed_reads) j), ap (by_result failed_writes) j)
 judged_report (Err read.Read) r j = (sym (ap (by_result failed_reads) j), ap (by_result failed_writes) j)
 
-verified : {X : Type 0} (is_text : Task → Report → X → List ℕ → Type 0) (t : Task) (r : Result Report RunFault) (answer : Result (X × List ℕ) RunFault) → Next (IsVerified is_text t) r answer → by_result failed_writes r ≡ 0
+-- a check fails no call
+pub checks_alone : {X : Type 0} (is_text : Task → Report → X → List ℕ → Type 0) (t : Task) (r : Report) (answer : Result (X × List ℕ) RunFault) → IsVerified is_text t r answer
+    → (0 ≡ by_result failed_reads answer) × (by_result failed_writes answer ≡ 0)
+checks_alone is_text t r (Ok a) is = (refl, refl)
+checks_alone is_text t r (Err (run.Cert e)) is = (refl, refl)
+checks_alone is_text t r (Err e) is = (sym (beyond t r.rounds e is).0, (beyond t r.rounds e is).1)
+
+verified : {X : Type 0} (rounds : Option ℕ) (is_text : Task → Report → X → List ℕ → Type 0) (t : Task) (r : Result Report RunFault) (answer : Result (X × List ℕ) RunFault) → Next (IsVerifiedFor rounds is_text t) r answer → by_result failed_writes r ≡ 0
     → (by_result failed_reads r ≡ by_result failed_reads answer) × (by_result failed_writes answer ≡ 0)
-verified is_text t (Ok r) (Ok a) n w = (refl, refl)
-verified is_text t (Ok r) (Err (run.Cert e)) n w = (refl, refl)
-verified is_text t (Ok r) (Err e) n w = (sym (beyond r.rounds t e n).0, (beyond r.rounds t e n).1)
-verified is_text t (Err e) answer n w = (sym (ap (by_result failed_reads) n), ap (by_result failed_writes) n ∙ w)
+verified None is_text t (Ok r) answer n w = checks_alone is_text t r answer n
+verified (Some rounds) is_text t (Ok r) answer (inl (same, n)) w = checks_alone is_text t r answer n
+verified (Some rounds) is_text t (Ok r) answer (inr (other, is)) w = (sym (ap (by_result failed_reads) is), ap (by_result failed_writes) is)
+verified rounds is_text t (Err e) answer n w = (sym (ap (by_result failed_reads) n), ap (by_result failed_writes) n ∙ w)
 
-record IsCertCounted {X : Type 0} (cert cert' : Reading) (t : Result Task RunFault) (answer : Result (X × List ℕ) RunFault) : Type 0 where
-  taken : cert'.taken ≤ cert.taken + (LONGEST + 1)
-  failed : ℕ
-  failures : cert'.failures ≡ cert.failures + failed
-  reads : by_result failed_reads t + failed ≡ by_result failed_reads answer
-  writes : by_result failed_writes answer ≡ 0
+-- what a run counts of a source that is read after a step that gave something or was refused
+pub record IsCertCounted {X Y : Type 0} (cert cert' : Reading) (before : Result Y RunFault) (answer : Result (X × List ℕ) RunFault) : Type 0 where
+  pub taken : cert'.taken ≤ cert.taken + (most_bytes + 1)
+  pub failed : ℕ
+  pub failures : cert'.failures ≡ cert.failures + failed
+  pub reads : by_result failed_reads before + failed ≡ by_result failed_reads answer
+  pub writes : by_result failed_writes answer ≡ 0
 
-cert_counted : {X : Type 0} (is_text : Task → Report → X → List ℕ → Type 0) (cert cert' : Reading) (t : Result Task RunFault) (answer : Result (X × List ℕ) RunFault) → ChecksFor is_text cert cert' t answer → by_result failed_writes t ≡ 0
-    → IsCertCounted cert cert' t answer
-cert_counted is_text cert cert' (Ok t) answer (r, (text, (given, gave, is), j), n) w =
-    let a = judged_report text r j in
-    let b = verified is_text t r answer n a.1 in
-    let bound = few LONGEST given cert'.left text is in
-    record {
-      taken = omega (arith, gave.taken, bound);
-      failed = io.failed_reads text;
-      failures = gave.failures;
-      reads = omega (arith, a.0, b.0);
-      writes = b.1;
-    }
-cert_counted is_text cert cert' (Err e) answer (is, same) w =
+-- it was left alone after a refusal
+pub left_alone : {X Y : Type 0} (cert cert' : Reading) (e : RunFault) (answer : Result (X × List ℕ) RunFault) → answer ≡ Err e → cert' ≡ cert → failed_writes e ≡ 0 → IsCertCounted {Y = Y} cert cert' (Err e) answer
+left_alone cert cert' e answer is same w =
     let takes : cert'.taken ≡ cert.taken = ap (λ s. s.taken) same in
     let fails : cert'.failures ≡ cert.failures = ap (λ s. s.failures) same in
     let reads : by_result failed_reads answer ≡ failed_reads e = ap (by_result failed_reads) is in
@@ -62,14 +59,29 @@ cert_counted is_text cert cert' (Err e) answer (is, same) w =
       writes = ap (by_result failed_writes) is ∙ w;
     }
 
--- a run over a task and a report, whatever it answers
-pub checked : {X : Type 0} (is_text : Task → Report → X → List ℕ → Type 0) (task task' cert cert' : Reading) (sink sink' : Writing) (result : Result X RunFault)
-    → Ran (Checks is_text task task' cert cert') sink sink' result → IsChecked task task' cert cert' sink sink' result
-checked is_text task task' cert cert' sink sink' result (answer, (t, (text, (given, gave, is), j), checks), h) =
+cert_counted : {X : Type 0} (rounds : Option ℕ) (is_text : Task → Report → X → List ℕ → Type 0) (cert cert' : Reading) (t : Result Task RunFault) (answer : Result (X × List ℕ) RunFault) → ChecksFor rounds is_text cert cert' t answer → by_result failed_writes t ≡ 0
+    → IsCertCounted cert cert' t answer
+cert_counted rounds is_text cert cert' (Ok t) answer (r, (text, (given, gave, is), j), n) w =
+    let a = judged_report text r j in
+    let b = verified rounds is_text t r answer n a.1 in
+    let bound = few most_bytes given cert'.left text is in
+    record {
+      taken = omega (arith, gave.taken, bound);
+      failed = io.failed_reads text;
+      failures = gave.failures;
+      reads = omega (arith, a.0, b.0);
+      writes = b.1;
+    }
+cert_counted rounds is_text cert cert' (Err e) answer (is, same) w = left_alone cert cert' e answer is same w
+
+-- a run over a task and another source, whatever it answers
+pub both_counted : {X : Type 0} (task task' cert cert' : Reading) (sink sink' : Writing) (t : Result Task RunFault) (answer : Result (X × List ℕ) RunFault) (result : Result X RunFault)
+    → Reads IsTaskOf task task' t → (by_result failed_writes t ≡ 0 → IsCertCounted cert cert' t answer) → Hands sink sink' answer result → IsChecked task task' cert cert' sink sink' result
+both_counted task task' cert cert' sink sink' t answer result (text, (given, gave, is), j) counted h =
     let a = judged text t j in
-    let b = cert_counted is_text cert cert' t answer checks a.1 in
+    let b = counted a.1 in
     let c = handed sink sink' answer result h b.writes in
-    let bound = few LONGEST given task'.left text is in
+    let bound = few most_bytes given task'.left text is in
     record {
       task_taken = omega (arith, gave.taken, bound);
       cert_taken = b.taken;
@@ -77,3 +89,9 @@ checked is_text task task' cert cert' sink sink' result (answer, (t, (text, (giv
       writes = c.writes;
       unwritten = c.unwritten;
     }
+
+-- a run over a task and a report
+pub checked : {X : Type 0} (rounds : Option ℕ) (is_text : Task → Report → X → List ℕ → Type 0) (task task' cert cert' : Reading) (sink sink' : Writing) (result : Result X RunFault)
+    → Ran (Checks rounds is_text task task' cert cert') sink sink' result → IsChecked task task' cert cert' sink sink' result
+checked rounds is_text task task' cert cert' sink sink' result (answer, (t, reads, checks), h) =
+    both_counted task task' cert cert' sink sink' t answer result reads (cert_counted rounds is_text cert cert' t answer checks) h

@@ -8,12 +8,12 @@ use Rattle.wf_io.specs.declared.source.ReadFault.{ReadFault}
 use Rattle.wf_io.specs.declared.source.ReadFault.TheVariants as read
 use Rattle.wf_task.specs.declared.fault.TaskFault.{TaskFault}
 use Rattle.wf_task.specs.declared.fault.TaskFault.TheVariants as task
-use Rattle.wf_task.specs.declared.task.TheConstants.{LONGEST}
+use Rattle.wf_model.specs.Limits.{most_bytes}
 use Rattle.wf_engine.specs.declared.fault.RunFault.{RunFault}
 use Rattle.wf_engine.specs.declared.fault.RunFault.TheVariants as run
 use Rattle.wf_engine.specs.Faults.{of_task}
 use Rattle.wf_engine.specs.Presets.{IsPreset, WritesPreset}
-use Rattle.wf_engine.specs.declared.preset.Preset.{Preset}
+use Rattle.wf_preset.specs.declared.named.Preset.{Preset}
 use Rattle.wf_engine.specs.Run.{Next, Judged, IsTaskOf, IsBeyondLimits, Answers, Asks, Hands, Ran}
 use Rattle.wf_engine.specs.Laws.{failed_reads, failed_writes, by_result, IsCounted, IsWritten}
 
@@ -38,16 +38,16 @@ judged (Err read.TooLong) t j = (sym (ap (by_result failed_reads) j), ap (by_res
 judged (Err read.OutOfMemory) t j = (sym (ap (by_result failed_reads) j), ap (by_result failed_writes) j)
 judged (Err read.Read) t j = (sym (ap (by_result failed_reads) j), ap (by_result failed_writes) j)
 
-pub beyond : (r : ℕ) (t : Task) (e : RunFault) → IsBeyondLimits r t e → (failed_reads e ≡ 0) × (failed_writes e ≡ 0)
-beyond r t run.Read is = absurd is
-beyond r t run.Write is = absurd is
-beyond r t e is = (refl, refl)
+pub beyond : (t : Task) (r : ℕ) (e : RunFault) → IsBeyondLimits t r e → (failed_reads e ≡ 0) × (failed_writes e ≡ 0)
+beyond t r run.Read is = absurd is
+beyond t r run.Write is = absurd is
+beyond t r e is = (refl, refl)
 
-module _ {X : Type 0} (is_text : Task → X → List ℕ → Type 0) (r : ℕ) where
-  answered : (t : Result Task RunFault) (answer : Result (X × List ℕ) RunFault) → Next (Answers is_text r) t answer → by_result failed_writes t ≡ 0
+module _ {X : Type 0} (is_text : Task → ℕ → X → List ℕ → Type 0) (r : ℕ) where
+  answered : (t : Result Task RunFault) (answer : Result (X × List ℕ) RunFault) → Next (λ t. Answers is_text t r) t answer → by_result failed_writes t ≡ 0
       → (by_result failed_reads t ≡ by_result failed_reads answer) × (by_result failed_writes answer ≡ 0)
   answered (Ok t) (Ok a) n w = (refl, refl)
-  answered (Ok t) (Err e) n w = (sym (beyond r t e n).0, (beyond r t e n).1)
+  answered (Ok t) (Err e) n w = (sym (beyond t r e n).0, (beyond t r e n).1)
   answered (Err e) answer n w = (sym (ap (by_result failed_reads) n), ap (by_result failed_writes) n ∙ w)
 
 -- what holds of a sink after an answer was handed to it
@@ -79,13 +79,13 @@ handed old new (Err e) result (is, same) w =
     }
 
 -- any run over one source, whatever it answers
-pub counted : {X : Type 0} (is_text : Task → X → List ℕ → Type 0) (rounds : ℕ) (source source' : Reading) (sink sink' : Writing) (result : Result X RunFault)
+pub counted : {X : Type 0} (is_text : Task → ℕ → X → List ℕ → Type 0) (rounds : ℕ) (source source' : Reading) (sink sink' : Writing) (result : Result X RunFault)
     → Ran (Asks is_text rounds source source') sink sink' result → IsCounted source source' sink sink' result
 counted is_text rounds source source' sink sink' result (answer, (t, (text, (given, gave, is), j), n), h) =
     let a = judged text t j in
     let b = answered is_text rounds t answer n a.1 in
     let c = handed sink sink' answer result h b.1 in
-    let bound = few LONGEST given source'.left text is in
+    let bound = few most_bytes given source'.left text is in
     record {
       taken = omega (arith, gave.taken, bound);
       reads = gave.failures ∙ ap (λ k. source.failures + k) (a.0 ∙ b.0 ∙ c.reads);

@@ -19,8 +19,7 @@ use Rattle.wf_model.specs.Refutation.{Line, remove, empty, branch, found, Tree, 
 use Rattle.wf_model.specs.Closing.{Step, Trace, Loss, same_candidate, continued, taken_out, take_out, take_out_each, places, lost_at, lost, sweep_from, sweep, unless_none, sweeps, closing_at, closing, before, in_turn, branching_at, branching, searched, search_within, canonical}
 use Rattle.wf_model.specs.LeastTree.{IsLeastTree, LeastAmong}
 use Rattle.wf_model.specs.Limits.{most_number}
-use Rattle.wf_model.specs.Report.{Body, a_map, none, least, largest}
-use Rattle.wf_model.specs.Laws.{report_about}
+use Rattle.wf_model.specs.Report.{Body, a_map, none, least, largest, report_about}
 use Rattle.wf_model.proofs.Accepting.{each_at}
 use Rattle.wf_model.proofs.Bridge.{weaker}
 use Rattle.wf_model.proofs.Closed.{each_with_value}
@@ -33,7 +32,7 @@ use Rattle.wf_model.proofs.Tasks.{inputs_within, outputs_within}
 use Rattle.wf_simplex.proofs.Lemmas.{length-within}
 use Rattle.wf_task.proofs.Lemmas.{has_from_order}
 use Rattle.wf_complex.proofs.Lemmas.{length-distinct}
-use Rattle.wf_cert.specs.Grammar.{IsLineWithin, IsStepWithin, IsBodyWithin, IsInGrammar, last_process}
+use Rattle.wf_report.specs.Grammar.{IsLineWithin, IsStepWithin, IsBodyWithin, IsInGrammar, last_process}
 use Rattle.wf_engine.specs.Run.{HasComplex}
 
 -- ---- the values of removed candidates
@@ -285,7 +284,7 @@ module _ (t : Task) (r : ℕ) (task : IsTask t) where
       (subst (AllByRecursion (λ x. x ≤ last_process)) (sym (scope_processes t (points t r) (last_views e) ∙ same)) (processes_within e.rule.input s))))
 
   -- at most four points for each execution
-  points_few : length (points t r) ≤ length (executions t r) * 4
+  pub points_few : length (points t r) ≤ length (executions t r) * 4
   points_few =
       let all : length (flat_map (classes t) (executions t r)) ≤ length (executions t r) * 4 = flat_few 4 (classes t) (executions t r)
       (executions_have (λ e. length (classes t e) ≤ 4)
@@ -324,7 +323,7 @@ module _ (t : Task) (r : ℕ) (task : IsTask t) where
   root_small : AreSmall (root (problem_of t r))
   root_small = recursion_from_All _ (root (problem_of t r)) (All-replicate (λ set. AllByRecursion IsSmall set) (length (points t r)) (values t) values_small)
 
-  module _ (within : HasComplex r t) where
+  module _ (within : HasComplex t r) where
     few_points : length (points t r) ≤ most_number
     few_points = omega (arith, points_few t r task, within.1.1)
 

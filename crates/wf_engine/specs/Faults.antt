@@ -1,5 +1,5 @@
 -- How the refusals of the parts become those of a run, and the number and the name of each.
-use Rattle.std.specs.Prelude.{ℕ, List, codes}
+use Rattle.std.specs.Prelude.{ℕ, List, ◌++◌, codes, decimal}
 use Rattle.wf_io.specs.declared.source.ReadFault.{ReadFault}
 use Rattle.wf_io.specs.declared.source.ReadFault.TheVariants as read
 use Rattle.wf_task.specs.declared.fault.TaskFault.{TaskFault}
@@ -8,11 +8,13 @@ use Rattle.wf_task.specs.FaultText as task_text
 use Rattle.wf_complex.specs.declared.fault.BuildFault.{BuildFault}
 use Rattle.wf_complex.specs.declared.fault.BuildFault.TheVariants as build
 use Rattle.wf_complex.specs.Faults as build_text
-use Rattle.wf_cert.specs.declared.fault.CertFault.{CertFault}
-use Rattle.wf_cert.specs.declared.fault.CertFault.TheVariants as cert
-use Rattle.wf_cert.specs.Faults as cert_text
+use Rattle.wf_report.specs.declared.fault.CertFault.{CertFault}
+use Rattle.wf_report.specs.declared.fault.CertFault.TheVariants as cert
+use Rattle.wf_report.specs.Faults as cert_text
+use Rattle.wf_cnf.specs.declared.solver.ModelFault.{ModelFault}
+use Rattle.wf_cnf.specs.declared.solver.ModelFault.TheVariants as model
 use Rattle.wf_engine.specs.declared.fault.RunFault.{RunFault}
-use Rattle.wf_engine.specs.declared.fault.RunFault.TheVariants.{TooLong, Task, Build, Cert, OutOfMemory, Read, Write}
+use Rattle.wf_engine.specs.declared.fault.RunFault.TheVariants.{TooLong, Task, Build, Cert, Model, OtherRounds, OutOfMemory, Read, Write}
 
 -- a text that is too long is one refusal, and so is out of memory, wherever they came
 abbrev pub of_read : ReadFault → RunFault
@@ -34,6 +36,17 @@ of_cert cert.TooLong = TooLong
 of_cert cert.OutOfMemory = OutOfMemory
 of_cert e = Cert e
 
+abbrev pub of_model : ModelFault → RunFault
+of_model model.OutOfMemory = OutOfMemory
+of_model e = Model e
+
+-- what is printed of a solver's text that gives no map
+abbrev pub model_text : ModelFault → List ℕ
+model_text (model.NoModel line) = codes "37 NoModel " ++ decimal line
+model_text (model.NotALiteral line) = codes "38 NotALiteral " ++ decimal line
+model_text (model.NoSuchVariable line) = codes "39 NoSuchVariable " ++ decimal line
+model_text model.OutOfMemory = task_text.fault_text task.OutOfMemory
+
 -- each part owns the numbers and the names of its own refusals
 abbrev pub fault_text : RunFault → List ℕ
 fault_text TooLong = task_text.fault_text task.TooLong
@@ -41,5 +54,7 @@ fault_text (Task e) = task_text.fault_text e
 fault_text OutOfMemory = task_text.fault_text task.OutOfMemory
 fault_text (Build e) = build_text.fault_text e
 fault_text (Cert e) = cert_text.fault_text e
+fault_text (Model e) = model_text e
+fault_text OtherRounds = codes "36 OtherRounds"
 fault_text Read = codes "30 Read"
 fault_text Write = codes "31 Write"

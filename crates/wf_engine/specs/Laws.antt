@@ -1,20 +1,25 @@
 -- What holds after every run, whatever it answers.
-use Rattle.std.specs.Prelude.{◌≡◌, ◌≢◌, ◌+◌, ◌≤◌, ℕ, List, length, Result, Ok, Err, IfErr}
+use Rattle.std.specs.Prelude.{◌≡◌, ◌≢◌, ◌+◌, ◌≤◌, ℕ, List, length, Option, None, Some, Result, Ok, Err, IfErr}
+use Rattle.wf_model.specs.Limits.{most_bytes}
 use Rattle.wf_model.specs.Task.{Task, IsTask}
 use Rattle.wf_core.specs.declared.Account.{Account}
 use Rattle.wf_io.specs.Seen.{Reading, Writing}
-use Rattle.wf_task.specs.declared.task.TheConstants.{LONGEST}
+use Rattle.wf_io.specs.Texts.{Took}
 use Rattle.wf_engine.specs.declared.outcome.Outcome.{Outcome}
 use Rattle.wf_engine.specs.declared.outcome.Outcome.TheVariants as outcome
-use Rattle.wf_engine.specs.declared.outcome.Form.{Form}
-use Rattle.wf_engine.specs.declared.outcome.Form.TheVariants as form
+use Rattle.wf_engine.specs.declared.outcome.Accepted.{Accepted}
+use Rattle.wf_engine.specs.declared.outcome.Accepted.TheVariants as accepted
+use Rattle.wf_report.specs.declared.form.Form.{Form}
+use Rattle.wf_report.specs.declared.form.Form.TheVariants as form
 use Rattle.wf_engine.specs.declared.fault.RunFault.{RunFault}
 use Rattle.wf_engine.specs.declared.fault.RunFault.TheVariants.{OutOfMemory, Read, Write}
-use Rattle.wf_engine.specs.declared.preset.Preset.{Preset}
+use Rattle.wf_preset.specs.declared.named.Preset.{Preset}
 use Rattle.wf_engine.specs.Run.{HasComplex}
 use Rattle.wf_engine.specs.Presets.{WritesPreset}
 use Rattle.wf_engine.specs.Texts.{IsSolved, Solves, Lists}
 use Rattle.wf_engine.specs.Verify.{ChecksText, Decides, Verifies}
+use Rattle.wf_engine.specs.Models.{Models}
+use Rattle.wf_engine.specs.Headline.{GaveTask}
 
 -- how many reads, and how many writes, failed by a refusal
 abbrev pub failed_reads : RunFault → ℕ
@@ -33,7 +38,7 @@ by_result count (Err e) = count e
 -- At most one byte more than a text may have is taken. A failed read is told by 30 and nothing else is, and a failed
 -- write by 31. After any other refusal the sink is as it was.
 pub record IsCounted {X : Type 0} (source source' : Reading) (sink sink' : Writing) (result : Result X RunFault) : Type 0 where
-  pub taken : source'.taken ≤ source.taken + (LONGEST + 1)
+  pub taken : source'.taken ≤ source.taken + (most_bytes + 1)
   pub reads : source'.failures ≡ source.failures + by_result failed_reads result
   pub writes : sink'.failures ≡ sink.failures + by_result failed_writes result
   pub unwritten : IfErr result (λ e. e ≢ Write → sink' ≡ sink)
@@ -69,39 +74,52 @@ pub record AreCounted (task task' cert cert' : Reading) (failed : ℕ) : Type 0 
 
 -- The same over two sources, a task's and a report's: a failed read of either is told by 30.
 pub record IsChecked {X : Type 0} (task task' cert cert' : Reading) (sink sink' : Writing) (result : Result X RunFault) : Type 0 where
-  pub task_taken : task'.taken ≤ task.taken + (LONGEST + 1)
-  pub cert_taken : cert'.taken ≤ cert.taken + (LONGEST + 1)
+  pub task_taken : task'.taken ≤ task.taken + (most_bytes + 1)
+  pub cert_taken : cert'.taken ≤ cert.taken + (most_bytes + 1)
   pub reads : AreCounted task task' cert cert' (by_result failed_reads result)
   pub writes : sink'.failures ≡ sink.failures + by_result failed_writes result
   pub unwritten : IfErr result (λ e. e ≢ Write → sink' ≡ sink)
 
 abbrev pub VerifyingIsCounted : Type 0
 VerifyingIsCounted =
-    (task task' cert cert' : Reading) (sink sink' : Writing) (result : Result Outcome RunFault)
-    → Verifies task task' cert cert' sink sink' result → IsChecked task task' cert cert' sink sink' result
+    (rounds : Option ℕ) (task task' cert cert' : Reading) (sink sink' : Writing) (result : Result Accepted RunFault)
+    → Verifies rounds task task' cert cert' sink sink' result → IsChecked task task' cert cert' sink sink' result
 
 abbrev pub DecidingIsCounted : Type 0
 DecidingIsCounted =
     (task task' cert cert' : Reading) (sink sink' : Writing) (result : Result (Unit {0}) RunFault)
     → Decides task task' cert cert' sink sink' result → IsChecked task task' cert cert' sink sink' result
 
+abbrev pub ModellingIsCounted : Type 0
+ModellingIsCounted =
+    (rounds : ℕ) (task task' output output' : Reading) (sink sink' : Writing) (result : Result (Unit {0}) RunFault)
+    → Models rounds task task' output output' sink sink' result → IsChecked task task' output output' sink sink' result
+
 -- the answer of a check says what the search found, or memory ran out
-abbrev pub Accepts : Outcome → Result (Outcome × List ℕ) RunFault → Type 0
-Accepts outcome (Ok answer) = answer.0 ≡ outcome
-Accepts outcome (Err OutOfMemory) = Unit {0}
-Accepts outcome (Err e) = ⊥
+abbrev pub Accepts : Accepted → Result (Accepted × List ℕ) RunFault → Type 0
+Accepts accepted (Ok answer) = answer.0 ≡ accepted
+Accepts accepted (Err OutOfMemory) = Unit {0}
+Accepts accepted (Err e) = ⊥
 
 -- what a check answers about a report in this form of what a search found
-abbrev pub accepted_as : Form → Outcome → Outcome
-accepted_as form.Full found = found
-accepted_as form.Verdict found = found
-accepted_as form.Least outcome.Map = outcome.Least
-accepted_as form.Least outcome.Nothing = outcome.Nothing
-accepted_as form.Least outcome.Least = outcome.Least
+abbrev pub accepted_as : Form → Outcome → Accepted
+accepted_as form.Full outcome.Map = accepted.Map
+accepted_as form.Verdict outcome.Map = accepted.Map
+accepted_as form.Least outcome.Map = accepted.Least
+accepted_as f outcome.Nothing = accepted.Nothing
 
 -- The report of a search in the full or the least form, of at most as many bytes as a text may have, is accepted.
 abbrev pub SolvedReportsAreAccepted : Type 0
 SolvedReportsAreAccepted =
-    (t : Task) (r : ℕ) (asked : Form) (found : Outcome × Account) (text : List ℕ) (answer : Result (Outcome × List ℕ) RunFault)
-    → IsTask t → HasComplex r t → asked ≢ form.Verdict → IsSolved r asked t found text → length text ≤ LONGEST
-    → ChecksText t text answer → Accepts (accepted_as asked found.0) answer
+    (t : Task) (r : ℕ) (asked : Form) (found : Outcome × Account) (text : List ℕ) (answer : Result (Accepted × List ℕ) RunFault)
+    → IsTask t → HasComplex t r → asked ≢ form.Verdict → IsSolved asked t r found text → length text ≤ most_bytes
+    → ChecksText None t text answer → Accepts (accepted_as asked found.0) answer
+
+-- What is written of a solver's model is the text of a report, of which a check that asks for these rounds says that it is
+-- accepted, where it has at most as many bytes as a text may have.
+abbrev pub ModelsAreAccepted : Type 0
+ModelsAreAccepted =
+    (rounds : ℕ) (task task' output output' : Reading) (sink sink' : Writing)
+    → Models rounds task task' output output' sink sink' (Ok tt)
+    → (t : Task) × (text : List ℕ) × GaveTask task task' t × Took sink sink' text 0
+    × (length text ≤ most_bytes → (answer : Result (Accepted × List ℕ) RunFault) → ChecksText (Some rounds) t text answer → Accepts accepted.Map answer)

@@ -3,19 +3,13 @@ use Rattle.std.specs.Prelude.{◌≡◌, ℕ, List, [], ◌∷◌, ◌++◌, Res
 use Rattle.wf_model.specs.Task.{Task}
 use Rattle.wf_task.specs.declared.fault.TaskFault.{TaskFault}
 use Rattle.wf_task.specs.Canonical.{canonical_text}
-use Rattle.wf_preset.specs.Preset.{set_agreement_of, renaming_of}
+use Rattle.wf_preset.specs.Preset.{preset_task}
+use Rattle.wf_preset.specs.declared.named.Preset.{Preset}
 use Rattle.wf_io.specs.Seen.{Writing}
 use Rattle.wf_engine.specs.Faults.{of_task}
 use Rattle.wf_engine.specs.Run.{Ran}
 use Rattle.wf_engine.specs.declared.fault.RunFault.{RunFault}
 use Rattle.wf_engine.specs.declared.fault.RunFault.TheVariants.{OutOfMemory}
-use Rattle.wf_engine.specs.declared.preset.Preset.{Preset}
-use Rattle.wf_engine.specs.declared.preset.Preset.TheVariants.{SetAgreement, Renaming}
-
--- the task of a preset, or why there is none
-abbrev pub preset_task : Preset → Result Task TaskFault
-preset_task (SetAgreement n k inputs) = set_agreement_of n k inputs
-preset_task (Renaming n names) = renaming_of n names
 
 -- the canonical text of the preset's task and a line feed; or why there is no such task
 abbrev pub IsPreset : Preset → Result (Unit {0} × List ℕ) RunFault → Type 0

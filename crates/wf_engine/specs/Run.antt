@@ -1,12 +1,12 @@
 -- A run, step by step. A step refuses, and then the run is refused so; or it hands on what the next step needs.
 use Rattle.std.specs.Prelude.{◌≡◌, ℕ, List, Result, Ok, Err, Vec}
+use Rattle.wf_model.specs.Limits.{most_bytes}
 use Rattle.wf_model.specs.Task.{Task}
 use Rattle.wf_io.specs.Seen.{Reading, Writing}
 use Rattle.wf_io.specs.Texts.{ReadsText, Took, TookBeginning}
 use Rattle.wf_io.specs.declared.source.ReadFault.{ReadFault}
 use Rattle.wf_task.specs.Judge.{text_of}
 use Rattle.wf_task.specs.declared.fault.TaskFault.{TaskFault}
-use Rattle.wf_task.specs.declared.task.TheConstants.{LONGEST}
 use Rattle.wf_complex.specs.Protocol.{Built, Builds}
 use Rattle.wf_complex.specs.declared.fault.BuildFault.TheVariants as build
 use Rattle.wf_engine.specs.Faults.{of_read, of_task}
@@ -28,7 +28,7 @@ Judged judge (Err e) result = result ≡ Err (of_read e)
 -- what the judge says of the source's text
 abbrev pub Reads : {X : Type 0} → (List ℕ → Result X RunFault → Type 0) → Reading → Reading → Result X RunFault → Type 0
 Reads judge old new result =
-    (text : Result (List ℕ) ReadFault) × ReadsText LONGEST old new text × Judged judge text result
+    (text : Result (List ℕ) ReadFault) × ReadsText most_bytes old new text × Judged judge text result
 
 -- the task of a text, or why it is none
 abbrev pub IsTaskOf : List ℕ → Result Task RunFault → Type 0
@@ -37,25 +37,25 @@ IsTaskOf text (Err OutOfMemory) = Unit {0}
 IsTaskOf text (Err e) = (fault : TaskFault) × (text_of text ≡ Err fault) × (e ≡ of_task fault)
 
 -- there is a protocol complex: the rounds are few enough, and so are the executions
-abbrev pub HasComplex : ℕ → Task → Type 0
-HasComplex r t = (b : Built) × Builds t r (Ok b)
+abbrev pub HasComplex : Task → ℕ → Type 0
+HasComplex t r = (b : Built) × Builds t r (Ok b)
 
 -- why a task has no answer for r rounds
-abbrev pub IsBeyondLimits : ℕ → Task → RunFault → Type 0
-IsBeyondLimits r t (Build build.Rounds) = Builds t r (Err build.Rounds)
-IsBeyondLimits r t (Build build.TooManyExecutions) = Builds t r (Err build.TooManyExecutions)
-IsBeyondLimits r t OutOfMemory = Unit {0}
-IsBeyondLimits r t e = ⊥
+abbrev pub IsBeyondLimits : Task → ℕ → RunFault → Type 0
+IsBeyondLimits t r (Build build.Rounds) = Builds t r (Err build.Rounds)
+IsBeyondLimits t r (Build build.TooManyExecutions) = Builds t r (Err build.TooManyExecutions)
+IsBeyondLimits t r OutOfMemory = Unit {0}
+IsBeyondLimits t r e = ⊥
 
 -- the answer for a task and r rounds with its text, where is_text says which text an answer has
-abbrev pub Answers : {X : Type 0} → (Task → X → List ℕ → Type 0) → ℕ → Task → Result (X × List ℕ) RunFault → Type 0
-Answers is_text r t (Ok answer) = HasComplex r t × is_text t answer.0 answer.1
-Answers is_text r t (Err e) = IsBeyondLimits r t e
+abbrev pub Answers : {X : Type 0} → (Task → ℕ → X → List ℕ → Type 0) → Task → ℕ → Result (X × List ℕ) RunFault → Type 0
+Answers is_text t r (Ok answer) = HasComplex t r × is_text t r answer.0 answer.1
+Answers is_text t r (Err e) = IsBeyondLimits t r e
 
 -- the answer for the source's task and r rounds
-abbrev pub Asks : {X : Type 0} → (Task → X → List ℕ → Type 0) → ℕ → Reading → Reading → Result (X × List ℕ) RunFault → Type 0
+abbrev pub Asks : {X : Type 0} → (Task → ℕ → X → List ℕ → Type 0) → ℕ → Reading → Reading → Result (X × List ℕ) RunFault → Type 0
 Asks is_text r old new result =
-    (task : Result Task RunFault) × Reads IsTaskOf old new task × Next (Answers is_text r) task result
+    (task : Result Task RunFault) × Reads IsTaskOf old new task × Next (λ t. Answers is_text t r) task result
 
 -- ---- from an answer to a sink
 

@@ -2,14 +2,13 @@
 use Rattle.std.specs.Prelude.{◌≡◌, ◌+◌, ℕ, List, [], Result, IfOk}
 use Rattle.wf_model.specs.Task.{Task}
 use Rattle.wf_model.specs.View.{View}
-use Rattle.wf_model.specs.DecisionMap.{IsDecisionMap, IsLeast, listed}
+use Rattle.wf_model.specs.DecisionMap.{HasNoDecisionMap, IsLeast, listed}
 use Rattle.wf_model.specs.Problem.{problem_of}
 use Rattle.wf_model.specs.Box.{root}
 use Rattle.wf_model.specs.Closing.{canonical}
 use Rattle.wf_model.specs.Refutation.{Line, Tree, lines, Refutes}
 use Rattle.wf_model.specs.LeastTree.{IsLeastTree}
-use Rattle.wf_model.specs.Report.{Body, a_map, none, least, report_text}
-use Rattle.wf_model.specs.Laws.{report_about}
+use Rattle.wf_model.specs.Report.{Body, a_map, none, least, report_text, report_about}
 use Rattle.wf_model.specs.PointsText.{points_text}
 use Rattle.wf_core.specs.declared.Account.{Account}
 use Rattle.wf_pool.specs.Answers.{HasAccountOfMap, HasAccountOfNone}
@@ -20,8 +19,8 @@ use Rattle.wf_engine.specs.Run.{Asks, Ran}
 use Rattle.wf_engine.specs.declared.fault.RunFault.{RunFault}
 use Rattle.wf_engine.specs.declared.outcome.Outcome.{Outcome}
 use Rattle.wf_engine.specs.declared.outcome.Outcome.TheVariants as outcome
-use Rattle.wf_engine.specs.declared.outcome.Form.{Form}
-use Rattle.wf_engine.specs.declared.outcome.Form.TheVariants as form
+use Rattle.wf_report.specs.declared.form.Form.{Form}
+use Rattle.wf_report.specs.declared.form.Form.TheVariants as form
 
 -- ---- deciding
 
@@ -34,7 +33,7 @@ text_of_report t r body = report_text (report_about t r body)
 pub record IsRefutation (t : Task) (r : ℕ) (ls : List Line) : Type 0 where
   pub canonical_lines : ls ≡ (canonical (problem_of t r) (root (problem_of t r))).lines
   pub refutes : (tree : Tree) × (lines tree ≡ ls) × Refutes (problem_of t r) tree (root (problem_of t r))
-  pub no_map : (m : View → ℕ) → IsDecisionMap t r m → ⊥
+  pub no_map : HasNoDecisionMap t r
 
 -- The lines of the canonical search of the root up to its map. They are those of a tree that leads to the map.
 pub record LeadsToMap (t : Task) (r : ℕ) (m : List ℕ) (ls : List Line) : Type 0 where
@@ -61,27 +60,25 @@ map_body form.Verdict m ls = a_map m
 map_body form.Least m ls = least m ls
 
 -- What a search of a task answers and writes: the least decision map over the points, or none by a refutation; and
--- the account of the branches. No check is done, so the outcome is never that of one.
-abbrev pub IsSolved : ℕ → Form → Task → Outcome × Account → List ℕ → Type 0
-IsSolved r form t (outcome.Map, a) text =
+-- the account of the branches.
+abbrev pub IsSolved : Form → Task → ℕ → Outcome × Account → List ℕ → Type 0
+IsSolved form t r (outcome.Map, a) text =
     (m : View → ℕ) × (ls : List Line) × IsLeast t r m × LeadsToMap t r (listed t r m) ls
     × HasAccountOfMap (problem_of t r) (listed t r m) a
     × (text ≡ text_of_report t r (map_body form (listed t r m) ls))
-IsSolved r form t (outcome.Nothing, a) text =
+IsSolved form t r (outcome.Nothing, a) text =
     (ls : List Line) × IsRefutation t r ls × HasAccountOfNone (problem_of t r) a
     × (text ≡ text_of_report t r (none_body form ls))
-IsSolved r form t (outcome.Least, a) text = ⊥
 
 -- one worker searches the branches in order, up to the first with a map
 abbrev pub IsInOrder : Outcome × Account → Type 0
 IsInOrder (outcome.Map, a) = a.searched ≡ a.least + 1
 IsInOrder (outcome.Nothing, a) = a.searched ≡ a.branches
-IsInOrder (outcome.Least, a) = ⊥
 
 -- the source's task was decided for r rounds
 abbrev pub Solves : ℕ → Form → Reading → Reading → Writing → Writing → Result (Outcome × Account) RunFault → Type 0
 Solves r form source source' sink sink' result =
-    Ran (Asks (IsSolved r form) r source source') sink sink' result
+    Ran (Asks (IsSolved form) r source source') sink sink' result
 
 abbrev pub SearchesInOrder : Result (Outcome × Account) RunFault → Type 0
 SearchesInOrder result = IfOk result IsInOrder
@@ -93,9 +90,9 @@ abbrev pub undecided_points : Task → ℕ → List ℕ
 undecided_points t r = points_text t r []
 
 -- the text that a task and its r rounds have
-abbrev pub IsTextOf : (Task → ℕ → List ℕ) → ℕ → Task → Unit {0} → List ℕ → Type 0
-IsTextOf text_of r t answer text = text ≡ text_of t r
+abbrev pub IsTextOf : (Task → ℕ → List ℕ) → Task → ℕ → Unit {0} → List ℕ → Type 0
+IsTextOf text_of t r answer text = text ≡ text_of t r
 
 -- the points of the protocol complex of the source's task after r rounds were listed, by such a text
 abbrev pub Lists : (Task → ℕ → List ℕ) → ℕ → Reading → Reading → Writing → Writing → Result (Unit {0}) RunFault → Type 0
-Lists text_of r source source' sink sink' result = Ran (Asks (IsTextOf text_of r) r source source') sink sink' result
+Lists text_of r source source' sink sink' result = Ran (Asks (IsTextOf text_of) r source source') sink sink' result

@@ -1,8 +1,8 @@
 //! Telling what a map decides.
 
-ghost use Rattle.std.specs.Prelude.{◌≡◌};
+ghost use Rattle.std.specs.Prelude.{◌≡◌, None};
 ghost use Rattle.wf_io.specs.Ends.{CanRead};
-ghost use Rattle.wf_cert.specs.Reports.{AreNumbered, body_length, body_of, report_seen};
+ghost use Rattle.wf_report.specs.Reports.{AreNumbered, body_length, body_of, report_seen};
 ghost use Rattle.wf_engine.specs.Run.{answered};
 ghost use Rattle.wf_engine.specs.Verify.{AreDecisions, CanVerify, Checks, Decides, IsVerified, values_of};
 
@@ -13,8 +13,8 @@ use crate::verify::{check_report, read_cert};
 use std::alloc::Global;
 use std::io::{Read, Write};
 use std::thread::Threads;
-use wf_cert::{Body, Report};
 use wf_io::{Sink, Source};
+use wf_report::{Body, Report};
 use wf_task::Task;
 
 /// Reads a task and a report about it, and checks the report, as [`run_verify`](crate::run_verify) does; then it tells
@@ -44,7 +44,7 @@ fn decide_sources<T: Threads + Sync, R: Read, C: Read>(
 ) -> Result<((), Vec<u8>), RunFault>
     requires task { CanRead task_source.old }
     requires cert { CanRead cert_source.old }
-    ensures { Checks AreDecisions task_source.old task_source.new cert_source.old cert_source.new
+    ensures { Checks None AreDecisions task_source.old task_source.new cert_source.old cert_source.new
         (answered result) }
 {
     let task = read_task(alloc, task_source)?;

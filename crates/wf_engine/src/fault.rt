@@ -1,14 +1,15 @@
 //! Why a run is refused.
 
 ghost use Rattle.std.specs.Prelude.{◌≡◌, Some};
-ghost use Rattle.wf_engine.specs.Faults.{of_read, of_task, of_build, of_cert, fault_text};
+ghost use Rattle.wf_engine.specs.Faults.{of_read, of_task, of_build, of_cert, of_model, fault_text};
 ghost use Rattle.wf_engine.specs.declared.fault.RunFault.TheVariants.{OutOfMemory, Write};
 
 use std::alloc::AllocError;
 use std::fmt;
-use wf_cert::CertFault;
+use wf_cnf::ModelFault;
 use wf_complex::BuildFault;
 use wf_io::{ReadFault, WriteFault};
+use wf_report::CertFault;
 use wf_task::TaskFault;
 
 /// Why a run is refused.
@@ -22,6 +23,10 @@ pub enum RunFault {
     Build(BuildFault),
     /// 20 to 29, 34, 35: the text is no report, or the report is not accepted.
     Cert(CertFault),
+    /// 37 to 39: the text says no model of the task's question.
+    Model(ModelFault),
+    /// 36: the report is about other rounds than were asked for.
+    OtherRounds,
     /// 15: memory ran out.
     OutOfMemory,
     /// 30: a call of the reader answered an error.
@@ -39,6 +44,15 @@ impl fmt::Display for RunFault {
             RunFault::Task(fault) => write!(f, "{fault}"),
             RunFault::Build(fault) => write!(f, "{fault}"),
             RunFault::Cert(fault) => write!(f, "{fault}"),
+            RunFault::Model(ModelFault::NoModel { line }) => write!(f, "37 NoModel {line}"),
+            RunFault::Model(ModelFault::NotALiteral { line }) => {
+                write!(f, "38 NotALiteral {line}")
+            }
+            RunFault::Model(ModelFault::NoSuchVariable { line }) => {
+                write!(f, "39 NoSuchVariable {line}")
+            }
+            RunFault::Model(ModelFault::OutOfMemory) => { write!(f, "{}", TaskFault::OutOfMemory) }
+            RunFault::OtherRounds => write!(f, "36 OtherRounds"),
             RunFault::OutOfMemory => write!(f, "{}", TaskFault::OutOfMemory),
             RunFault::Read => write!(f, "30 Read"),
             RunFault::Write => write!(f, "31 Write"),
@@ -91,6 +105,17 @@ impl From<CertFault> for RunFault {
             CertFault::TooLong => RunFault::TooLong,
             CertFault::OutOfMemory => RunFault::OutOfMemory,
             fault => RunFault::Cert(fault),
+        }
+    }
+}
+
+impl From<ModelFault> for RunFault {
+    ghost from_gives = { λ x e. e ≡ of_model x };
+
+    fn from(fault: ModelFault) -> RunFault {
+        match fault {
+            ModelFault::OutOfMemory => RunFault::OutOfMemory,
+            fault => RunFault::Model(fault),
         }
     }
 }

@@ -4,20 +4,25 @@
 //!   worker or by up to [`MAX_WORKERS`]. [`run_solve_watched`] is `run_solve` with a gate, which is told of the workers.
 //! - [`run_views`]: a task's text in, and the list of the points of its protocol complex out.
 //! - [`run_points`]: a task's text in, and its points in words out.
+//! - [`run_cnf`]: a task's text in, and the question whether it has a decision map, as a formula, out.
 //! - [`run_verify`]: a task's text and a report's in, and what is accepted out.
 //! - [`run_decisions`]: the same, and what the report's map decides at each point out.
+//! - [`run_model`]: a task's text and a SAT solver's output in, and the report of the map that the solver's model gives out.
 //! - [`run_preset`]: the canonical text of a [`Preset`] out.
 //! - [`hand_out`]: the last step of each run, for a text that is had without one.
 //! - [`RunFault`]: why a run is refused, with its number and its name.
 //!
 //! Each engine has one condition, that source and sink can count what it asks of them, and one relation that says what
 //! it read, answered and wrote (`specs/Texts.antt`, step by step in `specs/Run.antt`). The laws say what follows from
-//! the relation alone.
+//! the relation alone: first of all that what is answered, accepted and told is true ([`answers_are_true`],
+//! [`acceptances_are_true`], [`decisions_are_true`], [`models_are_true`], stated alone in `specs/Headline.antt`).
 #![tactic(auto)]
 
+mod cnf;
 mod decisions;
 mod fault;
 mod laws;
+mod model;
 mod outcome;
 mod points;
 mod preset;
@@ -26,18 +31,22 @@ mod steps;
 mod verify;
 mod views;
 
+pub use cnf::run_cnf;
 pub use decisions::run_decisions;
 pub use fault::RunFault;
 pub use laws::{
-    deciding_is_counted, listing_is_counted, presets_are_counted, solved_reports_are_accepted,
-    solving_is_counted, verifying_is_counted,
+    acceptances_are_true, answers_are_true, deciding_is_counted, decisions_are_true,
+    listing_is_counted, modelling_is_counted, models_are_accepted, models_are_true,
+    presets_are_counted, solved_reports_are_accepted, solving_is_counted, verifying_is_counted,
 };
-pub use outcome::{Form, Outcome};
+pub use model::run_model;
+pub use outcome::{Accepted, Outcome};
 pub use points::run_points;
-pub use preset::{Preset, run_preset};
+pub use preset::run_preset;
 pub use solve::{run_solve, run_solve_one, run_solve_watched};
 pub use steps::hand_out;
 pub use verify::run_verify;
 pub use views::run_views;
 pub use wf_pool::MAX_WORKERS;
-pub use wf_preset::Inputs;
+pub use wf_preset::{Inputs, Preset};
+pub use wf_report::Form;

@@ -40,7 +40,7 @@ fn tell_source<R: Read>(
     rounds: u32,
 ) -> Result<((), Vec<u8>), RunFault>
     requires { CanRead source.old }
-    ensures { Asks (IsTextOf undecided_points rounds) rounds source.old source.new
+    ensures { Asks (IsTextOf undecided_points) rounds source.old source.new
         (answered result) }
 {
     let task = read_task(alloc, source)?;
@@ -49,7 +49,7 @@ fn tell_source<R: Read>(
 
 /// The points of a task in words.
 fn tell_task(alloc: Global, task: &Task, rounds: u32) -> Result<((), Vec<u8>), RunFault>
-    ensures { Answers (IsTextOf undecided_points rounds) rounds task.now (answered result) }
+    ensures { Answers (IsTextOf undecided_points) task.now rounds (answered result) }
 {
     let protocol = Protocol::build(alloc, task, rounds)?;
     Ok(((), write_points(alloc, task, &protocol, &[])?))

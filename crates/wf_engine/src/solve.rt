@@ -1,29 +1,31 @@
 //! Deciding a task.
 
 ghost use Rattle.std.specs.Prelude.{◌≡◌, ◌<◌, ◌≤◌, IfOk, map};
+ghost use Rattle.wf_model.specs.Limits.{most_workers};
 ghost use Rattle.wf_model.specs.Problem.{problem_of};
 ghost use Rattle.wf_io.specs.Ends.{CanCount, CanRead};
-ghost use Rattle.wf_complex.specs.Lines.{line_of};
+ghost use Rattle.wf_lines.specs.Lines.{line_of};
 ghost use Rattle.wf_pool.specs.Answers.{HasAccount, IsAnswer};
 ghost use Rattle.wf_pool.specs.Answers as pool;
-ghost use Rattle.wf_cert.specs.Reports.{body_of};
+ghost use Rattle.wf_report.specs.Reports.{body_of};
 ghost use Rattle.wf_engine.specs.Run.{Answers, Asks, answered};
 ghost use Rattle.wf_engine.specs.Heads.{IsHead, Poses};
 ghost use Rattle.wf_engine.specs.Texts.{IsInOrder, IsSolved, SearchesInOrder, Solves, lines_kept, map_body, text_of_report};
 
 use crate::fault::RunFault;
-use crate::outcome::{Form, Outcome};
+use crate::outcome::Outcome;
 use crate::steps::{hand_out, read_task};
 use std::alloc::{AllocError, Global};
 use std::io::{Read, Write};
 use std::thread::Threads;
 use wf_box::Problem;
-use wf_cert::{Body, Report, write_report};
-use wf_complex::{Lines, Protocol};
+use wf_complex::Protocol;
 use wf_core::Account;
 use wf_handout::Stealing;
 use wf_io::{Sink, Source};
-use wf_pool::{Answer, Gate, KeptLines, MAX_WORKERS, Open, solve, solve_one};
+use wf_lines::Lines;
+use wf_pool::{Answer, Gate, KeptLines, Open, solve, solve_one};
+use wf_report::{Body, Form, Header, Report, write_report};
 use wf_task::Task;
 
 /// How branches are handed to workers.
@@ -63,7 +65,7 @@ pub fn run_solve<T: Threads + Sync, R: Read, W: Write>(
     form: Form,
 ) -> Result<(Outcome, Account), RunFault>
     requires ends { CanCount source.old sink.old }
-    requires workers { (0 < workers) × (workers ≤ MAX_WORKERS) }
+    requires workers { (0 < workers) × (workers ≤ most_workers) }
     ensures solves { Solves rounds form source.old source.new sink.old sink.new result }
     ensures in_order { workers ≡ 1 → SearchesInOrder result }
 {
@@ -83,7 +85,7 @@ pub fn run_solve_watched<T: Threads + Sync, G: Gate, R: Read, W: Write>(
     gate: &G,
 ) -> Result<(Outcome, Account), RunFault>
     requires ends { CanCount source.old sink.old }
-    requires workers { (0 < workers) × (workers ≤ MAX_WORKERS) }
+    requires workers { (0 < workers) × (workers ≤ most_workers) }
     ensures solves { Solves rounds form source.old source.new sink.old sink.new result }
     ensures in_order { workers ≡ 1 → SearchesInOrder result }
 {
@@ -102,7 +104,7 @@ fn solve_source_one<R: Read>(
     form: Form,
 ) -> Result<((Outcome, Account), Vec<u8>), RunFault>
     requires { CanRead source.old }
-    ensures asks { Asks (IsSolved rounds form) rounds source.old source.new (answered result) }
+    ensures asks { Asks (IsSolved form) rounds source.old source.new (answered result) }
     ensures in_order { IfOk result (λ answer. IsInOrder answer.0) }
 {
     let task = read_task(alloc, source)?;
@@ -120,8 +122,8 @@ fn solve_source<T: Threads + Sync, G: Gate, R: Read>(
     gate: &G,
 ) -> Result<((Outcome, Account), Vec<u8>), RunFault>
     requires source { CanRead source.old }
-    requires workers { (0 < workers) × (workers ≤ MAX_WORKERS) }
-    ensures { Asks (IsSolved rounds form) rounds source.old source.new (answered result) }
+    requires workers { (0 < workers) × (workers ≤ most_workers) }
+    ensures { Asks (IsSolved form) rounds source.old source.new (answered result) }
 {
     let task = read_task(alloc, source)?;
     solve_task(rt, alloc, &task, rounds, workers, form, gate)
@@ -134,12 +136,12 @@ fn solve_task_one(
     rounds: u32,
     form: Form,
 ) -> Result<((Outcome, Account), Vec<u8>), RunFault>
-    ensures answers { Answers (IsSolved rounds form) rounds task.now (answered result) }
+    ensures answers { Answers (IsSolved form) task.now rounds (answered result) }
     ensures in_order { IfOk result (λ answer. IsInOrder answer.0) }
 {
-    let (head, problem) = pose(alloc, task, rounds)?;
+    let (header, problem) = pose(alloc, task, rounds)?;
     let (answer, account) = solve_one(alloc, &problem, lines_kept(form))?;
-    Ok(with_text(alloc, task, rounds, head, answer, account, form)?)
+    Ok(with_text(alloc, task, rounds, header, answer, account, form)?)
 }
 
 /// The answer for a task, with the text of its report, by some workers.
@@ -152,24 +154,23 @@ fn solve_task<T: Threads + Sync, G: Gate>(
     form: Form,
     gate: &G,
 ) -> Result<((Outcome, Account), Vec<u8>), RunFault>
-    requires { (0 < workers) × (workers ≤ MAX_WORKERS) }
-    ensures { Answers (IsSolved rounds form) rounds task.now (answered result) }
+    requires { (0 < workers) × (workers ≤ most_workers) }
+    ensures { Answers (IsSolved form) task.now rounds (answered result) }
 {
-    let (head, problem) = pose(alloc, task, rounds)?;
+    let (header, problem) = pose(alloc, task, rounds)?;
     let kept = lines_kept(form);
     let (answer, account) = solve::<T, Branches, G>(rt, alloc, &problem, workers, kept, gate)?;
-    Ok(with_text(alloc, task, rounds, head, answer, account, form)?)
+    Ok(with_text(alloc, task, rounds, header, answer, account, form)?)
 }
 
-/// The head of the report about a task, with an answer still to come, and the problem to solve for it. The complex, which
-/// takes more memory than either, is given back before the search begins.
-fn pose(alloc: Global, task: &Task, rounds: u32) -> Result<(Report, Problem), RunFault>
-    ensures { Poses rounds task.now result }
+/// The header of the report about a task, and the problem to solve for it. The complex, which takes more memory than
+/// either, is given back before the search begins.
+fn pose(alloc: Global, task: &Task, rounds: u32) -> Result<(Header, Problem), RunFault>
+    ensures { Poses task.now rounds result }
 {
     let protocol = Protocol::build(alloc, task, rounds)?;
     let problem = Problem::join(alloc, task, &protocol)?;
-    let head = Report::about(task, &protocol, Body::Map(Vec::new(alloc)));
-    Ok((head, problem))
+    Ok((Header::about(task, &protocol), problem))
 }
 
 /// What lines a search keeps: those that the form shows.
@@ -189,24 +190,24 @@ fn with_text(
     alloc: Global,
     task: &Task,
     rounds: u32,
-    head: Report,
+    header: Header,
     answer: Answer,
     account: Account,
     form: Form,
 ) -> Result<((Outcome, Account), Vec<u8>), AllocError>
-    requires head { IsHead rounds task.now head }
+    requires header { IsHead task.now rounds header }
     requires answer { IsAnswer (problem_of task.now rounds) (lines_kept form) answer }
     requires account { HasAccount (problem_of task.now rounds) answer account }
-    ensures solved { IfOk result (λ r. IsSolved rounds form task.now r.0 r.1.items) }
+    ensures solved { IfOk result (λ r. IsSolved form task.now rounds r.0 r.1.items) }
     ensures in_order { pool.IsInOrder answer account → IfOk result (λ r. IsInOrder r.0) }
 {
     match answer {
         Answer::Map(values, lines) => {
-            let text = report_text(alloc, task, rounds, head, map_body(form, values, lines))?;
+            let text = report_text(alloc, task, rounds, header, map_body(form, values, lines))?;
             Ok(((Outcome::Map, account), text))
         }
         Answer::Nothing(lines) => {
-            let text = report_text(alloc, task, rounds, head, Body::Nothing(lines))?;
+            let text = report_text(alloc, task, rounds, header, Body::Nothing(lines))?;
             Ok(((Outcome::Nothing, account), text))
         }
     }
@@ -222,18 +223,18 @@ fn map_body(form: Form, values: Vec<u8>, lines: Lines) -> Body
     }
 }
 
-/// The text of the report with this head and this answer.
+/// The text of the report with this header and this answer.
 #[tactic(auto, unfolding(crate::specs::Texts::text_of_report))]
 fn report_text(
     alloc: Global,
     task: &Task,
     rounds: u32,
-    head: Report,
+    header: Header,
     body: Body,
 ) -> Result<Vec<u8>, AllocError>
-    requires { IsHead rounds task.now head }
+    requires { IsHead task.now rounds header }
     ensures { IfOk result (λ text. text.items
         ≡ text_of_report task.now rounds (body_of body)) }
 {
-    write_report(alloc, &Report { body, ..head })
+    write_report(alloc, &Report { header, body })
 }

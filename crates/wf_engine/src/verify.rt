@@ -1,25 +1,26 @@
 //! Checking a report about a task.
 
-ghost use Rattle.std.specs.Prelude.{◌≡◌, IfOk};
+ghost use Rattle.std.specs.Prelude.{◌≡◌, IfOk, string_bytes};
 ghost use Rattle.wf_io.specs.Ends.{CanRead};
-ghost use Rattle.wf_cert.specs.Reports.{AreNumbered, body_length, body_of, report_seen};
+ghost use Rattle.wf_report.specs.Reports.{AreNumbered, body_length, body_of, report_seen};
 ghost use Rattle.wf_engine.specs.Run.{Reads, answered};
-ghost use Rattle.wf_engine.specs.Verify.{CanVerify, Checks, IsOutcome, IsReportOf, IsVerified, Judges, Verifies, accepted_text, outcome_of, seen};
+ghost use Rattle.wf_engine.specs.Verify.{CanVerify, Checks, IsAccepted, IsReportOf, IsVerified, IsVerifiedFor, Judges, Verifies, accepted_text, accepted_words, accepted_of, seen};
 
 use crate::fault::RunFault;
-use crate::outcome::Outcome;
+use crate::outcome::Accepted;
 use crate::steps::{hand_out, read_task};
 use std::alloc::{AllocError, Global};
 use std::io::{Read, Write};
 use std::thread::Threads;
-use wf_cert::{Body, Report, check, read_report};
+use wf_check::check;
 use wf_complex::Protocol;
 use wf_io::{Sink, Source, read_all};
-use wf_lines::put_words;
+use wf_report::{Body, Report, read_report};
 use wf_task::{LONGEST, Task};
 
 /// Reads a task to its reader's end, then a report about it to its own reader's end, checks the report on the protocol
-/// complex for the report's rounds, and writes what is accepted.
+/// complex for the report's rounds, and writes what is accepted. Where rounds are asked for, a report for others is refused
+/// before the complex is built, and what is written tells the rounds.
 ///
 /// The relation names the search nowhere: where a map is accepted, it is a decision map, and the least one where its
 /// lines are accepted too; and where none is, no function on the views is one.
@@ -29,12 +30,13 @@ pub fn run_verify<T: Threads + Sync, R: Read, C: Read, W: Write>(
     task_source: &mut Source<R>,
     cert_source: &mut Source<C>,
     sink: &mut Sink<W>,
-) -> Result<Outcome, RunFault>
+    rounds: Option<u32>,
+) -> Result<Accepted, RunFault>
     requires { CanVerify task_source.old cert_source.old sink.old }
-    ensures { Verifies task_source.old task_source.new cert_source.old cert_source.new
+    ensures { Verifies rounds task_source.old task_source.new cert_source.old cert_source.new
         sink.old sink.new result }
 {
-    let answer = verify_sources(rt, alloc, task_source, cert_source);
+    let answer = verify_sources(rt, alloc, task_source, cert_source, rounds);
     hand_out(sink, answer)
 }
 
@@ -44,15 +46,16 @@ fn verify_sources<T: Threads + Sync, R: Read, C: Read>(
     alloc: Global,
     task_source: &mut Source<R>,
     cert_source: &mut Source<C>,
-) -> Result<(Outcome, Vec<u8>), RunFault>
+    rounds: Option<u32>,
+) -> Result<(Accepted, Vec<u8>), RunFault>
     requires task { CanRead task_source.old }
     requires cert { CanRead cert_source.old }
-    ensures { Checks IsOutcome task_source.old task_source.new cert_source.old cert_source.new
-        (answered result) }
+    ensures { Checks rounds (IsAccepted rounds) task_source.old task_source.new
+        cert_source.old cert_source.new (answered result) }
 {
     let task = read_task(alloc, task_source)?;
     let report = read_cert(alloc, cert_source)?;
-    verify(rt, alloc, &task, &report)
+    verify(rt, alloc, &task, &report, rounds)
 }
 
 /// The report of a source's text.
@@ -73,18 +76,38 @@ fn report_of(alloc: Global, text: &[u8]) -> Result<Report, RunFault>
     Ok(read_report(alloc, text)?)
 }
 
-/// What is accepted of a report about a task, with its text.
+/// What is accepted of a report about a task, with its text. Where rounds are asked for, a report for others is refused.
 fn verify<T: Threads + Sync>(
     rt: &T,
     alloc: Global,
     task: &Task,
     report: &Report,
-) -> Result<(Outcome, Vec<u8>), RunFault>
+    rounds: Option<u32>,
+) -> Result<(Accepted, Vec<u8>), RunFault>
     requires { AreNumbered (body_length report.now.body) }
-    ensures { IsVerified IsOutcome task.now (report_seen report.now) (answered result) }
+    ensures { IsVerifiedFor rounds (IsAccepted rounds) task.now (report_seen report.now)
+        (answered result) }
+{
+    match rounds {
+        Some(asked) if asked != report.header.rounds => Err(RunFault::OtherRounds),
+        _ => accept(rt, alloc, task, report, rounds),
+    }
+}
+
+/// What is accepted of a report about a task, with its text, which tells the rounds where they were asked for.
+fn accept<T: Threads + Sync>(
+    rt: &T,
+    alloc: Global,
+    task: &Task,
+    report: &Report,
+    rounds: Option<u32>,
+) -> Result<(Accepted, Vec<u8>), RunFault>
+    requires { AreNumbered (body_length report.now.body) }
+    ensures { IsVerified (IsAccepted rounds) task.now (report_seen report.now) (answered result) }
 {
     let _protocol = check_report(rt, alloc, task, report)?;
-    Ok(tell_accepted(alloc, &report.body)?)
+    let text = accepted_text(alloc, &report.body, rounds)?;
+    Ok((accepted_of(&report.body), text.into_bytes()))
 }
 
 /// The protocol complex for the rounds of a report about a task, where the checker finds no fault in it.
@@ -97,30 +120,42 @@ pub(crate) fn check_report<T: Threads + Sync>(
     requires { AreNumbered (body_length report.now.body) }
     ensures { Judges task.now (report_seen report.now) result }
 {
-    let protocol = Protocol::build(alloc, task, report.rounds)?;
+    let protocol = Protocol::build(alloc, task, report.header.rounds)?;
     check(rt, alloc, task, &protocol, report)?;
     Ok(protocol)
 }
 
-/// What a report with this answer says, with the line that tells it.
-fn tell_accepted(alloc: Global, body: &Body) -> Result<(Outcome, Vec<u8>), AllocError>
-    ensures outcome { IfOk result (λ answer. answer.0 ≡ outcome_of (body_of body.now)) }
-    ensures text { IfOk result (λ answer. answer.1.items ≡ accepted_text (body_of body.now)) }
+/// What a report with this answer says.
+fn accepted_of(body: &Body) -> Accepted
+    ensures { result ≡ accepted_of (body_of body.now) }
 {
-    let mut text = String::new(alloc);
-    let outcome = match body {
-        Body::Map(_) => {
-            put_words(&mut text, "accepted map")?;
-            Outcome::Map
-        }
-        Body::Nothing(_) => {
-            put_words(&mut text, "accepted none")?;
-            Outcome::Nothing
-        }
-        Body::Least(_, _) => {
-            put_words(&mut text, "accepted least")?;
-            Outcome::Least
-        }
-    };
-    Ok((outcome, text.into_bytes()))
+    match body {
+        Body::Map(_) => Accepted::Map,
+        Body::Nothing(_) => Accepted::Nothing,
+        Body::Least(_, _) => Accepted::Least,
+    }
+}
+
+/// The words that tell that a report with this answer is accepted.
+fn accepted_words(body: &Body) -> &'static str
+    ensures { result.now ≡ accepted_words (body_of body.now) }
+{
+    match body {
+        Body::Map(_) => "accepted map",
+        Body::Nothing(_) => "accepted none",
+        Body::Least(_, _) => "accepted least",
+    }
+}
+
+/// The line that tells that a report with this answer is accepted, and for how many rounds, where these were asked for.
+fn accepted_text(alloc: Global, body: &Body, rounds: Option<u32>) -> Result<String, AllocError>
+    ensures { IfOk result
+        (λ text. string_bytes text ≡ accepted_text rounds (body_of body.now)) }
+{
+    let words = accepted_words(body);
+    match rounds {
+        None => format!(in alloc; "{words}\n"),
+        Some(1) => format!(in alloc; "{words} at 1 round\n"),
+        Some(rounds) => format!(in alloc; "{words} at {rounds} rounds\n"),
+    }
 }

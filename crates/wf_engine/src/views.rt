@@ -43,7 +43,7 @@ fn list_source<R: Read>(
     rounds: u32,
 ) -> Result<((), Vec<u8>), RunFault>
     requires { CanRead source.old }
-    ensures { Asks (IsTextOf views_text rounds) rounds source.old source.new (answered result) }
+    ensures { Asks (IsTextOf views_text) rounds source.old source.new (answered result) }
 {
     let task = read_task(alloc, source)?;
     list_task(alloc, &task, rounds)
@@ -51,7 +51,7 @@ fn list_source<R: Read>(
 
 /// The list of the points of a task.
 fn list_task(alloc: Global, task: &Task, rounds: u32) -> Result<((), Vec<u8>), RunFault>
-    ensures { Answers (IsTextOf views_text rounds) rounds task.now (answered result) }
+    ensures { Answers (IsTextOf views_text) task.now rounds (answered result) }
 {
     let protocol = Protocol::build(alloc, task, rounds)?;
     Ok(((), write_views(alloc, task, &protocol)?))

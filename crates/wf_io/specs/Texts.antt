@@ -1,5 +1,5 @@
 -- Whole texts, read from a source and written to a sink.
-use Rattle.std.specs.Prelude.{ℕ, ◌≡◌, ◌+◌, ◌≤◌, ◌⊎◌, List, length, take, Option, Some, None, Result, Ok, Err}
+use Rattle.std.specs.Prelude.{ℕ, ◌≡◌, ◌+◌, ◌≤◌, ◌⊎◌, List, ◌++◌, length, take, Option, Some, None, Result, Ok, Err}
 use Rattle.std.specs.Io.KnownBytes.{Appends, Consumes, IsAtEnd}
 use Rattle.std.specs.declared.vec.Vec.{Vec}
 use Rattle.wf_io.specs.Seen.{Reading, Writing}
@@ -48,6 +48,12 @@ TookBeginning old new text = (n : ℕ) × (n ≤ length text) × Took old new (t
 abbrev pub WritesText : Writing → Writing → List ℕ → Result (Unit {0}) WriteFault → Type 0
 WritesText old new text (Ok done) = Took old new text 0
 WritesText old new text (Err fault) = TookBeginning old new text
+
+-- A text was put on a page that is passed on to the sink. What the sink took and what the page holds now are, together, what
+-- the page held before and the text; or a call of the sink failed, and it took a beginning of these.
+abbrev pub PutsText : Writing → List ℕ → Writing → List ℕ → List ℕ → Result (Unit {0}) WriteFault → Type 0
+PutsText old page new page' text (Ok done) = (taken : List ℕ) × Took old new taken 0 × (taken ++ page' ≡ page ++ text)
+PutsText old page new page' text (Err fault) = TookBeginning old new (page ++ text)
 
 -- the sink took the text, or a call of it failed
 abbrev pub Told : Writing → Writing → List ℕ → Type 0

@@ -100,6 +100,18 @@ pub fn write_whole<W: Write>(sink: &mut Sink<W>, text: &[u8]) -> Result<(), Writ
     requires { CanWrite sink.old }
     ensures { WritesText sink.old sink.new text.now result }
 {
+    send(sink, text)?;
+    match sink.flush() {
+        Ok(()) => Ok(()),
+        Err(_) => Err(WriteFault),
+    }
+}
+
+/// Writes the text, and leaves the flush to a later call.
+pub(crate) fn send<W: Write>(sink: &mut Sink<W>, text: &[u8]) -> Result<(), WriteFault>
+    requires { CanWrite sink.old }
+    ensures { WritesText sink.old sink.new text.now result }
+{
     let mut written = 0;
     while written < text.len() {
         match sink.write(&text[written..]) {
@@ -108,8 +120,5 @@ pub fn write_whole<W: Write>(sink: &mut Sink<W>, text: &[u8]) -> Result<(), Writ
             Err(_) => return Err(WriteFault),
         }
     }
-    match sink.flush() {
-        Ok(()) => Ok(()),
-        Err(_) => Err(WriteFault),
-    }
+    Ok(())
 }

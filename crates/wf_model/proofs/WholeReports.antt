@@ -12,9 +12,8 @@ use Rattle.wf_model.specs.Box.{root}
 use Rattle.wf_model.specs.Refutation.{Line, Tree, lines, Refutes}
 use Rattle.wf_model.specs.LeastTree.{IsLeastTree}
 use Rattle.wf_model.specs.Closing.{canonical}
-use Rattle.wf_model.specs.Report.{Report, Body, a_map, none, least}
+use Rattle.wf_model.specs.Report.{Report, Body, a_map, none, least, report_about}
 use Rattle.wf_model.specs.Check.{Refusal, map_fault, first_least_fault, header_fault, unless_fault, body_fault, report_fault}
-use Rattle.wf_model.specs.Laws.{report_about}
 use Rattle.wf_model.proofs.Bridge.{by_number, listed_solves, solution_decides}
 use Rattle.wf_model.proofs.Headline.{no_decision_map}
 use Rattle.wf_model.proofs.Checked.{root_accepted}

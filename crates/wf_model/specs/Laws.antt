@@ -3,15 +3,11 @@
 use Rattle.std.specs.Prelude.{◌≡◌, ◌<◌, ℕ, List, [], ◌∷◌, length, None, Some}
 use Rattle.std.specs.List.{slice_index_or, AllZip}
 use Rattle.wf_model.specs.Lists.{IsBelowOrSame}
-use Rattle.wf_model.specs.Task.{Task}
-use Rattle.wf_model.specs.Execution.{executions}
-use Rattle.wf_model.specs.Points.{points}
 use Rattle.wf_model.specs.Problem.{Problem, IsSolution}
 use Rattle.wf_model.specs.Box.{Box, IsAscendingBox, LiesIn, first_empty}
 use Rattle.wf_model.specs.Refutation.{Line, Tree, lines, Refutes}
 use Rattle.wf_model.specs.Closing.{sweep, canonical}
 use Rattle.wf_model.specs.Split.{split}
-use Rattle.wf_model.specs.Report.{Report, Body}
 pub mod Closing
 pub mod Covers
 pub mod LeastTrees
@@ -46,10 +42,6 @@ LiesAt m boxes i = (i < length boxes) × LiesIn m (slice_index_or boxes i [])
 -- the map lies in one box of the list, and in no other
 abbrev pub LiesInExactlyOne : List ℕ → List Box → Type 0
 LiesInExactlyOne m boxes = (i : ℕ) × LiesAt m boxes i × ((j : ℕ) → LiesAt m boxes j → j ≡ i)
-
--- the report with this body and the numbers of a task and its r rounds
-abbrev pub report_about : Task → ℕ → Body → Report
-report_about t r body = record { processes = t.processes; rounds = r; points = length (points t r); executions = length (executions t r); body = body }
 
 -- some tree with these lines refutes the box
 abbrev pub IsRefutedBy : Problem → Box → List Line → Type 0

@@ -61,3 +61,7 @@ enough_boxes = 64
 
 abbrev pub most_levels : ℕ
 most_levels = 8
+
+-- the workers that share a search
+abbrev pub most_workers : ℕ
+most_workers = 64

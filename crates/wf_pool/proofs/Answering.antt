@@ -15,8 +15,8 @@ use Rattle.wf_model.proofs.Covering.{first_least, one_least, split_covers, split
 use Rattle.wf_model.proofs.Tracing.{filled_canonical}
 use Rattle.wf_core.specs.declared.event.Account.{Account}
 use Rattle.wf_pool.specs.Answers.{HasAccountOfMap, HasAccountOfNone}
-use Rattle.wf_complex.specs.declared.line.Line.{Line}
-use Rattle.wf_complex.specs.Lines.{line_of}
+use Rattle.wf_lines.specs.declared.line.Line.{Line}
+use Rattle.wf_lines.specs.Lines.{line_of}
 use Rattle.wf_search.specs.Cover.{IsCanonicalInRoot}
 use Rattle.wf_pool.specs.declared.answer.KeptLines.{KeptLines}
 use Rattle.wf_pool.specs.declared.answer.KeptLines.TheVariants as keep

@@ -1,6 +1,7 @@
 //! The answer of all workers together.
 
 ghost use Rattle.std.specs.Prelude.{ℕ, ◌≡◌, ◌+◌, ◌*◌, ◌^◌, ◌<◌, ◌≤◌, map, length, All, IfOk};
+ghost use Rattle.wf_model.specs.Limits.{most_workers};
 ghost use Rattle.wf_model.specs.Outline.{boxes_left_out};
 ghost use Rattle.wf_board.specs.Desk.{fresh_desk};
 ghost use Rattle.wf_model.specs.Box.{root};
@@ -21,9 +22,9 @@ use std::alloc::{AllocError, Global};
 use std::thread::Threads;
 use wf_board::{Board, BoardSeat};
 use wf_box::Problem;
-use wf_complex::Lines;
 use wf_core::Account;
 use wf_handout::Handout;
+use wf_lines::Lines;
 use wf_search::{Cover, Found, Never, search, split};
 
 /// The most workers that [`solve`] takes.
@@ -47,7 +48,7 @@ pub fn solve<R: Threads + Sync, H: Handout, G: Gate>(
     kept: KeptLines,
     gate: &G,
 ) -> Result<(Answer, Account), AllocError>
-    requires { (0 < workers) × (workers ≤ MAX_WORKERS) }
+    requires { (0 < workers) × (workers ≤ most_workers) }
     ensures answer { IfOk result (λ r. IsAnswer problem.now kept r.0) }
     ensures account { IfOk result (λ r. HasAccount problem.now r.0 r.1) }
 {

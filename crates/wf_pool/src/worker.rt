@@ -8,7 +8,7 @@ ghost use Rattle.wf_pool.specs.Work.{HasSettled, IsFoundAt, IsSeat, IsToSettle, 
 use crate::answer::KeptLines;
 use std::alloc::{AllocError, Global};
 use wf_board::{Board, BoardSeat};
-use wf_complex::Lines;
+use wf_lines::Lines;
 use wf_search::Found;
 
 /// The map of a branch, and the lines that lead to it if they are kept.

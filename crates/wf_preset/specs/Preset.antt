@@ -9,6 +9,8 @@ use Rattle.wf_task.specs.declared.fault.TaskFault.{TaskFault}
 use Rattle.wf_task.specs.declared.fault.TaskFault.TheVariants as fault
 use Rattle.wf_preset.specs.declared.preset.Inputs.{Inputs}
 use Rattle.wf_preset.specs.declared.preset.Inputs.TheVariants.{Own, All}
+use Rattle.wf_preset.specs.declared.named.Preset.{Preset}
+use Rattle.wf_preset.specs.declared.named.Preset.TheVariants.{SetAgreement, Renaming}
 use Rattle.wf_task.specs.Draft.{◌>>=◌}
 use Rattle.wf_task.specs.Judge.{refused_if, sizes_judged}
 use Rattle.wf_task.specs.Canonical.{listed_of}
@@ -56,3 +58,8 @@ renaming_of n names = do
   processes ← refused_if (not (has_processes n)) fault.Processes
   values ← refused_if (not (has_values names)) fault.Value
   within_limits (model.renaming n names)
+
+-- the task of a name and its numbers, or why there is none
+abbrev pub preset_task : Preset → Result Task TaskFault
+preset_task (SetAgreement n k inputs) = set_agreement_of n k inputs
+preset_task (Renaming n names) = renaming_of n names

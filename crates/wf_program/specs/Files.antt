@@ -1,5 +1,6 @@
--- What may come of opening a file.
-use Rattle.std.specs.Prelude.{ℕ, List, Option}
+-- What may come of opening a file, and what clauses see of what opens files.
+use Rattle.std.specs.Prelude.{◌≡◌, ◌+◌, ◌-◌, ◌^◌, ◌<◌, ℕ, List, Option, Some, None}
+use Rattle.wf_io.specs.Seen.{Reading}
 
 -- it can't be opened, or it is, and then it has these bytes, where they are known
 pub data Opening : Type 0 where
@@ -9,3 +10,33 @@ pub data Opening : Type 0 where
 -- what may come of opening the file under a path
 abbrev pub Opens : Type 1
 Opens = List ℕ → Opening → Type 0
+
+-- the files; how many were asked for; how many of these could not be opened; and the source of the last, as it was left,
+-- where it was opened
+pub record Filing (F : Type 0) : Type 0 where
+  pub files : F
+  pub asked : ℕ
+  pub failures : ℕ
+  pub kept : Option Reading
+
+-- the folder can count one more file
+abbrev pub CanAsk : {F : Type 0} → Filing F → Type 0
+CanAsk folder = (folder.asked < 2 ^ 64 - 1) × (folder.failures < 2 ^ 64 - 1)
+
+-- a source that nothing was read of yet
+abbrev pub unread : Option (List ℕ) → Reading
+unread left = record { left = left; failures = 0; taken = 0 }
+
+-- one more file was asked for, and so many that could not be opened; this is its source as it was left, where it was opened
+abbrev pub after_asking : {F : Type 0} → Filing F → ℕ → Option Reading → Filing F
+after_asking folder failed kept = record { files = folder.files; asked = folder.asked + 1; failures = folder.failures + failed; kept = kept }
+
+-- the source of the file that was asked for last is kept
+abbrev pub keeping : {F : Type 0} → Filing F → Reading → Filing F
+keeping folder file = record { files = folder.files; asked = folder.asked; failures = folder.failures; kept = Some file }
+
+-- one more file was asked for: it was opened, and nothing was read of it yet, or it can't be opened
+abbrev pub AsksFor : {F : Type 0} → (Opening → Type 0) → Filing F → Filing F → Option Reading → Type 0
+AsksFor comes old new (Some file) =
+    (left : Option (List ℕ)) × comes (opened left) × (file ≡ unread left) × (new ≡ after_asking old 0 None)
+AsksFor comes old new None = comes refused × (new ≡ after_asking old 1 None)

@@ -1,37 +1,56 @@
 -- What holds after every run of the program.
-use Rattle.std.specs.Prelude.{◌≡◌, ◌+◌, ◌≤◌, ◌==◌, ◌⊎◌, ℕ, Option, Result, Ok, Vec, String, if◌then◌else◌}
+use Rattle.std.specs.Prelude.{◌≡◌, ◌+◌, ◌*◌, ◌≤◌, ◌==◌, ◌⊎◌, ℕ, Option, Some, None, Result, Ok, Vec, String, if◌then◌else◌}
 use Rattle.std.specs.declared.alloc.Global.{Global}
+use Rattle.wf_model.specs.Limits.{most_bytes}
 use Rattle.wf_core.specs.declared.Account.{Account}
 use Rattle.wf_io.specs.Seen.{Reading, Writing}
-use Rattle.wf_task.specs.declared.task.TheConstants.{LONGEST}
 use Rattle.wf_args.specs.declared.Job.{Job}
-use Rattle.wf_args.specs.declared.Job.TheVariants.{Verify, Decisions}
+use Rattle.wf_args.specs.declared.Job.TheVariants.{Verify, Decisions, Model}
 use Rattle.wf_args.specs.declared.WordsFault.{WordsFault}
-use Rattle.wf_program.specs.Files.{Opens}
+use Rattle.wf_program.specs.Files.{Filing, Opens}
 use Rattle.wf_program.specs.Program.{IsAsked, Serves, TellsAccount}
 
 -- how many files a job opens
 abbrev pub file_count : Result Job WordsFault → ℕ
-file_count (Ok (Verify task)) = 1
+file_count (Ok (Verify task rounds)) = 1
 file_count (Ok (Decisions task)) = 1
+file_count (Ok (Model task rounds)) = 1
 file_count asked = 0
 
 -- how many calls failed, by the status
 abbrev pub failed_calls : ℕ → ℕ
 failed_calls status = if status == 4 then 1 else 0
 
--- The status is at most 4, and 4 exactly where one call of the source, the sink or an opened file failed. At most one
--- byte more than a text may have is taken. At 0 and 1 nothing is told but an account, and nothing is written at 2 and 3.
-pub record IsServed (asked : Result Job WordsFault) (source source' : Reading) (sink sink' errors errors' : Writing) (status : ℕ) : Type 0 where
+-- how many reads of the file that is kept failed, and how many bytes it gave
+abbrev pub kept_failures : Option Reading → ℕ
+kept_failures (Some file) = file.failures
+kept_failures None = 0
+
+abbrev pub kept_taken : Option Reading → ℕ
+kept_taken (Some file) = file.taken
+kept_taken None = 0
+
+-- So many files were asked for as the job names, and of what was opened and kept then at most one byte more than a text may
+-- have was taken. So many calls failed: a file that can't be opened, or reads of the one that is kept.
+pub record IsFiled {F : Type 0} (asked : Result Job WordsFault) (folder folder' : Filing F) (failed : ℕ) : Type 0 where
+  pub opens : folder'.asked ≡ folder.asked + file_count asked
+  pub taken : file_count asked * kept_taken folder'.kept ≤ most_bytes + 1
+  pub failures : folder'.failures + file_count asked * kept_failures folder'.kept ≡ folder.failures + failed
+
+-- The status is at most 4, and 4 exactly where one call of the source, the sink, the folder or the file that it opened
+-- failed. At most one byte more than a text may have is taken. At 0 and 1 nothing is told but an account, and nothing is
+-- written at 2 and 3.
+pub record IsServed {F : Type 0} (asked : Result Job WordsFault) (folder folder' : Filing F) (source source' : Reading) (sink sink' errors errors' : Writing) (status : ℕ) : Type 0 where
   pub most : status ≤ 4
-  pub failures : (of_file : ℕ) × (of_file ≤ file_count asked)
-      × (source'.failures + sink'.failures + of_file ≡ (source.failures + sink.failures) + failed_calls status)
-  pub taken : source'.taken ≤ source.taken + (LONGEST + 1)
+  pub files : (failed : ℕ) × IsFiled asked folder folder' failed
+      × (source'.failures + sink'.failures + failed ≡ (source.failures + sink.failures) + failed_calls status)
+  pub taken : source'.taken ≤ source.taken + (most_bytes + 1)
   pub quiet : status ≤ 1 → (account : Option Account) × TellsAccount errors errors' account
   pub unwritten : (status ≡ 2) ⊎ (status ≡ 3) → sink' ≡ sink
 
-abbrev pub ServingIsCounted : Opens → Type 0
-ServingIsCounted opens =
-    (words : Result (Vec (String Global) Global) WordsFault) (source source' : Reading) (sink sink' errors errors' : Writing) (status : ℕ)
-    → Serves opens words source source' sink sink' errors errors' status
-    → (asked : Result Job WordsFault) × IsAsked words asked × IsServed asked source source' sink sink' errors errors' status
+-- `folder` is the folder before the run
+abbrev pub ServingIsCounted : {F : Type 0} → Opens → Filing F → Type 0
+ServingIsCounted {F = F} opens folder =
+    (words : Result (Vec (String Global) Global) WordsFault) (folder' : Filing F) (source source' : Reading) (sink sink' errors errors' : Writing) (status : ℕ)
+    → Serves opens words folder folder' source source' sink sink' errors errors' status
+    → (asked : Result Job WordsFault) × IsAsked words asked × IsServed asked folder folder' source source' sink sink' errors errors' status

@@ -5,24 +5,27 @@ use Rattle.clap.specs.declared.error.Error.{Error}
 use Rattle.clap.specs.declared.error.ErrorKind.TheVariants as kind
 use Rattle.wf_core.specs.declared.Account.{Account}
 use Rattle.wf_model.specs.ViewsText.{views_text}
+use Rattle.wf_formula.specs.Dimacs.{question_text}
 use Rattle.wf_io.specs.Seen.{Reading, Writing}
 use Rattle.wf_io.specs.Ends.{CanCount, CanWrite}
 use Rattle.wf_io.specs.Texts.{Told, Tells}
 use Rattle.wf_engine.specs.declared.outcome.Outcome.{Outcome}
-use Rattle.wf_engine.specs.declared.outcome.Outcome.TheVariants.{Map, Nothing, Least}
+use Rattle.wf_engine.specs.declared.outcome.Outcome.TheVariants.{Map, Nothing}
+use Rattle.wf_engine.specs.declared.outcome.Accepted.{Accepted}
 use Rattle.wf_engine.specs.declared.fault.RunFault.{RunFault}
 use Rattle.wf_engine.specs.declared.fault.RunFault.TheVariants as run
 use Rattle.wf_engine.specs.Faults.{fault_text}
 use Rattle.wf_engine.specs.Run.{Ran}
 use Rattle.wf_engine.specs.Texts.{Solves, Lists, SearchesInOrder, undecided_points}
 use Rattle.wf_engine.specs.Verify.{Verifies, Decides}
+use Rattle.wf_engine.specs.Models.{Models}
 use Rattle.wf_engine.specs.Presets.{WritesPreset}
 use Rattle.wf_args.specs.Job.{CanBeDone, HidesNoWantOfMemory}
 use Rattle.wf_args.specs.declared.Job.{Job}
-use Rattle.wf_args.specs.declared.Job.TheVariants.{Solve, Verify, Views, Points, Decisions, Preset}
+use Rattle.wf_args.specs.declared.Job.TheVariants.{Solve, Verify, Views, Points, Cnf, Model, Decisions, Preset}
 use Rattle.wf_args.specs.declared.WordsFault.{WordsFault}
 use Rattle.wf_args.specs.declared.WordsFault.TheVariants as fault
-use Rattle.wf_program.specs.Files.{Opening, Opens, opened, refused}
+use Rattle.wf_program.specs.Files.{Opening, Opens, opened, refused, Filing, CanAsk, after_asking, unread}
 use Rattle.wf_program.specs.AccountText.{account_line}
 use Rattle.wf_program.specs.VersionText.{version_line}
 use Rattle.wf_program.specs.declared.done.Done.{Done}
@@ -73,7 +76,6 @@ TellsAccount old new None = new ≡ old
 abbrev pub outcome_status : Outcome → ℕ
 outcome_status Map = 0
 outcome_status Nothing = 1
-outcome_status Least = 0
 
 -- an account that is asked for
 abbrev pub asked_for : Bool → Account → Option Account
@@ -84,43 +86,48 @@ abbrev pub solved : Bool → Result (Outcome × Account) RunFault → Result Don
 solved tells (Ok (outcome, a)) = Ok (record { status = outcome_status outcome; account = asked_for tells a })
 solved tells (Err e) = Err (Run e)
 
-abbrev pub verified : Result Outcome RunFault → Result Done Refusal
-verified (Ok outcome) = Ok (record { status = 0; account = None })
+abbrev pub verified : Result Accepted RunFault → Result Done Refusal
+verified (Ok accepted) = Ok (record { status = 0; account = None })
 verified (Err e) = Err (Run e)
 
 abbrev pub written : Result (Unit {0}) RunFault → Result Done Refusal
 written (Ok done) = Ok (record { status = 0; account = None })
 written (Err e) = Err (Run e)
 
--- a source that nothing was read of yet
-abbrev pub unread : Option (List ℕ) → Reading
-unread left = record { left = left; failures = 0; taken = 0 }
+-- One file was asked for and opened, this was done with its task and the source's report, and the file's source is kept as
+-- it was left. Or it can't be opened, which is a failed read, and nothing was read or written.
+abbrev pub WithFile : {F X : Type 0} → (Opening → Type 0) → (Reading → Reading → Reading → Reading → Writing → Writing → Result X RunFault → Type 0) → Filing F → Filing F → Reading → Reading → Writing → Writing → Result X RunFault → Type 0
+WithFile comes does folder folder' source source' sink sink' result =
+    ((left : Option (List ℕ)) × (file' : Reading) × comes (opened left) × (folder' ≡ after_asking folder 0 (Some file'))
+    × does (unread left) file' source source' sink sink' result)
+    ⊎ (comes refused × (folder' ≡ after_asking folder 1 None) × (result ≡ Err run.Read) × (source' ≡ source) × (sink' ≡ sink))
 
--- A file was opened, and this was done with its task and the source's report. Or it can't be opened, which is a failed
--- read, and nothing was read or written.
-abbrev pub WithFile : {X : Type 0} → (Opening → Type 0) → (Reading → Reading → Reading → Reading → Writing → Writing → Result X RunFault → Type 0) → Reading → Reading → Writing → Writing → Result X RunFault → Type 0
-WithFile comes does source source' sink sink' result =
-    ((left : Option (List ℕ)) × (file' : Reading) × comes (opened left) × does (unread left) file' source source' sink sink' result)
-    ⊎ (comes refused × (result ≡ Err run.Read) × (source' ≡ source) × (sink' ≡ sink))
-
--- what a job asks for was done, its file among those that may be opened under its path
-abbrev pub Does : Opens → Job → Reading → Reading → Writing → Writing → Result Done Refusal → Type 0
-Does opens (Solve rounds workers form account progress) source source' sink sink' done =
+-- what a job asks for was done, its file among those that may be opened under its path; without one no file was asked for
+abbrev pub Does : {F : Type 0} → Opens → Job → Filing F → Filing F → Reading → Reading → Writing → Writing → Result Done Refusal → Type 0
+Does opens (Solve rounds workers form account progress) folder folder' source source' sink sink' done =
     (result : Result (Outcome × Account) RunFault) × Solves rounds form source source' sink sink' result
-    × (workers ≡ 1 → SearchesInOrder result) × (done ≡ solved account result)
-Does opens (Verify task) source source' sink sink' done =
-    (result : Result Outcome RunFault) × WithFile (opens (string_bytes task)) Verifies source source' sink sink' result
+    × (workers ≡ 1 → SearchesInOrder result) × (folder' ≡ folder) × (done ≡ solved account result)
+Does opens (Verify task rounds) folder folder' source source' sink sink' done =
+    (result : Result Accepted RunFault) × WithFile (opens (string_bytes task)) (Verifies rounds) folder folder' source source' sink sink' result
     × (done ≡ verified result)
-Does opens (Views rounds) source source' sink sink' done =
-    (result : Result (Unit {0}) RunFault) × Lists views_text rounds source source' sink sink' result × (done ≡ written result)
-Does opens (Points rounds) source source' sink sink' done =
-    (result : Result (Unit {0}) RunFault) × Lists undecided_points rounds source source' sink sink' result × (done ≡ written result)
-Does opens (Decisions task) source source' sink sink' done =
-    (result : Result (Unit {0}) RunFault) × WithFile (opens (string_bytes task)) Decides source source' sink sink' result
+Does opens (Views rounds) folder folder' source source' sink sink' done =
+    (result : Result (Unit {0}) RunFault) × Lists views_text rounds source source' sink sink' result
+    × (folder' ≡ folder) × (done ≡ written result)
+Does opens (Points rounds) folder folder' source source' sink sink' done =
+    (result : Result (Unit {0}) RunFault) × Lists undecided_points rounds source source' sink sink' result
+    × (folder' ≡ folder) × (done ≡ written result)
+Does opens (Cnf rounds) folder folder' source source' sink sink' done =
+    (result : Result (Unit {0}) RunFault) × Lists question_text rounds source source' sink sink' result
+    × (folder' ≡ folder) × (done ≡ written result)
+Does opens (Model task rounds) folder folder' source source' sink sink' done =
+    (result : Result (Unit {0}) RunFault) × WithFile (opens (string_bytes task)) (Models rounds) folder folder' source source' sink sink' result
     × (done ≡ written result)
-Does opens (Preset preset) source source' sink sink' done =
+Does opens (Decisions task) folder folder' source source' sink sink' done =
+    (result : Result (Unit {0}) RunFault) × WithFile (opens (string_bytes task)) Decides folder folder' source source' sink sink' result
+    × (done ≡ written result)
+Does opens (Preset preset) folder folder' source source' sink sink' done =
     (result : Result (Unit {0}) RunFault) × WritesPreset preset sink sink' result × (source' ≡ source)
-    × (done ≡ written result)
+    × (folder' ≡ folder) × (done ≡ written result)
 
 -- the words ask neither for help nor for the version
 abbrev pub IsMistake : Error → Type 0
@@ -150,10 +157,10 @@ Declines (fault.Clap e) sink sink' done = ShowsOrRefuses e sink sink' done
 Declines fault.Words sink sink' done = (done ≡ Err Words) × (sink' ≡ sink)
 Declines fault.OutOfMemory sink sink' done = (done ≡ Err (Run run.OutOfMemory)) × (sink' ≡ sink)
 
--- the job was done; or there is none, and nothing was read
-abbrev pub DoesAsked : Opens → Result Job WordsFault → Reading → Reading → Writing → Writing → Result Done Refusal → Type 0
-DoesAsked opens (Ok job) source source' sink sink' done = Does opens job source source' sink sink' done
-DoesAsked opens (Err e) source source' sink sink' done = (source' ≡ source) × Declines e sink sink' done
+-- the job was done; or there is none, and nothing was read, and no file was asked for
+abbrev pub DoesAsked : {F : Type 0} → Opens → Result Job WordsFault → Filing F → Filing F → Reading → Reading → Writing → Writing → Result Done Refusal → Type 0
+DoesAsked opens (Ok job) folder folder' source source' sink sink' done = Does opens job folder folder' source source' sink sink' done
+DoesAsked opens (Err e) folder folder' source source' sink sink' done = (folder' ≡ folder) × (source' ≡ source) × Declines e sink sink' done
 
 -- ---- a whole run
 
@@ -163,11 +170,11 @@ Ends errors errors' (Ok done) result = (result ≡ done.status) × TellsAccount 
 Ends errors errors' (Err e) result = (result ≡ refusal_status e) × Tells errors errors' (refusal_text e)
 
 -- the words were judged, what they ask for was done, and it was told how that ended
-abbrev pub Serves : {X : Type 0} → Opens → Result X WordsFault → Reading → Reading → Writing → Writing → Writing → Writing → ℕ → Type 0
-Serves opens words source source' sink sink' errors errors' status =
+abbrev pub Serves : {F X : Type 0} → Opens → Result X WordsFault → Filing F → Filing F → Reading → Reading → Writing → Writing → Writing → Writing → ℕ → Type 0
+Serves opens words folder folder' source source' sink sink' errors errors' status =
     (asked : Result Job WordsFault) × (done : Result Done Refusal) × IsAsked words asked
-    × DoesAsked opens asked source source' sink sink' done × Ends errors errors' done status
+    × DoesAsked opens asked folder folder' source source' sink sink' done × Ends errors errors' done status
 
--- all three ends can count what a run asks of them
-abbrev pub CanServe : Reading → Writing → Writing → Type 0
-CanServe source sink errors = CanCount source sink × CanWrite errors
+-- the folder and all three ends can count what a run asks of them
+abbrev pub CanServe : {F : Type 0} → Filing F → Reading → Writing → Writing → Type 0
+CanServe folder source sink errors = CanAsk folder × CanCount source sink × CanWrite errors

@@ -1,14 +1,17 @@
 //! From the words of a command line to the exit status.
 
 ghost use Rattle.std.specs.Prelude.{◌≡◌, ◌<◌, ◌≤◌};
+ghost use Rattle.wf_model.specs.Limits.{most_workers};
 ghost use Rattle.wf_io.specs.Ends.{CanCount, CanWrite};
 ghost use Rattle.wf_engine.specs.Texts.{SearchesInOrder, Solves};
+ghost use Rattle.wf_engine.specs.Models.{Models};
 ghost use Rattle.wf_engine.specs.Verify.{Decides, Verifies};
 ghost use Rattle.wf_args.specs.Job.{CanBeDone};
+ghost use Rattle.wf_program.specs.Files.{CanAsk};
 ghost use Rattle.wf_program.specs.Program.{CanServe, Declines, Does, Ends, IsAsked, Serves, Shows, WithFile, outcome_status, solved, verified, written};
 
 use crate::done::{AccountLine, Done};
-use crate::files::Files;
+use crate::files::{Files, Folder};
 use crate::refusal::Refusal;
 use crate::version::VersionLine;
 use clap::error::ErrorKind;
@@ -19,11 +22,11 @@ use std::thread::Threads;
 use wf_args::{Job, WordsFault, read_words};
 use wf_core::Account;
 use wf_engine::{
-    Form, Outcome, RunFault, hand_out, run_decisions, run_points, run_preset, run_solve,
-    run_solve_watched, run_verify, run_views,
+    Accepted, Form, Outcome, RunFault, hand_out, run_cnf, run_decisions, run_model, run_points,
+    run_preset, run_solve, run_solve_watched, run_verify, run_views,
 };
 use wf_io::{Sink, Source};
-use wf_pool::{Gate, MAX_WORKERS};
+use wf_pool::Gate;
 
 /// Runs what the words ask for, the first of which is the program's own name, and answers the exit status. Where the
 /// words could not be had, that is the refusal.
@@ -37,19 +40,19 @@ use wf_pool::{Gate, MAX_WORKERS};
 pub fn run_program<T: Threads + Sync, F: Files, G: Gate, R: Read, W: Write, E: Write>(
     rt: &T,
     alloc: Global,
-    files: &F,
+    folder: &mut Folder<F>,
     gate: &G,
     words: Result<Vec<String>, WordsFault>,
     source: &mut Source<R>,
     sink: &mut Sink<W>,
     errors: &mut Sink<E>,
 ) -> u8
-    requires { CanServe source.old sink.old errors.old }
-    ensures { Serves (F.opens files.now) words source.old source.new sink.old sink.new
-        errors.old errors.new result }
+    requires { CanServe folder.old source.old sink.old errors.old }
+    ensures { Serves (F.opens folder.old.files) words folder.old folder.new source.old source.new
+        sink.old sink.new errors.old errors.new result }
 {
     let done = match job_of(alloc, words) {
-        Ok(job) => do_job(rt, alloc, files, gate, source, sink, &job),
+        Ok(job) => do_job(rt, alloc, folder, gate, source, sink, &job),
         Err(fault) => decline(alloc, sink, fault),
     };
     end(errors, done)
@@ -66,15 +69,17 @@ fn job_of(alloc: Global, words: Result<Vec<String>, WordsFault>) -> Result<Job, 
 fn do_job<T: Threads + Sync, F: Files, G: Gate, R: Read, W: Write>(
     rt: &T,
     alloc: Global,
-    files: &F,
+    folder: &mut Folder<F>,
     gate: &G,
     source: &mut Source<R>,
     sink: &mut Sink<W>,
     job: &Job,
 ) -> Result<Done, Refusal>
+    requires files { CanAsk folder.old }
     requires ends { CanCount source.old sink.old }
     requires limits { CanBeDone job.now }
-    ensures { Does (F.opens files.now) job.now source.old source.new sink.old sink.new result }
+    ensures { Does (F.opens folder.old.files) job.now folder.old folder.new source.old source.new
+        sink.old sink.new result }
 {
     match job {
         Job::Solve {
@@ -88,11 +93,17 @@ fn do_job<T: Threads + Sync, F: Files, G: Gate, R: Read, W: Write>(
             let found = solve_source(rt, alloc, gate, source, sink, *rounds, *workers, *form);
             after_solving(found, *account)
         }
-        Job::Verify { task } => after_verifying(verify_file(rt, alloc, files, task, source, sink)),
+        Job::Verify { task, rounds } => {
+            after_verifying(verify_file(rt, alloc, folder, task, source, sink, *rounds))
+        }
         Job::Views { rounds } => after_writing(run_views(alloc, source, sink, *rounds)),
         Job::Points { rounds } => after_writing(run_points(alloc, source, sink, *rounds)),
+        Job::Cnf { rounds } => after_writing(run_cnf(alloc, source, sink, *rounds)),
+        Job::Model { task, rounds } => {
+            after_writing(report_file(rt, alloc, folder, task, source, sink, *rounds))
+        }
         Job::Decisions { task } => {
-            after_writing(decide_file(rt, alloc, files, task, source, sink))
+            after_writing(decide_file(rt, alloc, folder, task, source, sink))
         }
         Job::Preset(preset) => after_writing(run_preset(alloc, sink, *preset)),
     }
@@ -110,7 +121,7 @@ fn solve_source<T: Threads + Sync, G: Gate, R: Read, W: Write>(
     form: Form,
 ) -> Result<(Outcome, Account), RunFault>
     requires ends { CanCount source.old sink.old }
-    requires workers { (0 < workers) × (workers ≤ MAX_WORKERS) }
+    requires workers { (0 < workers) × (workers ≤ most_workers) }
     ensures solves { Solves rounds form source.old source.new sink.old sink.new result }
     ensures in_order { workers ≡ 1 → SearchesInOrder result }
 {
@@ -120,46 +131,85 @@ fn solve_source<T: Threads + Sync, G: Gate, R: Read, W: Write>(
     }
 }
 
-/// Checks the report of the source about the task in a file. A file that can't be opened is a failed read.
+/// Checks the report of the source about the task in a file, whose source is kept. A file that can't be opened is a failed
+/// read. Where rounds are asked for, a report for others is refused.
 fn verify_file<T: Threads + Sync, F: Files, R: Read, W: Write>(
     rt: &T,
     alloc: Global,
-    files: &F,
+    folder: &mut Folder<F>,
     path: &str,
     source: &mut Source<R>,
     sink: &mut Sink<W>,
-) -> Result<Outcome, RunFault>
-    requires { CanCount source.old sink.old }
-    ensures { WithFile (F.opens files.now path.now) Verifies source.old source.new
-        sink.old sink.new result }
+    rounds: Option<u32>,
+) -> Result<Accepted, RunFault>
+    requires files { CanAsk folder.old }
+    requires ends { CanCount source.old sink.old }
+    ensures { WithFile (F.opens folder.old.files path.now) (Verifies rounds) folder.old folder.new
+        source.old source.new sink.old sink.new result }
 {
-    match files.open(path) {
-        Ok(file) => run_verify(rt, alloc, &mut Source::new(file), source, sink),
-        Err(_) => Err(RunFault::Read),
+    match folder.open(path) {
+        Some(mut file) => {
+            let found = run_verify(rt, alloc, &mut file, source, sink, rounds);
+            folder.keep(file);
+            found
+        }
+        None => Err(RunFault::Read),
     }
 }
 
-/// Tells what the map of the source's report decides for the task in a file. A file that can't be opened is a failed read.
+/// Reports the map of the source's model about the task in a file, whose source is kept. A file that can't be opened is a failed
+/// read.
+fn report_file<T: Threads + Sync, F: Files, R: Read, W: Write>(
+    rt: &T,
+    alloc: Global,
+    folder: &mut Folder<F>,
+    path: &str,
+    source: &mut Source<R>,
+    sink: &mut Sink<W>,
+    rounds: u32,
+) -> Result<(), RunFault>
+    requires files { CanAsk folder.old }
+    requires ends { CanCount source.old sink.old }
+    ensures { WithFile (F.opens folder.old.files path.now) (Models rounds) folder.old folder.new
+        source.old source.new sink.old sink.new result }
+{
+    match folder.open(path) {
+        Some(mut file) => {
+            let found = run_model(rt, alloc, &mut file, source, sink, rounds);
+            folder.keep(file);
+            found
+        }
+        None => Err(RunFault::Read),
+    }
+}
+
+/// Tells what the map of the source's report decides for the task in a file, whose source is kept. A file that can't be
+/// opened is a failed read.
 fn decide_file<T: Threads + Sync, F: Files, R: Read, W: Write>(
     rt: &T,
     alloc: Global,
-    files: &F,
+    folder: &mut Folder<F>,
     path: &str,
     source: &mut Source<R>,
     sink: &mut Sink<W>,
 ) -> Result<(), RunFault>
-    requires { CanCount source.old sink.old }
-    ensures { WithFile (F.opens files.now path.now) Decides source.old source.new
-        sink.old sink.new result }
+    requires files { CanAsk folder.old }
+    requires ends { CanCount source.old sink.old }
+    ensures { WithFile (F.opens folder.old.files path.now) Decides folder.old folder.new
+        source.old source.new sink.old sink.new result }
 {
-    match files.open(path) {
-        Ok(file) => run_decisions(rt, alloc, &mut Source::new(file), source, sink),
-        Err(_) => Err(RunFault::Read),
+    match folder.open(path) {
+        Some(mut file) => {
+            let found = run_decisions(rt, alloc, &mut file, source, sink);
+            folder.keep(file);
+            found
+        }
+        None => Err(RunFault::Read),
     }
 }
 
 /// What is answered after a check.
-fn after_verifying(found: Result<Outcome, RunFault>) -> Result<Done, Refusal>
+fn after_verifying(found: Result<Accepted, RunFault>) -> Result<Done, Refusal>
     ensures { result ≡ verified found }
 {
     match found {
@@ -189,7 +239,7 @@ fn status_of(outcome: Outcome) -> u8
     ensures { result ≡ outcome_status outcome }
 {
     match outcome {
-        Outcome::Map | Outcome::Least => 0,
+        Outcome::Map => 0,
         Outcome::Nothing => 1,
     }
 }

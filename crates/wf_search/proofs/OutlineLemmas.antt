@@ -16,8 +16,8 @@ use Rattle.wf_model.specs.Outline.{Item, written, left_out, box_left, closed_to,
 use Rattle.wf_model.proofs.Filling.{boxes_append}
 use Rattle.wf_model.proofs.Headline.{each_append}
 use Rattle.wf_model.proofs.Closed.{closed_branch}
-use Rattle.wf_complex.specs.Lines.{line_of}
-use Rattle.wf_complex.specs.declared.line.Line.{Line}
+use Rattle.wf_lines.specs.Lines.{line_of}
+use Rattle.wf_lines.specs.declared.line.Line.{Line}
 use Rattle.wf_set.specs.Sets.{values_in}
 use Rattle.wf_search.specs.declared.outline.Slot.{Slot}
 use Rattle.wf_search.specs.Cover.{each_seen}

@@ -9,7 +9,7 @@ use crate::outline::Outline;
 use std::alloc::{AllocError, Global};
 use std::marker::Model;
 use wf_box::{Box0, Problem};
-use wf_complex::Lines;
+use wf_lines::Lines;
 
 /// How often each box is branched at most.
 const MOST_LEVELS: u32 = 8;

@@ -7,7 +7,7 @@ ghost use Rattle.wf_model.specs.Box.{root};
 ghost use Rattle.wf_model.specs.Closing.{closing};
 ghost use Rattle.wf_model.specs.Outline.{boxes_left_out, closed_to, left_out, opened, written};
 ghost use Rattle.wf_model.specs.Split.{is_open};
-ghost use Rattle.wf_complex.specs.Lines.{line_of};
+ghost use Rattle.wf_lines.specs.Lines.{line_of};
 ghost use Rattle.wf_box.specs.Boxes.{Grows, IsFor};
 ghost use Rattle.wf_search.specs.Cover.{IsFilled, IsFilledUpTo, branch_at};
 ghost use Rattle.wf_search.specs.Outline.{AreSlotsFilled, IsClosedBox, IsForIfClosed, IsJustClosed, as_written, branches_closed, is_to_open};
@@ -16,7 +16,7 @@ use std::alloc::{AllocError, Global};
 use std::marker::Model;
 use std::mem;
 use wf_box::{Box0, Closed, Problem, Snapshot, close};
-use wf_complex::{Line, Lines};
+use wf_lines::{Line, Lines};
 use wf_set::split_first;
 
 /// Boxes that are enough to share out.
@@ -199,7 +199,7 @@ impl Outline {
         match boxed.first_open() {
             None => self.leave_out(alloc, boxed),
             Some(point) => {
-                self.write(Line::B { point })?;
+                self.write(Line::Branch { point })?;
                 self.close_branches(alloc, problem, boxed.to_box(alloc)?, point)
             }
         }

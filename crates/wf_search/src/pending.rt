@@ -13,7 +13,7 @@ ghost use Rattle.wf_search.specs.Pending.{HasFirst, closed_first, first, first_b
 use std::alloc::{AllocError, Global};
 use std::marker::Model;
 use wf_box::{Box0, Closed, Mark, Problem, close};
-use wf_complex::Lines;
+use wf_lines::Lines;
 use wf_set::{Mask, is_empty, split_first};
 
 /// A point at which the box branched: the state of the box then, and the point's values whose branches are still to

@@ -5,7 +5,7 @@ use Rattle.std.specs.Ordering.{nat_cmp}
 use Rattle.std.specs.Cmp.Lexicographic.{slice_cmp}
 use Rattle.serde_json.specs.Data.{Data}
 use Rattle.wf_model.specs.Lists.{in_order}
-use Rattle.wf_model.specs.Limits.{most_inputs, most_outputs, most_tuples, most_vertices}
+use Rattle.wf_model.specs.Limits.{most_bytes, most_inputs, most_outputs, most_tuples, most_vertices}
 use Rattle.wf_model.specs.Simplex.{Simplex, processes_of, values_of, is_ascending, complex_of}
 use Rattle.wf_model.specs.Task.{Task, Rule, Tuple, largest_value}
 use Rattle.wf_simplex.specs.Order.{same_simplex}
@@ -15,7 +15,6 @@ use Rattle.wf_task.specs.declared.fault.TaskFault.TheVariants as fault
 use Rattle.wf_task.specs.Draft.{Listed, ◌>>=◌, or_fault, draft_of}
 use Rattle.wf_task.specs.Text.{json_of}
 use Rattle.wf_task.specs.Slots.{entries_in}
-use Rattle.wf_task.specs.declared.task.TheConstants.{LONGEST}
 
 -- ---- what is asked
 
@@ -169,4 +168,4 @@ task_of d = draft_of d >>= judged
 
 -- the task of a text, or the first fault
 unfoldable pub text_of : List ℕ → Result Task TaskFault
-text_of bytes = if nat_lt LONGEST (length bytes) then Err fault.TooLong else (or_fault fault.NotJson (json_of bytes) >>= task_of)
+text_of bytes = if nat_lt most_bytes (length bytes) then Err fault.TooLong else (or_fault fault.NotJson (json_of bytes) >>= task_of)

@@ -23,6 +23,6 @@ mod text;
 mod tuples;
 
 pub use fault::{Key, Limit, TaskFault};
-pub use limits::{MOST_INPUTS, MOST_OUTPUTS, MOST_TUPLES, MOST_VERTICES};
+pub use limits::{MOST_INPUTS, MOST_OUTPUTS, MOST_TUPLES, MOST_VERTICES, texts_have_most_bytes};
 pub use row::Row;
 pub use task::{LONGEST, Task};

@@ -13,7 +13,7 @@ use std::{env, fs, io, rt};
 use wf_args::WordsFault;
 use wf_io::{Sink, Source};
 use wf_pool::{Gate, Moment};
-use wf_program::{Files, run_program};
+use wf_program::{Files, Folder, run_program};
 
 /// The files of the disk.
 #[derive(Drop)]
@@ -56,7 +56,15 @@ fn arguments(rt: &(impl Env + Alloc<A = Global>)) -> Result<Vec<String>, WordsFa
     Ok(words.collect(rt.alloc())?)
 }
 
+/// Takes the descriptors of those standard streams that are closed, until what it gives is dropped: a file that is opened gets
+/// the lowest free one, so a task's file would else be read as the standard input. A directory can be neither read nor
+/// written, so a closed stream stays one that fails.
+fn hold_closed_streams<R: rt::Files>(rt: &R) -> [io::Result<R::File>; 3] {
+    [fs::open(rt, "/"), fs::open(rt, "/"), fs::open(rt, "/")]
+}
+
 fn main(rt: HostRuntime) -> ExitCode {
+    let _held = hold_closed_streams(&rt);
     let progress = Progress {
         rt: &rt,
         branches: AtomicU64::new(0),
@@ -65,7 +73,7 @@ fn main(rt: HostRuntime) -> ExitCode {
     let status = run_program(
         &rt,
         rt.alloc(),
-        &Disk(&rt),
+        &mut Folder::new(Disk(&rt)),
         &progress,
         arguments(&rt),
         &mut Source::new(rt.reader()),

@@ -11,9 +11,8 @@ use Rattle.wf_model.specs.Box.{root}
 use Rattle.wf_model.specs.Refutation.{Tree, Line, lines, Refutes}
 use Rattle.wf_model.specs.LeastTree.{IsLeastTree}
 use Rattle.wf_model.specs.Closing.{canonical_answer}
-use Rattle.wf_model.specs.Report.{Report, a_map, none, least}
+use Rattle.wf_model.specs.Report.{Report, a_map, none, least, report_about}
 use Rattle.wf_model.specs.Check.{report_fault}
-use Rattle.wf_model.specs.Laws.{report_about}
 
 -- a report without a fault says how many processes the task has
 abbrev pub AcceptedReportsCountTheProcesses : Type 0

@@ -9,10 +9,10 @@ use std::process::Abort;
 use std::test::Fail;
 use std::thread::Threads;
 use wf_box::Problem;
-use wf_complex::Line;
 use wf_core::Account;
 use wf_examples::{AGREEMENT_3_2, CONSENSUS_2, PATH_2};
 use wf_handout::{Counter, Handout, Stealing};
+use wf_lines::Line;
 use wf_pool::{Answer, KeptLines, MAX_WORKERS, Open, solve, solve_one};
 
 // The least map of `PATH_2` after one round.
@@ -20,39 +20,39 @@ const MAP: [u8; 4] = [0, 2, 1, 0];
 
 // The lines that lead to it.
 const MAP_LINES: [Line; 9] = [
-    Line::P {
+    Line::Remove {
         execution: 0,
         process: 0,
         value: 1,
     },
-    Line::P {
+    Line::Remove {
         execution: 0,
         process: 0,
         value: 2,
     },
-    Line::P {
+    Line::Remove {
         execution: 1,
         process: 1,
         value: 0,
     },
-    Line::P {
+    Line::Remove {
         execution: 1,
         process: 1,
         value: 1,
     },
-    Line::P {
+    Line::Remove {
         execution: 3,
         process: 1,
         value: 2,
     },
-    Line::P {
+    Line::Remove {
         execution: 4,
         process: 0,
         value: 0,
     },
-    Line::B { point: 2 },
-    Line::B { point: 3 },
-    Line::F,
+    Line::Branch { point: 2 },
+    Line::Branch { point: 3 },
+    Line::Found,
 ];
 
 // Of its three branches the first one was searched, and the others cut.
@@ -109,22 +109,22 @@ fn a_root_without_branches(rt: HostRuntime) -> Result<(), Fail> {
     let problem = problem_of(rt.alloc(), CONSENSUS_2, 0)?;
     let (answer, account) = solve_one(rt.alloc(), &problem, KeptLines::All)?;
     let wanted = [
-        Line::P {
+        Line::Remove {
             execution: 0,
             process: 0,
             value: 1,
         },
-        Line::P {
+        Line::Remove {
             execution: 1,
             process: 1,
             value: 0,
         },
-        Line::P {
+        Line::Remove {
             execution: 2,
             process: 0,
             value: 0,
         },
-        Line::Z { point: 0 },
+        Line::Empty { point: 0 },
     ];
     assert_eq!(rt; lines_of(&answer), wanted.as_slice());
     let none = Account {

@@ -9,7 +9,7 @@ use std::thread::Threads;
 use wf_examples::{PATH_3, RENAMING_2_2};
 use wf_io::{Sink, Source};
 use wf_pool::Open;
-use wf_program::run_program;
+use wf_program::{Folder, run_program};
 
 /// A task and a report about it, and what is written, told and answered.
 #[derive(Clone, Copy)]
@@ -79,7 +79,7 @@ fn check_row(
     let status = run_program(
         rt,
         alloc,
-        &files,
+        &mut Folder::new(files),
         &Open,
         Ok(words),
         &mut source,
@@ -140,11 +140,12 @@ fn failed_calls_of_a_check_are_told(rt: HostRuntime) -> Result<(), Fail> {
             let mut source = Source::new(Drip::new(row.report.as_bytes(), read));
             let mut sink = Sink::new(Narrow::new(&mut output, write));
             let mut told = Sink::new(&mut errors);
+            let mut folder = Folder::new(files);
             let words = split(rt.alloc(), line)?;
             let status = run_program(
                 &rt,
                 rt.alloc(),
-                &files,
+                &mut folder,
                 &Open,
                 Ok(words),
                 &mut source,
@@ -153,9 +154,19 @@ fn failed_calls_of_a_check_are_told(rt: HostRuntime) -> Result<(), Fail> {
             );
             drop(sink);
             drop(told);
-            assert_eq!(rt; errors.as_slice(), text.as_bytes(), "{line} of {name}");
-            assert_eq!(rt; status, 4, "{line} of {name}");
-            assert_eq!(rt; output.len(), 0, "{line} of {name}");
+            assert_eq!(rt; folder.asked(), 1);
+            let unopened = u64::from(name != "task.json");
+            assert_eq!(rt; folder.failures(), unopened);
+            let failed = folder.kept().map(Source::failures);
+            let wanted = if unopened == 1 {
+                None
+            } else {
+                Some(opened as u64)
+            };
+            assert_eq!(rt; failed, wanted);
+            assert_eq!(rt; errors.as_slice(), text.as_bytes());
+            assert_eq!(rt; status, 4);
+            assert_eq!(rt; output.len(), 0);
         }
     }
     Ok(())

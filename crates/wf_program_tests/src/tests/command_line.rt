@@ -11,7 +11,7 @@ use wf_args::WordsFault;
 use wf_examples::{ONE_PROCESS, RENAMING_2_2};
 use wf_io::{Sink, Source};
 use wf_pool::Open;
-use wf_program::run_program;
+use wf_program::{Folder, run_program};
 
 /// What a run wrote and answered.
 #[derive(Drop)]
@@ -36,7 +36,7 @@ fn run(
     let status = run_program(
         rt,
         alloc,
-        &EMPTY,
+        &mut Folder::new(EMPTY),
         &Open,
         Ok(words),
         &mut source,
@@ -123,7 +123,7 @@ fn words_that_could_not_be_had_are_the_refusal(rt: HostRuntime) -> Result<(), Fa
         let found = run_program(
             &rt,
             rt.alloc(),
-            &EMPTY,
+            &mut Folder::new(EMPTY),
             &Open,
             Err(fault),
             &mut source,
@@ -178,7 +178,7 @@ fn failed_calls_are_told(rt: HostRuntime) -> Result<(), Fail> {
         let found = run_program(
             &rt,
             rt.alloc(),
-            &EMPTY,
+            &mut Folder::new(EMPTY),
             &Open,
             Ok(words),
             &mut source,
@@ -208,7 +208,7 @@ fn a_refusal_that_cannot_be_told_keeps_its_status(rt: HostRuntime) -> Result<(),
         let found = run_program(
             &rt,
             rt.alloc(),
-            &EMPTY,
+            &mut Folder::new(EMPTY),
             &Open,
             Ok(words),
             &mut source,

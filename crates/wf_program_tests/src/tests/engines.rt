@@ -7,14 +7,16 @@ use std::alloc::Global;
 use std::io::{Read, Write};
 use std::test::Fail;
 use std::thread::Threads;
+use wf_cnf::ModelFault;
 use wf_complex::BuildFault;
 use wf_core::Account;
 use wf_engine::{
-    Form, Outcome, RunFault, run_decisions, run_points, run_solve, run_solve_one, run_verify,
-    run_views,
+    Accepted, Form, Outcome, RunFault, run_cnf, run_decisions, run_model, run_points, run_solve,
+    run_solve_one, run_verify, run_views,
 };
 use wf_examples::PATH_2;
 use wf_io::{Sink, Source};
+use wf_report::CertFault;
 use wf_task::TaskFault;
 
 pub(crate) const ONE: &str =
@@ -29,6 +31,14 @@ const LIST: &str =
 /// One process sees itself alone, eight times.
 const TOLD: &str =
     "0 p0 saw {p0 saw {p0 saw {p0 saw {p0 saw {p0 saw {p0 saw {p0 saw {p0=0}}}}}}}}\n";
+
+/// One variable, which its point's clause asks to be true.
+const QUESTION: &str =
+    "c wfcheck formula 1\nc processes 1\nc rounds 8\nc points 1\nc executions 1\nc values 5\nc variable 1 * point + place of the value\np cnf 1 1\n1 0\n";
+
+/// The report of a decision map of the path of length 2 after one round.
+const MAP: &str =
+    "wfcheck report 1\nprocesses 2\nrounds 1\npoints 4\nexecutions 5\nanswer map\nm 0\nm 2\nm 1\nm 0\nend\n";
 
 /// The least report about the path of length 2 after one round: points 2 and 3 have two candidates each once the root is
 /// closed, and the lower ones are the map's.
@@ -45,10 +55,11 @@ pub enum Engine {
     Share,
     Views,
     Points,
+    Cnf,
 }
 
 impl Engine {
-    /// Runs it for some rounds: a search by one worker, one by three, or one of the two listings.
+    /// Runs it for some rounds: a search by one worker, one by three, one of the two listings, or the question as a formula.
     pub(crate) fn run<T: Threads + Sync, R: Read, W: Write>(
         self,
         rt: &T,
@@ -64,6 +75,7 @@ impl Engine {
             Engine::Share => run_solve(rt, alloc, source, sink, rounds, 3, Form::Full).err(),
             Engine::Views => run_views(alloc, source, sink, rounds).err(),
             Engine::Points => run_points(alloc, source, sink, rounds).err(),
+            Engine::Cnf => run_cnf(alloc, source, sink, rounds).err(),
         }
     }
 
@@ -73,15 +85,17 @@ impl Engine {
             Engine::Solve | Engine::Share => REPORT,
             Engine::Views => LIST,
             Engine::Points => TOLD,
+            Engine::Cnf => QUESTION,
         }
     }
 }
 
-pub(crate) const ENGINES: [Engine; 4] = [
+pub(crate) const ENGINES: [Engine; 5] = [
     Engine::Solve,
     Engine::Share,
     Engine::Views,
     Engine::Points,
+    Engine::Cnf,
 ];
 
 #[test]
@@ -144,10 +158,37 @@ fn a_least_map_is_accepted_by_its_lines(rt: HostRuntime) -> Result<(), Fail> {
     let mut report = Source::new(LEAST.as_bytes());
     let mut written = Vec::new(rt.alloc());
     let mut sink = Sink::new(&mut written);
-    let found = run_verify(&rt, rt.alloc(), &mut task, &mut report, &mut sink);
-    assert_eq!(rt; found, Ok(Outcome::Least));
+    let found = run_verify(&rt, rt.alloc(), &mut task, &mut report, &mut sink, None);
+    assert_eq!(rt; found, Ok(Accepted::Least));
     drop(sink);
     assert_eq!(rt; written.as_slice(), "accepted least\n".as_bytes());
+    Ok(())
+}
+
+#[test]
+fn a_report_is_accepted_for_the_rounds_that_are_asked_for(rt: HostRuntime) -> Result<(), Fail> {
+    let rows = [
+        (1, Ok(Accepted::Least), "accepted least at 1 round\n"),
+        (0, Err(RunFault::OtherRounds), ""),
+        (2, Err(RunFault::OtherRounds), ""),
+    ];
+    for (rounds, outcome, line) in rows {
+        let mut task = Source::new(PATH_2.as_bytes());
+        let mut report = Source::new(LEAST.as_bytes());
+        let mut written = Vec::new(rt.alloc());
+        let mut sink = Sink::new(&mut written);
+        let found = run_verify(
+            &rt,
+            rt.alloc(),
+            &mut task,
+            &mut report,
+            &mut sink,
+            Some(rounds),
+        );
+        assert_eq!(rt; found, outcome, "{rounds} rounds");
+        drop(sink);
+        assert_eq!(rt; written.as_slice(), line.as_bytes(), "{rounds} rounds");
+    }
     Ok(())
 }
 
@@ -161,6 +202,59 @@ fn what_a_map_decides_is_told(rt: HostRuntime) -> Result<(), Fail> {
     assert_eq!(rt; found, Ok(()));
     drop(sink);
     assert_eq!(rt; written.as_slice(), DECIDED.as_bytes());
+    Ok(())
+}
+
+#[test]
+fn a_model_is_reported_as_a_map(rt: HostRuntime) -> Result<(), Fail> {
+    // the path of length 2 has three values: variables 3 v + 1 to 3 v + 3 for point v
+    let rows = [
+        ("s SATISFIABLE\nv 1 -2 -3 6 8\nv 10 0\n", Ok(()), MAP),
+        ("SAT\n1 6 8 9 10 12 0\n", Ok(()), MAP),
+        (
+            "s UNSATISFIABLE\n",
+            Err(RunFault::Model(ModelFault::NoModel { line: 2 })),
+            "",
+        ),
+        (
+            "v 1 6\nv x 0\n",
+            Err(RunFault::Model(ModelFault::NotALiteral { line: 2 })),
+            "",
+        ),
+        (
+            "v 13 0\n",
+            Err(RunFault::Model(ModelFault::NoSuchVariable { line: 1 })),
+            "",
+        ),
+        (
+            "v 1 6 7 10 0\n",
+            Err(RunFault::Cert(CertFault::Violates(4))),
+            "",
+        ),
+    ];
+    for (output, outcome, text) in rows {
+        let mut task = Source::new(PATH_2.as_bytes());
+        let mut model = Source::new(output.as_bytes());
+        let mut written = Vec::new(rt.alloc());
+        let mut sink = Sink::new(&mut written);
+        let found = run_model(&rt, rt.alloc(), &mut task, &mut model, &mut sink, 1);
+        assert_eq!(rt; found, outcome, "{output}");
+        drop(sink);
+        assert_eq!(rt; written.as_slice(), text.as_bytes(), "{output}");
+    }
+    Ok(())
+}
+
+#[test]
+fn too_many_rounds_are_refused_before_the_model_is_read(rt: HostRuntime) -> Result<(), Fail> {
+    let mut given = 0;
+    let mut task = Source::new(ONE.as_bytes());
+    let mut model = Source::new(LineFeeds::new(&mut given));
+    let mut sink = Sink::new(Vec::new(rt.alloc()));
+    let found = run_model(&rt, rt.alloc(), &mut task, &mut model, &mut sink, 9);
+    assert_eq!(rt; found, Err(RunFault::Build(BuildFault::Rounds)));
+    drop(model);
+    assert_eq!(rt; given, 0);
     Ok(())
 }
 

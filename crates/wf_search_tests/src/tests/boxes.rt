@@ -7,8 +7,8 @@ use super::tasks::problem_of;
 use std::alloc::{AllocError, Global};
 use std::test::Fail;
 use wf_box::{Box0, Closed, Problem, close};
-use wf_complex::{Line, Lines};
 use wf_examples::{CONSENSUS_2, ONE_WITHOUT_OUTPUT, PATH_2, SYMMETRIC_201};
+use wf_lines::{Line, Lines};
 use wf_set::{first_part, holds};
 
 /// The candidates of each point, a bit for each value, of which all are below 64.
@@ -22,7 +22,7 @@ fn candidates_of(alloc: Global, boxed: &Box0) -> Result<Vec<u64>, AllocError> {
 
 /// The line of a value that is lost.
 pub(crate) fn lost(execution: u32, process: u8, value: u8) -> Line {
-    Line::P {
+    Line::Remove {
         execution,
         process,
         value,
@@ -69,14 +69,14 @@ fn roots_that_are_emptied(rt: HostRuntime) -> Result<(), Fail> {
         lost(0, 0, 1),
         lost(1, 1, 0),
         lost(2, 0, 0),
-        Line::Z { point: 0 },
+        Line::Empty { point: 0 },
     ];
     assert_eq!(rt; lines.as_slice(), wanted.as_slice());
     assert_eq!(rt; left.as_slice(), [0, 2].as_slice());
     // without an output the point has no candidate at the start
     let (closed, lines, left) = close_root(rt.alloc(), ONE_WITHOUT_OUTPUT, 0)?;
     assert_eq!(rt; closed, Closed::Empty(0));
-    assert_eq!(rt; lines.as_slice(), [Line::Z { point: 0 }].as_slice());
+    assert_eq!(rt; lines.as_slice(), [Line::Empty { point: 0 }].as_slice());
     assert_eq!(rt; left.as_slice(), [0].as_slice());
     Ok(())
 }

@@ -9,11 +9,11 @@ use super::tasks::problem_of;
 use std::alloc::{AllocError, Global};
 use std::test::Fail;
 use wf_box::{Box0, Problem};
-use wf_complex::{Line, Lines};
 use wf_examples::{
     CONSENSUS_2, ONE_PROCESS, ONE_WITHOUT_OUTPUT, ONE_WITHOUT_TUPLE, PATH_2, PATH_3, RENAMING_2_2,
     RENAMING_2_3,
 };
+use wf_lines::{Line, Lines};
 use wf_search::{Cover, Found, Never, Stop, search, split};
 
 /// It counts its questions, and answers yes to those past so many.
@@ -75,7 +75,7 @@ fn lines_to_map(alloc: Global, found: Found) -> Lines {
 }
 
 fn empty(point: u32) -> Line {
-    Line::Z { point }
+    Line::Empty { point }
 }
 
 #[test]
@@ -118,7 +118,7 @@ fn roots_that_closing_refutes(rt: HostRuntime) -> Result<(), Fail> {
 // The lines of two names for two processes after one round.
 fn lines_of_two_names() -> [Line; 9] {
     [
-        Line::B { point: 0 },
+        Line::Branch { point: 0 },
         lost(3, 1, 0),
         lost(4, 0, 0),
         lost(2, 0, 1),
@@ -137,7 +137,7 @@ fn roots_that_branch(rt: HostRuntime) -> Result<(), Fail> {
     assert_eq!(rt; two.as_slice(), lines_of_two_names().as_slice());
     let at_once = lines_of(rt.alloc(), search_root(rt.alloc(), RENAMING_2_3, 0)?);
     let wanted = [
-        Line::B { point: 0 },
+        Line::Branch { point: 0 },
         lost(2, 0, 0),
         empty(0),
         lost(2, 0, 1),
@@ -173,9 +173,9 @@ fn lines_of_a_path() -> [Line; 9] {
         lost(1, 1, 1),
         lost(3, 1, 2),
         lost(4, 0, 0),
-        Line::B { point: 2 },
-        Line::B { point: 3 },
-        Line::F,
+        Line::Branch { point: 2 },
+        Line::Branch { point: 3 },
+        Line::Found,
     ]
 }
 
@@ -184,7 +184,7 @@ fn lines_that_lead_to_a_map(rt: HostRuntime) -> Result<(), Fail> {
     let path = lines_to_map(rt.alloc(), search_root(rt.alloc(), PATH_2, 1)?);
     assert_eq!(rt; path.as_slice(), lines_of_a_path().as_slice());
     let at_once = lines_to_map(rt.alloc(), search_root(rt.alloc(), ONE_PROCESS, 8)?);
-    assert_eq!(rt; at_once.as_slice(), [Line::F].as_slice());
+    assert_eq!(rt; at_once.as_slice(), [Line::Found].as_slice());
     Ok(())
 }
 
@@ -300,10 +300,10 @@ fn fill_up_to(
 
 #[test]
 fn a_root_is_filled_up_to_a_branch(rt: HostRuntime) -> Result<(), Fail> {
-    let first = fill_first(rt.alloc(), PATH_2, &[Line::F])?;
+    let first = fill_first(rt.alloc(), PATH_2, &[Line::Found])?;
     assert_eq!(rt; first.as_slice(), lines_of_a_path().as_slice());
-    let last = fill_first(rt.alloc(), PATH_2, &[empty(0), empty(1), Line::F])?;
-    let wanted = [empty(0), empty(1), lost(2, 1, 0), Line::F];
+    let last = fill_first(rt.alloc(), PATH_2, &[empty(0), empty(1), Line::Found])?;
+    let wanted = [empty(0), empty(1), lost(2, 1, 0), Line::Found];
     assert_eq!(rt; last.get(8..), Some(wanted.as_slice()));
     Ok(())
 }

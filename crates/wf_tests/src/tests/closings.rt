@@ -14,7 +14,7 @@ use super::tasks::problem_of;
 use std::alloc::Global;
 use std::test::Fail;
 use wf_box::{Box0, Closed, Problem, close};
-use wf_complex::Lines;
+use wf_lines::Lines;
 use wf_oracle::Problem as PlainProblem;
 use wf_set::{Mask, count, holds};
 

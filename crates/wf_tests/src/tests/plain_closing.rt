@@ -3,7 +3,7 @@
 use std::alloc::{AllocError, Global};
 use std::test::Fail;
 use wf_box::Closed;
-use wf_complex::{Line, Lines};
+use wf_lines::{Line, Lines};
 use wf_oracle::{Constraint, Problem};
 
 /// The candidates of each point, ascending.
@@ -53,7 +53,7 @@ pub(crate) fn close(
 ) -> Result<Closed, Fail> {
     if let Some(place) = sets.iter().position(|set| set.is_empty()) {
         let point = u32::try_from(place)?;
-        lines.push(Line::Z { point })?;
+        lines.push(Line::Empty { point })?;
         return Ok(Closed::Empty(point));
     }
     // each sweep but the last takes a candidate out
@@ -149,14 +149,14 @@ fn take_out_each(
             return Err(Fail::new("a point that is not there"));
         };
         set.retain(|value| *value != loss.value);
-        lines.push(Line::P {
+        lines.push(Line::Remove {
             execution,
             process: u8::try_from(loss.process)?,
             value: u8::try_from(loss.value)?,
         })?;
         if set.is_empty() {
             let point = u32::try_from(loss.point)?;
-            lines.push(Line::Z { point })?;
+            lines.push(Line::Empty { point })?;
             return Ok(Some(point));
         }
     }

@@ -4,7 +4,7 @@ use super::plain_closing::{Sets, close, root, with_value};
 use std::alloc::{AllocError, Global};
 use std::test::Fail;
 use wf_box::Closed;
-use wf_complex::{Line, Lines};
+use wf_lines::{Line, Lines};
 use wf_oracle::Problem;
 
 /// What the canonical search of the root writes, and the map with which it ends, if it does.
@@ -26,11 +26,11 @@ pub(crate) fn search(alloc: Global, problem: &Problem) -> Result<Trace, Fail> {
         };
         if let Closed::Open { .. } = close(alloc, problem, &mut sets, &mut lines)? {
             let Some(point) = sets.iter().position(|set| set.len() > 1) else {
-                lines.push(Line::F)?;
+                lines.push(Line::Found)?;
                 let map = Some(firsts(alloc, &sets)?);
                 return Ok(Trace { lines, map });
             };
-            lines.push(Line::B {
+            lines.push(Line::Branch {
                 point: u32::try_from(point)?,
             })?;
             for branch in branches(alloc, &sets, point)?.into_iter().rev() {

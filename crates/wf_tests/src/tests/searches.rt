@@ -11,7 +11,7 @@ use super::tasks::problem_of;
 use std::alloc::{AllocError, Global};
 use std::test::Fail;
 use wf_box::{Box0, Problem};
-use wf_complex::Lines;
+use wf_lines::Lines;
 use wf_oracle::Problem as PlainProblem;
 use wf_search::{Cover, Found, Never, search, split};
 

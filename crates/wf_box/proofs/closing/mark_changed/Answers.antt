@@ -13,7 +13,7 @@ use Rattle.wf_box.proofs.closing.mark_changed.Goals as goal
 pub returns-clause-untouched : goal.returns-clause-untouched
 returns-clause-untouched c = λ e none v user.
     unchanged c.args.changes c.args.tracked.now.trail.items c.args.tracked.now.words.items v c.requires.changes
-    (λ k d after before same. absurd (let bad : ⊥ = omega (arith, none, c.loop-number.invariant.1 k d after (omega (arith, before, c.loop-number-test.false, c.len-number-end.ensures, c.args.tracked.now.trail.ok.0)) e (subst (λ u. IsUser c.args.users.now u e) (sym same) user)) in bad))
+    (λ k d after before same. absurd (let bad : ⊥ = omega (arith, none, c.loop-number.invariant.1 k d after (omega (arith, before, c.loop-number-test.false, c.len-number-end.ensures, c.args.tracked.now.trail.ok.0)) e (subst (λ u. IsUser c.args.network.now.users u e) (sym same) user)) in bad))
 
 pub returns-clause-full : goal.returns-clause-full
 returns-clause-full c =
@@ -50,7 +50,7 @@ loop-number-preserved c =
           (λ (earlier : k < c.loop-number.number). stays_marked c.loop-number.marks.words.items c.mark_each.new.self.words.items e c.mark_each.ensures.kept (c.loop-number.invariant.1 k d after earlier e user))
           (λ (last : c.loop-number.number ≤ k).
           let same : k ≡ c.loop-number.number = omega (arith, last, before) in
-          user_marked c.args.users.now c.index.result.now.point e c.of.result.now c.mark_each.new.self.words.items c.of.ensures.users c.mark_each.ensures.marked
-          (subst (λ (x : Change). IsUser c.args.users.now x.point e) (ap (λ n. get_or c.args.tracked.now.trail.items n d) same ∙ here d) user)) (cases_lt k c.loop-number.number),
+          user_marked c.args.network.now.users c.index.result.now.point e c.users_of.result.now c.mark_each.new.self.words.items c.users_of.ensures.users c.mark_each.ensures.marked
+          (subst (λ (x : Change). IsUser c.args.network.now.users x.point e) (ap (λ n. get_or c.args.tracked.now.trail.items n d) same ∙ here d) user)) (cases_lt k c.loop-number.number),
       full_on c here,
     )

@@ -1,7 +1,7 @@
 use Rattle.std.proofs.Common.{◌++◌, ◌∷◌, [], Some, None, ◌∙◌, sym, ap, subst, arith, length-set}
 use Rattle.std.specs.List.{slice_set}
 use Rattle.std.proofs.lemmas.List.{length-map}
-use Rattle.wf_complex.specs.declared.line.Line.TheVariants as line
+use Rattle.wf_lines.specs.declared.line.Line.TheVariants as line
 use Rattle.wf_set.specs.Sets.{values_in}
 use Rattle.wf_box.specs.Steps.{IsNamed, reached}
 use Rattle.wf_box.proofs.NameLemmas.{named_empty, named_lost, named_then}
@@ -16,7 +16,7 @@ put-requires-then-is_empty c =
 pub returns-then-is_empty-clause-step : goal.returns-then-is_empty-clause-step
 returns-then-is_empty-clause-step c =
     ap (λ ls. reached ls (Some c.args.place.point) (slice_set c.args.sets.now c.args.place.point c.without-set.result))
-    (c.put-then-is_empty.ensures.lines ∙ ap (λ ls. ls ++ line.Z c.args.place.point ∷ []) c.put.ensures.lines)
+    (c.put-then-is_empty.ensures.lines ∙ ap (λ ls. ls ++ line.Empty c.args.place.point ∷ []) c.put.ensures.lines)
     ∙ taken_last c.args.lines.now.items c.args.sets.now c.args.place.execution c.args.place.process c.args.place.point c.args.value c.without-set.result c.requires.point c.without-set.ensures
     (no_value c.without-set.result c.if-is_empty.ensures)
 
@@ -33,7 +33,7 @@ returns-then-is_empty-clause-named c = λ p at.
     let gone = named_lost p c.args.lines.now.items c.args.sets.now c.args.place.execution c.args.place.process c.args.place.point c.args.value c.without-set.result at
     (set_without c.args.sets.now c.args.place.point c.args.value c.without-set.result c.requires.point c.without-set.ensures) in
     subst (λ ls. IsNamed p c.args.lines.now.items c.args.sets.now ls (slice_set c.args.sets.now c.args.place.point c.without-set.result))
-    (ap (λ ls. ls ++ line.Z c.args.place.point ∷ []) (sym c.put.ensures.lines) ∙ sym c.put-then-is_empty.ensures.lines)
+    (ap (λ ls. ls ++ line.Empty c.args.place.point ∷ []) (sym c.put.ensures.lines) ∙ sym c.put-then-is_empty.ensures.lines)
     (named_then p _ _ _ _ _ _ gone (named_empty p _ _ c.args.place.point))
 
 pub returns-clause-named : goal.returns-clause-named

@@ -3,4 +3,4 @@ use Rattle.wf_engine.proofs.Counts.{counted}
 use Rattle.wf_engine.proofs.laws.solving_is_counted.Goals as goal
 
 pub returns : goal.returns
-returns c rounds form = counted (IsSolved rounds form) rounds
+returns c rounds form = counted (IsSolved form) rounds

@@ -1,6 +1,6 @@
-use Rattle.wf_engine.specs.Verify.{IsOutcome}
+use Rattle.wf_engine.specs.Verify.{IsAccepted}
 use Rattle.wf_engine.proofs.CheckCounts.{checked}
 use Rattle.wf_engine.proofs.laws.verifying_is_counted.Goals as goal
 
 pub returns : goal.returns
-returns c = checked IsOutcome
+returns c rounds = checked rounds (IsAccepted rounds)

@@ -1,6 +1,6 @@
 use Rattle.std.proofs.Common.{ap, subst, ◌∙◌, map}
 use Rattle.wf_model.specs.Problem.{problem_of}
-use Rattle.wf_complex.specs.Lines.{line_of}
+use Rattle.wf_lines.specs.Lines.{line_of}
 use Rattle.wf_pool.specs.Answers.{IsAnswer, HasAccount}
 use Rattle.wf_engine.specs.Texts.{text_of_report, lines_kept}
 use Rattle.wf_engine.proofs.Verdicts.{map_verdict, none_verdict}
@@ -13,7 +13,7 @@ returns-in_ok-text-in-Map-clause-solved c =
     let answer = subst (IsAnswer (problem_of t r) (lines_kept c.args.form)) c.in-Map.is c.requires.answer in
     let account = subst (λ a. HasAccount (problem_of t r) a c.args.account) c.in-Map.is c.requires.account in
     let lines = map line_of c.in-Map.lines.items in
-    map_verdict t r c.args.form c.in-Map.values.items lines _ c.args.account c.requires.head.task answer.0 answer.1 account
+    map_verdict t r c.args.form c.in-Map.values.items lines _ c.args.account c.requires.header.task answer.0 answer.1 account
     (c.in_ok-text-in-Map.ensures ∙ ap (text_of_report t r) c.map_body.ensures)
 
 pub returns-in_ok-text-in-Nothing-clause-solved : goal.returns-in_ok-text-in-Nothing-clause-solved
@@ -23,5 +23,5 @@ returns-in_ok-text-in-Nothing-clause-solved c =
     let answer = subst (IsAnswer (problem_of t r) (lines_kept c.args.form)) c.in-Nothing.is c.requires.answer in
     let account = subst (λ a. HasAccount (problem_of t r) a c.args.account) c.in-Nothing.is c.requires.account in
     let lines = map line_of c.in-Nothing.lines.items in
-    none_verdict t r c.args.form lines _ c.args.account c.requires.head.task answer.0 answer.1 account
+    none_verdict t r c.args.form lines _ c.args.account c.requires.header.task answer.0 answer.1 account
     c.in_ok-text-in-Nothing.ensures

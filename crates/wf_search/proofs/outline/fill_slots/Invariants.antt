@@ -1,5 +1,5 @@
 use Rattle.std.proofs.Common.{◌≡◌, ◌++◌, map}
-use Rattle.wf_complex.specs.Lines.{line_of}
+use Rattle.wf_lines.specs.Lines.{line_of}
 use Rattle.wf_search.specs.Outline.{slots_filled}
 use Rattle.wf_search.proofs.outline.fill_slots.Given as goal
 

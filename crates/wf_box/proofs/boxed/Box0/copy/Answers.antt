@@ -10,7 +10,7 @@ use Rattle.wf_box.proofs.boxed.Box0.copy.Goals as goal
 
 pub returns-clause-is : goal.returns-clause-is
 returns-clause-is c = λ p is.
-    let t = c.self.inside.tracked in
+    let t = c.self.inside.workspace.tracked in
     let words : c.in_ok-new.field-0.words.items ≡ t.words.items = c.in_ok-new.ensures.words ∙ c.in_ok-words.ensures.items_if_clones_equal (λ x y e. each_same x y e.whole) ∙ c.as_slice.ensures.value in
     let sets : box_of c.in_ok-new.field-0.words.items ≡ c.args.self.now.sets = ap box_of words ∙ ap (λ (b : Tracked). b.sets) c.self.view_is in
     let long = ap length words ∙ sym (length-map t.words.items values_in) ∙ ap (λ (b : Tracked). length b.sets) c.self.view_is ∙ is.is_box.long in

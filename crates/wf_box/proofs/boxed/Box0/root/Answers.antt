@@ -10,11 +10,11 @@ use Rattle.wf_set.proofs.Lemmas.{same_sets}
 
 pub returns-clause-root : goal.returns-clause-root
 returns-clause-root c =
-    ap (map values_in) (c.in_ok-new.ensures.words ∙ c.in_ok-words.ensures.items_if_clones_equal (λ y e. each_same c.problem.inside.values y e.whole)) ∙ same_sets c.problem.inside.points c.problem.inside.values ∙ ap root c.problem.view_is
+    ap (map values_in) (c.in_ok-new.ensures.words ∙ c.in_ok-words.ensures.items_if_clones_equal (λ y e. each_same c.problem.inside.values y e.whole)) ∙ same_sets c.problem.inside.network.points c.problem.inside.values ∙ ap root c.problem.view_is
 
 pub returns-clause-is : goal.returns-clause-is
 returns-clause-is c = record {
   is_box = is_box c.args.problem.now c.in_ok-new.field-0.words.items
-      (ap length (c.in_ok-new.ensures.words ∙ c.in_ok-words.ensures.items_if_clones_equal (λ y e. each_same c.problem.inside.values y e.whole)) ∙ length-replicate c.problem.inside.points c.problem.inside.values ∙ ap (λ (p : Problem). p.points) c.problem.view_is);
+      (ap length (c.in_ok-new.ensures.words ∙ c.in_ok-words.ensures.items_if_clones_equal (λ y e. each_same c.problem.inside.values y e.whole)) ∙ length-replicate c.problem.inside.network.points c.problem.inside.values ∙ ap (λ (p : Problem). p.points) c.problem.view_is);
   closed = tt;
 }

@@ -11,15 +11,15 @@ use Rattle.wf_box.proofs.boxed.Box0.undo.Goals as goal
 
 pub returns-clause-sets : goal.returns-clause-sets
 returns-clause-sets c =
-    ap box_of c.undo.ensures.words ∙ after_seen c.args.mark.changes c.self.inside.tracked.trail.items c.self.inside.tracked.words.items c.self.inside.closed ∙ ap (box_after c.args.mark.changes) c.self.view_is
+    ap box_of c.undo.ensures.words ∙ after_seen c.args.mark.changes c.self.inside.workspace.tracked.trail.items c.self.inside.workspace.tracked.words.items c.self.inside.closed ∙ ap (box_after c.args.mark.changes) c.self.view_is
 
 pub returns-clause-trail : goal.returns-clause-trail
 returns-clause-trail c =
-    ap (map change_seen) c.undo.ensures.trail ∙ sym (take-map change_seen c.args.mark.changes c.self.inside.tracked.trail.items) ∙ ap (λ (b : Tracked). take c.args.mark.changes b.trail) c.self.view_is
+    ap (map change_seen) c.undo.ensures.trail ∙ sym (take-map change_seen c.args.mark.changes c.self.inside.workspace.tracked.trail.items) ∙ ap (λ (b : Tracked). take c.args.mark.changes b.trail) c.self.view_is
 
 pub returns-clause-is : goal.returns-clause-is
 returns-clause-is c = λ p is was.
-    let t = c.self.inside.tracked in
+    let t = c.self.inside.workspace.tracked in
     let n = c.args.mark.changes in
     let old = tracked_seen t.words.items t.trail.items c.self.inside.closed in
     let new = tracked_seen c.undo.new.self.words.items c.undo.new.self.trail.items c.if-mark.self in

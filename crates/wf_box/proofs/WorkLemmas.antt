@@ -1,0 +1,90 @@
+-- One part of a closing after another.
+use Rattle.std.proofs.Common.{◌≡◌, ◌<◌, ◌∙◌, ℕ, List, length, get_or, slice_index, Vec, Option, Some, None, Bool, true, false, arith, sym, subst}
+use Rattle.std.specs.Bool.{OnFalse, OnTrue}
+use Rattle.std.specs.List.{slice_index_or}
+use Rattle.std.proofs.lemmas.List.{get_or_default}
+use Rattle.wf_set.specs.Sets.{box_of}
+use Rattle.wf_lines.specs.declared.line.Line.{Line}
+use Rattle.wf_box.specs.Changes.{sets_in}
+use Rattle.wf_box.specs.Closes.{EndsAt, IsEmptied, emptied_by}
+use Rattle.wf_box.specs.Problems.{IsNetwork, IsWithin}
+use Rattle.wf_box.specs.Quiet.{IsUser, no_execution}
+use Rattle.wf_box.specs.Steps.{HasRoom, IsPaid, IsSpent, point_if}
+use Rattle.wf_box.specs.Working.{Ends, IsWorking, Proceeds}
+use Rattle.wf_box.specs.declared.closing.Closed.{Closed}
+use Rattle.wf_box.specs.declared.closing.Closed.TheVariants.{Empty, Open}
+use Rattle.wf_box.specs.declared.marks.Marks.{Marks}
+use Rattle.wf_box.specs.declared.problem.Execution.{Execution}
+use Rattle.wf_box.specs.declared.problem.Network.{Network}
+use Rattle.wf_box.specs.declared.tracked.Tracked.{Tracked}
+use Rattle.wf_box.specs.declared.workspace.Workspace.{Workspace}
+use Rattle.wf_box.proofs.ChangeLemmas.{grown_none, grown_then}
+
+-- nothing was done yet
+pub proceeds_none : {A : Type 0} (points executions : ℕ) (lines : Vec Line A) (w : Workspace) → IsWorking points executions lines w → Proceeds points executions lines w.tracked lines w None
+proceeds_none points executions lines w working = record {
+  kept = working.kept;
+  long = working.long;
+  marks_long = working.marks_long;
+  grown = grown_none w.tracked.words.items w.tracked.trail.items;
+  ends = (working.room, omega arith);
+}
+
+ends_then : {A : Type 0} (lines more most : Vec Line A) (w x y : Tracked) (emptied : Option ℕ) → IsPaid lines w more x → Ends more x most y emptied → Ends lines w most y emptied
+ends_then lines more most w x y None first then = (then.0, omega (arith, first, then.1))
+ends_then lines more most w x y (Some v) first then = then
+
+-- one part, and then another one
+pub proceeds_then : {A : Type 0} (points executions : ℕ) (lines more most : Vec Line A) (w : Tracked) (x y : Workspace) (emptied : Option ℕ) → Proceeds points executions lines w more x None → Proceeds points executions more x.tracked most y emptied → Proceeds points executions lines w most y emptied
+proceeds_then points executions lines more most w x y emptied first then = record {
+  kept = then.kept;
+  long = then.long;
+  marks_long = then.marks_long;
+  grown = grown_then _ _ _ _ _ _ first.grown then.grown;
+  ends = ends_then lines more most w x.tracked y.tracked emptied first.ends.1 then.ends;
+}
+
+-- other marks, as many
+pub proceeds_marked : {A : Type 0} (points executions : ℕ) (lines more : Vec Line A) (w : Tracked) (x : Workspace) (marks : Marks) (emptied : Option ℕ) → length marks.words.items ≡ length x.marks.words.items → Proceeds points executions lines w more x emptied
+    → Proceeds points executions lines w more (record { tracked = x.tracked; marks = marks }) emptied
+proceeds_marked points executions lines more w x marks emptied long done = record {
+  kept = done.kept;
+  long = done.long;
+  marks_long = omega (arith, done.marks_long, long);
+  grown = done.grown;
+  ends = done.ends;
+}
+
+-- where no point was emptied it can go on
+pub still_working : {A : Type 0} (points executions : ℕ) (lines more : Vec Line A) (w : Tracked) (x : Workspace) → Proceeds points executions lines w more x None → IsWorking points executions more x
+still_working points executions lines more w x done = record {
+  kept = done.kept;
+  long = done.long;
+  marks_long = done.marks_long;
+  room = done.ends.0;
+}
+
+-- whether a point was emptied
+pub ends_if : {A : Type 0} (lines more : Vec Line A) (old new : Tracked) (before after : List (List ℕ)) (emptied : Bool) (v : ℕ) → before ≡ old.words.items → after ≡ new.words.items → OnTrue emptied (EndsAt more.items (box_of after) v) → OnFalse emptied (HasRoom more after) → OnFalse emptied (IsSpent lines before more after)
+    → Ends lines old more new (point_if emptied v)
+ends_if lines more old new before after true v was is ends room spent = subst (λ ws. EndsAt more.items (box_of ws) v) is ends
+ends_if lines more old new before after false v was is ends room spent = (
+  subst (HasRoom more) is room,
+  subst (λ ws. IsSpent lines ws more new.words.items) was (subst (IsSpent lines before more) is spent),
+)
+
+-- where one was emptied, it ends so
+pub emptied_so : {A : Type 0} (lines more : Vec Line A) (old new : Tracked) (closed : Closed) → Ends lines old more new (emptied_by closed) → IsEmptied more.items (sets_in new) closed
+emptied_so lines more old new (Empty v) ends = ends
+emptied_so lines more old new (Open n) ends = tt
+
+-- ---- an execution of a network
+
+pub execution_is : (n : Network) (e : ℕ) (x : Execution) → e < length n.executions.items → x ≡ slice_index_or n.executions.items e x → get_or n.executions.items e no_execution ≡ x
+execution_is n e x low here = get_or_default n.executions.items e no_execution x low ∙ sym here
+
+pub execution_within : (n : Network) (e : ℕ) (x : Execution) → IsNetwork n → e < length n.executions.items → x ≡ slice_index_or n.executions.items e x → IsWithin (length n.rules.items) n.points x
+execution_within n e x network low here = subst (IsWithin (length n.rules.items) n.points) (execution_is n e x low here) (network.within e no_execution low)
+
+pub execution_told : (n : Network) (e : ℕ) (x : Execution) → IsNetwork n → e < length n.executions.items → x ≡ slice_index_or n.executions.items e x → (place : ℕ) → place < 4 → IsUser n.users (slice_index x.points place) e
+execution_told n e x network low here place small = subst (λ (y : Execution). IsUser n.users (slice_index y.points place) e) (execution_is n e x low here) (network.told e place low small)

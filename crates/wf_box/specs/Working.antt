@@ -1,0 +1,62 @@
+-- What closing works on, and what each part of it keeps.
+use Rattle.std.specs.Prelude.{◌≡◌, ◌≤◌, ◌*◌, ℕ, List, Vec, length, Option, Some, None}
+use Rattle.wf_model.specs.Problem.{Constraint, Problem}
+use Rattle.wf_lines.specs.declared.line.Line.{Line}
+use Rattle.wf_box.specs.Changes.{GrowsTo, KeepsTrack, sets_in}
+use Rattle.wf_box.specs.Closes.{EndsAt}
+use Rattle.wf_box.specs.Marks.{bit_of}
+use Rattle.wf_box.specs.Quiet.{IsUntouched, IsUser, MarksTell}
+use Rattle.wf_box.specs.Steps.{HasRoom, IsPaid}
+use Rattle.wf_box.specs.declared.problem.Network.{Network}
+use Rattle.wf_box.specs.declared.tracked.Tracked.{Tracked}
+use Rattle.wf_box.specs.declared.workspace.Workspace.{Workspace}
+
+-- candidates of so many points and marks for so many executions, and room for each change and each line that can come
+pub record IsWorking {A : Type 0} (points executions : ℕ) (lines : Vec Line A) (w : Workspace) : Type 0 where
+  pub kept : KeepsTrack w.tracked
+  pub long : length w.tracked.words.items ≡ points
+  pub marks_long : executions ≤ 64 * length w.marks.words.items
+  pub room : HasRoom lines w.tracked.words.items
+
+abbrev pub IsWorkingOn : {A : Type 0} → Network → Vec Line A → Workspace → Type 0
+IsWorkingOn n lines w = IsWorking n.points (length n.executions.items) lines w
+
+abbrev pub IsWorkingFor : {A : Type 0} → Problem → Vec Line A → Workspace → Type 0
+IsWorkingFor p lines w = IsWorking p.points (length p.constraints) lines w
+
+-- a point that was emptied ends it; where none was, there is room for what can come, and each new line has a candidate less beside it
+abbrev pub Ends : {A : Type 0} → Vec Line A → Tracked → Vec Line A → Tracked → Option ℕ → Type 0
+Ends lines old more new None = HasRoom more new.words.items × IsPaid lines old more new
+Ends lines old more new (Some v) = EndsAt more.items (sets_in new) v
+
+-- candidates were taken out, with lines; this point was emptied, if one was
+pub record Proceeds {A : Type 0} (points executions : ℕ) (lines : Vec Line A) (old : Tracked) (more : Vec Line A) (new : Workspace) (emptied : Option ℕ) : Type 0 where
+  pub kept : KeepsTrack new.tracked
+  pub long : length new.tracked.words.items ≡ points
+  pub marks_long : executions ≤ 64 * length new.marks.words.items
+  pub grown : GrowsTo old new.tracked
+  pub ends : Ends lines old more new.tracked emptied
+
+abbrev pub ProceedsOn : {A : Type 0} → Network → Vec Line A → Workspace → Vec Line A → Workspace → Option ℕ → Type 0
+ProceedsOn n lines old more new emptied = Proceeds n.points (length n.executions.items) lines old.tracked more new emptied
+
+abbrev pub ProceedsFor : {A : Type 0} → Problem → Vec Line A → Workspace → Vec Line A → Workspace → Option ℕ → Type 0
+ProceedsFor p lines old more new emptied = Proceeds p.points (length p.constraints) lines old.tracked more new emptied
+
+-- ---- marks
+
+-- each execution that has lost something is marked
+abbrev pub AreMarked : List Constraint → Workspace → Type 0
+AreMarked ks w = MarksTell ks w.marks w.tracked
+
+-- an execution without a mark had none before, and its points have the candidates that they had
+abbrev pub LeavesUntouched : Network → Workspace → Workspace → Type 0
+LeavesUntouched n old new = IsUntouched n.users old.tracked.words.items old.marks.words.items new.tracked.words.items new.marks.words.items
+
+-- where the execution is not marked, no candidate was taken out
+abbrev pub IsSilent : ℕ → Workspace → Workspace → Type 0
+IsSilent e old new = bit_of new.marks.words.items e ≡ 0 → new.tracked.words.items ≡ old.tracked.words.items
+
+-- where an execution of the point is not marked, no candidate was taken out
+abbrev pub AreSilent : Network → ℕ → Workspace → Workspace → Type 0
+AreSilent n v old new = (e : ℕ) → IsUser n.users v e → IsSilent e old new

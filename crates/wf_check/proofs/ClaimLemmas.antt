@@ -1,0 +1,87 @@
+-- What is found in lines, one line after another.
+use Rattle.std.proofs.Common.{◌≡◌, ℕ, zero, suc, ◌+◌, ◌<◌, List, [], ◌∷◌, drop, get_or, length, map, Option, Some, Result, Err, refl, ap, ◌∙◌, sym, subst, arith}
+use Rattle.wf_model.specs.Problem.{Problem}
+use Rattle.wf_model.specs.Box.{Box}
+use Rattle.wf_model.specs.Refutation.{Line, remove, empty, branch}
+use Rattle.wf_model.specs.Check.{Refusal, Verdict, after_verdict, left, trailing, verdict}
+use Rattle.wf_lines.specs.Lines.{line_of}
+use Rattle.wf_lines.specs.declared.line.Line as line
+use Rattle.wf_check.specs.Blocks.{box_now, boxes_later}
+use Rattle.wf_check.specs.Claims.{Leaves, fault_left, lines_fault, verdict_on}
+use Rattle.wf_check.specs.Faults.{Fails, IsFault, Judges}
+use Rattle.wf_check.specs.declared.boxes.Blocks.{Blocks}
+use Rattle.wf_report.specs.declared.fault.CertFault.{CertFault}
+use Rattle.wf_report.specs.declared.fault.CertFault.TheVariants.{TooLong, Syntax, Header, MapLength, Violates, NoSuch, Unsound, NotEmpty, NotOpen, Unfinished, Trailing, NotFirst, NotTheMap, OutOfMemory}
+use Rattle.wf_check.specs.declared.judge.Claim.{Claim}
+use Rattle.wf_check.specs.declared.judge.Claim.TheVariants.{Nothing, Least}
+use Rattle.wf_check.specs.declared.judge.Progress.{Progress}
+use Rattle.wf_check.specs.declared.judge.Progress.TheVariants.{Going, Refuted, Found}
+
+-- the first fault of all lines, by the verdict of the first
+pub removal_first : (p : Problem) (claim : Claim) (k e c a : ℕ) (ls : List Line) (box : Box) (boxes : List Box) → lines_fault p claim k (remove e c a ∷ ls) (box ∷ boxes) ≡ after_verdict (verdict p k (remove e c a) box boxes) (lines_fault p claim (suc k) ls)
+removal_first p Nothing k e c a ls box boxes = refl
+removal_first p (Least m) k e c a ls box boxes = refl
+
+pub empty_first : (p : Problem) (claim : Claim) (k v : ℕ) (ls : List Line) (box : Box) (boxes : List Box) → lines_fault p claim k (empty v ∷ ls) (box ∷ boxes) ≡ after_verdict (verdict p k (empty v) box boxes) (lines_fault p claim (suc k) ls)
+empty_first p Nothing k v ls box boxes = refl
+empty_first p (Least m) k v ls box boxes = refl
+
+pub branch_first : (p : Problem) (claim : Claim) (k v : ℕ) (ls : List Line) (box : Box) (boxes : List Box) → lines_fault p claim k (branch v ∷ ls) (box ∷ boxes) ≡ after_verdict (verdict_on p claim k (branch v) box boxes) (lines_fault p claim (suc k) ls)
+branch_first p Nothing k v ls box boxes = refl
+branch_first p (Least m) k v ls box boxes = refl
+
+-- a line that is a fault, and one that leaves boxes
+pub fault_first : (e : CertFault) (whole : Option Refusal) (v : Verdict) (next : List Box → Option Refusal) → whole ≡ after_verdict v next → IsFault e v → Fails e whole
+fault_first TooLong whole v next is h = absurd h
+fault_first (Syntax k) whole v next is h = absurd h
+fault_first (Header k) whole v next is h = absurd h
+fault_first MapLength whole v next is h = absurd h
+fault_first (Violates k) whole v next is h = absurd h
+fault_first (NoSuch k) whole v next is h = is ∙ ap (λ v. after_verdict v next) h
+fault_first (Unsound k) whole v next is h = is ∙ ap (λ v. after_verdict v next) h
+fault_first (NotEmpty k) whole v next is h = is ∙ ap (λ v. after_verdict v next) h
+fault_first (NotOpen k) whole v next is h = is ∙ ap (λ v. after_verdict v next) h
+fault_first Unfinished whole v next is h = absurd h
+fault_first (Trailing k) whole v next is h = absurd h
+fault_first (NotFirst k) whole v next is h = is ∙ ap (λ v. after_verdict v next) h
+fault_first (NotTheMap k) whole v next is h = is ∙ ap (λ v. after_verdict v next) h
+fault_first OutOfMemory whole v next is h = tt
+
+pub left_first : (whole : Option Refusal) (v : Verdict) (next : List Box → Option Refusal) (boxes : List Box) → whole ≡ after_verdict v next → v ≡ left boxes → whole ≡ next boxes
+left_first whole v next boxes is h = is ∙ ap (λ v. after_verdict v next) h
+
+-- a line by its variant
+pub line_seen : (p : Problem) (claim : Claim) (k : ℕ) (line same : line.Line) (ls : List Line) (box : Box) (boxes : List Box) → line ≡ same
+    → lines_fault p claim k (line_of line ∷ ls) (box ∷ boxes) ≡ lines_fault p claim k (line_of same ∷ ls) (box ∷ boxes)
+line_seen p claim k line same ls box boxes is = ap (λ l. lines_fault p claim k (line_of l ∷ ls) (box ∷ boxes)) is
+
+pub leaves_fault : {X : Type 0} (result : Result X CertFault) (e f : CertFault) (whole : Option Refusal) (rest : X → Option Refusal) → result ≡ Err e → e ≡ f → Fails f whole → Leaves result whole rest
+leaves_fault result e f whole rest is same h = subst (λ r. Leaves r whole rest) (sym is) (subst (λ e. Fails e whole) (sym same) h)
+
+pub judges_fault : {X : Type 0} (result : Result X CertFault) (e f : CertFault) (whole : Option Refusal) → result ≡ Err e → e ≡ f → Fails f whole → Judges result whole
+judges_fault result e f whole is same h = subst (λ r. Judges r whole) (sym is) (subst (λ e. Fails e whole) (sym same) h)
+
+-- ---- all lines
+
+-- where all blocks are done, or the map is found, the next line is one too many
+pub trailing_there : (p : Problem) (claim : Claim) (k i : ℕ) (lines : List line.Line) (progress : Progress) (blocks : Blocks) → i < length lines → (progress ≡ Going → ⊥)
+    → fault_left p claim k (map line_of (drop i lines)) progress blocks ≡ Some (trailing k)
+trailing_there p claim k i [] progress blocks low h = absurd (omega (arith, low))
+trailing_there p claim k (suc i) (l ∷ lines) progress blocks low h = trailing_there p claim k i lines progress blocks (omega (arith, low)) h
+trailing_there p claim k zero (l ∷ lines) Going blocks low h = absurd (h refl)
+trailing_there p Nothing k zero (l ∷ lines) Refuted blocks low h = refl
+trailing_there p (Least m) k zero (l ∷ lines) Refuted blocks low h = refl
+trailing_there p claim k zero (l ∷ lines) Found blocks low h = refl
+
+-- the next line, before those that follow it
+next_line : (lines : List line.Line) (i : ℕ) (d : line.Line) → i < length lines → map line_of (drop i lines) ≡ line_of (get_or lines i d) ∷ map line_of (drop (i + 1) lines)
+next_line [] i d low = absurd (omega (arith, low))
+next_line (x ∷ lines) zero d low = refl
+next_line (x ∷ lines) (suc i) d low =
+    let e : suc i + 1 ≡ suc (i + 1) = omega arith in
+    rw e (next_line lines i d (omega (arith, low)))
+
+pub going_on : (p : Problem) (claim : Claim) (k i : ℕ) (lines : List line.Line) (d : line.Line) (progress : Progress) (blocks : Blocks) → i < length lines → progress ≡ Going
+    → fault_left p claim k (map line_of (drop i lines)) progress blocks ≡ lines_fault p claim k (line_of (get_or lines i d) ∷ map line_of (drop (i + 1) lines)) (box_now blocks ∷ boxes_later blocks)
+going_on p claim k i lines d progress blocks low going =
+    ap (λ progress. fault_left p claim k (map line_of (drop i lines)) progress blocks) going ∙ ap (λ ls. lines_fault p claim k ls (box_now blocks ∷ boxes_later blocks)) (next_line lines i d low)

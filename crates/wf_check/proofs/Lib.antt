@@ -1,0 +1,9 @@
+pub mod BlockLemmas
+pub mod PlaceLemmas
+pub mod ExecutionLemmas
+pub mod RootLemmas
+pub mod ClaimLemmas
+pub mod FirstLemmas
+pub mod SettledLemmas
+pub mod SupportLemmas
+pub mod TruthLemmas

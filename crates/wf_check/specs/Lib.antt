@@ -1,0 +1,8 @@
+-- What contracts say, here and in the crates above.
+pub mod Faults
+pub mod Truth
+-- What only this crate's own code and proofs use.
+pub mod Blocks
+pub mod Settled
+pub mod Claims
+pub mod Places

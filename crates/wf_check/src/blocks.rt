@@ -1,0 +1,176 @@
+//! The box that the lines are about, and the way back to the boxes that are still to come.
+//!
+//! There is one box, a set of candidates for each point. A trail has what the open blocks took out of it, and for each
+//! open block the values whose blocks are still to come. So the memory that a certificate can ask for grows with its
+//! lines and with the points, and not with their product.
+
+ghost use Rattle.std.specs.Prelude.{◌≡◌, ◌==◌, ◌<◌, ◌++◌, ◌∷◌, [], true, nat_lt, length, map, replicate, IfOk, OnOk};
+ghost use Rattle.std.specs.List.{slice_set};
+ghost use Rattle.std.specs.Cmp.Lexicographic.{pointwise};
+ghost use Rattle.wf_model.specs.Box.{branches_at, candidates, decided, first_open, without};
+ghost use Rattle.wf_model.specs.Check.{is_exactly};
+ghost use Rattle.wf_set.specs.Sets.{values_in};
+ghost use Rattle.wf_check.specs.Blocks.{box_now, boxes_later, boxes_left, HasSamePoints};
+
+use crate::boxes::{Blocks, Entry};
+use std::alloc::{AllocError, Global};
+use wf_set::{Mask, has_two, holds, is_empty, only, split_first, without};
+
+impl Blocks {
+    /// One block, about the box with these values at so many points.
+    pub(crate) fn root(alloc: Global, values: Mask, points: u32) -> Result<Blocks, AllocError>
+        ensures sets { IfOk result (λ blocks. blocks.sets.items ≡ replicate points values) }
+        ensures alone { IfOk result (λ blocks. blocks.trail.items ≡ []) }
+    {
+        Ok(Blocks {
+            sets: vec![in alloc; values; points as usize]?,
+            trail: Vec::new(alloc),
+            low: 0,
+        })
+    }
+
+    /// The box of now, a set for each point.
+    pub(crate) fn sets(&self) -> &[Mask]
+        ensures { result.now ≡ self.now.sets.items }
+    {
+        &self.sets
+    }
+
+    /// The first point with two candidates or more.
+    pub(crate) fn first_open(&mut self) -> Option<usize>
+        ensures open { result ≡ first_open (box_now self.old) }
+        ensures sets { self.new.sets ≡ self.old.sets }
+        ensures later { boxes_later self.new ≡ boxes_later self.old }
+    {
+        for point in self.low..self.sets.len() {
+            if has_two(self.sets[point]) {
+                self.low = point;
+                return Some(point);
+            }
+        }
+        None
+    }
+
+    /// Whether each point has the value of a map, and no other.
+    pub(crate) fn is_exactly(&self, values: &[u8]) -> bool
+        ensures { result ≡ is_exactly values.now (box_now self.now) }
+    {
+        if values.len() != self.sets.len() {
+            return false;
+        }
+        for (point, value) in values.iter().enumerate() {
+            if !is_only(self.sets[point], *value) {
+                return false;
+            }
+        }
+        true
+    }
+
+    /// Takes a value out at a point.
+    pub(crate) fn take_out(&mut self, point: u32, value: u8) -> Result<(), AllocError>
+        requires { point < length self.old.sets.items }
+        ensures boxed { OnOk result (box_now self.new ≡ without (box_now self.old) point value) }
+        ensures later { OnOk result (boxes_later self.new ≡ boxes_later self.old) }
+        ensures points { HasSamePoints self.old self.new }
+    {
+        let set = self.sets[point as usize];
+        if holds(set, value) {
+            self.change(point, without(set, value))?;
+        }
+        Ok(())
+    }
+
+    /// Opens a block for each value of a point, and goes into that of the least one. Answers false where the point has
+    /// fewer than two values.
+    pub(crate) fn open(&mut self, point: u32) -> Result<bool, AllocError>
+        requires { point < length self.old.sets.items }
+        ensures opened { IfOk result (λ opened.
+            opened ≡ nat_lt 1 (length (candidates (box_now self.old) point))) }
+        ensures boxes { IfOk result (λ opened. opened ≡ true
+            → box_now self.new ∷ boxes_later self.new
+            ≡ branches_at (box_now self.old) point ++ boxes_later self.old) }
+        ensures points { HasSamePoints self.old self.new }
+    {
+        let set = self.sets[point as usize];
+        if !has_two(set) {
+            return Ok(false);
+        }
+        self.enter(point, set)?;
+        Ok(true)
+    }
+
+    /// Goes back to where the last block that isn't done yet was opened, and into the block of the next value. Answers
+    /// false where all blocks are done.
+    pub(crate) fn next(&mut self) -> Result<bool, AllocError>
+        ensures boxes { IfOk result (λ going. boxes_left going self.new ≡ boxes_later self.old) }
+        ensures points { HasSamePoints self.old self.new }
+    {
+        'back: while let Some(entry) = self.trail.pop() {
+            match entry {
+                Entry::Was { point, set } => {
+                    put_back(&mut self.sets, point, set);
+                    self.low = self.low.min(point as usize);
+                }
+                Entry::Later { point, low, values } => {
+                    self.low = low;
+                    if !is_empty(values) {
+                        self.enter(point, values)?;
+                        return Ok(true);
+                    }
+                }
+            }
+        }
+        Ok(false)
+    }
+
+    /// Goes into the block of the least of these values of a point; the others are still to come.
+    fn enter(&mut self, point: u32, values: Mask) -> Result<(), AllocError>
+        requires values { 0 < length (values_in values) }
+        ensures boxes { OnOk result (box_now self.new ∷ boxes_later self.new
+            ≡ map (decided (box_now self.old) point) (values_in values) ++ boxes_later self.old) }
+        ensures points { HasSamePoints self.old self.new }
+    {
+        let Some(split) = split_first(values) else {
+            unreachable!();
+        };
+        let (value, others) = split;
+        self.trail.push(Entry::Later {
+            point,
+            low: self.low,
+            values: others,
+        })?;
+        self.change(point, only(value))?;
+        Ok(())
+    }
+
+    /// Gives a point another set, and keeps the way back.
+    fn change(&mut self, point: u32, set: Mask) -> Result<(), AllocError>
+        ensures sets { OnOk result (self.new.sets.items ≡ slice_set self.old.sets.items point set) }
+        ensures later { OnOk result (boxes_later self.new ≡ boxes_later self.old) }
+        ensures points { HasSamePoints self.old self.new }
+    {
+        if (point as usize) < self.sets.len() {
+            let before = self.sets[point as usize];
+            self.trail.push(Entry::Was { point, set: before })?;
+            self.sets[point as usize] = set;
+            self.low = self.low.min(point as usize);
+        }
+        Ok(())
+    }
+}
+
+/// Gives a point its set of before.
+fn put_back(sets: &mut Vec<Mask>, point: u32, set: Mask)
+    ensures { sets.new.items ≡ slice_set sets.old.items point set }
+{
+    if (point as usize) < sets.len() {
+        sets[point as usize] = set;
+    }
+}
+
+/// Whether the set has the value and no other.
+fn is_only(set: Mask, value: u8) -> bool
+    ensures { result ≡ pointwise (λ x y. x == y) (value ∷ []) (values_in set) }
+{
+    holds(set, value) && !has_two(set)
+}

@@ -1,0 +1,109 @@
+//! Whether a report about a task is right.
+
+ghost use Rattle.std.specs.Prelude.{◌≡◌, OnOk};
+ghost use Rattle.wf_model.specs.Problem.{problem_of};
+ghost use Rattle.wf_model.specs.Check.{body_fault, header_fault, map_fault, report_fault};
+ghost use Rattle.wf_complex.specs.Protocol.{IsProtocol};
+ghost use Rattle.wf_check.specs.Faults.{Judges};
+ghost use Rattle.wf_check.specs.Truth.{HoldsOf};
+ghost use Rattle.wf_report.specs.Reports.{AreNumbered, body_length, body_of, report_seen};
+
+use crate::judge::{Claim, judge_lines};
+use crate::maps::first_violated;
+use std::alloc::Global;
+use std::thread::Threads;
+use wf_complex::Protocol;
+use wf_report::{Body, CertFault, FIRST_LINE, Report};
+use wf_task::Task;
+
+/// Accepts a report about a task and its protocol complex, or answers the first reason why it is refused.
+///
+/// The protocol has to be that of the task. The header is judged first. A map is accepted where it is a decision map,
+/// and lines where they are those of a refutation of the box with all values at all points; so where lines are accepted
+/// there is no decision map. A map with lines is accepted where it is a decision map, and the lines are those of a
+/// search of that box that refutes all smaller candidates and ends at the map; so no decision map is smaller. A map is
+/// looked at in several threads; lines are read one after another. Refused for out of memory only where a growth was
+/// refused.
+pub fn check<R: Threads + Sync>(
+    rt: &R,
+    alloc: Global,
+    task: &Task,
+    protocol: &Protocol,
+    report: &Report,
+) -> Result<(), CertFault>
+    requires built { IsProtocol task.now protocol.now.rounds protocol.now }
+    requires few { AreNumbered (body_length report.now.body) }
+    ensures fault { let r = protocol.now.rounds in
+        Judges result (report_fault task.now r (report_seen report.now)) }
+    ensures truth { OnOk result (HoldsOf task.now protocol.now.rounds (body_of report.now.body)) }
+{
+    judge_header(task, protocol, report)?;
+    judge_body(rt, alloc, task, protocol, &report.body)
+}
+
+/// Judges the numbers of the header.
+fn judge_header(task: &Task, protocol: &Protocol, report: &Report) -> Result<(), CertFault>
+    requires built { IsProtocol task.now protocol.now.rounds protocol.now }
+    ensures { let r = protocol.now.rounds in
+        Judges result (header_fault task.now r (problem_of task.now r) (report_seen report.now)) }
+{
+    let header = report.header;
+    if header.processes != u32::from(task.processes()) {
+        return Err(CertFault::Header(2));
+    }
+    if header.rounds != protocol.rounds() {
+        return Err(CertFault::Header(3));
+    }
+    if header.points != protocol.points() {
+        return Err(CertFault::Header(4));
+    }
+    if header.executions != protocol.executions() {
+        return Err(CertFault::Header(5));
+    }
+    Ok(())
+}
+
+/// Judges the map, the lines, or the map and then the lines.
+fn judge_body<R: Threads + Sync>(
+    rt: &R,
+    alloc: Global,
+    task: &Task,
+    protocol: &Protocol,
+    body: &Body,
+) -> Result<(), CertFault>
+    requires built { IsProtocol task.now protocol.now.rounds protocol.now }
+    requires few { AreNumbered (body_length body.now) }
+    ensures { let p = problem_of task.now protocol.now.rounds in
+        Judges result (body_fault p (body_of body.now)) }
+{
+    match body {
+        Body::Map(values) => judge_map(rt, task, protocol, values),
+        Body::Nothing(lines) => {
+            judge_lines(alloc, task, protocol, Claim::Nothing, FIRST_LINE, lines)
+        }
+        Body::Least(values, lines) => {
+            judge_map(rt, task, protocol, values)?;
+            let first = FIRST_LINE + values.len() as u32;
+            judge_lines(alloc, task, protocol, Claim::Least(values), first, lines)
+        }
+    }
+}
+
+/// Judges a map: its length, and then the executions. The least violated one is answered.
+fn judge_map<R: Threads + Sync>(
+    rt: &R,
+    task: &Task,
+    protocol: &Protocol,
+    values: &[u8],
+) -> Result<(), CertFault>
+    requires built { IsProtocol task.now protocol.now.rounds protocol.now }
+    ensures { Judges result (map_fault (problem_of task.now protocol.now.rounds) values.now) }
+{
+    if values.len() != protocol.points() as usize {
+        return Err(CertFault::MapLength);
+    }
+    match first_violated(rt, task, protocol, values) {
+        Some(execution) => Err(CertFault::Violates(execution as u32)),
+        None => Ok(()),
+    }
+}

@@ -1,0 +1,3 @@
+//! Propositional formulas in conjunctive normal form: what a formula, a model and an unsatisfiable formula are
+//! (`specs/Formula`).
+#![tactic(auto)]

@@ -1,0 +1,200 @@
+-- The clauses of a task's executions, by its protocol complex.
+use Rattle.std.proofs.Common.{rules, ◌≡◌, ℕ, ◌+◌, ◌*◌, ◌<◌, ◌≤◌, true, List, [], ◌∷◌, ◌++◌, map, flat_map, zip, length, take, get_or, slice_index, All, Some, option_map, slice_get, length-append, append_assoc, codes, refl, sym, ap, ◌∙◌, subst, arith}
+use Rattle.std.specs.List.{AllByRecursion, enumerate_from, slice_index_or}
+use Rattle.std.proofs.lemmas.List.{length-map, get_or-map, take_more}
+use Rattle.std.proofs.lemmas.List.Elements.{All-from_recursion}
+use Rattle.std.proofs.lemmas.List.Concat.{flat_map-append}
+use Rattle.std.proofs.lemmas.Option.{slice_get-get_or, slice_get_within}
+use Rattle.std.proofs.lemmas.Slice.Zip.{seconds-zip}
+use Rattle.wf_model.specs.Lists.{below}
+use Rattle.wf_model.specs.Limits.{most_points}
+use Rattle.wf_model.specs.Simplex.{Simplex, processes_of}
+use Rattle.wf_model.specs.Task as task
+use Rattle.wf_model.specs.Task.{Task, Tuple, inputs, values, first_block}
+use Rattle.wf_model.specs.Execution.{executions_on, executions}
+use Rattle.wf_model.specs.Points.{points}
+use Rattle.wf_model.specs.Report.{line}
+use Rattle.wf_model.specs.Problem.{Constraint, Participant, problem_of, constraint_of, no_constraint}
+use Rattle.wf_model.proofs.Basics.{by_place, length-below}
+use Rattle.wf_model.proofs.Bridge.{weaker}
+use Rattle.wf_complex.specs.Protocol.{Built, IsProtocol}
+use Rattle.wf_complex.proofs.Lemmas.{constraint_there, got, known_points, rule_there}
+use Rattle.wf_formula.specs.Patterns.{Entry, Pattern, is_forbidden, minimal_patterns}
+use Rattle.wf_formula.specs.Encoding.{denied, clauses_of, at_least_one, question}
+use Rattle.wf_formula.specs.Dimacs.{clause_text, numbering_line, question_text}
+use Rattle.wf_formula.proofs.Members.{each_below}
+use Rattle.wf_formula.proofs.Shrinking.{IsEntry, each_minimal}
+use Rattle.wf_cnf.specs.Clauses.{denied_at, points_in, patterns_in, clauses_at, clauses_on, executions_text, patterns_of, points_text, HasPoints, AreCovered}
+use Rattle.wf_cnf.specs.Head.{head_text}
+use Rattle.wf_cnf.specs.Questions.{text_after}
+use Rattle.wf_cnf.specs.declared.head.Counts.{Counts}
+
+-- ---- the patterns of the input simplices
+
+pub rule_more : (t : Task) (n : ℕ) (s d : Simplex) (tuples : List Tuple) (before : List (List Pattern)) (pattern : List Pattern)
+    → s ≡ get_or (inputs t) n d → n < length (inputs t) → option_map (λ rule. rule.tuples) (slice_get t.delta n) ≡ Some tuples
+    → pattern ≡ minimal_patterns (length s) (values t) tuples → before ≡ take n (patterns_of t) → before ++ pattern ∷ [] ≡ take (n + 1) (patterns_of t)
+rule_more t n s d tuples before pattern is low there found so_far =
+    let rule : task.Rule = record { input = s; tuples = tuples } in
+    let at : slice_get t.delta n ≡ Some rule = rule_there t n s d tuples is low there in
+    let inside : n < length t.delta = slice_get_within t.delta n rule at in
+    let here : get_or (patterns_of t) n [] ≡ minimal_patterns (length s) (values t) tuples =
+    get_or-map (λ (rule : task.Rule). minimal_patterns (length rule.input) (values t) rule.tuples) t.delta n rule [] inside
+    ∙ ap (λ (rule : task.Rule). minimal_patterns (length rule.input) (values t) rule.tuples) (got t.delta n rule rule at) in
+    (λ i. so_far i ++ (found ∙ sym here) i ∷ [])
+    ∙ sym (take_more (patterns_of t) n [] (omega (arith, inside, length-map t.delta (λ (rule : task.Rule). minimal_patterns (length rule.input) (values t) rule.tuples))))
+
+-- ---- each execution has a simplex
+
+as_many : (m r : ℕ) (rules : List task.Rule) (n : ℕ) → length (flat_map (λ at. map (λ e. at.0) (executions_on m r at.1)) (enumerate_from n rules)) ≡ length (flat_map (executions_on m r) rules)
+as_many m r [] n = refl
+as_many m r (rule ∷ rules) n =
+    length-append (map (λ e. n) (executions_on m r rule)) (flat_map (λ at. map (λ e. at.0) (executions_on m r at.1)) (enumerate_from (n + 1) rules))
+    ∙ (λ i. length-map (executions_on m r rule) (λ e. n) i + as_many m r rules (n + 1) i)
+    ∙ sym (length-append (executions_on m r rule) (flat_map (executions_on m r) rules))
+
+long_scopes : (t : Task) (r : ℕ) (b : Built) → IsProtocol t r b → length b.scopes ≡ length (problem_of t r).constraints
+long_scopes t r b h = ap length h.scopes_are ∙ length-map (problem_of t r).constraints (λ k. k.scope)
+
+simplex_there : (t : Task) (r : ℕ) (b : Built) (e : ℕ) → IsProtocol t r b → e < length b.scopes → slice_get b.simplices e ≡ Some (slice_index b.simplices e)
+simplex_there t r b e h low =
+    let long : length b.simplices ≡ length (executions t r) = ap length h.simplices_are ∙ as_many (first_block t) r t.delta 0 in
+    let same : length (problem_of t r).constraints ≡ length (executions t r) = length-map (executions t r) (constraint_of t (points t r)) in
+    slice_get-get_or b.simplices e 0 (omega (arith, low, long, same, long_scopes t r b h))
+
+-- the rule of an execution, with its patterns
+record RuleOf (t : Task) (r : ℕ) (b : Built) (e : ℕ) : Type 0 where
+  rule : task.Rule
+  inside : slice_index b.simplices e < length (patterns_of t)
+  found : patterns_in (patterns_of t) b e ≡ minimal_patterns (length rule.input) (values t) rule.tuples
+  long : length (points_in b e) ≡ length rule.input
+  there : slice_get (problem_of t r).constraints e ≡ Some (record { scope = zip (processes_of rule.input) (points_in b e); tuples = rule.tuples })
+
+rule_of : (t : Task) (r : ℕ) (b : Built) (e : ℕ) → IsProtocol t r b → e < length b.scopes → RuleOf t r b e
+rule_of t r b e h low =
+    let s = slice_index b.simplices e in
+    let (rule, at, there, long) = constraint_there t r b e s h low (simplex_there t r b e h low) in
+    let f = λ (rule : task.Rule). minimal_patterns (length rule.input) (values t) rule.tuples in
+    let within : s < length t.delta = slice_get_within t.delta s rule at in
+    record {
+      rule = rule;
+      inside = omega (arith, within, length-map t.delta f);
+      found = get_or-map f t.delta s rule [] within ∙ ap f (got t.delta s rule rule at);
+      long = length-map (slice_index_or b.scopes e []) (λ (at : Participant). at.1) ∙ long;
+      there = there;
+    }
+
+pub covered : (t : Task) (r : ℕ) (b : Built) (patterns : List (List Pattern)) → IsProtocol t r b → length b.points ≤ most_points → patterns ≡ patterns_of t → AreCovered patterns b
+covered t r b patterns h few is = subst (λ ps. AreCovered ps b) (sym is) each
+  where
+    each : AreCovered (patterns_of t) b
+    each e low =
+        let at = rule_of t r b e h low in
+        let known = known_points t r b e (slice_index b.simplices e) (points_in b e) h low (simplex_there t r b e h low) refl in
+        record {
+          simplex = at.inside;
+          places = subst (All (HasPoints (points_in b e))) (sym at.found)
+              (All-from_recursion (HasPoints (points_in b e)) (minimal_patterns (length at.rule.input) (values t) at.rule.tuples)
+              (weaker (λ q. AllByRecursion (IsEntry (length at.rule.input) (values t)) q × (is_forbidden at.rule.tuples q ≡ true)) (HasPoints (points_in b e))
+              (λ q k. All-from_recursion (λ (x : Entry). x.0 < length (points_in b e)) q (weaker (IsEntry (length at.rule.input) (values t)) (λ (x : Entry). x.0 < length (points_in b e)) (λ x entry. omega (arith, entry.0, at.long)) q k.0))
+              (minimal_patterns (length at.rule.input) (values t) at.rule.tuples) (each_minimal (length at.rule.input) (values t) at.rule.tuples)));
+          few = λ i d inside. omega (arith, known.2 i d inside, few);
+        }
+
+-- ---- the clauses are those of the problem
+
+flat_mapped : {X Y Z : Type 0} (g : Y → List Z) (f : X → Y) (xs : List X) → flat_map g (map f xs) ≡ flat_map (λ x. g (f x)) xs
+flat_mapped g f [] = refl
+flat_mapped g f (x ∷ xs) = ap (λ zs. g (f x) ++ zs) (flat_mapped g f xs)
+
+flat_each : {X Y : Type 0} (f g : X → List Y) (xs : List X) → AllByRecursion (λ x. f x ≡ g x) xs → flat_map f xs ≡ flat_map g xs
+flat_each f g [] h = refl
+flat_each f g (x ∷ xs) h = λ i. h.0 i ++ flat_each f g xs h.1 i
+
+clauses_here : (t : Task) (r : ℕ) (b : Built) (e : ℕ) → IsProtocol t r b → e < length b.scopes
+    → clauses_at (values t) (patterns_of t) b e ≡ clauses_of (values t) (get_or (problem_of t r).constraints e no_constraint)
+clauses_here t r b e h low =
+    let at = rule_of t r b e h low in
+    let scope = zip (processes_of at.rule.input) (points_in b e) in
+    let k : Constraint = record { scope = scope; tuples = at.rule.tuples } in
+    let same_long : length (points_in b e) ≡ length (processes_of at.rule.input) = at.long ∙ sym (length-map at.rule.input (λ v. v.0)) in
+    let seconds : map (λ (at : Participant). at.1) scope ≡ points_in b e = seconds-zip (processes_of at.rule.input) (points_in b e) same_long in
+    let long : length scope ≡ length at.rule.input = sym (length-map scope (λ (at : Participant). at.1)) ∙ ap length seconds ∙ at.long in
+    (λ i. map (denied_at (values t) (sym seconds i)) (at.found i))
+    ∙ (λ i. map (denied (values t) scope) (minimal_patterns (sym long i) (values t) at.rule.tuples))
+    ∙ ap (clauses_of (values t)) (sym (got (problem_of t r).constraints e k no_constraint at.there))
+
+pub clauses_same : (t : Task) (r : ℕ) (b : Built) → IsProtocol t r b → clauses_on (values t) (patterns_of t) b ≡ flat_map (clauses_of (values t)) (problem_of t r).constraints
+clauses_same t r b h =
+    let ks = (problem_of t r).constraints in
+    let n = length b.scopes in
+    flat_each (clauses_at (values t) (patterns_of t) b) (λ e. clauses_of (values t) (get_or ks e no_constraint)) (below n)
+    (weaker (λ e. e < n) (λ e. clauses_at (values t) (patterns_of t) b e ≡ clauses_of (values t) (get_or ks e no_constraint)) (λ e low. clauses_here t r b e h low) (below n) (each_below n))
+    ∙ ap (λ n. flat_map (λ e. clauses_of (values t) (get_or ks e no_constraint)) (below n)) (long_scopes t r b h)
+    ∙ sym (flat_mapped (clauses_of (values t)) (λ e. get_or ks e no_constraint) (below (length ks)))
+    ∙ ap (flat_map (clauses_of (values t))) (by_place ks no_constraint)
+
+-- ---- the whole text
+
+regrouped : (a b c d e v n p body : List ℕ) → ((a ++ (b ++ (c ++ (d ++ e)))) ++ (v ++ (n ++ p))) ++ body ≡ (a ++ (b ++ (c ++ (d ++ (e ++ (v ++ n)))))) ++ (p ++ body)
+regrouped a b c d e v n p body = search (rules, append_assoc)
+
+-- what is known of the numbers of a question
+pub record AreCounts (t : Task) (b : Built) (n : Counts) (all : List ℕ) (patterns : List (List Pattern)) : Type 0 where
+  pub processes : n.processes ≡ t.processes
+  pub rounds : n.rounds ≡ b.rounds
+  pub points : n.points ≡ length b.points
+  pub executions : n.executions ≡ length b.scopes
+  pub variables : n.variables ≡ length b.points * length all
+  pub clauses : n.clauses ≡ length b.points + length (clauses_on all patterns b)
+
+module _ (t : Task) (r : ℕ) (b : Built) (n : Counts) (all : List ℕ) (patterns : List (List Pattern))
+    (h : IsProtocol t r b) (all_is : all ≡ values t) (patterns_are : patterns ≡ patterns_of t) (counts : AreCounts t b n all patterns) where
+  of_question : Counts
+  of_question = record {
+    processes = t.processes;
+    rounds = r;
+    points = length (points t r);
+    executions = length (executions t r);
+    variables = (question t r).variables;
+    clauses = length (question t r).clauses;
+  }
+
+  on : clauses_on all patterns b ≡ flat_map (clauses_of (values t)) (problem_of t r).constraints
+  on = (λ i. clauses_on (all_is i) (patterns_are i) b) ∙ clauses_same t r b h
+
+  points_are : length b.points ≡ (problem_of t r).points
+  points_are = ap length h.points_are
+
+  clauses_are : n.clauses ≡ length (question t r).clauses
+  clauses_are =
+      counts.clauses
+      ∙ (λ i. points_are i + length (on i))
+      ∙ ap (λ m. m + length (flat_map (clauses_of (values t)) (problem_of t r).constraints))
+      (sym (length-map (below (problem_of t r).points) (at_least_one (values t)) ∙ length-below (problem_of t r).points))
+      ∙ sym (length-append (map (at_least_one (values t)) (below (problem_of t r).points)) (flat_map (clauses_of (values t)) (problem_of t r).constraints))
+
+  counts_are : n ≡ of_question
+  unfolding of_question
+  counts_are = λ i. record {
+    processes = counts.processes i;
+    rounds = (counts.rounds ∙ h.rounds_are) i;
+    points = (counts.points ∙ points_are) i;
+    executions = (counts.executions ∙ long_scopes t r b h ∙ length-map (executions t r) (constraint_of t (points t r))) i;
+    variables = (counts.variables ∙ (λ j. points_are j * length (all_is j))) i;
+    clauses = clauses_are i;
+  }
+
+  body_is : points_text all (length b.points) ++ executions_text all patterns b ≡ flat_map clause_text (question t r).clauses
+  body_is =
+      (λ i. flat_map clause_text (map (at_least_one (all_is i)) (below (points_are i))) ++ flat_map clause_text (on i))
+      ∙ sym (flat_map-append clause_text (map (at_least_one (values t)) (below (problem_of t r).points)) (flat_map (clauses_of (values t)) (problem_of t r).constraints))
+
+  pub whole_text : (head : List ℕ) → head ≡ head_text n all → text_after head all patterns b ≡ question_text t r
+  unfolding of_question
+  whole_text head is =
+      (λ i. (is ∙ (λ j. head_text (counts_are j) (all_is j))) i ++ body_is i)
+      ∙ regrouped (line (codes "c wfcheck formula 1") []) (line (codes "c processes") (t.processes ∷ [])) (line (codes "c rounds") (r ∷ []))
+      (line (codes "c points") (length (points t r) ∷ [])) (line (codes "c executions") (length (executions t r) ∷ []))
+      (line (codes "c values") (values t)) (numbering_line (values t))
+      (line (codes "p cnf") ((question t r).variables ∷ length (question t r).clauses ∷ [])) (flat_map clause_text (question t r).clauses)

@@ -1,0 +1,10 @@
+-- What contracts say, here and in the crates above.
+pub mod Patterns
+pub mod Models
+-- What the crate's own code and proofs use.
+pub mod Found
+pub mod Variables
+pub mod Clauses
+pub mod Reading
+pub mod Head
+pub mod Questions

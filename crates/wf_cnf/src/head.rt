@@ -1,0 +1,73 @@
+//! What stands before the clauses: comments, and how many variables and clauses there are.
+
+ghost use Rattle.std.specs.Prelude.{◌≡◌, ◌++◌, ◌∷◌, [], IfOk, OnOk, codes, length, string_bytes};
+ghost use Rattle.wf_model.specs.Report.{line, numbers_text};
+ghost use Rattle.wf_set.specs.Sets.{values_in};
+ghost use Rattle.wf_formula.specs.Dimacs.{numbering_line};
+ghost use Rattle.wf_cnf.specs.Head.{counts_text, head_text};
+
+use std::alloc::{AllocError, Global};
+use std::fmt::Write;
+use wf_lines::{put_number, put_words};
+use wf_set::{Mask, count, split_first};
+
+/// The numbers of a question.
+#[derive(Clone, Copy)]
+pub(crate) struct Counts {
+    /// The processes.
+    pub processes: u8,
+    /// The rounds.
+    pub rounds: u32,
+    /// The points.
+    pub points: u32,
+    /// The executions.
+    pub executions: u32,
+    /// The variables.
+    pub variables: u32,
+    /// The clauses.
+    pub clauses: u64,
+}
+
+impl Counts {
+    /// The lines before the clauses, where these are the values.
+    pub fn head(self, alloc: Global, values: Mask) -> Result<String, AllocError>
+        ensures { IfOk result (λ text. string_bytes text ≡ head_text self (values_in values)) }
+    {
+        let mut text = String::new(alloc);
+        self.put(&mut text)?;
+        put_values(&mut text, values)?;
+        let width = count(values);
+        writeln!(text, "c variable {width} * point + place of the value")?;
+        let variables = self.variables;
+        let clauses = self.clauses;
+        writeln!(text, "p cnf {variables} {clauses}")?;
+        Ok(text)
+    }
+
+    /// Adds the comments with one number each.
+    fn put(self, text: &mut String) -> Result<(), AllocError>
+        ensures { OnOk result (string_bytes text.new ≡ string_bytes text.old ++ counts_text self) }
+    {
+        put_words(text, "c wfcheck formula 1")?;
+        put_number(text, "c processes", u32::from(self.processes))?;
+        put_number(text, "c rounds", self.rounds)?;
+        put_number(text, "c points", self.points)?;
+        put_number(text, "c executions", self.executions)
+    }
+}
+
+/// Adds the comment with the values.
+fn put_values(text: &mut String, values: Mask) -> Result<(), AllocError>
+    ensures { OnOk result (string_bytes text.new
+        ≡ string_bytes text.old ++ line (codes "c values") (values_in values)) }
+{
+    write!(text, "c values")?;
+    let mut left = values;
+    'values: while let Some(next) = split_first(left) {
+        let (value, others) = next;
+        left = others;
+        write!(text, " {value}")?;
+    }
+    writeln!(text)?;
+    Ok(())
+}

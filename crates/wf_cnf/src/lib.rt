@@ -1,0 +1,22 @@
+//! The question of a task and its rounds for a SAT solver, and a solver's model as a map.
+//!
+//! - [`Question`]: the question as a formula in conjunctive normal form, written in the format that solvers read. It has a model
+//!   exactly where the task has a decision map: `wf_formula` has that law.
+//! - [`Patterns`]: what the tuples of a rule forbid, found once for each rule.
+//! - [`map_of_model`]: the values that a model gives at the points.
+//! - [`read_map`]: the same of the text in which a solver says its model.
+#![tactic(auto)]
+
+mod clauses;
+mod head;
+mod models;
+mod patterns;
+mod question;
+mod solver;
+mod tuples;
+mod variables;
+
+pub use models::map_of_model;
+pub use patterns::{Pattern, Patterns};
+pub use question::Question;
+pub use solver::{ModelFault, read_map};

@@ -1,0 +1,9 @@
+//! Tests of questions as formulas, and of the maps that solvers' texts say.
+#![tactic(auto)]
+
+#[cfg(test)]
+mod map_tests;
+#[cfg(test)]
+mod question_tests;
+#[cfg(test)]
+mod texts;

@@ -1,0 +1,81 @@
+-- What is answered, accepted and told, and of which bytes: in the field's words alone.
+use Rattle.std.specs.Prelude.{◌≡◌, ℕ, List, Option, None, Some, Ok}
+use Rattle.wf_model.specs.Task.{Task}
+use Rattle.wf_model.specs.View.{View}
+use Rattle.wf_model.specs.DecisionMap.{HasNoDecisionMap, IsDecisionMap, IsLeast, listed}
+use Rattle.wf_model.specs.Refutation.{Line}
+use Rattle.wf_model.specs.Report.{Body, a_map}
+use Rattle.wf_model.specs.PointsText.{points_text}
+use Rattle.wf_core.specs.declared.Account.{Account}
+use Rattle.wf_io.specs.Seen.{Reading, Writing}
+use Rattle.wf_io.specs.Texts.{Gave, Took}
+use Rattle.wf_task.specs.Judge.{text_of}
+use Rattle.wf_report.specs.declared.form.Form.{Form}
+use Rattle.wf_check.specs.Truth.{HoldsOf}
+use Rattle.wf_engine.specs.declared.outcome.Outcome.{Outcome}
+use Rattle.wf_engine.specs.declared.outcome.Outcome.TheVariants.{Map, Nothing}
+use Rattle.wf_engine.specs.declared.outcome.Accepted.{Accepted}
+use Rattle.wf_engine.specs.Texts.{Solves, map_body, none_body, text_of_report}
+use Rattle.wf_engine.specs.Models.{Models}
+use Rattle.wf_engine.specs.Verify.{Decides, Verifies, accepted_of, accepted_text, values_of}
+
+-- the source gave the bytes of this task
+abbrev pub GaveTask : Reading → Reading → Task → Type 0
+GaveTask old new t = (bytes : List ℕ) × Gave old new bytes 0 × (text_of bytes ≡ Ok t)
+
+-- ---- what a search says
+
+-- The text is the report of the least decision map, in the least form with lines; or a report that there is none, in the
+-- verdict form without lines, and then no function on the views is a decision map.
+abbrev pub Says : Form → Task → ℕ → Outcome → List ℕ → Type 0
+Says form t r Map text =
+    (m : View → ℕ) × IsLeast t r m × ((ls : List Line) × (text ≡ text_of_report t r (map_body form (listed t r m) ls)))
+Says form t r Nothing text = HasNoDecisionMap t r × ((ls : List Line) × (text ≡ text_of_report t r (none_body form ls)))
+
+-- where a search ends well, the source gave the bytes of a task, and the sink took, whole, a text that is true of it
+abbrev pub AnswersAreTrue : Type 0
+AnswersAreTrue =
+    (rounds : ℕ) (form : Form) (source source' : Reading) (sink sink' : Writing) (found : Outcome) (account : Account)
+    → Solves rounds form source source' sink sink' (Ok (found, account))
+    → (t : Task) × (text : List ℕ) × GaveTask source source' t × Says form t rounds found text × Took sink sink' text 0
+
+-- ---- what a check accepts
+
+-- The sources gave the bytes of a task, and the text of a report about it and these rounds with this answer, which is true: a
+-- map is a decision map, the least one where lines say so, and where there is none, no function on the views is one.
+pub record GaveTruth (task task' cert cert' : Reading) (t : Task) (r : ℕ) (body : Body) : Type 0 where
+  pub task_given : GaveTask task task' t
+  pub report_given : Gave cert cert' (text_of_report t r body) 0
+  pub holds : HoldsOf t r body
+
+-- these are the rounds that are asked for, if any are
+abbrev pub AreAsked : Option ℕ → ℕ → Type 0
+AreAsked None r = Unit {0}
+AreAsked (Some rounds) r = r ≡ rounds
+
+-- where a check accepts, it was given such a report about the rounds that were asked for, and the sink took the line that says
+-- what is accepted of it
+abbrev pub AcceptancesAreTrue : Type 0
+AcceptancesAreTrue =
+    (rounds : Option ℕ) (task task' cert cert' : Reading) (sink sink' : Writing) (accepted : Accepted)
+    → Verifies rounds task task' cert cert' sink sink' (Ok accepted)
+    → (t : Task) × (r : ℕ) × (body : Body) × GaveTruth task task' cert cert' t r body
+    × AreAsked rounds r × (accepted ≡ accepted_of body) × Took sink sink' (accepted_text rounds body) 0
+
+-- where decisions are told, such a report was given too, and the sink took the points with the values of its map
+abbrev pub DecisionsAreTrue : Type 0
+DecisionsAreTrue =
+    (task task' cert cert' : Reading) (sink sink' : Writing)
+    → Decides task task' cert cert' sink sink' (Ok tt)
+    → (t : Task) × (r : ℕ) × (body : Body) × GaveTruth task task' cert cert' t r body
+    × Took sink sink' (points_text t r (values_of body)) 0
+
+-- ---- what is reported of a solver's model
+
+-- where it is reported, the source of the task gave its bytes, and the sink took the report of a decision map
+abbrev pub ModelsAreTrue : Type 0
+ModelsAreTrue =
+    (rounds : ℕ) (task task' output output' : Reading) (sink sink' : Writing)
+    → Models rounds task task' output output' sink sink' (Ok tt)
+    → (t : Task) × (m : View → ℕ) × GaveTask task task' t × IsDecisionMap t rounds m
+    × Took sink sink' (text_of_report t rounds (a_map (listed t rounds m))) 0

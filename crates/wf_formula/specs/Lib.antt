@@ -1,0 +1,9 @@
+-- What contracts say, here and in the crates above.
+pub mod Patterns
+pub mod Encoding
+pub mod Dimacs
+pub mod SolverText
+pub mod Laws
+-- Worked examples: what the definitions give, by computation.
+pub mod Examples
+pub mod SolverTextExamples

@@ -1,0 +1,54 @@
+-- Laws of literals and clauses under an assignment.
+use Rattle.std.proofs.Common.{◌≡◌, ℕ, ◌/◌, ◌%◌, ◌<◌, zero, suc, true, false, List, [], ◌∷◌, ◌++◌, refl, sym, ◌∙◌, ap, arith, length, take, drop, get_or, inl, inr}
+use Rattle.std.specs.Prelude.{◌==◌, not, if◌then◌else◌, ◌||◌}
+use Rattle.std.specs.List.{list_any}
+use Rattle.std.specs.Int.Bits.{bit_xor, xor_zero_r}
+use Rattle.std.proofs.lemmas.Nat.{xor_shr, xor_mod}
+use Rattle.std.proofs.lemmas.Grind.{common_steps}
+use Rattle.std.proofs.Math.Bool.{not-not}
+use Rattle.std.proofs.lemmas.List.Sums.{AllPass-from_list_all}
+use Rattle.std.proofs.lemmas.Bool.{cases_Bool}
+use Rattle.std.proofs.lemmas.List.{take-append-drop}
+use Rattle.std.proofs.lemmas.List.Folds.{list_any-append, list_any_at}
+use Rattle.wf_rup.specs.Propagation.{Implies}
+use Rattle.wf_clauses.specs.Formula.{Assignment}
+use Rattle.wf_rup.specs.Codes.{holds_code, hold_codes, is_model_of_codes, satisfies_codes}
+
+flipped : (a : Assignment) (r q : ℕ) → r < 2 → (if bit_xor r 1 == 0 then a q else not (a q)) ≡ not (if r == 0 then a q else not (a q))
+flipped a zero q h = refl
+flipped a (suc zero) q h = sym (not-not (a q))
+flipped a (suc (suc r)) q h = absurd (omega arith)
+
+-- of a literal and its negation one holds
+pub holds_code-negated : (a : Assignment) (l : ℕ) → holds_code a (bit_xor l 1) ≡ not (holds_code a l)
+unfolding holds_code
+holds_code-negated a l =
+    let same : bit_xor l 1 / 2 ≡ l / 2 = xor_shr l 1 1 ∙ xor_zero_r (l / 2) in
+    let other : bit_xor l 1 % 2 ≡ bit_xor (l % 2) 1 = xor_mod l 1 1 in
+    let small : l % 2 < 2 = omega arith in
+    rw (same, other) (flipped a (l % 2) (l / 2) small)
+
+-- where all literals of a list hold, one of them does
+pub holds_code-of_all : (a : Assignment) (ls : List ℕ) (l : ℕ) → hold_codes a ls ≡ true → list_any (λ x. x == l) ls ≡ true → holds_code a l ≡ true
+holds_code-of_all a [] l all here = cc
+holds_code-of_all a (x ∷ xs) l all here = grind (arith, common_steps, holds_code-of_all a xs l)
+
+-- a model satisfies each clause
+pub satisfies_codes-at : (a : Assignment) (f : List (List ℕ)) (i : ℕ) (c : List ℕ) → is_model_of_codes a f ≡ true → i < length f → c ≡ get_or f i c → satisfies_codes a c ≡ true
+satisfies_codes-at a f i c model within e = ap (satisfies_codes a) e ∙ AllPass-from_list_all (satisfies_codes a) f model i c within
+
+-- a clause with a part that is satisfied is satisfied
+satisfies_codes-front : (a : Assignment) (clause : List ℕ) (i : ℕ) → satisfies_codes a (take i clause) ≡ true → satisfies_codes a clause ≡ true
+satisfies_codes-front a clause i h =
+    let parts : satisfies_codes a (take i clause ++ drop i clause) ≡ (satisfies_codes a (take i clause) || satisfies_codes a (drop i clause)) =
+    list_any-append (holds_code a) (take i clause) (drop i clause) in
+    ap (satisfies_codes a) (sym (take-append-drop i clause)) ∙ parts ∙ ap (λ b. b || satisfies_codes a (drop i clause)) h
+
+-- a clause is implied where one of its literals holds as soon as those before it don't
+pub Implies-at : (f : List (List ℕ)) (old new : List ℕ) (clause : List ℕ) (i d : ℕ) → i < length clause
+    → ((a : Assignment) → hold_codes a old ≡ true → satisfies_codes a (take i clause) ≡ false → hold_codes a new ≡ true)
+    → ((a : Assignment) → hold_codes a new ≡ true → holds_code a (get_or clause i d) ≡ true) → Implies f old clause
+Implies-at f old new clause i d within forced here = λ a model all.
+    let late : satisfies_codes a (take i clause) ≡ false → satisfies_codes a clause ≡ true =
+    λ none. list_any_at (holds_code a) clause i d within (here a (forced a all none)) in
+    elim (cases_Bool (satisfies_codes a (take i clause))) [ inl early ↦ satisfies_codes-front a clause i early | inr none ↦ late none ]

@@ -1,0 +1,6 @@
+-- What contracts say, here and in the crates above.
+pub mod Codes
+pub mod Stored
+pub mod Propagation
+pub mod Seen
+pub mod Whole

@@ -1,0 +1,66 @@
+-- What clauses see of the stored clauses and their parts, with literals by their codes.
+use Rattle.std.specs.Prelude.{◌≡◌, ℕ, ◌+◌, ◌≤◌, ◌==◌, Bool, true, false, List, All, get_or, length, map}
+use Rattle.std.specs.List.{AllPairs, list_any, slice_range}
+use Rattle.wf_clauses.specs.Formula.{Assignment}
+use Rattle.wf_rup.specs.Codes.{hold_codes, holds_code, is_model_of_codes, satisfies_codes}
+use Rattle.wf_rup.specs.declared.clauses.Span.{Span}
+
+-- what is stored: the literals that are true, the clauses, and whether they were refuted
+pub record Stored : Type 0 where
+  pub literals : List ℕ
+  pub clauses : List (List ℕ)
+  pub is_refuted : Bool
+
+-- the assignment is a model of all that is stored; of what was refuted there is none
+pub record IsModelOfStored (a : Assignment) (stored : Stored) : Type 0 where
+  pub literals : hold_codes a stored.literals ≡ true
+  pub clauses : is_model_of_codes a stored.clauses ≡ true
+  pub unrefuted : stored.is_refuted ≡ false
+
+-- each assignment is a model of what is stored
+abbrev pub StoresNothing : Stored → Type 0
+StoresNothing stored = (a : Assignment) → IsModelOfStored a stored
+
+-- each model of what was stored before in which the literal holds is one of what is stored after
+abbrev pub KeepsStoredModelsWith : ℕ → Stored → Stored → Type 0
+KeepsStoredModelsWith literal old new = (a : Assignment) → IsModelOfStored a old → holds_code a literal ≡ true → IsModelOfStored a new
+
+-- what is stored has no model
+abbrev pub HasNoStoredModel : Stored → Type 0
+HasNoStoredModel stored = (a : Assignment) → IsModelOfStored a stored → ⊥
+
+-- each model of what was stored before is one of what is stored after
+abbrev pub KeepsStoredModels : Stored → Stored → Type 0
+KeepsStoredModels old new = (a : Assignment) → IsModelOfStored a old → IsModelOfStored a new
+
+-- each model of what was stored before that satisfies the clause is one of what is stored after
+abbrev pub KeepsStoredModelsOf : List ℕ → Stored → Stored → Type 0
+KeepsStoredModelsOf clause old new = (a : Assignment) → IsModelOfStored a old → satisfies_codes a clause ≡ true → IsModelOfStored a new
+
+-- each model of what is stored satisfies the clause
+abbrev pub StoredEntails : Stored → List ℕ → Type 0
+StoredEntails stored clause = (a : Assignment) → IsModelOfStored a stored → satisfies_codes a clause ≡ true
+
+-- ---- the parts
+
+-- a marked literal is in the list
+abbrev pub IsMarked : List Bool → List ℕ → Type 0
+IsMarked marks literals = (l : ℕ) → get_or marks l false ≡ true → list_any (λ x. x == l) literals ≡ true
+
+-- the literals of a span
+abbrev pub clause_at : List ℕ → Span → List ℕ
+clause_at arena span = slice_range arena span.start span.«end»
+
+abbrev pub clauses_in : List ℕ → List Span → List (List ℕ)
+clauses_in arena spans = map (clause_at arena) spans
+
+-- the span lies within so many words, behind the two for what is watched
+pub record IsWithin (size : ℕ) (span : Span) : Type 0 where
+  pub headed : 2 ≤ span.start
+  pub ordered : span.start ≤ span.«end»
+  pub bounded : span.«end» ≤ size
+
+-- the spans lie within the list, and each before the two words of the next ones
+pub record AreLaid (arena : List ℕ) (spans : List Span) : Type 0 where
+  pub within : All (IsWithin (length arena)) spans
+  pub apart : AllPairs (λ s t. s.«end» + 2 ≤ t.start) spans

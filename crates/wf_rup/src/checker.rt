@@ -1,0 +1,95 @@
+//! The checker.
+
+ghost use Rattle.std.specs.Prelude.{◌≡◌, IfOk, IsTrue, map};
+ghost use Rattle.wf_rup.specs.Codes.{code_of};
+ghost use Rattle.wf_rup.specs.Seen.{Entails, HasNoModel, KeepsModels, KeepsModelsOf, KnowsNothing};
+
+use crate::database::Database;
+use crate::literal::{Code, Literal};
+use std::alloc::{AllocError, Global};
+use std::marker::Model;
+
+/// Clauses that are kept, and the literals that they force by unit propagation.
+///
+/// Contracts see what is known: the literals, the clauses, and whether they were refuted. What is said of a call holds
+/// where memory ran out too.
+#[derive(Drop)]
+pub struct Checker {
+    variables: u32,
+    database: Database,
+    // the codes of the clause at hand
+    codes: Vec<Code>,
+}
+
+impl Model for Checker {
+    ghost use Rattle.wf_rup.specs.Seen.{Known, known_of};
+
+    ghost Value = { Known };
+
+    ghost view = { λ c. known_of c.database };
+}
+
+impl Checker {
+    /// A checker that knows nothing, over the variables from 1 to this number. A literal of another variable is never
+    /// forced.
+    pub fn new(alloc: Global, variables: u32) -> Result<Checker, AllocError>
+        ensures { IfOk result KnowsNothing }
+    {
+        Ok(Checker {
+            variables,
+            database: Database::new(alloc, variables)?,
+            codes: Vec::new(alloc),
+        })
+    }
+
+    /// The largest number of a variable.
+    pub fn variables(&self) -> u32 {
+        self.variables
+    }
+
+    /// Whether the empty clause was derived, or propagation found a conflict with no assumption: then what was added
+    /// has no model.
+    pub fn is_refuted(&self) -> bool
+        ensures { IsTrue result → HasNoModel self.now }
+    {
+        self.database.is_refuted()
+    }
+
+    /// Adds a clause, and all that it forces.
+    pub fn add(&mut self, alloc: Global, clause: &[Literal]) -> Result<(), AllocError>
+        ensures { KeepsModelsOf clause.now self.old self.new }
+    {
+        put_codes(&mut self.codes, clause)?;
+        self.database.add(alloc, &self.codes)
+    }
+
+    /// Whether the lemma follows by unit propagation from what is kept and the negated lemma. If so it is kept.
+    pub fn derive(&mut self, alloc: Global, lemma: &[Literal]) -> Result<bool, AllocError>
+        ensures follows { IfOk result (λ follows. IsTrue follows → Entails self.old lemma.now) }
+        ensures kept { KeepsModels self.old self.new }
+    {
+        put_codes(&mut self.codes, lemma)?;
+        self.database.derive(alloc, &self.codes)
+    }
+
+    /// A clause with these literals is no longer kept. Where there is none, or it forces a literal already, nothing
+    /// changes.
+    pub fn delete(&mut self, clause: &[Literal]) -> Result<(), AllocError>
+        ensures { KeepsModels self.old self.new }
+    {
+        put_codes(&mut self.codes, clause)?;
+        self.database.delete(&self.codes);
+        Ok(())
+    }
+}
+
+/// Puts the codes of a clause in place of what is there.
+fn put_codes(codes: &mut Vec<Code>, clause: &[Literal]) -> Result<(), AllocError>
+    ensures { IfOk result (λ done. codes.new.items ≡ map code_of clause.now) }
+{
+    codes.clear();
+    'literals: for literal in clause {
+        codes.push(literal.code())?;
+    }
+    Ok(())
+}

@@ -1,0 +1,251 @@
+//! Clauses and what they force, with literals by their codes.
+
+ghost use Rattle.std.specs.Prelude.{◌≡◌, IfOk, IsTrue, length, take};
+ghost use Rattle.wf_rup.specs.Propagation.{AddsClause, Implies};
+ghost use Rattle.wf_rup.specs.Stored.{HasNoStoredModel, KeepsStoredModels, KeepsStoredModelsOf, KeepsStoredModelsWith, StoredEntails, StoresNothing};
+
+use crate::clauses::Clauses;
+use crate::index::{Index, hash_of};
+use crate::literal::Code;
+use crate::propagation::propagate;
+use crate::scan::{open_literal, other_open_literal};
+use crate::trail::{Trail, negated};
+use crate::watches::{Watch, Watches};
+use std::alloc::{AllocError, Global};
+use std::marker::Model;
+
+// so many clauses that are no longer kept are borne with
+const FEW: usize = 4096;
+
+/// Clauses that are kept, and the literals that they force by unit propagation.
+///
+/// A clause of a contract sees what is known: the literals, the clauses, and whether they were refuted.
+#[derive(Drop)]
+pub(crate) struct Database {
+    trail: Trail,
+    clauses: Clauses,
+    watches: Watches,
+    index: Index,
+    is_refuted: bool,
+    // how many of the clauses are no longer kept
+    forgotten: usize,
+}
+
+impl Model for Database {
+    ghost use Rattle.wf_rup.specs.Stored.{Stored};
+
+    ghost Value = { Stored };
+
+    ghost view = { λ c. record {
+      literals = c.trail;
+      clauses = c.clauses;
+      is_refuted = c.is_refuted;
+    } };
+}
+
+impl Database {
+    /// One with nothing in it, over the variables from 1 to this number.
+    pub(crate) fn new(alloc: Global, variables: u32) -> Result<Database, AllocError>
+        ensures { IfOk result StoresNothing }
+    {
+        let codes = 2 * variables as usize + 2;
+        Ok(Database {
+            trail: Trail::new(alloc, codes)?,
+            clauses: Clauses::new(alloc),
+            watches: Watches::new(alloc, codes)?,
+            index: Index::new(alloc)?,
+            is_refuted: false,
+            forgotten: 0,
+        })
+    }
+
+    /// Whether the empty clause was derived, or propagation found a conflict with no assumption: then what was added
+    /// has no model.
+    pub(crate) fn is_refuted(&self) -> bool
+        ensures { IsTrue result → HasNoStoredModel self.now }
+    {
+        self.is_refuted
+    }
+
+    /// Adds a clause, and all that it forces.
+    pub(crate) fn add(&mut self, alloc: Global, clause: &[Code]) -> Result<(), AllocError>
+        ensures { KeepsStoredModelsOf clause.now self.old self.new }
+    {
+        let Some(first) = open_literal(clause, &self.trail) else {
+            self.is_refuted = true;
+            return Ok(());
+        };
+        match other_open_literal(clause, &self.trail, first) {
+            Some(second) => store(
+                alloc,
+                clause,
+                first,
+                second,
+                &mut self.clauses,
+                &mut self.watches,
+                &mut self.index,
+            ),
+            None => self.force(alloc, first),
+        }
+    }
+
+    /// Gives back the memory of the clauses that are no longer kept.
+    fn compact(&mut self, alloc: Global) -> Result<(), AllocError>
+        ensures { KeepsStoredModels self.old self.new }
+    {
+        let mut clauses = Clauses::new(alloc);
+        let mut index = Index::new(alloc)?;
+        self.watches.clear();
+        'clauses: for number in 0..self.clauses.len() {
+            if self.clauses.is_kept(number) {
+                let (first, second) = self.clauses.watched(number);
+                let clause = self.clauses.literals(number);
+                store(
+                    alloc,
+                    clause,
+                    first,
+                    second,
+                    &mut clauses,
+                    &mut self.watches,
+                    &mut index,
+                )?;
+            }
+        }
+        self.clauses = clauses;
+        self.index = index;
+        self.forgotten = 0;
+        Ok(())
+    }
+
+    /// The literal is true, and all that it forces.
+    fn force(&mut self, alloc: Global, literal: Code) -> Result<(), AllocError>
+        ensures { KeepsStoredModelsWith literal self.old self.new }
+    {
+        if self.trail.is_true(literal) {
+            return Ok(());
+        }
+        let from = self.trail.len();
+        self.trail.put(literal)?;
+        if propagate(
+            alloc,
+            from,
+            &mut self.clauses,
+            &mut self.trail,
+            &mut self.watches,
+        )? {
+            self.is_refuted = true;
+        }
+        Ok(())
+    }
+
+    /// Whether the lemma follows by unit propagation from what is kept and the negated lemma. If so it is kept.
+    pub(crate) fn derive(&mut self, alloc: Global, lemma: &[Code]) -> Result<bool, AllocError>
+        ensures follows { IfOk result (λ follows. IsTrue follows → StoredEntails self.old lemma.now) }
+        ensures kept { KeepsStoredModels self.old self.new }
+    {
+        if self.is_refuted {
+            return Ok(true);
+        }
+        if self.forgotten > FEW && self.forgotten > self.clauses.len() / 2 {
+            self.compact(alloc)?;
+        }
+        let count = self.trail.len();
+        let found = assume(
+            alloc,
+            lemma,
+            &mut self.clauses,
+            &mut self.trail,
+            &mut self.watches,
+        );
+        self.trail.undo(count);
+        if found? {
+            self.add(alloc, lemma)?;
+            Ok(true)
+        } else {
+            Ok(false)
+        }
+    }
+
+    /// A clause with these literals is no longer kept. Where there is none, or it forces a literal already, nothing
+    /// changes.
+    pub(crate) fn delete(&mut self, clause: &[Code])
+        ensures { KeepsStoredModels self.old self.new }
+    {
+        let mut next = self.index.last(hash_of(clause));
+        'chain: for _ in 0..self.index.len() {
+            let Some(number) = next else {
+                return;
+            };
+            if number < self.clauses.len()
+                && self.clauses.is_kept(number)
+                && self.clauses.literals(number).len() == clause.len()
+            {
+                self.clauses.forget(number);
+                self.forgotten = self.forgotten.saturating_add(1);
+                return;
+            }
+            next = self.index.before(number);
+        }
+    }
+}
+
+/// Assumes that the clause is false and propagates; whether that leads to a conflict.
+fn assume(
+    alloc: Global,
+    clause: &[Code],
+    clauses: &mut Clauses,
+    trail: &mut Trail,
+    watches: &mut Watches,
+) -> Result<bool, AllocError>
+    ensures clauses { clauses.new ≡ clauses.old }
+    ensures front { take (length trail.old) trail.new ≡ trail.old }
+    ensures conflict { IfOk result (λ found. IsTrue found
+        → Implies clauses.old trail.old clause.now) }
+{
+    let from = trail.len();
+    for literal in clause {
+        if trail.is_true(*literal) {
+            return Ok(true);
+        }
+        let opposite = negated(*literal);
+        if !trail.is_true(opposite) {
+            trail.put(opposite)?;
+        }
+    }
+    propagate(alloc, from, clauses, trail, watches)
+}
+
+/// Stores a clause that watches these two literals.
+fn store(
+    alloc: Global,
+    clause: &[Code],
+    first: Code,
+    second: Code,
+    clauses: &mut Clauses,
+    watches: &mut Watches,
+    index: &mut Index,
+) -> Result<(), AllocError>
+    ensures { AddsClause clause.now clauses.old clauses.new }
+{
+    let number = clauses.len();
+    if number >= u32::MAX as usize {
+        return Err(AllocError);
+    }
+    clauses.push(clause, first, second)?;
+    index.push(alloc, hash_of(clause))?;
+    let clause = number as u32;
+    watches.push(
+        first,
+        Watch {
+            clause,
+            blocker: second,
+        },
+    )?;
+    watches.push(
+        second,
+        Watch {
+            clause,
+            blocker: first,
+        },
+    )
+}

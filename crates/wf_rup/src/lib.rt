@@ -1,0 +1,26 @@
+//! A checker of clausal proofs: each lemma follows from the clauses kept by reverse unit propagation (RUP).
+//!
+//! It knows propositional logic alone, and nothing of who wrote the proof. The promise: where [`Checker::is_refuted`]
+//! answers true, and so where [`Proof::finish`] accepts, the clauses that were added have no common model, whatever the
+//! proof's bytes are. [`check_proof`] says the same of a formula and a proof that are there as a whole.
+//!
+//! - [`Checker`]: takes the clauses one by one, and the steps of a proof.
+//! - [`Proof`]: reads a proof's text in pieces, and gives a checker each step.
+#![tactic(auto)]
+
+mod checker;
+mod clauses;
+mod database;
+mod index;
+mod literal;
+mod proof;
+mod propagation;
+mod scan;
+mod trail;
+mod watches;
+mod whole;
+
+pub use checker::Checker;
+pub use literal::{Literal, MOST_VARIABLES};
+pub use proof::{Proof, ProofFault};
+pub use whole::check_proof;

@@ -1,0 +1,142 @@
+//! Unit propagation with two watched literals.
+
+ghost use Rattle.std.specs.Prelude.{◌≡◌, IfOk, IsTrue};
+ghost use Rattle.wf_rup.specs.Propagation.{Conflicts, Extends, IsSound};
+
+use crate::clauses::Clauses;
+use crate::literal::Code;
+use crate::scan::other_open_literal;
+use crate::trail::{Trail, negated};
+use crate::watches::{Watch, Watches};
+use std::alloc::{AllocError, Global};
+
+/// What became of a clause that watches a literal which is false.
+enum Outcome {
+    /// It is no longer kept, or it watches another literal now.
+    Gone,
+    /// It watches the literal still, and this is the other one that it watches.
+    Stays(Code),
+    /// Its literals are false but for this one, which is true now.
+    Forces(Code),
+    /// All its literals are false.
+    Fails,
+}
+
+/// Makes true what the clauses force, given the literals from this place on; whether a clause is false then.
+pub(crate) fn propagate(
+    alloc: Global,
+    from: usize,
+    clauses: &mut Clauses,
+    trail: &mut Trail,
+    watches: &mut Watches,
+) -> Result<bool, AllocError>
+    ensures clauses { clauses.new ≡ clauses.old }
+    ensures trail { Extends clauses.old trail.old trail.new }
+    ensures conflict { IfOk result (λ found. IsTrue found → Conflicts clauses.old trail.old) }
+{
+    for place in from..trail.room() {
+        let Some(literal) = trail.at(place) else {
+            break;
+        };
+        if visit_watchers(alloc, negated(literal), clauses, trail, watches)? {
+            return Ok(true);
+        }
+    }
+    Ok(false)
+}
+
+/// Looks at the clauses that watch a literal which is false now; whether one of them is false.
+fn visit_watchers(
+    alloc: Global,
+    falsified: Code,
+    clauses: &mut Clauses,
+    trail: &mut Trail,
+    watches: &mut Watches,
+) -> Result<bool, AllocError>
+    ensures clauses { clauses.new ≡ clauses.old }
+    ensures trail { Extends clauses.old trail.old trail.new }
+    ensures conflict { IfOk result (λ found. IsTrue found → Conflicts clauses.old trail.old) }
+{
+    let mut list = watches.take(alloc, falsified);
+    let mut kept = 0;
+    let mut found = false;
+    for at in 0..list.len() {
+        let watch = list[at];
+        let clause = watch.clause;
+        if found || trail.is_true(watch.blocker) {
+            list[kept] = watch;
+            kept += 1;
+            continue;
+        }
+        match visit(clause, falsified, clauses, trail, watches)? {
+            Outcome::Gone => {}
+            Outcome::Stays(blocker) => {
+                list[kept] = Watch { clause, blocker };
+                kept += 1;
+            }
+            Outcome::Forces(blocker) => {
+                trail.put(blocker)?;
+                list[kept] = Watch { clause, blocker };
+                kept += 1;
+            }
+            Outcome::Fails => {
+                list[kept] = watch;
+                kept += 1;
+                found = true;
+            }
+        }
+    }
+    list.truncate(kept);
+    watches.give(falsified, list);
+    Ok(found)
+}
+
+/// Looks at a clause that watches a literal which is false now.
+#[inline]
+fn visit(
+    clause: u32,
+    falsified: Code,
+    clauses: &mut Clauses,
+    trail: &Trail,
+    watches: &mut Watches,
+) -> Result<Outcome, AllocError>
+    ensures clauses { clauses.new ≡ clauses.old }
+    ensures sound { IfOk result (IsSound clauses.old trail.now) }
+{
+    let number = clause as usize;
+    if number >= clauses.len() {
+        return Ok(Outcome::Gone);
+    }
+    let (first, second) = clauses.watched(number);
+    let other = if first == falsified {
+        second
+    } else if second == falsified {
+        first
+    } else {
+        return Ok(Outcome::Gone);
+    };
+    if trail.is_true(other) {
+        return Ok(Outcome::Stays(other));
+    }
+    let open = other_open_literal(clauses.literals(number), trail, other);
+    match open {
+        Some(literal) => {
+            clauses.watch(number, other, literal);
+            watches.push(
+                literal,
+                Watch {
+                    clause,
+                    blocker: other,
+                },
+            )?;
+            Ok(Outcome::Gone)
+        }
+        None => {
+            if trail.is_false(other) {
+                Ok(Outcome::Fails)
+            } else {
+                Ok(Outcome::Forces(other))
+            }
+        }
+    }
+}

@@ -1,0 +1,69 @@
+//! For each literal the clauses that watch it.
+//!
+//! No proof rests on what these lists hold: a clause that is missing in them is not found, and whatever stands in them is
+//! looked up before it is used.
+
+use crate::literal::Code;
+use std::alloc::{AllocError, Global};
+use std::mem;
+
+/// A clause that watches a literal, and another literal of the clause. Where that one is true the clause need not be
+/// looked at.
+#[derive(Clone, Copy, Drop)]
+pub(crate) struct Watch {
+    pub(crate) clause: u32,
+    pub(crate) blocker: Code,
+}
+
+#[derive(Drop)]
+pub(crate) struct Watches {
+    lists: Vec<Vec<Watch>>,
+}
+
+impl Watches {
+    /// Lists for so many literals.
+    pub(crate) fn new(alloc: Global, codes: usize) -> Result<Watches, AllocError> {
+        let mut lists = Vec::with_capacity(alloc, codes)?;
+        for _ in 0..codes {
+            lists.push(Vec::new(alloc))?;
+        }
+        Ok(Watches { lists })
+    }
+
+    /// No clause watches a literal.
+    pub(crate) fn clear(&mut self) {
+        for at in 0..self.lists.len() {
+            self.lists[at].clear();
+        }
+    }
+
+    /// The clause watches the literal.
+    #[inline]
+    pub(crate) fn push(&mut self, literal: Code, watch: Watch) -> Result<(), AllocError> {
+        let at = literal as usize;
+        if at < self.lists.len() {
+            self.lists[at].push(watch)?;
+        }
+        Ok(())
+    }
+
+    /// Takes out the list of a literal.
+    #[inline]
+    pub(crate) fn take(&mut self, alloc: Global, literal: Code) -> Vec<Watch> {
+        let at = literal as usize;
+        if at < self.lists.len() {
+            mem::replace(&mut self.lists[at], Vec::new(alloc))
+        } else {
+            Vec::new(alloc)
+        }
+    }
+
+    /// Gives a literal a list.
+    #[inline]
+    pub(crate) fn give(&mut self, literal: Code, list: Vec<Watch>) {
+        let at = literal as usize;
+        if at < self.lists.len() {
+            self.lists[at] = list;
+        }
+    }
+}
