@@ -33,10 +33,9 @@ fn is_question(alloc: Global, task: &str, text: &str) -> Result<bool, Fail> {
     let question = Question::of(alloc, &task, &protocol)?;
     let mut written = Vec::new(alloc);
     let mut sink = Sink::new(&mut written);
-    if question.write(&mut sink).is_err() {
-        return Ok(false);
-    }
-    Ok(written.as_slice() == text.as_bytes())
+    let is_whole = question.write(&mut sink).is_ok();
+    drop(sink);
+    Ok(is_whole && written.as_slice() == text.as_bytes())
 }
 
 #[test]
