@@ -1,6 +1,5 @@
 -- Clauses that are added to a checker, and the models that it keeps.
-use Rattle.std.proofs.Common.{◌≡◌, ℕ, ◌+◌, ◌<◌, ◌≤◌, true, List, [], ◌∷◌, ◌++◌, map, flat_map, zip, length, take, get_or, min, slice_index, inl, sym, ap, ◌∙◌, subst, arith, append_assoc}
-use Rattle.std.specs.List.{AllByRecursion}
+use Rattle.std.proofs.Common.{◌≡◌, ℕ, ◌+◌, ◌<◌, ◌≤◌, true, List, [], ◌∷◌, ◌++◌, map, zip, length, take, get_or, min, slice_index, sym, ap, ◌∙◌, subst, arith, append_assoc}
 use Rattle.std.proofs.lemmas.List.{map-append, take_more}
 use Rattle.std.proofs.lemmas.List.Elements.{All-from_recursion, recursion_from_All}
 use Rattle.std.proofs.lemmas.Slice.Zip.{length-zip, get_or-zip}
@@ -17,7 +16,7 @@ use Rattle.wf_cnf.proofs.TextLemmas.{few_ranks, few_values, product_few}
 -- ---- clauses among others
 
 satisfied_in : (a : Assignment) (all : List Clause) (clause : Clause) → SatisfiesAll a all → In clause all → satisfies a clause ≡ true
-satisfied_in a all clause h among = each_in (λ c. satisfies a c ≡ true) all clause (recursion_from_All all h) among
+satisfied_in a all clause h among = each_in (λ c. satisfies a c ≡ true) all clause (recursion_from_All (λ c. satisfies a c ≡ true) all h) among
 
 satisfied_some : (a : Assignment) (all some : List Clause) → ((clause : Clause) → In clause some → In clause all) → SatisfiesAll a all → SatisfiesAll a some
 satisfied_some a all some within h =
@@ -30,10 +29,10 @@ keeps_one all clause added old now new among is so_far kept = λ a model h.
     kept a (so_far a model h) (ap (satisfies a) is ∙ satisfied_in a all clause h among)
 
 -- some of the clauses are added
-pub keeps_some : (all some : List Clause) (old now new : Known) → ((clause : Clause) → In clause some → In clause all)
-    → KeepsModelsOfAll all old now → KeepsModelsOfAll some now new → KeepsModelsOfAll all old new
-keeps_some all some old now new within so_far kept = λ a model h.
-    kept a (so_far a model h) (satisfied_some a all some within h)
+pub keeps_some : (all some added : List Clause) (old now new : Known) → ((clause : Clause) → In clause some → In clause all) → added ≡ some
+    → KeepsModelsOfAll all old now → KeepsModelsOfAll added now new → KeepsModelsOfAll all old new
+keeps_some all some added old now new within is so_far kept = λ a model h.
+    kept a (so_far a model h) (subst (SatisfiesAll a) (sym is) (satisfied_some a all some within h))
 
 -- first some of the clauses of a formula are added, then the others
 pub follows : (f : Formula) (first second : List Clause) (none some known : Known) → first ++ second ≡ f.clauses

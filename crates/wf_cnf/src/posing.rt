@@ -149,11 +149,7 @@ impl Posing {
 }
 
 /// Puts the clause of a point in place of what is there.
-fn put_point(
-    clause: &mut Vec<Literal>,
-    variables: &Variables,
-    point: u32,
-) -> Result<(), AllocError>
+fn put_point(clause: &mut Vec<Literal>, variables: &Variables, point: u32) -> Result<(), AllocError>
     requires numbered { IsNumbered variables.now }
     requires point { point < most_points }
     ensures { OnOk result

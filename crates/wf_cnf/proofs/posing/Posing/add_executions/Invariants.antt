@@ -7,4 +7,4 @@ use Rattle.wf_cnf.proofs.posing.Posing.add_executions.Given as goal
 
 abbrev pub invariant-loop-execution : goal.invariant-loop-execution
 invariant-loop-execution l =
-    KeepsModelsOfAll (clauses_on (values_in l.variables.values) (map patterns_seen l.patterns) l.protocol) l.initial.self-inside.checker l.self-inside.checker
+    KeepsModelsOfAll (clauses_on (values_in l.variables.values) (map patterns_seen l.patterns) l.protocol) l.initial.self l.self
