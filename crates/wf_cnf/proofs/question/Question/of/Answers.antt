@@ -1,4 +1,4 @@
-use Rattle.std.proofs.Common.{◌≤◌, ◌*◌, ◌+◌, map, length, ap, sym, ◌∙◌, subst, arith}
+use Rattle.std.proofs.Common.{◌≤◌, ◌*◌, ◌+◌, map, length, ap, sym, ◌∙◌, subst}
 use Rattle.wf_model.specs.Limits.{most_points}
 use Rattle.wf_set.specs.Sets.{values_in}
 use Rattle.wf_cnf.specs.Patterns.{patterns_seen}
