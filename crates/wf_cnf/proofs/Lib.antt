@@ -6,3 +6,4 @@ pub mod Questions
 pub mod PutLemmas
 pub mod SolverLemmas
 pub mod StatedLemmas
+pub mod PosingLemmas

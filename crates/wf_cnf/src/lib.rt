@@ -2,6 +2,7 @@
 //!
 //! - [`Question`]: the question as a formula in conjunctive normal form, written in the format that solvers read. It has a model
 //!   exactly where the task has a decision map: `wf_formula` has that law.
+//! - [`pose`]: gives a checker of clausal proofs the same clauses, with no text between.
 //! - [`Patterns`]: what the tuples of a rule forbid, found once for each rule.
 //! - [`map_of_model`]: the values that a model gives at the points.
 //! - [`read_map`]: the same of the text in which a solver says its model.
@@ -11,6 +12,7 @@ mod clauses;
 mod head;
 mod models;
 mod patterns;
+mod posing;
 mod question;
 mod solver;
 mod tuples;
@@ -18,5 +20,6 @@ mod variables;
 
 pub use models::map_of_model;
 pub use patterns::{Pattern, Patterns};
+pub use posing::pose;
 pub use question::Question;
 pub use solver::{ModelFault, read_map};

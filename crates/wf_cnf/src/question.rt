@@ -64,7 +64,7 @@ impl<'a> Question<'a> {
             rounds: protocol.rounds(),
             points,
             executions: protocol.executions(),
-            variables: points * variables.width,
+            variables: variables.count(points),
             clauses,
         };
         Ok(Question {
@@ -96,7 +96,7 @@ impl<'a> Question<'a> {
 }
 
 /// The minimal forbidden patterns of each input simplex.
-fn all_patterns(alloc: Global, task: &Task) -> Result<Vec<Patterns>, AllocError>
+pub(crate) fn all_patterns(alloc: Global, task: &Task) -> Result<Vec<Patterns>, AllocError>
     ensures { IfOk result (λ patterns. map patterns_seen patterns.items ≡ patterns_of task.now) }
 {
     let values = task.values();

@@ -1,6 +1,6 @@
 //! The variables of a formula: one for each value at each point.
 
-ghost use Rattle.std.specs.Prelude.{◌≡◌, ◌<◌, ◌≤◌, ◌++◌, ◌∷◌, [], IfOk, decimal, length};
+ghost use Rattle.std.specs.Prelude.{◌≡◌, ◌<◌, ◌≤◌, ◌*◌, ◌++◌, ◌∷◌, [], IfOk, decimal, length};
 ghost use Rattle.wf_model.specs.Limits.{most_points};
 ghost use Rattle.wf_io.specs.Ends.{CanWrite};
 ghost use Rattle.wf_io.specs.Texts.{PutsText};
@@ -13,6 +13,7 @@ ghost use Rattle.wf_cnf.specs.Variables.{IsNumbered};
 use std::alloc::{AllocError, Global};
 use std::io::Write;
 use wf_io::{Page, Sink, WriteFault};
+use wf_rup::Literal;
 use wf_set::{Mask, count, holds};
 
 /// The values of a problem, and what numbers its variables.
@@ -55,6 +56,33 @@ impl Variables {
         ensures { result ≡ variable (values_in self.now.values) point value }
     {
         point * self.width + self.ranks[value as usize] + 1
+    }
+
+    /// How many variables there are with so many points.
+    pub fn count(&self, points: u32) -> u32
+        requires numbered { IsNumbered self.now }
+        requires few { points ≤ most_points }
+        ensures { result ≡ points * length (values_in self.now.values) }
+    {
+        points * self.width
+    }
+
+    /// The literal that a point has a value.
+    pub fn positive(&self, point: u32, value: u8) -> Literal
+        requires numbered { IsNumbered self.now }
+        requires point { point < most_points }
+        ensures { result ≡ pos (variable (values_in self.now.values) point value) }
+    {
+        Literal::positive(self.number(point, value))
+    }
+
+    /// The literal that a point has not a value.
+    pub fn negative(&self, point: u32, value: u8) -> Literal
+        requires numbered { IsNumbered self.now }
+        requires point { point < most_points }
+        ensures { result ≡ neg (variable (values_in self.now.values) point value) }
+    {
+        Literal::negative(self.number(point, value))
     }
 
     /// Adds the literal that a point has a value.

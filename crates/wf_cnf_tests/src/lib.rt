@@ -4,6 +4,8 @@
 #[cfg(test)]
 mod map_tests;
 #[cfg(test)]
+mod posing_tests;
+#[cfg(test)]
 mod question_tests;
 #[cfg(test)]
 mod texts;

@@ -1,23 +1,16 @@
-use Rattle.std.proofs.Common.{◌≤◌, ◌*◌, ◌+◌, map, length, ap, sym, ◌∙◌, subst, arith}
+use Rattle.std.proofs.Common.{◌≤◌, ◌*◌, ◌+◌, map, length, ap, sym, ◌∙◌, subst}
 use Rattle.wf_model.specs.Limits.{most_points}
 use Rattle.wf_set.specs.Sets.{values_in}
 use Rattle.wf_cnf.specs.Patterns.{patterns_seen}
 use Rattle.wf_cnf.specs.Clauses.{clauses_on}
 use Rattle.wf_cnf.specs.Head.{head_text}
 use Rattle.wf_cnf.proofs.Questions.{covered, whole_text}
-use Rattle.wf_cnf.proofs.TextLemmas.{few_values, product_upto}
 use Rattle.wf_cnf.proofs.question.Question.of.Goals as goal
 
 pub count_clauses-requires : goal.count_clauses-requires
 count_clauses-requires c =
     let few : length c.args.protocol.now.points ≤ most_points = subst (λ n. n ≤ most_points) c.points-points.ensures.points c.points-points.ensures.few in
     covered c.args.task.now c.args.protocol.now.rounds c.args.protocol.now (map patterns_seen c.deref.result.now) c.requires few (ap (map patterns_seen) c.deref.ensures.value ∙ c.in_ok-patterns.ensures)
-
-pub overflow_mul-counts : goal.overflow_mul-counts
-overflow_mul-counts c =
-    let v = c.in_ok-variables.variables in
-    let few : v.width ≤ 256 = subst (λ n. n ≤ 256) (sym c.in_ok-variables.ensures.numbered.width) (few_values v.values) in
-    omega (arith, product_upto c.points-points.result v.width c.points-points.ensures.few few)
 
 pub invariant_of-result : goal.invariant_of-result
 invariant_of-result c =
@@ -41,7 +34,7 @@ returns c =
       rounds = c.rounds.ensures;
       points = c.points-points.ensures.points;
       executions = c.executions.ensures.executions;
-      variables = λ i. c.points-points.ensures.points i * c.in_ok-variables.ensures.numbered.width i;
+      variables = c.count.ensures ∙ ap (λ n. n * length all) c.points-points.ensures.points;
       clauses = c.in-Some.ensures all ∙ ap (λ ps. length b.points + length (clauses_on all (map patterns_seen ps) b)) c.deref.ensures.value;
     })
     _ (c.in_ok-head.ensures ∙ ap (head_text _) (c.values-2.ensures.values ∙ sym all_is))

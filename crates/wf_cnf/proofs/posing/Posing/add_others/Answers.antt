@@ -1,0 +1,36 @@
+use Rattle.std.proofs.Common.{◌<◌, ◌∙◌, map, length, arith, ap, sym, subst}
+use Rattle.std.proofs.lemmas.List.{get_or-map, length-map}
+use Rattle.wf_set.specs.Sets.{values_in}
+use Rattle.wf_cnf.specs.Patterns.{pattern_seen}
+use Rattle.wf_cnf.specs.Clauses.{HasPoints, denied_at}
+use Rattle.wf_formula.proofs.Members.{in_from_contains, in_map}
+use Rattle.wf_cnf.specs.Posing.{KeepsModelsOfAll}
+use Rattle.wf_cnf.proofs.PosingLemmas.{keeps_one}
+use Rattle.wf_cnf.proofs.posing.Posing.add_others.Goals as goal
+
+pub put_denied-requires-clause-places : goal.put_denied-requires-clause-places
+put_denied-requires-clause-places c =
+    let patterns = c.args.patterns.now in
+    let i = c.loop-pattern.pattern-index in
+    let x = c.pattern-item.result in
+    let low : i < length (map pattern_seen patterns) = omega (arith, c.loop-pattern-test.true, length-map patterns pattern_seen) in
+    subst (HasPoints c.args.points.now) (get_or-map pattern_seen patterns i x (pattern_seen x) c.loop-pattern-test.true ∙ ap pattern_seen (sym c.pattern-item.is)) (c.requires.places i (pattern_seen x) low)
+
+pub loop-pattern-preserved : goal.loop-pattern-preserved
+loop-pattern-preserved c =
+    let f = denied_at (values_in c.args.variables.now.values) c.args.points.now in
+    let patterns = c.args.patterns.now in
+    let x = c.pattern-item.result in
+    keeps_one (map f (map pattern_seen patterns)) (f (pattern_seen x)) _ _ _ _
+    (in_map f (map pattern_seen patterns) (pattern_seen x) (in_map pattern_seen patterns x (in_from_contains patterns x (c.loop-pattern.pattern-index, c.loop-pattern-test.true, sym c.pattern-item.is))))
+    (c.deref.ensures.value ∙ c.in_ok-put_denied.ensures) c.loop-pattern.invariant c.add.ensures
+
+pub returns-in_err-add : goal.returns-in_err-add
+returns-in_err-add c =
+    let f = denied_at (values_in c.args.variables.now.values) c.args.points.now in
+    let patterns = c.args.patterns.now in
+    let x = c.pattern-item.result in
+    subst (λ old. KeepsModelsOfAll (map f (map pattern_seen patterns)) old c.add.new.self) c.self.view_is
+    (keeps_one (map f (map pattern_seen patterns)) (f (pattern_seen x)) _ _ _ _
+    (in_map f (map pattern_seen patterns) (pattern_seen x) (in_map pattern_seen patterns x (in_from_contains patterns x (c.loop-pattern.pattern-index, c.loop-pattern-test.true, sym c.pattern-item.is))))
+    (c.deref.ensures.value ∙ c.in_ok-put_denied.ensures) c.loop-pattern.invariant c.add.ensures)
