@@ -3,6 +3,7 @@ pub mod Patterns
 pub mod Models
 -- What the crate's own code and proofs use.
 pub mod Found
+pub mod Groups
 pub mod Variables
 pub mod Clauses
 pub mod Reading

@@ -8,6 +8,8 @@
 #![tactic(auto)]
 
 mod clauses;
+mod followers;
+mod groups;
 mod head;
 mod models;
 mod patterns;
