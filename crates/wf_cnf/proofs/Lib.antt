@@ -1,5 +1,6 @@
 pub mod FoundLemmas
 pub mod TupleLemmas
+pub mod GroupLemmas
 pub mod Steps
 pub mod TextLemmas
 pub mod Questions

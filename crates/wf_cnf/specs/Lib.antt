@@ -4,6 +4,7 @@ pub mod Models
 pub mod Posing
 -- What the crate's own code and proofs use.
 pub mod Found
+pub mod Groups
 pub mod Variables
 pub mod Clauses
 pub mod Reading

@@ -9,6 +9,8 @@
 #![tactic(auto)]
 
 mod clauses;
+mod followers;
+mod groups;
 mod head;
 mod models;
 mod patterns;
