@@ -11,6 +11,7 @@ mod clauses;
 mod head;
 mod models;
 mod patterns;
+mod posing;
 mod question;
 mod solver;
 mod tuples;
@@ -18,5 +19,6 @@ mod variables;
 
 pub use models::map_of_model;
 pub use patterns::{Pattern, Patterns};
+pub use posing::pose;
 pub use question::Question;
 pub use solver::{ModelFault, read_map};

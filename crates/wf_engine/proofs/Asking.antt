@@ -1,16 +1,17 @@
--- Runs that write their text in pieces.
-use Rattle.std.proofs.Common.{◌≡◌, ℕ, List, Result, Ok, Err, IsErr, IsErrAnd, refl, ap}
+-- Runs that write their text in pieces, and those that read another source about a task.
+use Rattle.std.proofs.Common.{◌≡◌, ℕ, List, Result, Ok, Err, IsErr, IsErrAnd, Vec, refl, ap, subst}
 use Rattle.wf_model.specs.Task.{Task}
-use Rattle.wf_io.specs.Seen.{Writing}
+use Rattle.wf_io.specs.Seen.{Reading, Writing}
 use Rattle.wf_io.specs.Texts.{WritesText}
 use Rattle.wf_io.specs.declared.sink.WriteFault.{WriteFault}
-use Rattle.wf_complex.specs.Protocol.{Builds}
+use Rattle.wf_complex.specs.Protocol.{Built, Builds}
 use Rattle.wf_complex.specs.declared.fault.BuildFault.{BuildFault}
 use Rattle.wf_complex.specs.declared.fault.BuildFault.TheVariants as build
 use Rattle.wf_engine.specs.Faults.{of_build}
 use Rattle.wf_engine.specs.declared.fault.RunFault.{RunFault}
 use Rattle.wf_engine.specs.declared.fault.RunFault.TheVariants.{Write}
-use Rattle.wf_engine.specs.Run.{Answers, HasComplex, IsBeyondLimits, Ran}
+use Rattle.wf_engine.specs.Run.{Answers, HasComplex, IsBeyondLimits, Ran, answered}
+use Rattle.wf_engine.specs.Sources.{AsksWithin, ReadsAbout}
 use Rattle.wf_engine.specs.Texts.{IsTextOf}
 
 -- a complex that is refused is beyond the limits
@@ -22,6 +23,16 @@ beyond_build t r build.OutOfMemory refused = tt
 -- a refusal that was made to another
 abbrev pub IsRefusal : {X : Type 0} → RunFault → Result X RunFault → Type 0
 IsRefusal e result = IsErr result × IsErrAnd result (λ found. found ≡ e)
+
+module _ (reads : ReadsAbout) (t : Task) (r : ℕ) where
+  -- the complex is refused, and the other source left alone
+  pub unasked : {A : Type 0} (old : Reading) (e : BuildFault) (result : Result (Unit {0} × Vec ℕ A) RunFault) → Builds t r (Err e) → IsRefusal (of_build e) result → AsksWithin reads r t old old (answered result)
+  unasked old e (Ok x) refused is = absurd (let ended = is.0 in let bad : ⊥ = cc in bad)
+  unasked old e (Err found) refused is = (Err (of_build e), beyond_build t r e refused, (ap Err is.1, refl))
+
+  -- the other source is read about the complex of its own rounds
+  pub asked : (b : Built) → Builds t r (Ok b) → (old new : Reading) (result : Result (Unit {0} × List ℕ) RunFault) → reads t b.rounds old new result → AsksWithin reads r t old new result
+  asked b built old new result read = (Ok b, built, subst (λ n. reads t n old new result) built.2.rounds_are read)
 
 module _ (text_of : Task → ℕ → List ℕ) (t : Task) (r : ℕ) (old new : Writing) where
   -- before anything was written

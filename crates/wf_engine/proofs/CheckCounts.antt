@@ -9,8 +9,8 @@ use Rattle.wf_io.specs.declared.source.ReadFault.TheVariants as read
 use Rattle.wf_model.specs.Limits.{most_bytes}
 use Rattle.wf_engine.specs.declared.fault.RunFault.{RunFault}
 use Rattle.wf_engine.specs.declared.fault.RunFault.TheVariants as run
-use Rattle.wf_engine.specs.Run.{Hands, IsTaskOf, Next, Judged, Ran, Reads}
-use Rattle.wf_engine.specs.Laws.{failed_reads, failed_writes, by_result, IsChecked}
+use Rattle.wf_engine.specs.Run.{Hands, IsTaskOf, Next, Judged, Ran, Reads, failed_reads, failed_writes, by_result}
+use Rattle.wf_engine.specs.Laws.{IsChecked}
 use Rattle.wf_engine.specs.Verify.{IsReportOf, IsVerified, IsVerifiedFor, Checks, ChecksFor}
 use Rattle.wf_engine.proofs.Counts.{beyond, few, handed, judged}
 
@@ -38,16 +38,16 @@ verified (Some rounds) is_text t (Ok r) answer (inr (other, is)) w = (sym (ap (b
 verified rounds is_text t (Err e) answer n w = (sym (ap (by_result failed_reads) n), ap (by_result failed_writes) n ∙ w)
 
 -- what a run counts of a source that is read after a step that gave something or was refused
-pub record IsCertCounted {X Y : Type 0} (cert cert' : Reading) (before : Result Y RunFault) (answer : Result (X × List ℕ) RunFault) : Type 0 where
-  pub taken : cert'.taken ≤ cert.taken + (most_bytes + 1)
+pub record IsCertCounted {X Y : Type 0} (most : ℕ) (cert cert' : Reading) (before : Result Y RunFault) (answer : Result (X × List ℕ) RunFault) : Type 0 where
+  pub taken : cert'.taken ≤ cert.taken + (most + 1)
   pub failed : ℕ
   pub failures : cert'.failures ≡ cert.failures + failed
   pub reads : by_result failed_reads before + failed ≡ by_result failed_reads answer
   pub writes : by_result failed_writes answer ≡ 0
 
 -- it was left alone after a refusal
-pub left_alone : {X Y : Type 0} (cert cert' : Reading) (e : RunFault) (answer : Result (X × List ℕ) RunFault) → answer ≡ Err e → cert' ≡ cert → failed_writes e ≡ 0 → IsCertCounted {Y = Y} cert cert' (Err e) answer
-left_alone cert cert' e answer is same w =
+pub left_alone : {X Y : Type 0} (most : ℕ) (cert cert' : Reading) (e : RunFault) (answer : Result (X × List ℕ) RunFault) → answer ≡ Err e → cert' ≡ cert → failed_writes e ≡ 0 → IsCertCounted {Y = Y} most cert cert' (Err e) answer
+left_alone most cert cert' e answer is same w =
     let takes : cert'.taken ≡ cert.taken = ap (λ s. s.taken) same in
     let fails : cert'.failures ≡ cert.failures = ap (λ s. s.failures) same in
     let reads : by_result failed_reads answer ≡ failed_reads e = ap (by_result failed_reads) is in
@@ -60,7 +60,7 @@ left_alone cert cert' e answer is same w =
     }
 
 cert_counted : {X : Type 0} (rounds : Option ℕ) (is_text : Task → Report → X → List ℕ → Type 0) (cert cert' : Reading) (t : Result Task RunFault) (answer : Result (X × List ℕ) RunFault) → ChecksFor rounds is_text cert cert' t answer → by_result failed_writes t ≡ 0
-    → IsCertCounted cert cert' t answer
+    → IsCertCounted most_bytes cert cert' t answer
 cert_counted rounds is_text cert cert' (Ok t) answer (r, (text, (given, gave, is), j), n) w =
     let a = judged_report text r j in
     let b = verified rounds is_text t r answer n a.1 in
@@ -72,12 +72,12 @@ cert_counted rounds is_text cert cert' (Ok t) answer (r, (text, (given, gave, is
       reads = omega (arith, a.0, b.0);
       writes = b.1;
     }
-cert_counted rounds is_text cert cert' (Err e) answer (is, same) w = left_alone cert cert' e answer is same w
+cert_counted rounds is_text cert cert' (Err e) answer (is, same) w = left_alone most_bytes cert cert' e answer is same w
 
 -- a run over a task and another source, whatever it answers
-pub both_counted : {X : Type 0} (task task' cert cert' : Reading) (sink sink' : Writing) (t : Result Task RunFault) (answer : Result (X × List ℕ) RunFault) (result : Result X RunFault)
-    → Reads IsTaskOf task task' t → (by_result failed_writes t ≡ 0 → IsCertCounted cert cert' t answer) → Hands sink sink' answer result → IsChecked task task' cert cert' sink sink' result
-both_counted task task' cert cert' sink sink' t answer result (text, (given, gave, is), j) counted h =
+pub both_counted : {X : Type 0} (most : ℕ) (task task' cert cert' : Reading) (sink sink' : Writing) (t : Result Task RunFault) (answer : Result (X × List ℕ) RunFault) (result : Result X RunFault)
+    → Reads IsTaskOf task task' t → (by_result failed_writes t ≡ 0 → IsCertCounted most cert cert' t answer) → Hands sink sink' answer result → IsChecked most task task' cert cert' sink sink' result
+both_counted most task task' cert cert' sink sink' t answer result (text, (given, gave, is), j) counted h =
     let a = judged text t j in
     let b = counted a.1 in
     let c = handed sink sink' answer result h b.writes in
@@ -92,6 +92,6 @@ both_counted task task' cert cert' sink sink' t answer result (text, (given, gav
 
 -- a run over a task and a report
 pub checked : {X : Type 0} (rounds : Option ℕ) (is_text : Task → Report → X → List ℕ → Type 0) (task task' cert cert' : Reading) (sink sink' : Writing) (result : Result X RunFault)
-    → Ran (Checks rounds is_text task task' cert cert') sink sink' result → IsChecked task task' cert cert' sink sink' result
+    → Ran (Checks rounds is_text task task' cert cert') sink sink' result → IsChecked most_bytes task task' cert cert' sink sink' result
 checked rounds is_text task task' cert cert' sink sink' result (answer, (t, reads, checks), h) =
-    both_counted task task' cert cert' sink sink' t answer result reads (cert_counted rounds is_text cert cert' t answer checks) h
+    both_counted most_bytes task task' cert cert' sink sink' t answer result reads (cert_counted rounds is_text cert cert' t answer checks) h

@@ -14,8 +14,8 @@ use Rattle.wf_engine.specs.declared.fault.RunFault.TheVariants as run
 use Rattle.wf_engine.specs.Faults.{of_task}
 use Rattle.wf_engine.specs.Presets.{IsPreset, WritesPreset}
 use Rattle.wf_preset.specs.declared.named.Preset.{Preset}
-use Rattle.wf_engine.specs.Run.{Next, Judged, IsTaskOf, IsBeyondLimits, Answers, Asks, Hands, Ran}
-use Rattle.wf_engine.specs.Laws.{failed_reads, failed_writes, by_result, IsCounted, IsWritten}
+use Rattle.wf_engine.specs.Run.{Next, Judged, IsTaskOf, IsBeyondLimits, Answers, Asks, Hands, Ran, failed_reads, failed_writes, by_result}
+use Rattle.wf_engine.specs.Laws.{IsCounted, IsWritten}
 
 -- a fault of a task's text counts nowhere
 quiet : (e : TaskFault) → (failed_reads (of_task e) ≡ 0) × (failed_writes (of_task e) ≡ 0)

@@ -12,18 +12,17 @@ use Rattle.wf_formula.specs.Encoding.{least_true}
 use Rattle.wf_formula.specs.SolverText.{stated}
 use Rattle.wf_io.specs.Seen.{Reading}
 use Rattle.wf_complex.specs.Protocol.{Built, Builds}
-use Rattle.wf_complex.specs.declared.fault.BuildFault.{BuildFault}
 use Rattle.wf_report.specs.Reports.{AreNumbered}
 use Rattle.wf_report.specs.declared.fault.CertFault.{CertFault}
 use Rattle.wf_report.specs.declared.fault.CertFault.TheVariants as cert
 use Rattle.wf_check.specs.Faults.{Fails}
-use Rattle.wf_engine.specs.Faults.{of_build, of_cert}
+use Rattle.wf_engine.specs.Faults.{of_cert}
 use Rattle.wf_engine.specs.declared.fault.RunFault.{RunFault}
 use Rattle.wf_engine.specs.Models.{AsksMap, IsMapOf, ReadsMap, ReportsMap}
 use Rattle.wf_engine.specs.Run.{HasComplex, Next, Reads, answered}
 use Rattle.wf_engine.specs.Verify.{IsFaultOf}
 use Rattle.wf_engine.proofs.Written.{points_few}
-use Rattle.wf_engine.proofs.Asking.{IsRefusal, beyond_build}
+use Rattle.wf_engine.proofs.Asking.{IsRefusal, asked}
 
 -- a map has a value for each point
 map_long : (t : Task) (r : ℕ) (old new : Reading) (m : List ℕ) → Reads (IsMapOf t r) old new (Ok m) → length m ≡ length (points t r)
@@ -43,26 +42,20 @@ module _ (t : Task) (r : ℕ) (b : Built) (built : Builds t r (Ok b)) where
       omega (arith, long, few, own_rounds.1)
 
   -- what is made of the map, or why there is none
-  pub asked : (old new : Reading) (m : Result (List ℕ) RunFault) (result : Result (Unit {0} × List ℕ) RunFault) → Reads (IsMapOf t b.rounds) old new m → Next (ReportsMap t b.rounds) m result → AsksMap r t old new result
-  asked old new m result reads next = (Ok b, built, subst (λ n. ReadsMap t n old new result) built.2.rounds_are (m, reads, next))
+  pub mapped : (old new : Reading) (m : Result (List ℕ) RunFault) (result : Result (Unit {0} × List ℕ) RunFault) → Reads (IsMapOf t b.rounds) old new m → Next (ReportsMap t b.rounds) m result → AsksMap r t old new result
+  mapped old new m result reads next = asked ReadsMap t r b built old new result (m, reads, next)
 
-module _ (t : Task) (r : ℕ) where
-  -- the complex is refused, and the output left alone
-  pub unasked : {A : Type 0} (old : Reading) (e : BuildFault) (result : Result (Unit {0} × Vec ℕ A) RunFault) → Builds t r (Err e) → IsRefusal (of_build e) result → AsksMap r t old old (answered result)
-  unasked old e (Ok x) refused is = absurd (let ended = is.0 in let bad : ⊥ = cc in bad)
-  unasked old e (Err found) refused is = (Err (of_build e), beyond_build t r e refused, (ap Err is.1, refl))
+module _ (t : Task) (r : ℕ) (m : List ℕ) where
+  fault_of : (e : CertFault) → HasComplex t r → Fails e (report_fault t r (report_about t r (a_map m))) → IsFaultOf t (report_about t r (a_map m)) (of_cert e)
+  fault_of cert.TooLong has fails = absurd fails
+  fault_of cert.OutOfMemory has fails = tt
+  fault_of e has fails = (has, fails)
 
-  module _ (m : List ℕ) where
-    fault_of : (e : CertFault) → HasComplex t r → Fails e (report_fault t r (report_about t r (a_map m))) → IsFaultOf t (report_about t r (a_map m)) (of_cert e)
-    fault_of cert.TooLong has fails = absurd fails
-    fault_of cert.OutOfMemory has fails = tt
-    fault_of e has fails = (has, fails)
-
-    -- the map is refused
-    pub map_refused : {A : Type 0} (e : CertFault) (result : Result (Unit {0} × Vec ℕ A) RunFault) → HasComplex t r → Fails e (report_fault t r (report_about t r (a_map m))) → IsRefusal (of_cert e) result
-        → ReportsMap t r m (answered result)
-    map_refused e (Ok x) has fails is = absurd (let ended = is.0 in let bad : ⊥ = cc in bad)
-    map_refused e (Err found) has fails is = subst (IsFaultOf t (report_about t r (a_map m))) (sym is.1) (fault_of e has fails)
+  -- the map is refused
+  pub map_refused : {A : Type 0} (e : CertFault) (result : Result (Unit {0} × Vec ℕ A) RunFault) → HasComplex t r → Fails e (report_fault t r (report_about t r (a_map m))) → IsRefusal (of_cert e) result
+      → ReportsMap t r m (answered result)
+  map_refused e (Ok x) has fails is = absurd (let ended = is.0 in let bad : ⊥ = cc in bad)
+  map_refused e (Err found) has fails is = subst (IsFaultOf t (report_about t r (a_map m))) (sym is.1) (fault_of e has fails)
 
 -- a refusal that is passed on
 pub passed : {X A : Type 0} (e : RunFault) (result : Result (X × Vec ℕ A) RunFault) → IsRefusal e result → answered result ≡ Err e

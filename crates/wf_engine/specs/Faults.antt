@@ -13,8 +13,10 @@ use Rattle.wf_report.specs.declared.fault.CertFault.TheVariants as cert
 use Rattle.wf_report.specs.Faults as cert_text
 use Rattle.wf_cnf.specs.declared.solver.ModelFault.{ModelFault}
 use Rattle.wf_cnf.specs.declared.solver.ModelFault.TheVariants as model
+use Rattle.wf_rup.specs.declared.proof.ProofFault.{ProofFault}
+use Rattle.wf_rup.specs.declared.proof.ProofFault.TheVariants as proof
 use Rattle.wf_engine.specs.declared.fault.RunFault.{RunFault}
-use Rattle.wf_engine.specs.declared.fault.RunFault.TheVariants.{TooLong, Task, Build, Cert, Model, OtherRounds, OutOfMemory, Read, Write}
+use Rattle.wf_engine.specs.declared.fault.RunFault.TheVariants.{TooLong, Task, Build, Cert, Model, Proof, OtherRounds, OutOfMemory, Read, Write}
 
 -- a text that is too long is one refusal, and so is out of memory, wherever they came
 abbrev pub of_read : ReadFault → RunFault
@@ -40,12 +42,25 @@ abbrev pub of_model : ModelFault → RunFault
 of_model model.OutOfMemory = OutOfMemory
 of_model e = Model e
 
+abbrev pub of_proof : ProofFault → RunFault
+of_proof proof.OutOfMemory = OutOfMemory
+of_proof e = Proof e
+
 -- what is printed of a solver's text that gives no map
 abbrev pub model_text : ModelFault → List ℕ
 model_text (model.NoModel line) = codes "37 NoModel " ++ decimal line
 model_text (model.NotALiteral line) = codes "38 NotALiteral " ++ decimal line
 model_text (model.NoSuchVariable line) = codes "39 NoSuchVariable " ++ decimal line
 model_text model.OutOfMemory = task_text.fault_text task.OutOfMemory
+
+-- what is printed of a clausal proof that is not accepted
+abbrev pub proof_text : ProofFault → List ℕ
+proof_text (proof.NotALiteral line) = codes "38 NotALiteral " ++ decimal line
+proof_text (proof.NoSuchVariable line) = codes "39 NoSuchVariable " ++ decimal line
+proof_text (proof.NotImplied line) = codes "40 NotImplied " ++ decimal line
+proof_text (proof.NoContradiction line) = codes "41 NoContradiction " ++ decimal line
+proof_text proof.Binary = codes "42 Binary: ask the solver for text by --no-binary"
+proof_text proof.OutOfMemory = task_text.fault_text task.OutOfMemory
 
 -- each part owns the numbers and the names of its own refusals
 abbrev pub fault_text : RunFault → List ℕ
@@ -55,6 +70,7 @@ fault_text OutOfMemory = task_text.fault_text task.OutOfMemory
 fault_text (Build e) = build_text.fault_text e
 fault_text (Cert e) = cert_text.fault_text e
 fault_text (Model e) = model_text e
+fault_text (Proof e) = proof_text e
 fault_text OtherRounds = codes "36 OtherRounds"
 fault_text Read = codes "30 Read"
 fault_text Write = codes "31 Write"

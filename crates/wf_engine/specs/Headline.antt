@@ -1,10 +1,10 @@
 -- What is answered, accepted and told, and of which bytes: in the field's words alone.
-use Rattle.std.specs.Prelude.{◌≡◌, ℕ, List, Option, None, Some, Ok}
+use Rattle.std.specs.Prelude.{◌≡◌, ℕ, List, [], Option, None, Some, Ok}
 use Rattle.wf_model.specs.Task.{Task}
 use Rattle.wf_model.specs.View.{View}
 use Rattle.wf_model.specs.DecisionMap.{HasNoDecisionMap, IsDecisionMap, IsLeast, listed}
 use Rattle.wf_model.specs.Refutation.{Line}
-use Rattle.wf_model.specs.Report.{Body, a_map}
+use Rattle.wf_model.specs.Report.{Body, a_map, none}
 use Rattle.wf_model.specs.PointsText.{points_text}
 use Rattle.wf_core.specs.declared.Account.{Account}
 use Rattle.wf_io.specs.Seen.{Reading, Writing}
@@ -17,6 +17,7 @@ use Rattle.wf_engine.specs.declared.outcome.Outcome.TheVariants.{Map, Nothing}
 use Rattle.wf_engine.specs.declared.outcome.Accepted.{Accepted}
 use Rattle.wf_engine.specs.Texts.{Solves, map_body, none_body, text_of_report}
 use Rattle.wf_engine.specs.Models.{Models}
+use Rattle.wf_engine.specs.Proofs.{Refutes}
 use Rattle.wf_engine.specs.Verify.{Decides, Verifies, accepted_of, accepted_text, values_of}
 
 -- the source gave the bytes of this task
@@ -79,3 +80,13 @@ ModelsAreTrue =
     → Models rounds task task' output output' sink sink' (Ok tt)
     → (t : Task) × (m : View → ℕ) × GaveTask task task' t × IsDecisionMap t rounds m
     × Took sink sink' (text_of_report t rounds (a_map (listed t rounds m))) 0
+
+-- ---- what a solver's proof shows
+
+-- where it is accepted, the source of the task gave its bytes, no function on the views is a decision map, and the sink took the
+-- line that says so for these rounds
+abbrev pub RefutationsAreTrue : Type 0
+RefutationsAreTrue =
+    (rounds : ℕ) (task task' proof proof' : Reading) (sink sink' : Writing)
+    → Refutes rounds task task' proof proof' sink sink' (Ok tt)
+    → (t : Task) × GaveTask task task' t × HasNoDecisionMap t rounds × Took sink sink' (accepted_text (Some rounds) (none [])) 0

@@ -12,28 +12,15 @@ use Rattle.wf_engine.specs.declared.outcome.Accepted.TheVariants as accepted
 use Rattle.wf_report.specs.declared.form.Form.{Form}
 use Rattle.wf_report.specs.declared.form.Form.TheVariants as form
 use Rattle.wf_engine.specs.declared.fault.RunFault.{RunFault}
-use Rattle.wf_engine.specs.declared.fault.RunFault.TheVariants.{OutOfMemory, Read, Write}
+use Rattle.wf_engine.specs.declared.fault.RunFault.TheVariants.{OutOfMemory, Write}
 use Rattle.wf_preset.specs.declared.named.Preset.{Preset}
-use Rattle.wf_engine.specs.Run.{HasComplex}
+use Rattle.wf_engine.specs.Run.{HasComplex, by_result, failed_reads, failed_writes}
 use Rattle.wf_engine.specs.Presets.{WritesPreset}
 use Rattle.wf_engine.specs.Texts.{IsSolved, Solves, Lists}
 use Rattle.wf_engine.specs.Verify.{ChecksText, Decides, Verifies}
 use Rattle.wf_engine.specs.Models.{Models}
+use Rattle.wf_engine.specs.Proofs.{Refutes, most_proof_bytes}
 use Rattle.wf_engine.specs.Headline.{GaveTask}
-
--- how many reads, and how many writes, failed by a refusal
-abbrev pub failed_reads : RunFault → ℕ
-failed_reads Read = 1
-failed_reads e = 0
-
-abbrev pub failed_writes : RunFault → ℕ
-failed_writes Write = 1
-failed_writes e = 0
-
--- how many of something there were by a result
-abbrev pub by_result : {X : Type 0} → (RunFault → ℕ) → Result X RunFault → ℕ
-by_result count (Ok x) = 0
-by_result count (Err e) = count e
 
 -- At most one byte more than a text may have is taken. A failed read is told by 30 and nothing else is, and a failed
 -- write by 31. After any other refusal the sink is as it was.
@@ -64,7 +51,7 @@ PresetsAreCounted =
     (preset : Preset) (sink sink' : Writing) (result : Result (Unit {0}) RunFault)
     → WritesPreset preset sink sink' result → IsWritten sink sink' result
 
--- so many reads of a task's source and of a report's source failed, which is told
+-- so many reads of a task's source and of another one failed, which is told
 pub record AreCounted (task task' cert cert' : Reading) (failed : ℕ) : Type 0 where
   pub of_task : ℕ
   pub of_cert : ℕ
@@ -72,10 +59,10 @@ pub record AreCounted (task task' cert cert' : Reading) (failed : ℕ) : Type 0 
   pub cert_failures : cert'.failures ≡ cert.failures + of_cert
   pub all : of_task + of_cert ≡ failed
 
--- The same over two sources, a task's and a report's: a failed read of either is told by 30.
-pub record IsChecked {X : Type 0} (task task' cert cert' : Reading) (sink sink' : Writing) (result : Result X RunFault) : Type 0 where
+-- The same over two sources, a task's and another one, whose text may have `most` bytes: a failed read of either is told by 30.
+pub record IsChecked {X : Type 0} (most : ℕ) (task task' cert cert' : Reading) (sink sink' : Writing) (result : Result X RunFault) : Type 0 where
   pub task_taken : task'.taken ≤ task.taken + (most_bytes + 1)
-  pub cert_taken : cert'.taken ≤ cert.taken + (most_bytes + 1)
+  pub cert_taken : cert'.taken ≤ cert.taken + (most + 1)
   pub reads : AreCounted task task' cert cert' (by_result failed_reads result)
   pub writes : sink'.failures ≡ sink.failures + by_result failed_writes result
   pub unwritten : IfErr result (λ e. e ≢ Write → sink' ≡ sink)
@@ -83,17 +70,22 @@ pub record IsChecked {X : Type 0} (task task' cert cert' : Reading) (sink sink' 
 abbrev pub VerifyingIsCounted : Type 0
 VerifyingIsCounted =
     (rounds : Option ℕ) (task task' cert cert' : Reading) (sink sink' : Writing) (result : Result Accepted RunFault)
-    → Verifies rounds task task' cert cert' sink sink' result → IsChecked task task' cert cert' sink sink' result
+    → Verifies rounds task task' cert cert' sink sink' result → IsChecked most_bytes task task' cert cert' sink sink' result
 
 abbrev pub DecidingIsCounted : Type 0
 DecidingIsCounted =
     (task task' cert cert' : Reading) (sink sink' : Writing) (result : Result (Unit {0}) RunFault)
-    → Decides task task' cert cert' sink sink' result → IsChecked task task' cert cert' sink sink' result
+    → Decides task task' cert cert' sink sink' result → IsChecked most_bytes task task' cert cert' sink sink' result
 
 abbrev pub ModellingIsCounted : Type 0
 ModellingIsCounted =
     (rounds : ℕ) (task task' output output' : Reading) (sink sink' : Writing) (result : Result (Unit {0}) RunFault)
-    → Models rounds task task' output output' sink sink' result → IsChecked task task' output output' sink sink' result
+    → Models rounds task task' output output' sink sink' result → IsChecked most_bytes task task' output output' sink sink' result
+
+abbrev pub ProvingIsCounted : Type 0
+ProvingIsCounted =
+    (rounds : ℕ) (task task' proof proof' : Reading) (sink sink' : Writing) (result : Result (Unit {0}) RunFault)
+    → Refutes rounds task task' proof proof' sink sink' result → IsChecked most_proof_bytes task task' proof proof' sink sink' result
 
 -- the answer of a check says what the search found, or memory ran out
 abbrev pub Accepts : Accepted → Result (Accepted × List ℕ) RunFault → Type 0

@@ -3,10 +3,10 @@ use Rattle.std.specs.Prelude.{◌≡◌, ℕ, List, Result, Ok, Err, Vec}
 use Rattle.wf_model.specs.Task.{Task}
 use Rattle.wf_model.specs.Report.{Report, a_map, report_about, report_text}
 use Rattle.wf_io.specs.Seen.{Reading, Writing}
-use Rattle.wf_complex.specs.Protocol.{Built, Builds}
 use Rattle.wf_cnf.specs.Models.{IsMapOfModel}
 use Rattle.wf_cnf.specs.declared.solver.ModelFault.TheVariants as model
-use Rattle.wf_engine.specs.Run.{IsBeyondLimits, IsTaskOf, Next, Ran, Reads}
+use Rattle.wf_engine.specs.Run.{Next, Ran, Reads}
+use Rattle.wf_engine.specs.Sources.{AsksBoth, AsksWithin}
 use Rattle.wf_engine.specs.Verify.{IsVerified}
 use Rattle.wf_engine.specs.declared.fault.RunFault.{RunFault}
 use Rattle.wf_engine.specs.declared.fault.RunFault.TheVariants.{Model, OutOfMemory}
@@ -31,25 +31,13 @@ ReportsMap t r m result = IsVerified IsReportText t (report_about t r (a_map m))
 abbrev pub ReadsMap : Task → ℕ → Reading → Reading → Result (Unit {0} × List ℕ) RunFault → Type 0
 ReadsMap t r old new result = (m : Result (List ℕ) RunFault) × Reads (IsMapOf t r) old new m × Next (ReportsMap t r) m result
 
--- the next step, which reads a source; after a refusal it is left alone
-abbrev pub NextReads : {X Y : Type 0} → (X → Reading → Reading → Result Y RunFault → Type 0) → Reading → Reading → Result X RunFault → Result Y RunFault → Type 0
-NextReads step old new (Ok x) result = step x old new result
-NextReads step old new (Err e) result = (result ≡ Err e) × (new ≡ old)
-
--- the protocol complex of a task after r rounds, or why there is none
-abbrev pub IsComplexOf : Task → ℕ → Result Built RunFault → Type 0
-IsComplexOf t r (Ok b) = Builds t r (Ok b)
-IsComplexOf t r (Err e) = IsBeyondLimits t r e
-
 -- the limits are judged before the model is read
 abbrev pub AsksMap : ℕ → Task → Reading → Reading → Result (Unit {0} × List ℕ) RunFault → Type 0
-AsksMap r t old new result =
-    (built : Result Built RunFault) × IsComplexOf t r built × NextReads (λ b. ReadsMap t r) old new built result
+AsksMap r t old new result = AsksWithin ReadsMap r t old new result
 
 -- the task is read before that
 abbrev pub AsksModel : ℕ → Reading → Reading → Reading → Reading → Result (Unit {0} × List ℕ) RunFault → Type 0
-AsksModel r task task' output output' result =
-    (t : Result Task RunFault) × Reads IsTaskOf task task' t × NextReads (AsksMap r) output output' t result
+AsksModel r task task' output output' result = AsksBoth ReadsMap r task task' output output' result
 
 -- The map of the model that a solver's output says was checked about the task of another source and r rounds, and its report
 -- was written.

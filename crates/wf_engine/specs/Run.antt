@@ -11,12 +11,26 @@ use Rattle.wf_complex.specs.Protocol.{Built, Builds}
 use Rattle.wf_complex.specs.declared.fault.BuildFault.TheVariants as build
 use Rattle.wf_engine.specs.Faults.{of_read, of_task}
 use Rattle.wf_engine.specs.declared.fault.RunFault.{RunFault}
-use Rattle.wf_engine.specs.declared.fault.RunFault.TheVariants.{Build, OutOfMemory, Write}
+use Rattle.wf_engine.specs.declared.fault.RunFault.TheVariants.{Build, OutOfMemory, Read, Write}
 
 -- the next step, after one that gave something or was refused
 abbrev pub Next : {X Y : Type 0} → (X → Result Y RunFault → Type 0) → Result X RunFault → Result Y RunFault → Type 0
 Next step (Ok x) result = step x result
 Next step (Err e) result = result ≡ Err e
+
+-- how many reads, and how many writes, failed by a refusal
+abbrev pub failed_reads : RunFault → ℕ
+failed_reads Read = 1
+failed_reads e = 0
+
+abbrev pub failed_writes : RunFault → ℕ
+failed_writes Write = 1
+failed_writes e = 0
+
+-- how many of something there were by a result
+abbrev pub by_result : {X : Type 0} → (RunFault → ℕ) → Result X RunFault → ℕ
+by_result count (Ok x) = 0
+by_result count (Err e) = count e
 
 -- ---- from a source to an answer
 

@@ -1,7 +1,7 @@
 //! Why a run is refused.
 
 ghost use Rattle.std.specs.Prelude.{◌≡◌, Some};
-ghost use Rattle.wf_engine.specs.Faults.{of_read, of_task, of_build, of_cert, of_model, fault_text};
+ghost use Rattle.wf_engine.specs.Faults.{of_read, of_task, of_build, of_cert, of_model, of_proof, fault_text};
 ghost use Rattle.wf_engine.specs.declared.fault.RunFault.TheVariants.{OutOfMemory, Write};
 
 use std::alloc::AllocError;
@@ -10,6 +10,7 @@ use wf_cnf::ModelFault;
 use wf_complex::BuildFault;
 use wf_io::{ReadFault, WriteFault};
 use wf_report::CertFault;
+use wf_rup::ProofFault;
 use wf_task::TaskFault;
 
 /// Why a run is refused.
@@ -25,6 +26,8 @@ pub enum RunFault {
     Cert(CertFault),
     /// 37 to 39: the text says no model of the task's question.
     Model(ModelFault),
+    /// 38 to 42: the text is no clausal proof that the task has no decision map.
+    Proof(ProofFault),
     /// 36: the report is about other rounds than were asked for.
     OtherRounds,
     /// 15: memory ran out.
@@ -52,6 +55,20 @@ impl fmt::Display for RunFault {
                 write!(f, "39 NoSuchVariable {line}")
             }
             RunFault::Model(ModelFault::OutOfMemory) => { write!(f, "{}", TaskFault::OutOfMemory) }
+            RunFault::Proof(ProofFault::NotALiteral { line }) => {
+                write!(f, "38 NotALiteral {line}")
+            }
+            RunFault::Proof(ProofFault::NoSuchVariable { line }) => {
+                write!(f, "39 NoSuchVariable {line}")
+            }
+            RunFault::Proof(ProofFault::NotImplied { line }) => write!(f, "40 NotImplied {line}"),
+            RunFault::Proof(ProofFault::NoContradiction { line }) => {
+                write!(f, "41 NoContradiction {line}")
+            }
+            RunFault::Proof(ProofFault::Binary) => {
+                write!(f, "42 Binary: ask the solver for text by --no-binary")
+            }
+            RunFault::Proof(ProofFault::OutOfMemory) => { write!(f, "{}", TaskFault::OutOfMemory) }
             RunFault::OtherRounds => write!(f, "36 OtherRounds"),
             RunFault::OutOfMemory => write!(f, "{}", TaskFault::OutOfMemory),
             RunFault::Read => write!(f, "30 Read"),
@@ -116,6 +133,17 @@ impl From<ModelFault> for RunFault {
         match fault {
             ModelFault::OutOfMemory => RunFault::OutOfMemory,
             fault => RunFault::Model(fault),
+        }
+    }
+}
+
+impl From<ProofFault> for RunFault {
+    ghost from_gives = { λ x e. e ≡ of_proof x };
+
+    fn from(fault: ProofFault) -> RunFault {
+        match fault {
+            ProofFault::OutOfMemory => RunFault::OutOfMemory,
+            fault => RunFault::Proof(fault),
         }
     }
 }

@@ -1,7 +1,7 @@
 //! Laws of runs: that what they say is true, and what holds after each, whatever it answers.
 
-ghost use Rattle.wf_engine.specs.Headline.{AcceptancesAreTrue, AnswersAreTrue, DecisionsAreTrue, ModelsAreTrue};
-ghost use Rattle.wf_engine.specs.Laws.{DecidingIsCounted, ListingIsCounted, ModellingIsCounted, ModelsAreAccepted, PresetsAreCounted, SolvedReportsAreAccepted, SolvingIsCounted, VerifyingIsCounted};
+ghost use Rattle.wf_engine.specs.Headline.{AcceptancesAreTrue, AnswersAreTrue, DecisionsAreTrue, ModelsAreTrue, RefutationsAreTrue};
+ghost use Rattle.wf_engine.specs.Laws.{DecidingIsCounted, ListingIsCounted, ModellingIsCounted, ModelsAreAccepted, PresetsAreCounted, ProvingIsCounted, SolvedReportsAreAccepted, SolvingIsCounted, VerifyingIsCounted};
 
 /// What a search writes is true: the source gave the bytes of a task, and the sink took the report of its least decision map
 /// over the points after so many rounds; or a report that there is none, and then no function on the views is a decision map.
@@ -24,6 +24,12 @@ pub fn decisions_are_true()
 /// decision map, whatever the solver wrote.
 pub fn models_are_true()
     ensures { ModelsAreTrue }
+{}
+
+/// What is accepted for a SAT solver's proof is true: the source of the task gave its bytes, no function on the views is a
+/// decision map, and the sink took the line that says so, whatever the proof's bytes are.
+pub fn refutations_are_true()
+    ensures { RefutationsAreTrue }
 {}
 
 /// A search takes at most one byte more than a text may have, tells each failed call, and writes nothing where it is
@@ -54,6 +60,12 @@ pub fn deciding_is_counted()
 /// and writes nothing where it is refused for anything but a failed write.
 pub fn modelling_is_counted()
     ensures { ModellingIsCounted }
+{}
+
+/// A check of a proof takes at most one byte more than a text may have of the task's source, and one more than a proof may
+/// have of the proof's, tells each failed call, and writes nothing where it is refused for anything but a failed write.
+pub fn proving_is_counted()
+    ensures { ProvingIsCounted }
 {}
 
 /// The writing of a preset tells a failed write, tells no failed read, and writes nothing where it is refused for anything

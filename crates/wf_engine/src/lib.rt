@@ -8,6 +8,7 @@
 //! - [`run_verify`]: a task's text and a report's in, and what is accepted out.
 //! - [`run_decisions`]: the same, and what the report's map decides at each point out.
 //! - [`run_model`]: a task's text and a SAT solver's output in, and the report of the map that the solver's model gives out.
+//! - [`run_proof`]: a task's text and a SAT solver's clausal proof in, and that no decision map is accepted out.
 //! - [`run_preset`]: the canonical text of a [`Preset`] out.
 //! - [`hand_out`]: the last step of each run, for a text that is had without one.
 //! - [`RunFault`]: why a run is refused, with its number and its name.
@@ -15,7 +16,8 @@
 //! Each engine has one condition, that source and sink can count what it asks of them, and one relation that says what
 //! it read, answered and wrote (`specs/Texts.antt`, step by step in `specs/Run.antt`). The laws say what follows from
 //! the relation alone: first of all that what is answered, accepted and told is true ([`answers_are_true`],
-//! [`acceptances_are_true`], [`decisions_are_true`], [`models_are_true`], stated alone in `specs/Headline.antt`).
+//! [`acceptances_are_true`], [`decisions_are_true`], [`models_are_true`], [`refutations_are_true`], stated alone in
+//! `specs/Headline.antt`).
 #![tactic(auto)]
 
 mod cnf;
@@ -26,6 +28,7 @@ mod model;
 mod outcome;
 mod points;
 mod preset;
+mod proof;
 mod solve;
 mod steps;
 mod verify;
@@ -37,12 +40,14 @@ pub use fault::RunFault;
 pub use laws::{
     acceptances_are_true, answers_are_true, deciding_is_counted, decisions_are_true,
     listing_is_counted, modelling_is_counted, models_are_accepted, models_are_true,
-    presets_are_counted, solved_reports_are_accepted, solving_is_counted, verifying_is_counted,
+    presets_are_counted, proving_is_counted, refutations_are_true, solved_reports_are_accepted,
+    solving_is_counted, verifying_is_counted,
 };
 pub use model::run_model;
 pub use outcome::{Accepted, Outcome};
 pub use points::run_points;
 pub use preset::run_preset;
+pub use proof::{MOST_PROOF_BYTES, run_proof};
 pub use solve::{run_solve, run_solve_one, run_solve_watched};
 pub use steps::hand_out;
 pub use verify::run_verify;

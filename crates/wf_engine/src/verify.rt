@@ -148,7 +148,11 @@ fn accepted_words(body: &Body) -> &'static str
 }
 
 /// The line that tells that a report with this answer is accepted, and for how many rounds, where these were asked for.
-fn accepted_text(alloc: Global, body: &Body, rounds: Option<u32>) -> Result<String, AllocError>
+pub(crate) fn accepted_text(
+    alloc: Global,
+    body: &Body,
+    rounds: Option<u32>,
+) -> Result<String, AllocError>
     ensures { IfOk result
         (λ text. string_bytes text ≡ accepted_text rounds (body_of body.now)) }
 {
