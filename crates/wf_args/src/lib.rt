@@ -23,6 +23,10 @@ use wf_report::Form;
 const KINDS: &str =
     "Kinds:\n  set-agreement  Each process decides the input of some participant, and at most K different values are\n                 decided (k-set agreement: Chaudhuri 1993)\n  renaming       The processes decide different names (Attiya, Bar-Noy, Dolev, Peleg and Reischuk 1990)";
 
+/// What the help of `proof` says of the texts.
+const PROOFS: &str =
+    "The proof is DRAT as text, as CaDiCaL and Kissat write it with --no-binary: lemmas and deletions. Each lemma has to\nfollow by unit propagation from the formula and the lemmas before it, and the contradiction at last. Then the\ntask has no decision map after these rounds, whatever the solver did, and the answer is: accepted none at R rounds.\nA proof is refused where a lemma does not follow so, which those that need RAT do not, or where it ends too soon.";
+
 /// A command, with its options.
 #[derive(Debug, Drop)]
 pub enum Job {
@@ -63,6 +67,13 @@ pub enum Job {
     },
     /// Check the model that a solver found of such a formula, and report its decision map.
     Model {
+        /// The file that has the task.
+        task: String,
+        /// How many rounds.
+        rounds: u32,
+    },
+    /// Check a solver's clausal proof that such a formula has no model, so that the task has no decision map.
+    Proof {
         /// The file that has the task.
         task: String,
         /// How many rounds.
@@ -247,6 +258,20 @@ fn model_command<'a>(alloc: Global) -> Result<Command<'a>, AllocError> {
         ))
 }
 
+fn proof_command<'a>(alloc: Global) -> Result<Command<'a>, AllocError> {
+    Command::new(alloc, "proof")
+        .about(
+            "Read a SAT solver's proof that the question that cnf writes has no model, and check it: there is no decision map",
+        )
+        .after_help(PROOFS)
+        .arg(task_file(alloc, "The file that has the task").required(true))?
+        .arg(number(
+            alloc,
+            "rounds",
+            "How many rounds of immediate snapshots, 0 to 8",
+        ))
+}
+
 fn preset_command<'a>(alloc: Global) -> Result<Command<'a>, AllocError> {
     let kind = Arg::new(alloc, "kind")
         .value_name("KIND")
@@ -287,6 +312,7 @@ fn whole_command<'a>(alloc: Global) -> Result<Command<'a>, AllocError> {
         .subcommand(points_command(alloc)?)?
         .subcommand(cnf_command(alloc)?)?
         .subcommand(model_command(alloc)?)?
+        .subcommand(proof_command(alloc)?)?
         .subcommand(preset_command(alloc)?)
 }
 
@@ -366,6 +392,20 @@ fn model_job(alloc: Global, found: &ArgMatches<'_>) -> Result<Job, WordsFault>
     }
 }
 
+/// The job of `proof`.
+fn proof_job(alloc: Global, found: &ArgMatches<'_>) -> Result<Job, WordsFault>
+    ensures ok { IfOk result CanBeDone }
+    ensures err { IfErr result HidesNoWantOfMemory }
+{
+    match (found.get_str("task"), found.get_one::<u32>("rounds")) {
+        (Some(task), Some(rounds)) => Ok(Job::Proof {
+            task: String::from_str(alloc, task)?,
+            rounds,
+        }),
+        _ => Err(WordsFault::Words),
+    }
+}
+
 /// The job of `preset`.
 fn preset_job(found: &ArgMatches<'_>) -> Option<Job>
     ensures { IfSome result CanBeDone }
@@ -404,6 +444,7 @@ pub fn read_words(alloc: Global, words: &[String]) -> Result<Job, WordsFault>
         Some(("points", inner)) => points_job(alloc, inner),
         Some(("cnf", inner)) => cnf_job(inner).ok_or(WordsFault::Words),
         Some(("model", inner)) => model_job(alloc, inner),
+        Some(("proof", inner)) => proof_job(alloc, inner),
         Some(("preset", inner)) => preset_job(inner).ok_or(WordsFault::Words),
         _ => Err(WordsFault::Words),
     }

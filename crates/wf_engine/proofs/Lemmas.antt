@@ -1,4 +1,5 @@
 -- What the crates above may use of these proofs.
 pub use Rattle.wf_engine.proofs.CheckCounts.{checked}
 pub use Rattle.wf_engine.proofs.ModelCounts.{modelled}
+pub use Rattle.wf_engine.proofs.ProofCounts.{proved}
 pub use Rattle.wf_engine.proofs.Counts.{counted, handed, preset_counted}

@@ -4,8 +4,9 @@ use Rattle.std.specs.declared.alloc.Global.{Global}
 use Rattle.wf_model.specs.Limits.{most_bytes}
 use Rattle.wf_core.specs.declared.Account.{Account}
 use Rattle.wf_io.specs.Seen.{Reading, Writing}
+use Rattle.wf_engine.specs.Proofs.{most_proof_bytes}
 use Rattle.wf_args.specs.declared.Job.{Job}
-use Rattle.wf_args.specs.declared.Job.TheVariants.{Verify, Decisions, Model}
+use Rattle.wf_args.specs.declared.Job.TheVariants.{Verify, Decisions, Model, Proof}
 use Rattle.wf_args.specs.declared.WordsFault.{WordsFault}
 use Rattle.wf_program.specs.Files.{Filing, Opens}
 use Rattle.wf_program.specs.Program.{IsAsked, Serves, TellsAccount}
@@ -15,7 +16,13 @@ abbrev pub file_count : Result Job WordsFault → ℕ
 file_count (Ok (Verify task rounds)) = 1
 file_count (Ok (Decisions task)) = 1
 file_count (Ok (Model task rounds)) = 1
+file_count (Ok (Proof task rounds)) = 1
 file_count asked = 0
+
+-- how many bytes the text may have that a job reads of the source
+abbrev pub most_read : Result Job WordsFault → ℕ
+most_read (Ok (Proof task rounds)) = most_proof_bytes
+most_read asked = most_bytes
 
 -- how many calls failed, by the status
 abbrev pub failed_calls : ℕ → ℕ
@@ -38,13 +45,13 @@ pub record IsFiled {F : Type 0} (asked : Result Job WordsFault) (folder folder' 
   pub failures : folder'.failures + file_count asked * kept_failures folder'.kept ≡ folder.failures + failed
 
 -- The status is at most 4, and 4 exactly where one call of the source, the sink, the folder or the file that it opened
--- failed. At most one byte more than a text may have is taken. At 0 and 1 nothing is told but an account, and nothing is
--- written at 2 and 3.
+-- failed. At most one byte more is taken than the text may have that the job reads. At 0 and 1 nothing is told but an account,
+-- and nothing is written at 2 and 3.
 pub record IsServed {F : Type 0} (asked : Result Job WordsFault) (folder folder' : Filing F) (source source' : Reading) (sink sink' errors errors' : Writing) (status : ℕ) : Type 0 where
   pub most : status ≤ 4
   pub files : (failed : ℕ) × IsFiled asked folder folder' failed
       × (source'.failures + sink'.failures + failed ≡ (source.failures + sink.failures) + failed_calls status)
-  pub taken : source'.taken ≤ source.taken + (most_bytes + 1)
+  pub taken : source'.taken ≤ source.taken + (most_read asked + 1)
   pub quiet : status ≤ 1 → (account : Option Account) × TellsAccount errors errors' account
   pub unwritten : (status ≡ 2) ⊎ (status ≡ 3) → sink' ≡ sink
 

@@ -19,10 +19,11 @@ use Rattle.wf_engine.specs.Run.{Ran}
 use Rattle.wf_engine.specs.Texts.{Solves, Lists, SearchesInOrder, undecided_points}
 use Rattle.wf_engine.specs.Verify.{Verifies, Decides}
 use Rattle.wf_engine.specs.Models.{Models}
+use Rattle.wf_engine.specs.Proofs.{Refutes}
 use Rattle.wf_engine.specs.Presets.{WritesPreset}
 use Rattle.wf_args.specs.Job.{CanBeDone, HidesNoWantOfMemory}
 use Rattle.wf_args.specs.declared.Job.{Job}
-use Rattle.wf_args.specs.declared.Job.TheVariants.{Solve, Verify, Views, Points, Cnf, Model, Decisions, Preset}
+use Rattle.wf_args.specs.declared.Job.TheVariants.{Solve, Verify, Views, Points, Cnf, Model, Proof, Decisions, Preset}
 use Rattle.wf_args.specs.declared.WordsFault.{WordsFault}
 use Rattle.wf_args.specs.declared.WordsFault.TheVariants as fault
 use Rattle.wf_program.specs.Files.{Opening, Opens, opened, refused, Filing, CanAsk, after_asking, unread}
@@ -121,6 +122,9 @@ Does opens (Cnf rounds) folder folder' source source' sink sink' done =
     × (folder' ≡ folder) × (done ≡ written result)
 Does opens (Model task rounds) folder folder' source source' sink sink' done =
     (result : Result (Unit {0}) RunFault) × WithFile (opens (string_bytes task)) (Models rounds) folder folder' source source' sink sink' result
+    × (done ≡ written result)
+Does opens (Proof task rounds) folder folder' source source' sink sink' done =
+    (result : Result (Unit {0}) RunFault) × WithFile (opens (string_bytes task)) (Refutes rounds) folder folder' source source' sink sink' result
     × (done ≡ written result)
 Does opens (Decisions task) folder folder' source source' sink sink' done =
     (result : Result (Unit {0}) RunFault) × WithFile (opens (string_bytes task)) Decides folder folder' source source' sink sink' result

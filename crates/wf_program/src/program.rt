@@ -5,6 +5,7 @@ ghost use Rattle.wf_model.specs.Limits.{most_workers};
 ghost use Rattle.wf_io.specs.Ends.{CanCount, CanWrite};
 ghost use Rattle.wf_engine.specs.Texts.{SearchesInOrder, Solves};
 ghost use Rattle.wf_engine.specs.Models.{Models};
+ghost use Rattle.wf_engine.specs.Proofs.{Refutes};
 ghost use Rattle.wf_engine.specs.Verify.{Decides, Verifies};
 ghost use Rattle.wf_args.specs.Job.{CanBeDone};
 ghost use Rattle.wf_program.specs.Files.{CanAsk};
@@ -23,7 +24,7 @@ use wf_args::{Job, WordsFault, read_words};
 use wf_core::Account;
 use wf_engine::{
     Accepted, Form, Outcome, RunFault, hand_out, run_cnf, run_decisions, run_model, run_points,
-    run_preset, run_solve, run_solve_watched, run_verify, run_views,
+    run_preset, run_proof, run_solve, run_solve_watched, run_verify, run_views,
 };
 use wf_io::{Sink, Source};
 use wf_pool::Gate;
@@ -31,9 +32,10 @@ use wf_pool::Gate;
 /// Runs what the words ask for, the first of which is the program's own name, and answers the exit status. Where the
 /// words could not be had, that is the refusal.
 ///
-/// 0: a map was found, a report is accepted, or the text was written. 1: there is no map. 2: the task, the rounds, the
-/// report or the words are refused. 3: memory ran out. 4: a read or a write failed, or a file could not be opened. A
-/// refusal is one line on `errors`, and so is the account of a search that was not refused, where the words ask for it.
+/// 0: a map was found, a report or a proof is accepted, or the text was written. 1: there is no map. 2: the task, the
+/// rounds, the report, the proof or the words are refused. 3: memory ran out. 4: a read or a write failed, or a file could
+/// not be opened. A refusal is one line on `errors`, and so is the account of a search that was not refused, where the
+/// words ask for it.
 ///
 /// Where the words ask for progress, the gate is told of a search by several workers, while it goes on. What a gate does
 /// with that is the caller's: what it writes is no part of `errors`.
@@ -101,6 +103,9 @@ fn do_job<T: Threads + Sync, F: Files, G: Gate, R: Read, W: Write>(
         Job::Cnf { rounds } => after_writing(run_cnf(alloc, source, sink, *rounds)),
         Job::Model { task, rounds } => {
             after_writing(report_file(rt, alloc, folder, task, source, sink, *rounds))
+        }
+        Job::Proof { task, rounds } => {
+            after_writing(refute_file(alloc, folder, task, source, sink, *rounds))
         }
         Job::Decisions { task } => {
             after_writing(decide_file(rt, alloc, folder, task, source, sink))
@@ -176,6 +181,31 @@ fn report_file<T: Threads + Sync, F: Files, R: Read, W: Write>(
     match folder.open(path) {
         Some(mut file) => {
             let found = run_model(rt, alloc, &mut file, source, sink, rounds);
+            folder.keep(file);
+            found
+        }
+        None => Err(RunFault::Read),
+    }
+}
+
+/// Checks the source's proof that the task in a file, whose source is kept, has no decision map after some rounds. A file
+/// that can't be opened is a failed read.
+fn refute_file<F: Files, R: Read, W: Write>(
+    alloc: Global,
+    folder: &mut Folder<F>,
+    path: &str,
+    source: &mut Source<R>,
+    sink: &mut Sink<W>,
+    rounds: u32,
+) -> Result<(), RunFault>
+    requires files { CanAsk folder.old }
+    requires ends { CanCount source.old sink.old }
+    ensures { WithFile (F.opens folder.old.files path.now) (Refutes rounds) folder.old folder.new
+        source.old source.new sink.old sink.new result }
+{
+    match folder.open(path) {
+        Some(mut file) => {
+            let found = run_proof(alloc, &mut file, source, sink, rounds);
             folder.keep(file);
             found
         }

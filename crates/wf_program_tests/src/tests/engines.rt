@@ -11,12 +11,13 @@ use wf_cnf::ModelFault;
 use wf_complex::BuildFault;
 use wf_core::Account;
 use wf_engine::{
-    Accepted, Form, Outcome, RunFault, run_cnf, run_decisions, run_model, run_points, run_solve,
-    run_solve_one, run_verify, run_views,
+    Accepted, Form, Outcome, RunFault, run_cnf, run_decisions, run_model, run_points, run_proof,
+    run_solve, run_solve_one, run_verify, run_views,
 };
-use wf_examples::PATH_2;
+use wf_examples::{PATH_2, RENAMING_2_2};
 use wf_io::{Sink, Source};
 use wf_report::CertFault;
+use wf_rup::ProofFault;
 use wf_task::TaskFault;
 
 pub(crate) const ONE: &str =
@@ -47,6 +48,11 @@ const LEAST: &str =
 
 const DECIDED: &str =
     "0 p0 saw {p0=0} decides 0\n1 p1 saw {p1=0} decides 2\n2 p0 saw {p0=0, p1=0} decides 1\n3 p1 saw {p0=0, p1=0} decides 0\n";
+
+/// A proof that two processes can't take two names in one round, and what is written of it.
+pub(crate) const PROOF: &str = "c one name\n-1 0\nd 1 0\n";
+
+pub(crate) const REFUTED: &str = "accepted none at 1 round\n";
 
 /// An engine over one source.
 #[derive(Clone, Copy, Debug)]
@@ -254,6 +260,55 @@ fn too_many_rounds_are_refused_before_the_model_is_read(rt: HostRuntime) -> Resu
     let found = run_model(&rt, rt.alloc(), &mut task, &mut model, &mut sink, 9);
     assert_eq!(rt; found, Err(RunFault::Build(BuildFault::Rounds)));
     drop(model);
+    assert_eq!(rt; given, 0);
+    Ok(())
+}
+
+/// What a check of a proof answers about renaming of two with two names after some rounds.
+fn refute(alloc: Global, proof: &str, written: &mut Vec<u8>, rounds: u32) -> Result<(), RunFault> {
+    let mut task = Source::new(RENAMING_2_2.as_bytes());
+    let mut source = Source::new(proof.as_bytes());
+    let mut sink = Sink::new(written);
+    run_proof(alloc, &mut task, &mut source, &mut sink, rounds)
+}
+
+#[test]
+fn a_proof_is_accepted(rt: HostRuntime) -> Result<(), Fail> {
+    // the formula has 3 points with 2 values; with one of them given, propagation finds the contradiction
+    let mut written = Vec::new(rt.alloc());
+    let found = refute(rt.alloc(), PROOF, &mut written, 1);
+    assert_eq!(rt; found, Ok(()));
+    assert_eq!(rt; written.as_slice(), REFUTED.as_bytes());
+    Ok(())
+}
+
+#[test]
+fn proofs_are_refused(rt: HostRuntime) -> Result<(), Fail> {
+    let rows = [
+        ("c\nx 0", ProofFault::NotALiteral { line: 2 }),
+        ("7 0", ProofFault::NoSuchVariable { line: 1 }),
+        ("\n0", ProofFault::NotImplied { line: 2 }),
+        ("d 1 2 0\n", ProofFault::NoContradiction { line: 2 }),
+        ("a\u{2}\u{0}", ProofFault::Binary),
+    ];
+    for (proof, fault) in rows {
+        let mut written = Vec::new(rt.alloc());
+        let found = refute(rt.alloc(), proof, &mut written, 1);
+        assert_eq!(rt; found, Err(RunFault::Proof(fault)));
+        assert!(rt; written.is_empty());
+    }
+    Ok(())
+}
+
+#[test]
+fn too_many_rounds_are_refused_before_the_proof_is_read(rt: HostRuntime) -> Result<(), Fail> {
+    let mut given = 0;
+    let mut task = Source::new(ONE.as_bytes());
+    let mut proof = Source::new(LineFeeds::new(&mut given));
+    let mut sink = Sink::new(Vec::new(rt.alloc()));
+    let found = run_proof(rt.alloc(), &mut task, &mut proof, &mut sink, 9);
+    assert_eq!(rt; found, Err(RunFault::Build(BuildFault::Rounds)));
+    drop(proof);
     assert_eq!(rt; given, 0);
     Ok(())
 }

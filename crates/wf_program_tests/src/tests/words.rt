@@ -69,6 +69,12 @@ fn words_are_a_job_or_a_fault(rt: HostRuntime) -> Result<(), Fail> {
         ),
         ("wfcheck model --task a", "clap MissingRequiredArgument"),
         ("wfcheck model --rounds 2", "clap MissingRequiredArgument"),
+        (
+            "wfcheck proof --task a/b.json --rounds 2",
+            "proof a/b.json 2",
+        ),
+        ("wfcheck proof --task a", "clap MissingRequiredArgument"),
+        ("wfcheck proof --rounds 2", "clap MissingRequiredArgument"),
         ("wfcheck verify --task a/b.json", "verify a/b.json"),
         ("wfcheck verify", "clap MissingRequiredArgument"),
         (
@@ -181,6 +187,7 @@ fn judged(alloc: Global, line: &str) -> Result<String, AllocError> {
         Ok(Job::Points { rounds }) => format!(in alloc; "points {rounds}"),
         Ok(Job::Cnf { rounds }) => format!(in alloc; "cnf {rounds}"),
         Ok(Job::Model { task, rounds }) => format!(in alloc; "model {task} {rounds}"),
+        Ok(Job::Proof { task, rounds }) => format!(in alloc; "proof {task} {rounds}"),
         Ok(Job::Decisions { task }) => format!(in alloc; "decisions {task}"),
         Ok(Job::Preset(preset)) => shown(alloc, preset),
         Err(WordsFault::Clap(error)) => {

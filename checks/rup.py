@@ -1,0 +1,157 @@
+#!/usr/bin/env python3
+"""rup.py TASK ROUNDS < PROOF: whether a clausal proof refutes the question of a task, straight from docs/FORMAT.md.
+
+What `wfcheck proof` answers, byte for byte, and slowly: it shares nothing with the program, and is here to be read. A proof is
+lemmas and deletions. A lemma follows where unit propagation, with all its literals false, makes a clause that is kept false.
+Literals that hold without an assumption hold from then on, whatever is deleted. Its status is 0 where the proof is accepted, else 2."""
+import collections
+import json
+import pathlib
+import re
+import sys
+
+sys.dont_write_bytecode = True
+sys.path.insert(0, str(pathlib.Path(__file__).resolve().parent.parent / "gallery"))
+import formula  # noqa: E402
+
+BLANKS = b" \t\r\n"
+NUMBER = re.compile(rb"-?[0-9]*")
+COMMENT = re.compile(rb"c[^\n]*")
+
+
+class Refused(Exception):
+    """A proof that is not accepted, with the line that says so."""
+
+
+class Kept:
+    """The clauses that are kept, and the literals that hold because of them."""
+
+    def __init__(self, clauses=()):
+        self.many, self.users = collections.Counter(), collections.defaultdict(set)
+        self.held, self.is_refuted = set(), False
+        for clause in clauses:
+            self.add(clause)
+
+    def copy(self):
+        other = Kept()
+        other.many, other.held, other.is_refuted = self.many.copy(), set(self.held), self.is_refuted
+        other.users.update((literal, set(clauses)) for literal, clauses in self.users.items())
+        return other
+
+    def follows(self, lemma):
+        """Whether unit propagation finds a contradiction where all of the lemma's literals are false."""
+        return self.is_refuted or not self.spread(set(self.held), [-it for it in lemma])
+
+    def add(self, clause):
+        clause = tuple(sorted(clause))
+        self.many[clause] += 1
+        for literal in clause:
+            self.users[literal].add(clause)
+        left = self.left_of(clause, self.held)
+        if left is not None and len(left) < 2:
+            self.is_refuted |= not left or not self.spread(self.held, left)
+
+    def delete(self, clause):
+        clause = tuple(sorted(clause))
+        if self.many[clause] > 0:
+            self.many[clause] -= 1
+            if self.many[clause] == 0:
+                for literal in clause:
+                    self.users[literal].discard(clause)
+
+    def spread(self, held, literals):
+        """Adds to what holds these literals and all that they force; whether no clause is false then."""
+        waiting = list(literals)
+        while waiting:
+            literal = waiting.pop()
+            if -literal in held:
+                return False
+            if literal in held:
+                continue
+            held.add(literal)
+            for clause in self.users[-literal]:
+                left = self.left_of(clause, held)
+                if left is not None and not left:
+                    return False
+                if left is not None and len(left) == 1:
+                    waiting += left
+        return True
+
+    @staticmethod
+    def left_of(clause, held):
+        """The literals that are not false, or None where one holds."""
+        return None if any(it in held for it in clause) else {it for it in clause if -it not in held}
+
+
+def steps(text, variables):
+    """Each step of a proof's text: the line in which it ends, whether it is a deletion, and its literals."""
+    at, line, is_deletion, clause = 0, 1, False, []
+    while at < len(text):
+        between = not is_deletion and not clause
+        if text[at] in BLANKS:
+            line += text[at:at + 1] == b"\n"
+            at += 1
+        elif between and text[at] in b"c":
+            at = COMMENT.match(text, at).end()
+        elif between and text[at] in b"d":
+            is_deletion = True
+            at += 1
+        elif between and text[at] in b"a":
+            raise Refused("42 Binary: ask the solver for text by --no-binary")
+        else:
+            word = NUMBER.match(text, at).group()
+            at += len(word)
+            if at < len(text) and text[at] not in BLANKS and not 32 <= text[at] < 127:
+                raise Refused("42 Binary: ask the solver for text by --no-binary")
+            if word in (b"", b"-") or at < len(text) and text[at] not in BLANKS or word[:1] == b"-" and int(word) == 0:
+                raise Refused(f"38 NotALiteral {line}")
+            if abs(int(word)) > variables:
+                raise Refused(f"39 NoSuchVariable {line}")
+            if int(word):
+                clause.append(int(word))
+            else:
+                yield line, is_deletion, clause
+                is_deletion, clause = False, []
+    raise Refused(f"41 NoContradiction {line}")
+
+
+def question(task, rounds):
+    """The number of variables of a task's question, and its clauses."""
+    lines = [line.split() for line in formula.text(task, rounds).splitlines() if line[0] != "c"]
+    return int(lines[0][2]), [list(map(int, line[:-1])) for line in lines[1:]]
+
+
+def judge(kept, variables, text):
+    """Why a proof is refused, or None. What is kept is changed."""
+    try:
+        ahead = steps(text, variables)
+        while not kept.is_refuted:
+            line, is_deletion, clause = next(ahead)
+            if is_deletion:
+                kept.delete(clause)
+            elif kept.follows(clause):
+                kept.add(clause)
+            else:
+                raise Refused(f"40 NotImplied {line}")
+    except Refused as refused:
+        return str(refused)
+    return None
+
+
+def accepted(rounds):
+    """The line that says that there is no decision map."""
+    return f"accepted none at {rounds} round{'' if rounds == 1 else 's'}\n"
+
+
+def main():
+    if len(sys.argv) != 3:
+        sys.exit(__doc__)
+    rounds = int(sys.argv[2])
+    variables, clauses = question(json.loads(pathlib.Path(sys.argv[1]).read_bytes()), rounds)
+    refusal = judge(Kept(clauses), variables, sys.stdin.buffer.read())
+    sys.stdout.write(f"wfcheck: {refusal}\n" if refusal else accepted(rounds))
+    return 2 if refusal else 0
+
+
+if __name__ == "__main__":
+    sys.exit(main())
