@@ -68,6 +68,14 @@ impl Followers {
         Ok(Followers { sets })
     }
 
+    /// Keeps of the set of each value what the others' set has too.
+    pub(crate) fn narrow(&mut self, others: &Followers)
+        ensures { (v a : ℕ) → v < value_limit → has (get_or self.new v []) a
+            ≡ (has (get_or self.old v []) a && has (get_or others.now v []) a) }
+    {
+        narrow(&mut self.sets, others);
+    }
+
     /// Those of this value.
     pub(crate) fn set(&self, value: u8) -> Mask
         ensures { values_in result ≡ get_or self.now value [] }

@@ -19,8 +19,8 @@ loop-tuples-init c =
     record {
       long = ap length words ∙ length-replicate value_limit set;
       allowed = λ v a small.
-        ap (λ s. has s a) (each_set (map values_in c.in_ok-sets.sets.items) (values_in set) v same small)
-        ∙ sym (and_true (has (values_in set) a));
+          ap (λ s. has s a) (each_set (map values_in c.in_ok-sets.sets.items) (values_in set) v same small)
+          ∙ sym (and_true (has (values_in set) a));
     }
 
 pub loop-tuples-preserved : goal.loop-tuples-preserved

@@ -30,7 +30,7 @@ loop-tuple-preserved c =
     record {
       long = ap length back ∙ c.put.ensures.long;
       follow = subst (λ sets. AreFollowers c.args.place c.args.next (take (i + 1) tuples) (map values_in sets)) (sym back)
-        (subst (λ ts. AreFollowers c.args.place c.args.next ts (map values_in new)) (sym (taken_more tuples i c.tuple-item.result c.loop-tuple-test.true c.tuple-item.is))
-        (c.put.ensures.more (take i tuples)
-        (subst (λ sets. AreFollowers c.args.place c.args.next (take i tuples) (map values_in sets)) (sym c.deref_mut.ensures.value) c.loop-tuple.invariant.follow)));
+          (subst (λ ts. AreFollowers c.args.place c.args.next ts (map values_in new)) (sym (taken_more tuples i c.tuple-item.result c.loop-tuple-test.true c.tuple-item.is))
+          (c.put.ensures.more (take i tuples)
+          (subst (λ sets. AreFollowers c.args.place c.args.next (take i tuples) (map values_in sets)) (sym c.deref_mut.ensures.value) c.loop-tuple.invariant.follow)));
     }
