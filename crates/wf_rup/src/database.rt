@@ -181,6 +181,7 @@ impl Database {
                 && self.clauses.literals(number).len() == clause.len()
             {
                 self.clauses.forget(number);
+                self.index.forget(number);
                 self.forgotten = self.forgotten.saturating_add(1);
                 return;
             }

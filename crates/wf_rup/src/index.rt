@@ -108,6 +108,19 @@ impl Index {
         None
     }
 
+    /// The clause is no longer looked for where it is the last one of its chain: so of many with one hash that are
+    /// deleted in turn, each is found at once.
+    pub(crate) fn forget(&mut self, number: usize) {
+        if number >= self.entries.len() || self.heads.len() == 0 {
+            return;
+        }
+        let entry = self.entries[number];
+        let bucket = (entry.hash % self.heads.len() as u64) as usize;
+        if self.heads[bucket] as usize == number {
+            self.heads[bucket] = entry.next;
+        }
+    }
+
     /// How many clauses were added.
     pub(crate) fn len(&self) -> usize {
         self.entries.len()

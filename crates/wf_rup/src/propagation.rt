@@ -1,6 +1,6 @@
 //! Unit propagation with two watched literals.
 
-ghost use Rattle.std.specs.Prelude.{◌≡◌, IfOk, IsTrue};
+ghost use Rattle.std.specs.Prelude.{◌≡◌, ◌≤◌, IfOk, IsTrue, vec_len};
 ghost use Rattle.wf_rup.specs.Propagation.{Conflicts, Extends, IsSound};
 
 use crate::clauses::Clauses;
@@ -59,11 +59,10 @@ fn visit_watchers(
 {
     let mut list = watches.take(alloc, falsified);
     let mut kept = 0;
-    let mut found = false;
     for at in 0..list.len() {
         let watch = list[at];
         let clause = watch.clause;
-        if found || trail.is_true(watch.blocker) {
+        if trail.is_true(watch.blocker) {
             list[kept] = watch;
             kept += 1;
             continue;
@@ -80,15 +79,27 @@ fn visit_watchers(
                 kept += 1;
             }
             Outcome::Fails => {
-                list[kept] = watch;
-                kept += 1;
-                found = true;
+                close_gap(&mut list, kept, at);
+                watches.give(falsified, list);
+                return Ok(true);
             }
         }
     }
     list.truncate(kept);
     watches.give(falsified, list);
-    Ok(found)
+    Ok(false)
+}
+
+/// Moves all from one place on to an earlier one.
+fn close_gap(list: &mut Vec<Watch>, to: usize, from: usize)
+    requires ordered { to ≤ from }
+    requires within { from ≤ vec_len list.old }
+{
+    if to < from {
+        let length = list.len() - (from - to);
+        list.copy_within(from.., to);
+        list.truncate(length);
+    }
 }
 
 /// Looks at a clause that watches a literal which is false now.
