@@ -9,7 +9,7 @@ ghost use Rattle.wf_engine.specs.Verify.{AreDecisions, CanVerify, Checks, Decide
 use crate::fault::RunFault;
 use crate::points::write_points;
 use crate::steps::{hand_out, read_task};
-use crate::verify::{check_report, read_cert};
+use crate::verify::{check_report, read_report_from};
 use std::alloc::Global;
 use std::io::{Read, Write};
 use std::thread::Threads;
@@ -48,7 +48,7 @@ fn decide_sources<T: Threads + Sync, R: Read, C: Read>(
         (answered result) }
 {
     let task = read_task(alloc, task_source)?;
-    let report = read_cert(alloc, cert_source)?;
+    let report = read_report_from(alloc, cert_source)?;
     decide(rt, alloc, &task, &report)
 }
 

@@ -56,7 +56,7 @@ fn tell_task(alloc: Global, task: &Task, rounds: u32) -> Result<((), Vec<u8>), R
 }
 
 /// The text that tells the points of a protocol complex, each with the value that a map has there, if any.
-pub(crate) fn write_points(
+pub fn write_points(
     alloc: Global,
     task: &Task,
     protocol: &Protocol,

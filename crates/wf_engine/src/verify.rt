@@ -54,12 +54,13 @@ fn verify_sources<T: Threads + Sync, R: Read, C: Read>(
         cert_source.old cert_source.new (answered result) }
 {
     let task = read_task(alloc, task_source)?;
-    let report = read_cert(alloc, cert_source)?;
+    let report = read_report_from(alloc, cert_source)?;
     verify(rt, alloc, &task, &report, rounds)
 }
 
-/// The report of a source's text.
-pub(crate) fn read_cert<C: Read>(alloc: Global, source: &mut Source<C>) -> Result<Report, RunFault>
+/// Reads a report to its reader's end, as the first step of a run over a report. It is refused where its text is none: `1
+/// TooLong`, `20 Syntax`, `30 Read`.
+pub fn read_report_from<C: Read>(alloc: Global, source: &mut Source<C>) -> Result<Report, RunFault>
     requires { CanRead source.old }
     ensures read { Reads IsReportOf source.old source.new (seen result) }
     ensures few { IfOk result (λ report. AreNumbered (body_length report.body)) }
@@ -110,8 +111,9 @@ fn accept<T: Threads + Sync>(
     Ok((accepted_of(&report.body), text.into_bytes()))
 }
 
-/// The protocol complex for the rounds of a report about a task, where the checker finds no fault in it.
-pub(crate) fn check_report<T: Threads + Sync>(
+/// The protocol complex for the rounds of a report about a task, where the checker finds no fault in it: so the report is true.
+/// The refusals are those of [`run_verify`] that come after both texts were read.
+pub fn check_report<T: Threads + Sync>(
     rt: &T,
     alloc: Global,
     task: &Task,
