@@ -84,6 +84,28 @@ pub enum Job {
         /// The file that has the task.
         task: String,
     },
+    /// Write a report that is read, where it is accepted, with the lines that are needed.
+    Trim {
+        /// The file that has the task.
+        task: String,
+    },
+    /// Tell in words why there is no decision map, or what the map decides, by a report that is read and accepted.
+    Explain {
+        /// The file that has the task.
+        task: String,
+    },
+    /// Write the map of a report that is read and accepted for more rounds.
+    Lift {
+        /// The file that has the task.
+        task: String,
+        /// How many rounds the map is to be for, where they are asked for; else it is one more.
+        rounds: Option<u32>,
+    },
+    /// List the executions of a task's protocol complex after some rounds.
+    Executions {
+        /// How many rounds.
+        rounds: u32,
+    },
     /// Write the canonical text of a task that has a name.
     Preset(Preset),
 }
@@ -272,6 +294,47 @@ fn proof_command<'a>(alloc: Global) -> Result<Command<'a>, AllocError> {
         ))
 }
 
+fn trim_command<'a>(alloc: Global) -> Result<Command<'a>, AllocError> {
+    Command::new(alloc, "trim")
+        .about(
+            "Read a report on standard input, check it, and write it with the lines that are needed",
+        )
+        .arg(task_file(alloc, "The file that has the task").required(true))
+}
+
+fn explain_command<'a>(alloc: Global) -> Result<Command<'a>, AllocError> {
+    Command::new(alloc, "explain")
+        .about(
+            "Read a report on standard input, check it, and write in words why there is no decision map, or what its map decides",
+        )
+        .arg(task_file(alloc, "The file that has the task").required(true))
+}
+
+fn lift_command<'a>(alloc: Global) -> Result<Command<'a>, AllocError> {
+    Command::new(alloc, "lift")
+        .about(
+            "Read a report of a map on standard input, check it, and write the map for one round more, or for R rounds",
+        )
+        .arg(task_file(alloc, "The file that has the task").required(true))?
+        .arg(optional(
+            alloc,
+            "rounds",
+            "How many rounds the map is to be for, at least as many as the report's; without it one more",
+        ))
+}
+
+fn executions_command<'a>(alloc: Global) -> Result<Command<'a>, AllocError> {
+    Command::new(alloc, "executions")
+        .about(
+            "Read a task on standard input, and list the executions of its protocol complex: who went in which block, round by round, and which points stand there",
+        )
+        .arg(number(
+            alloc,
+            "rounds",
+            "How many rounds of immediate snapshots, 0 to 8",
+        ))
+}
+
 fn preset_command<'a>(alloc: Global) -> Result<Command<'a>, AllocError> {
     let kind = Arg::new(alloc, "kind")
         .value_name("KIND")
@@ -313,6 +376,10 @@ fn whole_command<'a>(alloc: Global) -> Result<Command<'a>, AllocError> {
         .subcommand(cnf_command(alloc)?)?
         .subcommand(model_command(alloc)?)?
         .subcommand(proof_command(alloc)?)?
+        .subcommand(trim_command(alloc)?)?
+        .subcommand(explain_command(alloc)?)?
+        .subcommand(lift_command(alloc)?)?
+        .subcommand(executions_command(alloc)?)?
         .subcommand(preset_command(alloc)?)
 }
 
@@ -406,6 +473,54 @@ fn proof_job(alloc: Global, found: &ArgMatches<'_>) -> Result<Job, WordsFault>
     }
 }
 
+/// The job of `trim`.
+fn trim_job(alloc: Global, found: &ArgMatches<'_>) -> Result<Job, WordsFault>
+    ensures ok { IfOk result CanBeDone }
+    ensures err { IfErr result HidesNoWantOfMemory }
+{
+    match found.get_str("task") {
+        Some(task) => Ok(Job::Trim {
+            task: String::from_str(alloc, task)?,
+        }),
+        None => Err(WordsFault::Words),
+    }
+}
+
+/// The job of `explain`.
+fn explain_job(alloc: Global, found: &ArgMatches<'_>) -> Result<Job, WordsFault>
+    ensures ok { IfOk result CanBeDone }
+    ensures err { IfErr result HidesNoWantOfMemory }
+{
+    match found.get_str("task") {
+        Some(task) => Ok(Job::Explain {
+            task: String::from_str(alloc, task)?,
+        }),
+        None => Err(WordsFault::Words),
+    }
+}
+
+/// The job of `lift`.
+fn lift_job(alloc: Global, found: &ArgMatches<'_>) -> Result<Job, WordsFault>
+    ensures ok { IfOk result CanBeDone }
+    ensures err { IfErr result HidesNoWantOfMemory }
+{
+    match found.get_str("task") {
+        Some(task) => Ok(Job::Lift {
+            task: String::from_str(alloc, task)?,
+            rounds: found.get_one::<u32>("rounds"),
+        }),
+        None => Err(WordsFault::Words),
+    }
+}
+
+/// The job of `executions`.
+fn executions_job(found: &ArgMatches<'_>) -> Option<Job>
+    ensures { IfSome result CanBeDone }
+{
+    let rounds = found.get_one::<u32>("rounds")?;
+    Some(Job::Executions { rounds })
+}
+
 /// The job of `preset`.
 fn preset_job(found: &ArgMatches<'_>) -> Option<Job>
     ensures { IfSome result CanBeDone }
@@ -445,6 +560,10 @@ pub fn read_words(alloc: Global, words: &[String]) -> Result<Job, WordsFault>
         Some(("cnf", inner)) => cnf_job(inner).ok_or(WordsFault::Words),
         Some(("model", inner)) => model_job(alloc, inner),
         Some(("proof", inner)) => proof_job(alloc, inner),
+        Some(("trim", inner)) => trim_job(alloc, inner),
+        Some(("explain", inner)) => explain_job(alloc, inner),
+        Some(("lift", inner)) => lift_job(alloc, inner),
+        Some(("executions", inner)) => executions_job(inner).ok_or(WordsFault::Words),
         Some(("preset", inner)) => preset_job(inner).ok_or(WordsFault::Words),
         _ => Err(WordsFault::Words),
     }
