@@ -233,6 +233,17 @@ def on_loop(triangles, paths):
     return legal
 
 
+def on_edge(edges):
+    """Inputs and decisions are the vertices of a graph: all decide vertices of one edge, and where the inputs are one vertex, or
+    the ends of one edge, none but these."""
+    cells = [{v} for edge in edges for v in edge] + [set(edge) for edge in edges]
+
+    def legal(start, end):
+        begun, ended = set(start.values()), set(end.values())
+        return any(ended <= cell for cell in cells) and (begun not in cells or ended <= begun)
+    return legal
+
+
 # Subdivisions and surfaces
 
 
@@ -325,6 +336,7 @@ def gallery():
     yield loop_agreement("loop-hollow", own(3), HOLLOW, SIDES)
     yield loop_agreement("loop-projective", own(3), PLANE, SIDES)
     yield loop_agreement("loop-projective-face", own(3), PLANE, [(0, 1), (1, 4), (4, 0)])
+    yield task("edge-agreement-3-cycle-4", 3, [(1, 2, 3)], on_edge([(0, 1), (1, 2), (2, 3), (3, 0)]), range(4))
     yield task("majority-3", 3, all_of(3, bits), majority, bits)
     yield task("no-minority-3", 3, all_of(3, bits), no_minority, bits)
 
