@@ -12,6 +12,15 @@ ROOT = pathlib.Path(__file__).resolve().parent.parent
 BUILT = ROOT / "bin/wfcheck"
 
 
+class Program:
+    """The program that a script runs: bin/wfcheck, or what its option `--program` names."""
+    path = BUILT
+
+
+def program():
+    return Program.path
+
+
 class Script(argparse.ArgumentParser):
     """A script's command line, by what stands at its head."""
 
@@ -26,12 +35,12 @@ class Script(argparse.ArgumentParser):
         return self
 
     def asked(self):
-        """The words, and the program as a whole path."""
+        """The words. Where the script runs the program, that has to be there."""
         found = self.parse_args()
         if "program" in found:
-            if not found.program.is_file():
+            Program.path = found.program.resolve()
+            if not Program.path.is_file():
                 self.error(f"{found.program} is not there: `make build` leaves bin/wfcheck")
-            found.program = found.program.resolve()
         return found
 
     def chosen(self, things, words, name, fits=str.__eq__):
