@@ -13,7 +13,8 @@ and as a `note` what many tasks of the literature have on purpose:
   - a value list that those who take part may decide, but no larger simplex can go on from: no map ever uses it, since the
     others may all come later (the rules are not monotone there).
 
-The status is 0 where there is no slip, 1 where there is one, 2 where the file is refused."""
+The status is 0 where there is no slip, 1 where there is one, 2 where the file is refused or can't be read."""
+import argparse
 import collections
 import itertools
 import json
@@ -65,7 +66,7 @@ def value_of(text):
 def finite(digits):
     """A number that is not whole: what it is doesn't matter, but it has to be finite."""
     if float(digits) in (float("inf"), float("-inf")):
-        raise ValueError(f"the number {digits[:20]}.. is too large")
+        raise ValueError(f"the number {digits if len(digits) <= 20 else digits[:20] + '..'} is too large")
     return NotWhole(digits)
 
 
@@ -295,13 +296,14 @@ def slips(value, rules):
 
 
 def main():
-    if len(sys.argv) != 2:
-        sys.exit(__doc__)
+    words = argparse.ArgumentParser(description=__doc__, formatter_class=argparse.RawDescriptionHelpFormatter, usage="lint.py TASK.json")
+    words.add_argument("task")
     try:
-        with open(sys.argv[1], "rb") as file:
+        with open(words.parse_args().task, "rb") as file:
             value, rules = read(file.read())
     except OSError as error:
-        sys.exit(f"lint.py: {error}")
+        print(f"lint.py: {error}", file=sys.stderr)
+        return 2
     except Refused as refused:
         print(f"refused, {refused.line}: {refused.words}")
         return 2
