@@ -296,7 +296,8 @@ def slips(value, rules):
 
 
 def main():
-    words = argparse.ArgumentParser(description=__doc__, formatter_class=argparse.RawDescriptionHelpFormatter, usage="lint.py TASK.json")
+    words = argparse.ArgumentParser(
+        description=__doc__, formatter_class=argparse.RawDescriptionHelpFormatter, usage="lint.py TASK.json")
     words.add_argument("task")
     try:
         with open(words.parse_args().task, "rb") as file:
