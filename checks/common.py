@@ -1,7 +1,7 @@
 """The front door of the scripts of checks/ and of gallery/run: the program that they run, their words, and their last line.
 
-`--help` shows what stands at the head of a script, and ends with status 0. A word that it doesn't know, and a name that nothing has,
-end it with status 2 before anything is run, and so does a program that isn't there. A script from which nothing was chosen has
+`--help` shows what stands at the head of a script, and ends with status 0. A word that it doesn't know, and a name that nothing
+has, end it with status 2 before anything is run, and so does a program that isn't there. A script from which nothing was chosen has
 failed."""
 import argparse
 import pathlib
@@ -31,7 +31,8 @@ class Script(argparse.ArgumentParser):
 
     def runs_program(self):
         """Adds the option that names another program than bin/wfcheck."""
-        self.add_argument("--program", metavar="FILE", type=pathlib.Path, default=BUILT, help="the program, bin/wfcheck if it isn't given")
+        told = "the program, bin/wfcheck if it isn't given"
+        self.add_argument("--program", metavar="FILE", type=pathlib.Path, default=BUILT, help=told)
         return self
 
     def asked(self):
@@ -44,7 +45,7 @@ class Script(argparse.ArgumentParser):
         return found
 
     def chosen(self, things, words, name, fits=str.__eq__):
-        """Those of the things of which a name fits one of the words, or all where no word is given. A word that fits none ends the script."""
+        """The things of which a name fits one of the words, or all where no word is given. A word that fits none ends the script."""
         names = [(thing, name(thing)) for thing in things]
         for word in words:
             if not any(fits(it, word) for _, it in names):

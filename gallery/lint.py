@@ -174,9 +174,9 @@ def simplex_of(listed):
 def judge_numbers(value):
     processes = value["processes"]
     if value["version"] not in LARGEST:
-        raise Refused("4 Version", f'"version" is {value["version"]}')
+        raise Refused("4 Version", f'"version" is {value["version"]}, and 1 and 2 are read')
     if not 1 <= processes <= 4:
-        raise Refused("5 Processes", f'"processes" is {processes}')
+        raise Refused("5 Processes", f'"processes" is {processes}, and 1 to 4 are read')
     for where, _, values in places(value):
         for v in values:
             if v > LARGEST[value["version"]]:
@@ -224,7 +224,7 @@ def judge_delta(value, inputs):
     for number, place, s, values in lists:
         if len(values) != len(s):
             words = f"at input simplex {number}, {shown(s)}, value list {place} is {shown(values)}"
-            raise Refused(f"12 OutLength {number} {place}", words)
+            raise Refused(f"12 OutLength {number} {place}", f"{words}: {len(values)} values for {len(s)} processes")
     outputs = {f for listed in value["outputs"] for f in faces(simplex_of(listed))}
     for number, place, s, values in lists:
         decided = tuple((p, v) for (p, _), v in zip(s, values))
@@ -234,7 +234,7 @@ def judge_delta(value, inputs):
     if not inputs:
         raise Refused("14 NoInput", '"inputs" is empty')
     if not 1 <= value.get("first_block", 1) <= 4:
-        raise Refused("18 FirstBlock", f'"first_block" is {value["first_block"]}')
+        raise Refused("18 FirstBlock", f'"first_block" is {value["first_block"]}, and 1 to 4 are read')
 
 
 def read(text):
@@ -296,7 +296,8 @@ def slips(value, rules):
 
 
 def main():
-    words = argparse.ArgumentParser(description=__doc__, formatter_class=argparse.RawDescriptionHelpFormatter, usage="lint.py TASK.json")
+    words = argparse.ArgumentParser(
+        description=__doc__, formatter_class=argparse.RawDescriptionHelpFormatter, usage="lint.py TASK.json")
     words.add_argument("task")
     try:
         with open(words.parse_args().task, "rb") as file:

@@ -151,7 +151,8 @@ def judge(task, text):
 
 
 def main():
-    words = argparse.ArgumentParser(description=__doc__, formatter_class=argparse.RawDescriptionHelpFormatter, usage="second_opinion.py TASK REPORT")
+    words = argparse.ArgumentParser(
+        description=__doc__, formatter_class=argparse.RawDescriptionHelpFormatter, usage="second_opinion.py TASK REPORT")
     words.add_argument("task")
     words.add_argument("report")
     asked = words.parse_args()

@@ -104,12 +104,13 @@ def tuples(name, start, legal, values):
         except KeyError as missing:
             if type(missing.args[0]) is not int or missing.args[0] in processes:
                 raise
-            raise Mistake(f"{name}: the predicate looks up process {missing} where only {processes} take part: it is asked for each part of each "
-                          "input, since some may run alone, and `start` and `end` have those that take part")
+            raise Mistake(f"{name}: the predicate looks up process {missing} where only {processes} take part: it is asked for each part "
+                          "of each input, since some may run alone, and `start` and `end` have those that take part")
         if is_legal:
             found.append(choice)
         if len(found) > MOST_TUPLES:
-            raise Mistake(f"{name}: where the processes begin with {dict(start)} more than {MOST_TUPLES} choices are legal, and no more are read")
+            raise Mistake(f"{name}: where the processes begin with {dict(start)} more than {MOST_TUPLES} choices are legal, and no more "
+                          "are read")
     return found
 
 
@@ -342,7 +343,8 @@ def gallery():
 
 
 def main():
-    words = argparse.ArgumentParser(description=__doc__, formatter_class=argparse.RawDescriptionHelpFormatter, usage="tasks.py [--list] [NAME ..]")
+    words = argparse.ArgumentParser(
+        description=__doc__, formatter_class=argparse.RawDescriptionHelpFormatter, usage="tasks.py [--list] [NAME ..]")
     words.add_argument("--list", action="store_true", help="says the names, and writes nothing")
     words.add_argument("names", nargs="*", help="the tasks that are written, all where none is named")
     asked = words.parse_args()
