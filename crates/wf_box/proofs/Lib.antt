@@ -13,6 +13,7 @@ pub mod LeastLemmas
 pub mod BoxLemmas
 pub mod JoinLemmas
 pub mod SeenLemmas
+pub mod MemoLemmas
 pub mod StandLemmas
 pub mod KeptLemmas
 pub mod Lemmas

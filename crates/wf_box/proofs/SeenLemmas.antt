@@ -3,26 +3,32 @@ use Rattle.std.proofs.Common.{◌≡◌, ℕ, ◌≤◌, List, [], ◌∷◌, �
 use Rattle.std.specs.Bool.{OnTrue}
 use Rattle.std.specs.List.{slice_set}
 use Rattle.std.proofs.lemmas.List.{drop_all, drop-append-le, drop-map, length-map, length-take-le, map-append, map-set, take-append-drop}
-use Rattle.wf_model.specs.Problem.{Problem}
+use Rattle.wf_model.specs.Problem.{Constraint, Problem}
 use Rattle.wf_model.specs.Box.{Box, first_empty}
 use Rattle.wf_model.specs.Closing.{sweep}
 use Rattle.wf_model.specs.Laws.{IsBoxOf}
 use Rattle.wf_set.specs.Sets.{box_of, values_in}
 use Rattle.wf_box.specs.Changes.{IsGrown, taken_back, words_after}
 use Rattle.wf_box.specs.Quiet as quiet
+use Rattle.wf_box.specs.Revising.{AreKnown}
 use Rattle.wf_box.specs.Boxes.{Grows, IsFor, Tracked, Was, WasClosed, box_after, change_seen, closed_if, put_back}
+use Rattle.wf_box.specs.declared.memo.Revised.{Revised}
 use Rattle.wf_box.specs.declared.tracked.Change.{Change}
 
 -- the sets as the box that a clause sees
-abbrev pub tracked_seen : List (List ℕ) → List Change → Option ℕ → Tracked
-tracked_seen words trail closed = record { sets = box_of words; trail = map change_seen trail; closed = closed }
+abbrev pub tracked_seen : List (List ℕ) → List Change → Option ℕ → List (Option Revised) → Tracked
+tracked_seen words trail closed known = record { sets = box_of words; trail = map change_seen trail; closed = closed; known = known }
 
 pub back_seen : (cs : List Change) (words : List (List ℕ)) → box_of (taken_back cs words) ≡ put_back (map change_seen cs) (box_of words)
 back_seen [] words = refl
 back_seen (c ∷ cs) words = map-set values_in (taken_back cs words) c.point c.before ∙ ap (λ b. slice_set b c.point (values_in c.before)) (back_seen cs words)
 
-pub after_seen : (n : ℕ) (trail : List Change) (words : List (List ℕ)) (closed : Option ℕ) → box_of (words_after n trail words) ≡ box_after n (tracked_seen words trail closed)
-after_seen n trail words closed = back_seen (drop n trail) words ∙ ap (λ ws. put_back ws (box_of words)) (sym (drop-map change_seen n trail))
+pub after_seen : (n : ℕ) (trail : List Change) (words : List (List ℕ)) (closed : Option ℕ) (known : List (Option Revised)) → box_of (words_after n trail words) ≡ box_after n (tracked_seen words trail closed known)
+after_seen n trail words closed known = back_seen (drop n trail) words ∙ ap (λ ws. put_back ws (box_of words)) (sym (drop-map change_seen n trail))
+
+-- no answer is kept
+pub known_none : (ks : List Constraint) → AreKnown ks []
+known_none ks = λ i d low. absurd (let none : ⊥ = omega (arith, low) in none)
 
 -- ---- further changes
 
@@ -30,8 +36,8 @@ pub put_more : (xs ys : List Was) (box : Box) → put_back (xs ++ ys) box ≡ pu
 put_more [] ys box = refl
 put_more (x ∷ xs) ys box = ap (λ b. slice_set b x.point x.set) (put_more xs ys box)
 
-pub grown_seen : (words : List (List ℕ)) (trail : List Change) (fewer : List (List ℕ)) (more : List Change) (before after : Option ℕ) → IsGrown words trail fewer more → Grows (tracked_seen words trail before) (tracked_seen fewer more after)
-grown_seen words trail fewer more before after grown = record {
+pub grown_seen : (words : List (List ℕ)) (trail : List Change) (fewer : List (List ℕ)) (more : List Change) (before after : Option ℕ) (known newer : List (Option Revised)) → IsGrown words trail fewer more → Grows (tracked_seen words trail before known) (tracked_seen fewer more after newer)
+grown_seen words trail fewer more before after known newer grown = record {
   added = map change_seen grown.added;
   trail_is = ap (map change_seen) grown.trail_is ∙ map-append change_seen trail grown.added;
   sets_are = sym (back_seen grown.added fewer) ∙ ap box_of grown.words_are;
@@ -59,30 +65,31 @@ pub if_some : {A : Type 0} (P Q : A → Type 0) (o : Option A) → ((x : A) → 
 if_some P Q None f h = tt
 if_some P Q (Some x) f h = f x h
 
-pub still_for : (p : Problem) (old new : Tracked) → Grows old new → new.closed ≡ old.closed → IsBoxOf p new.sets → IsFor p old → IsFor p new
-still_for p old new grown same is_box is = record {
+pub still_for : (p : Problem) (old new : Tracked) → Grows old new → new.closed ≡ old.closed → new.known ≡ old.known → IsBoxOf p new.sets → IsFor p old → IsFor p new
+still_for p old new grown same memo is_box is = record {
   is_box = is_box;
   closed = subst (λ o. IfSome o (WasClosed p new)) (sym same) (if_some (WasClosed p old) (WasClosed p new) old.closed (λ n was. still_closed p old new n grown was) is.closed);
+  known = subst (AreKnown p.constraints) (sym memo) is.known;
 }
 
 -- ---- closed boxes
 
-pub was_seen : (p : Problem) (trail : List Change) (words : List (List ℕ)) (closed : Option ℕ) (n : ℕ) → quiet.WasClosed p trail words n → WasClosed p (tracked_seen words trail closed) n
-was_seen p trail words closed n was = record {
+pub was_seen : (p : Problem) (trail : List Change) (words : List (List ℕ)) (closed : Option ℕ) (known : List (Option Revised)) (n : ℕ) → quiet.WasClosed p trail words n → WasClosed p (tracked_seen words trail closed known) n
+was_seen p trail words closed known n was = record {
   within = omega (arith, was.within, length-map trail change_seen);
-  filled = ap first_empty (sym (after_seen n trail words closed)) ∙ was.filled;
-  closed = ap (λ b. (sweep p b).lines) (sym (after_seen n trail words closed)) ∙ was.closed;
+  filled = ap first_empty (sym (after_seen n trail words closed known)) ∙ was.filled;
+  closed = ap (λ b. (sweep p b).lines) (sym (after_seen n trail words closed known)) ∙ was.closed;
 }
 
-pub seen_was : (p : Problem) (trail : List Change) (words : List (List ℕ)) (closed : Option ℕ) (n : ℕ) → WasClosed p (tracked_seen words trail closed) n → quiet.WasClosed p trail words n
-seen_was p trail words closed n was = record {
+pub seen_was : (p : Problem) (trail : List Change) (words : List (List ℕ)) (closed : Option ℕ) (known : List (Option Revised)) (n : ℕ) → WasClosed p (tracked_seen words trail closed known) n → quiet.WasClosed p trail words n
+seen_was p trail words closed known n was = record {
   within = omega (arith, was.within, length-map trail change_seen);
-  filled = ap first_empty (after_seen n trail words closed) ∙ was.filled;
-  closed = ap (λ b. (sweep p b).lines) (after_seen n trail words closed) ∙ was.closed;
+  filled = ap first_empty (after_seen n trail words closed known) ∙ was.filled;
+  closed = ap (λ b. (sweep p b).lines) (after_seen n trail words closed known) ∙ was.closed;
 }
 
-pub if_was : (p : Problem) (trail : List Change) (words : List (List ℕ)) (closed : Option ℕ) → IfSome closed (WasClosed p (tracked_seen words trail closed)) → IfSome closed (quiet.WasClosed p trail words)
-if_was p trail words closed was = if_some (WasClosed p (tracked_seen words trail closed)) (quiet.WasClosed p trail words) closed (λ n w. seen_was p trail words closed n w) was
+pub if_was : (p : Problem) (trail : List Change) (words : List (List ℕ)) (closed : Option ℕ) (known : List (Option Revised)) → IfSome closed (WasClosed p (tracked_seen words trail closed known)) → IfSome closed (quiet.WasClosed p trail words)
+if_was p trail words closed known was = if_some (WasClosed p (tracked_seen words trail closed known)) (quiet.WasClosed p trail words) closed (λ n w. seen_was p trail words closed known n w) was
 
 -- ---- taking back
 
@@ -101,10 +108,11 @@ closed_undone p old new m n low inside sets trail was = record {
   closed = ap (λ b. (sweep p b).lines) (after_undone old new m n low inside sets trail) ∙ was.closed;
 }
 
-pub undone_for : (p : Problem) (old new : Tracked) (n : ℕ) (is_closed : Bool) → n ≤ length old.trail → new.sets ≡ box_after n old → new.trail ≡ take n old.trail → new.closed ≡ closed_if is_closed n → IsBoxOf p new.sets → OnTrue is_closed (WasClosed p old n) → IsFor p new
-undone_for p old new n is_closed inside sets trail closed is_box was = record {
+pub undone_for : (p : Problem) (old new : Tracked) (n : ℕ) (is_closed : Bool) → n ≤ length old.trail → new.sets ≡ box_after n old → new.trail ≡ take n old.trail → new.closed ≡ closed_if is_closed n → IsBoxOf p new.sets → AreKnown p.constraints new.known → OnTrue is_closed (WasClosed p old n) → IsFor p new
+undone_for p old new n is_closed inside sets trail closed is_box known was = record {
   is_box = is_box;
   closed = subst (λ o. IfSome o (WasClosed p new)) (sym closed) (by_test is_closed was);
+  known = known;
 }
   where
     by_test : (b : Bool) → OnTrue b (WasClosed p old n) → IfSome (closed_if b n) (WasClosed p new)
@@ -118,10 +126,11 @@ if_closed true old was = (refl, was)
 if_closed false old was = tt
 
 -- a box without a change to take back that is another one closed after all its changes
-pub copied_for : (p : Problem) (old new : Tracked) → new.sets ≡ old.sets → new.trail ≡ [] → IsBoxOf p new.sets → IfSome new.closed (λ n. (n ≡ 0) × (old.closed ≡ Some (length old.trail))) → IsFor p old → IsFor p new
-copied_for p old new sets trail is_box closed is = record {
+pub copied_for : (p : Problem) (old new : Tracked) → new.sets ≡ old.sets → new.trail ≡ [] → new.known ≡ [] → IsBoxOf p new.sets → IfSome new.closed (λ n. (n ≡ 0) × (old.closed ≡ Some (length old.trail))) → IsFor p old → IsFor p new
+copied_for p old new sets trail memo is_box closed is = record {
   is_box = is_box;
   closed = if_some (λ n. (n ≡ 0) × (old.closed ≡ Some (length old.trail))) (WasClosed p new) new.closed (λ n h. subst (WasClosed p new) (sym h.0) (at_start (subst (λ o. IfSome o (WasClosed p old)) h.1 is.closed))) closed;
+  known = subst (AreKnown p.constraints) (sym memo) (known_none p.constraints);
 }
   where
     same : box_after 0 new ≡ box_after (length old.trail) old

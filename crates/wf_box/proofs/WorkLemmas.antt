@@ -3,17 +3,20 @@ use Rattle.std.proofs.Common.{◌≡◌, ◌<◌, ◌∙◌, ℕ, List, length, 
 use Rattle.std.specs.Bool.{OnFalse, OnTrue}
 use Rattle.std.specs.List.{slice_index_or}
 use Rattle.std.proofs.lemmas.List.{get_or_default}
+use Rattle.wf_model.specs.Problem.{Constraint}
 use Rattle.wf_set.specs.Sets.{box_of}
 use Rattle.wf_lines.specs.declared.line.Line.{Line}
 use Rattle.wf_box.specs.Changes.{sets_in}
 use Rattle.wf_box.specs.Closes.{EndsAt, IsEmptied, emptied_by}
 use Rattle.wf_box.specs.Problems.{IsNetwork, IsWithin}
 use Rattle.wf_box.specs.Quiet.{IsUser, no_execution}
+use Rattle.wf_box.specs.Revising.{AreKnown}
 use Rattle.wf_box.specs.Steps.{HasRoom, IsPaid, IsSpent, point_if}
 use Rattle.wf_box.specs.Working.{Ends, IsWorking, Proceeds}
 use Rattle.wf_box.specs.declared.closing.Closed.{Closed}
 use Rattle.wf_box.specs.declared.closing.Closed.TheVariants.{Empty, Open}
 use Rattle.wf_box.specs.declared.marks.Marks.{Marks}
+use Rattle.wf_box.specs.declared.memo.Memo.{Memo}
 use Rattle.wf_box.specs.declared.problem.Execution.{Execution}
 use Rattle.wf_box.specs.declared.problem.Network.{Network}
 use Rattle.wf_box.specs.declared.tracked.Tracked.{Tracked}
@@ -21,13 +24,26 @@ use Rattle.wf_box.specs.declared.workspace.Workspace.{Workspace}
 use Rattle.wf_box.proofs.ChangeLemmas.{grown_none, grown_then}
 
 -- nothing was done yet
-pub proceeds_none : {A : Type 0} (points executions : ℕ) (lines : Vec Line A) (w : Workspace) → IsWorking points executions lines w → Proceeds points executions lines w.tracked lines w None
+pub proceeds_none : {A : Type 0} {ks : List Constraint} (points executions : ℕ) (lines : Vec Line A) (w : Workspace) → IsWorking points executions ks lines w → Proceeds points executions ks lines w.tracked lines w None
 proceeds_none points executions lines w working = record {
   kept = working.kept;
   long = working.long;
   marks_long = working.marks_long;
   grown = grown_none w.tracked.words.items w.tracked.trail.items;
   ends = (working.room, omega arith);
+  known = working.known;
+}
+
+-- nothing was done yet but that other answers are kept
+pub proceeds_known : {A : Type 0} {ks : List Constraint} (points executions : ℕ) (lines : Vec Line A) (w : Workspace) (memo : Memo) → AreKnown ks memo.slots.items → IsWorking points executions ks lines w
+    → Proceeds points executions ks lines w.tracked lines (record { tracked = w.tracked; marks = w.marks; memo = memo }) None
+proceeds_known points executions lines w memo known working = record {
+  kept = working.kept;
+  long = working.long;
+  marks_long = working.marks_long;
+  grown = grown_none w.tracked.words.items w.tracked.trail.items;
+  ends = (working.room, omega arith);
+  known = known;
 }
 
 ends_then : {A : Type 0} (lines more most : Vec Line A) (w x y : Tracked) (emptied : Option ℕ) → IsPaid lines w more x → Ends more x most y emptied → Ends lines w most y emptied
@@ -35,33 +51,36 @@ ends_then lines more most w x y None first then = (then.0, omega (arith, first, 
 ends_then lines more most w x y (Some v) first then = then
 
 -- one part, and then another one
-pub proceeds_then : {A : Type 0} (points executions : ℕ) (lines more most : Vec Line A) (w : Tracked) (x y : Workspace) (emptied : Option ℕ) → Proceeds points executions lines w more x None → Proceeds points executions more x.tracked most y emptied → Proceeds points executions lines w most y emptied
+pub proceeds_then : {A : Type 0} {ks : List Constraint} (points executions : ℕ) (lines more most : Vec Line A) (w : Tracked) (x y : Workspace) (emptied : Option ℕ) → Proceeds points executions ks lines w more x None → Proceeds points executions ks more x.tracked most y emptied → Proceeds points executions ks lines w most y emptied
 proceeds_then points executions lines more most w x y emptied first then = record {
   kept = then.kept;
   long = then.long;
   marks_long = then.marks_long;
   grown = grown_then _ _ _ _ _ _ first.grown then.grown;
   ends = ends_then lines more most w x.tracked y.tracked emptied first.ends.1 then.ends;
+  known = then.known;
 }
 
 -- other marks, as many
-pub proceeds_marked : {A : Type 0} (points executions : ℕ) (lines more : Vec Line A) (w : Tracked) (x : Workspace) (marks : Marks) (emptied : Option ℕ) → length marks.words.items ≡ length x.marks.words.items → Proceeds points executions lines w more x emptied
-    → Proceeds points executions lines w more (record { tracked = x.tracked; marks = marks }) emptied
+pub proceeds_marked : {A : Type 0} {ks : List Constraint} (points executions : ℕ) (lines more : Vec Line A) (w : Tracked) (x : Workspace) (marks : Marks) (emptied : Option ℕ) → length marks.words.items ≡ length x.marks.words.items → Proceeds points executions ks lines w more x emptied
+    → Proceeds points executions ks lines w more (record { tracked = x.tracked; marks = marks; memo = x.memo }) emptied
 proceeds_marked points executions lines more w x marks emptied long done = record {
   kept = done.kept;
   long = done.long;
   marks_long = omega (arith, done.marks_long, long);
   grown = done.grown;
   ends = done.ends;
+  known = done.known;
 }
 
 -- where no point was emptied it can go on
-pub still_working : {A : Type 0} (points executions : ℕ) (lines more : Vec Line A) (w : Tracked) (x : Workspace) → Proceeds points executions lines w more x None → IsWorking points executions more x
+pub still_working : {A : Type 0} {ks : List Constraint} (points executions : ℕ) (lines more : Vec Line A) (w : Tracked) (x : Workspace) → Proceeds points executions ks lines w more x None → IsWorking points executions ks more x
 still_working points executions lines more w x done = record {
   kept = done.kept;
   long = done.long;
   marks_long = done.marks_long;
   room = done.ends.0;
+  known = done.known;
 }
 
 -- whether a point was emptied

@@ -1,4 +1,4 @@
--- What a clause sees of the program's boxes: the candidates of each point, and the changes that made them so.
+-- What a clause sees of the program's boxes: the candidates of each point, the changes that made them so, and what is known.
 use Rattle.std.specs.Prelude.{◌≡◌, ◌≤◌, ℕ, List, [], ◌∷◌, ◌++◌, Option, Some, None, length, drop, map, IfSome, if◌then◌else◌, Bool}
 use Rattle.std.specs.List.{slice_set}
 use Rattle.wf_model.specs.Problem.{Problem}
@@ -8,7 +8,9 @@ use Rattle.wf_model.specs.Laws.{IsBoxOf}
 use Rattle.wf_set.specs.Sets.{box_of, values_in}
 use Rattle.wf_box.specs.Changes.{KeepsTrack}
 use Rattle.wf_box.specs.Kept.{box_kept}
+use Rattle.wf_box.specs.Revising.{AreKnown}
 use Rattle.wf_model.specs.Limits.{most_points}
+use Rattle.wf_box.specs.declared.memo.Revised.{Revised}
 use Rattle.wf_box.specs.declared.tracked.Change.{Change}
 use Rattle.wf_box.specs.declared.boxed.Box0.TheInside.{Inside}
 use Rattle.wf_box.specs.declared.snapshot.Snapshot.TheInside as snapshot
@@ -20,11 +22,12 @@ pub record Was : Type 0 where
   pub point : ℕ
   pub set : List ℕ
 
--- the candidates of each point, the changes since the box was made, and after how many of them it was closed last
+-- the candidates of each point, the changes since the box was made, after how many of them it was closed last, and the kernel's answers that it keeps
 pub record Tracked : Type 0 where
   pub sets : Box
   pub trail : List Was
   pub closed : Option ℕ
+  pub known : List (Option Revised)
 
 -- ---- taking back
 
@@ -51,10 +54,11 @@ pub record WasClosed (p : Problem) (b : Tracked) (n : ℕ) : Type 0 where
   pub filled : first_empty (box_after n b) ≡ None
   pub closed : (sweep p (box_after n b)).lines ≡ []
 
--- a box of the problem, which was closed when it says so
+-- a box of the problem, which was closed when it says so, and keeps right answers alone
 pub record IsFor (p : Problem) (b : Tracked) : Type 0 where
   pub is_box : IsBoxOf p b.sets
   pub closed : IfSome b.closed (WasClosed p b)
+  pub known : AreKnown p.constraints b.known
 
 -- so many changes if the test holds
 abbrev pub closed_if : Bool → ℕ → Option ℕ
@@ -71,15 +75,15 @@ abbrev pub change_seen : Change → Was
 change_seen c = record { point = c.point; set = values_in c.before }
 
 abbrev pub box_seen : Inside → Tracked
-box_seen b = record { sets = box_of b.workspace.tracked.words.items; trail = map change_seen b.workspace.tracked.trail.items; closed = b.closed }
+box_seen b = record { sets = box_of b.workspace.tracked.words.items; trail = map change_seen b.workspace.tracked.trail.items; closed = b.closed; known = b.workspace.memo.slots.items }
 
 pub record IsKeptBox (b : Inside) : Type 0 where
   pub tracked : KeepsTrack b.workspace.tracked
   pub closed : IfSome b.closed (λ n. n ≤ length b.workspace.tracked.trail.items)
 
--- a box without a change to take back
+-- a box without a change to take back, which keeps no answer
 abbrev pub snapshot_seen : snapshot.Inside → Tracked
-snapshot_seen s = record { sets = box_kept s.sets; trail = []; closed = closed_if s.is_closed 0 }
+snapshot_seen s = record { sets = box_kept s.sets; trail = []; closed = closed_if s.is_closed 0; known = [] }
 
 abbrev pub IsKeptSnapshot : snapshot.Inside → Type 0
 IsKeptSnapshot s = length (box_kept s.sets) ≤ most_points

@@ -56,6 +56,10 @@ IsRuleOf simplex tuples rule = rule_seen rule ≡ record { input = simplex; tupl
 abbrev pub AreExecutionsOf : task.Task → ℕ → List Rule → List Execution → Type 0
 AreExecutionsOf t rounds rules es = map (constraint_seen rules) es ≡ (problem_of t rounds).constraints
 
+-- the rule of an execution
+abbrev pub rule_in : Network → ℕ → Rule
+rule_in n e = rule_of n.rules.items (get_or n.executions.items e no_execution)
+
 -- the constraint of an execution
 abbrev pub constraint_in : Network → ℕ → Constraint
 constraint_in n e = constraint_seen n.rules.items (get_or n.executions.items e no_execution)

@@ -5,24 +5,27 @@ use Rattle.wf_lines.specs.declared.line.Line.{Line}
 use Rattle.wf_box.specs.Changes.{GrowsTo, KeepsTrack, sets_in}
 use Rattle.wf_box.specs.Closes.{EndsAt}
 use Rattle.wf_box.specs.Marks.{bit_of}
+use Rattle.wf_box.specs.Problems.{constraints_in}
 use Rattle.wf_box.specs.Quiet.{IsUntouched, IsUser, MarksTell}
+use Rattle.wf_box.specs.Revising.{AreKnown}
 use Rattle.wf_box.specs.Steps.{HasRoom, IsPaid}
 use Rattle.wf_box.specs.declared.problem.Network.{Network}
 use Rattle.wf_box.specs.declared.tracked.Tracked.{Tracked}
 use Rattle.wf_box.specs.declared.workspace.Workspace.{Workspace}
 
--- candidates of so many points and marks for so many executions, and room for each change and each line that can come
-pub record IsWorking {A : Type 0} (points executions : ℕ) (lines : Vec Line A) (w : Workspace) : Type 0 where
+-- candidates of so many points and marks for so many executions, room for each change and each line that can come, and right answers alone
+pub record IsWorking {A : Type 0} (points executions : ℕ) (ks : List Constraint) (lines : Vec Line A) (w : Workspace) : Type 0 where
   pub kept : KeepsTrack w.tracked
   pub long : length w.tracked.words.items ≡ points
   pub marks_long : executions ≤ 64 * length w.marks.words.items
   pub room : HasRoom lines w.tracked.words.items
+  pub known : AreKnown ks w.memo.slots.items
 
 abbrev pub IsWorkingOn : {A : Type 0} → Network → Vec Line A → Workspace → Type 0
-IsWorkingOn n lines w = IsWorking n.points (length n.executions.items) lines w
+IsWorkingOn n lines w = IsWorking n.points (length n.executions.items) (constraints_in n) lines w
 
 abbrev pub IsWorkingFor : {A : Type 0} → Problem → Vec Line A → Workspace → Type 0
-IsWorkingFor p lines w = IsWorking p.points (length p.constraints) lines w
+IsWorkingFor p lines w = IsWorking p.points (length p.constraints) p.constraints lines w
 
 -- a point that was emptied ends it; where none was, there is room for what can come, and each new line has a candidate less beside it
 abbrev pub Ends : {A : Type 0} → Vec Line A → Tracked → Vec Line A → Tracked → Option ℕ → Type 0
@@ -30,18 +33,19 @@ Ends lines old more new None = HasRoom more new.words.items × IsPaid lines old 
 Ends lines old more new (Some v) = EndsAt more.items (sets_in new) v
 
 -- candidates were taken out, with lines; this point was emptied, if one was
-pub record Proceeds {A : Type 0} (points executions : ℕ) (lines : Vec Line A) (old : Tracked) (more : Vec Line A) (new : Workspace) (emptied : Option ℕ) : Type 0 where
+pub record Proceeds {A : Type 0} (points executions : ℕ) (ks : List Constraint) (lines : Vec Line A) (old : Tracked) (more : Vec Line A) (new : Workspace) (emptied : Option ℕ) : Type 0 where
   pub kept : KeepsTrack new.tracked
   pub long : length new.tracked.words.items ≡ points
   pub marks_long : executions ≤ 64 * length new.marks.words.items
   pub grown : GrowsTo old new.tracked
   pub ends : Ends lines old more new.tracked emptied
+  pub known : AreKnown ks new.memo.slots.items
 
 abbrev pub ProceedsOn : {A : Type 0} → Network → Vec Line A → Workspace → Vec Line A → Workspace → Option ℕ → Type 0
-ProceedsOn n lines old more new emptied = Proceeds n.points (length n.executions.items) lines old.tracked more new emptied
+ProceedsOn n lines old more new emptied = Proceeds n.points (length n.executions.items) (constraints_in n) lines old.tracked more new emptied
 
 abbrev pub ProceedsFor : {A : Type 0} → Problem → Vec Line A → Workspace → Vec Line A → Workspace → Option ℕ → Type 0
-ProceedsFor p lines old more new emptied = Proceeds p.points (length p.constraints) lines old.tracked more new emptied
+ProceedsFor p lines old more new emptied = Proceeds p.points (length p.constraints) p.constraints lines old.tracked more new emptied
 
 -- ---- marks
 

@@ -12,6 +12,7 @@ ghost use Rattle.wf_model.specs.Limits.{most_points};
 
 use crate::kept::KeptSets;
 use crate::marks::Marks;
+use crate::memo::Memo;
 use crate::problem::Problem;
 use crate::snapshot::Snapshot;
 use crate::tracked::Tracked;
@@ -24,7 +25,7 @@ use wf_set::{Mask, first};
 /// earlier state again: [`Box0::mark`] and [`Box0::undo`].
 ///
 /// A clause sees it as the list of the points' candidates, each ascending, with the changes since it was made, the last
-/// one last, and after how many of these it was closed last.
+/// one last, after how many of these it was closed last, and the answers of the kernel that it keeps.
 #[derive(Drop)]
 pub struct Box0 {
     pub(crate) workspace: Workspace,
@@ -65,6 +66,7 @@ impl Box0 {
             workspace: Workspace {
                 tracked: Tracked::new(alloc, words)?,
                 marks: Marks::new(alloc),
+                memo: Memo::new(alloc),
             },
             closed: None,
         })
@@ -85,6 +87,7 @@ impl Box0 {
             workspace: Workspace {
                 tracked: Tracked::new(alloc, words)?,
                 marks: Marks::new(alloc),
+                memo: Memo::new(alloc),
             },
             closed: if self.is_closed() { Some(0) } else { None },
         })
@@ -94,6 +97,7 @@ impl Box0 {
     pub fn keep(&self, alloc: Global) -> Result<Snapshot, AllocError>
         ensures sets { IfOk result (λ kept. kept.sets ≡ self.now.sets) }
         ensures fresh { IfOk result (λ kept. kept.trail ≡ []) }
+        ensures unknown { IfOk result (λ kept. kept.known ≡ []) }
         ensures is { IfOk result (λ kept. (p : Problem) → IsFor p self.now → IsFor p kept) }
         ensures closed { self.now.closed ≡ Some (length self.now.trail)
             → IfOk result (λ kept. kept.closed ≡ Some 0) }

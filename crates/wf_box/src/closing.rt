@@ -10,14 +10,15 @@ ghost use Rattle.wf_box.specs.Changes.{KeepsTrack, sets_in};
 ghost use Rattle.wf_box.specs.Quiet.{EmptiesNoneSince, IsUntouchedSince, MarksTell, StoodClosed};
 ghost use Rattle.wf_set.specs.Sets.{box_of};
 ghost use Rattle.wf_lane.specs.Table.{HasSupported};
-ghost use Rattle.wf_box.specs.Problems.{IsNetwork, constraint_in, constraints_in, no_rule};
-ghost use Rattle.wf_box.specs.Revising.{IsRevised};
+ghost use Rattle.wf_box.specs.Problems.{IsNetwork, constraint_in, constraints_in, rule_in};
+ghost use Rattle.wf_box.specs.Revising.{AreKnown};
 ghost use Rattle.wf_box.specs.Steps.{ClosesTo, NamesAll, NamesAt, NamesIn, NamesLost, Reaches, SweepsTo, TakesEach, box_in, point_if, revision};
 ghost use Rattle.wf_box.specs.Closes.{AddsClosing, AreFew, IsEmptied, IsSupported, KeepsSolutions, Leaves, LosesNamed, Takes, emptied_by, sweeps_to_close};
 ghost use Rattle.wf_box.specs.Working.{AreMarked, AreSilent, IsSilent, IsWorkingFor, IsWorkingOn, LeavesUntouched, ProceedsFor, ProceedsOn};
 
 use crate::boxed::Box0;
 use crate::marks::Marks;
+use crate::memo::{Memo, Revised, slot_of};
 use crate::problem::{Execution, Network, Problem, Rule};
 use crate::taking::{Place, put, take_each};
 use crate::tracked::Tracked;
@@ -37,14 +38,6 @@ pub enum Closed {
         /// How many sweeps it took, with the last one, which changed nothing.
         sweeps: u32,
     },
-}
-
-/// What a rule supports at each place for some candidates.
-#[derive(Clone, Copy, Debug)]
-struct Revised {
-    rule: u32,
-    candidates: [Mask; 4],
-    supported: [Mask; 4],
 }
 
 /// Takes out what is not supported, sweep by sweep, until a sweep changes nothing or a point is emptied, and adds a
@@ -78,6 +71,8 @@ pub fn close(
     lines.reserve(boxed.workspace.tracked.count as usize + 1)?;
     let executions = problem.network.executions.len() as u32;
     boxed.workspace.marks.reserve(alloc, executions)?;
+    // no call after this one is refused
+    boxed.workspace.memo.grow(alloc);
     let closed = close_tracked(problem, boxed.closed, &mut boxed.workspace, lines);
     boxed.closed = match closed {
         Closed::Open { .. } => Some(boxed.workspace.tracked.trail.len() as u32),
@@ -241,13 +236,12 @@ fn sweep_marked(network: &Network, workspace: &mut Workspace, lines: &mut Lines)
     ensures marked { IfNone result (AreMarked (constraints_in network.now) workspace.new) }
     ensures named { NamesAll network.now lines.old workspace.old lines.new workspace.new }
 {
-    let mut last = None;
     let mut next = 0;
     'marked: while let Some(number) = workspace.marks.take_next(next) {
         if number as usize >= network.executions.len() {
             return None;
         }
-        if let Some(point) = revise(number, network, workspace, lines, &mut last) {
+        if let Some(point) = revise(number, network, workspace, lines) {
             return Some(point);
         }
         next = number + 1;
@@ -262,26 +256,24 @@ fn revise(
     network: &Network,
     workspace: &mut Workspace,
     lines: &mut Lines,
-    last: &mut Option<Revised>,
 ) -> Option<u32>
     requires network { IsNetwork network.now }
     requires number { number < length network.now.executions.items }
     requires working { IsWorkingOn network.now lines.old workspace.old }
-    requires last { IsRevised network.now.rules.items last.old }
     ensures step { Reaches (revision number (constraint_in network.now number))
         lines.old workspace.old lines.new workspace.new result }
     ensures proceeds { ProceedsOn network.now
         lines.old workspace.old lines.new workspace.new result }
     ensures untouched { LeavesUntouched network.now workspace.old workspace.new }
     ensures silent { IsSilent number workspace.old workspace.new }
-    ensures last { IsRevised network.now.rules.items last.new }
     ensures named { NamesIn network.now number lines.old workspace.old lines.new workspace.new }
 {
     let execution = network.executions[number as usize];
     let found = candidates_at(execution, &workspace.tracked.words);
-    let supported = supported_at(execution.rule, found, &network.rules, last);
     let rule = &network.rules[execution.rule as usize];
-    'places: for place in 0..rule.simplex.colours() {
+    let colours = rule.simplex.colours();
+    let supported = supported_at(number, found, network, &mut workspace.memo);
+    'places: for place in 0..colours {
         let at = Place {
             execution: number,
             process: rule.simplex.colour(place),
@@ -330,31 +322,35 @@ fn take_place(
     emptied
 }
 
-/// The values that a rule supports at each place for some candidates. The last answer is kept, since most executions
-/// of a simplex have the same candidates.
-fn supported_at(
-    rule: u32,
-    candidates: [Mask; 4],
-    rules: &[Rule],
-    last: &mut Option<Revised>,
-) -> [Mask; 4]
-    requires rule { rule < length rules.now }
-    requires last { IsRevised rules.now last.old }
-    ensures supported { HasSupported result (get_or rules.now rule no_rule).table candidates }
-    ensures last { IsRevised rules.now last.new }
+/// The values that the rule of an execution supports at each place for some candidates. Answers are kept, since many
+/// executions of a simplex have the same candidates, and have them again.
+fn supported_at(number: u32, candidates: [Mask; 4], network: &Network, memo: &mut Memo) -> [Mask; 4]
+    requires network { IsNetwork network.now }
+    requires number { number < length network.now.executions.items }
+    requires few { length (rule_in network.now number).simplex ≤ 4 }
+    requires known { AreKnown (constraints_in network.now) memo.old.slots.items }
+    ensures supported { HasSupported result (rule_in network.now number).table candidates }
+    ensures known { AreKnown (constraints_in network.now) memo.new.slots.items }
 {
-    if let Some(known) = *last
-        && known.rule == rule
+    let rule = network.executions[number as usize].rule;
+    let slot = slot_of(rule, candidates, memo.slots.len());
+    if slot < memo.slots.len()
+        && let Some(known) = memo.slots[slot]
         && known.candidates == candidates
+        && known.execution < network.executions.len()
+        && network.executions[known.execution].rule == rule
     {
         return known.supported;
     }
-    let supported = rules[rule as usize].table.revise(candidates).masks;
-    *last = Some(Revised {
-        rule,
-        candidates,
-        supported,
-    });
+    let supported = network.rules[rule as usize].table.revise(candidates).masks;
+    memo.keep(
+        slot,
+        Revised {
+            execution: number as usize,
+            candidates,
+            supported,
+        },
+    );
     supported
 }
 

@@ -11,6 +11,7 @@ mod boxed;
 mod closing;
 mod kept;
 mod marks;
+mod memo;
 mod problem;
 mod snapshot;
 mod taking;

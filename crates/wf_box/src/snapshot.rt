@@ -6,6 +6,7 @@ ghost use Rattle.wf_model.specs.Box.{first_open};
 use crate::boxed::Box0;
 use crate::kept::KeptSets;
 use crate::marks::Marks;
+use crate::memo::Memo;
 use crate::tracked::Tracked;
 use crate::workspace::Workspace;
 use std::alloc::{AllocError, Global};
@@ -43,6 +44,7 @@ impl Snapshot {
             workspace: Workspace {
                 tracked: Tracked::new(alloc, sets)?,
                 marks: Marks::new(alloc),
+                memo: Memo::new(alloc),
             },
             closed: if self.is_closed { Some(0) } else { None },
         })

@@ -22,7 +22,8 @@ use Rattle.wf_set.specs.Sets.{values_in}
 use Rattle.wf_search.specs.declared.outline.Slot.{Slot}
 use Rattle.wf_search.specs.Cover.{each_seen}
 use Rattle.wf_box.specs.Boxes.{Grows, IsFor, Tracked, WasClosed, box_after}
-use Rattle.wf_box.proofs.Lemmas.{on_true, after_grown, closed_undone, grown_trail, still_closed}
+use Rattle.wf_box.specs.Revising.{AreKnown}
+use Rattle.wf_box.proofs.Lemmas.{on_true, after_grown, closed_undone, grown_trail, known_none, still_closed}
 use Rattle.wf_search.specs.Outline.{IsClosedBox, IsJustClosed, as_written, slot_seen, slots_filled, is_to_open}
 use Rattle.wf_search.proofs.SearchLemmas.{branches_are_boxes}
 use Rattle.wf_search.proofs.PendingLemmas.{if_there, last_state}
@@ -246,7 +247,11 @@ closed_for p b now closed =
       filled = ap first_empty last ∙ closed.filled;
       closed = ap (λ box. (sweep p box).lines) last ∙ closed.closed;
     } in
-    record { is_box = closed.is_box; closed = subst (λ o. IfSome o (WasClosed p b)) (sym now) was }
+    record {
+      is_box = closed.is_box;
+      closed = subst (λ o. IfSome o (WasClosed p b)) (sym now.closed) was;
+      known = subst (AreKnown p.constraints) (sym now.fresh) (known_none p.constraints);
+    }
 
 pub slot_closed : (slots : List Slot) (i : ℕ) (s : Slot) → AllByRecursion (λ (s : Slot). IsJustClosed s.boxed) slots → i < length slots → s ≡ get_or slots i s → IsJustClosed s.boxed
 slot_closed [] i s all low is = absurd (let none : ⊥ = omega (arith, low) in none)

@@ -32,9 +32,10 @@ pub record IsClosedBox (p : Problem) (box : Box) : Type 0 where
   pub closed : (sweep p box).lines ≡ []
   pub filled : first_empty box ≡ None
 
--- the box was closed, and has not changed since
-abbrev pub IsJustClosed : Tracked → Type 0
-IsJustClosed b = b.closed ≡ Some (length b.trail)
+-- the box was closed, and has not changed since; it keeps no answer of the kernel
+pub record IsJustClosed (b : Tracked) : Type 0 where
+  pub closed : b.closed ≡ Some (length b.trail)
+  pub fresh : b.known ≡ []
 
 -- it is the problem's if its candidates are those of a closed box
 abbrev pub IsForIfClosed : Tracked → Type 0

@@ -9,6 +9,7 @@ use Rattle.wf_box.specs.Boxes.{Grows, IsFor, Tracked}
 use Rattle.wf_box.specs.Closes.{KeepsSolutions, Leaves}
 use Rattle.wf_box.specs.Problems.{constraint_seen}
 use Rattle.wf_box.specs.Quiet as quiet
+use Rattle.wf_box.specs.Revising.{AreKnown}
 use Rattle.wf_box.proofs.ChangeLemmas.{room_now}
 use Rattle.wf_box.proofs.CloseLemmas.{is_box, left_of, solutions_kept, supported_there, was_closed}
 use Rattle.wf_box.proofs.SeenLemmas.{grown_seen, if_was, tracked_seen, was_seen}
@@ -22,14 +23,14 @@ overflow_cast-boxed c = omega (arith, c.len.ensures, c.close_tracked-closed.new.
 pub close_tracked-closed-requires-clause-closed : goal.close_tracked-closed-requires-clause-closed
 close_tracked-closed-requires-clause-closed c =
     let t = c.boxed.inside.workspace.tracked in
-    let is : IsFor c.args.problem.now (tracked_seen t.words.items t.trail.items c.boxed.inside.closed) = subst (IsFor c.args.problem.now) (sym c.boxed.view_is) c.requires in
-    if_was c.args.problem.now t.trail.items t.words.items c.boxed.inside.closed is.closed
+    let is : IsFor c.args.problem.now (tracked_seen t.words.items t.trail.items c.boxed.inside.closed c.boxed.inside.workspace.memo.slots.items) = subst (IsFor c.args.problem.now) (sym c.boxed.view_is) c.requires in
+    if_was c.args.problem.now t.trail.items t.words.items c.boxed.inside.closed c.boxed.inside.workspace.memo.slots.items is.closed
 
 pub returns-clause-grown : goal.returns-clause-grown
 returns-clause-grown c =
     let t = c.boxed.inside.workspace.tracked in
     let n = c.close_tracked-closed.new.workspace.tracked in
-    subst (λ (b : Tracked). Grows b (tracked_seen n.words.items n.trail.items c.match-closed.boxed)) c.boxed.view_is (grown_seen t.words.items t.trail.items n.words.items n.trail.items c.boxed.inside.closed c.match-closed.boxed c.close_tracked-closed.ensures.proceeds.grown)
+    subst (λ (b : Tracked). Grows b (tracked_seen n.words.items n.trail.items c.match-closed.boxed c.close_tracked-closed.new.workspace.memo.slots.items)) c.boxed.view_is (grown_seen t.words.items t.trail.items n.words.items n.trail.items c.boxed.inside.closed c.match-closed.boxed c.boxed.inside.workspace.memo.slots.items c.close_tracked-closed.new.workspace.memo.slots.items c.close_tracked-closed.ensures.proceeds.grown)
 
 pub close_tracked-closed-requires-clause-working : goal.close_tracked-closed-requires-clause-working
 close_tracked-closed-requires-clause-working c =
@@ -42,6 +43,7 @@ close_tracked-closed-requires-clause-working c =
       long = sym (length-map t.words.items values_in) ∙ is.long;
       marks_long = omega (arith, c.in_ok-reserve-2.ensures, executions, c.len-executions.ensures, n.executions.ok.0);
       room = grind (arith, common_steps);
+      known = c.grow.ensures c.args.problem.now.constraints (subst (λ (b : Tracked). AreKnown c.args.problem.now.constraints b.known) (sym c.boxed.view_is) c.requires.known);
     }
 
 pub returns-clause-is : goal.returns-clause-is
@@ -58,10 +60,11 @@ returns-clause-is c =
         | in-Open w ↦
             let n : w.len.result ≡ length t.trail.items = omega (arith, w.len.ensures, t.trail.ok.0) in
             rw w.boxed-is
-            (was_seen p t.trail.items t.words.items _ w.len.result
+            (was_seen p t.trail.items t.words.items _ _ w.len.result
             (subst (quiet.WasClosed p t.trail.items t.words.items) (sym n) (was_closed p (box_of before) t.words.items t.trail.items w.in-Open.sweeps is (subst (Leaves (closing p (box_of before)).left (box_of t.words.items)) w.in-Open.is left))))
         | in-Empty w ↦ rw w.boxed-is tt
       ];
+      known = e.proceeds.known;
     }
 
 pub returns-clause-solutions : goal.returns-clause-solutions

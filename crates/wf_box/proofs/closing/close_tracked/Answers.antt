@@ -30,12 +30,13 @@ returns-in-Some-clause-proceeds c =
       marks_long = omega (arith, working.marks_long, c.prepare-prepared.ensures.long);
       grown = grown_none t.words.items t.trail.items;
       ends = (point_there (box_of t.words.items) c.in-Some.point empty, empty_there (box_of t.words.items) c.in-Some.point empty, (c.args.lines.now.items, c.put.ensures.lines));
+      known = working.known;
     }
 
 pub sweeps-requires-clause-working : goal.sweeps-requires-clause-working
 sweeps-requires-clause-working c =
     let working = c.requires.working in
-    record { kept = working.kept; long = working.long; marks_long = omega (arith, working.marks_long, c.prepare-prepared.ensures.long); room = working.room }
+    record { kept = working.kept; long = working.long; marks_long = omega (arith, working.marks_long, c.prepare-prepared.ensures.long); room = working.room; known = working.known }
 
 pub returns-in-Some-clause-named : goal.returns-in-Some-clause-named
 returns-in-Some-clause-named c =

@@ -5,25 +5,34 @@ use Rattle.wf_model.specs.Problem.{Problem, constraint_at}
 use Rattle.wf_model.specs.Closing.{Step, and_then}
 use Rattle.wf_lane.specs.Table.{HasSupported}
 use Rattle.wf_set.specs.Sets.{box_of}
-use Rattle.wf_box.specs.Problems.{IsWithin, constraint_in, constraint_seen, no_rule}
+use Rattle.wf_box.specs.Problems.{IsWithin, constraint_in, constraint_seen, rule_in, rule_of}
 use Rattle.wf_box.specs.Steps.{NamesLost, point_if, reached, revision}
 use Rattle.wf_box.specs.Working.{IsSilent}
+use Rattle.wf_box.specs.declared.problem.Execution.{Execution}
+use Rattle.wf_box.specs.declared.problem.Rule.{Rule}
 use Rattle.wf_box.proofs.ProblemLemmas.{known_at}
 use Rattle.wf_box.proofs.StepLemmas.{lost_in_turn}
 use Rattle.wf_box.proofs.NameLemmas.{named_none, named_then, point_of_place}
 use Rattle.wf_box.proofs.QuietLemmas.{untouched_none, untouched_then}
 use Rattle.wf_box.proofs.PlaceLemmas.{place_done, no_place_more}
-use Rattle.wf_box.proofs.WorkLemmas.{execution_is, execution_told, execution_within, proceeds_none, proceeds_then, still_working}
+use Rattle.wf_box.proofs.WorkLemmas.{execution_is, execution_told, execution_within, proceeds_known, proceeds_then, still_working}
 use Rattle.wf_box.proofs.closing.revise.Goals as goal
 
-pub supported_at-supported-requires-clause-rule : goal.supported_at-supported-requires-clause-rule
-supported_at-supported-requires-clause-rule c = omega (arith, (execution_within c.args.network.now c.args.number c.index.result.now c.requires.network c.requires.number c.index.ensures).rule, ap length c.deref-2.ensures.value)
+pub supported_at-supported-requires-clause-few : goal.supported_at-supported-requires-clause-few
+supported_at-supported-requires-clause-few c =
+    let n = c.args.network.now in
+    let x = c.index.result.now in
+    let inside = execution_within n c.args.number x c.requires.network c.requires.number c.index.ensures in
+    let known = known_at n.rules.items n.points x c.index-rule.result.now inside c.requires.network.wide c.index-rule.ensures in
+    let rule : rule_in n c.args.number ≡ c.index-rule.result.now = ap (rule_of n.rules.items) (execution_is n c.args.number x c.requires.number c.index.ensures) ∙ known.is in
+    let long : length (rule_in n c.args.number).simplex ≡ length c.index-rule.result.now.simplex = ap (λ (r : Rule). length r.simplex) rule in
+    omega (arith, long, c.colours-colours.ensures.count, c.colours-colours.ensures.few)
 
 pub places-init : goal.places-init
 places-init c = (
   λ p at. named_none p c.args.lines.now.items c.args.workspace.now.tracked.words.items,
   ap (λ (s : Step). and_then (reached c.args.lines.now.items None c.args.workspace.now.tracked.words.items) (λ _. s)) (sym (lost_in_turn c.args.number (constraint_seen c.args.network.now.rules.items c.index.result.now) (box_of c.args.workspace.now.tracked.words.items))),
-  proceeds_none _ _ _ _ c.requires.working,
+  proceeds_known _ _ _ c.args.workspace.now _ c.supported_at-supported.ensures.known c.requires.working,
   untouched_none c.args.network.now.users c.args.workspace.now.tracked.words.items c.args.workspace.now.marks.words.items,
   λ none. refl,
 )
@@ -31,7 +40,7 @@ places-init c = (
 pub take_place-requires-clause-point : goal.take_place-requires-clause-point
 take_place-requires-clause-point c =
     let within = execution_within c.args.network.now c.args.number c.index.result.now c.requires.network c.requires.number c.index.ensures in
-    within.points_within c.places.place 0 (omega (arith, c.places-test.true, c.colours-place-end.ensures.few, within.long))
+    within.points_within c.places.place 0 (omega (arith, c.places-test.true, c.colours-colours.ensures.few, within.long))
 
 pub take_place-requires-clause-working : goal.take_place-requires-clause-working
 take_place-requires-clause-working c = still_working _ _ _ _ _ _ c.places.invariant.2
@@ -46,8 +55,8 @@ returns-then-take_place-clause-named c =
     let known = known_at n.rules.items n.points x rule inside c.requires.network.wide c.index-rule.ensures in
     let named : (p : Problem) → constraint_at p c.args.number ≡ constraint_seen n.rules.items x → NamesLost p c.args.lines.now c.args.workspace.now c.take_place.new.lines c.take_place.new.workspace = λ p at.
     named_then p _ _ _ _ _ _ (c.places.invariant.0 p at)
-    (c.take_place.ensures.named p (point_of_place p n.rules.items x rule n.points c.args.number c.places.place c.colour.result known inside c.colours-place-end.ensures.simplex
-    (omega (arith, c.colours-place-end.ensures.count, c.colours-place-end.ensures.few)) (omega (arith, c.colours-place-end.ensures.count, c.places-test.true)) c.colour.ensures at)) in
+    (c.take_place.ensures.named p (point_of_place p n.rules.items x rule n.points c.args.number c.places.place c.colour.result known inside c.colours-colours.ensures.simplex
+    (omega (arith, c.colours-colours.ensures.count, c.colours-colours.ensures.few)) (omega (arith, c.colours-colours.ensures.count, c.places-test.true)) c.colour.ensures at)) in
     let seen : constraint_in n c.args.number ≡ constraint_seen n.rules.items x = ap (constraint_seen n.rules.items) (execution_is n c.args.number x c.requires.number c.index.ensures) in
     λ p at. named p (at ∙ seen)
 
@@ -61,8 +70,8 @@ returns-then-take_place-clause-step c =
     let known = known_at n.rules.items n.points x rule inside c.requires.network.wide c.index-rule.ensures in
     let step = ap (λ b. reached c.take_place.new.lines.items (point_if b (get_or x.points c.places.place 0)) c.take_place.new.workspace.tracked.words.items) (sym c.if-take_place.true) ∙ c.take_place.ensures.step in
     let done = place_done n.rules.items x rule words c.candidates_at-found.result c.supported_at-supported.result c.args.number c.places.place c.colour.result c.difference-lost.result
-    (reached c.places.lines.items None c.places.workspace.tracked.words.items) _ known (subst (λ m. IsWithin (length n.rules.items) m x) (sym c.requires.working.long) inside) (omega (arith, c.colours-place-end.ensures.count, c.colours-place-end.ensures.few)) (omega (arith, c.colours-place-end.ensures.count, c.places-test.true))
-    (c.candidates_at-found.ensures.candidates ∙ ap (λ ws. map (λ v. get_or ws v []) x.points) c.deref.ensures.value) (subst (λ rs. HasSupported c.supported_at-supported.result (get_or rs x.rule no_rule).table c.candidates_at-found.result) c.deref-2.ensures.value c.supported_at-supported.ensures.supported) c.colour.ensures c.difference-lost.ensures step
+    (reached c.places.lines.items None c.places.workspace.tracked.words.items) _ known (subst (λ m. IsWithin (length n.rules.items) m x) (sym c.requires.working.long) inside) (omega (arith, c.colours-colours.ensures.count, c.colours-colours.ensures.few)) (omega (arith, c.colours-colours.ensures.count, c.places-test.true))
+    (c.candidates_at-found.ensures.candidates ∙ ap (λ ws. map (λ v. get_or ws v []) x.points) c.deref.ensures.value) (subst (λ (y : Execution). HasSupported c.supported_at-supported.result (rule_of n.rules.items y).table c.candidates_at-found.result) (execution_is n c.args.number x c.requires.number c.index.ensures) c.supported_at-supported.ensures.supported) c.colour.ensures c.difference-lost.ensures step
     ∙ c.places.invariant.1 in
     let seen : constraint_in n c.args.number ≡ constraint_seen n.rules.items x = ap (constraint_seen n.rules.items) (execution_is n c.args.number x c.requires.number c.index.ensures) in
     done ∙ ap (λ k. and_then (reached c.args.lines.now.items None words) (revision c.args.number k)) (sym seen)
@@ -77,7 +86,7 @@ pub returns-then-take_place-clause-silent : goal.returns-then-take_place-clause-
 returns-then-take_place-clause-silent c =
     let n = c.args.network.now in
     let x = c.index.result.now in
-    let user = execution_told n c.args.number x c.requires.network c.requires.number c.index.ensures c.places.place (omega (arith, c.places-test.true, c.colours-place-end.ensures.few)) in
+    let user = execution_told n c.args.number x c.requires.network c.requires.number c.index.ensures c.places.place (omega (arith, c.places-test.true, c.colours-colours.ensures.few)) in
     let silent : IsSilent c.args.number c.args.workspace.now c.take_place.new.workspace = λ none.
     c.take_place.ensures.silent c.args.number user none ∙ c.places.invariant.4 ((c.take_place.ensures.untouched c.args.number none).0) in
     silent
@@ -92,14 +101,14 @@ places-preserved c =
     let known = known_at n.rules.items n.points x rule inside c.requires.network.wide c.index-rule.ensures in
     let step = ap (λ b. reached c.take_place.new.lines.items (point_if b (get_or x.points c.places.place 0)) c.take_place.new.workspace.tracked.words.items) (sym c.if-take_place.false) ∙ c.take_place.ensures.step in
     let done = place_done n.rules.items x rule words c.candidates_at-found.result c.supported_at-supported.result c.args.number c.places.place c.colour.result c.difference-lost.result
-    (reached c.places.lines.items None c.places.workspace.tracked.words.items) _ known (subst (λ m. IsWithin (length n.rules.items) m x) (sym c.requires.working.long) inside) (omega (arith, c.colours-place-end.ensures.count, c.colours-place-end.ensures.few)) (omega (arith, c.colours-place-end.ensures.count, c.places-test.true))
-    (c.candidates_at-found.ensures.candidates ∙ ap (λ ws. map (λ v. get_or ws v []) x.points) c.deref.ensures.value) (subst (λ rs. HasSupported c.supported_at-supported.result (get_or rs x.rule no_rule).table c.candidates_at-found.result) c.deref-2.ensures.value c.supported_at-supported.ensures.supported) c.colour.ensures c.difference-lost.ensures step
+    (reached c.places.lines.items None c.places.workspace.tracked.words.items) _ known (subst (λ m. IsWithin (length n.rules.items) m x) (sym c.requires.working.long) inside) (omega (arith, c.colours-colours.ensures.count, c.colours-colours.ensures.few)) (omega (arith, c.colours-colours.ensures.count, c.places-test.true))
+    (c.candidates_at-found.ensures.candidates ∙ ap (λ ws. map (λ v. get_or ws v []) x.points) c.deref.ensures.value) (subst (λ (y : Execution). HasSupported c.supported_at-supported.result (rule_of n.rules.items y).table c.candidates_at-found.result) (execution_is n c.args.number x c.requires.number c.index.ensures) c.supported_at-supported.ensures.supported) c.colour.ensures c.difference-lost.ensures step
     ∙ c.places.invariant.1 in
     let named : (p : Problem) → constraint_at p c.args.number ≡ constraint_seen n.rules.items x → NamesLost p c.args.lines.now c.args.workspace.now c.take_place.new.lines c.take_place.new.workspace = λ p at.
     named_then p _ _ _ _ _ _ (c.places.invariant.0 p at)
-    (c.take_place.ensures.named p (point_of_place p n.rules.items x rule n.points c.args.number c.places.place c.colour.result known inside c.colours-place-end.ensures.simplex
-    (omega (arith, c.colours-place-end.ensures.count, c.colours-place-end.ensures.few)) (omega (arith, c.colours-place-end.ensures.count, c.places-test.true)) c.colour.ensures at)) in
-    let user = execution_told n c.args.number x c.requires.network c.requires.number c.index.ensures c.places.place (omega (arith, c.places-test.true, c.colours-place-end.ensures.few)) in
+    (c.take_place.ensures.named p (point_of_place p n.rules.items x rule n.points c.args.number c.places.place c.colour.result known inside c.colours-colours.ensures.simplex
+    (omega (arith, c.colours-colours.ensures.count, c.colours-colours.ensures.few)) (omega (arith, c.colours-colours.ensures.count, c.places-test.true)) c.colour.ensures at)) in
+    let user = execution_told n c.args.number x c.requires.network c.requires.number c.index.ensures c.places.place (omega (arith, c.places-test.true, c.colours-colours.ensures.few)) in
     let silent : IsSilent c.args.number c.args.workspace.now c.take_place.new.workspace = λ none.
     c.take_place.ensures.silent c.args.number user none ∙ c.places.invariant.4 ((c.take_place.ensures.untouched c.args.number none).0) in
     (named, done, proceeds_then _ _ _ _ _ _ c.places.workspace _ _ c.places.invariant.2 c.if-take_place.ensures.proceeds, untouched_then n.users _ _ _ _ _ _ c.places.invariant.3 c.take_place.ensures.untouched, silent)
@@ -116,7 +125,7 @@ returns-clause-step c =
     let ps = processes_of rule.simplex in
     let count : length ps ≡ length rule.simplex = length-map rule.simplex (λ v. v.0) in
     sym (no_place_more (reached c.places.lines.items None c.places.workspace.tracked.words.items) c.args.number (box_of words) (constraint_seen n.rules.items x) c.places.place ps x.points known.scope
-    (omega (arith, count, c.colours-place-end.ensures.count, c.places-test.false)) (omega (arith, count, c.colours-place-end.ensures.count, c.colours-place-end.ensures.few, inside.long)))
+    (omega (arith, count, c.colours-colours.ensures.count, c.places-test.false)) (omega (arith, count, c.colours-colours.ensures.count, c.colours-colours.ensures.few, inside.long)))
     ∙ c.places.invariant.1
     ∙ ap (λ k. and_then (reached c.args.lines.now.items None words) (revision c.args.number k)) (sym seen)
 

@@ -38,6 +38,7 @@ returns-then-eq-clause-proceeds c =
       marks_long = c.requires.working.marks_long;
       grown = subst (λ ws. IsGrown t.words.items t.trail.items ws t.trail.items) (sym (unchanged c)) (grown_none t.words.items t.trail.items);
       ends = ends_if c.args.lines.now c.take_each-emptied.new.lines t (record { words = with_items t.words c.take_each-emptied.new.sets; trail = t.trail; count = t.count; open_from = t.open_from }) c.deref_mut.result.now c.take_each-emptied.new.sets c.take_each-emptied.result c.args.place.point c.deref_mut.ensures.value (sym now) e.emptied e.room e.spent;
+      known = c.requires.working.known;
     }
 
 pub returns-then-eq-clause-untouched : goal.returns-then-eq-clause-untouched
@@ -74,6 +75,7 @@ returns-clause-proceeds c =
       marks_long = omega (arith, c.requires.working.marks_long, c.mark_each.ensures.long);
       grown = grown_one w.words.items w.trail.items c.note.new.self.words.items c.note.new.self.trail.items _ c.note.ensures.trail (ap (λ ws. slice_set ws c.args.place.point c.index.result.now) c.note.ensures.words ∙ less.back);
       ends = ends_if c.args.lines.now c.take_each-emptied.new.lines w c.note.new.self c.deref_mut.result.now c.take_each-emptied.new.sets c.take_each-emptied.result c.args.place.point c.deref_mut.ensures.value (sym (c.note.ensures.words ∙ now)) t.emptied t.room t.spent;
+      known = c.requires.working.known;
     }
 
 pub returns-clause-named : goal.returns-clause-named

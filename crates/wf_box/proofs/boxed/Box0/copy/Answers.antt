@@ -18,4 +18,4 @@ returns-clause-is c = λ p is.
       | then-is_closed w ↦ rw w.result-is (refl, w.if-is_closed.ensures.closed)
       | else-is_closed w ↦ rw w.result-is tt
     ] in
-    copied_for p c.args.self.now _ sets (ap (map change_seen) c.in_ok-new.ensures.trail) (is_box p c.in_ok-new.field-0.words.items long) closed is
+    copied_for p c.args.self.now _ sets (ap (map change_seen) c.in_ok-new.ensures.trail) c.new-3.ensures (is_box p c.in_ok-new.field-0.words.items long) closed is

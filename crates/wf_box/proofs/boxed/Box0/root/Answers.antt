@@ -1,10 +1,12 @@
-use Rattle.std.proofs.Common.{map, length, ap, ◌∙◌}
+use Rattle.std.proofs.Common.{map, length, ap, sym, subst, ◌∙◌}
 use Rattle.std.proofs.lemmas.List.{length-replicate}
 use Rattle.std.specs.List.{each_same}
 use Rattle.wf_model.specs.Problem.{Problem}
 use Rattle.wf_model.specs.Box.{root}
 use Rattle.wf_set.specs.Sets.{values_in}
+use Rattle.wf_box.specs.Revising.{AreKnown}
 use Rattle.wf_box.proofs.CloseLemmas.{is_box}
+use Rattle.wf_box.proofs.SeenLemmas.{known_none}
 use Rattle.wf_box.proofs.boxed.Box0.root.Goals as goal
 use Rattle.wf_set.proofs.Lemmas.{same_sets}
 
@@ -17,4 +19,5 @@ returns-clause-is c = record {
   is_box = is_box c.args.problem.now c.in_ok-new.field-0.words.items
       (ap length (c.in_ok-new.ensures.words ∙ c.in_ok-words.ensures.items_if_clones_equal (λ y e. each_same c.problem.inside.values y e.whole)) ∙ length-replicate c.problem.inside.network.points c.problem.inside.values ∙ ap (λ (p : Problem). p.points) c.problem.view_is);
   closed = tt;
+  known = subst (AreKnown c.args.problem.now.constraints) (sym c.new-3.ensures) (known_none c.args.problem.now.constraints);
 }
