@@ -121,3 +121,9 @@ laid-push arena first second more spans s h starts ends =
       apart = all_pairs_push (λ x y. x.«end» + 2 ≤ y.start) spans s h.apart
           (λ k d here. let bounded : (get_or spans k d).«end» ≤ length arena = (h.within k d here).bounded in omega arith);
     }
+
+-- between a place and itself there is nothing
+pub clause_at-nothing : (arena : List ℕ) (start : ℕ) → clause_at arena (record { start = start; «end» = start }) ≡ []
+clause_at-nothing arena start =
+    let none : start - start ≡ 0 = omega arith in
+    ap (λ n. take n (drop start arena)) none

@@ -1,15 +1,15 @@
 -- Laws of literals and clauses under an assignment.
-use Rattle.std.proofs.Common.{◌≡◌, ℕ, ◌/◌, ◌%◌, ◌<◌, zero, suc, true, false, List, [], ◌∷◌, ◌++◌, refl, sym, ◌∙◌, ap, arith, length, take, drop, get_or, inl, inr}
-use Rattle.std.specs.Prelude.{◌==◌, not, if◌then◌else◌, ◌||◌}
+use Rattle.std.proofs.Common.{◌≡◌, ℕ, ◌+◌, ◌/◌, ◌%◌, ◌<◌, zero, suc, true, false, List, [], ◌∷◌, ◌++◌, refl, sym, ◌∙◌, ap, arith, length, take, drop, get_or, inl, inr}
+use Rattle.std.specs.Prelude.{Bool, ◌==◌, not, if◌then◌else◌, ◌||◌}
 use Rattle.std.specs.List.{list_any}
 use Rattle.std.specs.Int.Bits.{bit_xor, xor_zero_r}
 use Rattle.std.proofs.lemmas.Nat.{xor_shr, xor_mod}
 use Rattle.std.proofs.lemmas.Grind.{common_steps}
 use Rattle.std.proofs.Math.Bool.{not-not}
 use Rattle.std.proofs.lemmas.List.Sums.{AllPass-from_list_all}
-use Rattle.std.proofs.lemmas.Bool.{cases_Bool}
+use Rattle.std.proofs.lemmas.Bool.{cases_Bool, false≢true}
 use Rattle.std.proofs.lemmas.List.{take-append-drop}
-use Rattle.std.proofs.lemmas.List.Folds.{list_any-append, list_any_at}
+use Rattle.std.proofs.lemmas.List.Folds.{list_any-append, list_any_at, list_any_more}
 use Rattle.wf_rup.specs.Propagation.{Implies}
 use Rattle.wf_clauses.specs.Formula.{Assignment}
 use Rattle.wf_rup.specs.Codes.{holds_code, hold_codes, is_model_of_codes, satisfies_codes}
@@ -43,6 +43,17 @@ satisfies_codes-front a clause i h =
     let parts : satisfies_codes a (take i clause ++ drop i clause) ≡ (satisfies_codes a (take i clause) || satisfies_codes a (drop i clause)) =
     list_any-append (holds_code a) (take i clause) (drop i clause) in
     ap (satisfies_codes a) (sym (take-append-drop i clause)) ∙ parts ∙ ap (λ b. b || satisfies_codes a (drop i clause)) h
+
+or-neither : (x y : Bool) → (x || y) ≡ false → (x ≡ false) × (y ≡ false)
+or-neither true y h = absurd (false≢true (sym h))
+or-neither false y h = (refl, h)
+
+-- of a part that isn't satisfied neither the last literal holds nor one before
+pub satisfies_codes-neither : (a : Assignment) (clause : List ℕ) (i d : ℕ) → i < length clause → satisfies_codes a (take (i + 1) clause) ≡ false
+    → (satisfies_codes a (take i clause) ≡ false) × (holds_code a (get_or clause i d) ≡ false)
+satisfies_codes-neither a clause i d within none =
+    or-neither (satisfies_codes a (take i clause)) (holds_code a (get_or clause i d))
+    (sym (list_any_more (holds_code a) clause i d within) ∙ none)
 
 -- a clause is implied where one of its literals holds as soon as those before it don't
 pub Implies-at : (f : List (List ℕ)) (old new : List ℕ) (clause : List ℕ) (i d : ℕ) → i < length clause

@@ -2,5 +2,7 @@
 pub mod Codes
 pub mod Stored
 pub mod Propagation
+pub mod Settled
 pub mod Seen
+pub mod Unit
 pub mod Whole

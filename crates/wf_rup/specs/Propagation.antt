@@ -1,5 +1,7 @@
 -- What unit propagation may find out from clauses and the literals that are true.
-use Rattle.std.specs.Prelude.{◌≡◌, ℕ, true, false, not, List, length, take}
+use Rattle.std.specs.Prelude.{◌≡◌, ℕ, Bool, true, false, not, List, [], ◌∷◌, ◌++◌, if◌then◌else◌, length, take, bit_xor}
+use Rattle.std.specs.List.{list_any}
+use Rattle.wf_rup.specs.Stored.{has}
 use Rattle.wf_clauses.specs.Formula.{Assignment}
 use Rattle.wf_rup.specs.Codes.{hold_codes, holds_code, is_model_of_codes, satisfies_codes}
 use Rattle.wf_rup.specs.declared.propagation.Outcome.{Outcome}
@@ -8,6 +10,23 @@ use Rattle.wf_rup.specs.declared.propagation.Outcome.TheVariants.{Gone, Stays, F
 -- one of the two literals holds, and never both
 abbrev pub IsNegationOf : ℕ → ℕ → Type 0
 IsNegationOf literal other = (a : Assignment) → holds_code a other ≡ not (holds_code a literal)
+
+-- the code of a literal's negation
+abbrev pub opposite : ℕ → ℕ
+opposite literal = bit_xor literal 1
+
+-- the list, and the literal where it isn't there yet
+abbrev pub with_literal : List ℕ → ℕ → List ℕ
+with_literal literals l = if has literals l then literals else literals ++ l ∷ []
+
+-- a literal of the clause is true
+abbrev pub is_satisfied_by : List ℕ → List ℕ → Bool
+is_satisfied_by trail clause = list_any (has trail) clause
+
+-- the literal is one of the clause, and not false
+pub record IsOpen (trail clause : List ℕ) (literal : ℕ) : Type 0 where
+  pub inside : has clause literal ≡ true
+  pub unfalsified : has trail (opposite literal) ≡ false
 
 -- where the literals of the trail hold, this one does
 abbrev pub MakesTrue : List ℕ → ℕ → Type 0

@@ -1,5 +1,5 @@
 -- What clauses see of the stored clauses and their parts, with literals by their codes.
-use Rattle.std.specs.Prelude.{◌≡◌, ℕ, ◌+◌, ◌≤◌, ◌==◌, Bool, true, false, List, All, get_or, length, map}
+use Rattle.std.specs.Prelude.{◌≡◌, ℕ, ◌+◌, ◌<◌, ◌≤◌, ◌==◌, Bool, true, false, List, [], ◌∷◌, All, get_or, length, map, take}
 use Rattle.std.specs.List.{AllPairs, list_any, slice_range}
 use Rattle.wf_clauses.specs.Formula.{Assignment}
 use Rattle.wf_rup.specs.Codes.{hold_codes, holds_code, is_model_of_codes, satisfies_codes}
@@ -43,9 +43,24 @@ StoredEntails stored clause = (a : Assignment) → IsModelOfStored a stored → 
 
 -- ---- the parts
 
--- a marked literal is in the list
-abbrev pub IsMarked : List Bool → List ℕ → Type 0
-IsMarked marks literals = (l : ℕ) → get_or marks l false ≡ true → list_any (λ x. x == l) literals ≡ true
+-- the literal is in the list
+abbrev pub has : List ℕ → ℕ → Bool
+has literals l = list_any (λ x. x == l) literals
+
+-- each literal of the list stands there once
+abbrev pub IsDistinct : List ℕ → Type 0
+IsDistinct literals = (k d : ℕ) → k < length literals → has (take k literals) (get_or literals k d) ≡ false
+
+-- the marked literals are those in the list
+pub record IsMarked (marks : List Bool) (literals : List ℕ) : Type 0 where
+  pub marked : (l : ℕ) → get_or marks l false ≡ has literals l
+  pub distinct : IsDistinct literals
+
+-- the clauses that have a literal
+abbrev pub kept_of : List (List ℕ) → List (List ℕ)
+kept_of [] = []
+kept_of ([] ∷ clauses) = kept_of clauses
+kept_of ((literal ∷ literals) ∷ clauses) = (literal ∷ literals) ∷ kept_of clauses
 
 -- the literals of a span
 abbrev pub clause_at : List ℕ → Span → List ℕ

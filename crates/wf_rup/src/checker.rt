@@ -1,8 +1,9 @@
 //! The checker.
 
-ghost use Rattle.std.specs.Prelude.{◌≡◌, IfOk, IsTrue, map};
+ghost use Rattle.std.specs.Prelude.{◌≡◌, false, IfOk, IsTrue, map};
 ghost use Rattle.wf_rup.specs.Codes.{code_of};
 ghost use Rattle.wf_rup.specs.Seen.{Entails, HasNoModel, KeepsModels, KeepsModelsOf, KnowsNothing};
+ghost use Rattle.wf_rup.specs.Unit.{DoesNotFollow};
 
 use crate::database::Database;
 use crate::literal::{Code, Literal};
@@ -66,6 +67,9 @@ impl Checker {
     /// Whether the lemma follows by unit propagation from what is kept and the negated lemma. If so it is kept.
     pub fn derive(&mut self, alloc: Global, lemma: &[Literal]) -> Result<bool, AllocError>
         ensures follows { IfOk result (λ follows. IsTrue follows → Entails self.old lemma.now) }
+        ensures refused { IfOk result (λ follows. follows ≡ false
+            → DoesNotFollow self.old lemma.now) }
+        ensures unchanged { IfOk result (λ follows. follows ≡ false → self.new ≡ self.old) }
         ensures kept { KeepsModels self.old self.new }
     {
         put_codes(&mut self.codes, lemma)?;

@@ -1,15 +1,13 @@
 //! The clauses that are kept.
 
-ghost use Rattle.std.specs.Prelude.{◌≡◌, ◌<◌, ◌∷◌, ◌++◌, [], get_or, length, is_ok, if◌then◌else◌};
+ghost use Rattle.std.specs.Prelude.{◌≡◌, ◌<◌, ◌∷◌, ◌++◌, [], get_or, length, set, is_ok, if◌then◌else◌};
 
 use crate::literal::Code;
 use std::alloc::{AllocError, Global};
 use std::marker::Model;
 
-/// Stands where a clause that is no longer kept had a watched literal.
-pub(crate) const NOBODY: Code = u32::MAX;
-
-/// Where a clause's literals lie. The two that are watched stand right before them.
+/// Where a clause's literals lie. The two that are watched stand right before them. Of a clause that is no longer kept
+/// there are none.
 #[derive(Clone, Copy, Drop)]
 struct Span {
     start: u32,
@@ -18,7 +16,7 @@ struct Span {
 
 /// The clauses that were stored, one after the other in one list: the two watched literals, and then all.
 ///
-/// A clause of a contract sees them as a formula. Those that are no longer kept stay in it: they follow none the less.
+/// A clause of a contract sees them as a formula. In the place of one that is no longer kept it sees no literal.
 #[derive(Drop)]
 pub(crate) struct Clauses {
     arena: Vec<Code>,
@@ -85,20 +83,13 @@ impl Clauses {
         self.arena[start - 1] = second;
     }
 
-    /// Whether the clause takes part in propagation.
-    pub(crate) fn is_kept(&self, number: usize) -> bool
-        requires { number < length self.now }
-    {
-        let (first, _) = self.watched(number);
-        first != NOBODY
-    }
-
-    /// The clause takes no part in propagation from now on.
+    /// The clause is no longer kept.
     pub(crate) fn forget(&mut self, number: usize)
         requires { number < length self.old }
-        ensures { self.new ≡ self.old }
+        ensures { self.new ≡ set self.old number [] }
     {
-        self.watch(number, NOBODY, NOBODY);
+        let start = self.spans[number].start;
+        self.spans[number] = Span { start, end: start };
     }
 
     /// Stores a clause that watches these two literals. Refused for want of memory alone, which there is for fewer than

@@ -1,14 +1,16 @@
 //! Clauses and what they force, with literals by their codes.
 
-ghost use Rattle.std.specs.Prelude.{◌≡◌, IfOk, IsTrue, length, take};
+ghost use Rattle.std.specs.Prelude.{◌≡◌, ◌++◌, ◌∷◌, [], false, IfOk, IsTrue, length, take};
 ghost use Rattle.wf_rup.specs.Propagation.{AddsClause, Implies};
-ghost use Rattle.wf_rup.specs.Stored.{HasNoStoredModel, KeepsStoredModels, KeepsStoredModelsOf, KeepsStoredModelsWith, StoredEntails, StoresNothing};
+ghost use Rattle.wf_rup.specs.Stored.{HasNoStoredModel, KeepsStoredModels, KeepsStoredModelsOf, KeepsStoredModelsWith, StoredEntails, StoresNothing, kept_of};
+ghost use Rattle.wf_rup.specs.Settled.{Refuses, StopsBefore};
 
 use crate::clauses::Clauses;
 use crate::index::{Index, hash_of};
 use crate::literal::Code;
 use crate::propagation::propagate;
 use crate::scan::{open_literal, other_open_literal};
+use crate::settled::settle;
 use crate::trail::{Trail, negated};
 use crate::watches::{Watch, Watches};
 use std::alloc::{AllocError, Global};
@@ -32,13 +34,13 @@ pub(crate) struct Database {
 }
 
 impl Model for Database {
-    ghost use Rattle.wf_rup.specs.Stored.{Stored};
+    ghost use Rattle.wf_rup.specs.Stored.{Stored, kept_of};
 
     ghost Value = { Stored };
 
     ghost view = { λ c. record {
       literals = c.trail;
-      clauses = c.clauses;
+      clauses = kept_of c.clauses;
       is_refuted = c.is_refuted;
     } };
 }
@@ -91,29 +93,40 @@ impl Database {
 
     /// Gives back the memory of the clauses that are no longer kept.
     fn compact(&mut self, alloc: Global) -> Result<(), AllocError>
-        ensures { KeepsStoredModels self.old self.new }
+        ensures { self.new ≡ self.old }
     {
         let mut clauses = Clauses::new(alloc);
         let mut index = Index::new(alloc)?;
         self.watches.clear();
         'clauses: for number in 0..self.clauses.len() {
-            if self.clauses.is_kept(number) {
-                let (first, second) = self.clauses.watched(number);
-                let clause = self.clauses.literals(number);
-                store(
-                    alloc,
-                    clause,
-                    first,
-                    second,
-                    &mut clauses,
-                    &mut self.watches,
-                    &mut index,
-                )?;
+            let clause = self.clauses.literals(number);
+            if clause.is_empty() {
+                continue;
             }
+            let (first, second) = self.clauses.watched(number);
+            store(
+                alloc,
+                clause,
+                first,
+                second,
+                &mut clauses,
+                &mut self.watches,
+                &mut index,
+            )?;
         }
         self.clauses = clauses;
         self.index = index;
         self.forgotten = 0;
+        Ok(())
+    }
+
+    /// Gives back memory where many clauses are no longer kept.
+    fn compact_in_time(&mut self, alloc: Global) -> Result<(), AllocError>
+        ensures { self.new ≡ self.old }
+    {
+        if self.forgotten > FEW && self.forgotten > self.clauses.len() / 2 {
+            self.compact(alloc)?;
+        }
         Ok(())
     }
 
@@ -141,14 +154,14 @@ impl Database {
     /// Whether the lemma follows by unit propagation from what is kept and the negated lemma. If so it is kept.
     pub(crate) fn derive(&mut self, alloc: Global, lemma: &[Code]) -> Result<bool, AllocError>
         ensures follows { IfOk result (λ follows. IsTrue follows → StoredEntails self.old lemma.now) }
+        ensures refused { IfOk result (λ follows. follows ≡ false → Refuses self.old lemma.now) }
+        ensures unchanged { IfOk result (λ follows. follows ≡ false → self.new ≡ self.old) }
         ensures kept { KeepsStoredModels self.old self.new }
     {
         if self.is_refuted {
             return Ok(true);
         }
-        if self.forgotten > FEW && self.forgotten > self.clauses.len() / 2 {
-            self.compact(alloc)?;
-        }
+        self.compact_in_time(alloc)?;
         let count = self.trail.len();
         let found = assume(
             alloc,
@@ -176,10 +189,7 @@ impl Database {
             let Some(number) = next else {
                 return;
             };
-            if number < self.clauses.len()
-                && self.clauses.is_kept(number)
-                && self.clauses.literals(number).len() == clause.len()
-            {
+            if number < self.clauses.len() && self.clauses.literals(number).len() == clause.len() {
                 self.clauses.forget(number);
                 self.index.forget(number);
                 self.forgotten = self.forgotten.saturating_add(1);
@@ -201,7 +211,9 @@ fn assume(
     ensures clauses { clauses.new ≡ clauses.old }
     ensures front { take (length trail.old) trail.new ≡ trail.old }
     ensures conflict { IfOk result (λ found. IsTrue found
-        → Implies clauses.old trail.old clause.now) }
+        → Implies (kept_of clauses.old) trail.old clause.now) }
+    ensures refused { IfOk result (λ found. found ≡ false
+        → StopsBefore (kept_of clauses.old) clause.now trail.new) }
 {
     let from = trail.len();
     for literal in clause {
@@ -209,11 +221,12 @@ fn assume(
             return Ok(true);
         }
         let opposite = negated(*literal);
-        if !trail.is_true(opposite) {
-            trail.put(opposite)?;
-        }
+        trail.put(opposite)?;
     }
-    propagate(alloc, from, clauses, trail, watches)
+    if propagate(alloc, from, clauses, trail, watches)? {
+        return Ok(true);
+    }
+    settle(clauses, trail)
 }
 
 /// Stores a clause that watches these two literals.
@@ -226,7 +239,8 @@ fn store(
     watches: &mut Watches,
     index: &mut Index,
 ) -> Result<(), AllocError>
-    ensures { AddsClause clause.now clauses.old clauses.new }
+    ensures sound { AddsClause clause.now (kept_of clauses.old) (kept_of clauses.new) }
+    ensures exact { IfOk result (λ done. clauses.new ≡ clauses.old ++ clause.now ∷ []) }
 {
     let number = clauses.len();
     if number >= u32::MAX as usize {

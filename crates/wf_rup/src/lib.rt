@@ -16,6 +16,7 @@ mod literal;
 mod proof;
 mod propagation;
 mod scan;
+mod settled;
 mod trail;
 mod watches;
 mod whole;

@@ -2,6 +2,7 @@
 
 ghost use Rattle.std.specs.Prelude.{◌≡◌, ◌≤◌, IfOk, IsTrue, vec_len};
 ghost use Rattle.wf_rup.specs.Propagation.{Conflicts, Extends, IsSound};
+ghost use Rattle.wf_rup.specs.Stored.{kept_of};
 
 use crate::clauses::Clauses;
 use crate::literal::Code;
@@ -31,8 +32,9 @@ pub(crate) fn propagate(
     watches: &mut Watches,
 ) -> Result<bool, AllocError>
     ensures clauses { clauses.new ≡ clauses.old }
-    ensures trail { Extends clauses.old trail.old trail.new }
-    ensures conflict { IfOk result (λ found. IsTrue found → Conflicts clauses.old trail.old) }
+    ensures trail { Extends (kept_of clauses.old) trail.old trail.new }
+    ensures conflict { IfOk result (λ found. IsTrue found
+        → Conflicts (kept_of clauses.old) trail.old) }
 {
     for place in from..trail.room() {
         let Some(literal) = trail.at(place) else {
@@ -54,8 +56,9 @@ fn visit_watchers(
     watches: &mut Watches,
 ) -> Result<bool, AllocError>
     ensures clauses { clauses.new ≡ clauses.old }
-    ensures trail { Extends clauses.old trail.old trail.new }
-    ensures conflict { IfOk result (λ found. IsTrue found → Conflicts clauses.old trail.old) }
+    ensures trail { Extends (kept_of clauses.old) trail.old trail.new }
+    ensures conflict { IfOk result (λ found. IsTrue found
+        → Conflicts (kept_of clauses.old) trail.old) }
 {
     let mut list = watches.take(alloc, falsified);
     let mut kept = 0;
@@ -112,7 +115,7 @@ fn visit(
     watches: &mut Watches,
 ) -> Result<Outcome, AllocError>
     ensures clauses { clauses.new ≡ clauses.old }
-    ensures sound { IfOk result (IsSound clauses.old trail.now) }
+    ensures sound { IfOk result (IsSound (kept_of clauses.old) trail.now) }
 {
     let number = clause as usize;
     if number >= clauses.len() {
@@ -129,8 +132,11 @@ fn visit(
     if trail.is_true(other) {
         return Ok(Outcome::Stays(other));
     }
-    let open = other_open_literal(clauses.literals(number), trail, other);
-    match open {
+    let literals = clauses.literals(number);
+    if literals.is_empty() {
+        return Ok(Outcome::Gone);
+    }
+    match other_open_literal(literals, trail, other) {
         Some(literal) => {
             clauses.watch(number, other, literal);
             watches.push(

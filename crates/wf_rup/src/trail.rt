@@ -1,7 +1,8 @@
 //! The literals that are true now.
 
-ghost use Rattle.std.specs.Prelude.{◌≡◌, [], length, take, IfOk, IsTrue};
-ghost use Rattle.wf_rup.specs.Propagation.{AddsLiteral, IsNegationOf, MakesFalse, MakesTrue};
+ghost use Rattle.std.specs.Prelude.{◌≡◌, [], length, take, is_ok, IfOk, IsTrue, if◌then◌else◌};
+ghost use Rattle.wf_rup.specs.Propagation.{AddsLiteral, IsNegationOf, MakesFalse, MakesTrue, opposite, with_literal};
+ghost use Rattle.wf_rup.specs.Stored.{has};
 
 use crate::literal::Code;
 use std::alloc::{AllocError, Global};
@@ -10,7 +11,8 @@ use std::marker::Model;
 /// The literal with the other sign.
 #[inline]
 pub(crate) fn negated(literal: Code) -> Code
-    ensures { IsNegationOf literal result }
+    ensures sound { IsNegationOf literal result }
+    ensures exact { result ≡ opposite literal }
 {
     literal ^ 1
 }
@@ -47,7 +49,14 @@ impl Trail {
         })
     }
 
-    /// How many literals there may be.
+    /// The literals that are true.
+    pub(crate) fn literals(&self) -> &[Code]
+        ensures { result.now ≡ self.now }
+    {
+        &self.literals
+    }
+
+    /// How many literals there may be before more room is made.
     #[inline]
     pub(crate) fn room(&self) -> usize {
         self.marks.len()
@@ -70,7 +79,8 @@ impl Trail {
     /// Whether the literal is true.
     #[inline]
     pub(crate) fn is_true(&self, literal: Code) -> bool
-        ensures { IsTrue result → MakesTrue self.now literal }
+        ensures sound { IsTrue result → MakesTrue self.now literal }
+        ensures exact { result ≡ has self.now literal }
     {
         let at = literal as usize;
         at < self.marks.len() && self.marks[at]
@@ -79,22 +89,28 @@ impl Trail {
     /// Whether the literal is false.
     #[inline]
     pub(crate) fn is_false(&self, literal: Code) -> bool
-        ensures { IsTrue result → MakesFalse self.now literal }
+        ensures sound { IsTrue result → MakesFalse self.now literal }
+        ensures exact { result ≡ has self.now (opposite literal) }
     {
         self.is_true(negated(literal))
     }
 
-    /// The literal is true from now on. One that is beyond the variables is ignored.
+    /// The literal is true from now on.
     #[inline]
     pub(crate) fn put(&mut self, literal: Code) -> Result<(), AllocError>
         ensures front { take (length self.old) self.new ≡ self.old }
         ensures kept { AddsLiteral literal self.old self.new }
+        ensures exact { self.new ≡ (if is_ok result then with_literal self.old literal else self.old) }
     {
-        let at = literal as usize;
-        if at < self.marks.len() {
-            self.literals.push(literal)?;
-            self.marks[at] = true;
+        if self.is_true(literal) {
+            return Ok(());
         }
+        let at = literal as usize;
+        if at >= self.marks.len() {
+            self.marks.resize(at + 1, false)?;
+        }
+        self.literals.push(literal)?;
+        self.marks[at] = true;
         Ok(())
     }
 

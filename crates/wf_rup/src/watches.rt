@@ -1,7 +1,7 @@
 //! For each literal the clauses that watch it.
 //!
-//! No proof rests on what these lists hold: a clause that is missing in them is not found, and whatever stands in them is
-//! looked up before it is used.
+//! No proof rests on what these lists hold: whatever stands in them is looked up before it is used, and before a lemma is
+//! refused each clause is looked at.
 
 use crate::literal::Code;
 use std::alloc::{AllocError, Global};

@@ -1,6 +1,8 @@
-use Rattle.std.proofs.Common.{◌∙◌}
+use Rattle.std.proofs.Common.{◌∙◌, ap}
 use Rattle.std.proofs.lemmas.Result.{IfOk-weaker}
+use Rattle.wf_rup.specs.Seen.{known_of}
 use Rattle.wf_rup.proofs.LiteralLemmas.{entails-clause, keeps-models}
+use Rattle.wf_rup.proofs.UnitLemmas.{does-not-follow}
 use Rattle.wf_rup.proofs.checker.Checker.derive.Goals as goal
 
 pub returns-clause-follows : goal.returns-clause-follows
@@ -8,6 +10,17 @@ returns-clause-follows c = IfOk-weaker c.derive.result _ _
     (λ follows entailed yes. entails-clause c.self.inside.database c.args.self.now c.args.lemma.now _ c.self.view_is
     (c.deref.ensures.value ∙ c.in_ok-put_codes.ensures) (entailed yes))
     c.derive.ensures.follows
+
+pub returns-clause-refused : goal.returns-clause-refused
+returns-clause-refused c = IfOk-weaker c.derive.result _ _
+    (λ follows refuses no. does-not-follow c.self.inside.database c.args.self.now c.args.lemma.now _ c.self.view_is
+    (c.deref.ensures.value ∙ c.in_ok-put_codes.ensures) (refuses no))
+    c.derive.ensures.refused
+
+pub returns-clause-unchanged : goal.returns-clause-unchanged
+returns-clause-unchanged c = IfOk-weaker c.derive.result _ _
+    (λ follows same no. ap known_of (same no) ∙ c.self.view_is)
+    c.derive.ensures.unchanged
 
 pub returns-clause-kept : goal.returns-clause-kept
 returns-clause-kept c = keeps-models c.self.inside.database c.derive.new.self c.args.self.now c.self.view_is c.derive.ensures.kept
