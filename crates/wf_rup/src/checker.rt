@@ -31,8 +31,8 @@ impl Model for Checker {
 }
 
 impl Checker {
-    /// A checker that knows nothing, over the variables from 1 to this number. A literal of another variable is never
-    /// forced.
+    /// A checker that knows nothing, over the variables from 1 to this number. A larger variable is taken too where it
+    /// comes, at the cost of memory for all those before it.
     pub fn new(alloc: Global, variables: u32) -> Result<Checker, AllocError>
         ensures { IfOk result KnowsNothing }
     {
@@ -65,6 +65,7 @@ impl Checker {
     }
 
     /// Whether the lemma follows by unit propagation from what is kept and the negated lemma. If so it is kept.
+    /// Otherwise nothing changes.
     pub fn derive(&mut self, alloc: Global, lemma: &[Literal]) -> Result<bool, AllocError>
         ensures follows { IfOk result (λ follows. IsTrue follows → Entails self.old lemma.now) }
         ensures refused { IfOk result (λ follows. follows ≡ false

@@ -63,6 +63,31 @@ fn literals_are_told_apart(rt: HostRuntime) -> Result<(), Fail> {
 }
 
 #[test]
+fn larger_variables_are_taken_too(rt: HostRuntime) -> Result<(), Fail> {
+    let alloc = rt.alloc();
+    let mut checker = with(alloc, &[&[9], &[-9, 12, 1], &[-12, 1]])?;
+    assert!(rt; !derives(alloc, &mut checker, &[12])?);
+    assert!(rt; !derives(alloc, &mut checker, &[10, -12])?);
+    assert!(rt; derives(alloc, &mut checker, &[9, 20])?);
+    assert!(rt; derives(alloc, &mut checker, &[1])?);
+    assert!(rt; !derives(alloc, &mut checker, &[12])?);
+    assert!(rt; !checker.is_refuted());
+    Ok(())
+}
+
+#[test]
+fn what_is_refused_leaves_no_trace(rt: HostRuntime) -> Result<(), Fail> {
+    let alloc = rt.alloc();
+    let mut checker = with(alloc, &[&[1, 2], &[-1, 3], &[-2, 3]])?;
+    assert!(rt; !derives(alloc, &mut checker, &[1])?);
+    assert!(rt; !derives(alloc, &mut checker, &[-3])?);
+    assert!(rt; !derives(alloc, &mut checker, &[])?);
+    assert!(rt; derives(alloc, &mut checker, &[3])?);
+    assert!(rt; !derives(alloc, &mut checker, &[2])?);
+    Ok(())
+}
+
+#[test]
 fn what_is_kept_outlasts_many_deletions(rt: HostRuntime) -> Result<(), Fail> {
     let alloc = rt.alloc();
     let mut checker = with(alloc, &[&[1, 2], &[1, -2], &[-1, 3, 4]])?;
