@@ -21,7 +21,7 @@ use std::thread::Threads;
 use wf_args::{Job, WordsFault, read_words};
 use wf_core::Account;
 use wf_engine::{
-    Form, Outcome, RunFault, hand_out, run_cnf, run_executions, run_points, run_preset, run_solve,
+    Form, Outcome, RunFault, hand_out, run_cnf, run_points, run_preset, run_solve,
     run_solve_watched, run_views,
 };
 use wf_io::{Sink, Source};
@@ -98,7 +98,6 @@ fn do_job<T: Threads + Sync, F: Files, G: Gate, R: Read, W: Write>(
         }
         Job::Views { rounds } => after_writing(run_views(alloc, source, sink, *rounds)),
         Job::Points { rounds } => after_writing(run_points(alloc, source, sink, *rounds)),
-        Job::Executions { rounds } => after_writing(run_executions(alloc, source, sink, *rounds)),
         Job::Cnf { rounds } => after_writing(run_cnf(alloc, source, sink, *rounds)),
         Job::Model { task, rounds } => {
             Filed::Model(*rounds).with_file(rt, alloc, folder, task, source, sink)
@@ -110,7 +109,6 @@ fn do_job<T: Threads + Sync, F: Files, G: Gate, R: Read, W: Write>(
             Filed::Decisions.with_file(rt, alloc, folder, task, source, sink)
         }
         Job::Trim { task } => Filed::Trim.with_file(rt, alloc, folder, task, source, sink),
-        Job::Explain { task } => Filed::Explain.with_file(rt, alloc, folder, task, source, sink),
         Job::Lift { task, rounds } => {
             Filed::Lift(*rounds).with_file(rt, alloc, folder, task, source, sink)
         }
