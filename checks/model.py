@@ -8,8 +8,9 @@ import pathlib
 import re
 import sys
 
-sys.dont_write_bytecode = True
-sys.path.insert(0, str(pathlib.Path(__file__).resolve().parent.parent / "gallery"))
+import common
+
+sys.path.insert(0, str(common.ROOT / "gallery"))
 import second_opinion  # noqa: E402
 
 SKIPPED = (b"c", b"s", b"SAT", b"UNSAT", b"INDET")
@@ -62,7 +63,11 @@ def report(task, made, rounds, text):
 
 
 def main():
-    task, rounds = json.loads(pathlib.Path(sys.argv[1]).read_text()), int(sys.argv[2])
+    script = common.Script(__doc__)
+    script.add_argument("task", type=pathlib.Path, metavar="TASK")
+    script.add_argument("rounds", type=int, metavar="ROUNDS")
+    asked = script.asked()
+    task, rounds = json.loads(asked.task.read_text()), asked.rounds
     try:
         print(report(task, second_opinion.Complex(task, rounds), rounds, sys.stdin.buffer.read()), end="")
     except Refused as refused:

@@ -10,8 +10,9 @@ import pathlib
 import re
 import sys
 
-sys.dont_write_bytecode = True
-sys.path.insert(0, str(pathlib.Path(__file__).resolve().parent.parent / "gallery"))
+import common
+
+sys.path.insert(0, str(common.ROOT / "gallery"))
 import formula  # noqa: E402
 
 BLANKS = b" \t\r\n"
@@ -144,12 +145,13 @@ def accepted(rounds):
 
 
 def main():
-    if len(sys.argv) != 3:
-        sys.exit(__doc__)
-    rounds = int(sys.argv[2])
-    variables, clauses = question(json.loads(pathlib.Path(sys.argv[1]).read_bytes()), rounds)
+    script = common.Script(__doc__)
+    script.add_argument("task", type=pathlib.Path, metavar="TASK")
+    script.add_argument("rounds", type=int, metavar="ROUNDS")
+    asked = script.asked()
+    variables, clauses = question(json.loads(asked.task.read_bytes()), asked.rounds)
     refusal = judge(Kept(clauses), variables, sys.stdin.buffer.read())
-    sys.stdout.write(f"wfcheck: {refusal}\n" if refusal else accepted(rounds))
+    sys.stdout.write(f"wfcheck: {refusal}\n" if refusal else accepted(asked.rounds))
     return 2 if refusal else 0
 
 

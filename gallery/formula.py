@@ -5,11 +5,13 @@ What `wfcheck cnf` writes, byte for byte, and slowly: it shares nothing with the
 that a point has a value. There is a clause for each point: it has one of the values. And in each execution there is one for each
 minimal forbidden pattern: values at some of its places that no allowed tuple has together, and each choice of fewer of them some
 tuple has."""
+import argparse
 import itertools
-import json
 import sys
 
-import second_opinion
+sys.dont_write_bytecode = True
+import lint  # noqa: E402
+import second_opinion  # noqa: E402
 
 
 def patterns(size, values, allowed):
@@ -43,8 +45,20 @@ def text(task, rounds):
     return "".join(f"{it}\n" for it in [*lines, *(" ".join(map(str, [*clause, 0])) for clause in clauses)])
 
 
+def main():
+    words = argparse.ArgumentParser(
+        description=__doc__, formatter_class=argparse.RawDescriptionHelpFormatter, usage="formula.py TASK ROUNDS")
+    words.add_argument("task")
+    words.add_argument("rounds", type=int, choices=range(second_opinion.MOST_ROUNDS + 1), metavar="ROUNDS")
+    asked = words.parse_args()
+    try:
+        with open(asked.task, "rb") as file:
+            sys.stdout.write(text(lint.read(file.read())[0], asked.rounds))
+    except OSError as error:
+        sys.exit(f"formula.py: {error}")
+    except lint.Refused as refused:
+        sys.exit(f"the task is refused, {refused.line}: {refused.words}")
+
+
 if __name__ == "__main__":
-    if len(sys.argv) != 3:
-        sys.exit(__doc__)
-    with open(sys.argv[1]) as file:
-        sys.stdout.write(text(json.load(file), int(sys.argv[2])))
+    main()

@@ -13,7 +13,8 @@ and as a `note` what many tasks of the literature have on purpose:
   - a value list that those who take part may decide, but no larger simplex can go on from: no map ever uses it, since the
     others may all come later (the rules are not monotone there).
 
-The status is 0 where there is no slip, 1 where there is one, 2 where the file is refused."""
+The status is 0 where there is no slip, 1 where there is one, 2 where the file is refused or can't be read."""
+import argparse
 import collections
 import itertools
 import json
@@ -65,7 +66,7 @@ def value_of(text):
 def finite(digits):
     """A number that is not whole: what it is doesn't matter, but it has to be finite."""
     if float(digits) in (float("inf"), float("-inf")):
-        raise ValueError(f"the number {digits[:20]}.. is too large")
+        raise ValueError(f"the number {digits if len(digits) <= 20 else digits[:20] + '..'} is too large")
     return NotWhole(digits)
 
 
@@ -173,9 +174,9 @@ def simplex_of(listed):
 def judge_numbers(value):
     processes = value["processes"]
     if value["version"] not in LARGEST:
-        raise Refused("4 Version", f'"version" is {value["version"]}')
+        raise Refused("4 Version", f'"version" is {value["version"]}, and 1 and 2 are read')
     if not 1 <= processes <= 4:
-        raise Refused("5 Processes", f'"processes" is {processes}')
+        raise Refused("5 Processes", f'"processes" is {processes}, and 1 to 4 are read')
     for where, _, values in places(value):
         for v in values:
             if v > LARGEST[value["version"]]:
@@ -223,7 +224,7 @@ def judge_delta(value, inputs):
     for number, place, s, values in lists:
         if len(values) != len(s):
             words = f"at input simplex {number}, {shown(s)}, value list {place} is {shown(values)}"
-            raise Refused(f"12 OutLength {number} {place}", words)
+            raise Refused(f"12 OutLength {number} {place}", f"{words}: {len(values)} values for {len(s)} processes")
     outputs = {f for listed in value["outputs"] for f in faces(simplex_of(listed))}
     for number, place, s, values in lists:
         decided = tuple((p, v) for (p, _), v in zip(s, values))
@@ -233,7 +234,7 @@ def judge_delta(value, inputs):
     if not inputs:
         raise Refused("14 NoInput", '"inputs" is empty')
     if not 1 <= value.get("first_block", 1) <= 4:
-        raise Refused("18 FirstBlock", f'"first_block" is {value["first_block"]}')
+        raise Refused("18 FirstBlock", f'"first_block" is {value["first_block"]}, and 1 to 4 are read')
 
 
 def read(text):
@@ -295,13 +296,15 @@ def slips(value, rules):
 
 
 def main():
-    if len(sys.argv) != 2:
-        sys.exit(__doc__)
+    words = argparse.ArgumentParser(
+        description=__doc__, formatter_class=argparse.RawDescriptionHelpFormatter, usage="lint.py TASK.json")
+    words.add_argument("task")
     try:
-        with open(sys.argv[1], "rb") as file:
+        with open(words.parse_args().task, "rb") as file:
             value, rules = read(file.read())
     except OSError as error:
-        sys.exit(f"lint.py: {error}")
+        print(f"lint.py: {error}", file=sys.stderr)
+        return 2
     except Refused as refused:
         print(f"refused, {refused.line}: {refused.words}")
         return 2

@@ -1,12 +1,17 @@
 #!/usr/bin/env python3
 """second_opinion.py TASK REPORT: whether the report about the task holds, straight from the definitions.
 
-It shares nothing with the program: it is here to be read in ten minutes, and is slow. It says `holds: map`, `holds: least`,
-`holds: none` or `holds: none, by the header alone` (the short form has no lines to check), or says in words what is wrong and
-ends with status 1. Whether a map is the least one it looks at where the report has the lines for it."""
+It shares nothing with the program: it is here to be read in ten minutes, and is slow. The task is read by lint.py, and the report's
+text by reports.py. It says `holds: map`, `holds: least`, `holds: none` or `holds: none, by the header alone` (the short form has no
+lines to check), or says in words what is wrong, or why it can't read the report, and ends with status 1. Whether a map is the least
+one it looks at where the report has the lines for it."""
+import argparse
 import itertools
-import json
 import sys
+
+sys.dont_write_bytecode = True
+import lint  # noqa: E402
+import reports  # noqa: E402
 
 
 def faces(simplex):
@@ -15,6 +20,11 @@ def faces(simplex):
 
 def simplex_of(listed):
     return tuple((p, v) for p, v in listed)
+
+
+def inputs_of(task):
+    """The simplices of the input complex, by size and then as lists."""
+    return sorted({f for s in task["inputs"] for f in faces(simplex_of(s))}, key=lambda s: (len(s), s))
 
 
 def words(n, first_block):
@@ -52,7 +62,7 @@ class Complex:
     allowed there."""
 
     def __init__(self, task, rounds):
-        inputs = sorted({f for s in task["inputs"] for f in faces(simplex_of(s))}, key=lambda s: (len(s), s))
+        inputs = inputs_of(task)
         allowed = {simplex_of(e["in"]): {tuple(t) for t in e["out"]} for e in task["delta"]}
         self.numbers, self.executions = {}, []
         for s in inputs:
@@ -116,62 +126,21 @@ class Complex:
         return f"{len(boxes)} cases are not closed" if boxes else None
 
 
-# ---- reading a report, by the format alone
-
-MOST = {"line": 2**32 - 1, "process": 3, "value": 255, "rounds": 8}
-HEADER = [("processes", "line"), ("rounds", "line"), ("points", "line"), ("executions", "line")]
-VALUES, STEPS = {"m": ["value"]}, {"p": ["line", "process", "value"], "z": ["line"], "b": ["line"]}
-BODIES = {"map": (VALUES, {}), "none": ({}, STEPS), "least": (VALUES, {**STEPS, "f": []})}
-
-
-class Unreadable(Exception):
-    pass
-
-
-def number(word, kind, at):
-    """A decimal number without sign and without a zero before another digit."""
-    if not word.isascii() or not word.isdigit() or str(int(word[:10])) != word or int(word) > MOST[kind]:
-        raise Unreadable(f"line {at}: {word!r} is no number that may stand there")
-    return int(word)
-
-
-def numbers(line, name, kinds, at):
-    word, *rest = line.split(" ")
-    if word != name or len(rest) != len(kinds):
-        raise Unreadable(f"line {at}: it is not `{' '.join([name, *kinds])}`")
-    return [number(it, kind, at) for it, kind in zip(rest, kinds)]
-
-
-def report_of(text):
-    """The header's numbers, the answer, the values of a map, and the lines behind them, each with its number."""
-    *lines, last = text.split("\n")
-    if last or len(lines) < 7 or lines[0] != "wfcheck report 1" or lines[-1] != "end":
-        raise Unreadable("it does not begin with `wfcheck report 1`, or does not end with `end` and a line feed")
-    header = {name: numbers(lines[at], name, [kind], at + 1)[0] for at, (name, kind) in enumerate(HEADER, 1)}
-    answer = lines[5].removeprefix("answer ")
-    if answer not in BODIES or lines[5] != f"answer {answer}":
-        raise Unreadable("line 6: it is not `answer map`, `answer none` or `answer least`")
-    first, later = BODIES[answer]
-    body = list(enumerate(lines[6:-1], 7))
-    front = [*itertools.takewhile(lambda it: "m" in first and it[1].startswith("m "), body)]
-    values, steps = [numbers(line, "m", first["m"], at)[0] for at, line in front], []
-    for at, line in body[len(front):]:
-        kind = line.split(" ")[0]
-        if kind not in later:
-            raise Unreadable(f"line {at}: it may not stand there")
-        steps.append((at, (kind, *numbers(line, kind, later[kind], at))))
-    return header, answer, values, steps
+MOST_ROUNDS, MOST_EXECUTIONS = 8, 500_000
 
 
 def judge(task, text):
     """The answer of a report, and what is wrong with it or None."""
     try:
-        header, answer, values, steps = report_of(text)
-    except Unreadable as fault:
+        header, answer, values, steps = reports.read(text)
+    except reports.Unreadable as fault:
         return None, f"it is no report: {fault}"
-    if header["rounds"] > MOST["rounds"]:
-        return None, f"there are more than {MOST['rounds']} rounds"
-    made = Complex(task, header["rounds"])
+    rounds = header["rounds"]
+    if rounds > MOST_ROUNDS:
+        return None, f"there are more than {MOST_ROUNDS} rounds"
+    if sum(len(words_of(task, s)) ** rounds for s in inputs_of(task)) > MOST_EXECUTIONS:
+        return None, f"there are more than {MOST_EXECUTIONS:,} executions"
+    made = Complex(task, rounds)
     right = {"processes": task["processes"], "points": made.points, "executions": len(made.executions)}
     for name, it in right.items():
         if header[name] != it:
@@ -181,11 +150,24 @@ def judge(task, text):
     return answer, made.wrong_map(values) or (made.wrong_lines(steps, values) if answer == "least" else None)
 
 
-if __name__ == "__main__":
-    if len(sys.argv) != 3:
-        sys.exit(__doc__)
-    with open(sys.argv[1]) as task_file, open(sys.argv[2], newline="", errors="replace") as report_file:
-        answer, wrong = judge(json.load(task_file), report_file.read())
+def main():
+    words = argparse.ArgumentParser(
+        description=__doc__, formatter_class=argparse.RawDescriptionHelpFormatter, usage="second_opinion.py TASK REPORT")
+    words.add_argument("task")
+    words.add_argument("report")
+    asked = words.parse_args()
+    try:
+        with open(asked.task, "rb") as task_file, open(asked.report, "rb") as report_file:
+            task, _ = lint.read(task_file.read())
+            answer, wrong = judge(task, report_file.read().decode("ascii", "replace"))
+    except OSError as error:
+        sys.exit(f"second_opinion.py: {error}")
+    except lint.Refused as refused:
+        sys.exit(f"the task is refused, {refused.line}: {refused.words}")
     if wrong:
         sys.exit(f"does not hold: {wrong}")
     print(f"holds: {answer}")
+
+
+if __name__ == "__main__":
+    main()

@@ -14,15 +14,19 @@ A task of your own, in a file beside this one:
 
     write(task("mine", 2, [(0, 1)], legal, values=[0, 1]))      # mine.json
 """
+import argparse
 import collections
 import itertools
 import json
 import pathlib
 import sys
 
+import lint
+
 HERE = pathlib.Path(__file__).resolve().parent
 Task = collections.namedtuple("Task", "name text")
 MOST_PROCESSES, LARGEST, LARGEST_PLAIN = 4, 255, 63
+MOST_TUPLES = lint.MOST["tuples"]
 
 
 class Mistake(SystemExit):
@@ -42,10 +46,14 @@ def task(name, processes, inputs, legal, values, symmetric=False, first_block=No
     take part. Outputs are whatever is legal somewhere. In a symmetric task a process doesn't know its name. With a first block
     the file has version 2, and its values may be up to 255: in every round the first block has at least so many of those that
     take part, or all of them; 1 leaves all words."""
-    listed = [tuple(sorted(dict(each if isinstance(each, dict) else enumerate(each)).items())) for each in inputs]
-    judge(name, processes, listed, set(values), LARGEST_PLAIN if first_block is None else LARGEST)
-    starts = sorted({face for simplex in listed for face in faces(simplex)}, key=by_size)
-    rules = {start: sorted(tuples(name, start, legal, set(values))) for start in starts}
+    try:
+        listed = [tuple(dict(each if isinstance(each, dict) else enumerate(each)).items()) for each in inputs]
+        values = set(values)
+    except TypeError as error:
+        raise Mistake(f"{name}: inputs are a list of lists or dictionaries, and values a list of numbers ({error})")
+    judge(name, processes, listed, values, first_block)
+    starts = sorted({face for simplex in listed for face in faces(sorted(simplex))}, key=by_size)
+    rules = {start: sorted(tuples(name, start, legal, values)) for start in starts}
     if not any(rules.values()):
         raise Mistake(f"{name}: the predicate allows nothing, whatever the processes begin with")
     ends = {tuple(zip((p for p, _ in start), each)) for start, rule in rules.items() for each in rule}
@@ -56,18 +64,26 @@ def task(name, processes, inputs, legal, values, symmetric=False, first_block=No
     }
     if first_block is not None:
         whole["first_block"] = first_block
-    return Task(name, json.dumps(whole, separators=(",", ":"), sort_keys=True) + "\n")
+    text = json.dumps(whole, separators=(",", ":"), sort_keys=True) + "\n"
+    try:
+        lint.read(text.encode())
+    except lint.Refused as refused:
+        raise Mistake(f"{name}: {refused.words}")
+    return Task(name, text)
 
 
-def judge(name, processes, listed, values, largest):
+def judge(name, processes, listed, values, first_block):
     """Refuses what no task file may have."""
-    if processes not in range(1, MOST_PROCESSES + 1):
-        raise Mistake(f"{name}: a task has 1 to {MOST_PROCESSES} processes, and not {processes}")
+    if type(processes) is not int or not 1 <= processes <= MOST_PROCESSES:
+        raise Mistake(f"{name}: a task has 1 to {MOST_PROCESSES} processes, and not {processes!r}")
+    if first_block is not None and (type(first_block) is not int or not 1 <= first_block <= MOST_PROCESSES):
+        raise Mistake(f"{name}: a first block is 1 to {MOST_PROCESSES}, and not {first_block!r}")
     if not listed or not all(listed):
         raise Mistake(f"{name}: there is no input, or one in which nobody takes part")
-    strangers = sorted({p for simplex in listed for p, _ in simplex if p not in range(processes)}, key=repr)
+    strangers = sorted({p for simplex in listed for p, _ in simplex if type(p) is not int or p not in range(processes)}, key=repr)
     if strangers:
         raise Mistake(f"{name}: an input is of process {strangers[0]!r}, and the processes are 0 to {processes - 1}")
+    largest = LARGEST_PLAIN if first_block is None else LARGEST
     beyond = [v for v in [*values, *(v for simplex in listed for _, v in simplex)] if type(v) is not int or not 0 <= v <= largest]
     if beyond:
         more = "" if largest == LARGEST else f"; up to {LARGEST} with first_block=1, which is version 2 of the file"
@@ -81,12 +97,21 @@ def by_size(simplex):
 def tuples(name, start, legal, values):
     """The values that those who take part may decide, in the order of the processes."""
     processes = [p for p, _ in start]
-    choices = itertools.product(sorted(values), repeat=len(processes))
-    try:
-        return [choice for choice in choices if legal(dict(start), dict(zip(processes, choice)))]
-    except KeyError as missing:
-        raise Mistake(f"{name}: the predicate looks up {missing} where {dict(start)} take part: it is asked for each part of each "
-                      "input, since some may run alone, and `start` and `end` have those that take part")
+    found = []
+    for choice in itertools.product(sorted(values), repeat=len(processes)):
+        try:
+            is_legal = legal(dict(start), dict(zip(processes, choice)))
+        except KeyError as missing:
+            if type(missing.args[0]) is not int or missing.args[0] in processes:
+                raise
+            raise Mistake(f"{name}: the predicate looks up process {missing} where only {processes} take part: it is asked for each part "
+                          "of each input, since some may run alone, and `start` and `end` have those that take part")
+        if is_legal:
+            found.append(choice)
+        if len(found) > MOST_TUPLES:
+            raise Mistake(f"{name}: where the processes begin with {dict(start)} more than {MOST_TUPLES} choices are legal, and no more "
+                          "are read")
+    return found
 
 
 def facets(simplices):
@@ -209,6 +234,17 @@ def on_loop(triangles, paths):
     return legal
 
 
+def on_edge(edges):
+    """Inputs and decisions are the vertices of a graph: all decide vertices of one edge, and where the inputs are one vertex, or
+    the ends of one edge, none but these."""
+    cells = [{v} for edge in edges for v in edge] + [set(edge) for edge in edges]
+
+    def legal(start, end):
+        begun, ended = set(start.values()), set(end.values())
+        return any(ended <= cell for cell in cells) and (begun not in cells or ended <= begun)
+    return legal
+
+
 # Subdivisions and surfaces
 
 
@@ -301,17 +337,24 @@ def gallery():
     yield loop_agreement("loop-hollow", own(3), HOLLOW, SIDES)
     yield loop_agreement("loop-projective", own(3), PLANE, SIDES)
     yield loop_agreement("loop-projective-face", own(3), PLANE, [(0, 1), (1, 4), (4, 0)])
+    yield task("edge-agreement-3-cycle-4", 3, [(1, 2, 3)], on_edge([(0, 1), (1, 2), (2, 3), (3, 0)]), range(4))
     yield task("majority-3", 3, all_of(3, bits), majority, bits)
     yield task("no-minority-3", 3, all_of(3, bits), no_minority, bits)
 
 
 def main():
-    wanted = sys.argv[1:]
-    for made in gallery():
-        if wanted == ["--list"]:
-            print(made.name)
-        elif not wanted or made.name in wanted:
-            print(write(made, HERE).name)
+    words = argparse.ArgumentParser(
+        description=__doc__, formatter_class=argparse.RawDescriptionHelpFormatter, usage="tasks.py [--list] [NAME ..]")
+    words.add_argument("--list", action="store_true", help="says the names, and writes nothing")
+    words.add_argument("names", nargs="*", help="the tasks that are written, all where none is named")
+    asked = words.parse_args()
+    made = list(gallery())
+    unknown = sorted({*asked.names} - {each.name for each in made})
+    if unknown:
+        words.error(f"no task here is named {unknown[0]!r}")
+    for each in made:
+        if not asked.names or each.name in asked.names:
+            print(each.name if asked.list else write(each, HERE).name)
 
 
 if __name__ == "__main__":

@@ -24,7 +24,7 @@ use wf_core::Account;
 use wf_handout::Stealing;
 use wf_io::{Sink, Source};
 use wf_lines::Lines;
-use wf_pool::{Answer, Gate, KeptLines, Open, solve, solve_one};
+use wf_pool::{Answer, Gate, KeptLines, Open, solve, solve_one_watched};
 use wf_report::{Body, Form, Header, Report, write_report};
 use wf_task::Task;
 
@@ -49,7 +49,23 @@ pub fn run_solve_one<R: Read, W: Write>(
     ensures solves { Solves rounds form source.old source.new sink.old sink.new result }
     ensures in_order { SearchesInOrder result }
 {
-    let answer = solve_source_one(alloc, source, rounds, form);
+    run_solve_one_watched(alloc, source, sink, rounds, form, &Open)
+}
+
+/// The same as [`run_solve_one`], and the gate is told of the complex and of the search.
+fn run_solve_one_watched<G: Gate, R: Read, W: Write>(
+    alloc: Global,
+    source: &mut Source<R>,
+    sink: &mut Sink<W>,
+    rounds: u32,
+    form: Form,
+    gate: &G,
+) -> Result<(Outcome, Account), RunFault>
+    requires { CanCount source.old sink.old }
+    ensures solves { Solves rounds form source.old source.new sink.old sink.new result }
+    ensures in_order { SearchesInOrder result }
+{
+    let answer = solve_source_one(alloc, source, rounds, form, gate);
     hand_out(sink, answer)
 }
 
@@ -72,8 +88,8 @@ pub fn run_solve<T: Threads + Sync, R: Read, W: Write>(
     run_solve_watched(rt, alloc, source, sink, rounds, workers, form, &Open)
 }
 
-/// The same as [`run_solve`], and where there are several workers the gate is told how many branches there are, and each
-/// worker's moments. One worker's search is told to no gate.
+/// The same as [`run_solve`], and the gate is told how large the complex is, how many branches there are, and each worker's
+/// moments.
 pub fn run_solve_watched<T: Threads + Sync, G: Gate, R: Read, W: Write>(
     rt: &T,
     alloc: Global,
@@ -90,25 +106,26 @@ pub fn run_solve_watched<T: Threads + Sync, G: Gate, R: Read, W: Write>(
     ensures in_order { workers ≡ 1 → SearchesInOrder result }
 {
     if workers == 1 {
-        return run_solve_one(alloc, source, sink, rounds, form);
+        return run_solve_one_watched(alloc, source, sink, rounds, form, gate);
     }
     let answer = solve_source(rt, alloc, source, rounds, workers, form, gate);
     hand_out(sink, answer)
 }
 
 /// The answer for a source's task, with the text of its report, by one worker.
-fn solve_source_one<R: Read>(
+fn solve_source_one<G: Gate, R: Read>(
     alloc: Global,
     source: &mut Source<R>,
     rounds: u32,
     form: Form,
+    gate: &G,
 ) -> Result<((Outcome, Account), Vec<u8>), RunFault>
     requires { CanRead source.old }
     ensures asks { Asks (IsSolved form) rounds source.old source.new (answered result) }
     ensures in_order { IfOk result (λ answer. IsInOrder answer.0) }
 {
     let task = read_task(alloc, source)?;
-    solve_task_one(alloc, &task, rounds, form)
+    solve_task_one(alloc, &task, rounds, form, gate)
 }
 
 /// The answer for a source's task, with the text of its report, by some workers.
@@ -130,17 +147,18 @@ fn solve_source<T: Threads + Sync, G: Gate, R: Read>(
 }
 
 /// The answer for a task, with the text of its report, by one worker.
-fn solve_task_one(
+fn solve_task_one<G: Gate>(
     alloc: Global,
     task: &Task,
     rounds: u32,
     form: Form,
+    gate: &G,
 ) -> Result<((Outcome, Account), Vec<u8>), RunFault>
     ensures answers { Answers (IsSolved form) task.now rounds (answered result) }
     ensures in_order { IfOk result (λ answer. IsInOrder answer.0) }
 {
-    let (header, problem) = pose(alloc, task, rounds)?;
-    let (answer, account) = solve_one(alloc, &problem, lines_kept(form))?;
+    let (header, problem) = pose(alloc, task, rounds, gate)?;
+    let (answer, account) = solve_one_watched(alloc, &problem, lines_kept(form), gate)?;
     Ok(with_text(alloc, task, rounds, header, answer, account, form)?)
 }
 
@@ -157,18 +175,24 @@ fn solve_task<T: Threads + Sync, G: Gate>(
     requires { (0 < workers) × (workers ≤ most_workers) }
     ensures { Answers (IsSolved form) task.now rounds (answered result) }
 {
-    let (header, problem) = pose(alloc, task, rounds)?;
+    let (header, problem) = pose(alloc, task, rounds, gate)?;
     let kept = lines_kept(form);
     let (answer, account) = solve::<T, Branches, G>(rt, alloc, &problem, workers, kept, gate)?;
     Ok(with_text(alloc, task, rounds, header, answer, account, form)?)
 }
 
-/// The header of the report about a task, and the problem to solve for it. The complex, which takes more memory than
-/// either, is given back before the search begins.
-fn pose(alloc: Global, task: &Task, rounds: u32) -> Result<(Header, Problem), RunFault>
+/// The header of the report about a task, and the problem to solve for it. The complex, of which the gate is told, takes more
+/// memory than either, and is given back before the search begins.
+fn pose<G: Gate>(
+    alloc: Global,
+    task: &Task,
+    rounds: u32,
+    gate: &G,
+) -> Result<(Header, Problem), RunFault>
     ensures { Poses task.now rounds result }
 {
     let protocol = Protocol::build(alloc, task, rounds)?;
+    gate.complex(protocol.points(), protocol.executions());
     let problem = Problem::join(alloc, task, &protocol)?;
     Ok((Header::about(task, &protocol), problem))
 }

@@ -31,4 +31,4 @@ mod worker;
 pub use answer::{Answer, KeptLines};
 pub use gate::{Gate, Moment, Open};
 pub use laws::{a_problem_has_one_answer, searches_have_most_workers};
-pub use solving::{MAX_WORKERS, solve, solve_one};
+pub use solving::{MAX_WORKERS, solve, solve_one, solve_one_watched};

@@ -14,9 +14,9 @@ ghost use Rattle.wf_pool.specs.Answers.{IsAnswer, IsAnswerAt, HasAccount, IsInOr
 
 use crate::answer::{AllFinds, Answer, KeptLines, apart, in_order, map_of};
 use crate::crew::crew;
-use crate::gate::Gate;
+use crate::gate::{Gate, Moment, Open};
 use crate::site::Site;
-use crate::watch::settle;
+use crate::watch::{Told, settle};
 use crate::worker::{Finds, Worker};
 use std::alloc::{AllocError, Global};
 use std::thread::Threads;
@@ -25,7 +25,7 @@ use wf_box::Problem;
 use wf_core::Account;
 use wf_handout::Handout;
 use wf_lines::Lines;
-use wf_search::{Cover, Found, Never, search, split};
+use wf_search::{Cover, Found, search, split};
 
 /// The most workers that [`solve`] takes.
 pub const MAX_WORKERS: u32 = 64;
@@ -76,11 +76,26 @@ pub fn solve_one(
     ensures account { IfOk result (λ r. HasAccount problem.now r.0 r.1) }
     ensures in_order { IfOk result (λ r. IsInOrder r.0 r.1) }
 {
+    solve_one_watched(alloc, problem, kept, &Open)
+}
+
+/// The same as [`solve_one`], and the gate is told of the search, which is that of worker 0.
+pub fn solve_one_watched<G: Gate>(
+    alloc: Global,
+    problem: &Problem,
+    kept: KeptLines,
+    gate: &G,
+) -> Result<(Answer, Account), AllocError>
+    ensures answer { IfOk result (λ r. IsAnswer problem.now kept r.0) }
+    ensures account { IfOk result (λ r. HasAccount problem.now r.0 r.1) }
+    ensures in_order { IfOk result (λ r. IsInOrder r.0 r.1) }
+{
     let cover = branches_of(alloc, problem)?;
     let branches = cover.branches();
+    gate.branches(branches);
     let mut lists = Vec::with_capacity(alloc, branches as usize)?;
     for branch in 0..branches {
-        match search_whole(alloc, problem, kept, &cover, branch)? {
+        match search_whole(alloc, problem, kept, &cover, branch, gate)? {
             Answer::Map(map, own) => {
                 let account = Account {
                     branches,
@@ -112,20 +127,25 @@ fn branches_of(alloc: Global, problem: &Problem) -> Result<Cover, AllocError>
     split(alloc, problem)
 }
 
-/// What a branch has. Of its lines those that aren't kept are dropped as soon as it is searched.
-fn search_whole(
+/// What a branch has, by a search that a gate is told of. Of its lines those that aren't kept are dropped as soon as it is
+/// searched.
+fn search_whole<G: Gate>(
     alloc: Global,
     problem: &Problem,
     kept: KeptLines,
     cover: &Cover,
     branch: u32,
+    gate: &G,
 ) -> Result<Answer, AllocError>
     requires cover { IsCoverOf problem.now cover.now }
     requires branch { branch < length (boxes_left_out cover.now) }
     ensures { IfOk result (IsAnswerAt problem.now kept branch) }
 {
+    gate.at(0, Moment::Taken(branch));
     let boxed = cover.branch(alloc, branch)?;
-    match search(alloc, problem, boxed, &mut Never)? {
+    let found = search(alloc, problem, boxed, &mut Told { gate, branch })?;
+    gate.at(0, Moment::Settled(branch));
+    match found {
         Found::Map(map, lines) => Ok(Answer::Map(map, kept.map_lines(alloc, lines))),
         Found::Refuted(lines) => Ok(Answer::Nothing(kept.refuting_lines(alloc, lines))),
         Found::Stopped => unreachable!(),

@@ -46,6 +46,30 @@ impl<'a, G: Gate> Stop for Watch<'a, G> {
         (next.0 ∙ first.0, looked_on u.seat v.seat w.seat first.1 next.1) };
 }
 
+/// The only worker while it searches a branch: each turn is told to the gate, and it never stops.
+#[derive(Drop)]
+pub(crate) struct Told<'a, G> {
+    pub(crate) gate: &'a G,
+    pub(crate) branch: u32,
+}
+
+impl<'a, G: Gate> Stop for Told<'a, G> {
+    ghost use Rattle.std.proofs.Common.{◌≡◌, refl, ◌∙◌};
+
+    ghost keeps = { λ s t. s.branch ≡ t.branch };
+
+    ghost is_stopped = { λ s. ⊥ };
+
+    fn stop(&mut self) -> bool {
+        self.gate.at(0, Moment::Turn(self.branch));
+        false
+    }
+
+    ghost reflexive = { λ s. refl };
+
+    ghost transitive = { λ s t u first second. first ∙ second };
+}
+
 /// Settles a branch that the worker has taken.
 pub(crate) fn settle<G: Gate>(
     alloc: Global,

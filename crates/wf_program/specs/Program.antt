@@ -4,6 +4,7 @@ use Rattle.clap.specs.Words.{kind_of}
 use Rattle.clap.specs.declared.error.Error.{Error}
 use Rattle.clap.specs.declared.error.ErrorKind.TheVariants as kind
 use Rattle.wf_core.specs.declared.Account.{Account}
+use Rattle.wf_model.specs.Task.{Task}
 use Rattle.wf_model.specs.ViewsText.{views_text}
 use Rattle.wf_formula.specs.Dimacs.{question_text}
 use Rattle.wf_io.specs.Seen.{Reading, Writing}
@@ -21,15 +22,20 @@ use Rattle.wf_engine.specs.Verify.{Verifies, Decides}
 use Rattle.wf_engine.specs.Models.{Models}
 use Rattle.wf_engine.specs.Proofs.{Refutes}
 use Rattle.wf_engine.specs.Presets.{WritesPreset}
+use Rattle.wf_rewrite.specs.Trimming.{Trims}
+use Rattle.wf_rewrite.specs.Explaining.{Explains}
+use Rattle.wf_rewrite.specs.Lifting.{Lifts}
 use Rattle.wf_args.specs.Job.{CanBeDone, HidesNoWantOfMemory}
 use Rattle.wf_args.specs.declared.Job.{Job}
-use Rattle.wf_args.specs.declared.Job.TheVariants.{Solve, Verify, Views, Points, Cnf, Model, Proof, Decisions, Preset}
+use Rattle.wf_args.specs.declared.Job.TheVariants.{Solve, Verify, Views, Points, Executions, Cnf, Model, Proof, Decisions, Trim, Explain, Lift, Preset}
 use Rattle.wf_args.specs.declared.WordsFault.{WordsFault}
 use Rattle.wf_args.specs.declared.WordsFault.TheVariants as fault
 use Rattle.wf_program.specs.Files.{Opening, Opens, opened, refused, Filing, CanAsk, after_asking, unread}
 use Rattle.wf_program.specs.AccountText.{account_line}
 use Rattle.wf_program.specs.VersionText.{version_line}
 use Rattle.wf_program.specs.declared.done.Done.{Done}
+use Rattle.wf_program.specs.declared.filed.Filed.{Filed}
+use Rattle.wf_program.specs.declared.filed.Filed.TheVariants as filed
 use Rattle.wf_program.specs.declared.refusal.Refusal.{Refusal}
 use Rattle.wf_program.specs.declared.refusal.Refusal.TheVariants.{Run, Words, Clap}
 
@@ -95,13 +101,38 @@ abbrev pub written : Result (Unit {0}) RunFault → Result Done Refusal
 written (Ok done) = Ok (record { status = 0; account = None })
 written (Err e) = Err (Run e)
 
--- One file was asked for and opened, this was done with its task and the source's report, and the file's source is kept as
+-- what is done with the task of one source and what another gives, and the text that is written
+abbrev pub DoesBoth : Type 0 → Type 1
+DoesBoth X = Reading → Reading → Reading → Reading → Writing → Writing → X → Type 0
+
+-- it was done, and this is what is answered then
+abbrev pub Ended : {X : Type 0} → (Result X RunFault → Result Done Refusal) → DoesBoth (Result X RunFault) → DoesBoth (Result Done Refusal)
+Ended {X = X} answered does task task' source source' sink sink' done =
+    (result : Result X RunFault) × does task task' source source' sink sink' result × (done ≡ answered result)
+
+-- what a job does with the task in its file
+abbrev pub DoesWithFile : Filed → DoesBoth (Result Done Refusal)
+DoesWithFile (filed.Verify rounds) task task' source source' sink sink' done = Ended verified (Verifies rounds) task task' source source' sink sink' done
+DoesWithFile (filed.Model rounds) task task' source source' sink sink' done = Ended written (Models rounds) task task' source source' sink sink' done
+DoesWithFile (filed.Proof rounds) task task' source source' sink sink' done = Ended written (Refutes rounds) task task' source source' sink sink' done
+DoesWithFile filed.Decisions task task' source source' sink sink' done = Ended written Decides task task' source source' sink sink' done
+DoesWithFile filed.Trim task task' source source' sink sink' done = Ended written Trims task task' source source' sink sink' done
+DoesWithFile filed.Explain task task' source source' sink sink' done = Ended written Explains task task' source source' sink sink' done
+DoesWithFile (filed.Lift rounds) task task' source source' sink sink' done = Ended written (Lifts rounds) task task' source source' sink sink' done
+
+-- One file was asked for and opened, this was done with its task and the source's text, and the file's source is kept as
 -- it was left. Or it can't be opened, which is a failed read, and nothing was read or written.
-abbrev pub WithFile : {F X : Type 0} → (Opening → Type 0) → (Reading → Reading → Reading → Reading → Writing → Writing → Result X RunFault → Type 0) → Filing F → Filing F → Reading → Reading → Writing → Writing → Result X RunFault → Type 0
-WithFile comes does folder folder' source source' sink sink' result =
+abbrev pub WithFile : {F : Type 0} → (Opening → Type 0) → DoesBoth (Result Done Refusal) → Filing F → Filing F → Reading → Reading → Writing → Writing → Result Done Refusal → Type 0
+WithFile comes does folder folder' source source' sink sink' done =
     ((left : Option (List ℕ)) × (file' : Reading) × comes (opened left) × (folder' ≡ after_asking folder 0 (Some file'))
-    × does (unread left) file' source source' sink sink' result)
-    ⊎ (comes refused × (folder' ≡ after_asking folder 1 None) × (result ≡ Err run.Read) × (source' ≡ source) × (sink' ≡ sink))
+    × does (unread left) file' source source' sink sink' done)
+    ⊎ (comes refused × (folder' ≡ after_asking folder 1 None) × (done ≡ Err (Run run.Read)) × (source' ≡ source) × (sink' ≡ sink))
+
+-- a text of the source's task after so many rounds was written, and no file was asked for
+abbrev pub ListsOf : {F : Type 0} → (Task → ℕ → List ℕ) → ℕ → Filing F → Filing F → Reading → Reading → Writing → Writing → Result Done Refusal → Type 0
+ListsOf text_of rounds folder folder' source source' sink sink' done =
+    (result : Result (Unit {0}) RunFault) × Lists text_of rounds source source' sink sink' result
+    × (folder' ≡ folder) × (done ≡ written result)
 
 -- what a job asks for was done, its file among those that may be opened under its path; without one no file was asked for
 abbrev pub Does : {F : Type 0} → Opens → Job → Filing F → Filing F → Reading → Reading → Writing → Writing → Result Done Refusal → Type 0
@@ -109,26 +140,27 @@ Does opens (Solve rounds workers form account progress) folder folder' source so
     (result : Result (Outcome × Account) RunFault) × Solves rounds form source source' sink sink' result
     × (workers ≡ 1 → SearchesInOrder result) × (folder' ≡ folder) × (done ≡ solved account result)
 Does opens (Verify task rounds) folder folder' source source' sink sink' done =
-    (result : Result Accepted RunFault) × WithFile (opens (string_bytes task)) (Verifies rounds) folder folder' source source' sink sink' result
-    × (done ≡ verified result)
+    WithFile (opens (string_bytes task)) (DoesWithFile (filed.Verify rounds)) folder folder' source source' sink sink' done
 Does opens (Views rounds) folder folder' source source' sink sink' done =
-    (result : Result (Unit {0}) RunFault) × Lists views_text rounds source source' sink sink' result
-    × (folder' ≡ folder) × (done ≡ written result)
+    ListsOf views_text rounds folder folder' source source' sink sink' done
 Does opens (Points rounds) folder folder' source source' sink sink' done =
-    (result : Result (Unit {0}) RunFault) × Lists undecided_points rounds source source' sink sink' result
-    × (folder' ≡ folder) × (done ≡ written result)
+    ListsOf undecided_points rounds folder folder' source source' sink sink' done
+Does opens (Executions rounds) folder folder' source source' sink sink' done =
+    ListsOf executions_text rounds folder folder' source source' sink sink' done
 Does opens (Cnf rounds) folder folder' source source' sink sink' done =
-    (result : Result (Unit {0}) RunFault) × Lists question_text rounds source source' sink sink' result
-    × (folder' ≡ folder) × (done ≡ written result)
+    ListsOf question_text rounds folder folder' source source' sink sink' done
 Does opens (Model task rounds) folder folder' source source' sink sink' done =
-    (result : Result (Unit {0}) RunFault) × WithFile (opens (string_bytes task)) (Models rounds) folder folder' source source' sink sink' result
-    × (done ≡ written result)
+    WithFile (opens (string_bytes task)) (DoesWithFile (filed.Model rounds)) folder folder' source source' sink sink' done
 Does opens (Proof task rounds) folder folder' source source' sink sink' done =
-    (result : Result (Unit {0}) RunFault) × WithFile (opens (string_bytes task)) (Refutes rounds) folder folder' source source' sink sink' result
-    × (done ≡ written result)
+    WithFile (opens (string_bytes task)) (DoesWithFile (filed.Proof rounds)) folder folder' source source' sink sink' done
 Does opens (Decisions task) folder folder' source source' sink sink' done =
-    (result : Result (Unit {0}) RunFault) × WithFile (opens (string_bytes task)) Decides folder folder' source source' sink sink' result
-    × (done ≡ written result)
+    WithFile (opens (string_bytes task)) (DoesWithFile filed.Decisions) folder folder' source source' sink sink' done
+Does opens (Trim task) folder folder' source source' sink sink' done =
+    WithFile (opens (string_bytes task)) (DoesWithFile filed.Trim) folder folder' source source' sink sink' done
+Does opens (Explain task) folder folder' source source' sink sink' done =
+    WithFile (opens (string_bytes task)) (DoesWithFile filed.Explain) folder folder' source source' sink sink' done
+Does opens (Lift task rounds) folder folder' source source' sink sink' done =
+    WithFile (opens (string_bytes task)) (DoesWithFile (filed.Lift rounds)) folder folder' source source' sink sink' done
 Does opens (Preset preset) folder folder' source source' sink sink' done =
     (result : Result (Unit {0}) RunFault) × WritesPreset preset sink sink' result × (source' ≡ source)
     × (folder' ≡ folder) × (done ≡ written result)

@@ -1,10 +1,13 @@
 //! What the program has done, where it was not refused.
 
-ghost use Rattle.std.specs.Prelude.{Some};
+ghost use Rattle.std.specs.Prelude.{◌≡◌, Some};
 ghost use Rattle.wf_program.specs.AccountText.{account_line};
+ghost use Rattle.wf_program.specs.Program.{outcome_status, solved, verified, written};
 
+use crate::refusal::Refusal;
 use std::fmt;
 use wf_core::Account;
+use wf_engine::{Accepted, Outcome, RunFault};
 
 /// What was done: its exit status, and the account that is to be told.
 #[derive(Clone, Copy, Debug)]
@@ -31,5 +34,57 @@ impl fmt::Display for AccountLine {
             f,
             "account branches {branches} searched {searched} cut {cut}"
         )
+    }
+}
+
+/// What is answered after a check.
+pub(crate) fn after_verifying(found: Result<Accepted, RunFault>) -> Result<Done, Refusal>
+    ensures { result ≡ verified found }
+{
+    match found {
+        Ok(_) => Ok(Done {
+            status: 0,
+            account: None,
+        }),
+        Err(fault) => Err(Refusal::Run(fault)),
+    }
+}
+
+/// What is answered after a search, and whether its account is told.
+pub(crate) fn after_solving(
+    found: Result<(Outcome, Account), RunFault>,
+    tells: bool,
+) -> Result<Done, Refusal>
+    ensures { result ≡ solved tells found }
+{
+    match found {
+        Ok((outcome, account)) => Ok(Done {
+            status: status_of(outcome),
+            account: if tells { Some(account) } else { None },
+        }),
+        Err(fault) => Err(Refusal::Run(fault)),
+    }
+}
+
+/// The exit status of a search.
+fn status_of(outcome: Outcome) -> u8
+    ensures { result ≡ outcome_status outcome }
+{
+    match outcome {
+        Outcome::Map => 0,
+        Outcome::Nothing => 1,
+    }
+}
+
+/// What is answered after a text was written.
+pub(crate) fn after_writing(found: Result<(), RunFault>) -> Result<Done, Refusal>
+    ensures { result ≡ written found }
+{
+    match found {
+        Ok(()) => Ok(Done {
+            status: 0,
+            account: None,
+        }),
+        Err(fault) => Err(Refusal::Run(fault)),
     }
 }

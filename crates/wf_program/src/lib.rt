@@ -6,6 +6,7 @@
 #![tactic(auto)]
 
 mod done;
+mod filed;
 mod files;
 mod laws;
 mod program;

@@ -4,14 +4,12 @@ ghost use Rattle.std.specs.Prelude.{◌≡◌, ◌<◌, ◌≤◌};
 ghost use Rattle.wf_model.specs.Limits.{most_workers};
 ghost use Rattle.wf_io.specs.Ends.{CanCount, CanWrite};
 ghost use Rattle.wf_engine.specs.Texts.{SearchesInOrder, Solves};
-ghost use Rattle.wf_engine.specs.Models.{Models};
-ghost use Rattle.wf_engine.specs.Proofs.{Refutes};
-ghost use Rattle.wf_engine.specs.Verify.{Decides, Verifies};
 ghost use Rattle.wf_args.specs.Job.{CanBeDone};
 ghost use Rattle.wf_program.specs.Files.{CanAsk};
-ghost use Rattle.wf_program.specs.Program.{CanServe, Declines, Does, Ends, IsAsked, Serves, Shows, WithFile, outcome_status, solved, verified, written};
+ghost use Rattle.wf_program.specs.Program.{CanServe, Declines, Does, Ends, IsAsked, Serves, Shows};
 
-use crate::done::{AccountLine, Done};
+use crate::done::{AccountLine, Done, after_solving, after_writing};
+use crate::filed::Filed;
 use crate::files::{Files, Folder};
 use crate::refusal::Refusal;
 use crate::version::VersionLine;
@@ -23,8 +21,8 @@ use std::thread::Threads;
 use wf_args::{Job, WordsFault, read_words};
 use wf_core::Account;
 use wf_engine::{
-    Accepted, Form, Outcome, RunFault, hand_out, run_cnf, run_decisions, run_model, run_points,
-    run_preset, run_proof, run_solve, run_solve_watched, run_verify, run_views,
+    Form, Outcome, RunFault, hand_out, run_cnf, run_executions, run_points, run_preset, run_solve,
+    run_solve_watched, run_views,
 };
 use wf_io::{Sink, Source};
 use wf_pool::Gate;
@@ -37,7 +35,7 @@ use wf_pool::Gate;
 /// not be opened. A refusal is one line on `errors`, and so is the account of a search that was not refused, where the
 /// words ask for it.
 ///
-/// Where the words ask for progress, the gate is told of a search by several workers, while it goes on. What a gate does
+/// Where the words ask for progress, the gate is told of a search while it goes on. What a gate does
 /// with that is the caller's: what it writes is no part of `errors`.
 pub fn run_program<T: Threads + Sync, F: Files, G: Gate, R: Read, W: Write, E: Write>(
     rt: &T,
@@ -96,19 +94,25 @@ fn do_job<T: Threads + Sync, F: Files, G: Gate, R: Read, W: Write>(
             after_solving(found, *account)
         }
         Job::Verify { task, rounds } => {
-            after_verifying(verify_file(rt, alloc, folder, task, source, sink, *rounds))
+            Filed::Verify(*rounds).with_file(rt, alloc, folder, task, source, sink)
         }
         Job::Views { rounds } => after_writing(run_views(alloc, source, sink, *rounds)),
         Job::Points { rounds } => after_writing(run_points(alloc, source, sink, *rounds)),
+        Job::Executions { rounds } => after_writing(run_executions(alloc, source, sink, *rounds)),
         Job::Cnf { rounds } => after_writing(run_cnf(alloc, source, sink, *rounds)),
         Job::Model { task, rounds } => {
-            after_writing(report_file(rt, alloc, folder, task, source, sink, *rounds))
+            Filed::Model(*rounds).with_file(rt, alloc, folder, task, source, sink)
         }
         Job::Proof { task, rounds } => {
-            after_writing(refute_file(alloc, folder, task, source, sink, *rounds))
+            Filed::Proof(*rounds).with_file(rt, alloc, folder, task, source, sink)
         }
         Job::Decisions { task } => {
-            after_writing(decide_file(rt, alloc, folder, task, source, sink))
+            Filed::Decisions.with_file(rt, alloc, folder, task, source, sink)
+        }
+        Job::Trim { task } => Filed::Trim.with_file(rt, alloc, folder, task, source, sink),
+        Job::Explain { task } => Filed::Explain.with_file(rt, alloc, folder, task, source, sink),
+        Job::Lift { task, rounds } => {
+            Filed::Lift(*rounds).with_file(rt, alloc, folder, task, source, sink)
         }
         Job::Preset(preset) => after_writing(run_preset(alloc, sink, *preset)),
     }
@@ -133,157 +137,6 @@ fn solve_source<T: Threads + Sync, G: Gate, R: Read, W: Write>(
     match gate {
         Some(gate) => { run_solve_watched(rt, alloc, source, sink, rounds, workers, form, gate) }
         None => run_solve(rt, alloc, source, sink, rounds, workers, form),
-    }
-}
-
-/// Checks the report of the source about the task in a file, whose source is kept. A file that can't be opened is a failed
-/// read. Where rounds are asked for, a report for others is refused.
-fn verify_file<T: Threads + Sync, F: Files, R: Read, W: Write>(
-    rt: &T,
-    alloc: Global,
-    folder: &mut Folder<F>,
-    path: &str,
-    source: &mut Source<R>,
-    sink: &mut Sink<W>,
-    rounds: Option<u32>,
-) -> Result<Accepted, RunFault>
-    requires files { CanAsk folder.old }
-    requires ends { CanCount source.old sink.old }
-    ensures { WithFile (F.opens folder.old.files path.now) (Verifies rounds) folder.old folder.new
-        source.old source.new sink.old sink.new result }
-{
-    match folder.open(path) {
-        Some(mut file) => {
-            let found = run_verify(rt, alloc, &mut file, source, sink, rounds);
-            folder.keep(file);
-            found
-        }
-        None => Err(RunFault::Read),
-    }
-}
-
-/// Reports the map of the source's model about the task in a file, whose source is kept. A file that can't be opened is a failed
-/// read.
-fn report_file<T: Threads + Sync, F: Files, R: Read, W: Write>(
-    rt: &T,
-    alloc: Global,
-    folder: &mut Folder<F>,
-    path: &str,
-    source: &mut Source<R>,
-    sink: &mut Sink<W>,
-    rounds: u32,
-) -> Result<(), RunFault>
-    requires files { CanAsk folder.old }
-    requires ends { CanCount source.old sink.old }
-    ensures { WithFile (F.opens folder.old.files path.now) (Models rounds) folder.old folder.new
-        source.old source.new sink.old sink.new result }
-{
-    match folder.open(path) {
-        Some(mut file) => {
-            let found = run_model(rt, alloc, &mut file, source, sink, rounds);
-            folder.keep(file);
-            found
-        }
-        None => Err(RunFault::Read),
-    }
-}
-
-/// Checks the source's proof that the task in a file, whose source is kept, has no decision map after some rounds. A file
-/// that can't be opened is a failed read.
-fn refute_file<F: Files, R: Read, W: Write>(
-    alloc: Global,
-    folder: &mut Folder<F>,
-    path: &str,
-    source: &mut Source<R>,
-    sink: &mut Sink<W>,
-    rounds: u32,
-) -> Result<(), RunFault>
-    requires files { CanAsk folder.old }
-    requires ends { CanCount source.old sink.old }
-    ensures { WithFile (F.opens folder.old.files path.now) (Refutes rounds) folder.old folder.new
-        source.old source.new sink.old sink.new result }
-{
-    match folder.open(path) {
-        Some(mut file) => {
-            let found = run_proof(alloc, &mut file, source, sink, rounds);
-            folder.keep(file);
-            found
-        }
-        None => Err(RunFault::Read),
-    }
-}
-
-/// Tells what the map of the source's report decides for the task in a file, whose source is kept. A file that can't be
-/// opened is a failed read.
-fn decide_file<T: Threads + Sync, F: Files, R: Read, W: Write>(
-    rt: &T,
-    alloc: Global,
-    folder: &mut Folder<F>,
-    path: &str,
-    source: &mut Source<R>,
-    sink: &mut Sink<W>,
-) -> Result<(), RunFault>
-    requires files { CanAsk folder.old }
-    requires ends { CanCount source.old sink.old }
-    ensures { WithFile (F.opens folder.old.files path.now) Decides folder.old folder.new
-        source.old source.new sink.old sink.new result }
-{
-    match folder.open(path) {
-        Some(mut file) => {
-            let found = run_decisions(rt, alloc, &mut file, source, sink);
-            folder.keep(file);
-            found
-        }
-        None => Err(RunFault::Read),
-    }
-}
-
-/// What is answered after a check.
-fn after_verifying(found: Result<Accepted, RunFault>) -> Result<Done, Refusal>
-    ensures { result ≡ verified found }
-{
-    match found {
-        Ok(_) => Ok(Done {
-            status: 0,
-            account: None,
-        }),
-        Err(fault) => Err(Refusal::Run(fault)),
-    }
-}
-
-/// What is answered after a search, and whether its account is told.
-fn after_solving(found: Result<(Outcome, Account), RunFault>, tells: bool) -> Result<Done, Refusal>
-    ensures { result ≡ solved tells found }
-{
-    match found {
-        Ok((outcome, account)) => Ok(Done {
-            status: status_of(outcome),
-            account: if tells { Some(account) } else { None },
-        }),
-        Err(fault) => Err(Refusal::Run(fault)),
-    }
-}
-
-/// The exit status of a search.
-fn status_of(outcome: Outcome) -> u8
-    ensures { result ≡ outcome_status outcome }
-{
-    match outcome {
-        Outcome::Map => 0,
-        Outcome::Nothing => 1,
-    }
-}
-
-/// What is answered after a text was written.
-fn after_writing(found: Result<(), RunFault>) -> Result<Done, Refusal>
-    ensures { result ≡ written found }
-{
-    match found {
-        Ok(()) => Ok(Done {
-            status: 0,
-            account: None,
-        }),
-        Err(fault) => Err(Refusal::Run(fault)),
     }
 }
 

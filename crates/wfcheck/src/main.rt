@@ -27,25 +27,58 @@ impl<R: rt::Files> Files for Disk<'_, R> {
     }
 }
 
-/// Tells on standard error, a line for each settled branch, how many are settled so far. Where that can't be written
-/// nothing more can be done.
+/// So many turns in which no branch was settled are worth a line, and then twice as many each time.
+const MANY_TURNS: u64 = 65_536;
+
+/// Tells on standard error how a search goes on: how large the complex is, how many branches there are, a line for each settled
+/// branch, and, where none was settled for long, how many turns were taken since. Where that can't be written nothing more can
+/// be done.
 #[derive(Drop)]
 struct Progress<'a, R> {
     rt: &'a R,
     branches: AtomicU64,
     settled: AtomicU64,
+    // those since a branch was settled last
+    turns: AtomicU64,
+}
+
+impl<'a, R> Progress<'a, R> {
+    /// Before anything was searched.
+    fn new(rt: &'a R) -> Progress<'a, R> {
+        Progress {
+            rt,
+            branches: AtomicU64::new(0),
+            settled: AtomicU64::new(0),
+            turns: AtomicU64::new(0),
+        }
+    }
 }
 
 impl<R: Eprint + Sync> Gate for Progress<'_, R> {
+    fn complex(&self, points: u32, executions: u32) {
+        let _told = eprintln!(self.rt; "complex of {points} points and {executions} executions");
+    }
+
     fn branches(&self, count: u32) {
         self.branches.store(u64::from(count), SeqCst);
+        let _told = eprintln!(self.rt; "branches {count}");
     }
 
     fn at(&self, _worker: u32, moment: Moment) {
-        if matches!(moment, Moment::Settled(_)) {
-            let settled = self.settled.fetch_add(1, SeqCst).saturating_add(1);
-            let branches = self.branches.load(SeqCst);
-            let _told = eprintln!(self.rt; "settled {settled} of {branches}");
+        match moment {
+            Moment::Taken(_) => {}
+            Moment::Turn(branch) => {
+                let turns = self.turns.fetch_add(1, SeqCst).saturating_add(1);
+                if turns >= MANY_TURNS && turns.is_power_of_two() {
+                    let _told = eprintln!(self.rt; "turns {turns}, the last in branch {branch}");
+                }
+            }
+            Moment::Settled(_) => {
+                self.turns.store(0, SeqCst);
+                let settled = self.settled.fetch_add(1, SeqCst).saturating_add(1);
+                let branches = self.branches.load(SeqCst);
+                let _told = eprintln!(self.rt; "settled {settled} of {branches}");
+            }
         }
     }
 }
@@ -65,11 +98,7 @@ fn hold_closed_streams<R: rt::Files>(rt: &R) -> [io::Result<R::File>; 3] {
 
 fn main(rt: HostRuntime) -> ExitCode {
     let _held = hold_closed_streams(&rt);
-    let progress = Progress {
-        rt: &rt,
-        branches: AtomicU64::new(0),
-        settled: AtomicU64::new(0),
-    };
+    let progress = Progress::new(&rt);
     let status = run_program(
         &rt,
         rt.alloc(),

@@ -1,4 +1,4 @@
-//! A gate is told of a search by several workers where the words ask for progress.
+//! A gate is told of a search where the words ask for progress.
 
 use super::ends::EMPTY;
 use super::words::split;
@@ -51,11 +51,12 @@ impl Gate for Tally {
 #[test]
 fn a_gate_is_told_where_progress_is_asked_for(rt: HostRuntime) -> Result<(), Fail> {
     let rows = [
-        ("wfcheck solve --rounds 1 --workers 2 --progress", 3),
-        ("wfcheck solve --rounds 1 --workers 2", 0),
-        ("wfcheck solve --rounds 1 --workers 1 --progress", 0),
+        ("wfcheck solve --rounds 1 --workers 2 --progress", 3, 3),
+        ("wfcheck solve --rounds 1 --workers 2", 0, 0),
+        ("wfcheck solve --rounds 1 --workers 1 --progress", 3, 1),
+        ("wfcheck solve --rounds 1 --workers 1", 0, 0),
     ];
-    for (line, told) in rows {
+    for (line, branches, settled) in rows {
         let words = split(rt.alloc(), line)?;
         let mut output = Vec::new(rt.alloc());
         let mut errors = Vec::new(rt.alloc());
@@ -76,8 +77,8 @@ fn a_gate_is_told_where_progress_is_asked_for(rt: HostRuntime) -> Result<(), Fai
         drop(refusals);
         assert_eq!(rt; status, 0, "{line}");
         assert!(rt; errors.is_empty(), "{line}");
-        assert_eq!(rt; tally.branches.load(SeqCst), told, "{line}");
-        assert_eq!(rt; tally.settled.load(SeqCst), told, "{line}");
+        assert_eq!(rt; tally.branches.load(SeqCst), branches, "{line}");
+        assert_eq!(rt; tally.settled.load(SeqCst), settled, "{line}");
     }
     Ok(())
 }

@@ -5,17 +5,17 @@ use Rattle.wf_pool.specs.Answers.{IsAnswerAt}
 use Rattle.wf_pool.proofs.Branches.{count_of_cover, lines_are}
 use Rattle.wf_pool.proofs.Answering.{account_of_map, account_of_none, first_answer}
 use Rattle.wf_pool.proofs.Placing.{one_more}
-use Rattle.wf_pool.proofs.solving.solve_one.Goals as goal
+use Rattle.wf_pool.proofs.solving.solve_one_watched.Goals as goal
 
 pub lines_to_map-requires-clause-branch : goal.lines_to_map-requires-clause-branch
-lines_to_map-requires-clause-branch c =
+lines_to_map-requires-clause-branch g c =
     let here = c.loop-branch.invariant.0 in
     let count = c.branches-branches.ensures.branches ∙ count_of_cover c.args.problem.now c.in_ok-cover.cover c.in_ok-cover.ensures in
     let low = c.loop-branch-test.true in
     omega arith
 
 pub returns-in-Map-clause-answer : goal.returns-in-Map-clause-answer
-returns-in-Map-clause-answer c =
+returns-in-Map-clause-answer g c =
     let p = c.args.problem.now in
     let own = c.in-Map.own.items in
     let lines = c.in_ok-lines-in-Map.lines.items in
@@ -25,7 +25,7 @@ returns-in-Map-clause-answer c =
     (subst (λ n. LeadIfKept p c.args.kept n own lines) c.loop-branch.invariant.0 c.in_ok-lines-in-Map.ensures)
 
 pub returns-in-Map-clause-account : goal.returns-in-Map-clause-account
-returns-in-Map-clause-account c =
+returns-in-Map-clause-account g c =
     let p = c.args.problem.now in
     let low = c.loop-branch-test.true in
     let count = c.branches-branches.ensures.branches ∙ count_of_cover p c.in_ok-cover.cover c.in_ok-cover.ensures in
@@ -33,7 +33,7 @@ returns-in-Map-clause-account c =
     (subst (IsAnswerAt p c.args.kept c.loop-branch.branch) c.in-Map.is c.in_ok-map.ensures) (omega arith) (omega arith)
 
 pub loop-branch-preserved : goal.loop-branch-preserved
-loop-branch-preserved c =
+loop-branch-preserved g c =
     let p = c.args.problem.now in
     let lists = c.loop-branch.lists.items in
     let lines = c.in-Nothing.lines in
@@ -48,7 +48,7 @@ loop-branch-preserved c =
     )
 
 pub lines_of_none-requires-clause-count : goal.lines_of_none-requires-clause-count
-lines_of_none-requires-clause-count c =
+lines_of_none-requires-clause-count g c =
     let p = c.args.problem.now in
     let count = c.branches-branches.ensures.branches ∙ count_of_cover p c.in_ok-cover.cover c.in_ok-cover.ensures in
     let here = c.loop-branch.invariant.0 in
@@ -57,7 +57,7 @@ lines_of_none-requires-clause-count c =
     omega arith
 
 pub lines_of_none-requires-clause-lists : goal.lines_of_none-requires-clause-lists
-lines_of_none-requires-clause-lists c = λ i inside.
+lines_of_none-requires-clause-lists g c = λ i inside.
     let p = c.args.problem.now in
     let count = c.branches-branches.ensures.branches ∙ count_of_cover p c.in_ok-cover.cover c.in_ok-cover.ensures in
     let low = c.loop-branch-test.false in
@@ -65,5 +65,5 @@ lines_of_none-requires-clause-lists c = λ i inside.
     c.loop-branch.invariant.1 i (omega arith)
 
 pub returns-clause-account : goal.returns-clause-account
-returns-clause-account c =
+returns-clause-account g c =
     account_of_none c.args.problem.now _ (c.branches-branches.ensures.branches ∙ count_of_cover c.args.problem.now c.in_ok-cover.cover c.in_ok-cover.ensures) refl refl refl

@@ -1,0 +1,64 @@
+"""The front door of the scripts of checks/ and of gallery/run: the program that they run, their words, and their last line.
+
+`--help` shows what stands at the head of a script, and ends with status 0. A word that it doesn't know, and a name that nothing
+has, end it with status 2 before anything is run, and so does a program that isn't there. A script from which nothing was chosen has
+failed."""
+import argparse
+import pathlib
+import sys
+
+sys.dont_write_bytecode = True
+ROOT = pathlib.Path(__file__).resolve().parent.parent
+BUILT = ROOT / "bin/wfcheck"
+
+
+class Program:
+    """The program that a script runs: bin/wfcheck, or what its option `--program` names."""
+    path = BUILT
+
+
+def program():
+    return Program.path
+
+
+class Script(argparse.ArgumentParser):
+    """A script's command line, by what stands at its head."""
+
+    def __init__(self, doc):
+        path = pathlib.Path(sys.argv[0]).resolve()
+        name = f"{path.parent.name}/{path.name}"
+        super().__init__(prog=name, description=doc, formatter_class=argparse.RawDescriptionHelpFormatter, allow_abbrev=False)
+
+    def runs_program(self):
+        """Adds the option that names another program than bin/wfcheck."""
+        told = "the program, bin/wfcheck if it isn't given"
+        self.add_argument("--program", metavar="FILE", type=pathlib.Path, default=BUILT, help=told)
+        return self
+
+    def asked(self):
+        """The words. Where the script runs the program, that has to be there."""
+        found = self.parse_args()
+        if "program" in found:
+            Program.path = found.program.resolve()
+            if not Program.path.is_file():
+                self.error(f"{found.program} is not there: `make build` leaves bin/wfcheck")
+        return found
+
+    def chosen(self, things, words, name, fits=str.__eq__):
+        """The things of which a name fits one of the words, or all where no word is given. A word that fits none ends the script."""
+        names = [(thing, name(thing)) for thing in things]
+        for word in words:
+            if not any(fits(it, word) for _, it in names):
+                self.error(f"nothing here is named {word!r}")
+        return [thing for thing, it in names if not words or any(fits(it, word) for word in words)]
+
+
+def contains(name, word):
+    """Whether a name has a word in it, where a word picks by a part of the name."""
+    return word in name
+
+
+def ended(passed, failed):
+    """Says the last line, and returns the status: where nothing was tried, nothing passed."""
+    print(f"{passed} passed, {failed} failed")
+    return 1 if failed or not passed else 0

@@ -1,0 +1,89 @@
+//! What is done with the task in a file and with what the source gives about it.
+
+ghost use Rattle.wf_engine.specs.Verify.{CanVerify};
+ghost use Rattle.wf_io.specs.Ends.{CanCount};
+ghost use Rattle.wf_program.specs.Files.{CanAsk};
+ghost use Rattle.wf_program.specs.Program.{DoesWithFile, WithFile};
+
+use crate::done::{Done, after_verifying, after_writing};
+use crate::files::{Files, Folder};
+use crate::refusal::Refusal;
+use std::alloc::Global;
+use std::io::{Read, Write};
+use std::thread::Threads;
+use wf_engine::{RunFault, run_decisions, run_model, run_proof, run_verify};
+use wf_io::{Sink, Source};
+use wf_rewrite::{run_explain, run_lift, run_trim};
+
+/// What a job does with the task in a file, and with what the source gives about it.
+#[derive(Clone, Copy)]
+pub(crate) enum Filed {
+    /// Check a report, for these rounds where any are asked for.
+    Verify(Option<u32>),
+    /// Report the map of a solver's model for so many rounds.
+    Model(u32),
+    /// Check a solver's proof that there is no map after so many rounds.
+    Proof(u32),
+    /// Tell what a report's map decides.
+    Decisions,
+    /// Write a report with the lines that are needed.
+    Trim,
+    /// Tell in words why there is no map.
+    Explain,
+    /// Report a report's map for one round more, or for so many rounds.
+    Lift(Option<u32>),
+}
+
+impl Filed {
+    /// Does it with the task in the file under a path, whose source is kept. A file that can't be opened is a failed read.
+    pub(crate) fn with_file<T: Threads + Sync, F: Files, R: Read, W: Write>(
+        self,
+        rt: &T,
+        alloc: Global,
+        folder: &mut Folder<F>,
+        path: &str,
+        source: &mut Source<R>,
+        sink: &mut Sink<W>,
+    ) -> Result<Done, Refusal>
+        requires files { CanAsk folder.old }
+        requires ends { CanCount source.old sink.old }
+        ensures { WithFile (F.opens folder.old.files path.now) (DoesWithFile self) folder.old folder.new
+            source.old source.new sink.old sink.new result }
+    {
+        match folder.open(path) {
+            Some(mut file) => {
+                let done = self.with_task(rt, alloc, &mut file, source, sink);
+                folder.keep(file);
+                done
+            }
+            None => Err(Refusal::Run(RunFault::Read)),
+        }
+    }
+
+    /// Does it with the task that a source gives.
+    fn with_task<T: Threads + Sync, F: Read, R: Read, W: Write>(
+        self,
+        rt: &T,
+        alloc: Global,
+        task: &mut Source<F>,
+        source: &mut Source<R>,
+        sink: &mut Sink<W>,
+    ) -> Result<Done, Refusal>
+        requires { CanVerify task.old source.old sink.old }
+        ensures { DoesWithFile self task.old task.new source.old source.new sink.old sink.new result }
+    {
+        match self {
+            Filed::Verify(rounds) => {
+                after_verifying(run_verify(rt, alloc, task, source, sink, rounds))
+            }
+            Filed::Model(rounds) => {
+                after_writing(run_model(rt, alloc, task, source, sink, rounds))
+            }
+            Filed::Proof(rounds) => after_writing(run_proof(alloc, task, source, sink, rounds)),
+            Filed::Decisions => after_writing(run_decisions(rt, alloc, task, source, sink)),
+            Filed::Trim => after_writing(run_trim(rt, alloc, task, source, sink)),
+            Filed::Explain => after_writing(run_explain(rt, alloc, task, source, sink)),
+            Filed::Lift(rounds) => after_writing(run_lift(rt, alloc, task, source, sink, rounds)),
+        }
+    }
+}

@@ -1,0 +1,58 @@
+# made by docs/make-manual: source this file in bash
+_wfcheck() {
+    local cur=${COMP_WORDS[COMP_CWORD]} prev=${COMP_WORDS[COMP_CWORD - 1]}
+    local words
+    COMPREPLY=()
+    if [ "$COMP_CWORD" -eq 1 ]; then
+        mapfile -t COMPREPLY < <(compgen -W "solve verify views points cnf model proof preset help --help --version" -- "$cur")
+        return
+    fi
+    case ${COMP_WORDS[1]}:$prev in
+        solve:--rounds) return ;;
+        solve:--workers) return ;;
+        verify:--task)
+            compopt -o filenames 2> /dev/null
+            mapfile -t COMPREPLY < <(compgen -f -- "$cur")
+            return
+            ;;
+        verify:--rounds) return ;;
+        views:--rounds) return ;;
+        points:--rounds) return ;;
+        points:--task)
+            compopt -o filenames 2> /dev/null
+            mapfile -t COMPREPLY < <(compgen -f -- "$cur")
+            return
+            ;;
+        cnf:--rounds) return ;;
+        model:--task)
+            compopt -o filenames 2> /dev/null
+            mapfile -t COMPREPLY < <(compgen -f -- "$cur")
+            return
+            ;;
+        model:--rounds) return ;;
+        proof:--task)
+            compopt -o filenames 2> /dev/null
+            mapfile -t COMPREPLY < <(compgen -f -- "$cur")
+            return
+            ;;
+        proof:--rounds) return ;;
+        preset:--processes) return ;;
+        preset:--k) return ;;
+        preset:--values) return ;;
+        preset:--names) return ;;
+    esac
+    case ${COMP_WORDS[1]} in
+        solve) words="--rounds --workers --verdict --least --account --progress --help" ;;
+        verify) words="--task --rounds --help" ;;
+        views) words="--rounds --help" ;;
+        points) words="--rounds --task --help" ;;
+        cnf) words="--rounds --help" ;;
+        model) words="--task --rounds --help" ;;
+        proof) words="--task --rounds --help" ;;
+        preset) words="set-agreement renaming --processes --k --values --names --help" ;;
+        help) words="solve verify views points cnf model proof preset" ;;
+        *) return ;;
+    esac
+    mapfile -t COMPREPLY < <(compgen -W "$words" -- "$cur")
+}
+complete -F _wfcheck wfcheck
