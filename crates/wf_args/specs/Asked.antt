@@ -24,8 +24,8 @@ use Rattle.wf_args.specs.declared.presets.Options.{Options}
 abbrev pub Path : Type 0
 Path = String Global
 
--- what words ask for: a job, or one about the task in the file of this path; or none that there is; or they are refused, or answered
--- with help or the version, as an error of one of these kinds
+-- What words ask for: a job, or one about the task in the file of this path; or none that there is. Or they are refused, or
+-- answered with help or the version, by an error of one of these kinds.
 pub data Asked : Type 0 where
   this_job : Job → Asked
   this_job_on : Text → (Path → Job) → Asked
@@ -97,10 +97,12 @@ abbrev pub cnf_asked : List Row → Asked
 cnf_asked rows = given (rounds_of rows) (λ rounds. this_job (job.Cnf rounds))
 
 abbrev pub model_asked : List Row → Asked
-model_asked rows = given (task_of rows) (λ path. given (rounds_of rows) (λ rounds. this_job_on path (λ task. job.Model task rounds)))
+model_asked rows =
+    given (task_of rows) (λ path. given (rounds_of rows) (λ rounds. this_job_on path (λ task. job.Model task rounds)))
 
 abbrev pub proof_asked : List Row → Asked
-proof_asked rows = given (task_of rows) (λ path. given (rounds_of rows) (λ rounds. this_job_on path (λ task. job.Proof task rounds)))
+proof_asked rows =
+    given (task_of rows) (λ path. given (rounds_of rows) (λ rounds. this_job_on path (λ task. job.Proof task rounds)))
 
 abbrev pub trim_asked : List Row → Asked
 trim_asked rows = given (task_of rows) (λ path. this_job_on path (λ task. job.Trim task))
