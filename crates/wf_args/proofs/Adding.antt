@@ -1,0 +1,20 @@
+-- Adding an option to a subcommand, and a subcommand to the command line.
+use Rattle.std.proofs.Common.{◌≡◌, ◌∙◌, ap, ap₂, List, [], ◌∷◌, ◌++◌, ◌||◌, false}
+use Rattle.clap.specs.Built.{AddsArg, AddsSubcommand}
+use Rattle.clap.specs.Simple.{App, Shape, app_of, shape_of, with_rule, with_subcommand}
+use Rattle.clap.specs.Walk.{Rule}
+use Rattle.clap.specs.declared.builder.arg.Arg.{Arg}
+use Rattle.clap.specs.declared.builder.command.Command.{Command}
+use Rattle.wf_args.specs.Building.{IsLeaf, IsOption}
+
+-- one option more
+pub with_option : (old new : Command) (arg : Arg) (shape : Shape) (rule : Rule) → AddsArg old arg new → IsOption rule arg → IsLeaf shape old
+    → IsLeaf (record shape { rules = shape.rules ++ rule ∷ [] }) new
+with_option old new arg shape rule adds option leaf =
+    (adds.shape option.1 ∙ ap₂ with_rule leaf.0 option.0, adds.globals ∙ ap₂ (λ a b. a || b) leaf.1 option.1)
+
+-- one subcommand more
+pub with_leaf : (old new sub : Command) (app : App) (shape : Shape) → AddsSubcommand old sub new → IsLeaf shape sub → app_of old ≡ app
+    → app_of new ≡ with_subcommand app shape
+with_leaf old new sub app shape adds leaf is =
+    adds.shape leaf.1 ∙ ap₂ with_subcommand is (ap (λ (a : App). a.top) leaf.0)

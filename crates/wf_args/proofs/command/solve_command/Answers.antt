@@ -1,0 +1,12 @@
+use Rattle.std.proofs.lemmas.Result.{IfOk-weaker}
+use Rattle.wf_args.proofs.Adding.{with_option}
+use Rattle.wf_args.proofs.command.solve_command.Goals as goal
+
+pub returns : goal.returns
+returns c =
+    let has_rounds = with_option _ _ _ _ _ c.in_ok-arg.ensures c.rounds.ensures c.subcommand.ensures in
+    let has_workers = with_option _ _ _ _ _ c.in_ok-arg-2.ensures c.workers.ensures has_rounds in
+    let has_verdict = with_option _ _ _ _ _ c.in_ok-arg-3.ensures c.flag-verdict.ensures has_workers in
+    let has_least = with_option _ _ _ _ _ c.in_ok-arg-4.ensures c.flag-least.ensures has_verdict in
+    let has_account = with_option _ _ _ _ _ c.in_ok-arg-5.ensures c.flag-account.ensures has_least in
+    IfOk-weaker c.arg-6.result _ _ (λ r h. with_option _ _ _ _ _ h c.flag-progress.ensures has_account) c.arg-6.ensures

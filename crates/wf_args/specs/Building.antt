@@ -1,0 +1,15 @@
+-- What building the command line comes to.
+use Rattle.std.specs.Prelude.{◌≡◌, [], false}
+use Rattle.clap.specs.Simple.{Shape, app_of}
+use Rattle.clap.specs.Walk.{Rule, rule_of}
+use Rattle.clap.specs.declared.builder.arg.Arg.{Arg}
+use Rattle.clap.specs.declared.builder.command.Command.{Command}
+use Rattle.clap.specs.declared.builder.command.Command.TheViews.{out-Command as fields_of}
+
+-- an option of one subcommand
+abbrev pub IsOption : Rule → Arg → Type 0
+IsOption rule arg = (rule_of arg ≡ rule) × (arg.global ≡ false)
+
+-- a command without subcommands
+abbrev pub IsLeaf : Shape → Command → Type 0
+IsLeaf shape c = (app_of c ≡ record { top = shape; subs = [] }) × ((fields_of c).has_globals ≡ false)

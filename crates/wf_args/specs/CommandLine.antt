@@ -1,0 +1,92 @@
+-- The command line as it is read: its subcommands, with their options and what these take.
+use Rattle.std.specs.Prelude.{List, [], ◌∷◌, Some, true, false, codes, pos}
+use Rattle.clap.specs.Simple.{App, Shape, new_rule, new_shape}
+use Rattle.clap.specs.Walk.{Rule, Text}
+use Rattle.clap.specs.declared.builder.action.ArgAction.TheVariants.{Set, SetTrue}
+use Rattle.clap.specs.declared.builder.value_parser.ValueParser.TheVariants as parser
+use Rattle.wf_model.specs.Limits.{most_workers}
+
+-- ---- options
+
+-- `--NAME N`, for a whole number below 2^32
+abbrev pub number_option : Text → Rule
+number_option name = record (new_rule name) {
+  long = Some name;
+  action = Some Set;
+  parser = Some (parser.Signed (pos 0) (pos 4294967295));
+}
+
+-- `--NAME`
+abbrev pub flag_option : Text → Rule
+flag_option name = record (new_rule name) { long = Some name; action = Some SetTrue }
+
+-- `--task FILE`
+abbrev pub task_option : Rule
+task_option = record (new_rule (codes "task")) { long = Some (codes "task"); action = Some Set; value_names = 1 }
+
+-- `--workers W`, from 1 to as many as a run may have
+abbrev pub workers_option : Rule
+workers_option = record (number_option (codes "workers")) { parser = Some (parser.Signed (pos 1) (pos most_workers)) }
+
+-- a word without a name
+abbrev pub kind_word : Rule
+kind_word = record (new_rule (codes "kind")) { action = Some Set; value_names = 1 }
+
+-- what may not be left out
+abbrev pub required : Rule → Rule
+required option = record option { required = true }
+
+abbrev pub rounds : Rule
+rounds = required (number_option (codes "rounds"))
+
+-- ---- subcommands
+
+abbrev pub subcommand : Text → List Rule → Shape
+subcommand name options = record (new_shape name) { rules = options }
+
+abbrev pub solve : Shape
+solve = subcommand (codes "solve")
+    (rounds ∷ required workers_option ∷ flag_option (codes "verdict") ∷ flag_option (codes "least")
+    ∷ flag_option (codes "account") ∷ flag_option (codes "progress") ∷ [])
+
+abbrev pub verify : Shape
+verify = subcommand (codes "verify") (required task_option ∷ number_option (codes "rounds") ∷ [])
+
+abbrev pub views : Shape
+views = subcommand (codes "views") (rounds ∷ [])
+
+abbrev pub points : Shape
+points = subcommand (codes "points") (number_option (codes "rounds") ∷ task_option ∷ [])
+
+abbrev pub cnf : Shape
+cnf = subcommand (codes "cnf") (rounds ∷ [])
+
+abbrev pub model : Shape
+model = subcommand (codes "model") (required task_option ∷ rounds ∷ [])
+
+abbrev pub proof : Shape
+proof = subcommand (codes "proof") (required task_option ∷ rounds ∷ [])
+
+abbrev pub trim : Shape
+trim = subcommand (codes "trim") (required task_option ∷ [])
+
+abbrev pub explain : Shape
+explain = subcommand (codes "explain") (required task_option ∷ [])
+
+abbrev pub lift : Shape
+lift = subcommand (codes "lift") (required task_option ∷ number_option (codes "rounds") ∷ [])
+
+abbrev pub executions : Shape
+executions = subcommand (codes "executions") (rounds ∷ [])
+
+abbrev pub preset : Shape
+preset = subcommand (codes "preset")
+    (required kind_word ∷ required (number_option (codes "processes")) ∷ number_option (codes "k")
+    ∷ number_option (codes "values") ∷ number_option (codes "names") ∷ [])
+
+-- `wfcheck`, of which a subcommand has to be named
+abbrev pub command_line : App
+command_line = record {
+  top = record (new_shape (codes "wfcheck")) { is_leaf = false; has_version = true; subcommand_required = true };
+  subs = solve ∷ verify ∷ views ∷ points ∷ cnf ∷ model ∷ proof ∷ trim ∷ explain ∷ lift ∷ executions ∷ preset ∷ [];
+}

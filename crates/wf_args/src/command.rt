@@ -1,0 +1,315 @@
+//! The command line, as it is read and as its help tells it.
+
+ghost use Rattle.std.specs.Prelude.{◌≡◌, [], IfOk};
+ghost use Rattle.clap.specs.Words.{app_of};
+ghost use Rattle.wf_args.specs.CommandLine as line;
+ghost use Rattle.wf_args.specs.Building.{IsLeaf, IsOption};
+
+use crate::version::VERSION;
+use clap::{Arg, ArgAction, Command, value_parser};
+use std::alloc::{AllocError, Global};
+use wf_pool::MAX_WORKERS;
+/// What the help of `preset` says of the kinds.
+const KINDS: &str =
+    "Kinds:\n  set-agreement  Each process decides the input of some participant, and at most K different values are\n                 decided (k-set agreement: Chaudhuri 1993)\n  renaming       The processes decide different names (Attiya, Bar-Noy, Dolev, Peleg and Reischuk 1990)";
+
+/// What the help of `proof` says of the texts.
+const PROOFS: &str =
+    "The proof is DRAT as text, as CaDiCaL and Kissat write it with --no-binary: lemmas and deletions. Each lemma has to\nfollow by unit propagation from the formula and the lemmas before it, and the contradiction at last. Then the\ntask has no decision map after these rounds, whatever the solver did, and the answer is: accepted none at R rounds.\nA proof is refused where a lemma does not follow so, which those that need RAT do not, or where it ends too soon.";
+
+fn number<'a>(alloc: Global, name: &'a str, help: &'a str) -> Arg<'a>
+    ensures { IsOption (line.required (line.number_option name.now)) result }
+{
+    optional(alloc, name, help).required(true)
+}
+
+fn optional<'a>(alloc: Global, name: &'a str, help: &'a str) -> Arg<'a>
+    ensures { IsOption (line.number_option name.now) result }
+{
+    Arg::new(alloc, name)
+        .long(name)
+        .help(help)
+        .action(ArgAction::Set)
+        .value_parser(value_parser!(u32))
+}
+
+fn flag<'a>(alloc: Global, name: &'a str, help: &'a str) -> Arg<'a>
+    ensures { IsOption (line.flag_option name.now) result }
+{
+    Arg::new(alloc, name)
+        .long(name)
+        .help(help)
+        .action(ArgAction::SetTrue)
+}
+
+/// The number of rounds, which may not be left out.
+fn rounds<'a>(alloc: Global) -> Arg<'a>
+    ensures { IsOption line.rounds result }
+{
+    number(
+        alloc,
+        "rounds",
+        "How many rounds of immediate snapshots, 0 to 8",
+    )
+}
+
+/// The number of workers.
+fn workers<'a>(alloc: Global) -> Arg<'a>
+    ensures { IsOption (line.required line.workers_option) result }
+{
+    let most = MAX_WORKERS as i64;
+    number(
+        alloc,
+        "workers",
+        "How many workers share the search, 1 to 64",
+    )
+    .value_parser(value_parser!(u32).range(1..=most))
+}
+
+/// A subcommand without options, and what help says of it.
+fn subcommand<'a>(alloc: Global, name: &'a str, about: &'a str) -> Command<'a>
+    ensures { IsLeaf (line.subcommand name.now []) result }
+{
+    Command::new(alloc, name).about(about)
+}
+
+fn solve_command<'a>(alloc: Global) -> Result<Command<'a>, AllocError>
+    ensures { IfOk result (IsLeaf line.solve) }
+{
+    let verdict = flag(
+        alloc,
+        "verdict",
+        "Leave out the lines of a refutation; not beside --least",
+    );
+    let least = flag(
+        alloc,
+        "least",
+        "With a map, write the lines that show that no decision map is smaller; not beside --verdict",
+    );
+    let account = flag(
+        alloc,
+        "account",
+        "Tell on standard error how many branches were searched, and how many were cut",
+    );
+    let progress = flag(
+        alloc,
+        "progress",
+        "Tell on standard error how many branches are settled, where there are several workers",
+    );
+    subcommand(
+        alloc,
+        "solve",
+        "Read a task on standard input, and write its least decision map, or a refutation that there is none",
+    )
+    .arg(rounds(alloc))?
+    .arg(workers(alloc))?
+    .arg(verdict)?
+    .arg(least)?
+    .arg(account)?
+    .arg(progress)
+}
+
+fn task_file<'a>(alloc: Global, help: &'a str) -> Arg<'a>
+    ensures { IsOption line.task_option result }
+{
+    Arg::new(alloc, "task")
+        .long("task")
+        .value_name("FILE")
+        .help(help)
+        .action(ArgAction::Set)
+}
+
+/// The file of a task, which may not be left out.
+fn task<'a>(alloc: Global) -> Arg<'a>
+    ensures { IsOption (line.required line.task_option) result }
+{
+    task_file(alloc, "The file that has the task").required(true)
+}
+
+fn verify_command<'a>(alloc: Global) -> Result<Command<'a>, AllocError>
+    ensures { IfOk result (IsLeaf line.verify) }
+{
+    subcommand(
+        alloc,
+        "verify",
+        "Read a report on standard input, and check it without a search",
+    )
+    .arg(task(alloc))?
+    .arg(optional(
+        alloc,
+        "rounds",
+        "How many rounds the report is to be for: one for others is refused, and the answer tells them",
+    ))
+}
+
+fn views_command<'a>(alloc: Global) -> Result<Command<'a>, AllocError>
+    ensures { IfOk result (IsLeaf line.views) }
+{
+    subcommand(
+        alloc,
+        "views",
+        "Read a task on standard input, and list the points of its protocol complex by first appearance",
+    )
+    .arg(rounds(alloc))
+}
+
+fn points_command<'a>(alloc: Global) -> Result<Command<'a>, AllocError>
+    ensures { IfOk result (IsLeaf line.points) }
+{
+    subcommand(
+        alloc,
+        "points",
+        "Tell in words who saw what at each point of a task's protocol complex, with --rounds, or with --task also what a report decides there",
+    )
+    .arg(optional(
+        alloc,
+        "rounds",
+        "How many rounds of immediate snapshots, 0 to 8, where the task is on standard input",
+    ))?
+    .arg(task_file(
+        alloc,
+        "The file that has the task, where a report about it is on standard input; not beside --rounds",
+    ))
+}
+
+fn cnf_command<'a>(alloc: Global) -> Result<Command<'a>, AllocError>
+    ensures { IfOk result (IsLeaf line.cnf) }
+{
+    subcommand(
+        alloc,
+        "cnf",
+        "Read a task on standard input, and write for SAT solvers the question whether it has a decision map",
+    )
+    .arg(rounds(alloc))
+}
+
+fn model_command<'a>(alloc: Global) -> Result<Command<'a>, AllocError>
+    ensures { IfOk result (IsLeaf line.model) }
+{
+    subcommand(
+        alloc,
+        "model",
+        "Read what a SAT solver says of the question that cnf writes, and report the decision map of its model",
+    )
+    .arg(task(alloc))?
+    .arg(rounds(alloc))
+}
+
+fn proof_command<'a>(alloc: Global) -> Result<Command<'a>, AllocError>
+    ensures { IfOk result (IsLeaf line.proof) }
+{
+    subcommand(
+        alloc,
+        "proof",
+        "Read a SAT solver's proof that the question that cnf writes has no model, and check it: there is no decision map",
+    )
+    .after_help(PROOFS)
+    .arg(task(alloc))?
+    .arg(rounds(alloc))
+}
+
+fn trim_command<'a>(alloc: Global) -> Result<Command<'a>, AllocError>
+    ensures { IfOk result (IsLeaf line.trim) }
+{
+    subcommand(
+        alloc,
+        "trim",
+        "Read a report on standard input, check it, and write it with the lines that are needed",
+    )
+    .arg(task(alloc))
+}
+
+fn explain_command<'a>(alloc: Global) -> Result<Command<'a>, AllocError>
+    ensures { IfOk result (IsLeaf line.explain) }
+{
+    subcommand(
+        alloc,
+        "explain",
+        "Read a report on standard input, check it, and write in words why there is no decision map, or what its map decides",
+    )
+    .arg(task(alloc))
+}
+
+fn lift_command<'a>(alloc: Global) -> Result<Command<'a>, AllocError>
+    ensures { IfOk result (IsLeaf line.lift) }
+{
+    subcommand(
+        alloc,
+        "lift",
+        "Read a report of a map on standard input, check it, and write the map for one round more, or for R rounds",
+    )
+    .arg(task(alloc))?
+    .arg(optional(
+        alloc,
+        "rounds",
+        "How many rounds the map is to be for, at least as many as the report's; without it one more",
+    ))
+}
+
+fn executions_command<'a>(alloc: Global) -> Result<Command<'a>, AllocError>
+    ensures { IfOk result (IsLeaf line.executions) }
+{
+    subcommand(
+        alloc,
+        "executions",
+        "Read a task on standard input, and list the executions of its protocol complex: who went in which block, round by round, and which points stand there",
+    )
+    .arg(rounds(alloc))
+}
+
+/// The kind of a preset.
+fn kind<'a>(alloc: Global) -> Arg<'a>
+    ensures { IsOption (line.required line.kind_word) result }
+{
+    Arg::new(alloc, "kind")
+        .value_name("KIND")
+        .help("set-agreement, with --k and perhaps --values, or renaming, with --names")
+        .required(true)
+        .action(ArgAction::Set)
+}
+
+fn preset_command<'a>(alloc: Global) -> Result<Command<'a>, AllocError>
+    ensures { IfOk result (IsLeaf line.preset) }
+{
+    let k = optional(
+        alloc,
+        "k",
+        "How many different values may be decided, at least 1",
+    );
+    let values = optional(
+        alloc,
+        "values",
+        "How many values each process may have as input, 1 to 64; without it each has its own number",
+    );
+    let names = optional(alloc, "names", "How many names there are, 1 to 64");
+    subcommand(alloc, "preset", "Write the text of a task that has a name")
+        .after_help(KINDS)
+        .arg(kind(alloc))?
+        .arg(number(alloc, "processes", "How many processes there are, 1 to 4"))?
+        .arg(k)?
+        .arg(values)?
+        .arg(names)
+}
+
+pub(crate) fn whole_command<'a>(alloc: Global) -> Result<Command<'a>, AllocError>
+    ensures { IfOk result (λ c. app_of c ≡ line.command_line) }
+{
+    Command::new(alloc, "wfcheck")
+        .about(
+            "Decide whether a task can be solved wait-free in r rounds of iterated immediate snapshots",
+        )
+        .version(VERSION)
+        .subcommand_required(true)
+        .subcommand(solve_command(alloc)?)?
+        .subcommand(verify_command(alloc)?)?
+        .subcommand(views_command(alloc)?)?
+        .subcommand(points_command(alloc)?)?
+        .subcommand(cnf_command(alloc)?)?
+        .subcommand(model_command(alloc)?)?
+        .subcommand(proof_command(alloc)?)?
+        .subcommand(trim_command(alloc)?)?
+        .subcommand(explain_command(alloc)?)?
+        .subcommand(lift_command(alloc)?)?
+        .subcommand(executions_command(alloc)?)?
+        .subcommand(preset_command(alloc)?)
+}
