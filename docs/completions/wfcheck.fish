@@ -15,7 +15,7 @@ complete -c wfcheck -n '__fish_seen_subcommand_from solve' -l workers -x -d 'How
 complete -c wfcheck -n '__fish_seen_subcommand_from solve' -l verdict -d 'Leave out the lines of a refutation; not beside --least'
 complete -c wfcheck -n '__fish_seen_subcommand_from solve' -l least -d 'With a map, write the lines that show that no decision map is smaller; not beside --verdict'
 complete -c wfcheck -n '__fish_seen_subcommand_from solve' -l account -d 'Tell on standard error how many branches were searched, and how many were cut'
-complete -c wfcheck -n '__fish_seen_subcommand_from solve' -l progress -d 'Tell on standard error how many branches are settled, where there are several workers'
+complete -c wfcheck -n '__fish_seen_subcommand_from solve' -l progress -d 'Tell on standard error how the search goes on, and how many branches are settled'
 complete -c wfcheck -n '__fish_seen_subcommand_from solve' -l help -d 'Print help'
 complete -c wfcheck -n '__fish_seen_subcommand_from verify' -l task -r -F -d 'The file that has the task'
 complete -c wfcheck -n '__fish_seen_subcommand_from verify' -l rounds -x -d 'How many rounds the report is to be for: one for others is refused, and the answer tells them'
