@@ -1,6 +1,5 @@
 -- What holds after every run of the program.
-use Rattle.std.specs.Prelude.{◌≡◌, ◌+◌, ◌*◌, ◌≤◌, ◌==◌, ◌⊎◌, ℕ, Option, Some, None, Result, Ok, Vec, String, if◌then◌else◌}
-use Rattle.std.specs.declared.alloc.Global.{Global}
+use Rattle.std.specs.Prelude.{◌≡◌, ◌+◌, ◌*◌, ◌≤◌, ◌==◌, ◌⊎◌, ℕ, Option, Some, None, Result, Ok, if◌then◌else◌}
 use Rattle.wf_model.specs.Limits.{most_bytes}
 use Rattle.wf_core.specs.declared.Account.{Account}
 use Rattle.wf_io.specs.Seen.{Reading, Writing}
@@ -9,7 +8,7 @@ use Rattle.wf_args.specs.declared.Job.{Job}
 use Rattle.wf_args.specs.declared.Job.TheVariants.{Verify, Decisions, Model, Proof, Trim, Lift}
 use Rattle.wf_args.specs.declared.WordsFault.{WordsFault}
 use Rattle.wf_program.specs.Files.{Filing, Opens}
-use Rattle.wf_program.specs.Program.{IsAsked, Serves, TellsAccount}
+use Rattle.wf_program.specs.Program.{GivenWords, IsAsked, Serves, TellsAccount}
 
 -- how many files a job opens
 abbrev pub file_count : Result Job WordsFault → ℕ
@@ -60,6 +59,6 @@ pub record IsServed {F : Type 0} (asked : Result Job WordsFault) (folder folder'
 -- `folder` is the folder before the run
 abbrev pub ServingIsCounted : {F : Type 0} → Opens → Filing F → Type 0
 ServingIsCounted {F = F} opens folder =
-    (words : Result (Vec (String Global) Global) WordsFault) (folder' : Filing F) (source source' : Reading) (sink sink' errors errors' : Writing) (status : ℕ)
+    (words : GivenWords) (folder' : Filing F) (source source' : Reading) (sink sink' errors errors' : Writing) (status : ℕ)
     → Serves opens words folder folder' source source' sink sink' errors errors' status
     → (asked : Result Job WordsFault) × IsAsked words asked × IsServed asked folder folder' source source' sink sink' errors errors' status

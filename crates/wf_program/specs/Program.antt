@@ -1,5 +1,6 @@
 -- What a run of the program reads, writes, tells and answers.
-use Rattle.std.specs.Prelude.{◌≡◌, ◌≢◌, ◌⊎◌, ℕ, Bool, true, false, List, [], ◌∷◌, ◌++◌, Option, Some, None, Result, Ok, Err, codes, string_bytes}
+use Rattle.std.specs.Prelude.{◌≡◌, ◌≢◌, ◌⊎◌, ℕ, Bool, true, false, List, [], ◌∷◌, ◌++◌, Option, Some, None, Result, Ok, Err, Vec, String, codes, map, string_bytes}
+use Rattle.std.specs.declared.alloc.Global.{Global}
 use Rattle.clap.specs.Words.{kind_of}
 use Rattle.clap.specs.declared.error.Error.{Error}
 use Rattle.clap.specs.declared.error.ErrorKind.TheVariants as kind
@@ -24,7 +25,7 @@ use Rattle.wf_engine.specs.Proofs.{Refutes}
 use Rattle.wf_engine.specs.Presets.{WritesPreset}
 use Rattle.wf_rewrite.specs.Trimming.{Trims}
 use Rattle.wf_rewrite.specs.Lifting.{Lifts}
-use Rattle.wf_args.specs.Job.{CanBeDone, HidesNoWantOfMemory}
+use Rattle.wf_args.specs.Asked.{Answers, job_asked}
 use Rattle.wf_args.specs.declared.Job.{Job}
 use Rattle.wf_args.specs.declared.Job.TheVariants.{Solve, Verify, Views, Points, Cnf, Model, Proof, Decisions, Trim, Lift, Preset}
 use Rattle.wf_args.specs.declared.WordsFault.{WordsFault}
@@ -64,10 +65,13 @@ refusal_text (Clap e) = None
 
 -- ---- what the words ask for
 
--- a job or why there is none; where the words could not be had, that is why
-abbrev pub IsAsked : {X : Type 0} → Result X WordsFault → Result Job WordsFault → Type 0
-IsAsked (Ok words) (Ok job) = CanBeDone job
-IsAsked (Ok words) (Err e) = HidesNoWantOfMemory e
+-- the words of a command line, or why they could not be had
+abbrev pub GivenWords : Type 0
+GivenWords = Result (Vec (String Global) Global) WordsFault
+
+-- the job that the words ask for, or why there is none; where the words could not be had, that is why
+abbrev pub IsAsked : GivenWords → Result Job WordsFault → Type 0
+IsAsked (Ok words) asked = Answers (job_asked (map string_bytes words.items)) asked
 IsAsked (Err e) asked = asked ≡ Err e
 
 -- ---- the account of a search
@@ -200,7 +204,7 @@ Ends errors errors' (Ok done) result = (result ≡ done.status) × TellsAccount 
 Ends errors errors' (Err e) result = (result ≡ refusal_status e) × Tells errors errors' (refusal_text e)
 
 -- the words were judged, what they ask for was done, and it was told how that ended
-abbrev pub Serves : {F X : Type 0} → Opens → Result X WordsFault → Filing F → Filing F → Reading → Reading → Writing → Writing → Writing → Writing → ℕ → Type 0
+abbrev pub Serves : {F : Type 0} → Opens → GivenWords → Filing F → Filing F → Reading → Reading → Writing → Writing → Writing → Writing → ℕ → Type 0
 Serves opens words folder folder' source source' sink sink' errors errors' status =
     (asked : Result Job WordsFault) × (done : Result Done Refusal) × IsAsked words asked
     × DoesAsked opens asked folder folder' source source' sink sink' done × Ends errors errors' done status

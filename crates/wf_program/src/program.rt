@@ -1,6 +1,6 @@
 //! From the words of a command line to the exit status.
 
-ghost use Rattle.std.specs.Prelude.{◌≡◌, ◌<◌, ◌≤◌};
+ghost use Rattle.std.specs.Prelude.{IfOk, ◌≡◌, ◌<◌, ◌≤◌};
 ghost use Rattle.wf_model.specs.Limits.{most_workers};
 ghost use Rattle.wf_io.specs.Ends.{CanCount, CanWrite};
 ghost use Rattle.wf_engine.specs.Texts.{SearchesInOrder, Solves};
@@ -60,7 +60,8 @@ pub fn run_program<T: Threads + Sync, F: Files, G: Gate, R: Read, W: Write, E: W
 
 /// What the words ask for, if they could be had.
 fn job_of(alloc: Global, words: Result<Vec<String>, WordsFault>) -> Result<Job, WordsFault>
-    ensures { IsAsked words result }
+    ensures asked { IsAsked words result }
+    ensures limits { IfOk result CanBeDone }
 {
     read_words(alloc, &words?)
 }
