@@ -4,8 +4,10 @@ use Rattle.std.specs.Fmt.{digits}
 use Rattle.wf_model.specs.ExampleTasks.{path, consensus, renaming_2_2}
 use Rattle.wf_model.specs.Problem.{Constraint}
 use Rattle.wf_model.specs.Refutation.{remove, empty, branch}
+use Rattle.wf_argument.specs.declared.losses.Loss.{Loss}
+use Rattle.wf_argument.specs.declared.reasons.Reason.{Reason}
 use Rattle.wf_argument.specs.Parts.{parts_of, takes, closes, splits}
-use Rattle.wf_argument.specs.State.{Gone, Loss, Reason, first_gone, taken, take_each, with_reasons}
+use Rattle.wf_argument.specs.State.{Gone, first_gone, points_in, taken, take_each, with_reasons}
 use Rattle.wf_argument.specs.Text.{argument_text, words_text, any_text, number_text, needed_text, reasons_text}
 
 abbrev lost : ℕ → Option ℕ → Loss
@@ -50,7 +52,7 @@ three_points = record { scope = (0, 5) ∷ (1, 3) ∷ (2, 3) ∷ []; tuples = (0
 abbrev two_points_lost : Gone
 two_points_lost = [] ∷ [] ∷ [] ∷ (lost 1 (Some 8) ∷ lost 2 None ∷ []) ∷ [] ∷ (lost 0 (Some 6) ∷ []) ∷ []
 
-pub the_first_that_is_gone : map (first_gone two_points_lost three_points.scope) three_points.tuples ≡ Some (reason 5 0 (Some 6)) ∷ Some (reason 5 0 (Some 6)) ∷ Some (reason 5 0 (Some 6)) ∷ Some (reason 3 2 None) ∷ []
+pub the_first_that_is_gone : map (first_gone two_points_lost (points_in three_points)) three_points.tuples ≡ Some (reason 5 0 (Some 6)) ∷ Some (reason 5 0 (Some 6)) ∷ Some (reason 5 0 (Some 6)) ∷ Some (reason 3 2 None) ∷ []
 the_first_that_is_gone = refl
 
 pub each_reason_once : with_reasons three_points 2 two_points_lost [] 2 ≡ reason 3 2 None ∷ reason 5 0 (Some 6) ∷ []

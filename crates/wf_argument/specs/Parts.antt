@@ -14,9 +14,10 @@ before_parts e c a (takes f d values ∷ parts) = if (e == f) && (c == d) then t
 before_parts e c a (closes v ∷ parts) = takes e c (a ∷ []) ∷ closes v ∷ parts
 before_parts e c a (splits v ∷ parts) = takes e c (a ∷ []) ∷ splits v ∷ parts
 
+-- a map that is found ends them
 abbrev pub parts_of : List Line → List Part
 parts_of [] = []
 parts_of (remove e c a ∷ ls) = before_parts e c a (parts_of ls)
 parts_of (empty v ∷ ls) = closes v ∷ parts_of ls
 parts_of (branch v ∷ ls) = splits v ∷ parts_of ls
-parts_of (found ∷ ls) = parts_of ls
+parts_of (found ∷ ls) = []

@@ -1,19 +1,17 @@
--- What is gone after some parts of an argument, by which steps, and what each step rests on.
-use Rattle.std.specs.Prelude.{ℕ, suc, ◌==◌, Bool, not, List, [], ◌∷◌, ◌++◌, map, filter, fold, replicate, Option, Some, None, if◌then◌else◌}
+-- What is gone after some parts of an argument, by which steps, and what each step rests on. A loss is a value and the step that took it, and none
+-- where a case supposes another value; a reason is a point with a loss.
+use Rattle.std.specs.Prelude.{ℕ, suc, ◌==◌, Bool, not, List, [], ◌∷◌, ◌++◌, map, filter, fold, replicate, min, Option, Some, None, if◌then◌else◌}
 use Rattle.std.specs.List.{list_any, slice_index_or, slice_set}
 use Rattle.std.specs.Ordering.{nat_cmp, ordering_then}
 use Rattle.std.specs.declared.cmp.Ordering.{Ordering}
 use Rattle.wf_model.specs.Lists.{with_element}
 use Rattle.wf_model.specs.Task.{Tuple}
-use Rattle.wf_model.specs.Problem.{Problem, Constraint, Participant, constraint_at}
+use Rattle.wf_model.specs.Problem.{Problem, Constraint, constraint_at}
 use Rattle.wf_model.specs.Box.{has_at}
 use Rattle.wf_model.specs.Check.{place_of}
+use Rattle.wf_argument.specs.declared.losses.Loss.{Loss}
+use Rattle.wf_argument.specs.declared.reasons.Reason.{Reason}
 use Rattle.wf_argument.specs.Parts.{Part, takes, closes, splits}
-
--- a value that is gone from a point, and the step that took it; none where a case supposes another value
-pub record Loss : Type 0 where
-  pub value : ℕ
-  pub step : Option ℕ
 
 -- the losses of each point, in the order in which they came
 abbrev pub Gone : Type 0
@@ -27,8 +25,11 @@ abbrev pub loss_among : ℕ → List Loss → Option Loss
 loss_among a [] = None
 loss_among a (x ∷ xs) = if x.value == a then Some x else loss_among a xs
 
+abbrev pub has_loss : ℕ → List Loss → Bool
+has_loss a xs = list_any (λ x. x.value == a) xs
+
 abbrev pub is_gone : Gone → ℕ → ℕ → Bool
-is_gone gone v a = list_any (λ x. x.value == a) (losses gone v)
+is_gone gone v a = has_loss a (losses gone v)
 
 -- the values that a point has left, ascending
 abbrev pub left_at : Problem → Gone → ℕ → List ℕ
@@ -47,20 +48,15 @@ supposed p gone v a = with_losses gone v (map (λ b. record { value = b; step = 
 
 -- ---- what a step rests on
 
--- a point that has lost a value
-pub record Reason : Type 0 where
-  pub point : ℕ
-  pub loss : Loss
-
 abbrev pub reason_or : ℕ → Option Loss → Option Reason → Option Reason
 reason_or v None next = next
 reason_or v (Some x) next = Some (record { point = v; loss = x })
 
--- why a tuple can't be decided: the first of its values that is gone
-abbrev pub first_gone : Gone → List Participant → Tuple → Option Reason
+-- why a tuple can't be decided at these points: the first of its values that is gone
+abbrev pub first_gone : Gone → List ℕ → Tuple → Option Reason
 first_gone gone [] tuple = None
-first_gone gone (at ∷ scope) [] = None
-first_gone gone (at ∷ scope) (x ∷ xs) = reason_or at.1 (loss_among x (losses gone at.1)) (first_gone gone scope xs)
+first_gone gone (v ∷ points) [] = None
+first_gone gone (v ∷ points) (x ∷ xs) = reason_or v (loss_among x (losses gone v)) (first_gone gone points xs)
 
 -- by point, and then by value
 abbrev pub reason_cmp : Reason → Reason → Ordering
@@ -71,12 +67,15 @@ abbrev pub with_reason : List Reason → Option Reason → List Reason
 with_reason reasons None = reasons
 with_reason reasons (Some x) = with_element reason_cmp x reasons
 
+abbrev pub points_in : Constraint → List ℕ
+points_in k = map (λ at. at.1) k.scope
+
 -- the tuples with this value at this place
 abbrev pub needed : Constraint → ℕ → ℕ → List Tuple
 needed k place a = filter (λ tuple. has_at tuple place a) k.tuples
 
 abbrev pub with_reasons : Constraint → ℕ → Gone → List Reason → ℕ → List Reason
-with_reasons k place gone reasons a = fold (λ found tuple. with_reason found (first_gone gone k.scope tuple)) reasons (needed k place a)
+with_reasons k place gone reasons a = fold (λ found tuple. with_reason found (first_gone gone (points_in k) tuple)) reasons (needed k place a)
 
 -- step n takes these values in turn from the point at a place of an execution: what is gone then, and the reasons
 pub record Taking : Type 0 where
@@ -90,6 +89,10 @@ abbrev pub take_each : Constraint → ℕ → ℕ → ℕ → Gone → List ℕ 
 take_each k n place v gone values = fold (take k n place v) (record { gone = gone; reasons = [] }) values
 
 -- ---- from part to part
+
+-- the most suppositions that are told apart: what is under more counts as under so many
+abbrev pub deepest : ℕ
+deepest = 12
 
 -- a case that is still to come: what is gone where it begins, and how many suppositions it is under
 pub record Case : Type 0 where
@@ -110,19 +113,19 @@ start p = record { number = 1; depth = 0; gone = replicate p.points []; later = 
 
 -- a case for each value that the point has left
 abbrev pub cases_at : Problem → State → ℕ → List Case
-cases_at p s v = map (λ a. record { point = v; value = a; depth = suc s.depth; gone = supposed p s.gone v a }) (left_at p s.gone v)
+cases_at p s v = map (λ a. record { point = v; value = a; depth = min (suc s.depth) deepest; gone = supposed p s.gone v a }) (left_at p s.gone v)
 
--- the first of these cases begins, if there is one
-abbrev pub entered : ℕ → State → List Case → State
-entered n s [] = record s { number = n; later = [] }
-entered n s (x ∷ later) = record { number = n; depth = x.depth; gone = x.gone; later = later }
+-- the first of these cases begins, if there is one; else all is said
+abbrev pub entered : ℕ → List Case → Option State
+entered n [] = None
+entered n (x ∷ later) = Some (record { number = n; depth = x.depth; gone = x.gone; later = later })
 
 abbrev pub after_taking : Problem → State → ℕ → List ℕ → Option (ℕ × ℕ) → State
 after_taking p s e values None = s
 after_taking p s e values (Some at) = record s { number = suc s.number; gone = (take_each (constraint_at p e) s.number at.0 at.1 s.gone values).gone }
 
 -- a part that names no participant of an execution is left out
-abbrev pub after : Problem → State → Part → State
-after p s (takes e c values) = after_taking p s e values (place_of 0 c (constraint_at p e).scope)
-after p s (closes v) = entered s.number s s.later
-after p s (splits v) = entered (suc s.number) s (cases_at p s v ++ s.later)
+abbrev pub after : Problem → State → Part → Option State
+after p s (takes e c values) = Some (after_taking p s e values (place_of 0 c (constraint_at p e).scope))
+after p s (closes v) = entered s.number s.later
+after p s (splits v) = entered (suc s.number) (cases_at p s v ++ s.later)

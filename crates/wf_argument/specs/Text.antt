@@ -1,5 +1,5 @@
 -- An argument in words that a task has no decision map after some rounds: the text of a refutation's lines, for people.
-use Rattle.std.specs.Prelude.{ℕ, ◌+◌, ◌*◌, ◌==◌, min, Bool, false, List, [], ◌∷◌, ◌++◌, map, filter, flat_map, length, replicate, zip, count_by, nat_le, true, Option, Some, None, slice_get, codes, decimal, if◌then◌else◌}
+use Rattle.std.specs.Prelude.{ℕ, zero, suc, ◌+◌, ◌*◌, ◌==◌, Bool, false, List, [], ◌∷◌, ◌++◌, map, filter, flat_map, length, replicate, zip, count_by, nat_le, true, Option, Some, None, slice_get, codes, decimal, if◌then◌else◌}
 use Rattle.std.specs.List.{enumerate_from, list_any}
 use Rattle.wf_model.specs.Lists.{below, has}
 use Rattle.wf_model.specs.Word.{Word}
@@ -9,11 +9,12 @@ use Rattle.wf_model.specs.View.{View}
 use Rattle.wf_model.specs.Execution.{Execution, executions}
 use Rattle.wf_model.specs.Points.{points}
 use Rattle.wf_model.specs.PointsText.{process_text, view_text}
-use Rattle.wf_model.specs.Problem.{Problem, Constraint, problem_of, constraint_at}
+use Rattle.wf_model.specs.Problem.{Problem, problem_of, constraint_at}
 use Rattle.wf_model.specs.Check.{place_of}
 use Rattle.wf_model.specs.Refutation.{Line, remove, empty, branch, found}
+use Rattle.wf_argument.specs.declared.reasons.Reason.{Reason}
 use Rattle.wf_argument.specs.Parts.{Part, takes, closes, splits, parts_of}
-use Rattle.wf_argument.specs.State.{Reason, Case, State, start, left_at, needed, take_each, cases_at, after}
+use Rattle.wf_argument.specs.State.{Case, State, start, left_at, needed, points_in, take_each, cases_at, after}
 
 -- ---- words
 
@@ -38,6 +39,14 @@ any_text text xs = list_text text (codes ", ") (codes " or ") xs
 abbrev pub row_text : {X : Type 0} → (X → List ℕ) → List X → List ℕ
 row_text text xs = codes "(" ++ (list_text text (codes ", ") (codes ", ") xs ++ codes ")")
 
+-- what stands before the element at a place of a list of this length
+abbrev pub separator : List ℕ → List ℕ → ℕ → ℕ → List ℕ
+separator between last zero size = []
+separator between last (suc n) size = if suc (suc n) == size then last else between
+
+abbrev pub tuple_text : Tuple → List ℕ
+tuple_text tuple = row_text number_text tuple
+
 -- 1 round, 2 rounds
 abbrev pub counted : ℕ → List ℕ → List ℕ
 counted n noun = decimal n ++ (codes " " ++ (noun ++ (if n == 1 then [] else codes "s")))
@@ -46,12 +55,9 @@ counted n noun = decimal n ++ (codes " " ++ (noun ++ (if n == 1 then [] else cod
 abbrev pub name : ℕ → List ℕ
 name v = codes "v" ++ decimal v
 
--- a line under so many suppositions: below the deepest, lines stand as far in as there
-abbrev pub deepest : ℕ
-deepest = 12
-
+-- a line under so many suppositions
 abbrev pub indented : ℕ → List ℕ → List ℕ
-indented depth text = replicate (2 + 2 * min depth deepest) 32 ++ (text ++ codes "\n")
+indented depth text = replicate (2 + 2 * depth) 32 ++ (text ++ codes "\n")
 
 -- ---- executions
 
@@ -87,7 +93,7 @@ abbrev pub needed_text : List ℕ → List Tuple → List ℕ
 needed_text scope [] = codes "no tuple at " ++ (row_text name scope ++ codes " has it")
 needed_text scope (x ∷ xs) =
     row_text name scope ++ (codes " would be "
-    ++ (if nat_le (length (x ∷ xs)) most_told then any_text (row_text number_text) (x ∷ xs) else codes "one of " ++ counted (length (x ∷ xs)) (codes "tuple")))
+    ++ (if nat_le (length (x ∷ xs)) most_told then any_text tuple_text (x ∷ xs) else codes "one of " ++ counted (length (x ∷ xs)) (codes "tuple")))
 
 -- the step that took the value
 abbrev pub origin_text : Option ℕ → List ℕ
@@ -108,9 +114,6 @@ abbrev pub rest_text : ℕ → List ℕ → List ℕ
 rest_text v [] = []
 rest_text v (a ∷ []) = codes " So " ++ (name v ++ (codes " is " ++ (decimal a ++ codes ".")))
 rest_text v (a ∷ b ∷ more) = []
-
-abbrev pub points_in : Constraint → List ℕ
-points_in k = map (λ at. at.1) k.scope
 
 -- the number of a step, and its point
 abbrev pub step_text : ℕ → ℕ → List ℕ
@@ -142,9 +145,11 @@ part_text p es s (splits v) =
     indented s.depth (step_text s.number v ++ (codes " is " ++ (any_text number_text (left_at p s.gone v) ++ codes ".")))
     ++ case_text (cases_at p s v ++ s.later)
 
-abbrev pub parts_text : Problem → List Execution → State → List Part → List ℕ
-parts_text p es s [] = []
-parts_text p es s (part ∷ parts) = part_text p es s part ++ parts_text p es (after p s part) parts
+-- the parts from a state on; what comes after all is said is left out
+abbrev pub parts_text : Problem → List Execution → Option State → List Part → List ℕ
+parts_text p es None parts = []
+parts_text p es (Some s) [] = []
+parts_text p es (Some s) (part ∷ parts) = part_text p es s part ++ parts_text p es (after p s part) parts
 
 -- ---- the whole
 
@@ -187,4 +192,4 @@ argument_text t r ls =
     let p = problem_of t r in
     title_text p r ls
     ++ (codes "Points\n" ++ (flat_map (point_text t.symmetric) (used_points p ls (points t r))
-    ++ (codes "Argument\n" ++ parts_text p (executions t r) (start p) (parts_of ls))))
+    ++ (codes "Argument\n" ++ parts_text p (executions t r) (Some (start p)) (parts_of ls))))
