@@ -6,3 +6,4 @@
 
 mod losses;
 mod reasons;
+mod words;
