@@ -1,1 +1,3 @@
 mod Listing
+pub mod Reasoning
+mod Telling
