@@ -1,5 +1,5 @@
 -- An argument in words that a task has no decision map after some rounds: the text of a refutation's lines, for people.
-use Rattle.std.specs.Prelude.{ℕ, zero, suc, ◌+◌, ◌*◌, ◌==◌, Bool, false, List, [], ◌∷◌, ◌++◌, map, filter, flat_map, length, replicate, zip, count_by, nat_le, true, Option, Some, None, slice_get, codes, decimal, if◌then◌else◌}
+use Rattle.std.specs.Prelude.{ℕ, zero, suc, ◌==◌, Bool, false, List, [], ◌∷◌, ◌++◌, map, filter, flat_map, length, zip, count_by, nat_le, true, Option, Some, None, slice_get, codes, decimal, if◌then◌else◌}
 use Rattle.std.specs.List.{enumerate_from, list_any}
 use Rattle.wf_model.specs.Lists.{below, has}
 use Rattle.wf_model.specs.Word.{Word}
@@ -55,9 +55,14 @@ counted n noun = decimal n ++ (codes " " ++ (noun ++ (if n == 1 then [] else cod
 abbrev pub name : ℕ → List ℕ
 name v = codes "v" ++ decimal v
 
+-- two spaces, and two more for each supposition
+abbrev pub margin : ℕ → List ℕ
+margin zero = codes "  "
+margin (suc depth) = codes "  " ++ margin depth
+
 -- a line under so many suppositions
 abbrev pub indented : ℕ → List ℕ → List ℕ
-indented depth text = replicate (2 + 2 * depth) 32 ++ (text ++ codes "\n")
+indented depth text = margin depth ++ (text ++ codes "\n")
 
 -- ---- executions
 

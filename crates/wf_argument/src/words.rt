@@ -4,7 +4,7 @@ ghost use Rattle.std.specs.Prelude.{◌≡◌, ◌++◌, ◌<◌, ◌+◌, ◌*�
 ghost use Rattle.wf_model.specs.PointsText.{process_text, view_text};
 ghost use Rattle.wf_set.specs.Sets.{values_in};
 ghost use Rattle.wf_view.specs.Views.{view_at};
-ghost use Rattle.wf_argument.specs.Text.{any_text, block_text, counted, lead_text, name, needed_text, number_text, origin_text, reasons_text, rest_text, row_text, separator, tuple_text};
+ghost use Rattle.wf_argument.specs.Text.{any_text, block_text, counted, lead_text, margin, name, needed_text, number_text, origin_text, reasons_text, rest_text, row_text, separator, tuple_text};
 
 use crate::reasons::Reason;
 use std::alloc::AllocError;
@@ -25,6 +25,17 @@ pub(crate) fn put_count(text: &mut String, count: usize, noun: &str) -> Result<(
     if count != 1 {
         write!(text, "s")?;
     }
+    Ok(())
+}
+
+/// Begins a line under so many suppositions.
+pub(crate) fn put_margin(text: &mut String, depth: u8) -> Result<(), AllocError>
+    ensures { OnOk result (string_bytes text.new ≡ string_bytes text.old ++ margin depth) }
+{
+    for _level in 0..depth {
+        write!(text, "  ")?;
+    }
+    write!(text, "  ")?;
     Ok(())
 }
 
