@@ -1,0 +1,4 @@
+mod Listing
+mod Margins
+pub mod Reasoning
+mod Telling

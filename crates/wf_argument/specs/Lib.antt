@@ -1,0 +1,6 @@
+-- What contracts say, here and in the crates above.
+pub mod Parts
+pub mod State
+pub mod Text
+-- Worked examples: what the definitions give, by computation.
+pub mod Examples

@@ -1,0 +1,131 @@
+-- What is gone after some parts of an argument, by which steps, and what each step rests on. A loss is a value and the step that took it, and none
+-- where a case supposes another value; a reason is a point with a loss.
+use Rattle.std.specs.Prelude.{ℕ, suc, ◌==◌, Bool, not, List, [], ◌∷◌, ◌++◌, map, filter, fold, replicate, min, Option, Some, None, if◌then◌else◌}
+use Rattle.std.specs.List.{list_any, slice_index_or, slice_set}
+use Rattle.std.specs.Ordering.{nat_cmp, ordering_then}
+use Rattle.std.specs.declared.cmp.Ordering.{Ordering}
+use Rattle.wf_model.specs.Lists.{with_element}
+use Rattle.wf_model.specs.Task.{Tuple}
+use Rattle.wf_model.specs.Problem.{Problem, Constraint, constraint_at}
+use Rattle.wf_model.specs.Box.{has_at}
+use Rattle.wf_model.specs.Check.{place_of}
+use Rattle.wf_argument.specs.declared.losses.Loss.{Loss}
+use Rattle.wf_argument.specs.declared.reasons.Reason.{Reason}
+use Rattle.wf_argument.specs.Parts.{Part, takes, closes, splits}
+
+-- the losses of each point, in the order in which they came
+abbrev pub Gone : Type 0
+Gone = List (List Loss)
+
+abbrev pub losses : Gone → ℕ → List Loss
+losses gone v = slice_index_or gone v []
+
+-- how a value was lost, if it was
+abbrev pub loss_among : ℕ → List Loss → Option Loss
+loss_among a [] = None
+loss_among a (x ∷ xs) = if x.value == a then Some x else loss_among a xs
+
+abbrev pub has_loss : ℕ → List Loss → Bool
+has_loss a xs = list_any (λ x. x.value == a) xs
+
+abbrev pub is_gone : Gone → ℕ → ℕ → Bool
+is_gone gone v a = has_loss a (losses gone v)
+
+-- the values that a point has left, ascending
+abbrev pub left_at : Problem → Gone → ℕ → List ℕ
+left_at p gone v = filter (λ a. not (is_gone gone v a)) p.values
+
+abbrev pub with_losses : Gone → ℕ → List Loss → Gone
+with_losses gone v xs = slice_set gone v (losses gone v ++ xs)
+
+-- a value goes from a point by a step, unless it is gone
+abbrev pub taken : ℕ → ℕ → Gone → ℕ → Gone
+taken n v gone a = if is_gone gone v a then gone else with_losses gone v (record { value = a; step = Some n } ∷ [])
+
+-- a point is supposed to have a value: the others that it has left are gone
+abbrev pub supposed : Problem → Gone → ℕ → ℕ → Gone
+supposed p gone v a = with_losses gone v (map (λ b. record { value = b; step = None }) (filter (λ b. not (b == a)) (left_at p gone v)))
+
+-- ---- what a step rests on
+
+abbrev pub reason_or : ℕ → Option Loss → Option Reason → Option Reason
+reason_or v None next = next
+reason_or v (Some x) next = Some (record { point = v; loss = x })
+
+-- why a tuple can't be decided at these points: the first of its values that is gone
+abbrev pub first_gone : Gone → List ℕ → Tuple → Option Reason
+first_gone gone [] tuple = None
+first_gone gone (v ∷ points) [] = None
+first_gone gone (v ∷ points) (x ∷ xs) = reason_or v (loss_among x (losses gone v)) (first_gone gone points xs)
+
+-- by point, and then by value
+abbrev pub reason_cmp : Reason → Reason → Ordering
+reason_cmp x y = ordering_then (nat_cmp x.point y.point) (nat_cmp x.loss.value y.loss.value)
+
+-- a reason in its place, unless it is there
+abbrev pub with_reason : List Reason → Option Reason → List Reason
+with_reason reasons None = reasons
+with_reason reasons (Some x) = with_element reason_cmp x reasons
+
+abbrev pub points_in : Constraint → List ℕ
+points_in k = map (λ at. at.1) k.scope
+
+-- the tuples with this value at this place
+abbrev pub needed : Constraint → ℕ → ℕ → List Tuple
+needed k place a = filter (λ tuple. has_at tuple place a) k.tuples
+
+abbrev pub with_reasons : Constraint → ℕ → Gone → List Reason → ℕ → List Reason
+with_reasons k place gone reasons a = fold (λ found tuple. with_reason found (first_gone gone (points_in k) tuple)) reasons (needed k place a)
+
+-- step n takes these values in turn from the point at a place of an execution: what is gone then, and the reasons
+pub record Taking : Type 0 where
+  pub gone : Gone
+  pub reasons : List Reason
+
+abbrev pub take : Constraint → ℕ → ℕ → ℕ → Taking → ℕ → Taking
+take k n place v s a = record { gone = taken n v s.gone a; reasons = with_reasons k place s.gone s.reasons a }
+
+abbrev pub take_each : Constraint → ℕ → ℕ → ℕ → Gone → List ℕ → Taking
+take_each k n place v gone values = fold (take k n place v) (record { gone = gone; reasons = [] }) values
+
+-- ---- from part to part
+
+-- the most suppositions that are told apart: what is under more counts as under so many
+abbrev pub deepest : ℕ
+deepest = 12
+
+-- a case that is still to come: what is gone where it begins, and how many suppositions it is under
+pub record Case : Type 0 where
+  pub point : ℕ
+  pub value : ℕ
+  pub depth : ℕ
+  pub gone : Gone
+
+-- the number of the next step, how many suppositions it is under, what is gone, and the cases that are still to come
+pub record State : Type 0 where
+  pub number : ℕ
+  pub depth : ℕ
+  pub gone : Gone
+  pub later : List Case
+
+abbrev pub start : Problem → State
+start p = record { number = 1; depth = 0; gone = replicate p.points []; later = [] }
+
+-- a case for each value that the point has left
+abbrev pub cases_at : Problem → State → ℕ → List Case
+cases_at p s v = map (λ a. record { point = v; value = a; depth = min (suc s.depth) deepest; gone = supposed p s.gone v a }) (left_at p s.gone v)
+
+-- the first of these cases begins, if there is one; else all is said
+abbrev pub entered : ℕ → List Case → Option State
+entered n [] = None
+entered n (x ∷ later) = Some (record { number = n; depth = x.depth; gone = x.gone; later = later })
+
+abbrev pub after_taking : Problem → State → ℕ → List ℕ → Option (ℕ × ℕ) → State
+after_taking p s e values None = s
+after_taking p s e values (Some at) = record s { number = suc s.number; gone = (take_each (constraint_at p e) s.number at.0 at.1 s.gone values).gone }
+
+-- a part that names no participant of an execution is left out
+abbrev pub after : Problem → State → Part → Option State
+after p s (takes e c values) = Some (after_taking p s e values (place_of 0 c (constraint_at p e).scope))
+after p s (closes v) = entered s.number s.later
+after p s (splits v) = entered (suc s.number) (cases_at p s v ++ s.later)

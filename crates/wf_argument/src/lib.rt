@@ -1,0 +1,9 @@
+//! An argument that a person can read, that a task has no decision map after some rounds: the lines of a refutation in words.
+//!
+//! `specs/` says what it is: `Parts`, which lines go together; `State`, what is gone after some of them and why; and `Text`, the
+//! words.
+#![tactic(auto)]
+
+mod losses;
+mod reasons;
+mod words;

@@ -1,0 +1,156 @@
+#!/usr/bin/env python3
+"""argument.py TASK REPORT: a report of none as an argument that a person can read, as `wfcheck explain` writes it.
+
+It is written from the definitions in crates/wf_argument/specs and shares no code with the program. It takes the report as it is:
+`second_opinion.py` says whether it holds."""
+import itertools
+import json
+import sys
+
+from second_opinion import faces, point_of, report_of, seen_after, simplex_of, words_of
+
+DEEPEST, MOST_TOLD = 12, 8
+
+
+def listed(texts, between, last):
+    """The texts in one, the last after a separator of its own."""
+    return texts[0] if len(texts) == 1 else between.join(texts[:-1]) + last + texts[-1]
+
+
+def any_of(texts):
+    return listed(texts, ", ", " or ")
+
+
+def row(texts):
+    return "(" + ", ".join(texts) + ")"
+
+
+def counted(n, noun):
+    return f"{n} {noun}" if n == 1 else f"{n} {noun}s"
+
+
+def view_text(view, mark):
+    process, rest = view
+    if isinstance(rest, int):
+        return f"{mark}{process}={rest}"
+    return f"{mark}{process} saw {{{', '.join(view_text(v, mark) for v in rest)}}}"
+
+
+def loss_text(value, step):
+    return f"{value} in this case" if step is None else f"{value} [{step}]"
+
+
+def block_text(processes):
+    return "{" + " ".join(f"p{p}" for p in processes) + "}"
+
+
+def words_text(processes, words):
+    """The ordered partitions of those who take part, one a round."""
+    if not words:
+        return block_text(processes)
+    blocks = [[[p for p, b in zip(processes, word) if b == n] for n in range(max(word) + 1)] for word in words]
+    return " ; ".join("".join(map(block_text, each)) for each in blocks)
+
+
+class Complex:
+    def __init__(self, task, rounds):
+        self.inputs = sorted({f for s in task["inputs"] for f in faces(simplex_of(s))}, key=lambda s: (len(s), s))
+        allowed = {simplex_of(e["in"]): sorted({tuple(t) for t in e["out"]}) for e in task["delta"]}
+        self.numbers, self.executions = {}, []
+        for simplex in self.inputs:
+            for words in itertools.product(words_of(task, simplex), repeat=rounds):
+                views = list(simplex)
+                for word in words:
+                    views = seen_after(views, word)
+                points = [self.numbers.setdefault(point_of(v, task["symmetric"]), len(self.numbers)) for v in views]
+                self.executions.append(([p for p, _ in simplex], points, allowed[simplex], words))
+        self.values = sorted({v for s in task["outputs"] for _, v in s})
+
+
+class Argument:
+    """The losses of each point, with the step that took them or None for a supposition; and the cases that are still to come, the
+    next one last."""
+
+    def __init__(self, made):
+        self.made, self.step, self.depth, self.lost, self.later, self.lines = made, 1, 0, {}, [], []
+
+    def say(self, text):
+        self.lines.append("  " * (1 + min(self.depth, DEEPEST)) + text)
+
+    def left(self, point):
+        return [value for value in self.made.values if (point, value) not in self.lost]
+
+    def take(self, execution, process, values):
+        processes, points, allowed, words = self.made.executions[execution]
+        place, needed, reasons = processes.index(process), [], {}
+        point = points[place]
+        for value in values:
+            for tuple_ in (t for t in allowed if t[place] == value):
+                needed.append(tuple_)
+                gone = [pair for pair in zip(points, tuple_) if pair in self.lost]
+                if gone:
+                    reasons.setdefault(gone[0][0], {})[gone[0][1]] = self.lost[gone[0]]
+            self.lost.setdefault((point, value), self.step)
+        names = row([f"v{v}" for v in points])
+        if not needed:
+            claim = f"no tuple at {names} has it"
+        elif len(needed) <= MOST_TOLD:
+            claim = f"{names} would be " + any_of([row([str(x) for x in t]) for t in needed])
+        else:
+            claim = f"{names} would be one of {len(needed)} tuples"
+        told = [f"v{v} is not " + ", ".join(itertools.starmap(loss_text, sorted(reasons[v].items()))) for v in sorted(reasons)]
+        because = ", but " + ", and ".join(told) if told else ""
+        left = self.left(point)
+        rest = f" So v{point} is {left[0]}." if len(left) == 1 else ""
+        where = f"in execution {execution}, {words_text(processes, words)}"
+        self.say(f"{self.step}. v{point} is not {any_of([str(x) for x in values])}: {where}, {claim}{because}.{rest}")
+        self.step += 1
+
+    def enter(self):
+        if self.later:
+            point, value, self.depth, before = self.later.pop()
+            self.lost = dict(before)
+            self.lost.update({(point, other): None for other in self.left(point) if other != value})
+            self.say(f"Case v{point} = {value}")
+
+    def close(self, point):
+        self.say(f"v{point} has no value left.")
+        self.enter()
+
+    def split(self, point):
+        left = self.left(point)
+        self.say(f"{self.step}. v{point} is {any_of([str(x) for x in left])}.")
+        self.step += 1
+        self.later += [(point, value, self.depth + 1, dict(self.lost)) for value in reversed(left)]
+        self.enter()
+
+
+def parts_of(steps):
+    """Lines that follow each other and take values from one process in one execution go together."""
+    for key, group in itertools.groupby(steps, lambda it: it[1][:3] if it[1][0] == "p" else it):
+        group = list(group)
+        yield (*key, [numbers[3] for _, numbers in group]) if group[0][1][0] == "p" else group[0][1]
+
+
+def text_of(task, report):
+    header, answer, _, steps = report_of(report)
+    if answer != "none":
+        raise SystemExit("the report has a map")
+    made = Complex(task, header["rounds"])
+    argument, parts = Argument(made), list(parts_of(steps))
+    used = {part[1] for part in parts if part[0] == "p"}
+    points = {part[1] for part in parts if part[0] != "p"}.union(*(made.executions[e][1] for e in used))
+    for part in parts:
+        {"p": argument.take, "z": argument.close, "b": argument.split}[part[0]](*part[1:])
+    views, mark = list(made.numbers), "#" if task["symmetric"] else "p"
+    over = f"{len(used)} of {counted(len(made.executions), 'execution')}"
+    title = f"No decision map after {counted(header['rounds'], 'round')}: {counted(argument.step - 1, 'step')} over {over}."
+    lines = [title, "", "Points", *(f"  v{v} is {view_text(views[v], mark)}" for v in sorted(points)), "Argument", *argument.lines]
+    return "".join(line + "\n" for line in lines)
+
+
+if __name__ == "__main__":
+    if len(sys.argv) != 3:
+        sys.exit(__doc__)
+    with open(sys.argv[1]) as task_file, open(sys.argv[2], newline="") as report_file:
+        sys.stdout.write(text_of(json.load(task_file), report_file.read()))
