@@ -7,7 +7,8 @@ import itertools
 import json
 import sys
 
-from second_opinion import faces, point_of, report_of, seen_after, simplex_of, words_of
+from reports import read
+from second_opinion import faces, point_of, seen_after, simplex_of, words_of
 
 DEEPEST, MOST_TOLD = 12, 8
 
@@ -133,8 +134,9 @@ def parts_of(steps):
 
 
 def text_of(task, report):
-    header, answer, _, steps = report_of(report)
-    if answer != "none":
+    report = read(report)
+    header, steps = report.header, report.steps
+    if report.answer != "none":
         raise SystemExit("the report has a map")
     made = Complex(task, header["rounds"])
     argument, parts = Argument(made), list(parts_of(steps))
