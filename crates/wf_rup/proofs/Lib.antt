@@ -5,3 +5,4 @@ pub mod TrailLemmas
 pub mod KeptLemmas
 pub mod SettledLemmas
 pub mod UnitLemmas
+pub mod DeletedLemmas

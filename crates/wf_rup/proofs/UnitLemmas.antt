@@ -47,7 +47,7 @@ any-found q (y ∷ ys) h = elim (cases_Bool (q y)) [
       (later.0, has-later later.0 y ys later.1, later.2)
 ]
 
-Contains-image : {B : Type 0} (f : ℕ → B) (xs : List ℕ) (x : ℕ) → has xs x ≡ true → Contains (map f xs) (f x)
+pub Contains-image : {B : Type 0} (f : ℕ → B) (xs : List ℕ) (x : ℕ) → has xs x ≡ true → Contains (map f xs) (f x)
 Contains-image {B} f [] x h = absurd (false≢true h)
 Contains-image {B} f (y ∷ ys) x h = elim (cases_eq y x) [
   | inl same ↦ let first : 0 < length (f y ∷ map f ys) = omega arith in (0, first, ap f same)
@@ -58,7 +58,7 @@ Contains-image {B} f (y ∷ ys) x h = elim (cases_eq y x) [
       (suc there.0, deeper, there.2)
 ]
 
-image-at : {A B : Type 0} (f : A → B) (xs : List A) (y : B) (k : ℕ) → k < length (map f xs) → get_or (map f xs) k y ≡ y
+pub image-at : {A B : Type 0} (f : A → B) (xs : List A) (y : B) (k : ℕ) → k < length (map f xs) → get_or (map f xs) k y ≡ y
     → (x : A) × Contains xs x × (f x ≡ y)
 image-at {A} {B} f [] y k within e = absurd (omega arith)
 image-at {A} {B} f (x ∷ xs) y zero within e = let first : 0 < length (x ∷ xs) = omega arith in (x, (0, first, refl), e)

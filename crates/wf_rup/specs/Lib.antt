@@ -5,4 +5,5 @@ pub mod Propagation
 pub mod Settled
 pub mod Seen
 pub mod Unit
+pub mod Deleted
 pub mod Whole

@@ -2,6 +2,7 @@
 
 ghost use Rattle.std.specs.Prelude.{◌≡◌, false, IfOk, IsTrue, map};
 ghost use Rattle.wf_rup.specs.Codes.{code_of};
+ghost use Rattle.wf_rup.specs.Deleted.{Deletes};
 ghost use Rattle.wf_rup.specs.Seen.{Entails, HasNoModel, KeepsModels, KeepsModelsOf, KnowsNothing};
 ghost use Rattle.wf_rup.specs.Unit.{DoesNotFollow};
 
@@ -80,11 +81,11 @@ impl Checker {
     /// A clause with these literals is no longer kept. Where there is none, or it forces a literal already, nothing
     /// changes.
     pub fn delete(&mut self, clause: &[Literal]) -> Result<(), AllocError>
-        ensures { KeepsModels self.old self.new }
+        ensures exact { Deletes clause.now self.old self.new }
+        ensures kept { KeepsModels self.old self.new }
     {
         put_codes(&mut self.codes, clause)?;
-        self.database.delete(&self.codes);
-        Ok(())
+        self.database.delete(&self.codes)
     }
 }
 

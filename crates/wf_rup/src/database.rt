@@ -1,10 +1,12 @@
 //! Clauses and what they force, with literals by their codes.
 
 ghost use Rattle.std.specs.Prelude.{◌≡◌, ◌++◌, ◌∷◌, [], false, IfOk, IsTrue, length, take};
+ghost use Rattle.wf_rup.specs.Deleted.{DeletesStored};
 ghost use Rattle.wf_rup.specs.Propagation.{AddsClause, Implies};
 ghost use Rattle.wf_rup.specs.Stored.{HasNoStoredModel, KeepsStoredModels, KeepsStoredModelsOf, KeepsStoredModelsWith, StoredEntails, StoresNothing, kept_of};
 ghost use Rattle.wf_rup.specs.Settled.{Refuses, StopsBefore};
 
+use crate::alike::are_alike;
 use crate::clauses::Clauses;
 use crate::index::{Index, hash_of};
 use crate::literal::Code;
@@ -31,6 +33,8 @@ pub(crate) struct Database {
     is_refuted: bool,
     // how many of the clauses are no longer kept
     forgotten: usize,
+    // the literals of a clause, while it is compared
+    seen: Trail,
 }
 
 impl Model for Database {
@@ -58,6 +62,7 @@ impl Database {
             index: Index::new(alloc)?,
             is_refuted: false,
             forgotten: 0,
+            seen: Trail::new(alloc, codes)?,
         })
     }
 
@@ -181,22 +186,26 @@ impl Database {
 
     /// A clause with these literals is no longer kept. Where there is none, or it forces a literal already, nothing
     /// changes.
-    pub(crate) fn delete(&mut self, clause: &[Code])
-        ensures { KeepsStoredModels self.old self.new }
+    pub(crate) fn delete(&mut self, clause: &[Code]) -> Result<(), AllocError>
+        ensures exact { DeletesStored clause.now self.old self.new }
+        ensures kept { KeepsStoredModels self.old self.new }
     {
         let mut next = self.index.last(hash_of(clause));
         'chain: for _ in 0..self.index.len() {
             let Some(number) = next else {
-                return;
+                return Ok(());
             };
-            if number < self.clauses.len() && self.clauses.literals(number).len() == clause.len() {
+            if number < self.clauses.len()
+                && are_alike(&mut self.seen, clause, self.clauses.literals(number))?
+            {
                 self.clauses.forget(number);
                 self.index.forget(number);
                 self.forgotten = self.forgotten.saturating_add(1);
-                return;
+                return Ok(());
             }
             next = self.index.before(number);
         }
+        Ok(())
     }
 }
 

@@ -1,6 +1,6 @@
 //! Clauses by their literals, so that a deletion finds the one that it means.
 //!
-//! No proof rests on it: where two clauses have one hash the wrong one may be deleted, and then less follows.
+//! No proof rests on it: a clause that it finds is compared, and one that it doesn't find is kept.
 
 use crate::literal::Code;
 use std::alloc::{AllocError, Global};

@@ -8,6 +8,7 @@
 //! - [`Proof`]: reads a proof's text in pieces, and gives a checker each step.
 #![tactic(auto)]
 
+mod alike;
 mod checker;
 mod clauses;
 mod database;

@@ -1,0 +1,51 @@
+-- Which clause a deletion takes.
+use Rattle.std.specs.Prelude.{◌≡◌, ◌⊎◌, ◌++◌, ◌∷◌, ℕ, true, List, All, Contains}
+use Rattle.wf_clauses.specs.Formula.{Clause}
+use Rattle.wf_rup.specs.Seen.{Known}
+use Rattle.wf_rup.specs.Stored.{Stored, has}
+
+-- each clause has the literals of the other
+abbrev pub HaveSameLiterals : Clause → Clause → Type 0
+HaveSameLiterals clause other = All (Contains clause) other × All (Contains other) clause
+
+-- one clause with these literals is no longer known
+pub record IsWithout (clause : Clause) (old new : Known) : Type 0 where
+  pub front : List Clause
+  pub deleted : Clause
+  pub back : List Clause
+  pub same : HaveSameLiterals clause deleted
+  pub before : old.clauses ≡ front ++ deleted ∷ back
+  pub after : new.clauses ≡ front ++ back
+  pub literals : new.literals ≡ old.literals
+  pub is_refuted : new.is_refuted ≡ old.is_refuted
+
+-- nothing changes, or one clause with these literals is no longer known
+abbrev pub Deletes : Clause → Known → Known → Type 0
+Deletes clause old new = (new ≡ old) ⊎ IsWithout clause old new
+
+-- ---- the same of codes
+
+-- the list has each of these
+abbrev pub IsAmong : List ℕ → List ℕ → Type 0
+IsAmong codes others = All (λ l. has codes l ≡ true) others
+
+-- each literal that was seen is one of the clause
+abbrev pub IsSeenOf : List ℕ → List ℕ → Type 0
+IsSeenOf clause seen = (l : ℕ) → has seen l ≡ true → has clause l ≡ true
+
+-- each clause has the literals of the other
+abbrev pub AreAlike : List ℕ → List ℕ → Type 0
+AreAlike clause other = IsAmong clause other × IsAmong other clause
+
+pub record IsStoredWithout (clause : List ℕ) (old new : Stored) : Type 0 where
+  pub front : List (List ℕ)
+  pub deleted : List ℕ
+  pub back : List (List ℕ)
+  pub same : AreAlike clause deleted
+  pub before : old.clauses ≡ front ++ deleted ∷ back
+  pub after : new.clauses ≡ front ++ back
+  pub literals : new.literals ≡ old.literals
+  pub is_refuted : new.is_refuted ≡ old.is_refuted
+
+abbrev pub DeletesStored : List ℕ → Stored → Stored → Type 0
+DeletesStored clause old new = (new ≡ old) ⊎ IsStoredWithout clause old new
