@@ -1,4 +1,0 @@
-//! Engines that read a report about a task, check it, and write another text that follows from it.
-//!
-//! Each checks the report exactly as `verify` does, with the same refusals in the same order, before it makes anything of it.
-#![tactic(auto)]
