@@ -2,3 +2,7 @@
 //!
 //! Each checks the report exactly as `verify` does, with the same refusals in the same order, before it makes anything of it.
 #![tactic(auto)]
+
+mod explain;
+
+pub use explain::run_explain;
