@@ -1,8 +1,8 @@
 #!/usr/bin/env python3
 """argument.py TASK REPORT: a report of none as an argument that a person can read, as `wfcheck explain` writes it.
 
-It is written from the words of docs/FORMAT.md alone and shares nothing with the program. It takes the report as it is: `second_opinion.py`
-says whether it holds."""
+It is written from the definitions in crates/wf_argument/specs and shares no code with the program. It takes the report as it is:
+`second_opinion.py` says whether it holds."""
 import itertools
 import json
 import sys
@@ -31,7 +31,13 @@ def counted(n, noun):
 
 def view_text(view, mark):
     process, rest = view
-    return f"{mark}{process}={rest}" if isinstance(rest, int) else f"{mark}{process} saw {{{', '.join(view_text(v, mark) for v in rest)}}}"
+    if isinstance(rest, int):
+        return f"{mark}{process}={rest}"
+    return f"{mark}{process} saw {{{', '.join(view_text(v, mark) for v in rest)}}}"
+
+
+def loss_text(value, step):
+    return f"{value} in this case" if step is None else f"{value} [{step}]"
 
 
 def block_text(processes):
@@ -42,7 +48,8 @@ def words_text(processes, words):
     """The ordered partitions of those who take part, one a round."""
     if not words:
         return block_text(processes)
-    return " ; ".join("".join(block_text([p for p, b in zip(processes, word) if b == n]) for n in range(max(word) + 1)) for word in words)
+    blocks = [[[p for p, b in zip(processes, word) if b == n] for n in range(max(word) + 1)] for word in words]
+    return " ; ".join("".join(map(block_text, each)) for each in blocks)
 
 
 class Complex:
@@ -91,11 +98,12 @@ class Argument:
             claim = f"{names} would be " + any_of([row([str(x) for x in t]) for t in needed])
         else:
             claim = f"{names} would be one of {len(needed)} tuples"
-        told = [f"v{v} is not " + ", ".join(f"{x} in this case" if k is None else f"{x} [{k}]" for x, k in sorted(reasons[v].items())) for v in sorted(reasons)]
+        told = [f"v{v} is not " + ", ".join(itertools.starmap(loss_text, sorted(reasons[v].items()))) for v in sorted(reasons)]
         because = ", but " + ", and ".join(told) if told else ""
         left = self.left(point)
         rest = f" So v{point} is {left[0]}." if len(left) == 1 else ""
-        self.say(f"{self.step}. v{point} is not {any_of([str(x) for x in values])}: in execution {execution}, {words_text(processes, words)}, {claim}{because}.{rest}")
+        where = f"in execution {execution}, {words_text(processes, words)}"
+        self.say(f"{self.step}. v{point} is not {any_of([str(x) for x in values])}: {where}, {claim}{because}.{rest}")
         self.step += 1
 
     def enter(self):
@@ -135,7 +143,8 @@ def text_of(task, report):
     for part in parts:
         {"p": argument.take, "z": argument.close, "b": argument.split}[part[0]](*part[1:])
     views, mark = list(made.numbers), "#" if task["symmetric"] else "p"
-    title = f"No decision map after {counted(header['rounds'], 'round')}: {counted(argument.step - 1, 'step')} over {len(used)} of {counted(len(made.executions), 'execution')}."
+    over = f"{len(used)} of {counted(len(made.executions), 'execution')}"
+    title = f"No decision map after {counted(header['rounds'], 'round')}: {counted(argument.step - 1, 'step')} over {over}."
     lines = [title, "", "Points", *(f"  v{v} is {view_text(views[v], mark)}" for v in sorted(points)), "Argument", *argument.lines]
     return "".join(line + "\n" for line in lines)
 
