@@ -4,7 +4,7 @@ use Rattle.wf_report.specs.Reports.{IsHeaderOf}
 use Rattle.wf_engine.proofs.solve.pose.Goals as goal
 
 pub returns : goal.returns
-returns c =
+returns g c =
     let t = c.args.task.now in
     let built = c.in_ok-protocol.ensures in
     let rounds = built.2.rounds_are in (
