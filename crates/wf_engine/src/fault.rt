@@ -30,6 +30,8 @@ pub enum RunFault {
     Proof(ProofFault),
     /// 36: the report is about other rounds than were asked for.
     OtherRounds,
+    /// 43: the report is accepted, and has no map to be lifted.
+    NoMap,
     /// 15: memory ran out.
     OutOfMemory,
     /// 30: a call of the reader answered an error.
@@ -70,6 +72,7 @@ impl fmt::Display for RunFault {
             }
             RunFault::Proof(ProofFault::OutOfMemory) => { write!(f, "{}", TaskFault::OutOfMemory) }
             RunFault::OtherRounds => write!(f, "36 OtherRounds"),
+            RunFault::NoMap => write!(f, "43 NoMap"),
             RunFault::OutOfMemory => write!(f, "{}", TaskFault::OutOfMemory),
             RunFault::Read => write!(f, "30 Read"),
             RunFault::Write => write!(f, "31 Write"),
