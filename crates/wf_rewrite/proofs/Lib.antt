@@ -1,0 +1,4 @@
+pub mod Among
+pub mod Trimming
+pub mod Accepting
+pub mod Trimmed

@@ -1,0 +1,50 @@
+-- A run over two sources, a task and a report about it, that writes a shorter report.
+use Rattle.std.specs.Prelude.{◌≡◌, ◌⊎◌, List, [], ◌∷◌, Option, None, Result}
+use Rattle.wf_model.specs.Task.{Task}
+use Rattle.wf_model.specs.Refutation.{Line}
+use Rattle.wf_model.specs.Report.{Body, Report, a_map, none, least, report_text}
+use Rattle.wf_io.specs.Seen.{Reading, Writing}
+use Rattle.wf_engine.specs.Run.{Ran}
+use Rattle.wf_engine.specs.Verify.{Checks, IsFaultless}
+use Rattle.wf_engine.specs.declared.fault.RunFault.{RunFault}
+
+-- the lines of an answer; a map has none
+abbrev pub lines_of : Body → List Line
+lines_of (a_map m) = []
+lines_of (none ls) = ls
+lines_of (least m ls) = ls
+
+-- the answer with other lines; a map has none
+abbrev pub with_lines : Body → List Line → Body
+with_lines (a_map m) ls = a_map m
+with_lines (none old) ls = none ls
+with_lines (least m old) ls = least m ls
+
+-- the report with another answer
+abbrev pub with_body : Report → Body → Report
+with_body r body = record { processes = r.processes; rounds = r.rounds; points = r.points; executions = r.executions; body = body }
+
+-- these are some of those, in their order
+abbrev pub AreAmong : {X : Type 0} → List X → List X → Type 0
+AreAmong [] ls = Unit {0}
+AreAmong (k ∷ ks) [] = ⊥
+AreAmong (k ∷ ks) (l ∷ ls) = ((k ≡ l) × AreAmong ks ls) ⊎ AreAmong (k ∷ ks) ls
+
+-- the same answer, with some of the lines
+abbrev pub IsShorter : Body → Body → Type 0
+IsShorter body shorter = (ls : List Line) × AreAmong ls (lines_of body) × (shorter ≡ with_lines body ls)
+
+-- A report with the same numbers and the same answer and some of the lines of another one, in which the checker finds no
+-- fault. So it is true.
+pub record IsShortened (t : Task) (r shorter : Report) : Type 0 where
+  pub numbers : shorter ≡ with_body r shorter.body
+  pub shorter : IsShorter r.body shorter.body
+  pub faultless : IsFaultless t shorter
+
+-- the text of such a report
+abbrev pub AreTrimmed : Task → Report → Unit {0} → List ℕ → Type 0
+AreTrimmed t r answer text = (shorter : Report) × IsShortened t r shorter × (text ≡ report_text shorter)
+
+-- The report of a source was checked against the task of another one, and such a report was written.
+abbrev pub Trims : Reading → Reading → Reading → Reading → Writing → Writing → Result (Unit {0}) RunFault → Type 0
+Trims task task' cert cert' sink sink' result = Ran (Checks None AreTrimmed task task' cert cert') sink sink' result
