@@ -1,7 +1,7 @@
 -- Lists that are some of the elements of others, in their order.
-use Rattle.std.proofs.Common.{◌≡◌, ◌≤◌, ◌⊎◌, ℕ, List, [], ◌∷◌, ◌++◌, flat_map, length, inl, inr, refl, sym, ap, subst, arith, length-append}
+use Rattle.std.proofs.Common.{◌≡◌, ◌≤◌, ◌⊎◌, ℕ, List, [], ◌∷◌, ◌++◌, flat_map, map, length, inl, inr, refl, sym, ap, subst, arith, length-append}
 use Rattle.std.specs.List.{AllByRecursion}
-use Rattle.wf_rewrite.specs.Trimming.{AreAmong}
+use Rattle.wf_trim.specs.Among.{AreAmong}
 
 pub among_self : {X : Type 0} (xs : List X) → AreAmong xs xs
 among_self [] = tt
@@ -43,3 +43,10 @@ each_among P [] ls h all = tt
 each_among P (k ∷ ks) [] h all = absurd h
 each_among P (k ∷ ks) (l ∷ ls) (inl (same, h)) all = (subst P (sym same) all.0, each_among P ks ls h all.1)
 each_among P (k ∷ ks) (l ∷ ls) (inr h) all = each_among P (k ∷ ks) ls h all.1
+
+-- what is made of some is some of what is made of all
+pub made_among : {X Y : Type 0} (f : X → Y) (ks ls : List X) → AreAmong ks ls → AreAmong (map f ks) (map f ls)
+made_among f [] ls h = tt
+made_among f (k ∷ ks) [] h = absurd h
+made_among f (k ∷ ks) (l ∷ ls) (inl (same, h)) = inl (ap f same, made_among f ks ls h)
+made_among f (k ∷ ks) (l ∷ ls) (inr h) = inr (made_among f (k ∷ ks) ls h)

@@ -1,4 +1,5 @@
 pub mod Among
 pub mod Trimming
+pub mod Shortening
 pub mod Accepting
 pub mod Trimmed

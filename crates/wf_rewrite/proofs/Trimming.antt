@@ -5,7 +5,8 @@ use Rattle.wf_model.specs.Refutation.{Line}
 use Rattle.wf_model.specs.Report.{Body, Report, a_map, none, least, answer_line, body_text, line, line_text, report_text, value_line}
 use Rattle.wf_report.specs.Grammar.{IsBodyWithin, IsInGrammar, IsLineWithin, IsStepWithin}
 use Rattle.wf_engine.specs.Verify.{IsFaultless}
-use Rattle.wf_rewrite.specs.Trimming.{AreAmong, IsShortened, IsShorter, lines_of, with_body, with_lines}
+use Rattle.wf_trim.specs.Among.{AreAmong}
+use Rattle.wf_rewrite.specs.Trimming.{IsShortened, IsShorter, lines_of, with_body, with_lines}
 use Rattle.wf_rewrite.proofs.Among.{among_self, each_among, flat_among, no_longer_after, no_longer_before}
 
 own_lines : (body : Body) → body ≡ with_lines body (lines_of body)

@@ -1,5 +1,5 @@
 -- A run over two sources, a task and a report about it, that writes a shorter report.
-use Rattle.std.specs.Prelude.{◌≡◌, ◌⊎◌, List, [], ◌∷◌, Option, None, Result}
+use Rattle.std.specs.Prelude.{◌≡◌, List, [], Option, None, Result}
 use Rattle.wf_model.specs.Task.{Task}
 use Rattle.wf_model.specs.Refutation.{Line}
 use Rattle.wf_model.specs.Report.{Body, Report, a_map, none, least, report_text}
@@ -7,6 +7,7 @@ use Rattle.wf_io.specs.Seen.{Reading, Writing}
 use Rattle.wf_engine.specs.Run.{Ran}
 use Rattle.wf_engine.specs.Verify.{Checks, IsFaultless}
 use Rattle.wf_engine.specs.declared.fault.RunFault.{RunFault}
+use Rattle.wf_trim.specs.Among.{AreAmong}
 
 -- the lines of an answer; a map has none
 abbrev pub lines_of : Body → List Line
@@ -24,11 +25,9 @@ with_lines (least m old) ls = least m ls
 abbrev pub with_body : Report → Body → Report
 with_body r body = record { processes = r.processes; rounds = r.rounds; points = r.points; executions = r.executions; body = body }
 
--- these are some of those, in their order
-abbrev pub AreAmong : {X : Type 0} → List X → List X → Type 0
-AreAmong [] ls = Unit {0}
-AreAmong (k ∷ ks) [] = ⊥
-AreAmong (k ∷ ks) (l ∷ ls) = ((k ≡ l) × AreAmong ks ls) ⊎ AreAmong (k ∷ ks) ls
+-- the report with other lines
+abbrev pub report_with : Report → List Line → Report
+report_with r ls = with_body r (with_lines r.body ls)
 
 -- the same answer, with some of the lines
 abbrev pub IsShorter : Body → Body → Type 0

@@ -1,21 +1,25 @@
 //! Writing a shorter report.
 
-ghost use Rattle.std.specs.Prelude.{◌≡◌, IfOk};
+ghost use Rattle.std.specs.Prelude.{◌≡◌, IfOk, map};
 ghost use Rattle.wf_io.specs.Ends.{CanRead};
 ghost use Rattle.wf_complex.specs.Protocol.{IsProtocol};
-ghost use Rattle.wf_report.specs.Reports.{AreNumbered, body_length, report_seen};
+ghost use Rattle.wf_lines.specs.Lines.{line_of};
+ghost use Rattle.wf_report.specs.Reports.{AreNumbered, body_length, body_of, report_seen};
 ghost use Rattle.wf_engine.specs.Run.{answered};
 ghost use Rattle.wf_engine.specs.Verify.{CanVerify, Checks, IsFaultless, IsVerified};
-ghost use Rattle.wf_rewrite.specs.Trimming.{AreTrimmed, IsShortened, Trims};
+ghost use Rattle.wf_rewrite.specs.Trimming.{AreTrimmed, IsShortened, Trims, lines_of, report_with};
 
 use std::alloc::{AllocError, Global};
 use std::io::{Read, Write};
 use std::thread::Threads;
+use wf_check::check;
 use wf_complex::Protocol;
 use wf_engine::{RunFault, check_report, hand_out, read_report_from, read_task};
 use wf_io::{Sink, Source};
-use wf_report::{Report, write_report};
+use wf_lines::{Line, Lines};
+use wf_report::{Body, CertFault, Report, write_report};
 use wf_task::Task;
+use wf_trim::trim;
 
 /// Reads a task and a report about it, and checks the report, as [`run_verify`](wf_engine::run_verify) does; then it writes
 /// a report about the same task and rounds with the same answer and some of the lines, which is accepted too: of a map
@@ -69,7 +73,10 @@ fn trim_report<T: Threads + Sync>(
 
 /// A report without a fault that has the same answer and some of the lines of one that has no fault either. Refused where
 /// memory runs out, and for nothing else.
-pub(crate) fn shortened<T: Threads + Sync>(
+///
+/// The lines that are needed are checked in place of all, unless none was left out; where the checker finds a fault in them,
+/// all are put back.
+fn shortened<T: Threads + Sync>(
     rt: &T,
     alloc: Global,
     task: &Task,
@@ -83,5 +90,45 @@ pub(crate) fn shortened<T: Threads + Sync>(
         IsShortened task.now (report_seen report) (report_seen shorter)) }
     ensures few { IfOk result (λ shorter. AreNumbered (body_length shorter.body)) }
 {
-    Ok(report)
+    let lines = lines_of(&report.body);
+    let kept = trim(alloc, task, protocol, lines)?;
+    if kept.len() == lines.len() {
+        return Ok(report);
+    }
+    let (shorter, lines) = exchange_lines(report, kept);
+    match check(rt, alloc, task, protocol, &shorter) {
+        Ok(()) => Ok(shorter),
+        Err(CertFault::OutOfMemory) => Err(AllocError),
+        Err(_) => {
+            let (whole, _) = exchange_lines(shorter, lines);
+            Ok(whole)
+        }
+    }
+}
+
+/// The lines of an answer; a map has none.
+fn lines_of(body: &Body) -> &[Line]
+    ensures { map line_of result.now ≡ lines_of (body_of body.now) }
+{
+    match body {
+        Body::Map(_) => &[],
+        Body::Nothing(lines) | Body::Least(_, lines) => lines,
+    }
+}
+
+/// The report with these lines in place of its own, and its own lines, which put back give the report again. A map has none,
+/// and stays as it is.
+fn exchange_lines(report: Report, lines: Lines) -> (Report, Lines)
+    ensures report { let new = map line_of lines.items in
+        report_seen result.0 ≡ report_with (report_seen report) new }
+    ensures own { let own = map line_of result.1.items in
+        report_with (report_seen result.0) own ≡ report_seen report }
+{
+    let header = report.header;
+    let (body, own) = match report.body {
+        Body::Map(values) => (Body::Map(values), lines),
+        Body::Nothing(own) => (Body::Nothing(lines), own),
+        Body::Least(values, own) => (Body::Least(values, lines), own),
+    };
+    (Report { header, body }, own)
 }

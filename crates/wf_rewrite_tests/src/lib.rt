@@ -1,0 +1,5 @@
+//! Tests of the engines that write another text of a report.
+#![tactic(auto)]
+
+#[cfg(test)]
+mod trim_tests;
