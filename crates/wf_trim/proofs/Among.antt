@@ -1,5 +1,5 @@
 -- Lists that grow from their fronts to their ends.
-use Rattle.std.proofs.Common.{◌≡◌, ◌<◌, ◌+◌, ◌++◌, ◌⊎◌, ℕ, suc, zero, List, [], ◌∷◌, Option, Some, None, take, length, slice_get, get_or, inl, inr, refl, ap, sym, subst, add-one, arith}
+use Rattle.std.proofs.Common.{◌≡◌, ◌<◌, ◌+◌, ◌++◌, ℕ, suc, zero, List, [], ◌∷◌, Some, take, length, slice_get, get_or, inl, inr, refl, ap, sym, subst, add-one}
 use Rattle.std.proofs.lemmas.Option.{slice_get-get_or}
 use Rattle.wf_trim.specs.Among.{AreAmong}
 
@@ -30,7 +30,7 @@ one_more (l ∷ ls) (suc n) x h = ap (λ xs. l ∷ xs) (one_more ls n x h)
 pub among_taken : {X : Type 0} (ks more ls : List X) (n : ℕ) (d : X) → n < length ls → more ≡ ks ++ get_or ls n d ∷ [] → AreAmong ks (take n ls) → AreAmong more (take (n + 1) ls)
 among_taken ks more ls n d low is h =
     let known : AreAmong (ks ++ get_or ls n d ∷ []) (take (suc n) ls) =
-        subst (AreAmong (ks ++ get_or ls n d ∷ [])) (one_more ls n (get_or ls n d) (slice_get-get_or ls n d low)) (among_both ks (take n ls) (get_or ls n d) h) in
+    subst (AreAmong (ks ++ get_or ls n d ∷ [])) (one_more ls n (get_or ls n d) (slice_get-get_or ls n d low)) (among_both ks (take n ls) (get_or ls n d) h) in
     rw (is, add-one) known
 
 pub among_passed : {X : Type 0} (ks ls : List X) (n : ℕ) → AreAmong ks (take n ls) → AreAmong ks (take (n + 1) ls)

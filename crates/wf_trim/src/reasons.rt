@@ -39,7 +39,11 @@ pub(crate) struct Options {
 }
 
 /// The place of what a line takes out; none where the task or the complex has no such place.
-pub(crate) fn claim_of<'a>(task: &'a Task, protocol: &'a Protocol, line: Line) -> Option<Claim<'a>> {
+pub(crate) fn claim_of<'a>(
+    task: &'a Task,
+    protocol: &'a Protocol,
+    line: Line,
+) -> Option<Claim<'a>> {
     let Line::Remove {
         execution,
         process,
@@ -92,7 +96,9 @@ impl Claim<'_> {
             if place != self.place && place < values.len() {
                 if let Some((step, by)) = path.find(*point, values[place]) {
                     count = count.saturating_add(1);
-                    is_needed = is_needed || *point < known.bound || needs.has_since(by, known.needs);
+                    is_needed = is_needed
+                        || *point < known.bound
+                        || needs.has_since(by, known.needs);
                     if step < first {
                         first = step;
                         line = Some(by);

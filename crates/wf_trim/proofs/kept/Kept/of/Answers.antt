@@ -5,8 +5,8 @@ use Rattle.wf_trim.proofs.kept.Kept.of.Goals.{then-number-next+then-has+in_ok-pu
 
 pub loop-number-preserved : goal.loop-number-preserved
 loop-number-preserved c = elim c.if-number-next.branch [
-    then-number-next+then-has+in_ok-push w ↦
+  | then-number-next+then-has+in_ok-push w ↦
       let same : c.if-number-next.kept.items ≡ w.push.new.self.items = rw w.kept-is refl in
       among_taken _ _ _ _ _ c.loop-number-test.true (same ∙ w.in_ok-push.ensures.items) c.loop-number.invariant
   | else-number-next w ↦ rw w.kept-is (among_passed _ _ _ c.loop-number.invariant)
-  ]
+]
