@@ -10,7 +10,7 @@ use wf_task::Task;
 use wf_trim::trim;
 
 /// The line that takes a value out.
-const fn p(execution: u32, process: u8, value: u8) -> Line {
+fn p(execution: u32, process: u8, value: u8) -> Line {
     Line::Remove {
         process,
         value,
@@ -19,12 +19,12 @@ const fn p(execution: u32, process: u8, value: u8) -> Line {
 }
 
 /// The line with a point that has no candidate left.
-const fn z(point: u32) -> Line {
+fn z(point: u32) -> Line {
     Line::Empty { point }
 }
 
 /// The line that branches at a point.
-const fn b(point: u32) -> Line {
+fn b(point: u32) -> Line {
     Line::Branch { point }
 }
 
