@@ -44,8 +44,8 @@ module _ (report shorter : whole.Report) (kept lines : List Line) (among : AreAm
       let new : body_length shorter.body ≡ length (values_of (body_of shorter.body)) + length (lines_of (body_of shorter.body)) = length_seen shorter.body in
       let old : body_length report.body ≡ length (values_of (body_of report.body)) + length (lines_of (body_of report.body)) = length_seen report.body in
       let fewer : length (values_of (body_of shorter.body)) + length (lines_of (body_of shorter.body)) ≤ length (values_of (body_of report.body)) + length (lines_of (body_of report.body)) =
-        subst (λ b. length (values_of b) + length (lines_of b) ≤ length (values_of (body_of report.body)) + length (lines_of (body_of report.body))) (sym same)
-        (no_more (body_of report.body) (map line_of kept) (few_among _ _ some)) in
+      subst (λ b. length (values_of b) + length (lines_of b) ≤ length (values_of (body_of report.body)) + length (lines_of (body_of report.body))) (sym same)
+      (no_more (body_of report.body) (map line_of kept) (few_among _ _ some)) in
       omega (arith, new, old, fewer, few)
 
   -- where the checker finds no fault in it
@@ -70,7 +70,7 @@ module _ (report back : whole.Report) (is : report_seen back ≡ report_seen rep
   back_numbered few =
       let same : body_of back.body ≡ body_of report.body = ap (λ (x : Report). x.body) is in
       let counts : length (values_of (body_of back.body)) + length (lines_of (body_of back.body)) ≡ length (values_of (body_of report.body)) + length (lines_of (body_of report.body)) =
-        ap (λ b. length (values_of b) + length (lines_of b)) same in
+      ap (λ b. length (values_of b) + length (lines_of b)) same in
       let new : body_length back.body ≡ length (values_of (body_of back.body)) + length (lines_of (body_of back.body)) = length_seen back.body in
       let old : body_length report.body ≡ length (values_of (body_of report.body)) + length (lines_of (body_of report.body)) = length_seen report.body in
       omega (arith, new, old, counts, few)
