@@ -1,5 +1,6 @@
 -- Reports with some of their lines, which are checked again.
-use Rattle.std.proofs.Common.{◌≡◌, ◌≤◌, ◌<◌, ◌+◌, ◌^◌, ℕ, List, [], ◌∷◌, map, length, Option, None, refl, sym, ap, subst, ◌∙◌, arith, length-map}
+use Rattle.std.proofs.Common.{◌≡◌, ◌≤◌, ◌<◌, ◌+◌, ◌^◌, ℕ, List, [], ◌∷◌, map, length, Option, None, refl, sym, ap, subst, ◌∙◌, arith}
+use Rattle.std.proofs.lemmas.List.{length-map}
 use Rattle.wf_model.specs.Task.{Task}
 use Rattle.wf_model.specs.Refutation as model
 use Rattle.wf_model.specs.Report.{Body, Report, a_map, none, least}
@@ -22,8 +23,8 @@ use Rattle.wf_rewrite.proofs.Trimming.{unchanged}
 
 length_seen : (body : code.Body) → body_length body ≡ length (values_of (body_of body)) + length (lines_of (body_of body))
 length_seen (Map values) = omega arith
-length_seen (Nothing lines) = let same : length (map line_of lines.items) ≡ length lines.items = length-map line_of lines.items in omega (arith, same)
-length_seen (Least values lines) = let same : length (map line_of lines.items) ≡ length lines.items = length-map line_of lines.items in omega (arith, same)
+length_seen (Nothing lines) = let same : length (map line_of lines.items) ≡ length lines.items = length-map lines.items line_of in omega (arith, same)
+length_seen (Least values lines) = let same : length (map line_of lines.items) ≡ length lines.items = length-map lines.items line_of in omega (arith, same)
 
 no_more : (body : Body) (ls : List model.Line) → length ls ≤ length (lines_of body)
     → length (values_of (with_lines body ls)) + length (lines_of (with_lines body ls)) ≤ length (values_of body) + length (lines_of body)

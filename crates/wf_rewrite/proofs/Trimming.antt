@@ -31,13 +31,24 @@ answer_no_longer (least m old) ls among =
     (no_longer_before _ _ (line (codes "end") [])
     (no_longer_after (flat_map value_line m) (flat_map line_text ls) (flat_map line_text old) (flat_among line_text ls old among)))
 
+after_five : (a b c d e xs ys : List ℕ) → length xs ≤ length ys → length (a ++ (b ++ (c ++ (d ++ (e ++ xs))))) ≤ length (a ++ (b ++ (c ++ (d ++ (e ++ ys)))))
+after_five a b c d e xs ys few =
+    no_longer_after a (b ++ (c ++ (d ++ (e ++ xs)))) (b ++ (c ++ (d ++ (e ++ ys))))
+    (no_longer_after b (c ++ (d ++ (e ++ xs))) (c ++ (d ++ (e ++ ys)))
+    (no_longer_after c (d ++ (e ++ xs)) (d ++ (e ++ ys))
+    (no_longer_after d (e ++ xs) (e ++ ys) (no_longer_after e xs ys few))))
+
 lines_no_longer : (r : Report) (ls : List Line) → AreAmong ls (lines_of r.body) → length (report_text (with_body r (with_lines r.body ls))) ≤ length (report_text r)
 lines_no_longer r ls among =
-    no_longer_after (line (codes "wfcheck report 1") []) _ _
-    (no_longer_after (line (codes "processes") (r.processes ∷ [])) _ _
-    (no_longer_after (line (codes "rounds") (r.rounds ∷ [])) _ _
-    (no_longer_after (line (codes "points") (r.points ∷ [])) _ _
-    (no_longer_after (line (codes "executions") (r.executions ∷ [])) _ _ (answer_no_longer r.body ls among)))))
+    after_five
+    (line (codes "wfcheck report 1") [])
+    (line (codes "processes") (r.processes ∷ []))
+    (line (codes "rounds") (r.rounds ∷ []))
+    (line (codes "points") (r.points ∷ []))
+    (line (codes "executions") (r.executions ∷ []))
+    (answer_text (with_lines r.body ls))
+    (answer_text r.body)
+    (answer_no_longer r.body ls among)
 
 body_within : (body : Body) (ls : List Line) → AreAmong ls (lines_of body) → IsBodyWithin body → IsBodyWithin (with_lines body ls)
 body_within (a_map m) ls among h = h

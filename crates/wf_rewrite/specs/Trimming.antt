@@ -35,10 +35,10 @@ IsShorter body shorter = (ls : List Line) × AreAmong ls (lines_of body) × (sho
 
 -- A report with the same numbers and the same answer and some of the lines of another one, in which the checker finds no
 -- fault. So it is true.
-pub record IsShortened (t : Task) (r shorter : Report) : Type 0 where
-  pub numbers : shorter ≡ with_body r shorter.body
-  pub shorter : IsShorter r.body shorter.body
-  pub faultless : IsFaultless t shorter
+pub record IsShortened (t : Task) (r new : Report) : Type 0 where
+  pub numbers : new ≡ with_body r new.body
+  pub shorter : IsShorter r.body new.body
+  pub faultless : IsFaultless t new
 
 -- the text of such a report
 abbrev pub AreTrimmed : Task → Report → Unit {0} → List ℕ → Type 0
