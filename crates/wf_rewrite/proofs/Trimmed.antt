@@ -1,8 +1,8 @@
 -- What a trimming writes is true and accepted.
-use Rattle.std.proofs.Common.{◌≡◌, ◌≤◌, ℕ, List, length, Option, None, Result, Ok, Err, refl, sym, ap, subst, ◌∙◌, arith}
+use Rattle.std.proofs.Common.{◌≡◌, ◌≤◌, ℕ, List, length, None, Result, Ok, Err, refl, sym, ap, subst, ◌∙◌, arith}
 use Rattle.wf_model.specs.Limits.{most_bytes}
 use Rattle.wf_model.specs.Task.{Task}
-use Rattle.wf_model.specs.Report.{Report, report_about, report_of, report_text}
+use Rattle.wf_model.specs.Report.{Report, report_about, report_text}
 use Rattle.wf_model.proofs.WholeReports.{numbers}
 use Rattle.wf_io.specs.Seen.{Reading, Writing}
 use Rattle.wf_io.specs.Texts.{Gave, ReadsText, Took}
@@ -10,15 +10,13 @@ use Rattle.wf_io.specs.declared.source.ReadFault.{ReadFault}
 use Rattle.wf_report.specs.Grammar.{IsTextOf}
 use Rattle.wf_report.proofs.Lemmas.{read_written, written_read}
 use Rattle.wf_check.specs.Truth.{HoldsOf}
-use Rattle.wf_engine.specs.declared.outcome.Accepted.{Accepted}
 use Rattle.wf_engine.specs.declared.fault.RunFault.{RunFault}
 use Rattle.wf_engine.specs.Run.{Hands, IsTaskOf, Judged, Next, Reads}
 use Rattle.wf_engine.specs.Texts.{text_of_report}
-use Rattle.wf_engine.specs.Verify.{Checks, ChecksFor, ChecksText, IsFaultless, IsReportOf, IsVerifiedFor, accepted_of}
-use Rattle.wf_engine.specs.Headline.{AreAsked, GaveTask, GaveTruth}
-use Rattle.wf_engine.specs.Laws.{Accepts}
+use Rattle.wf_engine.specs.Verify.{Checks, ChecksFor, IsFaultless, IsReportOf, IsVerifiedFor}
+use Rattle.wf_engine.specs.Headline.{AreAsked, GaveTask}
 use Rattle.wf_engine.proofs.Headline.{task_read}
-use Rattle.wf_rewrite.specs.Trimming.{AreTrimmed, IsShortened, Trims}
+use Rattle.wf_rewrite.specs.Trimming.{AreTrimmed, IsShortened}
 use Rattle.wf_rewrite.specs.Trimmed.{IsAcceptedText, IsGoodText, TrimmedReportsAreAccepted}
 use Rattle.wf_rewrite.proofs.Trimming.{no_longer, stays_within}
 use Rattle.wf_rewrite.proofs.Accepting.{accepts_text}
@@ -62,7 +60,7 @@ module _ (task task' cert cert' : Reading) (sink sink' : Writing) where
         shorter = shorter;
         given = gave;
         read = subst (λ x. Gave cert cert' x 0) same gives;
-        few = subst (λ x. length x ≤ most_bytes) same is.1.0;
+        few = subst (λ x. length x ≤ most_bytes) same is.1;
         grammar = (refl, known.1);
         faultless = faultless;
         shortened = shortened;

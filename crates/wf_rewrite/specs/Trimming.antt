@@ -1,5 +1,5 @@
 -- A run over two sources, a task and a report about it, that writes a shorter report.
-use Rattle.std.specs.Prelude.{◌≡◌, List, [], Option, None, Result}
+use Rattle.std.specs.Prelude.{◌≡◌, ℕ, List, [], None, Result}
 use Rattle.wf_model.specs.Task.{Task}
 use Rattle.wf_model.specs.Refutation.{Line}
 use Rattle.wf_model.specs.Report.{Body, Report, a_map, none, least, report_text}
