@@ -3,3 +3,4 @@ pub mod Trimming
 pub mod Shortening
 pub mod Accepting
 pub mod Trimmed
+pub mod Explained

@@ -16,7 +16,7 @@ use Rattle.wf_engine.specs.Texts.{text_of_report}
 use Rattle.wf_engine.specs.Verify.{Checks, ChecksFor, IsFaultless, IsReportOf, IsVerifiedFor}
 use Rattle.wf_engine.specs.Headline.{AreAsked, GaveTask}
 use Rattle.wf_engine.proofs.Headline.{task_read}
-use Rattle.wf_rewrite.specs.Trimming.{AreTrimmed, IsShortened}
+use Rattle.wf_rewrite.specs.Trimming.{AreMade, IsShortened}
 use Rattle.wf_rewrite.specs.Trimmed.{IsAcceptedText, IsGoodText, TrimmedReportsAreAccepted}
 use Rattle.wf_rewrite.proofs.Trimming.{no_longer, stays_within}
 use Rattle.wf_rewrite.proofs.Accepting.{accepts_text}
@@ -24,33 +24,33 @@ use Rattle.wf_rewrite.proofs.Accepting.{accepts_text}
 -- ---- a report without a fault
 
 -- it is about the task and its own rounds
-about : (t : Task) (r : Report) → IsFaultless t r → r ≡ report_about t r.rounds r.body
+pub about : (t : Task) (r : Report) → IsFaultless t r → r ≡ report_about t r.rounds r.body
 about t r faultless =
     let n = numbers t r.rounds r faultless.faultless in
     λ i. record { processes = n.processes i; rounds = r.rounds; points = n.points i; executions = n.executions i; body = r.body }
 
-text_about : (t : Task) (r : Report) → IsFaultless t r → report_text r ≡ text_of_report t r.rounds r.body
+pub text_about : (t : Task) (r : Report) → IsFaultless t r → report_text r ≡ text_of_report t r.rounds r.body
 unfolding text_of_report
 text_about t r faultless = ap report_text (about t r faultless)
 
 -- ---- what was read and written
 
 -- a report that was read and has no fault, and a shorter one that was written
-record IsTold (task task' cert cert' : Reading) (sink sink' : Writing) : Type 0 where
-  t : Task
-  r : Report
-  shorter : Report
-  given : GaveTask task task' t
-  read : Gave cert cert' (report_text r) 0
-  few : length (report_text r) ≤ most_bytes
-  grammar : IsTextOf r (report_text r)
-  faultless : IsFaultless t r
-  shortened : IsShortened t r shorter
-  took : Took sink sink' (report_text shorter) 0
+pub record IsTold (made : Task → Report → List ℕ) (task task' cert cert' : Reading) (sink sink' : Writing) : Type 0 where
+  pub t : Task
+  pub r : Report
+  pub shorter : Report
+  pub given : GaveTask task task' t
+  pub read : Gave cert cert' (report_text r) 0
+  pub few : length (report_text r) ≤ most_bytes
+  pub grammar : IsTextOf r (report_text r)
+  pub faultless : IsFaultless t r
+  pub shortened : IsShortened t r shorter
+  pub took : Took sink sink' (made t shorter) 0
 
-module _ (task task' cert cert' : Reading) (sink sink' : Writing) where
+module _ (made : Task → Report → List ℕ) (task task' cert cert' : Reading) (sink sink' : Writing) where
   of_text : (text : Result (List ℕ) ReadFault) (t : Task) (r shorter : Report) → GaveTask task task' t → ReadsText most_bytes cert cert' text → Judged IsReportOf text (Ok r)
-      → IsFaultless t r → IsShortened t r shorter → Took sink sink' (report_text shorter) 0 → IsTold task task' cert cert' sink sink'
+      → IsFaultless t r → IsShortened t r shorter → Took sink sink' (made t shorter) 0 → IsTold made task task' cert cert' sink sink'
   of_text (Ok text) t r shorter gave (given, gives, is) judged faultless shortened took =
       let known : IsTextOf r text = read_written text r judged in
       let same : given ≡ report_text r = sym is.0 ∙ known.0 in
@@ -69,24 +69,24 @@ module _ (task task' cert cert' : Reading) (sink sink' : Writing) where
   of_text (Err e) t r shorter gave reads judged faultless shortened took = absurd (let bad : ⊥ = cc in bad)
 
   of_report : (text : List ℕ) (t : Task) (r : Result Report RunFault) → GaveTask task task' t → Reads IsReportOf cert cert' r
-      → Next (IsVerifiedFor None AreTrimmed t) r (Ok (tt, text)) → Took sink sink' text 0 → IsTold task task' cert cert' sink sink'
+      → Next (IsVerifiedFor None (AreMade made) t) r (Ok (tt, text)) → Took sink sink' text 0 → IsTold made task task' cert cert' sink sink'
   of_report text t (Ok r) gave (read, reads, judged) (faultless, (shorter, shortened, is)) took =
       of_text read t r shorter gave reads judged faultless shortened (subst (λ x. Took sink sink' x 0) is took)
   of_report text t (Err e) gave reads next took = absurd (let bad : ⊥ = cc in bad)
 
-  of_task : (text : List ℕ) (t : Result Task RunFault) → Reads IsTaskOf task task' t → ChecksFor None AreTrimmed cert cert' t (Ok (tt, text)) → Took sink sink' text 0
-      → IsTold task task' cert cert' sink sink'
+  of_task : (text : List ℕ) (t : Result Task RunFault) → Reads IsTaskOf task task' t → ChecksFor None (AreMade made) cert cert' t (Ok (tt, text)) → Took sink sink' text 0
+      → IsTold made task task' cert cert' sink sink'
   of_task text (Ok t) (read, reads, judged) (r, report, next) took = of_report text t r (task_read task task' read t reads judged) report next took
   of_task text (Err e) reads checks took = absurd (let bad : ⊥ = cc in bad)
 
-  told : (answer : Result (Unit {0} × List ℕ) RunFault) → Checks None AreTrimmed task task' cert cert' answer → Hands sink sink' answer (Ok tt) → IsTold task task' cert cert' sink sink'
-  told (Ok (x, text)) (t, reads, checks) (same, took) = of_task text t reads (subst (λ z. ChecksFor None AreTrimmed cert cert' t (Ok (z, text))) (sym same) checks) took
+  pub told : (answer : Result (Unit {0} × List ℕ) RunFault) → Checks None (AreMade made) task task' cert cert' answer → Hands sink sink' answer (Ok tt) → IsTold made task task' cert cert' sink sink'
+  told (Ok (x, text)) (t, reads, checks) (same, took) = of_task text t reads (subst (λ z. ChecksFor None (AreMade made) cert cert' t (Ok (z, text))) (sym same) checks) took
   told (Err e) checks hands = absurd (let bad : ⊥ = cc in bad)
 
 -- ---- what follows
 
 module _ (t : Task) (r shorter : Report) (few : length (report_text r) ≤ most_bytes) (grammar : IsTextOf r (report_text r)) (is : IsShortened t r shorter) where
-  same_rounds : shorter.rounds ≡ r.rounds
+  pub same_rounds : shorter.rounds ≡ r.rounds
   same_rounds = ap (λ (x : Report). x.rounds) is.numbers
 
   few_bytes : length (report_text shorter) ≤ most_bytes
@@ -110,7 +110,7 @@ module _ (t : Task) (r shorter : Report) (few : length (report_text r) ≤ most_
 
 pub trimmed_accepted : TrimmedReportsAreAccepted
 trimmed_accepted task task' cert cert' sink sink' (answer, checks, hands) =
-    let x = told task task' cert cert' sink sink' answer checks hands in
+    let x = told (λ t r. report_text r) task task' cert cert' sink sink' answer checks hands in
     let given : Gave cert cert' (text_of_report x.t x.r.rounds x.r.body) 0 = subst (λ y. Gave cert cert' y 0) (text_about x.t x.r x.faultless) x.read in (
       x.t,
       x.r.rounds,

@@ -1,3 +1,4 @@
 -- What contracts say, here and in the crates above.
 pub mod Trimming
 pub mod Trimmed
+pub mod Explaining

@@ -40,9 +40,13 @@ pub record IsShortened (t : Task) (r new : Report) : Type 0 where
   pub shorter : IsShorter r.body new.body
   pub faultless : IsFaultless t new
 
--- the text of such a report
+-- the text that is made of such a report
+abbrev pub AreMade : (Task → Report → List ℕ) → Task → Report → Unit {0} → List ℕ → Type 0
+AreMade made t r answer text = (shorter : Report) × IsShortened t r shorter × (text ≡ made t shorter)
+
+-- its text as a report
 abbrev pub AreTrimmed : Task → Report → Unit {0} → List ℕ → Type 0
-AreTrimmed t r answer text = (shorter : Report) × IsShortened t r shorter × (text ≡ report_text shorter)
+AreTrimmed = AreMade (λ t r. report_text r)
 
 -- The report of a source was checked against the task of another one, and such a report was written.
 abbrev pub Trims : Reading → Reading → Reading → Reading → Writing → Writing → Result (Unit {0}) RunFault → Type 0

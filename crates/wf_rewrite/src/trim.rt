@@ -76,7 +76,7 @@ fn trim_report<T: Threads + Sync>(
 ///
 /// The lines that are needed are checked in place of all, unless none was left out; where the checker finds a fault in them,
 /// all are put back.
-fn shortened<T: Threads + Sync>(
+pub(crate) fn shortened<T: Threads + Sync>(
     rt: &T,
     alloc: Global,
     task: &Task,
