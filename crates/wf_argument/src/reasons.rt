@@ -5,6 +5,7 @@ ghost use Rattle.wf_model.specs.Box.{has_at};
 ghost use Rattle.wf_argument.specs.State.{first_gone};
 
 use crate::losses::{Loss, loss_of};
+use std::alloc::AllocError;
 use wf_task::Row;
 
 /// A point that has lost a value.
@@ -43,4 +44,34 @@ pub(crate) fn first_gone(gone: &[Vec<Loss>], points: &[u32], tuple: &[u8]) -> Op
         }
     }
     None
+}
+
+/// Adds a reason in its place, unless it is there.
+pub(crate) fn add_reason(reasons: &mut Vec<Reason>, reason: Reason) -> Result<(), AllocError> {
+    let place = place_in(reasons, &reason);
+    if place < reasons.len() && is_same(&reasons[place], &reason) {
+        return Ok(());
+    }
+    reasons.insert(place, reason)?;
+    Ok(())
+}
+
+/// How many of the reasons come before this one.
+fn place_in(reasons: &[Reason], reason: &Reason) -> usize {
+    for (place, other) in reasons.iter().enumerate() {
+        if !is_before(other, reason) {
+            return place;
+        }
+    }
+    reasons.len()
+}
+
+/// Whether a reason comes before another one: by point, and then by value.
+fn is_before(a: &Reason, b: &Reason) -> bool {
+    a.point < b.point || (a.point == b.point && a.loss.value < b.loss.value)
+}
+
+/// Whether two reasons are of one point and one value.
+fn is_same(a: &Reason, b: &Reason) -> bool {
+    a.point == b.point && a.loss.value == b.loss.value
 }
