@@ -1,4 +1,5 @@
 mod Listing
 mod Margins
 pub mod Reasoning
+mod Trails
 mod Telling

@@ -1,6 +1,7 @@
 -- What contracts say, here and in the crates above.
 pub mod Parts
 pub mod State
+pub mod Trail
 pub mod Text
 -- Worked examples: what the definitions give, by computation.
 pub mod Examples

@@ -31,9 +31,9 @@ has_loss a xs = list_any (λ x. x.value == a) xs
 abbrev pub is_gone : Gone → ℕ → ℕ → Bool
 is_gone gone v a = has_loss a (losses gone v)
 
--- the values that a point has left, ascending
-abbrev pub left_at : Problem → Gone → ℕ → List ℕ
-left_at p gone v = filter (λ a. not (is_gone gone v a)) p.values
+-- those of the values that a point has left
+abbrev pub left_at : List ℕ → Gone → ℕ → List ℕ
+left_at values gone v = filter (λ a. not (is_gone gone v a)) values
 
 abbrev pub with_losses : Gone → ℕ → List Loss → Gone
 with_losses gone v xs = slice_set gone v (losses gone v ++ xs)
@@ -43,8 +43,11 @@ abbrev pub taken : ℕ → ℕ → Gone → ℕ → Gone
 taken n v gone a = if is_gone gone v a then gone else with_losses gone v (record { value = a; step = Some n } ∷ [])
 
 -- a point is supposed to have a value: the others that it has left are gone
-abbrev pub supposed : Problem → Gone → ℕ → ℕ → Gone
-supposed p gone v a = with_losses gone v (map (λ b. record { value = b; step = None }) (filter (λ b. not (b == a)) (left_at p gone v)))
+abbrev pub in_this_case : ℕ → Loss
+in_this_case a = record { value = a; step = None }
+
+abbrev pub supposed : List ℕ → Gone → ℕ → ℕ → Gone
+supposed values gone v a = with_losses gone v (map in_this_case (filter (λ b. not (b == a)) (left_at values gone v)))
 
 -- ---- what a step rests on
 
@@ -111,9 +114,13 @@ pub record State : Type 0 where
 abbrev pub start : Problem → State
 start p = record { number = 1; depth = 0; gone = replicate p.points []; later = [] }
 
+-- the case that a point has this one of the values
+abbrev pub case_of : List ℕ → ℕ → Gone → ℕ → ℕ → Case
+case_of values depth gone v a = record { point = v; value = a; depth = depth; gone = supposed values gone v a }
+
 -- a case for each value that the point has left
-abbrev pub cases_at : Problem → State → ℕ → List Case
-cases_at p s v = map (λ a. record { point = v; value = a; depth = min (suc s.depth) deepest; gone = supposed p s.gone v a }) (left_at p s.gone v)
+abbrev pub cases_at : List ℕ → State → ℕ → List Case
+cases_at values s v = map (case_of values (min (suc s.depth) deepest) s.gone v) (left_at values s.gone v)
 
 -- the first of these cases begins, if there is one; else all is said
 abbrev pub entered : ℕ → List Case → Option State
@@ -128,4 +135,4 @@ after_taking p s e values (Some at) = record s { number = suc s.number; gone = (
 abbrev pub after : Problem → State → Part → Option State
 after p s (takes e c values) = Some (after_taking p s e values (place_of 0 c (constraint_at p e).scope))
 after p s (closes v) = entered s.number s.later
-after p s (splits v) = entered (suc s.number) (cases_at p s v ++ s.later)
+after p s (splits v) = entered (suc s.number) (cases_at p.values s v ++ s.later)

@@ -130,7 +130,7 @@ taking_text p es s e values at =
     indented s.depth (step_text s.number at.1 ++ (codes " is not " ++ (any_text number_text values
     ++ (codes ": in execution " ++ (decimal e ++ (codes ", " ++ (execution_text (slice_get es e) ++ (codes ", "
     ++ (needed_text (points_in k) (flat_map (needed k at.0) values) ++ (reasons_text None done.reasons ++ (codes "."
-    ++ rest_text at.1 (left_at p done.gone at.1))))))))))))
+    ++ rest_text at.1 (left_at p.values done.gone at.1))))))))))))
 
 -- ---- the parts
 
@@ -147,8 +147,8 @@ abbrev pub part_text : Problem → List Execution → State → Part → List �
 part_text p es s (takes e c values) = told_taking p es s e values (place_of 0 c (constraint_at p e).scope)
 part_text p es s (closes v) = indented s.depth (name v ++ codes " has no value left.") ++ case_text s.later
 part_text p es s (splits v) =
-    indented s.depth (step_text s.number v ++ (codes " is " ++ (any_text number_text (left_at p s.gone v) ++ codes ".")))
-    ++ case_text (cases_at p s v ++ s.later)
+    indented s.depth (step_text s.number v ++ (codes " is " ++ (any_text number_text (left_at p.values s.gone v) ++ codes ".")))
+    ++ case_text (cases_at p.values s v ++ s.later)
 
 -- the parts from a state on; what comes after all is said is left out
 abbrev pub parts_text : Problem → List Execution → Option State → List Part → List ℕ

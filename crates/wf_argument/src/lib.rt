@@ -4,12 +4,7 @@
 //! words. [`write_argument`] writes it in one pass over the lines.
 #![tactic(auto)]
 
-mod argument;
-mod executions;
-mod grounds;
 mod losses;
 mod reasons;
 mod state;
 mod words;
-
-pub use argument::write_argument;
