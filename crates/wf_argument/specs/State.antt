@@ -73,23 +73,31 @@ with_reason reasons (Some x) = with_element reason_cmp x reasons
 abbrev pub points_in : Constraint → List ℕ
 points_in k = map (λ at. at.1) k.scope
 
--- the tuples with this value at this place
-abbrev pub needed : Constraint → ℕ → ℕ → List Tuple
-needed k place a = filter (λ tuple. has_at tuple place a) k.tuples
+-- those of the tuples that have this value at this place
+abbrev pub needed : List Tuple → ℕ → ℕ → List Tuple
+needed tuples place a = filter (λ tuple. has_at tuple place a) tuples
 
-abbrev pub with_reasons : Constraint → ℕ → Gone → List Reason → ℕ → List Reason
-with_reasons k place gone reasons a = fold (λ found tuple. with_reason found (first_gone gone (points_in k) tuple)) reasons (needed k place a)
+-- why none of these tuples can be decided at these points
+abbrev pub with_reasons : Gone → List ℕ → List Reason → List Tuple → List Reason
+with_reasons gone points reasons tuples = fold (λ found tuple. with_reason found (first_gone gone points tuple)) reasons tuples
 
 -- step n takes these values in turn from the point at a place of an execution: what is gone then, and the reasons
 pub record Taking : Type 0 where
   pub gone : Gone
   pub reasons : List Reason
 
-abbrev pub take : Constraint → ℕ → ℕ → ℕ → Taking → ℕ → Taking
-take k n place v s a = record { gone = taken n v s.gone a; reasons = with_reasons k place s.gone s.reasons a }
+abbrev pub take : List Tuple → List ℕ → ℕ → ℕ → ℕ → Taking → ℕ → Taking
+take tuples points n place v s a = record {
+  gone = taken n v s.gone a;
+  reasons = with_reasons s.gone points s.reasons (needed tuples place a);
+}
 
-abbrev pub take_each : Constraint → ℕ → ℕ → ℕ → Gone → List ℕ → Taking
-take_each k n place v gone values = fold (take k n place v) (record { gone = gone; reasons = [] }) values
+abbrev pub take_each : List Tuple → List ℕ → ℕ → ℕ → ℕ → Gone → List ℕ → Taking
+take_each tuples points n place v gone values = fold (take tuples points n place v) (record { gone = gone; reasons = [] }) values
+
+-- the same in an execution
+abbrev pub take_in : Constraint → ℕ → ℕ × ℕ → Gone → List ℕ → Taking
+take_in k n at gone values = take_each k.tuples (points_in k) n at.0 at.1 gone values
 
 -- ---- from part to part
 
@@ -129,7 +137,7 @@ entered n (x ∷ later) = Some (record { number = n; depth = x.depth; gone = x.g
 
 abbrev pub after_taking : Problem → State → ℕ → List ℕ → Option (ℕ × ℕ) → State
 after_taking p s e values None = s
-after_taking p s e values (Some at) = record s { number = suc s.number; gone = (take_each (constraint_at p e) s.number at.0 at.1 s.gone values).gone }
+after_taking p s e values (Some at) = record s { number = suc s.number; gone = (take_in (constraint_at p e) s.number at s.gone values).gone }
 
 -- a part that names no participant of an execution is left out
 abbrev pub after : Problem → State → Part → Option State

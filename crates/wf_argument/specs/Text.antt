@@ -14,7 +14,7 @@ use Rattle.wf_model.specs.Check.{place_of}
 use Rattle.wf_model.specs.Refutation.{Line, remove, empty, branch, found}
 use Rattle.wf_argument.specs.declared.reasons.Reason.{Reason}
 use Rattle.wf_argument.specs.Parts.{Part, takes, closes, splits, parts_of}
-use Rattle.wf_argument.specs.State.{Case, State, start, left_at, needed, points_in, take_each, cases_at, after}
+use Rattle.wf_argument.specs.State.{Case, State, start, left_at, needed, points_in, take_in, cases_at, after}
 
 -- ---- words
 
@@ -126,10 +126,10 @@ step_text n v = decimal n ++ (codes ". " ++ name v)
 
 abbrev pub taking_text : Problem → List Execution → State → ℕ → List ℕ → ℕ × ℕ → List ℕ
 taking_text p es s e values at =
-    let k = constraint_at p e in let done = take_each k s.number at.0 at.1 s.gone values in
+    let k = constraint_at p e in let done = take_in k s.number at s.gone values in
     indented s.depth (step_text s.number at.1 ++ (codes " is not " ++ (any_text number_text values
     ++ (codes ": in execution " ++ (decimal e ++ (codes ", " ++ (execution_text (slice_get es e) ++ (codes ", "
-    ++ (needed_text (points_in k) (flat_map (needed k at.0) values) ++ (reasons_text None done.reasons ++ (codes "."
+    ++ (needed_text (points_in k) (flat_map (needed k.tuples at.0) values) ++ (reasons_text None done.reasons ++ (codes "."
     ++ rest_text at.1 (left_at p.values done.gone at.1))))))))))))
 
 -- ---- the parts

@@ -4,6 +4,7 @@
 //! words. [`write_argument`] writes it in one pass over the lines.
 #![tactic(auto)]
 
+mod grounds;
 mod losses;
 mod reasons;
 mod state;

@@ -5,8 +5,9 @@
 
 ghost use Rattle.std.specs.Prelude.{◌≡◌, ◌==◌, ◌<◌, ◌∷◌, ◌++◌, [], suc, filter, length, map, min, not, replicate, take, vec_items, IfOk, OnOk};
 ghost use Rattle.std.specs.List.{slice_set};
+ghost use Rattle.wf_model.specs.Problem.{Problem};
 ghost use Rattle.wf_set.specs.Sets.{values_in};
-ghost use Rattle.wf_argument.specs.State.{case_of, cases_at, deepest, entered, has_loss, in_this_case, left_at, losses, taken, with_losses};
+ghost use Rattle.wf_argument.specs.State.{case_of, cases_at, deepest, entered, has_loss, in_this_case, left_at, losses, start, taken, with_losses};
 ghost use Rattle.wf_argument.specs.Trail.{begun, first_case, losing, state_of, values_of};
 
 use crate::losses::{Loss, loss_of};
@@ -64,6 +65,21 @@ pub(crate) struct State {
 }
 
 impl State {
+    /// The beginning: nothing is gone.
+    pub(crate) fn start(alloc: Global, points: u32, values: Mask) -> Result<State, AllocError>
+        ensures state { (p : Problem) → p.points ≡ points
+            → IfOk result (λ state. state_of state ≡ start p) }
+        ensures values { IfOk result (λ state. values_of state ≡ values_in values) }
+    {
+        Ok(State {
+            number: 1,
+            depth: 0,
+            gone: nothing_gone(alloc, points)?,
+            values,
+            trail: Vec::new(alloc),
+        })
+    }
+
     /// The values that a point has left.
     pub(crate) fn left(&self, point: u32) -> Mask
         ensures { values_in result
@@ -190,6 +206,17 @@ impl State {
         }
         Ok(())
     }
+}
+
+/// No loss at any of so many points.
+fn nothing_gone(alloc: Global, points: u32) -> Result<Vec<Vec<Loss>>, AllocError>
+    ensures { IfOk result (λ gone. map vec_items gone.items ≡ replicate points []) }
+{
+    let mut gone = Vec::new(alloc);
+    for _point in 0..points {
+        gone.push(Vec::new(alloc))?;
+    }
+    Ok(gone)
 }
 
 /// Adds a loss to those of a point.
