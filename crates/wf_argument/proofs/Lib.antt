@@ -1,6 +1,7 @@
 mod Listing
 mod Margins
+mod Places
 pub mod Reasoning
 mod Taking
-mod Trails
 mod Telling
+mod Trails

@@ -1,7 +1,11 @@
 -- What contracts say, here and in the crates above.
 pub mod Parts
 pub mod State
-pub mod Trail
 pub mod Text
+-- What they say of the program's own: what it keeps, and what it is to tell.
+pub mod Places
+pub mod Subject
+pub mod Table
+pub mod Trail
 -- Worked examples: what the definitions give, by computation.
 pub mod Examples

@@ -124,13 +124,19 @@ rest_text v (a ∷ b ∷ more) = []
 abbrev pub step_text : ℕ → ℕ → List ℕ
 step_text n v = decimal n ++ (codes ". " ++ name v)
 
+-- what a step says of the point, and where
+abbrev pub claim_text : ℕ → ℕ → List ℕ → ℕ → List ℕ
+claim_text n v values e = step_text n v ++ (codes " is not " ++ (any_text number_text values ++ (codes ": in execution " ++ (decimal e ++ codes ", "))))
+
+-- the tuples that would be needed at these points, and why none of them can be decided
+abbrev pub grounds_text : List ℕ → List Tuple → List Reason → List ℕ
+grounds_text points tuples reasons = needed_text points tuples ++ (reasons_text None reasons ++ codes ".")
+
 abbrev pub taking_text : Problem → List Execution → State → ℕ → List ℕ → ℕ × ℕ → List ℕ
 taking_text p es s e values at =
     let k = constraint_at p e in let done = take_in k s.number at s.gone values in
-    indented s.depth (step_text s.number at.1 ++ (codes " is not " ++ (any_text number_text values
-    ++ (codes ": in execution " ++ (decimal e ++ (codes ", " ++ (execution_text (slice_get es e) ++ (codes ", "
-    ++ (needed_text (points_in k) (flat_map (needed k.tuples at.0) values) ++ (reasons_text None done.reasons ++ (codes "."
-    ++ rest_text at.1 (left_at p.values done.gone at.1))))))))))))
+    indented s.depth (claim_text s.number at.1 values e ++ (execution_text (slice_get es e) ++ (codes ", "
+    ++ (grounds_text (points_in k) (flat_map (needed k.tuples at.0) values) done.reasons ++ rest_text at.1 (left_at p.values done.gone at.1)))))
 
 -- ---- the parts
 

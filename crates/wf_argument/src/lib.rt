@@ -4,8 +4,12 @@
 //! words. [`write_argument`] writes it in one pass over the lines.
 #![tactic(auto)]
 
+mod executions;
 mod grounds;
 mod losses;
+mod parts;
 mod reasons;
 mod state;
+mod steps;
+mod subject;
 mod words;
