@@ -1,5 +1,6 @@
 mod Listing
 mod Margins
+mod Parting
 mod Places
 pub mod Reasoning
 mod Taking

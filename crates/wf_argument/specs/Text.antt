@@ -149,12 +149,18 @@ abbrev pub told_taking : Problem → List Execution → State → ℕ → List �
 told_taking p es s e values None = []
 told_taking p es s e values (Some at) = taking_text p es s e values at
 
+abbrev pub end_text : State → ℕ → List ℕ
+end_text s v = indented s.depth (name v ++ codes " has no value left.") ++ case_text s.later
+
+abbrev pub split_text : List ℕ → State → ℕ → List ℕ
+split_text values s v =
+    indented s.depth (step_text s.number v ++ (codes " is " ++ (any_text number_text (left_at values s.gone v) ++ codes ".")))
+    ++ case_text (cases_at values s v ++ s.later)
+
 abbrev pub part_text : Problem → List Execution → State → Part → List ℕ
 part_text p es s (takes e c values) = told_taking p es s e values (place_of 0 c (constraint_at p e).scope)
-part_text p es s (closes v) = indented s.depth (name v ++ codes " has no value left.") ++ case_text s.later
-part_text p es s (splits v) =
-    indented s.depth (step_text s.number v ++ (codes " is " ++ (any_text number_text (left_at p.values s.gone v) ++ codes ".")))
-    ++ case_text (cases_at p.values s v ++ s.later)
+part_text p es s (closes v) = end_text s v
+part_text p es s (splits v) = split_text p.values s v
 
 -- the parts from a state on; what comes after all is said is left out
 abbrev pub parts_text : Problem → List Execution → Option State → List Part → List ℕ

@@ -1,16 +1,15 @@
 //! The parts of an argument, one after another.
 
-ghost use Rattle.std.specs.Prelude.{◌≡◌, ◌<◌, ◌≤◌, ◌∷◌, ◌++◌, ◌+◌, ◌^◌, [], List, codes, drop, length, map, string_bytes, Some, None, IfOk, IfSome, OnOk};
-ghost use Rattle.std.specs.Option.{is_some};
-ghost use Rattle.wf_model.specs.Execution.{Execution, executions};
-ghost use Rattle.wf_model.specs.Problem.{Problem, problem_of};
+ghost use Rattle.std.specs.Prelude.{◌≡◌, ◌<◌, ◌≤◌, ◌∷◌, ◌++◌, ◌+◌, ◌^◌, [], codes, suc, drop, length, map, string_bytes, Some, None, IfOk, IfSome, OnOk};
+ghost use Rattle.wf_model.specs.Execution.{executions};
+ghost use Rattle.wf_model.specs.Problem.{problem_of};
 ghost use Rattle.wf_complex.specs.Protocol.{IsProtocol};
 ghost use Rattle.wf_lines.specs.Lines.{line_of};
 ghost use Rattle.wf_set.specs.Sets.{values_in};
-ghost use Rattle.wf_argument.specs.Parts.{closes, parts_of, splits};
-ghost use Rattle.wf_argument.specs.State.{after, start};
+ghost use Rattle.wf_argument.specs.Parts.{parts_of};
+ghost use Rattle.wf_argument.specs.State.{cases_at, entered, start};
 ghost use Rattle.wf_argument.specs.Subject.{IsMatched, after_same, begun_text, executions_in, now_if, one_if, problem_in, same_value, same_values, to_come};
-ghost use Rattle.wf_argument.specs.Text.{part_text, parts_text};
+ghost use Rattle.wf_argument.specs.Text.{any_text, end_text, indented, name, number_text, parts_text, split_text, step_text};
 ghost use Rattle.wf_argument.specs.Trail.{state_of, values_of};
 
 use crate::executions::Executions;
@@ -49,7 +48,8 @@ pub(crate) fn put_lines(
         executions: &executions,
     };
     let mut state = State::start(alloc, protocol.points(), task.values())?;
-    put_parts(alloc, text, &subject, lines, &mut state)
+    put_parts(alloc, text, &subject, lines, &mut state)?;
+    Ok(())
 }
 
 /// Adds the parts that these lines make from a state on, until all is said.
@@ -99,7 +99,8 @@ fn put_part(
         ≡ string_bytes text.old ++ to_come x ls state.old (Some 0)) }
     ensures count { IfOk result (λ count. IfSome count (λ n. 0 < n)) }
     ensures lines { IfOk result (λ count. IfSome count (λ n. n ≤ length lines.now)) }
-    ensures number { OnOk result (state.new.number ≤ state.old.number + 1) }
+    ensures number { IfOk result (λ count.
+        IfSome count (λ _. state.new.number ≤ state.old.number + 1)) }
     ensures values { state.new.values ≡ state.old.values }
 {
     match lines[0] {
@@ -174,16 +175,26 @@ fn value_of(line: &Line, of: u32, from: u8) -> Option<u8>
 
 /// Adds that a point has no value left, and the case that begins then. Answers whether one does.
 fn put_end(text: &mut String, point: u32, state: &mut State) -> Result<bool, AllocError>
-    ensures text { (p : Problem) (es : List Execution) → OnOk result (string_bytes text.new
-        ≡ string_bytes text.old ++ part_text p es (state_of state.old) (closes point)) }
-    ensures state { (p : Problem) → IfOk result (λ is_going.
-        now_if is_going state.new ≡ after p (state_of state.old) (closes point)) }
+    ensures text { let s = state_of state.old in
+        OnOk result (string_bytes text.new ≡ string_bytes text.old ++ end_text s point) }
+    ensures state { let s = state_of state.old in
+        IfOk result (λ is_going. now_if is_going state.new ≡ entered s.number s.later) }
     ensures values { state.new.values ≡ state.old.values }
 {
-    put_margin(text, state.depth)?;
-    writeln!(text, "v{point} has no value left.")?;
+    put_emptied(text, state.depth, point)?;
     let case = state.next()?;
-    put_case(text, case)
+    put_case(text, case)?;
+    Ok(case.is_some())
+}
+
+/// Adds that a point has no value left.
+fn put_emptied(text: &mut String, depth: u8, point: u32) -> Result<(), AllocError>
+    ensures { OnOk result (string_bytes text.new ≡ string_bytes text.old
+        ++ indented depth (name point ++ codes " has no value left.")) }
+{
+    put_margin(text, depth)?;
+    writeln!(text, "v{point} has no value left.")?;
+    Ok(())
 }
 
 /// Adds the cases of a point, of which the first begins. Answers whether one does.
@@ -194,22 +205,38 @@ fn put_split(
     values: &mut Vec<u8>,
 ) -> Result<bool, AllocError>
     requires { state.old.number + 1 < 2 ^ 64 }
-    ensures text { (p : Problem) (es : List Execution) → values_of state.old ≡ p.values
-        → OnOk result (string_bytes text.new
-        ≡ string_bytes text.old ++ part_text p es (state_of state.old) (splits point)) }
-    ensures state { (p : Problem) → values_of state.old ≡ p.values → IfOk result (λ is_going.
-        now_if is_going state.new ≡ after p (state_of state.old) (splits point)) }
+    ensures text { let s = state_of state.old in OnOk result (string_bytes text.new
+        ≡ string_bytes text.old ++ split_text (values_of state.old) s point) }
+    ensures state { let s = state_of state.old in
+        let cases = cases_at (values_of state.old) s point ++ s.later in
+        IfOk result (λ is_going. now_if is_going state.new ≡ entered (suc s.number) cases) }
     ensures values { state.new.values ≡ state.old.values }
 {
     list_values(values, state.left(point))?;
-    put_margin(text, state.depth)?;
-    let number = state.number;
+    put_choice(text, state.depth, state.number, point, values)?;
+    state.number += 1;
+    let case = state.split(point)?;
+    put_case(text, case)?;
+    Ok(case.is_some())
+}
+
+/// Adds the step of a number, that a point has one of these values.
+fn put_choice(
+    text: &mut String,
+    depth: u8,
+    number: usize,
+    point: u32,
+    values: &[u8],
+) -> Result<(), AllocError>
+    ensures { OnOk result (string_bytes text.new ≡ string_bytes text.old
+        ++ indented depth (step_text number point
+        ++ (codes " is " ++ (any_text number_text values.now ++ codes ".")))) }
+{
+    put_margin(text, depth)?;
     write!(text, "{number}. v{point} is ")?;
     put_any(text, values)?;
     writeln!(text, ".")?;
-    state.number += 1;
-    let case = state.split(point)?;
-    put_case(text, case)
+    Ok(())
 }
 
 /// The values of a set, ascending.
@@ -226,10 +253,9 @@ fn list_values(values: &mut Vec<u8>, set: Mask) -> Result<(), AllocError>
     Ok(())
 }
 
-/// Adds what a case supposes, if one has begun. Answers whether one has.
-fn put_case(text: &mut String, case: Option<Case>) -> Result<bool, AllocError>
-    ensures text { OnOk result (string_bytes text.new ≡ string_bytes text.old ++ begun_text case) }
-    ensures going { IfOk result (λ is_going. is_going ≡ is_some case) }
+/// Adds what a case supposes, if one has begun.
+fn put_case(text: &mut String, case: Option<Case>) -> Result<(), AllocError>
+    ensures { OnOk result (string_bytes text.new ≡ string_bytes text.old ++ begun_text case) }
 {
     let Some(Case {
         point,
@@ -237,9 +263,9 @@ fn put_case(text: &mut String, case: Option<Case>) -> Result<bool, AllocError>
         depth,
     }) = case
     else {
-        return Ok(false);
+        return Ok(());
     };
     put_margin(text, depth)?;
     writeln!(text, "Case v{point} = {value}")?;
-    Ok(true)
+    Ok(())
 }
