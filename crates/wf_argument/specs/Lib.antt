@@ -2,5 +2,6 @@
 pub mod Parts
 pub mod State
 pub mod Text
+pub mod Table
 -- Worked examples: what the definitions give, by computation.
 pub mod Examples
