@@ -1,3 +1,4 @@
+pub mod ExecutionPlaces
 mod Listing
 mod Margins
 mod Parting

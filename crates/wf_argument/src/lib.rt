@@ -1,5 +1,7 @@
 //! An argument that a person can read, that a task has no decision map after some rounds: the lines of a refutation in words.
 //!
+//! - [`Executions`]: the executions of a task in words.
+//!
 //! `specs/` says what it is: `Parts`, which lines go together; `State`, what is gone after some of them and why; and `Text`, the
 //! words. [`write_argument`] writes it in one pass over the lines.
 #![tactic(auto)]
@@ -13,3 +15,5 @@ mod state;
 mod steps;
 mod subject;
 mod words;
+
+pub use executions::Executions;
