@@ -1,5 +1,5 @@
 -- Part by part: what is told, and what is still to come.
-use Rattle.std.proofs.Common.{◌≡◌, ℕ, zero, suc, ◌+◌, ◌<◌, ◌≤◌, ◌==◌, ◌&&◌, ◌++◌, List, [], ◌∷◌, drop, map, length, get_or, Bool, true, false, cond, Option, Some, None, IfSome, append_assoc, refl, sym, ap, ◌∙◌, arith}
+use Rattle.std.proofs.Common.{◌≡◌, ℕ, ◌<◌, ◌≤◌, ◌==◌, ◌&&◌, ◌++◌, List, [], ◌∷◌, drop, map, length, get_or, Bool, true, false, cond, Option, Some, None, IfSome, append_assoc, refl, sym, ap, ◌∙◌, arith}
 use Rattle.std.specs.Option.{is_some}
 use Rattle.std.proofs.lemmas.Bool.{eqb-true, and_parts}
 use Rattle.wf_model.specs.Execution.{Execution}
@@ -8,12 +8,12 @@ use Rattle.wf_model.specs.Refutation as refutation
 use Rattle.wf_model.specs.Refutation.{remove, empty, branch, found}
 use Rattle.wf_lines.specs.Lines.{line_of}
 use Rattle.wf_lines.specs.declared.line.Line.{Line}
-use Rattle.wf_argument.specs.Parts.{Part, takes, closes, splits, before_parts, parts_of}
+use Rattle.wf_argument.specs.Parts.{Part, takes, before_parts, parts_of}
 use Rattle.wf_argument.specs.State as state
 use Rattle.wf_argument.specs.State.{Case, after, entered}
-use Rattle.wf_argument.specs.Subject.{after_same, and_values, begun_text, executions_in, now_if, one_if, or_lines, problem_in, same_value, same_values, to_come}
+use Rattle.wf_argument.specs.Subject.{after_same, and_values, begun_text, executions_in, now_if, one_if, or_lines, problem_in, same_values, to_come}
 use Rattle.wf_argument.specs.Text.{case_text, part_text, parts_text}
-use Rattle.wf_argument.specs.Trail.{begun, first_case, state_of}
+use Rattle.wf_argument.specs.Trail.{begun, first_case}
 use Rattle.wf_argument.specs.declared.state.Case as trail
 use Rattle.wf_argument.specs.declared.state.State.{State}
 use Rattle.wf_argument.specs.declared.subject.Subject.{Subject}

@@ -1,5 +1,5 @@
 -- Where a process stands in an execution, and what is said of a step there.
-use Rattle.std.proofs.Common.{◌≡◌, ℕ, zero, suc, ◌+◌, ◌-◌, ◌<◌, ◌≤◌, ◌==◌, ◌++◌, append-nil, List, [], ◌∷◌, map, flat_map, zip, length, get_or, Bool, true, false, cond, Option, Some, None, option_map, slice_get, refl, sym, ap, ◌∙◌, arith, codes}
+use Rattle.std.proofs.Common.{◌≡◌, ℕ, suc, ◌-◌, ◌<◌, ◌≤◌, ◌==◌, ◌++◌, append-nil, List, [], ◌∷◌, map, flat_map, zip, length, get_or, Bool, true, false, cond, Some, None, option_map, slice_get, refl, sym, ap, ◌∙◌, arith, codes}
 use Rattle.std.specs.List.{slice_index_or}
 use Rattle.std.proofs.lemmas.List.{length-map, get_or_past}
 use Rattle.std.proofs.lemmas.Slice.Zip.{seconds-zip}

@@ -1,5 +1,5 @@
 -- A step that takes values in turn.
-use Rattle.std.proofs.Common.{◌≡◌, ℕ, ◌+◌, ◌<◌, List, [], ◌∷◌, ◌++◌, drop, flat_map, fold, get_or, length, append_assoc, sym, ap, ◌∙◌}
+use Rattle.std.proofs.Common.{◌≡◌, ℕ, ◌+◌, ◌<◌, List, ◌++◌, drop, flat_map, fold, get_or, length, append_assoc, sym, ap, ◌∙◌}
 use Rattle.std.proofs.lemmas.List.{drop_more}
 use Rattle.wf_model.specs.Task.{Tuple}
 use Rattle.wf_argument.specs.State.{Gone, State, Taking, needed, take, taken, with_reasons}

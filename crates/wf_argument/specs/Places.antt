@@ -1,5 +1,5 @@
 -- Where a process stands in an execution, by what the program looks up.
-use Rattle.std.specs.Prelude.{◌≡◌, ◌<◌, ℕ, suc, ◌==◌, List, [], ◌∷◌, Option, Some, None, slice_index, if◌then◌else◌}
+use Rattle.std.specs.Prelude.{ℕ, suc, ◌==◌, List, [], ◌∷◌, Option, Some, None, if◌then◌else◌}
 
 -- the place of the process in a list whose first place has this number
 abbrev pub place_in : ℕ → ℕ → List ℕ → Option ℕ

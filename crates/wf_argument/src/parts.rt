@@ -257,11 +257,13 @@ fn list_values(values: &mut Vec<u8>, set: Mask) -> Result<(), AllocError>
 fn put_case(text: &mut String, case: Option<Case>) -> Result<(), AllocError>
     ensures { OnOk result (string_bytes text.new ≡ string_bytes text.old ++ begun_text case) }
 {
-    let Some(Case {
-        point,
-        value,
-        depth,
-    }) = case
+    let Some(
+        Case {
+            point,
+            value,
+            depth,
+        },
+    ) = case
     else {
         return Ok(());
     };

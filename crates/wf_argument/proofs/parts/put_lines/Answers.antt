@@ -1,4 +1,4 @@
-use Rattle.std.proofs.Common.{◌≡◌, ◌++◌, Some, length, map, string_bytes, ap, sym, ◌∙◌}
+use Rattle.std.proofs.Common.{◌++◌, Some, length, map, string_bytes, ap, sym, ◌∙◌}
 use Rattle.wf_model.specs.Execution.{executions}
 use Rattle.wf_model.specs.Problem.{problem_of}
 use Rattle.wf_lines.specs.Lines.{line_of}

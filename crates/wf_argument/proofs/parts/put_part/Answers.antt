@@ -1,13 +1,13 @@
-use Rattle.std.proofs.Common.{◌≡◌, ◌≤◌, ◌∷◌, ◌++◌, suc, Some, drop, map, string_bytes, refl, sym, ap, ◌∙◌, arith}
+use Rattle.std.proofs.Common.{◌∷◌, ◌++◌, suc, Some, drop, map, string_bytes, sym, ap, ◌∙◌}
 use Rattle.wf_model.specs.Check.{place_of}
 use Rattle.wf_model.specs.Problem.{constraint_at}
 use Rattle.wf_lines.specs.Lines.{line_of}
 use Rattle.wf_argument.specs.Parts.{takes, closes, splits, parts_of}
 use Rattle.wf_argument.specs.State.{after_taking, cases_at, entered}
 use Rattle.wf_argument.specs.Subject.{executions_in, problem_in, same_values, to_come}
-use Rattle.wf_argument.specs.Text.{parts_text, split_text, told_taking}
+use Rattle.wf_argument.specs.Text.{split_text, told_taking}
 use Rattle.wf_argument.specs.Trail.{state_of}
-use Rattle.wf_argument.proofs.Parting.{after_one, first_line, number_after, one_run, told_part}
+use Rattle.wf_argument.proofs.Parting.{after_one, first_line, one_run, told_part}
 use Rattle.wf_argument.proofs.parts.put_part.Goals as goal
 
 pub returns-in_ok-put_taking-in-Remove-clause-text : goal.returns-in_ok-put_taking-in-Remove-clause-text

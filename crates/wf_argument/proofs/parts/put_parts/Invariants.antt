@@ -8,7 +8,7 @@ invariant-parts l = record {
   text : string_bytes l.text ++ to_come l.subject l.lines l.state (Some l.told) ≡ string_bytes l.initial.text ++ to_come l.subject l.lines l.initial.state (Some 0);
   number : l.state.number ≤ l.told + 1;
   within : l.told ≤ length l.lines;
-  values : values_of l.state ≡ (problem_in l.subject).values
+  values : values_of l.state ≡ (problem_in l.subject).values;
 }
 
 abbrev pub decreases-parts : goal.decreases-parts

@@ -2,7 +2,7 @@ use Rattle.std.proofs.Common.{◌≡◌, ℕ, suc, ◌+◌, ◌<◌, ◌++◌, L
 use Rattle.std.proofs.lemmas.Option.{slice_get_within}
 use Rattle.wf_set.specs.Sets.{values_in}
 use Rattle.wf_complex.proofs.Lemmas.{rule_inside}
-use Rattle.wf_argument.specs.State.{State, after_taking, left_at, take_each}
+use Rattle.wf_argument.specs.State.{State, after_taking, left_at}
 use Rattle.wf_argument.specs.Subject.{executions_in, problem_in}
 use Rattle.wf_argument.specs.Text.{claim_text, execution_text, grounds_text, indented, rest_text}
 use Rattle.wf_argument.specs.Trail.{state_of}
@@ -55,7 +55,7 @@ returns-clause-text c =
     let taken = c.in_ok-take_each.ensures in
     let inside : e < length b.scopes = omega (arith, c.if-execution-executions.false, c.executions.ensures.executions) in
     let found = there x.task.now b.rounds b e c.simplex_of-number.result c.args.process place points tuples c.requires.subject.protocol inside c.simplex_of-number.ensures
-        c.points_of-points.ensures c.tuples-tuples.ensures (sym c.place_of.ensures ∙ c.in-Some.is) in
+    c.points_of-points.ensures c.tuples-tuples.ensures (sym c.place_of.ensures ∙ c.in-Some.is) in
     let line : State → List ℕ → List ℕ = λ s all. string_bytes c.args.text.now ++ indented s.depth (claim_text s.number v values e ++ (execution_text (slice_get es e) ++ (codes ", " ++ (grounds_text points noted why ++ rest_text v (left_at all s.gone v))))) in
     let same = ap values_in taken.values ∙ c.requires.values in
     c.in_ok-put_step.ensures
@@ -71,7 +71,7 @@ returns-clause-state c =
     let after = c.take_each.new.state in
     let inside : e < length b.scopes = omega (arith, c.if-execution-executions.false, c.executions.ensures.executions) in
     let found = there x.task.now b.rounds b e c.simplex_of-number.result c.args.process place points tuples c.requires.subject.protocol inside c.simplex_of-number.ensures
-        c.points_of-points.ensures c.tuples-tuples.ensures (sym c.place_of.ensures ∙ c.in-Some.is) in
+    c.points_of-points.ensures c.tuples-tuples.ensures (sym c.place_of.ensures ∙ c.in-Some.is) in
     let one : after.number + 1 ≡ suc after.number = omega arith in
     let next : State → State = λ s. record s { number = suc s.number } in
     let with_number : ℕ → State = λ n. record (state_of after) { number = n } in

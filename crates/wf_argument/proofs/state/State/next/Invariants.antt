@@ -6,7 +6,7 @@ abbrev pub invariant-back : goal.invariant-back
 invariant-back l = record {
   later : (state_of l.self).later ≡ (state_of l.initial.self).later;
   number : l.self.number ≡ l.initial.self.number;
-  values : l.self.values ≡ l.initial.self.values
+  values : l.self.values ≡ l.initial.self.values;
 }
 
 abbrev pub decreases-back : goal.decreases-back

@@ -7,7 +7,7 @@ use Rattle.wf_argument.proofs.state.State.suppose.Given as goal
 abbrev pub invariant-lost : goal.invariant-lost
 invariant-lost l = record {
   state : losing (state_of l.self) l.point (map in_this_case (values_in l.left)) ≡ losing (state_of l.initial.self) l.point (map in_this_case (values_in l.initial.left));
-  values : l.self.values ≡ l.initial.self.values
+  values : l.self.values ≡ l.initial.self.values;
 }
 
 abbrev pub decreases-lost : goal.decreases-lost
