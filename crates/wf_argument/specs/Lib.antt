@@ -7,5 +7,6 @@ pub mod Places
 pub mod Subject
 pub mod Table
 pub mod Trail
+pub mod Used
 -- Worked examples: what the definitions give, by computation.
 pub mod Examples

@@ -10,10 +10,13 @@ mod executions;
 mod grounds;
 mod losses;
 mod parts;
+mod points;
 mod reasons;
 mod state;
 mod steps;
 mod subject;
+mod title;
+mod used;
 mod words;
 
 pub use executions::Executions;
