@@ -7,3 +7,4 @@ pub mod Reasoning
 mod Taking
 mod Telling
 mod Trails
+mod Usage

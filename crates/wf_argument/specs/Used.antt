@@ -33,6 +33,10 @@ is_named scopes v found = false
 abbrev pub marked_text : Bool → List Bool → ℕ → List View → List ℕ
 marked_text ranks marks n views = flat_map (point_text ranks) (filter (λ at. slice_index_or marks at.0 false) (enumerate_from n views))
 
+abbrev pub told_if : Bool → List ℕ → List ℕ
+told_if true text = text
+told_if false text = []
+
 -- ---- steps
 
 -- the process and the execution that a line takes a value from
@@ -70,7 +74,9 @@ more_steps before (l ∷ ls) = if is_end l then 0 else one_more (begins before l
 
 -- ---- the title
 
+abbrev pub usage_of : ℕ → ℕ → List ℕ
+usage_of used executions = codes " over " ++ (decimal used ++ (codes " of " ++ (counted executions (codes "execution") ++ codes ".\n\n")))
+
 abbrev pub title_of : ℕ → ℕ → ℕ → ℕ → List ℕ
 title_of rounds steps used executions =
-    codes "No decision map after " ++ (counted rounds (codes "round") ++ (codes ": " ++ (counted steps (codes "step")
-    ++ (codes " over " ++ (decimal used ++ (codes " of " ++ (counted executions (codes "execution") ++ codes ".\n\n")))))))
+    codes "No decision map after " ++ (counted rounds (codes "round") ++ (codes ": " ++ (counted steps (codes "step") ++ usage_of used executions)))

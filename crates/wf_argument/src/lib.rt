@@ -6,6 +6,7 @@
 //! words. [`write_argument`] writes it in one pass over the lines.
 #![tactic(auto)]
 
+mod argument;
 mod executions;
 mod grounds;
 mod losses;
@@ -19,4 +20,5 @@ mod title;
 mod used;
 mod words;
 
+pub use argument::write_argument;
 pub use executions::Executions;

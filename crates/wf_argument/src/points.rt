@@ -4,7 +4,7 @@ ghost use Rattle.std.specs.Prelude.{◌≡◌, ◌<◌, ◌++◌, codes, length,
 ghost use Rattle.std.specs.List.{slice_index_or};
 ghost use Rattle.wf_model.specs.View.{base};
 ghost use Rattle.wf_argument.specs.Text.{point_text};
-ghost use Rattle.wf_argument.specs.Used.{marked_text};
+ghost use Rattle.wf_argument.specs.Used.{marked_text, told_if};
 
 use crate::words::put_view;
 use std::alloc::AllocError;
@@ -23,9 +23,25 @@ pub(crate) fn put_points(
         ++ marked_text ranks marks.now 0 protocol.now.points) }
 {
     for point in 0..protocol.points() {
-        if marks[point as usize] {
-            put_point(text, protocol, ranks, point)?;
-        }
+        put_if(text, protocol, ranks, point, marks[point as usize])?;
+    }
+    Ok(())
+}
+
+/// Adds what a point is, if it is marked.
+fn put_if(
+    text: &mut String,
+    protocol: &Protocol,
+    ranks: bool,
+    point: u32,
+    is_marked: bool,
+) -> Result<(), AllocError>
+    requires { point < length protocol.now.points }
+    ensures { OnOk result (string_bytes text.new ≡ string_bytes text.old ++ told_if is_marked
+        (point_text ranks (point, slice_index_or protocol.now.points point (base 0 0)))) }
+{
+    if is_marked {
+        put_point(text, protocol, ranks, point)?;
     }
     Ok(())
 }

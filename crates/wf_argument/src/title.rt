@@ -4,7 +4,7 @@ ghost use Rattle.std.specs.Prelude.{◌≡◌, ◌++◌, OnOk, count_by, map, st
 ghost use Rattle.wf_lines.specs.Lines.{line_of};
 ghost use Rattle.wf_argument.specs.Parts.{parts_of};
 ghost use Rattle.wf_argument.specs.Text.{is_step};
-ghost use Rattle.wf_argument.specs.Used.{begins, is_end, is_run, run_of, title_of};
+ghost use Rattle.wf_argument.specs.Used.{begins, is_end, is_run, run_of, title_of, usage_of};
 
 use crate::words::put_count;
 use std::alloc::AllocError;
@@ -33,6 +33,15 @@ pub(crate) fn put_title(
     put_count(text, rounds as usize, "round")?;
     write!(text, ": ")?;
     put_count(text, steps, "step")?;
+    put_usage(text, used, executions)?;
+    Ok(())
+}
+
+/// Adds how many of the executions are used.
+fn put_usage(text: &mut String, used: usize, executions: u32) -> Result<(), AllocError>
+    ensures { OnOk result (string_bytes text.new
+        ≡ string_bytes text.old ++ usage_of used executions) }
+{
     write!(text, " over {used} of ")?;
     put_count(text, executions as usize, "execution")?;
     write!(text, ".\n\n")?;
