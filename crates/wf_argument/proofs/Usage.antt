@@ -5,7 +5,7 @@ use Rattle.std.specs.Option.{unwrap_or}
 use Rattle.std.proofs.lemmas.List.{drop_all, drop_more, length-map}
 use Rattle.std.proofs.lemmas.List.Sums.{sum_by-cons}
 use Rattle.wf_model.specs.Lists.{below, has}
-use Rattle.wf_model.specs.Problem.{Problem, Constraint, Participant, constraint_at, no_constraint, problem_of}
+use Rattle.wf_model.specs.Problem.{Problem, Constraint, Participant, no_constraint, problem_of}
 use Rattle.wf_model.specs.Refutation as refutation
 use Rattle.wf_model.specs.Refutation.{remove, empty, branch, found}
 use Rattle.wf_model.specs.View.{View}

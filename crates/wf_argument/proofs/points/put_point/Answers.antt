@@ -1,4 +1,4 @@
-use Rattle.std.proofs.Common.{◌++◌, decimal, string_bytes, sym, ap, ◌∙◌}
+use Rattle.std.proofs.Common.{◌++◌, decimal, string_bytes, ap, ◌∙◌}
 use Rattle.wf_model.specs.PointsText.{view_text}
 use Rattle.wf_model.specs.View.{base}
 use Rattle.wf_view.specs.Views.{view_at}

@@ -7,5 +7,5 @@ use Rattle.wf_argument.proofs.used.used_points.Given as goal
 abbrev pub invariant-loop-line : goal.invariant-loop-line
 invariant-loop-line l = record {
   long : length l.marks.items ≡ length l.protocol.points;
-  each : (k : ℕ) → k < length l.protocol.points → (get_or l.marks.items k false || list_any (is_named l.protocol.scopes k) (map line_of (drop l.line-index l.lines))) ≡ list_any (is_named l.protocol.scopes k) (map line_of l.lines)
+  each : (k : ℕ) → k < length l.protocol.points → (get_or l.marks.items k false || list_any (is_named l.protocol.scopes k) (map line_of (drop l.line-index l.lines))) ≡ list_any (is_named l.protocol.scopes k) (map line_of l.lines);
 }
