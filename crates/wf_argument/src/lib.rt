@@ -1,9 +1,24 @@
 //! An argument that a person can read, that a task has no decision map after some rounds: the lines of a refutation in words.
 //!
+//! - [`Executions`]: the executions of a task in words.
+//!
 //! `specs/` says what it is: `Parts`, which lines go together; `State`, what is gone after some of them and why; and `Text`, the
-//! words.
+//! words. [`write_argument`] writes it in one pass over the lines.
 #![tactic(auto)]
 
+mod argument;
+mod executions;
+mod grounds;
 mod losses;
+mod parts;
+mod points;
 mod reasons;
+mod state;
+mod steps;
+mod subject;
+mod title;
+mod used;
 mod words;
+
+pub use argument::write_argument;
+pub use executions::Executions;
