@@ -1,5 +1,6 @@
 pub mod ExecutionPlaces
 mod Listing
 mod Margins
+mod Pieces
 pub mod Reasoning
 mod Telling

@@ -3,5 +3,6 @@ pub mod Parts
 pub mod State
 pub mod Text
 pub mod Table
+pub mod Listing
 -- Worked examples: what the definitions give, by computation.
 pub mod Examples
