@@ -3,6 +3,7 @@ mod Listing
 mod Margins
 mod Parting
 mod Places
+mod Pieces
 pub mod Reasoning
 mod Taking
 mod Telling

@@ -8,5 +8,6 @@ pub mod Subject
 pub mod Table
 pub mod Trail
 pub mod Used
+pub mod Listing
 -- Worked examples: what the definitions give, by computation.
 pub mod Examples

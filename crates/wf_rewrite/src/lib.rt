@@ -1,16 +1,20 @@
-//! Engines that read a report about a task, check it, and write another text that follows from it.
+//! Engines that write another text that follows from a report about a task, or from a task.
 //!
-//! Each checks the report exactly as `verify` does, with the same refusals in the same order, before it makes anything of it.
+//! Those that read a report check it exactly as `verify` does, with the same refusals in the same order, before they make anything
+//! of it.
 //!
 //! - [`run_trim`]: the report with the lines that are needed out.
 //! - [`run_explain`]: the report in words out.
+//! - [`run_executions`]: a task's text in, and its executions in words out.
 #![tactic(auto)]
 
+mod executions;
 mod explain;
 mod explain_laws;
 mod trim;
 mod trim_laws;
 
+pub use executions::run_executions;
 pub use explain::run_explain;
 pub use explain_laws::{explaining_is_counted, explanations_are_true};
 pub use trim::run_trim;
