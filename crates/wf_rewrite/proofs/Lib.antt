@@ -1,0 +1,4 @@
+pub mod WasRead
+pub mod LiftSteps
+pub mod LiftTruth
+pub mod LiftCounts

@@ -1,0 +1,43 @@
+-- The steps of a lifting: from a report that is accepted to the report of the lifted map.
+use Rattle.std.proofs.Common.{◌≡◌, ◌≤◌, ℕ, ◌-◌, List, length, Result, Ok, Err, refl, sym, ap, subst, ◌∙◌}
+use Rattle.std.proofs.lemmas.List.{length-map}
+use Rattle.wf_model.specs.Task.{Task}
+use Rattle.wf_model.specs.View.{View}
+use Rattle.wf_model.specs.Points.{points}
+use Rattle.wf_model.specs.DecisionMap.{listed}
+use Rattle.wf_model.specs.Refutation.{Line}
+use Rattle.wf_model.specs.Report.{Report, a_map, least, report_about, report_text}
+use Rattle.wf_complex.specs.Protocol.{Built, Builds, IsProtocol}
+use Rattle.wf_report.specs.declared.report.Header.{Header}
+use Rattle.wf_report.specs.Reports.{IsHeaderOf, with_header}
+use Rattle.wf_check.specs.Truth.{HoldsOf}
+use Rattle.wf_lift.specs.Lift.{AreLifted, lifted_by}
+use Rattle.wf_engine.specs.Texts.{text_of_report}
+use Rattle.wf_engine.specs.Verify.{IsFaultless}
+use Rattle.wf_rewrite.specs.Lifting.{LiftsMap}
+
+-- the complex is that of its own rounds
+pub own_rounds : (t : Task) (r : ℕ) (b : Built) → Builds t r (Ok b) → Builds t b.rounds (Ok b)
+own_rounds t r b built = subst (λ n. Builds t n (Ok b)) (sym built.2.rounds_are) built
+
+-- the complex of a report that is accepted
+pub judged_built : (t : Task) (r : Report) (b : Built) → IsFaultless t r → IsProtocol t r.rounds b → Builds t r.rounds (Ok b)
+judged_built t r b faultless is = let within = faultless.within in (within.1.0, within.1.1, is)
+
+-- the least map is a map
+pub as_map : (t : Task) (r : ℕ) (m : List ℕ) (ls : List Line) → HoldsOf t r (least m ls) → HoldsOf t r (a_map m)
+as_map t r m ls (f, is_least, same) = (f, is_least.decides, same)
+
+-- a map has a value for each point
+pub map_long : (t : Task) (r : ℕ) (b : Built) (m : List ℕ) → IsProtocol t r b → HoldsOf t r (a_map m) → length m ≡ length b.points
+map_long t r b m is (f, decides, same) = ap length (sym same) ∙ length-map (points t r) f ∙ ap length (sym is.points_are)
+
+-- the report of the lifted values is that of the lifted map
+pub lifted_report : (t : Task) (r more : ℕ) (values lifted : List ℕ) (b : Built) (header : Header) (text : List ℕ) → HoldsOf t r (a_map values) → Builds t more (Ok b) → AreLifted t r b.rounds values lifted
+    → IsHeaderOf t b.rounds header → text ≡ report_text (with_header header (a_map lifted)) → LiftsMap t r more values (Ok (tt, text))
+unfolding text_of_report
+lifted_report t r more values lifted b header text (f, decides, same) built are about is =
+    ((b, built), f, decides, same, is
+    ∙ ap report_text (about (a_map lifted))
+    ∙ ap (λ m. report_text (report_about t b.rounds (a_map m))) (sym (are f same))
+    ∙ ap (λ n. report_text (report_about t n (a_map (listed t n (lifted_by t (n - r) f))))) built.2.rounds_are)
