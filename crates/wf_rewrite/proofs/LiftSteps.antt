@@ -1,11 +1,12 @@
 -- The steps of a lifting: from a report that is accepted to the report of the lifted map.
-use Rattle.std.proofs.Common.{◌≡◌, ◌≤◌, ℕ, ◌-◌, List, length, Result, Ok, Err, refl, sym, ap, subst, ◌∙◌}
+use Rattle.std.proofs.Common.{◌≡◌, ◌≤◌, ℕ, ◌-◌, List, length, Option, Result, Ok, Err, Vec, refl, sym, ap, subst, ◌∙◌, arith}
 use Rattle.std.proofs.lemmas.List.{length-map}
 use Rattle.wf_model.specs.Task.{Task}
 use Rattle.wf_model.specs.View.{View}
 use Rattle.wf_model.specs.Points.{points}
 use Rattle.wf_model.specs.DecisionMap.{listed}
 use Rattle.wf_model.specs.Refutation.{Line}
+use Rattle.wf_model.specs.Limits.{most_rounds}
 use Rattle.wf_model.specs.Report.{Report, a_map, least, report_about, report_text}
 use Rattle.wf_complex.specs.Protocol.{Built, Builds, IsProtocol}
 use Rattle.wf_report.specs.declared.report.Header.{Header}
@@ -13,8 +14,12 @@ use Rattle.wf_report.specs.Reports.{IsHeaderOf, with_header}
 use Rattle.wf_check.specs.Truth.{HoldsOf}
 use Rattle.wf_lift.specs.Lift.{AreLifted, lifted_by}
 use Rattle.wf_engine.specs.Texts.{text_of_report}
-use Rattle.wf_engine.specs.Verify.{IsFaultless}
-use Rattle.wf_rewrite.specs.Lifting.{LiftsMap}
+use Rattle.wf_engine.specs.Run.{answered}
+use Rattle.wf_engine.specs.Verify.{IsFaultless, Judges}
+use Rattle.wf_engine.specs.declared.fault.RunFault.{RunFault}
+use Rattle.wf_engine.proofs.Asking.{IsRefusal}
+use Rattle.wf_engine.proofs.Modelling.{passed}
+use Rattle.wf_rewrite.specs.Lifting.{LiftsBody, LiftsChecked, LiftsMap, Made, rounds_asked}
 
 -- the complex is that of its own rounds
 pub own_rounds : (t : Task) (r : ℕ) (b : Built) → Builds t r (Ok b) → Builds t b.rounds (Ok b)
@@ -36,8 +41,42 @@ map_long t r b m is (f, decides, same) = ap length (sym same) ∙ length-map (po
 pub lifted_report : (t : Task) (r more : ℕ) (values lifted : List ℕ) (b : Built) (header : Header) (text : List ℕ) → HoldsOf t r (a_map values) → Builds t more (Ok b) → AreLifted t r b.rounds values lifted
     → IsHeaderOf t b.rounds header → text ≡ report_text (with_header header (a_map lifted)) → LiftsMap t r more values (Ok (tt, text))
 unfolding text_of_report
-lifted_report t r more values lifted b header text (f, decides, same) built are about is =
-    ((b, built), f, decides, same, is
-    ∙ ap report_text (about (a_map lifted))
-    ∙ ap (λ m. report_text (report_about t b.rounds (a_map m))) (sym (are f same))
-    ∙ ap (λ n. report_text (report_about t n (a_map (listed t n (lifted_by t (n - r) f))))) built.2.rounds_are)
+lifted_report t r more values lifted b header text (f, decides, same) built are about is = (
+  (b, built),
+  f,
+  decides,
+  same,
+  is
+      ∙ ap report_text (about (a_map lifted))
+      ∙ ap (λ m. report_text (report_about t b.rounds (a_map m))) (sym (are f same))
+      ∙ ap (λ n. report_text (report_about t n (a_map (listed t n (lifted_by t (n - r) f))))) built.2.rounds_are,
+)
+
+-- ---- from a report that is read to its answer
+
+-- the report is refused
+pub unaccepted : {A : Type 0} (more : ℕ) (t : Task) (r : Report) (e : RunFault) (result : Result (Unit {0} × Vec ℕ A) RunFault) → Judges t r (Err e) → IsRefusal e result → LiftsChecked more t r (answered result)
+unaccepted more t r e result judges is = (Err e, judges, passed e result is)
+
+-- a report that is accepted, its complex, and the rounds that are asked for
+module _ (rounds : Option ℕ) (t : Task) (r : Report) (b : Built) (judges : Judges t r (Ok b)) (own asked : ℕ) (owns : own ≡ b.rounds) where
+  -- these are within the limits
+  pub own_few : own ≤ most_rounds
+  own_few = let few = judges.0.within.1.0 in omega (arith, few, owns, judges.1.rounds_are)
+
+  module _ (asks : asked ≡ rounds_asked rounds own) where
+    asks_of_report : asked ≡ rounds_asked rounds r.rounds
+    asks_of_report = asks ∙ ap (rounds_asked rounds) (owns ∙ judges.1.rounds_are)
+
+    -- they are as many as those of the complex, or more
+    pub asks_more : r.rounds ≤ rounds_asked rounds r.rounds → b.rounds ≤ asked
+    asks_more more = omega (arith, more, asks_of_report, judges.1.rounds_are)
+
+    -- the answer is lifted
+    pub body_lifted : (made : Made) → LiftsBody t b.rounds asked r.body made → LiftsChecked (rounds_asked rounds r.rounds) t r made
+    body_lifted made lifts =
+        (Ok b, judges, subst (λ n. LiftsBody t n (rounds_asked rounds r.rounds) r.body made) judges.1.rounds_are (subst (λ k. LiftsBody t b.rounds k r.body made) asks_of_report lifts))
+
+-- the report is true
+pub judged_holds : (t : Task) (r : Report) (b : Built) → Judges t r (Ok b) → HoldsOf t b.rounds r.body
+judged_holds t r b judges = subst (λ n. HoldsOf t n r.body) (sym judges.1.rounds_are) judges.0.holds

@@ -1,14 +1,15 @@
 //! Lifting a report's map to more rounds.
 
-ghost use Rattle.std.specs.Prelude.{◌≤◌, Ok};
+ghost use Rattle.std.specs.Prelude.{◌≡◌, ◌≤◌, Ok};
+ghost use Rattle.wf_model.specs.Limits.{most_rounds};
 ghost use Rattle.wf_model.specs.Report.{a_map};
 ghost use Rattle.wf_io.specs.Ends.{CanRead};
 ghost use Rattle.wf_complex.specs.Protocol.{Builds};
-ghost use Rattle.wf_report.specs.Reports.{AreNumbered, body_length, report_seen};
+ghost use Rattle.wf_report.specs.Reports.{AreNumbered, body_length, body_of, report_seen};
 ghost use Rattle.wf_check.specs.Truth.{HoldsOf};
 ghost use Rattle.wf_engine.specs.Run.{answered};
 ghost use Rattle.wf_engine.specs.Verify.{CanVerify};
-ghost use Rattle.wf_rewrite.specs.Lifting.{AsksLift, Lifts, LiftsChecked, LiftsFor, LiftsMap, rounds_asked};
+ghost use Rattle.wf_rewrite.specs.Lifting.{AsksLift, Lifts, LiftsBody, LiftsChecked, LiftsFor, LiftsMap, rounds_asked};
 
 use std::alloc::Global;
 use std::io::{Read, Write};
@@ -92,13 +93,37 @@ fn lift_checked<T: Threads + Sync>(
         task.now (report_seen report.now) (answered result) }
 {
     let protocol = check_report(rt, alloc, task, report)?;
-    let asked = match rounds {
+    let asked = rounds_asked(rounds, protocol.rounds());
+    lift_body(alloc, task, &protocol, &report.body, asked)
+}
+
+/// The rounds that are asked for, or one more than there are.
+fn rounds_asked(rounds: Option<u32>, own: u32) -> u32
+    requires { own ≤ most_rounds }
+    ensures { result ≡ rounds_asked rounds own }
+{
+    match rounds {
         Some(asked) => asked,
-        None => protocol.rounds() + 1,
-    };
-    match &report.body {
+        None => own + 1,
+    }
+}
+
+/// The report of the lifted map of a report's answer; refused where this is that there is none.
+fn lift_body(
+    alloc: Global,
+    task: &Task,
+    protocol: &Protocol,
+    body: &Body,
+    rounds: u32,
+) -> Result<((), Vec<u8>), RunFault>
+    requires protocol { Builds task.now protocol.now.rounds (Ok protocol.now) }
+    requires more { protocol.now.rounds ≤ rounds }
+    requires holds { HoldsOf task.now protocol.now.rounds (body_of body.now) }
+    ensures { LiftsBody task.now protocol.now.rounds rounds (body_of body.now) (answered result) }
+{
+    match body {
         Body::Map(values) | Body::Least(values, _) => {
-            lift_map(alloc, task, &protocol, values, asked)
+            lift_map(alloc, task, protocol, values, rounds)
         }
         Body::Nothing(_) => Err(RunFault::NoMap),
     }

@@ -10,3 +10,8 @@ lift_values-requires-clause-rounds c = subst (Î» n. c.args.protocol.now.rounds â
 
 pub lift_values-requires-clause-values : goal.lift_values-requires-clause-values
 lift_values-requires-clause-values c = map_long c.args.task.now c.args.protocol.now.rounds c.args.protocol.now c.args.values.now c.requires.protocol.2 c.requires.map
+
+pub returns : goal.returns
+returns c =
+    lifted_report c.args.task.now c.args.protocol.now.rounds c.args.rounds c.args.values.now c.in_ok-lifted.lifted.items c.in_ok-after.after c.about.result c.in_ok-write_report.field-0.items
+    c.requires.map c.in_ok-after.ensures c.in_ok-lifted.ensures c.about.ensures c.in_ok-write_report.ensures.text
