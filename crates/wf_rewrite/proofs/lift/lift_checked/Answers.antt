@@ -9,8 +9,8 @@ returns-in_err-protocol g c =
     let r = report_seen c.args.report.now in
     unaccepted (rounds_asked c.args.rounds r.rounds) c.args.task.now r c.in_err-protocol.field-0.0 c.from_residual.result c.in_err-protocol.ensures c.from_residual.ensures
 
-pub rounds_asked-requires : goal.rounds_asked-requires
-rounds_asked-requires g c =
+pub rounds_asked-asked-requires : goal.rounds_asked-asked-requires
+rounds_asked-asked-requires g c =
     own_few c.args.rounds c.args.task.now (report_seen c.args.report.now) c.in_ok-protocol.protocol c.in_ok-protocol.ensures c.rounds.result 0 c.rounds.ensures
 
 pub lift_body-requires-clause-protocol : goal.lift_body-requires-clause-protocol
@@ -22,12 +22,12 @@ lift_body-requires-clause-protocol g c =
 
 pub lift_body-requires-clause-more : goal.lift_body-requires-clause-more
 lift_body-requires-clause-more g c =
-    asks_more c.args.rounds c.args.task.now (report_seen c.args.report.now) c.in_ok-protocol.protocol c.in_ok-protocol.ensures c.rounds.result c.rounds_asked.result c.rounds.ensures c.rounds_asked.ensures c.requires.more
+    asks_more c.args.rounds c.args.task.now (report_seen c.args.report.now) c.in_ok-protocol.protocol c.in_ok-protocol.ensures c.rounds.result c.rounds_asked-asked.result c.rounds.ensures c.rounds_asked-asked.ensures c.requires.more
 
 pub lift_body-requires-clause-holds : goal.lift_body-requires-clause-holds
 lift_body-requires-clause-holds g c = judged_holds c.args.task.now (report_seen c.args.report.now) c.in_ok-protocol.protocol c.in_ok-protocol.ensures
 
 pub returns : goal.returns
 returns g c =
-    body_lifted c.args.rounds c.args.task.now (report_seen c.args.report.now) c.in_ok-protocol.protocol c.in_ok-protocol.ensures c.rounds.result c.rounds_asked.result c.rounds.ensures c.rounds_asked.ensures
+    body_lifted c.args.rounds c.args.task.now (report_seen c.args.report.now) c.in_ok-protocol.protocol c.in_ok-protocol.ensures c.rounds.result c.rounds_asked-asked.result c.rounds.ensures c.rounds_asked-asked.ensures
     (answered c.lift_body.result) c.lift_body.ensures
