@@ -185,7 +185,14 @@ fn maps_are_lifted(rt: HostRuntime) -> Result<(), Fail> {
         let mut report = Source::new(row.report.as_bytes());
         let mut written = Vec::new(rt.alloc());
         let mut sink = Sink::new(&mut written);
-        let answer = run_lift(&rt, rt.alloc(), &mut task, &mut report, &mut sink, row.rounds);
+        let answer = run_lift(
+            &rt,
+            rt.alloc(),
+            &mut task,
+            &mut report,
+            &mut sink,
+            row.rounds,
+        );
         assert_eq!(rt; answer, row.answer, "{} {:?}", row.report, row.rounds);
         drop(sink);
         assert_eq!(rt;
@@ -206,7 +213,14 @@ fn what_gives_no_lifted_map_is_refused(rt: HostRuntime) -> Result<(), Fail> {
         let mut report = Source::new(row.report.as_bytes());
         let mut written = Vec::new(rt.alloc());
         let mut sink = Sink::new(&mut written);
-        let answer = run_lift(&rt, rt.alloc(), &mut task, &mut report, &mut sink, row.rounds);
+        let answer = run_lift(
+            &rt,
+            rt.alloc(),
+            &mut task,
+            &mut report,
+            &mut sink,
+            row.rounds,
+        );
         assert_eq!(rt; answer, row.answer, "{} {:?}", row.report, row.rounds);
         drop(sink);
         assert_eq!(rt; written.as_slice(), row.text.as_bytes(), "{}", row.report);
@@ -231,8 +245,8 @@ fn values_are_lifted(rt: HostRuntime) -> Result<(), Fail> {
     let after = Protocol::build(rt.alloc(), &task, 1)?;
     // alone or not, the processes decide what they decide without a round
     let lifted = lift_values(rt.alloc(), &task, &before, &after, &[4, 7])?;
-    assert_eq!(rt; lifted.as_slice(), &[4, 7, 4, 7]);
+    assert_eq!(rt; lifted.as_slice(), [4, 7, 4, 7].as_slice());
     let same = lift_values(rt.alloc(), &task, &before, &before, &[4, 7])?;
-    assert_eq!(rt; same.as_slice(), &[4, 7]);
+    assert_eq!(rt; same.as_slice(), [4, 7].as_slice());
     Ok(())
 }

@@ -1,5 +1,5 @@
 -- The counts of a lifting.
-use Rattle.std.proofs.Common.{◌≡◌, ℕ, ◌+◌, List, Option, Result, Ok, Err, inl, inr, refl, sym, ap, ◌∙◌, arith}
+use Rattle.std.proofs.Common.{◌≡◌, ℕ, List, Option, Result, Ok, Err, inl, inr, refl, sym, ap, ◌∙◌, arith}
 use Rattle.wf_model.specs.Limits.{most_bytes}
 use Rattle.wf_model.specs.Task.{Task}
 use Rattle.wf_model.specs.Report.{Report, Body, a_map, none, least}

@@ -1,5 +1,5 @@
 -- What is lifted is a decision map, and its report is accepted.
-use Rattle.std.proofs.Common.{◌≡◌, ◌≤◌, ℕ, ◌+◌, ◌-◌, List, Option, Some, Result, Ok, Err, inl, inr, refl, sym, ap, subst, ◌∙◌, arith}
+use Rattle.std.proofs.Common.{◌≡◌, ◌≤◌, ℕ, ◌+◌, ◌-◌, List, Option, Some, Result, Ok, Err, inl, inr, refl, sym, subst, arith}
 use Rattle.wf_model.specs.Task.{Task}
 use Rattle.wf_model.specs.View.{View}
 use Rattle.wf_model.specs.DecisionMap.{IsDecisionMap, listed}
@@ -18,8 +18,8 @@ use Rattle.wf_engine.specs.declared.fault.RunFault.{RunFault}
 use Rattle.wf_engine.proofs.Acceptance.{map_text_accepted}
 use Rattle.wf_engine.proofs.Headline.{task_read}
 use Rattle.wf_rewrite.proofs.WasRead.{gave_report}
-use Rattle.wf_rewrite.specs.Lifting.{AsksLift, Lifts, LiftsBody, LiftsChecked, LiftsFor, LiftsMap, ReadsToLift, rounds_asked}
-use Rattle.wf_rewrite.specs.LiftingLaws.{LiftsAreAccepted, LiftsAreTrue, TookLifted}
+use Rattle.wf_rewrite.specs.Lifting.{AsksLift, Lifts, LiftsBody, LiftsFor, LiftsMap, ReadsToLift, rounds_asked}
+use Rattle.wf_rewrite.specs.LiftingLaws.{LiftsAreAccepted, LiftsAreTrue}
 
 -- a true report with its map, whose lifted map's report was written
 record IsDone (task task' cert cert' : Reading) (sink sink' : Writing) (t : Task) (r rounds : ℕ) : Type 0 where

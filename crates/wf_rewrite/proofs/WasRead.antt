@@ -1,6 +1,5 @@
 -- What was read of a source that gives a report.
 use Rattle.std.proofs.Common.{◌≡◌, ℕ, List, Result, Ok, Err, refl, sym, ap, subst, ◌∙◌}
-use Rattle.wf_model.specs.Limits.{most_bytes}
 use Rattle.wf_model.specs.Task.{Task}
 use Rattle.wf_model.specs.Report.{Report, report_about, report_of, report_text}
 use Rattle.wf_model.proofs.WholeReports.{numbers}

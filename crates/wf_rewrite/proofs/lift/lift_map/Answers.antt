@@ -1,5 +1,6 @@
-use Rattle.std.proofs.Common.{◌≤◌, arith, sym, subst}
-use Rattle.wf_rewrite.proofs.LiftSteps.{lifted_report, map_long, own_rounds}
+use Rattle.std.proofs.Common.{◌≤◌, sym, subst}
+use Rattle.wf_engine.proofs.Modelling.{own_rounds}
+use Rattle.wf_rewrite.proofs.LiftSteps.{lifted_report, map_long}
 use Rattle.wf_rewrite.proofs.lift.lift_map.Goals as goal
 
 pub lift_values-requires-clause-after : goal.lift_values-requires-clause-after
