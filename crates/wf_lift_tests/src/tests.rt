@@ -56,6 +56,10 @@ const NONE: &str =
 const OWN: &str =
     "wfcheck report 1\nprocesses 3\nrounds 0\npoints 3\nexecutions 7\nanswer map\nm 0\nm 1\nm 2\nend\n";
 
+/// The same a round later: whatever it has seen, each process decides its own input.
+const OWN_LATER: &str =
+    "wfcheck report 1\nprocesses 3\nrounds 1\npoints 12\nexecutions 25\nanswer map\nm 0\nm 1\nm 2\nm 0\nm 1\nm 0\nm 2\nm 1\nm 2\nm 0\nm 1\nm 2\nend\n";
+
 /// What is asked, and what has to be answered and written.
 #[derive(Clone, Copy)]
 struct Row {
@@ -66,7 +70,7 @@ struct Row {
     text: &'static str,
 }
 
-const LIFTED: [Row; 7] = [
+const LIFTED: [Row; 8] = [
     Row {
         task: PATH_3,
         report: PATH,
@@ -115,6 +119,13 @@ const LIFTED: [Row; 7] = [
         rounds: None,
         answer: Ok(()),
         text: LEAST_LATER,
+    },
+    Row {
+        task: AGREEMENT_3_3,
+        report: OWN,
+        rounds: Some(1),
+        answer: Ok(()),
+        text: OWN_LATER,
     },
 ];
 
@@ -229,12 +240,14 @@ fn what_gives_no_lifted_map_is_refused(rt: HostRuntime) -> Result<(), Fail> {
 }
 
 #[test]
-fn a_lifted_map_is_accepted(rt: HostRuntime) -> Result<(), Fail> {
-    let mut task = Source::new(RENAMING_2_3.as_bytes());
-    let mut report = Source::new(RENAMING_LATER.as_bytes());
-    let mut sink = Sink::new(Vec::new(rt.alloc()));
-    let found = run_verify(&rt, rt.alloc(), &mut task, &mut report, &mut sink, Some(2));
-    assert_eq!(rt; found, Ok(Accepted::Map));
+fn lifted_maps_are_accepted(rt: HostRuntime) -> Result<(), Fail> {
+    for row in LIFTED {
+        let mut task = Source::new(row.task.as_bytes());
+        let mut report = Source::new(row.text.as_bytes());
+        let mut sink = Sink::new(Vec::new(rt.alloc()));
+        let found = run_verify(&rt, rt.alloc(), &mut task, &mut report, &mut sink, None);
+        assert_eq!(rt; found, Ok(Accepted::Map), "{}", row.text);
+    }
     Ok(())
 }
 
