@@ -1,8 +1,10 @@
 -- Clauses that are added to a checker, and the models that it keeps.
-use Rattle.std.proofs.Common.{◌≡◌, ℕ, ◌+◌, ◌<◌, ◌≤◌, true, List, [], ◌∷◌, ◌++◌, map, zip, length, take, get_or, min, slice_index, flat_map, sym, ap, ◌∙◌, subst, arith, append-nil, append_assoc}
+use Rattle.std.proofs.Common.{◌≡◌, ℕ, ◌+◌, ◌<◌, ◌≤◌, Bool, true, false, List, [], ◌∷◌, ◌++◌, map, zip, length, take, get_or, min, slice_index, flat_map, refl, sym, ap, ◌∙◌, subst, arith, append-nil, append_assoc}
 use Rattle.std.proofs.lemmas.List.{map-append, take_more}
 use Rattle.std.proofs.lemmas.List.Elements.{All-append, All-from_recursion, All-nil, All-push, recursion_from_All}
 use Rattle.std.proofs.lemmas.Slice.Zip.{length-zip, get_or-zip}
+use Rattle.std.specs.Prelude.{if◌then◌else◌}
+use Rattle.std.proofs.lemmas.Bool.{false≢true}
 use Rattle.std.proofs.lemmas.List.Concat.{flat_map-append}
 use Rattle.wf_model.specs.Limits.{most_points}
 use Rattle.wf_model.specs.Lists.{below}
@@ -49,6 +51,9 @@ follows f first second none some known whole nothing begun ended = λ a model.
 
 -- ---- no clause is forgotten
 
+pub knows_same : (some all : List Clause) (before old now : Known) → some ≡ all → before ≡ old → KnowsAll some before now → KnowsAll all old now
+knows_same some all before old now is same known = subst (λ o. KnowsAll all o now) same (subst (λ cs. KnowsAll cs before now) is known)
+
 -- nothing was added
 pub knows_none : (known : Known) → KnowsAll [] known known
 knows_none known = λ a model. (model, All-nil (λ c. satisfies a c ≡ true))
@@ -75,6 +80,11 @@ pub knows_whole : (f : Formula) (first second : List Clause) (none some known : 
 knows_whole f first second none some known whole begun ended a model =
     let last = ended a model in
     subst (SatisfiesAll a) whole (All-append (λ c. satisfies a c ≡ true) first second (begun a last.0).1 last.1)
+
+-- where something is allowed, the patterns are the others
+pub others_seen : {X : Type 0} (b : Bool) (xs ys : List X) → b ≡ false → (if b then xs else ys) ≡ ys
+others_seen true xs ys is = absurd (false≢true (sym is))
+others_seen false xs ys is = refl
 
 -- the clause of one more pattern
 pub one_more : {P Q : Type 0} (f : Q → Clause) (seen : P → Q) (ps : List P) (i : ℕ) (p : P) → i < length ps → p ≡ get_or ps i p

@@ -1,11 +1,10 @@
-use Rattle.std.proofs.Common.{◌≡◌, ◌<◌, ◌++◌, ◌∷◌, [], ◌∙◌, ap, flat_map, map, length, arith, subst}
-use Rattle.std.proofs.lemmas.List.Concat.{flat_map-append}
+use Rattle.std.proofs.Common.{◌≡◌, ◌+◌, ◌<◌, ap, flat_map, map, length, arith, refl}
 use Rattle.wf_model.specs.Lists.{below}
 use Rattle.wf_set.specs.Sets.{values_in}
 use Rattle.wf_formula.proofs.Members.{in_below, in_flat}
 use Rattle.wf_cnf.specs.Patterns.{patterns_seen}
 use Rattle.wf_cnf.specs.Clauses.{clauses_at, clauses_on, denied_at, patterns_in}
-use Rattle.wf_cnf.proofs.PosingLemmas.{keeps_some, knows_more, one_part_more}
+use Rattle.wf_cnf.proofs.PosingLemmas.{keeps_some, knows_more, knows_same, one_part_more}
 use Rattle.wf_cnf.proofs.TextLemmas.{pattern_there}
 use Rattle.wf_cnf.proofs.posing.Posing.add_executions.Goals as goal
 
@@ -43,3 +42,10 @@ returns-in_err-add_patterns-clause-sound c =
     keeps_some (clauses_on values patterns b) (clauses_at values patterns b e) _ _ _ _
     (λ clause among. in_flat (clauses_at values patterns b) (below (length b.scopes)) e clause (in_below (length b.scopes) e low) among)
     here c.loop-execution.invariant.sound c.add_patterns.ensures.sound
+
+pub returns-clause-whole : goal.returns-clause-whole
+returns-clause-whole c =
+    let b = c.args.protocol.now in
+    let f = clauses_at (values_in c.args.variables.now.values) (map patterns_seen c.args.patterns.now) b in
+    let all : c.loop-execution.execution ≡ length b.scopes = omega (arith, c.loop-execution-test.false, c.loop-execution.auto.execution-end, c.executions-execution-end.ensures.executions) in
+    knows_same _ _ _ _ _ (ap (λ n. flat_map f (below n)) all) refl c.loop-execution.invariant.whole

@@ -1,11 +1,11 @@
-use Rattle.std.proofs.Common.{◌<◌, ◌++◌, ◌∷◌, [], ◌∙◌, map, take, length, arith, ap, sym, subst}
+use Rattle.std.proofs.Common.{◌+◌, ◌<◌, ◌∙◌, map, take, length, arith, ap, sym, subst}
 use Rattle.std.proofs.lemmas.List.{get_or-map, length-map, take_all}
 use Rattle.wf_set.specs.Sets.{values_in}
 use Rattle.wf_cnf.specs.Patterns.{pattern_seen}
 use Rattle.wf_cnf.specs.Clauses.{HasPoints, denied_at}
 use Rattle.wf_formula.proofs.Members.{in_from_contains, in_map}
-use Rattle.wf_cnf.specs.Posing.{KeepsModelsOfAll, KnowsAll}
-use Rattle.wf_cnf.proofs.PosingLemmas.{keeps_one, knows_one, one_more}
+use Rattle.wf_cnf.specs.Posing.{KeepsModelsOfAll}
+use Rattle.wf_cnf.proofs.PosingLemmas.{keeps_one, knows_one, knows_same, one_more}
 use Rattle.wf_cnf.proofs.posing.Posing.add_others.Goals as goal
 
 pub put_denied-requires-clause-places : goal.put_denied-requires-clause-places
@@ -45,4 +45,4 @@ returns-in_err-add-clause-sound c =
 pub returns-clause-whole : goal.returns-clause-whole
 returns-clause-whole c =
     let f = denied_at (values_in c.args.variables.now.values) c.args.points.now in
-    subst (λ ps. KnowsAll (map f (map pattern_seen ps)) _ _) (take_all _ _ c.loop-pattern-test.false) c.loop-pattern.invariant.whole
+    knows_same _ _ _ _ _ (ap (λ ps. map f (map pattern_seen ps)) (take_all _ _ c.loop-pattern-test.false)) c.self.view_is c.loop-pattern.invariant.whole

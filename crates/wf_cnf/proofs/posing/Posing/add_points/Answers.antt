@@ -1,4 +1,4 @@
-use Rattle.std.proofs.Common.{◌≡◌, ◌≤◌, ◌++◌, ◌∷◌, [], ◌∙◌, ap, arith, map, subst}
+use Rattle.std.proofs.Common.{◌≡◌, ◌+◌, ◌∷◌, [], ◌∙◌, ap, arith, map, subst}
 use Rattle.std.proofs.lemmas.List.{map-append}
 use Rattle.wf_model.specs.Lists.{below}
 use Rattle.wf_set.specs.Sets.{values_in}
@@ -6,7 +6,7 @@ use Rattle.wf_formula.specs.Encoding.{at_least_one}
 use Rattle.wf_formula.proofs.Members.{in_below, in_map}
 use Rattle.wf_model.proofs.Basics.{below_next}
 use Rattle.wf_cnf.specs.Posing.{KeepsModelsOfAll}
-use Rattle.wf_cnf.proofs.PosingLemmas.{keeps_one, knows_one}
+use Rattle.wf_cnf.proofs.PosingLemmas.{keeps_one, knows_one, knows_same}
 use Rattle.wf_cnf.proofs.posing.Posing.add_points.Goals as goal
 
 pub loop-point-preserved : goal.loop-point-preserved
@@ -28,3 +28,9 @@ returns-in_err-add-clause-sound c =
     let i = c.loop-point.point in
     subst (λ old. KeepsModelsOfAll (map f (below n)) old c.add.new.self) c.self.view_is
     (keeps_one (map f (below n)) (f i) _ _ _ _ (in_map f (below n) i (in_below n i c.loop-point-test.true)) (c.deref.ensures.value ∙ c.in_ok-put_point.ensures) c.loop-point.invariant.sound c.add.ensures.sound)
+
+pub returns-clause-whole : goal.returns-clause-whole
+returns-clause-whole c =
+    let f = at_least_one (values_in c.args.variables.now.values) in
+    let all : c.loop-point.point ≡ c.args.points = omega (arith, c.loop-point-test.false, c.loop-point.auto.point-end) in
+    knows_same _ _ _ _ _ (ap (λ n. map f (below n)) all) c.self.view_is c.loop-point.invariant.whole
