@@ -4,3 +4,7 @@ pub mod Shortening
 pub mod Accepting
 pub mod Trimmed
 pub mod Explained
+pub mod WasRead
+pub mod LiftSteps
+pub mod LiftTruth
+pub mod LiftCounts

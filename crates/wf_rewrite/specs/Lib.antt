@@ -2,3 +2,5 @@
 pub mod Trimming
 pub mod Trimmed
 pub mod Explaining
+pub mod Lifting
+pub mod LiftingLaws

@@ -5,17 +5,22 @@
 //!
 //! - [`run_trim`]: the report with the lines that are needed out.
 //! - [`run_explain`]: the report in words out.
+//! - [`run_lift`]: the report of the map for more rounds out.
 //! - [`run_executions`]: a task's text in, and its executions in words out.
 #![tactic(auto)]
 
 mod executions;
 mod explain;
 mod explain_laws;
+mod lift;
+mod lift_laws;
 mod trim;
 mod trim_laws;
 
 pub use executions::run_executions;
 pub use explain::run_explain;
 pub use explain_laws::{explaining_is_counted, explanations_are_true};
+pub use lift::run_lift;
+pub use lift_laws::{lifting_is_counted, lifts_are_accepted, lifts_are_true};
 pub use trim::run_trim;
 pub use trim_laws::{trimmed_reports_are_accepted, trimming_is_counted};
