@@ -104,6 +104,12 @@ abbrev pub proof_asked : List Row → Asked
 proof_asked rows =
     given (task_of rows) (λ path. given (rounds_of rows) (λ rounds. this_job_on path (λ task. job.Proof task rounds)))
 
+abbrev pub trim_asked : List Row → Asked
+trim_asked rows = given (task_of rows) (λ path. this_job_on path (λ task. job.Trim task))
+
+abbrev pub lift_asked : List Row → Asked
+lift_asked rows = given (task_of rows) (λ path. this_job_on path (λ task. job.Lift task (rounds_of rows)))
+
 -- the options of a preset
 abbrev pub options_of : List Row → ℕ → Options
 options_of rows processes = record {
@@ -126,6 +132,8 @@ jobs = (codes "solve", solve_asked)
     ∷ (codes "cnf", cnf_asked)
     ∷ (codes "model", model_asked)
     ∷ (codes "proof", proof_asked)
+    ∷ (codes "trim", trim_asked)
+    ∷ (codes "lift", lift_asked)
     ∷ (codes "preset", preset_job_asked) ∷ []
 
 -- what the subcommand of this name asks for, by its options

@@ -109,6 +109,10 @@ fn do_job<T: Threads + Sync, F: Files, G: Gate, R: Read, W: Write>(
         Job::Decisions { task } => {
             Filed::Decisions.with_file(rt, alloc, folder, task, source, sink)
         }
+        Job::Trim { task } => Filed::Trim.with_file(rt, alloc, folder, task, source, sink),
+        Job::Lift { task, rounds } => {
+            Filed::Lift(*rounds).with_file(rt, alloc, folder, task, source, sink)
+        }
         Job::Preset(preset) => after_writing(run_preset(alloc, sink, *preset)),
     }
 }
