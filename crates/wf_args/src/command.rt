@@ -219,6 +219,17 @@ fn trim_command<'a>(alloc: Global) -> Result<Command<'a>, AllocError>
     .arg(task(alloc))
 }
 
+fn explain_command<'a>(alloc: Global) -> Result<Command<'a>, AllocError>
+    ensures { IfOk result (IsLeaf line.explain) }
+{
+    subcommand(
+        alloc,
+        "explain",
+        "Read a report on standard input, check it, and write in words why there is no decision map, or what its map decides",
+    )
+    .arg(task(alloc))
+}
+
 fn lift_command<'a>(alloc: Global) -> Result<Command<'a>, AllocError>
     ensures { IfOk result (IsLeaf line.lift) }
 {
@@ -233,6 +244,17 @@ fn lift_command<'a>(alloc: Global) -> Result<Command<'a>, AllocError>
         "rounds",
         "How many rounds the map is to be for, at least as many as the report's; without it one more",
     ))
+}
+
+fn executions_command<'a>(alloc: Global) -> Result<Command<'a>, AllocError>
+    ensures { IfOk result (IsLeaf line.executions) }
+{
+    subcommand(
+        alloc,
+        "executions",
+        "Read a task on standard input, and list the executions of its protocol complex: who went in which block, round by round, and which points stand there",
+    )
+    .arg(rounds(alloc))
 }
 
 /// The kind of a preset.
@@ -286,6 +308,8 @@ pub(crate) fn whole_command<'a>(alloc: Global) -> Result<Command<'a>, AllocError
         .subcommand(model_command(alloc)?)?
         .subcommand(proof_command(alloc)?)?
         .subcommand(trim_command(alloc)?)?
+        .subcommand(explain_command(alloc)?)?
         .subcommand(lift_command(alloc)?)?
+        .subcommand(executions_command(alloc)?)?
         .subcommand(preset_command(alloc)?)
 }
