@@ -1,16 +1,23 @@
 -- Clauses that are added to a checker, and the models that it keeps.
-use Rattle.std.proofs.Common.{◌≡◌, ℕ, ◌+◌, ◌<◌, ◌≤◌, true, List, [], ◌∷◌, ◌++◌, map, zip, length, take, get_or, min, slice_index, sym, ap, ◌∙◌, subst, arith, append_assoc}
+use Rattle.std.proofs.Common.{◌≡◌, ℕ, ◌+◌, ◌<◌, ◌≤◌, Bool, true, false, List, [], ◌∷◌, ◌++◌, map, zip, length, take, get_or, min, slice_index, flat_map, refl, sym, ap, ◌∙◌, subst, arith, append-nil, append_assoc}
 use Rattle.std.proofs.lemmas.List.{map-append, take_more}
-use Rattle.std.proofs.lemmas.List.Elements.{All-from_recursion, recursion_from_All}
+use Rattle.std.proofs.lemmas.List.Elements.{All-append, All-from_recursion, All-nil, All-push, recursion_from_All}
 use Rattle.std.proofs.lemmas.Slice.Zip.{length-zip, get_or-zip}
+use Rattle.std.specs.Prelude.{if◌then◌else◌}
+use Rattle.std.proofs.lemmas.Bool.{false≢true}
+use Rattle.std.proofs.lemmas.List.Concat.{flat_map-append}
 use Rattle.wf_model.specs.Limits.{most_points}
+use Rattle.wf_model.specs.Lists.{below}
+use Rattle.wf_model.proofs.Basics.{below_next}
 use Rattle.wf_set.specs.Sets.{values_in}
-use Rattle.wf_clauses.specs.Formula.{Assignment, Clause, Formula, Literal, SatisfiesAll, satisfies}
+use Rattle.wf_clauses.specs.Formula.{Assignment, Clause, Formula, IsModel, Literal, SatisfiesAll, satisfies}
 use Rattle.wf_formula.specs.Encoding.{variable}
 use Rattle.wf_formula.proofs.Members.{In, each_from_in, each_in, in_left, in_right}
 use Rattle.wf_rup.specs.Codes.{most_variables}
-use Rattle.wf_rup.specs.Seen.{KeepsModelsOf, Known, KnowsNothing}
-use Rattle.wf_cnf.specs.Posing.{FollowsFrom, KeepsModelsOfAll}
+use Rattle.wf_rup.specs.Kept.{IsKept, KnowsStill}
+use Rattle.wf_rup.specs.Seen.{IsModelOf, KeepsModelsOf, Known, KnowsNothing}
+use Rattle.wf_rup.proofs.StoredLemmas.{models-added}
+use Rattle.wf_cnf.specs.Posing.{FollowsFrom, KeepsModelsOfAll, KnowsAll}
 use Rattle.wf_cnf.proofs.TextLemmas.{few_ranks, few_values, product_few}
 
 -- ---- clauses among others
@@ -41,6 +48,55 @@ follows f first second none some known whole nothing begun ended = λ a model.
     let h : SatisfiesAll a (first ++ second) = subst (SatisfiesAll a) (sym whole) model in
     ended a (begun a (nothing a) (satisfied_some a (first ++ second) first (λ clause here. in_left first second clause here) h))
     (satisfied_some a (first ++ second) second (λ clause here. in_right first second clause here) h)
+
+-- ---- no clause is forgotten
+
+pub knows_same : (some all : List Clause) (before old now : Known) → some ≡ all → before ≡ old → KnowsAll some before now → KnowsAll all old now
+knows_same some all before old now is same known = subst (λ o. KnowsAll all o now) same (subst (λ cs. KnowsAll cs before now) is known)
+
+-- nothing was added
+pub knows_none : (known : Known) → KnowsAll [] known known
+knows_none known = λ a model. (model, All-nil (λ c. satisfies a c ≡ true))
+
+-- one more clause is added
+pub knows_one : (some more : List Clause) (clause added : Clause) (old now new : Known) → more ≡ some ++ clause ∷ [] → added ≡ clause
+    → KnowsAll some old now → IsKept added new → KnowsStill now new → KnowsAll more old new
+knows_one some more clause added old now new is same so_far kept still = λ a model.
+    let one = models-added added now new kept still a model in
+    let before = so_far a one.0 in
+    (before.0, subst (SatisfiesAll a) (sym is) (All-push (λ c. satisfies a c ≡ true) some clause before.1 (ap (satisfies a) (sym same) ∙ one.1)))
+
+-- further clauses are added
+pub knows_more : (some more next added : List Clause) (old now new : Known) → more ≡ some ++ next → added ≡ next
+    → KnowsAll some old now → KnowsAll added now new → KnowsAll more old new
+knows_more some more next added old now new is same so_far all = λ a model.
+    let last = all a model in
+    let before = so_far a last.0 in
+    (before.0, subst (SatisfiesAll a) (sym is) (All-append (λ c. satisfies a c ≡ true) some next before.1 (subst (SatisfiesAll a) same last.1)))
+
+-- first some of the clauses of a formula were added, then the others
+pub knows_whole : (f : Formula) (first second : List Clause) (none some known : Known) → first ++ second ≡ f.clauses
+    → KnowsAll first none some → KnowsAll second some known → (a : Assignment) → IsModelOf a known → IsModel a f
+knows_whole f first second none some known whole begun ended a model =
+    let last = ended a model in
+    subst (SatisfiesAll a) whole (All-append (λ c. satisfies a c ≡ true) first second (begun a last.0).1 last.1)
+
+-- where something is allowed, the patterns are the others
+pub others_seen : {X : Type 0} (b : Bool) (xs ys : List X) → b ≡ false → (if b then xs else ys) ≡ ys
+others_seen true xs ys is = absurd (false≢true (sym is))
+others_seen false xs ys is = refl
+
+-- the clause of one more pattern
+pub one_more : {P Q : Type 0} (f : Q → Clause) (seen : P → Q) (ps : List P) (i : ℕ) (p : P) → i < length ps → p ≡ get_or ps i p
+    → map f (map seen (take (i + 1) ps)) ≡ map f (map seen (take i ps)) ++ f (seen p) ∷ []
+one_more f seen ps i p low is =
+    ap (λ xs. map f (map seen xs)) (take_more ps i p low ∙ ap (λ x. take i ps ++ x ∷ []) (sym is))
+    ∙ ap (map f) (map-append seen (take i ps) (p ∷ []))
+    ∙ map-append f (map seen (take i ps)) (seen p ∷ [])
+
+-- the clauses of one more execution
+pub one_part_more : (f : ℕ → List Clause) (n : ℕ) → flat_map f (below (n + 1)) ≡ flat_map f (below n) ++ f n
+one_part_more f n = ap (flat_map f) (below_next n) ∙ flat_map-append f (below n) (n ∷ []) ∙ ap (λ cs. flat_map f (below n) ++ cs) (append-nil (f n))
 
 -- ---- one literal more
 

@@ -10,7 +10,7 @@ ghost use Rattle.wf_rup.specs.Seen.{KnowsNothing};
 ghost use Rattle.wf_cnf.specs.Patterns.{pattern_seen, patterns_seen};
 ghost use Rattle.wf_cnf.specs.Variables.{IsNumbered};
 ghost use Rattle.wf_cnf.specs.Clauses.{AreCovered, AreFew, HasPoints, clauses_on, denied_at};
-ghost use Rattle.wf_cnf.specs.Posing.{FollowsFrom, KeepsModelsOfAll};
+ghost use Rattle.wf_cnf.specs.Posing.{HasModelsOf, KeepsModelsOfAll, KnowsAll};
 
 use crate::patterns::{Pattern, Patterns};
 use crate::question::all_patterns;
@@ -22,13 +22,13 @@ use wf_rup::{Checker, Literal};
 use wf_set::split_first;
 use wf_task::Task;
 
-/// A checker of clausal proofs that knows the question of a task on its protocol complex, and nothing else: a proof
-/// that refutes it shows that the task has no decision map there.
+/// A checker of clausal proofs that knows the question of a task on its protocol complex, the whole of it and nothing else: a
+/// proof that refutes it shows that the task has no decision map there.
 ///
 /// Its memory grows with the number of clauses and their literals. Refused where memory runs out.
 pub fn pose(alloc: Global, task: &Task, protocol: &Protocol) -> Result<Checker, AllocError>
     requires { IsProtocol task.now protocol.now.rounds protocol.now }
-    ensures { IfOk result (FollowsFrom (question task.now protocol.now.rounds)) }
+    ensures { IfOk result (HasModelsOf (question task.now protocol.now.rounds)) }
 {
     let variables = Variables::of(alloc, task.values())?;
     let patterns = all_patterns(alloc, task)?;
@@ -75,8 +75,10 @@ impl Posing {
     ) -> Result<(), AllocError>
         requires numbered { IsNumbered variables.now }
         requires few { points ≤ most_points }
-        ensures { KeepsModelsOfAll (map (at_least_one (values_in variables.now.values))
+        ensures sound { KeepsModelsOfAll (map (at_least_one (values_in variables.now.values))
             (below points)) self.old self.new }
+        ensures whole { IfOk result (λ done. KnowsAll (map (at_least_one
+            (values_in variables.now.values)) (below points)) self.old self.new) }
     {
         for point in 0..points {
             put_point(&mut self.clause, variables, point)?;
@@ -95,8 +97,10 @@ impl Posing {
     ) -> Result<(), AllocError>
         requires numbered { IsNumbered variables.now }
         requires covered { AreCovered (map patterns_seen patterns.now) protocol.now }
-        ensures { KeepsModelsOfAll (clauses_on (values_in variables.now.values)
+        ensures sound { KeepsModelsOfAll (clauses_on (values_in variables.now.values)
             (map patterns_seen patterns.now) protocol.now) self.old self.new }
+        ensures whole { IfOk result (λ done. KnowsAll (clauses_on (values_in variables.now.values)
+            (map patterns_seen patterns.now) protocol.now) self.old self.new) }
     {
         for execution in 0..protocol.executions() {
             let simplex = protocol.simplex_of(execution) as usize;
@@ -117,8 +121,10 @@ impl Posing {
         requires numbered { IsNumbered variables.now }
         requires places { All (HasPoints points.now) (patterns_seen patterns.now) }
         requires few { AreFew points.now }
-        ensures { KeepsModelsOfAll (map (denied_at (values_in variables.now.values) points.now)
-            (patterns_seen patterns.now)) self.old self.new }
+        ensures sound { KeepsModelsOfAll (map (denied_at (values_in variables.now.values)
+            points.now) (patterns_seen patterns.now)) self.old self.new }
+        ensures whole { IfOk result (λ done. KnowsAll (map (denied_at (values_in variables.now.values)
+            points.now) (patterns_seen patterns.now)) self.old self.new) }
     {
         if patterns.nothing_is_allowed {
             return self.checker.add(alloc, &[]);
@@ -137,8 +143,10 @@ impl Posing {
         requires numbered { IsNumbered variables.now }
         requires places { All (HasPoints points.now) (map pattern_seen patterns.now) }
         requires few { AreFew points.now }
-        ensures { KeepsModelsOfAll (map (denied_at (values_in variables.now.values) points.now)
-            (map pattern_seen patterns.now)) self.old self.new }
+        ensures sound { KeepsModelsOfAll (map (denied_at (values_in variables.now.values)
+            points.now) (map pattern_seen patterns.now)) self.old self.new }
+        ensures whole { IfOk result (λ done. KnowsAll (map (denied_at (values_in variables.now.values)
+            points.now) (map pattern_seen patterns.now)) self.old self.new) }
     {
         for pattern in patterns {
             put_denied(&mut self.clause, variables, pattern, points)?;

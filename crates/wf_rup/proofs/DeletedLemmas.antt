@@ -85,7 +85,7 @@ among-images xs ys all = λ k d here.
     let one = image-at literal_of ys (get_or (map literal_of ys) k d) k here (get_or_default (map literal_of ys) k (get_or (map literal_of ys) k d) d here) in
     subst (Contains (map literal_of xs)) one.2 (Contains-image literal_of xs one.0 (All-contains (λ l. has xs l ≡ true) ys one.0 all one.1))
 
-back-again : (clause : List Literal) → map literal_of (map code_of clause) ≡ clause
+pub back-again : (clause : List Literal) → map literal_of (map code_of clause) ≡ clause
 back-again [] = refl
 back-again (l ∷ ls) = ap (λ m. m ∷ map literal_of (map code_of ls)) (literal_of-code_of l) ∙ ap (λ ms. l ∷ ms) (back-again ls)
 

@@ -6,3 +6,4 @@ pub mod KeptLemmas
 pub mod SettledLemmas
 pub mod UnitLemmas
 pub mod DeletedLemmas
+pub mod StoredLemmas

@@ -70,7 +70,7 @@ image-at {A} {B} f (x ∷ xs) y (suc k) within e =
     let deeper : suc where_.0 < length (x ∷ xs) = omega arith in
     (there.0, (suc where_.0, deeper, where_.2), there.2)
 
-Contains-map : {A B : Type 0} (f : A → B) (xs : List A) (x : A) → Contains xs x → Contains (map f xs) (f x)
+pub Contains-map : {A B : Type 0} (f : A → B) (xs : List A) (x : A) → Contains xs x → Contains (map f xs) (f x)
 Contains-map {A} {B} f [] x (k, within, e) = absurd (omega arith)
 Contains-map {A} {B} f (y ∷ ys) x (zero, within, e) = let first : 0 < length (f y ∷ map f ys) = omega arith in (0, first, ap f e)
 Contains-map {A} {B} f (y ∷ ys) x (suc k, within, e) =

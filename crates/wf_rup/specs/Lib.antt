@@ -6,4 +6,5 @@ pub mod Settled
 pub mod Seen
 pub mod Unit
 pub mod Deleted
+pub mod Kept
 pub mod Whole

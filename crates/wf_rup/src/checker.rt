@@ -3,6 +3,7 @@
 ghost use Rattle.std.specs.Prelude.{◌≡◌, false, IfOk, IsTrue, map};
 ghost use Rattle.wf_rup.specs.Codes.{code_of};
 ghost use Rattle.wf_rup.specs.Deleted.{Deletes};
+ghost use Rattle.wf_rup.specs.Kept.{IsKept, KnowsStill};
 ghost use Rattle.wf_rup.specs.Seen.{Entails, HasNoModel, KeepsModels, KeepsModelsOf, KnowsNothing};
 ghost use Rattle.wf_rup.specs.Unit.{DoesNotFollow};
 
@@ -57,21 +58,26 @@ impl Checker {
         self.database.is_refuted()
     }
 
-    /// Adds a clause, and all that it forces.
+    /// Adds a clause, and all that it forces. It is kept, or one of its literals holds from now on, or all is refuted; and
+    /// nothing that was known is lost.
     pub fn add(&mut self, alloc: Global, clause: &[Literal]) -> Result<(), AllocError>
-        ensures { KeepsModelsOf clause.now self.old self.new }
+        ensures sound { KeepsModelsOf clause.now self.old self.new }
+        ensures kept { IfOk result (λ done. IsKept clause.now self.new) }
+        ensures still { IfOk result (λ done. KnowsStill self.old self.new) }
     {
         put_codes(&mut self.codes, clause)?;
         self.database.add(alloc, &self.codes)
     }
 
-    /// Whether the lemma follows by unit propagation from what is kept and the negated lemma. If so it is kept.
+    /// Whether the lemma follows by unit propagation from what is kept and the negated lemma. If so it is added.
     /// Otherwise nothing changes.
     pub fn derive(&mut self, alloc: Global, lemma: &[Literal]) -> Result<bool, AllocError>
         ensures follows { IfOk result (λ follows. IsTrue follows → Entails self.old lemma.now) }
         ensures refused { IfOk result (λ follows. follows ≡ false
             → DoesNotFollow self.old lemma.now) }
         ensures unchanged { IfOk result (λ follows. follows ≡ false → self.new ≡ self.old) }
+        ensures added { IfOk result (λ follows. IsTrue follows → IsKept lemma.now self.new) }
+        ensures still { IfOk result (λ follows. KnowsStill self.old self.new) }
         ensures kept { KeepsModels self.old self.new }
     {
         put_codes(&mut self.codes, lemma)?;

@@ -1,9 +1,10 @@
 //! Clauses and what they force, with literals by their codes.
 
-ghost use Rattle.std.specs.Prelude.{◌≡◌, ◌++◌, ◌∷◌, [], false, IfOk, IsTrue, length, take};
+ghost use Rattle.std.specs.Prelude.{◌≡◌, ◌++◌, ◌∷◌, [], false, true, IfOk, IsTrue, length, take};
 ghost use Rattle.wf_rup.specs.Deleted.{DeletesStored};
+ghost use Rattle.wf_rup.specs.Kept.{IsStored, StoresStill};
 ghost use Rattle.wf_rup.specs.Propagation.{AddsClause, Implies};
-ghost use Rattle.wf_rup.specs.Stored.{HasNoStoredModel, KeepsStoredModels, KeepsStoredModelsOf, KeepsStoredModelsWith, StoredEntails, StoresNothing, kept_of};
+ghost use Rattle.wf_rup.specs.Stored.{HasNoStoredModel, KeepsStoredModels, KeepsStoredModelsOf, KeepsStoredModelsWith, StoredEntails, StoresNothing, has, kept_of};
 ghost use Rattle.wf_rup.specs.Settled.{Refuses, StopsBefore};
 
 use crate::alike::are_alike;
@@ -76,22 +77,27 @@ impl Database {
 
     /// Adds a clause, and all that it forces.
     pub(crate) fn add(&mut self, alloc: Global, clause: &[Code]) -> Result<(), AllocError>
-        ensures { KeepsStoredModelsOf clause.now self.old self.new }
+        ensures sound { KeepsStoredModelsOf clause.now self.old self.new }
+        ensures kept { IfOk result (λ done. IsStored clause.now self.new) }
+        ensures still { IfOk result (λ done. StoresStill self.old self.new) }
     {
         let Some(first) = open_literal(clause, &self.trail) else {
             self.is_refuted = true;
             return Ok(());
         };
         match other_open_literal(clause, &self.trail, first) {
-            Some(second) => store(
-                alloc,
-                clause,
-                first,
-                second,
-                &mut self.clauses,
-                &mut self.watches,
-                &mut self.index,
-            ),
+            Some(second) => {
+                store(
+                    alloc,
+                    clause,
+                    first,
+                    second,
+                    &mut self.clauses,
+                    &mut self.watches,
+                    &mut self.index,
+                )?;
+                Ok(())
+            }
             None => self.force(alloc, first),
         }
     }
@@ -137,7 +143,9 @@ impl Database {
 
     /// The literal is true, and all that it forces.
     fn force(&mut self, alloc: Global, literal: Code) -> Result<(), AllocError>
-        ensures { KeepsStoredModelsWith literal self.old self.new }
+        ensures sound { KeepsStoredModelsWith literal self.old self.new }
+        ensures kept { IfOk result (λ done. has self.new.literals literal ≡ true) }
+        ensures still { IfOk result (λ done. StoresStill self.old self.new) }
     {
         if self.trail.is_true(literal) {
             return Ok(());
@@ -161,6 +169,8 @@ impl Database {
         ensures follows { IfOk result (λ follows. IsTrue follows → StoredEntails self.old lemma.now) }
         ensures refused { IfOk result (λ follows. follows ≡ false → Refuses self.old lemma.now) }
         ensures unchanged { IfOk result (λ follows. follows ≡ false → self.new ≡ self.old) }
+        ensures stored { IfOk result (λ follows. IsTrue follows → IsStored lemma.now self.new) }
+        ensures still { IfOk result (λ follows. StoresStill self.old self.new) }
         ensures kept { KeepsStoredModels self.old self.new }
     {
         if self.is_refuted {

@@ -5,8 +5,8 @@ use Rattle.wf_set.specs.Sets.{values_in}
 use Rattle.wf_formula.specs.Encoding.{at_least_one, question}
 use Rattle.wf_cnf.specs.Patterns.{patterns_seen}
 use Rattle.wf_cnf.specs.Clauses.{clauses_on}
-use Rattle.wf_cnf.specs.Posing.{FollowsFrom}
-use Rattle.wf_cnf.proofs.PosingLemmas.{follows}
+use Rattle.wf_cnf.specs.Posing.{HasModelsOf}
+use Rattle.wf_cnf.proofs.PosingLemmas.{follows, knows_whole}
 use Rattle.wf_cnf.proofs.Questions.{clauses_are_question, covered}
 use Rattle.wf_cnf.proofs.posing.pose.Goals as goal
 
@@ -24,5 +24,9 @@ returns c =
     let whole =
     (λ i. map (at_least_one all) (below (c.points-points.ensures.points i)) ++ clauses_on all (map patterns_seen (c.deref.ensures.value i)) b)
     ∙ clauses_are_question t b.rounds b all (map patterns_seen c.in_ok-patterns.patterns.items) c.requires all_is c.in_ok-patterns.ensures in
-    subst (FollowsFrom (question t b.rounds)) (sym c.posing-2.view_is)
-    (follows (question t b.rounds) _ _ _ _ _ whole c.in_ok-posing.ensures c.add_points.ensures c.add_executions.ensures)
+    let begun = c.in_ok-add_points.ensures in
+    let ended = c.in_ok-add_executions.ensures in
+    subst (HasModelsOf (question t b.rounds)) (sym c.posing-2.view_is) (record {
+      follows = follows (question t b.rounds) _ _ _ _ _ whole c.in_ok-posing.ensures begun.sound ended.sound;
+      complete = knows_whole (question t b.rounds) _ _ _ _ _ whole begun.whole ended.whole;
+    })

@@ -10,7 +10,7 @@ pub clauses-preserved : goal.clauses-preserved
 clauses-preserved c = λ a model.
     let parts : SatisfiesAll a (clauses_of (take c.clauses.clause-index c.args.clauses.now)) × (satisfies a c.clause-item.result.items ≡ true) =
     satisfies_all-more a c.args.clauses.now c.clauses.clause-index c.clause-item.result c.clauses-test.true c.clause-item.is model in
-    c.add.ensures a (c.clauses.invariant a parts.0) (ap (satisfies a) c.deref.ensures.value ∙ parts.1)
+    c.add.ensures.sound a (c.clauses.invariant a parts.0) (ap (satisfies a) c.deref.ensures.value ∙ parts.1)
 
 pub returns : goal.returns
 returns c = IfOk-weaker c.finish.result _ _

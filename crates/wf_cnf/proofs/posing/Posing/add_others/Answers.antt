@@ -1,11 +1,11 @@
-use Rattle.std.proofs.Common.{◌<◌, ◌∙◌, map, length, arith, ap, sym, subst}
-use Rattle.std.proofs.lemmas.List.{get_or-map, length-map}
+use Rattle.std.proofs.Common.{◌+◌, ◌<◌, ◌∙◌, map, take, length, arith, ap, sym, subst}
+use Rattle.std.proofs.lemmas.List.{get_or-map, length-map, take_all}
 use Rattle.wf_set.specs.Sets.{values_in}
 use Rattle.wf_cnf.specs.Patterns.{pattern_seen}
 use Rattle.wf_cnf.specs.Clauses.{HasPoints, denied_at}
 use Rattle.wf_formula.proofs.Members.{in_from_contains, in_map}
 use Rattle.wf_cnf.specs.Posing.{KeepsModelsOfAll}
-use Rattle.wf_cnf.proofs.PosingLemmas.{keeps_one}
+use Rattle.wf_cnf.proofs.PosingLemmas.{keeps_one, knows_one, knows_same, one_more}
 use Rattle.wf_cnf.proofs.posing.Posing.add_others.Goals as goal
 
 pub put_denied-requires-clause-places : goal.put_denied-requires-clause-places
@@ -21,16 +21,28 @@ loop-pattern-preserved c =
     let f = denied_at (values_in c.args.variables.now.values) c.args.points.now in
     let patterns = c.args.patterns.now in
     let x = c.pattern-item.result in
-    keeps_one (map f (map pattern_seen patterns)) (f (pattern_seen x)) _ _ _ _
-    (in_map f (map pattern_seen patterns) (pattern_seen x) (in_map pattern_seen patterns x (in_from_contains patterns x (c.loop-pattern.pattern-index, c.loop-pattern-test.true, sym c.pattern-item.is))))
-    (c.deref.ensures.value ∙ c.in_ok-put_denied.ensures) c.loop-pattern.invariant c.add.ensures
+    let i = c.loop-pattern.pattern-index in
+    let added = c.deref.ensures.value ∙ c.in_ok-put_denied.ensures in
+    record {
+      sound = keeps_one (map f (map pattern_seen patterns)) (f (pattern_seen x)) _ _ _ _
+          (in_map f (map pattern_seen patterns) (pattern_seen x) (in_map pattern_seen patterns x (in_from_contains patterns x (i, c.loop-pattern-test.true, sym c.pattern-item.is))))
+          added c.loop-pattern.invariant.sound c.add.ensures.sound;
+      whole = knows_one (map f (map pattern_seen (take i patterns))) (map f (map pattern_seen (take (i + 1) patterns))) (f (pattern_seen x)) _ _ _ _
+          (one_more f pattern_seen patterns i x c.loop-pattern-test.true c.pattern-item.is) added
+          c.loop-pattern.invariant.whole c.in_ok-add.ensures.kept c.in_ok-add.ensures.still;
+    }
 
-pub returns-in_err-add : goal.returns-in_err-add
-returns-in_err-add c =
+pub returns-in_err-add-clause-sound : goal.returns-in_err-add-clause-sound
+returns-in_err-add-clause-sound c =
     let f = denied_at (values_in c.args.variables.now.values) c.args.points.now in
     let patterns = c.args.patterns.now in
     let x = c.pattern-item.result in
     subst (λ old. KeepsModelsOfAll (map f (map pattern_seen patterns)) old c.add.new.self) c.self.view_is
     (keeps_one (map f (map pattern_seen patterns)) (f (pattern_seen x)) _ _ _ _
     (in_map f (map pattern_seen patterns) (pattern_seen x) (in_map pattern_seen patterns x (in_from_contains patterns x (c.loop-pattern.pattern-index, c.loop-pattern-test.true, sym c.pattern-item.is))))
-    (c.deref.ensures.value ∙ c.in_ok-put_denied.ensures) c.loop-pattern.invariant c.add.ensures)
+    (c.deref.ensures.value ∙ c.in_ok-put_denied.ensures) c.loop-pattern.invariant.sound c.add.ensures.sound)
+
+pub returns-clause-whole : goal.returns-clause-whole
+returns-clause-whole c =
+    let f = denied_at (values_in c.args.variables.now.values) c.args.points.now in
+    knows_same _ _ _ _ _ (ap (λ ps. map f (map pattern_seen ps)) (take_all _ _ c.loop-pattern-test.false)) c.self.view_is c.loop-pattern.invariant.whole

@@ -2,6 +2,7 @@ use Rattle.std.proofs.Common.{◌∙◌, ap}
 use Rattle.std.proofs.lemmas.Result.{IfOk-weaker}
 use Rattle.wf_rup.specs.Seen.{known_of}
 use Rattle.wf_rup.proofs.LiteralLemmas.{entails-clause, keeps-models}
+use Rattle.wf_rup.proofs.StoredLemmas.{is-kept, knows-still}
 use Rattle.wf_rup.proofs.UnitLemmas.{does-not-follow}
 use Rattle.wf_rup.proofs.checker.Checker.derive.Goals as goal
 
@@ -24,3 +25,11 @@ returns-clause-unchanged c = IfOk-weaker c.derive.result _ _
 
 pub returns-clause-kept : goal.returns-clause-kept
 returns-clause-kept c = keeps-models c.self.inside.database c.derive.new.self c.args.self.now c.self.view_is c.derive.ensures.kept
+
+pub returns-clause-added : goal.returns-clause-added
+returns-clause-added c = IfOk-weaker c.derive.result _ _
+    (λ follows stored yes. is-kept c.derive.new.self c.args.lemma.now _ (c.deref.ensures.value ∙ c.in_ok-put_codes.ensures) (stored yes))
+    c.derive.ensures.stored
+
+pub returns-clause-still : goal.returns-clause-still
+returns-clause-still c = IfOk-weaker c.derive.result _ _ (λ follows still. knows-still c.self.inside.database c.derive.new.self c.args.self.now c.self.view_is still) c.derive.ensures.still
