@@ -104,6 +104,18 @@ abbrev pub proof_asked : List Row → Asked
 proof_asked rows =
     given (task_of rows) (λ path. given (rounds_of rows) (λ rounds. this_job_on path (λ task. job.Proof task rounds)))
 
+abbrev pub trim_asked : List Row → Asked
+trim_asked rows = given (task_of rows) (λ path. this_job_on path (λ task. job.Trim task))
+
+abbrev pub explain_asked : List Row → Asked
+explain_asked rows = given (task_of rows) (λ path. this_job_on path (λ task. job.Explain task))
+
+abbrev pub lift_asked : List Row → Asked
+lift_asked rows = given (task_of rows) (λ path. this_job_on path (λ task. job.Lift task (rounds_of rows)))
+
+abbrev pub executions_asked : List Row → Asked
+executions_asked rows = given (rounds_of rows) (λ rounds. this_job (job.Executions rounds))
+
 -- the options of a preset
 abbrev pub options_of : List Row → ℕ → Options
 options_of rows processes = record {
@@ -126,6 +138,10 @@ jobs = (codes "solve", solve_asked)
     ∷ (codes "cnf", cnf_asked)
     ∷ (codes "model", model_asked)
     ∷ (codes "proof", proof_asked)
+    ∷ (codes "trim", trim_asked)
+    ∷ (codes "explain", explain_asked)
+    ∷ (codes "lift", lift_asked)
+    ∷ (codes "executions", executions_asked)
     ∷ (codes "preset", preset_job_asked) ∷ []
 
 -- what the subcommand of this name asks for, by its options

@@ -67,6 +67,18 @@ model = subcommand (codes "model") (required task_option ∷ rounds ∷ [])
 abbrev pub proof : Shape
 proof = subcommand (codes "proof") (required task_option ∷ rounds ∷ [])
 
+abbrev pub trim : Shape
+trim = subcommand (codes "trim") (required task_option ∷ [])
+
+abbrev pub explain : Shape
+explain = subcommand (codes "explain") (required task_option ∷ [])
+
+abbrev pub lift : Shape
+lift = subcommand (codes "lift") (required task_option ∷ number_option (codes "rounds") ∷ [])
+
+abbrev pub executions : Shape
+executions = subcommand (codes "executions") (rounds ∷ [])
+
 abbrev pub preset : Shape
 preset = subcommand (codes "preset")
     (required kind_word ∷ required (number_option (codes "processes")) ∷ number_option (codes "k")
@@ -76,5 +88,5 @@ preset = subcommand (codes "preset")
 abbrev pub command_line : App
 command_line = record {
   top = record (new_shape (codes "wfcheck")) { is_leaf = false; has_version = true; subcommand_required = true };
-  subs = solve ∷ verify ∷ views ∷ points ∷ cnf ∷ model ∷ proof ∷ preset ∷ [];
+  subs = solve ∷ verify ∷ views ∷ points ∷ cnf ∷ model ∷ proof ∷ trim ∷ explain ∷ lift ∷ executions ∷ preset ∷ [];
 }

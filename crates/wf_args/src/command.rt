@@ -208,6 +208,55 @@ fn proof_command<'a>(alloc: Global) -> Result<Command<'a>, AllocError>
     .arg(rounds(alloc))
 }
 
+fn trim_command<'a>(alloc: Global) -> Result<Command<'a>, AllocError>
+    ensures { IfOk result (IsLeaf line.trim) }
+{
+    subcommand(
+        alloc,
+        "trim",
+        "Read a report on standard input, check it, and write it with the lines that are needed",
+    )
+    .arg(task(alloc))
+}
+
+fn explain_command<'a>(alloc: Global) -> Result<Command<'a>, AllocError>
+    ensures { IfOk result (IsLeaf line.explain) }
+{
+    subcommand(
+        alloc,
+        "explain",
+        "Read a report on standard input, check it, and write in words why there is no decision map, or what its map decides",
+    )
+    .arg(task(alloc))
+}
+
+fn lift_command<'a>(alloc: Global) -> Result<Command<'a>, AllocError>
+    ensures { IfOk result (IsLeaf line.lift) }
+{
+    subcommand(
+        alloc,
+        "lift",
+        "Read a report of a map on standard input, check it, and write the map for one round more, or for R rounds",
+    )
+    .arg(task(alloc))?
+    .arg(optional(
+        alloc,
+        "rounds",
+        "How many rounds the map is to be for, at least as many as the report's; without it one more",
+    ))
+}
+
+fn executions_command<'a>(alloc: Global) -> Result<Command<'a>, AllocError>
+    ensures { IfOk result (IsLeaf line.executions) }
+{
+    subcommand(
+        alloc,
+        "executions",
+        "Read a task on standard input, and list the executions of its protocol complex: who went in which block, round by round, and which points stand there",
+    )
+    .arg(rounds(alloc))
+}
+
 /// The kind of a preset.
 fn kind<'a>(alloc: Global) -> Arg<'a>
     ensures { IsOption (line.required line.kind_word) result }
@@ -258,5 +307,9 @@ pub(crate) fn whole_command<'a>(alloc: Global) -> Result<Command<'a>, AllocError
         .subcommand(cnf_command(alloc)?)?
         .subcommand(model_command(alloc)?)?
         .subcommand(proof_command(alloc)?)?
+        .subcommand(trim_command(alloc)?)?
+        .subcommand(explain_command(alloc)?)?
+        .subcommand(lift_command(alloc)?)?
+        .subcommand(executions_command(alloc)?)?
         .subcommand(preset_command(alloc)?)
 }

@@ -3,7 +3,7 @@
 ghost use Rattle.std.specs.Prelude.{◌≡◌, [], IfOk, IfSome, option_map};
 ghost use Rattle.clap.specs.Words.{first_of, found_of, rows_of, subcommand_rows_of};
 ghost use Rattle.wf_args.specs.Job.{CanBeDone};
-ghost use Rattle.wf_args.specs.Asked.{Answers, this_or_none, asked_of, cnf_asked, has_flag, judged, model_asked, number_of, points_asked, preset_job_asked, proof_asked, solve_asked, verify_asked, views_asked, workers_of};
+ghost use Rattle.wf_args.specs.Asked.{Answers, this_or_none, asked_of, cnf_asked, executions_asked, explain_asked, has_flag, judged, lift_asked, model_asked, number_of, points_asked, preset_job_asked, proof_asked, solve_asked, trim_asked, verify_asked, views_asked, workers_of};
 
 use crate::forms::form_of;
 use crate::presets::Options;
@@ -80,6 +80,10 @@ fn job_of(alloc: Global, name: &str, found: &ArgMatches<'_>) -> Result<Job, Word
         "cnf" => cnf_job(found).ok_or(WordsFault::Words),
         "model" => model_job(alloc, found),
         "proof" => proof_job(alloc, found),
+        "trim" => trim_job(alloc, found),
+        "explain" => explain_job(alloc, found),
+        "lift" => lift_job(alloc, found),
+        "executions" => executions_job(found).ok_or(WordsFault::Words),
         "preset" => preset_job(found).ok_or(WordsFault::Words),
         _ => Err(WordsFault::Words),
     }
@@ -174,6 +178,55 @@ fn proof_job(alloc: Global, found: &ArgMatches<'_>) -> Result<Job, WordsFault>
         }),
         _ => Err(WordsFault::Words),
     }
+}
+
+/// The job of `trim`.
+fn trim_job(alloc: Global, found: &ArgMatches<'_>) -> Result<Job, WordsFault>
+    ensures asked { Answers (trim_asked (rows_of (found_of found.now))) result }
+    ensures can_be_done { IfOk result CanBeDone }
+{
+    match text(found, "task") {
+        Some(task) => Ok(Job::Trim {
+            task: String::from_str(alloc, task)?,
+        }),
+        None => Err(WordsFault::Words),
+    }
+}
+
+/// The job of `explain`.
+fn explain_job(alloc: Global, found: &ArgMatches<'_>) -> Result<Job, WordsFault>
+    ensures asked { Answers (explain_asked (rows_of (found_of found.now))) result }
+    ensures can_be_done { IfOk result CanBeDone }
+{
+    match text(found, "task") {
+        Some(task) => Ok(Job::Explain {
+            task: String::from_str(alloc, task)?,
+        }),
+        None => Err(WordsFault::Words),
+    }
+}
+
+/// The job of `lift`.
+fn lift_job(alloc: Global, found: &ArgMatches<'_>) -> Result<Job, WordsFault>
+    ensures asked { Answers (lift_asked (rows_of (found_of found.now))) result }
+    ensures can_be_done { IfOk result CanBeDone }
+{
+    match text(found, "task") {
+        Some(task) => Ok(Job::Lift {
+            task: String::from_str(alloc, task)?,
+            rounds: number(found, "rounds"),
+        }),
+        None => Err(WordsFault::Words),
+    }
+}
+
+/// The job of `executions`.
+fn executions_job(found: &ArgMatches<'_>) -> Option<Job>
+    ensures asked { this_or_none result ≡ executions_asked (rows_of (found_of found.now)) }
+    ensures can_be_done { IfSome result CanBeDone }
+{
+    let rounds = number(found, "rounds")?;
+    Some(Job::Executions { rounds })
 }
 
 /// The job of `preset`.

@@ -80,6 +80,28 @@ pub enum Job {
         /// The file that has the task.
         task: String,
     },
+    /// Write a report that is read, where it is accepted, with the lines that are needed.
+    Trim {
+        /// The file that has the task.
+        task: String,
+    },
+    /// Tell in words why there is no decision map, or what the map decides, by a report that is read and accepted.
+    Explain {
+        /// The file that has the task.
+        task: String,
+    },
+    /// Write the map of a report that is read and accepted for more rounds.
+    Lift {
+        /// The file that has the task.
+        task: String,
+        /// How many rounds the map is to be for, where they are asked for; else it is one more.
+        rounds: Option<u32>,
+    },
+    /// List the executions of a task's protocol complex after some rounds.
+    Executions {
+        /// How many rounds.
+        rounds: u32,
+    },
     /// Write the canonical text of a task that has a name.
     Preset(Preset),
 }

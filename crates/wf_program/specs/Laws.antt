@@ -5,7 +5,7 @@ use Rattle.wf_core.specs.declared.Account.{Account}
 use Rattle.wf_io.specs.Seen.{Reading, Writing}
 use Rattle.wf_engine.specs.Proofs.{most_proof_bytes}
 use Rattle.wf_args.specs.declared.Job.{Job}
-use Rattle.wf_args.specs.declared.Job.TheVariants.{Verify, Decisions, Model, Proof}
+use Rattle.wf_args.specs.declared.Job.TheVariants.{Verify, Decisions, Model, Proof, Trim, Explain, Lift}
 use Rattle.wf_args.specs.declared.WordsFault.{WordsFault}
 use Rattle.wf_program.specs.Files.{Filing, Opens}
 use Rattle.wf_program.specs.Program.{GivenWords, IsAsked, Serves, TellsAccount}
@@ -16,6 +16,9 @@ file_count (Ok (Verify task rounds)) = 1
 file_count (Ok (Decisions task)) = 1
 file_count (Ok (Model task rounds)) = 1
 file_count (Ok (Proof task rounds)) = 1
+file_count (Ok (Trim task)) = 1
+file_count (Ok (Explain task)) = 1
+file_count (Ok (Lift task rounds)) = 1
 file_count asked = 0
 
 -- how many bytes the text may have that a job reads of the source

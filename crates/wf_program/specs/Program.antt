@@ -23,9 +23,13 @@ use Rattle.wf_engine.specs.Verify.{Verifies, Decides}
 use Rattle.wf_engine.specs.Models.{Models}
 use Rattle.wf_engine.specs.Proofs.{Refutes}
 use Rattle.wf_engine.specs.Presets.{WritesPreset}
+use Rattle.wf_argument.specs.Listing.{executions_text}
+use Rattle.wf_rewrite.specs.Trimming.{Trims}
+use Rattle.wf_rewrite.specs.Explaining.{Explains}
+use Rattle.wf_rewrite.specs.Lifting.{Lifts}
 use Rattle.wf_args.specs.Asked.{Answers, job_asked}
 use Rattle.wf_args.specs.declared.Job.{Job}
-use Rattle.wf_args.specs.declared.Job.TheVariants.{Solve, Verify, Views, Points, Cnf, Model, Proof, Decisions, Preset}
+use Rattle.wf_args.specs.declared.Job.TheVariants.{Solve, Verify, Views, Points, Cnf, Model, Proof, Decisions, Trim, Explain, Lift, Executions, Preset}
 use Rattle.wf_args.specs.declared.WordsFault.{WordsFault}
 use Rattle.wf_args.specs.declared.WordsFault.TheVariants as fault
 use Rattle.wf_program.specs.Files.{Opening, Opens, opened, refused, Filing, CanAsk, after_asking, unread}
@@ -117,6 +121,9 @@ DoesWithFile (filed.Verify rounds) task task' source source' sink sink' done = E
 DoesWithFile (filed.Model rounds) task task' source source' sink sink' done = Ended written (Models rounds) task task' source source' sink sink' done
 DoesWithFile (filed.Proof rounds) task task' source source' sink sink' done = Ended written (Refutes rounds) task task' source source' sink sink' done
 DoesWithFile filed.Decisions task task' source source' sink sink' done = Ended written Decides task task' source source' sink sink' done
+DoesWithFile filed.Trim task task' source source' sink sink' done = Ended written Trims task task' source source' sink sink' done
+DoesWithFile filed.Explain task task' source source' sink sink' done = Ended written Explains task task' source source' sink sink' done
+DoesWithFile (filed.Lift rounds) task task' source source' sink sink' done = Ended written (Lifts rounds) task task' source source' sink sink' done
 
 -- One file was asked for and opened, this was done with its task and the source's text, and the file's source is kept as
 -- it was left. Or it can't be opened, which is a failed read, and nothing was read or written.
@@ -137,6 +144,8 @@ abbrev pub Does : {F : Type 0} → Opens → Job → Filing F → Filing F → R
 Does opens (Solve rounds workers form account progress) folder folder' source source' sink sink' done =
     (result : Result (Outcome × Account) RunFault) × Solves rounds form source source' sink sink' result
     × (workers ≡ 1 → SearchesInOrder result) × (folder' ≡ folder) × (done ≡ solved account result)
+Does opens (Executions rounds) folder folder' source source' sink sink' done =
+    ListsOf executions_text rounds folder folder' source source' sink sink' done
 Does opens (Verify task rounds) folder folder' source source' sink sink' done =
     WithFile (opens (string_bytes task)) (DoesWithFile (filed.Verify rounds)) folder folder' source source' sink sink' done
 Does opens (Views rounds) folder folder' source source' sink sink' done =
@@ -151,6 +160,12 @@ Does opens (Proof task rounds) folder folder' source source' sink sink' done =
     WithFile (opens (string_bytes task)) (DoesWithFile (filed.Proof rounds)) folder folder' source source' sink sink' done
 Does opens (Decisions task) folder folder' source source' sink sink' done =
     WithFile (opens (string_bytes task)) (DoesWithFile filed.Decisions) folder folder' source source' sink sink' done
+Does opens (Trim task) folder folder' source source' sink sink' done =
+    WithFile (opens (string_bytes task)) (DoesWithFile filed.Trim) folder folder' source source' sink sink' done
+Does opens (Explain task) folder folder' source source' sink sink' done =
+    WithFile (opens (string_bytes task)) (DoesWithFile filed.Explain) folder folder' source source' sink sink' done
+Does opens (Lift task rounds) folder folder' source source' sink sink' done =
+    WithFile (opens (string_bytes task)) (DoesWithFile (filed.Lift rounds)) folder folder' source source' sink sink' done
 Does opens (Preset preset) folder folder' source source' sink sink' done =
     (result : Result (Unit {0}) RunFault) × WritesPreset preset sink sink' result × (source' ≡ source)
     × (folder' ≡ folder) × (done ≡ written result)

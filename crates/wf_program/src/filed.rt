@@ -13,6 +13,7 @@ use std::io::{Read, Write};
 use std::thread::Threads;
 use wf_engine::{RunFault, run_decisions, run_model, run_proof, run_verify};
 use wf_io::{Sink, Source};
+use wf_rewrite::{run_explain, run_lift, run_trim};
 
 /// What a job does with the task in a file, and with what the source gives about it.
 #[derive(Clone, Copy)]
@@ -25,6 +26,12 @@ pub(crate) enum Filed {
     Proof(u32),
     /// Tell what a report's map decides.
     Decisions,
+    /// Write a report with the lines that are needed.
+    Trim,
+    /// Tell in words why a report's lines leave no map, or what its map decides.
+    Explain,
+    /// Report a report's map for one round more, or for so many rounds.
+    Lift(Option<u32>),
 }
 
 impl Filed {
@@ -74,6 +81,9 @@ impl Filed {
             }
             Filed::Proof(rounds) => after_writing(run_proof(alloc, task, source, sink, rounds)),
             Filed::Decisions => after_writing(run_decisions(rt, alloc, task, source, sink)),
+            Filed::Trim => after_writing(run_trim(rt, alloc, task, source, sink)),
+            Filed::Explain => after_writing(run_explain(rt, alloc, task, source, sink)),
+            Filed::Lift(rounds) => after_writing(run_lift(rt, alloc, task, source, sink, rounds)),
         }
     }
 }

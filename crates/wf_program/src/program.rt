@@ -26,6 +26,7 @@ use wf_engine::{
 };
 use wf_io::{Sink, Source};
 use wf_pool::Gate;
+use wf_rewrite::run_executions;
 
 /// Runs what the words ask for, the first of which is the program's own name, and answers the exit status. Where the
 /// words could not be had, that is the refusal.
@@ -108,6 +109,14 @@ fn do_job<T: Threads + Sync, F: Files, G: Gate, R: Read, W: Write>(
         }
         Job::Decisions { task } => {
             Filed::Decisions.with_file(rt, alloc, folder, task, source, sink)
+        }
+        Job::Trim { task } => Filed::Trim.with_file(rt, alloc, folder, task, source, sink),
+        Job::Explain { task } => Filed::Explain.with_file(rt, alloc, folder, task, source, sink),
+        Job::Lift { task, rounds } => {
+            Filed::Lift(*rounds).with_file(rt, alloc, folder, task, source, sink)
+        }
+        Job::Executions { rounds } => {
+            after_writing(run_executions(alloc, source, sink, *rounds))
         }
         Job::Preset(preset) => after_writing(run_preset(alloc, sink, *preset)),
     }
