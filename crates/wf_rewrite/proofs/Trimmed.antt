@@ -3,7 +3,6 @@ use Rattle.std.proofs.Common.{◌≡◌, ◌≤◌, ℕ, List, length, None, Res
 use Rattle.wf_model.specs.Limits.{most_bytes}
 use Rattle.wf_model.specs.Task.{Task}
 use Rattle.wf_model.specs.Report.{Report, report_about, report_text}
-use Rattle.wf_model.proofs.WholeReports.{numbers}
 use Rattle.wf_io.specs.Seen.{Reading, Writing}
 use Rattle.wf_io.specs.Texts.{Gave, ReadsText, Took}
 use Rattle.wf_io.specs.declared.source.ReadFault.{ReadFault}
@@ -18,16 +17,11 @@ use Rattle.wf_engine.specs.Headline.{AreAsked, GaveTask}
 use Rattle.wf_engine.proofs.Headline.{task_read}
 use Rattle.wf_rewrite.specs.Trimming.{AreMade, IsShortened}
 use Rattle.wf_rewrite.specs.Trimmed.{IsAcceptedText, IsGoodText, TrimmedReportsAreAccepted}
+use Rattle.wf_rewrite.proofs.WasRead.{about}
 use Rattle.wf_rewrite.proofs.Trimming.{no_longer, stays_within}
 use Rattle.wf_rewrite.proofs.Accepting.{accepts_text}
 
 -- ---- a report without a fault
-
--- it is about the task and its own rounds
-pub about : (t : Task) (r : Report) → IsFaultless t r → r ≡ report_about t r.rounds r.body
-about t r faultless =
-    let n = numbers t r.rounds r faultless.faultless in
-    λ i. record { processes = n.processes i; rounds = r.rounds; points = n.points i; executions = n.executions i; body = r.body }
 
 pub text_about : (t : Task) (r : Report) → IsFaultless t r → report_text r ≡ text_of_report t r.rounds r.body
 unfolding text_of_report

@@ -16,7 +16,7 @@ use Rattle.wf_engine.specs.Texts.{text_of_report}
 use Rattle.wf_engine.specs.Verify.{IsFaultless, IsReportOf}
 
 -- a report without a fault is about the task and its own rounds
-about : (t : Task) (r : Report) → IsFaultless t r → r ≡ report_about t r.rounds r.body
+pub about : (t : Task) (r : Report) → IsFaultless t r → r ≡ report_about t r.rounds r.body
 about t r faultless =
     let n = numbers t r.rounds r faultless.faultless in
     λ i. record { processes = n.processes i; rounds = r.rounds; points = n.points i; executions = n.executions i; body = r.body }
