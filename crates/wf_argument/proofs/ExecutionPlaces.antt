@@ -290,11 +290,13 @@ found_there t r b e s h on =
     in_place rule (l ∷ lists) zero ws h = let same : l ≡ ws = cc in ap (λ x. Some (record { rule = rule; words = x })) same
     in_place rule (l ∷ lists) (suc i) ws h = in_place rule lists i ws h
 
+-- as many executions have points as there are
+pub as_many_executions : (t : Task) (r : ℕ) (b : Built) → IsProtocol t r b → length b.scopes ≡ length (executions t r)
+as_many_executions t r b h = ap length h.scopes_are ∙ length-map (problem_of t r).constraints (λ k. k.scope) ∙ length-map (executions t r) (constraint_of t (points t r))
+
 -- as many input simplices are known as executions have points
 pub as_many : (t : Task) (r : ℕ) (b : Built) → IsProtocol t r b → length b.simplices ≡ length b.scopes
-as_many t r b h =
-    ap length h.simplices_are ∙ as_many_numbers (executions_on (first_block t) r) t.delta 0
-    ∙ sym (ap length h.scopes_are ∙ length-map (problem_of t r).constraints (λ k. k.scope) ∙ length-map (executions t r) (constraint_of t (points t r)))
+as_many t r b h = ap length h.simplices_are ∙ as_many_numbers (executions_on (first_block t) r) t.delta 0 ∙ sym (as_many_executions t r b h)
 
 -- what the look-ups of an execution give
 pub record IsLookedUp (t : Task) (r e s : ℕ) (simplex : Simplex) (span : Span) (ws : List Word) : Type 0 where

@@ -2,6 +2,7 @@ pub mod ExecutionPlaces
 mod Listing
 mod Margins
 mod Parting
+mod Pieces
 mod Places
 pub mod Reasoning
 mod Taking

@@ -6,6 +6,7 @@ use Rattle.wf_model.specs.Problem.{Constraint}
 use Rattle.wf_model.specs.Refutation.{remove, empty, branch}
 use Rattle.wf_argument.specs.declared.losses.Loss.{Loss}
 use Rattle.wf_argument.specs.declared.reasons.Reason.{Reason}
+use Rattle.wf_argument.specs.Listing.{executions_text}
 use Rattle.wf_argument.specs.Parts.{parts_of, takes, closes, splits}
 use Rattle.wf_argument.specs.State.{Gone, first_gone, needed, points_in, taken, take_in, with_reasons}
 use Rattle.wf_argument.specs.Text.{argument_text, words_text, any_text, number_text, needed_text, reasons_text}
@@ -88,3 +89,12 @@ path_argument_without_rounds = refl
 pub a_line_that_names_nobody : argument_text consensus 0 (remove 0 1 1 ∷ remove 0 0 1 ∷ empty 1 ∷ []) ≡ codes "No decision map after 0 rounds: 2 steps over 1 of 3 executions.\n\nPoints\n  v0 is p0=0\n  v1 is p1=1\nArgument\n  1. v0 is not 1: in execution 0, {p0}, no tuple at (v0) has it. So v0 is 0.\n  v1 has no value left.\n"
 unfolding digits
 a_line_that_names_nobody = refl
+
+-- the executions of consensus after one round, and those of a symmetric task, in which one point stands at two places
+pub executions_of_consensus : executions_text consensus 1 ≡ codes "0 {p0} : 0\n1 {p1} : 1\n2 {p0 p1} : 2 3\n3 {p0}{p1} : 0 3\n4 {p1}{p0} : 2 1\n"
+unfolding digits
+executions_of_consensus = refl
+
+pub executions_of_renaming : executions_text renaming_2_2 1 ≡ codes "0 {p0} : 0\n1 {p1} : 0\n2 {p0 p1} : 1 2\n3 {p0}{p1} : 0 2\n4 {p1}{p0} : 1 0\n"
+unfolding digits
+executions_of_renaming = refl

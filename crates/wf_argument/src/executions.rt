@@ -9,7 +9,7 @@ ghost use Rattle.wf_complex.specs.Layout.{execution_total, turns};
 ghost use Rattle.wf_complex.specs.Protocol.{IsProtocol};
 ghost use Rattle.wf_complex.specs.Rounds.{only_if};
 ghost use Rattle.wf_argument.specs.Table.{IsWhole, break_text, members_in, spans_of, table_of, text_of, words_up_to};
-ghost use Rattle.wf_argument.specs.Text.{block_of, block_text, execution_text, word_text};
+ghost use Rattle.wf_argument.specs.Text.{block_of, execution_text, word_text};
 
 use crate::words::put_processes;
 use std::alloc::{AllocError, Global};
@@ -79,7 +79,7 @@ impl Executions {
     }
 
     /// The execution of this number.
-    fn find<'a>(&'a self, task: &Task, protocol: &Protocol, execution: u32) -> Found<'a>
+    pub(crate) fn find<'a>(&'a self, task: &Task, protocol: &Protocol, execution: u32) -> Found<'a>
         requires protocol { IsProtocol task.now protocol.now.rounds protocol.now }
         requires table { self.now ≡ table_of task.now protocol.now.rounds }
         requires execution { execution < length protocol.now.simplices }
@@ -106,12 +106,12 @@ impl Executions {
 /// An execution that was looked up: its input simplex, the words of as many participants, and its place among the `count` lists of
 /// words for so many rounds.
 #[derive(Clone, Copy)]
-struct Found<'a> {
-    simplex: Simplex,
-    words: &'a [Word],
-    rounds: u32,
-    count: u32,
-    place: u32,
+pub(crate) struct Found<'a> {
+    pub(crate) simplex: Simplex,
+    pub(crate) words: &'a [Word],
+    pub(crate) rounds: u32,
+    pub(crate) count: u32,
+    pub(crate) place: u32,
 }
 
 /// The words of one participant, of two, of three and of four.
@@ -189,7 +189,7 @@ fn put_words(text: &mut String, found: &Found<'_>) -> Result<(), AllocError>
     ensures { OnOk result (string_bytes text.new ≡ string_bytes text.old ++ text_of found.now) }
 {
     if found.rounds == 0 {
-        return put_all(text, &found.simplex);
+        return put_processes(text, members_of(&found.simplex).as_slice());
     }
     let words = found.words;
     let mut count = found.count as usize;
@@ -226,24 +226,9 @@ fn put_word(text: &mut String, simplex: &Simplex, word: &Word) -> Result<(), All
     Ok(())
 }
 
-/// Adds all who take part.
-fn put_all(text: &mut String, simplex: &Simplex) -> Result<(), AllocError>
-    ensures { OnOk result (string_bytes text.new
-        ≡ string_bytes text.old ++ block_text (processes_of simplex.now)) }
-{
-    let mut members = Members {
-        count: 0,
-        processes: [0; 4],
-    };
-    for place in 0..simplex.colours() {
-        members.push_if(true, simplex.colour(place));
-    }
-    put_processes(text, members.as_slice())
-}
-
 /// At most four processes.
 #[derive(Clone, Copy)]
-struct Members {
+pub(crate) struct Members {
     count: usize,
     processes: [u8; 4],
 }
@@ -262,7 +247,7 @@ impl Members {
     }
 
     /// The processes.
-    fn as_slice(&self) -> &[u8]
+    pub(crate) fn as_slice(&self) -> &[u8]
         requires { self.now.count ≤ 4 }
         ensures { result.now ≡ members_in self.now }
     {
@@ -271,7 +256,7 @@ impl Members {
 }
 
 /// Those of the participants that are in this block of a word.
-fn block_of(simplex: &Simplex, word: &Word, block: u8) -> Members
+pub(crate) fn block_of(simplex: &Simplex, word: &Word, block: u8) -> Members
     requires { length word.now ≡ length simplex.now }
     ensures count { result.count ≤ 4 }
     ensures processes { members_in result ≡ block_of (processes_of simplex.now) word.now block }
@@ -282,6 +267,21 @@ fn block_of(simplex: &Simplex, word: &Word, block: u8) -> Members
     };
     for place in 0..simplex.colours() {
         members.push_if(word.level(place) == block, simplex.colour(place));
+    }
+    members
+}
+
+/// All who take part.
+pub(crate) fn members_of(simplex: &Simplex) -> Members
+    ensures count { result.count ≤ 4 }
+    ensures processes { members_in result ≡ processes_of simplex.now }
+{
+    let mut members = Members {
+        count: 0,
+        processes: [0; 4],
+    };
+    for place in 0..simplex.colours() {
+        members.push_if(true, simplex.colour(place));
     }
     members
 }

@@ -2,6 +2,7 @@
 //!
 //! - [`write_argument`]: the whole argument, in one pass over the lines for its parts.
 //! - [`Executions`]: the executions of a task in words.
+//! - [`write_executions`]: all of them, with their points.
 //!
 //! `specs/` says what it is: `Parts`, which lines go together; `State`, what is gone after some of them and why; and `Text`, the
 //! words. `Trail` is what the program keeps of a state, and `Table` what executions are told by.
@@ -10,6 +11,7 @@
 mod argument;
 mod executions;
 mod grounds;
+mod listed;
 mod losses;
 mod parts;
 mod points;
@@ -23,3 +25,4 @@ mod words;
 
 pub use argument::write_argument;
 pub use executions::Executions;
+pub use listed::write_executions;

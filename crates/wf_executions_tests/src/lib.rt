@@ -1,0 +1,5 @@
+//! Tests of listing executions.
+#![tactic(auto)]
+
+#[cfg(test)]
+mod tests;
