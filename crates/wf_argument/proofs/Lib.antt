@@ -2,8 +2,8 @@ pub mod ExecutionPlaces
 mod Listing
 mod Margins
 mod Parting
-mod Places
 mod Pieces
+mod Places
 pub mod Reasoning
 mod Taking
 mod Telling

@@ -2,12 +2,12 @@
 pub mod Parts
 pub mod State
 pub mod Text
+pub mod Table
+pub mod Listing
 -- What they say of the program's own: what it keeps, and what it is to tell.
 pub mod Places
 pub mod Subject
-pub mod Table
 pub mod Trail
 pub mod Used
-pub mod Listing
 -- Worked examples: what the definitions give, by computation.
 pub mod Examples
