@@ -1,6 +1,8 @@
 //! Each run on its happy path, and where it refuses.
 
+use std::alloc::Global;
 use std::test::Fail;
+use std::thread::Threads;
 use wf_complex::{BuildFault, Protocol};
 use wf_engine::{Accepted, RunFault, run_verify};
 use wf_examples::{AGREEMENT_3_3, PATH_2, PATH_3, RENAMING_2_1, RENAMING_2_3};
@@ -60,14 +62,22 @@ const OWN: &str =
 const OWN_LATER: &str =
     "wfcheck report 1\nprocesses 3\nrounds 1\npoints 12\nexecutions 25\nanswer map\nm 0\nm 1\nm 2\nm 0\nm 1\nm 0\nm 2\nm 1\nm 2\nm 0\nm 1\nm 2\nend\n";
 
-/// What is asked, and what has to be answered and written.
+/// What is asked, and what has to be written.
 #[derive(Clone, Copy)]
 struct Row {
     task: &'static str,
     report: &'static str,
     rounds: Option<u32>,
-    answer: Result<(), RunFault>,
     text: &'static str,
+}
+
+/// What is asked, and how it has to be refused.
+#[derive(Clone, Copy)]
+struct Refused {
+    task: &'static str,
+    report: &'static str,
+    rounds: Option<u32>,
+    fault: RunFault,
 }
 
 const LIFTED: [Row; 8] = [
@@ -75,166 +85,147 @@ const LIFTED: [Row; 8] = [
         task: PATH_3,
         report: PATH,
         rounds: None,
-        answer: Ok(()),
         text: PATH_LATER,
     },
     Row {
         task: PATH_3,
         report: PATH,
         rounds: Some(1),
-        answer: Ok(()),
         text: PATH,
     },
     Row {
         task: PATH_3,
         report: PATH,
         rounds: Some(3),
-        answer: Ok(()),
         text: PATH_MUCH_LATER,
     },
     Row {
         task: PATH_3,
         report: PATH_LATER,
         rounds: None,
-        answer: Ok(()),
         text: PATH_MUCH_LATER,
     },
     Row {
         task: RENAMING_2_3,
         report: RENAMING,
         rounds: Some(2),
-        answer: Ok(()),
         text: RENAMING_LATER,
     },
     Row {
         task: AGREEMENT_OF_PAIRS,
         report: AGREEMENT,
         rounds: None,
-        answer: Ok(()),
         text: AGREEMENT_LATER,
     },
     Row {
         task: PATH_2,
         report: LEAST,
         rounds: None,
-        answer: Ok(()),
         text: LEAST_LATER,
     },
     Row {
         task: AGREEMENT_3_3,
         report: OWN,
         rounds: Some(1),
-        answer: Ok(()),
         text: OWN_LATER,
     },
 ];
 
 /// The refusals, each with one that would come after it.
-const REFUSED: [Row; 8] = [
-    Row {
+const REFUSED: [Refused; 8] = [
+    Refused {
         task: "",
         report: "",
         rounds: Some(0),
-        answer: Err(RunFault::Task(TaskFault::NotJson)),
-        text: "",
+        fault: RunFault::Task(TaskFault::NotJson),
     },
-    Row {
+    Refused {
         task: PATH_3,
         report: "wfcheck",
         rounds: Some(0),
-        answer: Err(RunFault::Cert(CertFault::Syntax(1))),
-        text: "",
+        fault: RunFault::Cert(CertFault::Syntax(1)),
     },
-    Row {
+    Refused {
         task: RENAMING_2_3,
         report: PATH,
         rounds: Some(0),
-        answer: Err(RunFault::OtherRounds),
-        text: "",
+        fault: RunFault::OtherRounds,
     },
-    Row {
+    Refused {
         task: PATH_2,
         report: PATH,
         rounds: Some(9),
-        answer: Err(RunFault::Cert(CertFault::Violates(1))),
-        text: "",
+        fault: RunFault::Cert(CertFault::Violates(1)),
     },
-    Row {
+    Refused {
         task: RENAMING_2_1,
         report: NONE,
         rounds: Some(9),
-        answer: Err(RunFault::NoMap),
-        text: "",
+        fault: RunFault::NoMap,
     },
-    Row {
+    Refused {
         task: PATH_3,
         report: PATH,
         rounds: Some(9),
-        answer: Err(RunFault::Build(BuildFault::Rounds)),
-        text: "",
+        fault: RunFault::Build(BuildFault::Rounds),
     },
-    Row {
+    Refused {
         task: AGREEMENT_3_3,
         report: OWN,
         rounds: Some(9),
-        answer: Err(RunFault::Build(BuildFault::Rounds)),
-        text: "",
+        fault: RunFault::Build(BuildFault::Rounds),
     },
-    Row {
+    Refused {
         task: AGREEMENT_3_3,
         report: OWN,
         rounds: Some(6),
-        answer: Err(RunFault::Build(BuildFault::TooManyExecutions)),
-        text: "",
+        fault: RunFault::Build(BuildFault::TooManyExecutions),
     },
 ];
 
+/// What a lifting answers about the text of a task and that of a report.
+fn lift<T: Threads + Sync>(
+    rt: &T,
+    alloc: Global,
+    task: &str,
+    report: &str,
+    rounds: Option<u32>,
+    written: &mut Vec<u8>,
+) -> Result<(), RunFault> {
+    let mut task = Source::new(task.as_bytes());
+    let mut report = Source::new(report.as_bytes());
+    let mut sink = Sink::new(written);
+    run_lift(rt, alloc, &mut task, &mut report, &mut sink, rounds)
+}
+
 #[test]
 fn maps_are_lifted(rt: HostRuntime) -> Result<(), Fail> {
-    for row in LIFTED {
-        let mut task = Source::new(row.task.as_bytes());
-        let mut report = Source::new(row.report.as_bytes());
+    for Row {
+        task,
+        report,
+        rounds,
+        text,
+    } in LIFTED {
         let mut written = Vec::new(rt.alloc());
-        let mut sink = Sink::new(&mut written);
-        let answer = run_lift(
-            &rt,
-            rt.alloc(),
-            &mut task,
-            &mut report,
-            &mut sink,
-            row.rounds,
-        );
-        assert_eq!(rt; answer, row.answer, "{} {:?}", row.report, row.rounds);
-        drop(sink);
-        assert_eq!(rt;
-            written.as_slice(),
-            row.text.as_bytes(),
-            "{} {:?}",
-            row.report,
-            row.rounds
-        );
+        let answer = lift(&rt, rt.alloc(), task, report, rounds, &mut written);
+        assert_eq!(rt; answer, Ok(()), "{report}");
+        assert_eq!(rt; written.as_slice(), text.as_bytes(), "{report}");
     }
     Ok(())
 }
 
 #[test]
 fn what_gives_no_lifted_map_is_refused(rt: HostRuntime) -> Result<(), Fail> {
-    for row in REFUSED {
-        let mut task = Source::new(row.task.as_bytes());
-        let mut report = Source::new(row.report.as_bytes());
+    for Refused {
+        task,
+        report,
+        rounds,
+        fault,
+    } in REFUSED {
         let mut written = Vec::new(rt.alloc());
-        let mut sink = Sink::new(&mut written);
-        let answer = run_lift(
-            &rt,
-            rt.alloc(),
-            &mut task,
-            &mut report,
-            &mut sink,
-            row.rounds,
-        );
-        assert_eq!(rt; answer, row.answer, "{} {:?}", row.report, row.rounds);
-        drop(sink);
-        assert_eq!(rt; written.as_slice(), row.text.as_bytes(), "{}", row.report);
+        let answer = lift(&rt, rt.alloc(), task, report, rounds, &mut written);
+        assert_eq!(rt; answer, Err(fault), "{report}");
+        assert!(rt; written.is_empty(), "{report}");
     }
     Ok(())
 }
@@ -255,6 +246,7 @@ fn lifted_maps_are_accepted(rt: HostRuntime) -> Result<(), Fail> {
 fn values_are_lifted(rt: HostRuntime) -> Result<(), Fail> {
     let task = Task::read_text(rt.alloc(), PATH_3.as_bytes())?;
     let before = Protocol::build(rt.alloc(), &task, 0)?;
+    assert_eq!(rt; before.points(), 2);
     let after = Protocol::build(rt.alloc(), &task, 1)?;
     // alone or not, the processes decide what they decide without a round
     let lifted = lift_values(rt.alloc(), &task, &before, &after, &[4, 7])?;
