@@ -2,4 +2,6 @@
 #![tactic(auto)]
 
 #[cfg(test)]
+mod explain_tests;
+#[cfg(test)]
 mod trim_tests;
