@@ -1,6 +1,11 @@
 pub mod ExecutionPlaces
 mod Listing
 mod Margins
+mod Parting
 mod Pieces
+mod Places
 pub mod Reasoning
+mod Taking
 mod Telling
+mod Trails
+mod Usage

@@ -8,7 +8,7 @@ use Rattle.wf_argument.specs.declared.losses.Loss.{Loss}
 use Rattle.wf_argument.specs.declared.reasons.Reason.{Reason}
 use Rattle.wf_argument.specs.Listing.{executions_text}
 use Rattle.wf_argument.specs.Parts.{parts_of, takes, closes, splits}
-use Rattle.wf_argument.specs.State.{Gone, first_gone, points_in, taken, take_each, with_reasons}
+use Rattle.wf_argument.specs.State.{Gone, first_gone, needed, points_in, taken, take_in, with_reasons}
 use Rattle.wf_argument.specs.Text.{argument_text, words_text, any_text, number_text, needed_text, reasons_text}
 
 abbrev lost : ℕ → Option ℕ → Loss
@@ -56,7 +56,7 @@ two_points_lost = [] ∷ [] ∷ [] ∷ (lost 1 (Some 8) ∷ lost 2 None ∷ []) 
 pub the_first_that_is_gone : map (first_gone two_points_lost (points_in three_points)) three_points.tuples ≡ Some (reason 5 0 (Some 6)) ∷ Some (reason 5 0 (Some 6)) ∷ Some (reason 5 0 (Some 6)) ∷ Some (reason 3 2 None) ∷ []
 the_first_that_is_gone = refl
 
-pub each_reason_once : with_reasons three_points 2 two_points_lost [] 2 ≡ reason 3 2 None ∷ reason 5 0 (Some 6) ∷ []
+pub each_reason_once : with_reasons two_points_lost (points_in three_points) [] (needed three_points.tuples 2 2) ≡ reason 3 2 None ∷ reason 5 0 (Some 6) ∷ []
 each_reason_once = refl
 
 -- a value that is gone stays gone by the step that took it first
@@ -67,7 +67,7 @@ gone_once = refl
 abbrev one_point_twice : Constraint
 one_point_twice = record { scope = (0, 0) ∷ (1, 0) ∷ []; tuples = (1 ∷ 0 ∷ []) ∷ [] }
 
-pub taken_in_turn : take_each one_point_twice 4 0 0 ([] ∷ []) (0 ∷ 1 ∷ []) ≡ record { gone = (lost 0 (Some 4) ∷ lost 1 (Some 4) ∷ []) ∷ []; reasons = reason 0 0 (Some 4) ∷ [] }
+pub taken_in_turn : take_in one_point_twice 4 (0, 0) ([] ∷ []) (0 ∷ 1 ∷ []) ≡ record { gone = (lost 0 (Some 4) ∷ lost 1 (Some 4) ∷ []) ∷ []; reasons = reason 0 0 (Some 4) ∷ [] }
 taken_in_turn = refl
 
 -- consensus of two after one round

@@ -2,7 +2,12 @@
 pub mod Parts
 pub mod State
 pub mod Text
+-- What they say of the program's own: what it keeps, and what it is to tell.
+pub mod Places
+pub mod Subject
 pub mod Table
 pub mod Listing
+pub mod Trail
+pub mod Used
 -- Worked examples: what the definitions give, by computation.
 pub mod Examples

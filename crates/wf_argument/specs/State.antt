@@ -31,9 +31,9 @@ has_loss a xs = list_any (λ x. x.value == a) xs
 abbrev pub is_gone : Gone → ℕ → ℕ → Bool
 is_gone gone v a = has_loss a (losses gone v)
 
--- the values that a point has left, ascending
-abbrev pub left_at : Problem → Gone → ℕ → List ℕ
-left_at p gone v = filter (λ a. not (is_gone gone v a)) p.values
+-- those of the values that a point has left
+abbrev pub left_at : List ℕ → Gone → ℕ → List ℕ
+left_at values gone v = filter (λ a. not (is_gone gone v a)) values
 
 abbrev pub with_losses : Gone → ℕ → List Loss → Gone
 with_losses gone v xs = slice_set gone v (losses gone v ++ xs)
@@ -43,8 +43,11 @@ abbrev pub taken : ℕ → ℕ → Gone → ℕ → Gone
 taken n v gone a = if is_gone gone v a then gone else with_losses gone v (record { value = a; step = Some n } ∷ [])
 
 -- a point is supposed to have a value: the others that it has left are gone
-abbrev pub supposed : Problem → Gone → ℕ → ℕ → Gone
-supposed p gone v a = with_losses gone v (map (λ b. record { value = b; step = None }) (filter (λ b. not (b == a)) (left_at p gone v)))
+abbrev pub in_this_case : ℕ → Loss
+in_this_case a = record { value = a; step = None }
+
+abbrev pub supposed : List ℕ → Gone → ℕ → ℕ → Gone
+supposed values gone v a = with_losses gone v (map in_this_case (filter (λ b. not (b == a)) (left_at values gone v)))
 
 -- ---- what a step rests on
 
@@ -70,23 +73,31 @@ with_reason reasons (Some x) = with_element reason_cmp x reasons
 abbrev pub points_in : Constraint → List ℕ
 points_in k = map (λ at. at.1) k.scope
 
--- the tuples with this value at this place
-abbrev pub needed : Constraint → ℕ → ℕ → List Tuple
-needed k place a = filter (λ tuple. has_at tuple place a) k.tuples
+-- those of the tuples that have this value at this place
+abbrev pub needed : List Tuple → ℕ → ℕ → List Tuple
+needed tuples place a = filter (λ tuple. has_at tuple place a) tuples
 
-abbrev pub with_reasons : Constraint → ℕ → Gone → List Reason → ℕ → List Reason
-with_reasons k place gone reasons a = fold (λ found tuple. with_reason found (first_gone gone (points_in k) tuple)) reasons (needed k place a)
+-- why none of these tuples can be decided at these points
+abbrev pub with_reasons : Gone → List ℕ → List Reason → List Tuple → List Reason
+with_reasons gone points reasons tuples = fold (λ found tuple. with_reason found (first_gone gone points tuple)) reasons tuples
 
 -- step n takes these values in turn from the point at a place of an execution: what is gone then, and the reasons
 pub record Taking : Type 0 where
   pub gone : Gone
   pub reasons : List Reason
 
-abbrev pub take : Constraint → ℕ → ℕ → ℕ → Taking → ℕ → Taking
-take k n place v s a = record { gone = taken n v s.gone a; reasons = with_reasons k place s.gone s.reasons a }
+abbrev pub take : List Tuple → List ℕ → ℕ → ℕ → ℕ → Taking → ℕ → Taking
+take tuples points n place v s a = record {
+  gone = taken n v s.gone a;
+  reasons = with_reasons s.gone points s.reasons (needed tuples place a);
+}
 
-abbrev pub take_each : Constraint → ℕ → ℕ → ℕ → Gone → List ℕ → Taking
-take_each k n place v gone values = fold (take k n place v) (record { gone = gone; reasons = [] }) values
+abbrev pub take_each : List Tuple → List ℕ → ℕ → ℕ → ℕ → Gone → List ℕ → Taking
+take_each tuples points n place v gone values = fold (take tuples points n place v) (record { gone = gone; reasons = [] }) values
+
+-- the same in an execution
+abbrev pub take_in : Constraint → ℕ → ℕ × ℕ → Gone → List ℕ → Taking
+take_in k n at gone values = take_each k.tuples (points_in k) n at.0 at.1 gone values
 
 -- ---- from part to part
 
@@ -111,9 +122,13 @@ pub record State : Type 0 where
 abbrev pub start : Problem → State
 start p = record { number = 1; depth = 0; gone = replicate p.points []; later = [] }
 
+-- the case that a point has this one of the values
+abbrev pub case_of : List ℕ → ℕ → Gone → ℕ → ℕ → Case
+case_of values depth gone v a = record { point = v; value = a; depth = depth; gone = supposed values gone v a }
+
 -- a case for each value that the point has left
-abbrev pub cases_at : Problem → State → ℕ → List Case
-cases_at p s v = map (λ a. record { point = v; value = a; depth = min (suc s.depth) deepest; gone = supposed p s.gone v a }) (left_at p s.gone v)
+abbrev pub cases_at : List ℕ → State → ℕ → List Case
+cases_at values s v = map (case_of values (min (suc s.depth) deepest) s.gone v) (left_at values s.gone v)
 
 -- the first of these cases begins, if there is one; else all is said
 abbrev pub entered : ℕ → List Case → Option State
@@ -122,10 +137,10 @@ entered n (x ∷ later) = Some (record { number = n; depth = x.depth; gone = x.g
 
 abbrev pub after_taking : Problem → State → ℕ → List ℕ → Option (ℕ × ℕ) → State
 after_taking p s e values None = s
-after_taking p s e values (Some at) = record s { number = suc s.number; gone = (take_each (constraint_at p e) s.number at.0 at.1 s.gone values).gone }
+after_taking p s e values (Some at) = record s { number = suc s.number; gone = (take_in (constraint_at p e) s.number at s.gone values).gone }
 
 -- a part that names no participant of an execution is left out
 abbrev pub after : Problem → State → Part → Option State
 after p s (takes e c values) = Some (after_taking p s e values (place_of 0 c (constraint_at p e).scope))
 after p s (closes v) = entered s.number s.later
-after p s (splits v) = entered (suc s.number) (cases_at p s v ++ s.later)
+after p s (splits v) = entered (suc s.number) (cases_at p.values s v ++ s.later)

@@ -14,7 +14,7 @@ use Rattle.wf_model.specs.Check.{place_of}
 use Rattle.wf_model.specs.Refutation.{Line, remove, empty, branch, found}
 use Rattle.wf_argument.specs.declared.reasons.Reason.{Reason}
 use Rattle.wf_argument.specs.Parts.{Part, takes, closes, splits, parts_of}
-use Rattle.wf_argument.specs.State.{Case, State, start, left_at, needed, points_in, take_each, cases_at, after}
+use Rattle.wf_argument.specs.State.{Case, State, start, left_at, needed, points_in, take_in, cases_at, after}
 
 -- ---- words
 
@@ -124,13 +124,19 @@ rest_text v (a ∷ b ∷ more) = []
 abbrev pub step_text : ℕ → ℕ → List ℕ
 step_text n v = decimal n ++ (codes ". " ++ name v)
 
+-- what a step says of the point, and where
+abbrev pub claim_text : ℕ → ℕ → List ℕ → ℕ → List ℕ
+claim_text n v values e = step_text n v ++ (codes " is not " ++ (any_text number_text values ++ (codes ": in execution " ++ (decimal e ++ codes ", "))))
+
+-- the tuples that would be needed at these points, and why none of them can be decided
+abbrev pub grounds_text : List ℕ → List Tuple → List Reason → List ℕ
+grounds_text points tuples reasons = needed_text points tuples ++ (reasons_text None reasons ++ codes ".")
+
 abbrev pub taking_text : Problem → List Execution → State → ℕ → List ℕ → ℕ × ℕ → List ℕ
 taking_text p es s e values at =
-    let k = constraint_at p e in let done = take_each k s.number at.0 at.1 s.gone values in
-    indented s.depth (step_text s.number at.1 ++ (codes " is not " ++ (any_text number_text values
-    ++ (codes ": in execution " ++ (decimal e ++ (codes ", " ++ (execution_text (slice_get es e) ++ (codes ", "
-    ++ (needed_text (points_in k) (flat_map (needed k at.0) values) ++ (reasons_text None done.reasons ++ (codes "."
-    ++ rest_text at.1 (left_at p done.gone at.1))))))))))))
+    let k = constraint_at p e in let done = take_in k s.number at s.gone values in
+    indented s.depth (claim_text s.number at.1 values e ++ (execution_text (slice_get es e) ++ (codes ", "
+    ++ (grounds_text (points_in k) (flat_map (needed k.tuples at.0) values) done.reasons ++ rest_text at.1 (left_at p.values done.gone at.1)))))
 
 -- ---- the parts
 
@@ -143,12 +149,18 @@ abbrev pub told_taking : Problem → List Execution → State → ℕ → List �
 told_taking p es s e values None = []
 told_taking p es s e values (Some at) = taking_text p es s e values at
 
+abbrev pub end_text : State → ℕ → List ℕ
+end_text s v = indented s.depth (name v ++ codes " has no value left.") ++ case_text s.later
+
+abbrev pub split_text : List ℕ → State → ℕ → List ℕ
+split_text values s v =
+    indented s.depth (step_text s.number v ++ (codes " is " ++ (any_text number_text (left_at values s.gone v) ++ codes ".")))
+    ++ case_text (cases_at values s v ++ s.later)
+
 abbrev pub part_text : Problem → List Execution → State → Part → List ℕ
 part_text p es s (takes e c values) = told_taking p es s e values (place_of 0 c (constraint_at p e).scope)
-part_text p es s (closes v) = indented s.depth (name v ++ codes " has no value left.") ++ case_text s.later
-part_text p es s (splits v) =
-    indented s.depth (step_text s.number v ++ (codes " is " ++ (any_text number_text (left_at p s.gone v) ++ codes ".")))
-    ++ case_text (cases_at p s v ++ s.later)
+part_text p es s (closes v) = end_text s v
+part_text p es s (splits v) = split_text p.values s v
 
 -- the parts from a state on; what comes after all is said is left out
 abbrev pub parts_text : Problem → List Execution → Option State → List Part → List ℕ

@@ -9,7 +9,7 @@ pub(crate) struct Loss {
     /// The value.
     pub(crate) value: u8,
     /// The step that took it; none where a case supposes another value.
-    pub(crate) step: Option<u32>,
+    pub(crate) step: Option<usize>,
 }
 
 /// How a value was lost, if it was.

@@ -1,10 +1,13 @@
 //! The reasons of a step.
 
-ghost use Rattle.std.specs.Prelude.{◌≡◌, map, vec_items};
+ghost use Rattle.std.specs.Prelude.{◌≡◌, map, vec_items, OnOk};
 ghost use Rattle.wf_model.specs.Box.{has_at};
-ghost use Rattle.wf_argument.specs.State.{first_gone};
+ghost use Rattle.wf_model.specs.Lists.{with_element};
+ghost use Rattle.wf_argument.specs.State.{first_gone, reason_cmp};
 
 use crate::losses::{Loss, loss_of};
+use std::alloc::AllocError;
+use std::cmp::Ordering;
 use wf_task::Row;
 
 /// A point that has lost a value.
@@ -43,4 +46,33 @@ pub(crate) fn first_gone(gone: &[Vec<Loss>], points: &[u32], tuple: &[u8]) -> Op
         }
     }
     None
+}
+
+/// Adds a reason in its place, unless it is there.
+pub(crate) fn add_reason(reasons: &mut Vec<Reason>, reason: Reason) -> Result<(), AllocError>
+    ensures { OnOk result (reasons.new.items
+        ≡ with_element reason_cmp reason reasons.old.items) }
+{
+    for place in 0..reasons.len() {
+        match compare(&reason, &reasons[place]) {
+            Ordering::Less => {
+                reasons.insert(place, reason)?;
+                return Ok(());
+            }
+            Ordering::Equal => return Ok(()),
+            Ordering::Greater => {}
+        }
+    }
+    reasons.push(reason)?;
+    Ok(())
+}
+
+/// Which of two reasons comes first: by point, and then by value.
+fn compare(a: &Reason, b: &Reason) -> Ordering
+    ensures { result ≡ reason_cmp a.now b.now }
+{
+    match a.point.cmp(&b.point) {
+        Ordering::Equal => a.loss.value.cmp(&b.loss.value),
+        other => other,
+    }
 }

@@ -1,0 +1,143 @@
+-- Where a process stands in an execution, and what is said of a step there.
+use Rattle.std.proofs.Common.{◌≡◌, ℕ, suc, ◌-◌, ◌<◌, ◌≤◌, ◌==◌, ◌++◌, append-nil, List, [], ◌∷◌, map, flat_map, zip, length, get_or, Bool, true, false, cond, Some, None, option_map, slice_get, refl, sym, ap, ◌∙◌, arith, codes}
+use Rattle.std.specs.List.{slice_index_or}
+use Rattle.std.proofs.lemmas.List.{length-map, get_or_past}
+use Rattle.std.proofs.lemmas.Slice.Zip.{seconds-zip}
+use Rattle.wf_model.specs.Simplex.{Simplex, processes_of}
+use Rattle.wf_model.specs.Task as task
+use Rattle.wf_model.specs.Task.{Task, Tuple, inputs}
+use Rattle.wf_model.specs.Execution.{Execution}
+use Rattle.wf_model.specs.Problem.{Problem, Constraint, constraint_at, no_constraint, problem_of}
+use Rattle.wf_model.specs.Check.{place_of}
+use Rattle.wf_complex.specs.Protocol.{Built, IsProtocol}
+use Rattle.wf_complex.proofs.Lemmas.{constraint_there, got, rule_inside, rule_there}
+use Rattle.wf_argument.specs.Places.{place_in}
+use Rattle.wf_argument.specs.State.{Gone, State, Taking, after_taking, left_at, needed, points_in, take_each}
+use Rattle.wf_argument.specs.Text.{claim_text, execution_text, grounds_text, indented, rest_text, told_taking}
+use Rattle.wf_argument.specs.declared.reasons.Reason.{Reason}
+
+-- ---- a process and its point
+
+place_none : (n c : ℕ) (ps vs : List ℕ) → length vs ≡ length ps → place_in n c ps ≡ None → place_of n c (zip ps vs) ≡ None
+place_none n c [] [] long h = refl
+place_none n c [] (v ∷ vs) long h = absurd (omega (arith, long))
+place_none n c (p ∷ ps) [] long h = absurd (omega (arith, long))
+place_none n c (p ∷ ps) (v ∷ vs) long h = by_test (p == c) refl (place_none (suc n) c ps vs (omega (arith, long))) h
+  where
+    by_test : (b : Bool) → (p == c) ≡ b → (place_in (suc n) c ps ≡ None → place_of (suc n) c (zip ps vs) ≡ None) → cond b (Some n) (place_in (suc n) c ps) ≡ None → place_of n c (zip (p ∷ ps) (v ∷ vs)) ≡ None
+    by_test true e rest h = absurd (let bad : ⊥ = cc in bad)
+    by_test false e rest h = ap (λ b. cond b (Some (n, v)) (place_of (suc n) c (zip ps vs))) e ∙ rest h
+
+-- the place, counted from the first, and its point
+record PlaceIs (n c k : ℕ) (ps vs : List ℕ) : Type 0 where
+  pub from : n ≤ k
+  pub inside : k - n < length vs
+  pub at : place_of n c (zip ps vs) ≡ Some (k, get_or vs (k - n) 0)
+
+place_some : (n c k : ℕ) (ps vs : List ℕ) → length vs ≡ length ps → place_in n c ps ≡ Some k → PlaceIs n c k ps vs
+place_some n c k [] vs long h = absurd (let bad : ⊥ = cc in bad)
+place_some n c k (p ∷ ps) [] long h = absurd (omega (arith, long))
+place_some n c k (p ∷ ps) (v ∷ vs) long h = by_test (p == c) refl (place_some (suc n) c k ps vs (omega (arith, long))) h
+  where
+    by_test : (b : Bool) → (p == c) ≡ b → (place_in (suc n) c ps ≡ Some k → PlaceIs (suc n) c k ps vs) → cond b (Some n) (place_in (suc n) c ps) ≡ Some k → PlaceIs n c k (p ∷ ps) (v ∷ vs)
+    by_test true e found h =
+        let same : n ≡ k = cc in
+        let none : 0 ≡ k - n = omega (arith, same) in
+        record {
+          from = omega (arith, same);
+          inside = omega (arith, same);
+          at = ap (λ b. cond b (Some (n, v)) (place_of (suc n) c (zip ps vs))) e ∙ (λ i. Some (same i, get_or (v ∷ vs) (none i) 0));
+        }
+    by_test false e found h =
+        let rest = found h in
+        let next : suc (k - suc n) ≡ k - n = omega (arith, rest.from) in
+        record {
+          from = omega (arith, rest.from);
+          inside = omega (arith, rest.inside, rest.from);
+          at = ap (λ b. cond b (Some (n, v)) (place_of (suc n) c (zip ps vs))) e ∙ rest.at ∙ ap (λ j. Some (k, get_or (v ∷ vs) j 0)) next;
+        }
+
+-- ---- in an execution
+
+-- its constraint, by the simplex of its number, its tuples and its points
+record ConstraintIs (k : Constraint) (s : Simplex) (rule : task.Rule) (ps : List ℕ) : Type 0 where
+  pub is : k ≡ record { scope = zip (processes_of s) ps; tuples = rule.tuples }
+  pub long : length ps ≡ length (processes_of s)
+
+constraint_is : (t : Task) (r : ℕ) (b : Built) (e n : ℕ) (ps : List ℕ) → IsProtocol t r b → e < length b.scopes → slice_get b.simplices e ≡ Some n → ps ≡ map (λ at. at.1) (slice_index_or b.scopes e [])
+    → (rule : task.Rule) × (slice_get t.delta n ≡ Some rule) × ConstraintIs (constraint_at (problem_of t r) e) (get_or (inputs t) n []) rule ps
+constraint_is t r b e n ps built inside on are =
+    let (rule, there, k_is, long) = constraint_there t r b e n built inside on in
+    let low : n < length (inputs t) = omega (arith, rule_inside t r b e n built inside on, length-map t.delta (λ (rule : task.Rule). rule.input)) in
+    let at : slice_get t.delta n ≡ Some (record { input = get_or (inputs t) n []; tuples = rule.tuples }) = rule_there t n (get_or (inputs t) n []) [] rule.tuples refl low (ap (option_map (λ rule. rule.tuples)) there) in
+    let same : rule ≡ record { input = get_or (inputs t) n []; tuples = rule.tuples } = cc in
+    let input : rule.input ≡ get_or (inputs t) n [] = ap (λ (rule : task.Rule). rule.input) same in (
+      rule,
+      there,
+      record {
+        is = got (problem_of t r).constraints e _ no_constraint k_is ∙ (λ i. record { scope = zip (processes_of (input i)) (sym are i); tuples = rule.tuples });
+        long = ap length are ∙ length-map (slice_index_or b.scopes e []) (λ (at : ℕ × ℕ). at.1) ∙ long ∙ ap length input ∙ sym (length-map (get_or (inputs t) n []) (λ v. v.0));
+      },
+    )
+
+-- an execution that is not there has nobody
+pub nobody : (t : Task) (r : ℕ) (b : Built) (e c : ℕ) → IsProtocol t r b → length b.scopes ≤ e → place_of 0 c (constraint_at (problem_of t r) e).scope ≡ None
+nobody t r b e c built past =
+    let p = problem_of t r in
+    let beyond : length p.constraints ≤ e = omega (arith, past, ap length built.scopes_are, length-map p.constraints (λ k. k.scope)) in
+    ap (λ k. place_of 0 c k.scope) (get_or_past p.constraints e no_constraint beyond)
+
+pub not_there : (t : Task) (r : ℕ) (b : Built) (e n c : ℕ) → IsProtocol t r b → e < length b.scopes → slice_get b.simplices e ≡ Some n → place_in 0 c (processes_of (get_or (inputs t) n [])) ≡ None
+    → place_of 0 c (constraint_at (problem_of t r) e).scope ≡ None
+not_there t r b e n c built inside on h =
+    let ps = map (λ at. at.1) (slice_index_or b.scopes e []) in
+    let k = constraint_is t r b e n ps built inside on refl in
+    ap (λ k. place_of 0 c k.scope) k.2.is ∙ place_none 0 c (processes_of (get_or (inputs t) n [])) ps k.2.long h
+
+-- the place and the point of a process, the points and the tuples
+pub record IsFound (k : Constraint) (c place : ℕ) (points : List ℕ) (tuples : List Tuple) : Type 0 where
+  pub at : place_of 0 c k.scope ≡ Some (place, get_or points place 0)
+  pub inside : place < length points
+  pub points_are : points ≡ points_in k
+  pub tuples_are : tuples ≡ k.tuples
+
+pub there : (t : Task) (r : ℕ) (b : Built) (e n c place : ℕ) (points : List ℕ) (tuples : List Tuple) → IsProtocol t r b → e < length b.scopes → slice_get b.simplices e ≡ Some n
+    → points ≡ map (λ at. at.1) (slice_index_or b.scopes e []) → option_map (λ rule. rule.tuples) (slice_get t.delta n) ≡ Some tuples → place_in 0 c (processes_of (get_or (inputs t) n [])) ≡ Some place
+    → IsFound (constraint_at (problem_of t r) e) c place points tuples
+there t r b e n c place points tuples built inside on are listed h =
+    let k = constraint_is t r b e n points built inside on are in
+    let ps = processes_of (get_or (inputs t) n []) in
+    let found = place_some 0 c place ps points k.2.long h in
+    let from : place - 0 ≡ place = omega arith in
+    let same : tuples ≡ k.0.tuples = cc in record {
+      at = ap (λ k. place_of 0 c k.scope) k.2.is ∙ found.at ∙ ap (λ j. Some (place, get_or points j 0)) from;
+      inside = omega (arith, found.inside);
+      points_are = sym (ap points_in k.2.is ∙ seconds-zip ps points k.2.long);
+      tuples_are = same ∙ sym (ap (λ k. k.tuples) k.2.is);
+    }
+
+-- ---- what is said there, and what is gone then
+
+pub told_nobody : (p : Problem) (es : List Execution) (s : State) (e c : ℕ) (values t : List ℕ) → place_of 0 c (constraint_at p e).scope ≡ None → t ≡ t ++ told_taking p es s e values (place_of 0 c (constraint_at p e).scope)
+told_nobody p es s e c values t none = sym (ap (λ at. t ++ told_taking p es s e values at) none ∙ append-nil t)
+
+pub told_found : (p : Problem) (es : List Execution) (s : State) (e c place : ℕ) (values points : List ℕ) (tuples noted : List Tuple) (why : List Reason) (gone : Gone) → IsFound (constraint_at p e) c place points tuples
+    → noted ≡ flat_map (needed tuples place) values → why ≡ (take_each tuples points s.number place (get_or points place 0) s.gone values).reasons → gone ≡ (take_each tuples points s.number place (get_or points place 0) s.gone values).gone
+    → indented s.depth (claim_text s.number (get_or points place 0) values e ++ (execution_text (slice_get es e) ++ (codes ", " ++ (grounds_text points noted why ++ rest_text (get_or points place 0) (left_at p.values gone (get_or points place 0))))))
+    ≡ told_taking p es s e values (place_of 0 c (constraint_at p e).scope)
+told_found p es s e c place values points tuples noted why gone f are rest then =
+    let v = get_or points place 0 in
+    let line : List Tuple → List Reason → Gone → List ℕ → List ℕ = λ noted why gone points. indented s.depth (claim_text s.number v values e ++ (execution_text (slice_get es e) ++ (codes ", " ++ (grounds_text points noted why ++ rest_text v (left_at p.values gone v))))) in
+    (λ i. line (are i) (rest i) (then i) points)
+    ∙ (λ i. let done : Taking = take_each (f.tuples_are i) (f.points_are i) s.number place v s.gone values in line (flat_map (needed (f.tuples_are i) place) values) done.reasons done.gone (f.points_are i))
+    ∙ ap (told_taking p es s e values) (sym f.at)
+
+pub gone_found : (p : Problem) (s : State) (e c place : ℕ) (values points : List ℕ) (tuples : List Tuple) (gone : Gone) → IsFound (constraint_at p e) c place points tuples
+    → gone ≡ (take_each tuples points s.number place (get_or points place 0) s.gone values).gone
+    → record s { number = suc s.number; gone = gone } ≡ after_taking p s e values (place_of 0 c (constraint_at p e).scope)
+gone_found p s e c place values points tuples gone f then =
+    let v = get_or points place 0 in
+    let next : Gone → State = λ gone. record s { number = suc s.number; gone = gone } in
+    ap next then
+    ∙ (λ i. next (take_each (f.tuples_are i) (f.points_are i) s.number place v s.gone values).gone)
+    ∙ ap (after_taking p s e values) (sym f.at)

@@ -1,0 +1,206 @@
+-- What an argument uses: marks, counts, and the words on points.
+use Rattle.std.proofs.Common.{◌≡◌, ℕ, zero, suc, ◌+◌, ◌<◌, ◌≤◌, ◌==◌, ◌&&◌, ◌||◌, ◌++◌, List, [], ◌∷◌, drop, map, flat_map, length, get_or, Bool, true, false, cond, not, Option, Some, None, codes, append_assoc, refl, sym, ap, ◌∙◌, arith}
+use Rattle.std.specs.List.{count_by, enumerate_from, filter, list_any, range_with_len, slice_get}
+use Rattle.std.specs.Option.{unwrap_or}
+use Rattle.std.proofs.lemmas.List.{drop_all, drop_more, length-map}
+use Rattle.std.proofs.lemmas.List.Sums.{sum_by-cons}
+use Rattle.wf_model.specs.Lists.{below, has}
+use Rattle.wf_model.specs.Problem.{Problem, Constraint, Participant, no_constraint, problem_of}
+use Rattle.wf_model.specs.Refutation as refutation
+use Rattle.wf_model.specs.Refutation.{remove, empty, branch, found}
+use Rattle.wf_model.specs.View.{View}
+use Rattle.wf_model.specs.Task.{Task}
+use Rattle.wf_model.specs.Execution.{executions}
+use Rattle.wf_model.specs.Points.{points as view_points}
+use Rattle.wf_complex.specs.Protocol.{Built, IsProtocol}
+use Rattle.wf_argument.specs.State.{start}
+use Rattle.wf_model.proofs.Basics.{or_none}
+use Rattle.wf_lines.specs.Lines.{line_of}
+use Rattle.wf_lines.specs.declared.line.Line.{Line}
+use Rattle.wf_argument.specs.Parts.{takes, closes, splits, before_parts, parts_of}
+use Rattle.wf_argument.specs.Subject.{after_same, same_values}
+use Rattle.wf_argument.specs.Text.{argument_text, is_in, is_step, names, parts_text, point_text, title_text, used_count, used_points}
+use Rattle.wf_argument.specs.Used.{MarksEach, is_end, is_named, marked_text, more_steps, one_more, points_at, title_of, told_if}
+use Rattle.wf_argument.specs.declared.title.Run.{Run}
+use Rattle.wf_argument.proofs.Parting.{one_run}
+
+-- ---- steps
+
+abbrev run : ℕ → ℕ → Run
+run e c = record { execution = e; process = c }
+
+-- one element more
+count_more : {X : Type 0} (p : X → Bool) (x : X) (xs : List X) → count_by p (x ∷ xs) ≡ cond (p x) 1 0 + count_by p xs
+count_more p x xs = sum_by-cons (λ x. cond (p x) 1 0) x xs
+
+record Counts (ls : List refutation.Line) : Type 0 where
+  pub alone : more_steps None ls ≡ count_by is_step (parts_of ls)
+  pub after : (e c a : ℕ) → count_by is_step (parts_of (remove e c a ∷ ls)) ≡ suc (more_steps (Some (run e c)) ls)
+
+counts : (ls : List refutation.Line) → Counts ls
+counts [] = record { alone = refl; after = λ e c a. refl }
+counts (found ∷ ls) = record { alone = refl; after = λ e c a. refl }
+counts (empty v ∷ ls) =
+    let rest = counts ls in let one = count_more is_step (closes v) (parts_of ls) in record {
+      alone = omega (arith, rest.alone, one);
+      after = λ e c a. omega (arith, rest.alone, one, count_more is_step (takes e c (a ∷ [])) (closes v ∷ parts_of ls));
+    }
+counts (branch v ∷ ls) =
+    let rest = counts ls in let one = count_more is_step (splits v) (parts_of ls) in record {
+      alone = omega (arith, rest.alone, one);
+      after = λ e c a. omega (arith, rest.alone, one, count_more is_step (takes e c (a ∷ [])) (splits v ∷ parts_of ls));
+    }
+counts (remove f d b ∷ ls) = let rest = counts ls in record {
+  alone = sym (rest.after f d b);
+  after = λ e c a. ap (λ parts. count_by is_step (before_parts e c a parts)) (one_run f d b ls) ∙ by e c a (ap (count_by is_step) (sym (one_run f d b ls)) ∙ rest.after f d b) ((e == f) && (c == d));
+}
+  where
+    by : (e c a : ℕ) → count_by is_step (takes f d (b ∷ same_values f d ls) ∷ parts_of (after_same f d ls)) ≡ suc (more_steps (Some (run f d)) ls) → (t : Bool)
+        → count_by is_step (cond t (takes e c (a ∷ b ∷ same_values f d ls) ∷ parts_of (after_same f d ls)) (takes e c (a ∷ []) ∷ takes f d (b ∷ same_values f d ls) ∷ parts_of (after_same f d ls))) ≡ suc (one_more (not t) (more_steps (Some (run f d)) ls))
+    by e c a told true = omega (arith, told, count_more is_step (takes f d (b ∷ same_values f d ls)) (parts_of (after_same f d ls)), count_more is_step (takes e c (a ∷ b ∷ same_values f d ls)) (parts_of (after_same f d ls)))
+    by e c a told false = omega (arith, told, count_more is_step (takes e c (a ∷ [])) (takes f d (b ∷ same_values f d ls) ∷ parts_of (after_same f d ls)))
+
+pub steps_all : (ls : List Line) (before : Option Run) (i n : ℕ) → length ls ≤ i → n + more_steps before (map line_of (drop i ls)) ≡ more_steps None (map line_of ls) → n ≡ count_by is_step (parts_of (map line_of ls))
+steps_all ls before i n past told =
+    let none : more_steps before (map line_of (drop i ls)) ≡ 0 = ap (λ xs. more_steps before (map line_of xs)) (drop_all i ls past) in
+    omega (arith, told, none, (counts (map line_of ls)).alone)
+
+pub steps_ended : (ls : List Line) (before : Option Run) (i n : ℕ) (d : Line) → i < length ls → is_end (line_of (get_or ls i d)) ≡ true → n + more_steps before (map line_of (drop i ls)) ≡ more_steps None (map line_of ls)
+    → n ≡ count_by is_step (parts_of (map line_of ls))
+steps_ended ls before i n d inside is told =
+    let at = line_of (get_or ls i d) in
+    let none : more_steps before (map line_of (drop i ls)) ≡ 0 = ap (λ xs. more_steps before (map line_of xs)) (drop_more ls i d inside) ∙ ended before at (map line_of (drop (i + 1) ls)) is in
+    omega (arith, told, none, (counts (map line_of ls)).alone)
+  where
+    ended : (before : Option Run) (l : refutation.Line) (ls : List refutation.Line) → is_end l ≡ true → more_steps before (l ∷ ls) ≡ 0
+    ended before (remove e c a) ls is = absurd (let bad : ⊥ = cc in bad)
+    ended before (empty v) ls is = absurd (let bad : ⊥ = cc in bad)
+    ended before (branch v) ls is = absurd (let bad : ⊥ = cc in bad)
+    ended before found ls is = refl
+
+-- ---- marks
+
+pub marks_all : (marks : List Bool) (count : ℕ) (test : ℕ → refutation.Line → Bool) (ls : List Line) (i : ℕ) → length ls ≤ i → length marks ≡ count
+    → ((k : ℕ) → k < count → (get_or marks k false || list_any (test k) (map line_of (drop i ls))) ≡ list_any (test k) (map line_of ls)) → MarksEach count marks (λ k. list_any (test k) (map line_of ls))
+marks_all marks count test ls i past long each = record {
+  long = long;
+  each = λ k low. sym (or_none (get_or marks k false)) ∙ ap (λ xs. get_or marks k false || list_any (test k) (map line_of xs)) (sym (drop_all i ls past)) ∙ each k low;
+}
+
+counted_from : (marks : List Bool) (a : ℕ) (test : ℕ → Bool) → ((k : ℕ) → k < length marks → get_or marks k false ≡ test (a + k)) → count_by (λ is_marked. is_marked) marks ≡ count_by test (range_with_len a (length marks))
+counted_from [] a test each = refl
+counted_from (b ∷ marks) a test each =
+    let here : b ≡ test a = each 0 (omega arith) ∙ ap test (omega arith) in
+    let rest = counted_from marks (a + 1) test (λ k low. each (suc k) (omega (arith, low)) ∙ ap test (omega arith)) in
+    count_more (λ is_marked. is_marked) b marks ∙ (λ i. cond (here i) 1 0 + rest i) ∙ sym (count_more test a (range_with_len (a + 1) (length marks)))
+
+-- how many are marked
+pub counted_marks : (marks : List Bool) (count : ℕ) (test : ℕ → Bool) → MarksEach count marks test → count_by (λ is_marked. is_marked) marks ≡ count_by test (below count)
+counted_marks marks count test h = counted_from marks 0 test (λ k low. h.each k (omega (arith, low, h.long)) ∙ ap test (omega arith)) ∙ ap (λ n. count_by test (below n)) h.long
+
+-- ---- the points
+
+got_inside : {X Y : Type 0} (f : X → Y) (xs : List X) (i : ℕ) (d : X) → get_or (map f xs) i (f d) ≡ f (get_or xs i d)
+got_inside f [] i d = refl
+got_inside f (x ∷ xs) zero d = refl
+got_inside f (x ∷ xs) (suc i) d = got_inside f xs i d
+
+pub named_is : (p : Problem) (scopes : List (List Participant)) (v : ℕ) (l : refutation.Line) → scopes ≡ map (λ k. k.scope) p.constraints → is_named scopes v l ≡ names p v l
+named_is p scopes v (remove e c a) are = ap (λ ss. has (points_at ss e) v) are ∙ ap (λ scope. has (map (λ (at : ℕ × ℕ). at.1) scope) v) (got_inside (λ (k : Constraint). k.scope) p.constraints e no_constraint)
+named_is p scopes v (empty w) are = refl
+named_is p scopes v (branch w) are = refl
+named_is p scopes v found are = refl
+
+any_named : (p : Problem) (scopes : List (List Participant)) (v : ℕ) (ls : List refutation.Line) → scopes ≡ map (λ k. k.scope) p.constraints → list_any (is_named scopes v) ls ≡ list_any (names p v) ls
+any_named p scopes v [] are = refl
+any_named p scopes v (l ∷ ls) are = λ i. named_is p scopes v l are i || any_named p scopes v ls are i
+
+marked_from : (ranks : Bool) (marks : List Bool) (n : ℕ) (views : List View) (test : ℕ → Bool) → ((k : ℕ) → k < length views → get_or marks (n + k) false ≡ test (n + k)) → marked_text ranks marks n views ≡ flat_map (point_text ranks) (filter (λ at. test at.0) (enumerate_from n views))
+marked_from ranks marks n [] test each = refl
+marked_from ranks marks n (v ∷ views) test each =
+    let zero_more : n ≡ n + 0 = omega arith in
+    let here : get_or marks n false ≡ test n = ap (λ k. get_or marks k false) zero_more ∙ each 0 (omega arith) ∙ ap test (sym zero_more) in
+    by (get_or marks n false) (test n) here
+    (marked_from ranks marks (n + 1) views test (λ k low. let more : n + 1 + k ≡ n + suc k = omega arith in ap (λ k. get_or marks k false) more ∙ each (suc k) (omega (arith, low)) ∙ ap test (sym more)))
+  where
+    by : (a b : Bool) → a ≡ b → marked_text ranks marks (n + 1) views ≡ flat_map (point_text ranks) (filter (λ at. test at.0) (enumerate_from (n + 1) views))
+        → flat_map (point_text ranks) (cond a ((n, v) ∷ filter (λ at. get_or marks at.0 false) (enumerate_from (n + 1) views)) (filter (λ at. get_or marks at.0 false) (enumerate_from (n + 1) views)))
+        ≡ flat_map (point_text ranks) (cond b ((n, v) ∷ filter (λ at. test at.0) (enumerate_from (n + 1) views)) (filter (λ at. test at.0) (enumerate_from (n + 1) views)))
+    by true true e rest = ap (λ xs. point_text ranks (n, v) ++ xs) rest
+    by true false e rest = absurd (let bad : ⊥ = cc in bad)
+    by false true e rest = absurd (let bad : ⊥ = cc in bad)
+    by false false e rest = rest
+
+-- the points that lines name
+pub marked_named : (ranks : Bool) (p : Problem) (scopes : List (List Participant)) (marks : List Bool) (views : List View) (ls : List refutation.Line) → scopes ≡ map (λ k. k.scope) p.constraints → MarksEach (length views) marks (λ v. list_any (is_named scopes v) ls)
+    → marked_text ranks marks 0 views ≡ flat_map (point_text ranks) (filter (λ at. list_any (names p at.0) ls) (enumerate_from 0 views))
+marked_named ranks p scopes marks views ls are h =
+    marked_from ranks marks 0 views (λ v. list_any (names p v) ls) (λ k low. ap (λ k. get_or marks k false) (omega arith) ∙ h.each k low ∙ any_named p scopes k ls are ∙ ap (λ v. list_any (names p v) ls) (omega arith))
+
+-- one point more
+pub one_point : (ranks : Bool) (marks : List Bool) (views : List View) (n : ℕ) (b : Bool) (d : View) (t t' whole : List ℕ) → n < length views → get_or marks n false ≡ b → t' ≡ t ++ told_if b (point_text ranks (n, get_or views n d))
+    → t ++ marked_text ranks marks n (drop n views) ≡ whole → t' ++ marked_text ranks marks (n + 1) (drop (n + 1) views) ≡ whole
+one_point ranks marks views n b d t t' whole inside is more told =
+    let here = point_text ranks (n, get_or views n d) in
+    let later = marked_text ranks marks (n + 1) (drop (n + 1) views) in
+    ap (λ x. x ++ later) more ∙ append_assoc t (told_if b here) later ∙ ap (λ xs. t ++ xs) (by (n, get_or views n d) (enumerate_from (n + 1) (drop (n + 1) views)) b is) ∙ ap (λ vs. t ++ marked_text ranks marks n vs) (sym (drop_more views n d inside)) ∙ told
+  where
+    by : (at : ℕ × View) (ats : List (ℕ × View)) (b : Bool) → get_or marks n false ≡ b → told_if b (point_text ranks at) ++ flat_map (point_text ranks) (filter (λ at. get_or marks at.0 false) ats)
+        ≡ flat_map (point_text ranks) (cond (get_or marks n false) (at ∷ filter (λ at. get_or marks at.0 false) ats) (filter (λ at. get_or marks at.0 false) ats))
+    by at ats true is = sym (ap (λ b. flat_map (point_text ranks) (cond b (at ∷ filter (λ at. get_or marks at.0 false) ats) (filter (λ at. get_or marks at.0 false) ats))) is)
+    by at ats false is = sym (ap (λ b. flat_map (point_text ranks) (cond b (at ∷ filter (λ at. get_or marks at.0 false) ats) (filter (λ at. get_or marks at.0 false) ats))) is)
+
+got_by : {X : Type 0} (xs : List X) (n : ℕ) (d : X) → get_or xs n d ≡ unwrap_or (slice_get xs n) d
+got_by [] n d = refl
+got_by (x ∷ xs) zero d = refl
+got_by (x ∷ xs) (suc n) d = got_by xs n d
+
+-- one view in two lists
+pub same_got : {X : Type 0} (xs ys : List X) (n m : ℕ) (d : X) → slice_get xs n ≡ slice_get ys m → get_or xs n d ≡ get_or ys m d
+same_got xs ys n m d is = got_by xs n d ∙ ap (λ o. unwrap_or o d) is ∙ sym (got_by ys m d)
+
+pub joined : (a b c l rest : List ℕ) → b ≡ a ++ l → c ≡ b ++ rest → c ≡ a ++ (l ++ rest)
+joined a b c l rest first second = second ∙ ap (λ x. x ++ rest) first ∙ append_assoc a l rest
+
+pub point_line : (t0 t1 t2 t3 v view : List ℕ) → t1 ≡ t0 ++ (codes "  v" ++ (v ++ codes " is ")) → t2 ≡ t1 ++ view → t3 ≡ t2 ++ codes "\n"
+    → t3 ≡ t0 ++ (codes "  " ++ (((codes "v" ++ v) ++ (codes " is " ++ view)) ++ codes "\n"))
+point_line t0 t1 t2 t3 v view first second third =
+    third
+    ∙ ap (λ x. x ++ codes "\n") (second ∙ ap (λ x. x ++ view) first ∙ append_assoc t0 (codes "  v" ++ (v ++ codes " is ")) view ∙ ap (λ y. t0 ++ (codes "  v" ++ y)) (append_assoc v (codes " is ") view))
+    ∙ append_assoc t0 (codes "  v" ++ (v ++ (codes " is " ++ view))) (codes "\n")
+
+-- ---- the whole
+
+-- what is found of the lines
+pub record IsUsed (b : Built) (ls : List refutation.Line) (executions points : List Bool) (steps used count : ℕ) : Type 0 where
+  pub steps_are : steps ≡ count_by is_step (parts_of ls)
+  pub used_are : used ≡ count_by (λ is_marked. is_marked) executions
+  pub count_is : count ≡ length b.scopes
+  pub executions_are : MarksEach (length b.scopes) executions (λ e. list_any (is_in e) ls)
+  pub points_are : MarksEach (length b.points) points (λ v. list_any (is_named b.scopes v) ls)
+
+title_is : (t : Task) (b : Built) (ls : List refutation.Line) (marks points : List Bool) (steps used count : ℕ) → IsProtocol t b.rounds b → IsUsed b ls marks points steps used count → title_of b.rounds steps used count ≡ title_text (problem_of t b.rounds) b.rounds ls
+title_is t b ls marks points steps used count built h =
+    let p = problem_of t b.rounds in
+    let many : length b.scopes ≡ length p.constraints = ap length built.scopes_are ∙ length-map p.constraints (λ k. k.scope) in
+    let used_is : used ≡ used_count p ls = h.used_are ∙ counted_marks marks (length b.scopes) (λ e. list_any (is_in e) ls) h.executions_are ∙ ap (λ n. count_by (λ e. list_any (is_in e) ls) (below n)) many in
+    λ i. title_of b.rounds (h.steps_are i) (used_is i) ((h.count_is ∙ many) i)
+
+points_told : (t : Task) (b : Built) (ls : List refutation.Line) (marks points : List Bool) (steps used count : ℕ) → IsProtocol t b.rounds b → IsUsed b ls marks points steps used count
+    → marked_text t.symmetric points 0 b.points ≡ flat_map (point_text t.symmetric) (used_points (problem_of t b.rounds) ls (view_points t b.rounds))
+points_told t b ls marks points steps used count built h =
+    marked_named t.symmetric (problem_of t b.rounds) b.scopes points b.points ls built.scopes_are h.points_are
+    ∙ ap (λ views. flat_map (point_text t.symmetric) (used_points (problem_of t b.rounds) ls views)) built.points_are
+
+-- the title, the points and then the parts
+pub whole : (t : Task) (b : Built) (ls : List refutation.Line) (marks points : List Bool) (steps used count : ℕ) (t0 t1 t2 t3 t4 t5 text : List ℕ) → IsProtocol t b.rounds b → IsUsed b ls marks points steps used count
+    → t0 ≡ [] → t1 ≡ t0 ++ title_of b.rounds steps used count → t2 ≡ t1 ++ codes "Points\n" → t3 ≡ t2 ++ marked_text t.symmetric points 0 b.points → t4 ≡ t3 ++ codes "Argument\n"
+    → t5 ≡ t4 ++ parts_text (problem_of t b.rounds) (executions t b.rounds) (Some (start (problem_of t b.rounds))) (parts_of ls) → text ≡ t5 → text ≡ argument_text t b.rounds ls
+whole t b ls marks points steps used count t0 t1 t2 t3 t4 t5 text built h none first second third fourth fifth is =
+    let title = title_of b.rounds steps used count in
+    let points_text = marked_text t.symmetric points 0 b.points in
+    let rest = parts_text (problem_of t b.rounds) (executions t b.rounds) (Some (start (problem_of t b.rounds))) (parts_of ls) in
+    is
+    ∙ joined t0 t1 t5 title (codes "Points\n" ++ (points_text ++ (codes "Argument\n" ++ rest))) first
+    (joined t1 t2 t5 (codes "Points\n") (points_text ++ (codes "Argument\n" ++ rest)) second (joined t2 t3 t5 points_text (codes "Argument\n" ++ rest) third (joined t3 t4 t5 (codes "Argument\n") rest fourth fifth)))
+    ∙ (λ i. none i ++ (title_is t b ls marks points steps used count built h i ++ (codes "Points\n" ++ (points_told t b ls marks points steps used count built h i ++ (codes "Argument\n" ++ rest)))))

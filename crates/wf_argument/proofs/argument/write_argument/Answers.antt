@@ -1,0 +1,29 @@
+use Rattle.std.proofs.Common.{◌++◌, map, string_bytes, ap, ◌∙◌}
+use Rattle.std.specs.List.{count_by}
+use Rattle.wf_lines.specs.Lines.{line_of}
+use Rattle.wf_argument.specs.Used.{marked_text, title_of}
+use Rattle.wf_argument.proofs.Usage.{whole}
+use Rattle.wf_argument.proofs.argument.write_argument.Goals as goal
+
+pub returns : goal.returns
+returns c =
+    let t = c.args.task.now in let b = c.args.protocol.now in
+    let marks = c.in_ok-executions.executions.items in let points = c.in_ok-points.points.items in
+    let steps = c.step_count.result in let used = c.count.result in let count = c.executions.result in
+    let t0 = string_bytes c.new-text.result in let t2 = string_bytes c.writeln.new.self in
+    whole t b (map line_of c.args.lines.now) marks points steps used count t0 (string_bytes c.put_title.new.text) t2 (string_bytes c.put_points.new.text) (string_bytes c.writeln-2.new.self) (string_bytes c.put_lines.new.text) c.into_bytes.result.items
+    c.requires
+    (record {
+      steps_are = c.step_count.ensures;
+      used_are = c.count.ensures ∙ ap (count_by (λ is_marked. is_marked)) c.as_slice.ensures.value;
+      count_is = c.executions.ensures.executions;
+      executions_are = c.in_ok-executions.ensures;
+      points_are = c.in_ok-points.ensures;
+    })
+    c.new-text.ensures.bytes
+    (c.in_ok-put_title.ensures ∙ ap (λ rounds. t0 ++ title_of rounds steps used count) c.rounds.ensures)
+    c.in_ok-writeln.ensures.bytes
+    (c.in_ok-put_points.ensures ∙ ap (λ marks. t2 ++ marked_text c.symmetric.result marks 0 b.points) c.as_slice-2.ensures.value ∙ ap (λ ranks. t2 ++ marked_text ranks points 0 b.points) c.symmetric.ensures)
+    c.in_ok-writeln-2.ensures.bytes
+    c.in_ok-put_lines.ensures
+    (ap (λ v. v.items) c.into_bytes.ensures.value)

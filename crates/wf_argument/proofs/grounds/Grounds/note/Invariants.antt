@@ -1,0 +1,9 @@
+use Rattle.std.proofs.Common.{◌≡◌, ◌++◌, drop, map, vec_items}
+use Rattle.wf_argument.specs.State.{needed, with_reasons}
+use Rattle.wf_argument.proofs.grounds.Grounds.note.Given as goal
+
+abbrev pub invariant-loop-tuple : goal.invariant-loop-tuple
+invariant-loop-tuple l = record {
+  tuples : l.self.needed.items ++ needed (drop l.tuple-index l.tuples) l.place l.value ≡ l.initial.self.needed.items ++ needed l.tuples l.place l.value;
+  why : with_reasons (map vec_items l.gone) l.points l.self.reasons.items (needed (drop l.tuple-index l.tuples) l.place l.value) ≡ with_reasons (map vec_items l.gone) l.points l.initial.self.reasons.items (needed l.tuples l.place l.value);
+}

@@ -1,0 +1,74 @@
+-- What an argument is about, and what is still to be told.
+use Rattle.std.specs.Prelude.{◌≡◌, ℕ, Bool, true, false, ◌&&◌, ◌==◌, ◌++◌, List, [], ◌∷◌, drop, map, Option, Some, None, codes, decimal, if◌then◌else◌}
+use Rattle.wf_model.specs.Execution.{Execution, executions}
+use Rattle.wf_model.specs.Problem.{Problem, problem_of}
+use Rattle.wf_model.specs.Refutation as refutation
+use Rattle.wf_model.specs.Refutation.{remove, empty, branch, found}
+use Rattle.wf_lines.specs.Lines.{line_of}
+use Rattle.wf_lines.specs.declared.line.Line.{Line}
+use Rattle.wf_complex.specs.Protocol.{IsProtocol}
+use Rattle.wf_argument.specs.Parts.{parts_of}
+use Rattle.wf_argument.specs.Table.{table_of}
+use Rattle.wf_argument.specs.State as state
+use Rattle.wf_argument.specs.Text.{indented, name, parts_text}
+use Rattle.wf_argument.specs.Trail.{state_of}
+use Rattle.wf_argument.specs.declared.state.Case.{Case}
+use Rattle.wf_argument.specs.declared.state.State.{State}
+use Rattle.wf_argument.specs.declared.subject.Subject.{Subject}
+
+-- the protocol complex and the table are those of the task
+pub record IsMatched (x : Subject) : Type 0 where
+  pub protocol : IsProtocol x.task.now x.protocol.now.rounds x.protocol.now
+  pub table : x.executions.now ≡ table_of x.task.now x.protocol.now.rounds
+
+abbrev pub problem_in : Subject → Problem
+problem_in x = problem_of x.task.now x.protocol.now.rounds
+
+abbrev pub executions_in : Subject → List Execution
+executions_in x = executions x.task.now x.protocol.now.rounds
+
+-- what is said where a case has begun
+abbrev pub begun_text : Option Case → List ℕ
+begun_text None = []
+begun_text (Some x) = indented x.depth (codes "Case " ++ (name x.point ++ (codes " = " ++ decimal x.value)))
+
+-- how far an argument is, if more is to be said
+abbrev pub now_if : Bool → State → Option state.State
+now_if true s = Some (state_of s)
+now_if false s = None
+
+abbrev pub one_if : Bool → Option ℕ
+one_if true = Some 1
+one_if false = None
+
+-- what is still to be told once so many lines are, if more is to be said
+abbrev pub to_come : Subject → List Line → State → Option ℕ → List ℕ
+to_come x ls s None = []
+to_come x ls s (Some n) = parts_text (problem_in x) (executions_in x) (Some (state_of s)) (parts_of (map line_of (drop n ls)))
+
+-- ---- lines that go together
+
+-- the value that a line takes from this process in this execution
+abbrev pub same_value : ℕ → ℕ → refutation.Line → Option ℕ
+same_value e c (remove f d a) = if (e == f) && (c == d) then Some a else None
+same_value e c (empty v) = None
+same_value e c (branch v) = None
+same_value e c found = None
+
+abbrev pub and_values : Option ℕ → List ℕ → List ℕ
+and_values None values = []
+and_values (Some a) values = a ∷ values
+
+-- those of the first lines, as far as they take one
+abbrev pub same_values : ℕ → ℕ → List refutation.Line → List ℕ
+same_values e c [] = []
+same_values e c (l ∷ ls) = and_values (same_value e c l) (same_values e c ls)
+
+abbrev pub or_lines : Option ℕ → List refutation.Line → List refutation.Line → List refutation.Line
+or_lines None here later = here
+or_lines (Some a) here later = later
+
+-- the lines after these
+abbrev pub after_same : ℕ → ℕ → List refutation.Line → List refutation.Line
+after_same e c [] = []
+after_same e c (l ∷ ls) = or_lines (same_value e c l) (l ∷ ls) (after_same e c ls)

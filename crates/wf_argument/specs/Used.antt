@@ -1,0 +1,82 @@
+-- Which executions and points lines speak of, as marks; and how many steps they make.
+use Rattle.std.specs.Prelude.{◌≡◌, ◌<◌, ℕ, suc, ◌==◌, ◌&&◌, ◌||◌, ◌++◌, Bool, true, false, not, List, [], ◌∷◌, map, filter, flat_map, length, Option, Some, None, codes, decimal, if◌then◌else◌}
+use Rattle.std.specs.List.{enumerate_from, slice_index_or}
+use Rattle.wf_model.specs.Lists.{has}
+use Rattle.wf_model.specs.Problem.{Participant}
+use Rattle.wf_model.specs.Refutation.{Line, remove, empty, branch, found}
+use Rattle.wf_model.specs.View.{View}
+use Rattle.wf_argument.specs.Text.{counted, point_text}
+use Rattle.wf_argument.specs.declared.title.Run.{Run}
+
+-- the numbers that pass are marked too
+pub record AreMarked (old new : List Bool) (test : ℕ → Bool) : Type 0 where
+  pub long : length new ≡ length old
+  pub each : (k : ℕ) → k < length old → slice_index_or new k false ≡ (slice_index_or old k false || test k)
+
+-- of so many numbers those that pass are marked
+pub record MarksEach (count : ℕ) (marks : List Bool) (test : ℕ → Bool) : Type 0 where
+  pub long : length marks ≡ count
+  pub each : (k : ℕ) → k < count → slice_index_or marks k false ≡ test k
+
+-- the points of an execution
+abbrev pub points_at : List (List Participant) → ℕ → List ℕ
+points_at scopes e = map (λ at. at.1) (slice_index_or scopes e [])
+
+-- whether a line speaks of a point, by the participants of each execution
+abbrev pub is_named : List (List Participant) → ℕ → Line → Bool
+is_named scopes v (remove e c a) = has (points_at scopes e) v
+is_named scopes v (empty w) = v == w
+is_named scopes v (branch w) = v == w
+is_named scopes v found = false
+
+-- the points that are marked, from the one of this number on
+abbrev pub marked_text : Bool → List Bool → ℕ → List View → List ℕ
+marked_text ranks marks n views = flat_map (point_text ranks) (filter (λ at. slice_index_or marks at.0 false) (enumerate_from n views))
+
+abbrev pub told_if : Bool → List ℕ → List ℕ
+told_if true text = text
+told_if false text = []
+
+-- ---- steps
+
+-- the process and the execution that a line takes a value from
+abbrev pub run_of : Line → Option Run
+run_of (remove e c a) = Some (record { execution = e; process = c })
+run_of (empty v) = None
+run_of (branch v) = None
+run_of found = None
+
+abbrev pub is_run : Option Run → ℕ → ℕ → Bool
+is_run None e c = false
+is_run (Some x) e c = (x.execution == e) && (x.process == c)
+
+-- whether a step begins with a line, after one of this run
+abbrev pub begins : Option Run → Line → Bool
+begins before (remove e c a) = not (is_run before e c)
+begins before (empty v) = false
+begins before (branch v) = true
+begins before found = false
+
+abbrev pub is_end : Line → Bool
+is_end (remove e c a) = false
+is_end (empty v) = false
+is_end (branch v) = false
+is_end found = true
+
+abbrev pub one_more : Bool → ℕ → ℕ
+one_more true n = suc n
+one_more false n = n
+
+-- the steps that begin with one of these lines, up to the end
+abbrev pub more_steps : Option Run → List Line → ℕ
+more_steps before [] = 0
+more_steps before (l ∷ ls) = if is_end l then 0 else one_more (begins before l) (more_steps (run_of l) ls)
+
+-- ---- the title
+
+abbrev pub usage_of : ℕ → ℕ → List ℕ
+usage_of used executions = codes " over " ++ (decimal used ++ (codes " of " ++ (counted executions (codes "execution") ++ codes ".\n\n")))
+
+abbrev pub title_of : ℕ → ℕ → ℕ → ℕ → List ℕ
+title_of rounds steps used executions =
+    codes "No decision map after " ++ (counted rounds (codes "round") ++ (codes ": " ++ (counted steps (codes "step") ++ usage_of used executions)))

@@ -1,0 +1,44 @@
+//! An argument from its title to its last line.
+
+ghost use Rattle.std.specs.Prelude.{◌≡◌, IfOk, map};
+ghost use Rattle.wf_complex.specs.Protocol.{IsProtocol};
+ghost use Rattle.wf_lines.specs.Lines.{line_of};
+ghost use Rattle.wf_argument.specs.Text.{argument_text};
+
+use crate::parts::put_lines;
+use crate::points::put_points;
+use crate::title::{put_title, step_count};
+use crate::used::{count, used_executions, used_points};
+use std::alloc::{AllocError, Global};
+use std::fmt::Write;
+use wf_complex::Protocol;
+use wf_lines::Line;
+use wf_task::Task;
+
+/// The argument that a task has no decision map after some rounds, which these lines make.
+pub fn write_argument(
+    alloc: Global,
+    task: &Task,
+    protocol: &Protocol,
+    lines: &[Line],
+) -> Result<Vec<u8>, AllocError>
+    requires { IsProtocol task.now protocol.now.rounds protocol.now }
+    ensures { IfOk result (λ text.
+        text.items ≡ argument_text task.now protocol.now.rounds (map line_of lines.now)) }
+{
+    let executions = used_executions(alloc, protocol, lines)?;
+    let points = used_points(alloc, protocol, lines)?;
+    let mut text = String::new(alloc);
+    put_title(
+        &mut text,
+        protocol.rounds(),
+        step_count(lines),
+        count(executions.as_slice()),
+        protocol.executions(),
+    )?;
+    writeln!(text, "Points")?;
+    put_points(&mut text, protocol, task.symmetric(), points.as_slice())?;
+    writeln!(text, "Argument")?;
+    put_lines(alloc, &mut text, task, protocol, lines)?;
+    Ok(text.into_bytes())
+}

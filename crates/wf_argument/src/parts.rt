@@ -1,0 +1,273 @@
+//! The parts of an argument, one after another.
+
+ghost use Rattle.std.specs.Prelude.{◌≡◌, ◌<◌, ◌≤◌, ◌∷◌, ◌++◌, ◌+◌, ◌^◌, [], codes, suc, drop, length, map, string_bytes, Some, None, IfOk, IfSome, OnOk};
+ghost use Rattle.wf_model.specs.Execution.{executions};
+ghost use Rattle.wf_model.specs.Problem.{problem_of};
+ghost use Rattle.wf_complex.specs.Protocol.{IsProtocol};
+ghost use Rattle.wf_lines.specs.Lines.{line_of};
+ghost use Rattle.wf_set.specs.Sets.{values_in};
+ghost use Rattle.wf_argument.specs.Parts.{parts_of};
+ghost use Rattle.wf_argument.specs.State.{cases_at, entered, start};
+ghost use Rattle.wf_argument.specs.Subject.{IsMatched, after_same, begun_text, executions_in, now_if, one_if, problem_in, same_value, same_values, to_come};
+ghost use Rattle.wf_argument.specs.Text.{any_text, end_text, indented, name, number_text, parts_text, split_text, step_text};
+ghost use Rattle.wf_argument.specs.Trail.{state_of, values_of};
+
+use crate::executions::Executions;
+use crate::grounds::Grounds;
+use crate::state::{Case, State};
+use crate::steps::put_taking;
+use crate::subject::Subject;
+use crate::words::{put_any, put_margin};
+use std::alloc::{AllocError, Global};
+use std::fmt::Write;
+use wf_complex::Protocol;
+use wf_lines::Line;
+use wf_set::{Mask, split_first};
+use wf_task::Task;
+
+/// Adds the parts of the argument that these lines make.
+pub(crate) fn put_lines(
+    alloc: Global,
+    text: &mut String,
+    task: &Task,
+    protocol: &Protocol,
+    lines: &[Line],
+) -> Result<(), AllocError>
+    requires { IsProtocol task.now protocol.now.rounds protocol.now }
+    ensures { let p = problem_of task.now protocol.now.rounds in
+        let es = executions task.now protocol.now.rounds in
+        OnOk result (string_bytes text.new ≡ string_bytes text.old
+        ++ parts_text p es (Some (start p)) (parts_of (map line_of lines.now))) }
+{
+    // each execution has a number, so that the table has room for them
+    let _count = protocol.executions();
+    let executions = Executions::of(alloc, task, protocol.rounds())?;
+    let subject = Subject {
+        task,
+        protocol,
+        executions: &executions,
+    };
+    let mut state = State::start(alloc, protocol.points(), task.values())?;
+    put_parts(alloc, text, &subject, lines, &mut state)?;
+    Ok(())
+}
+
+/// Adds the parts that these lines make from a state on, until all is said.
+fn put_parts(
+    alloc: Global,
+    text: &mut String,
+    subject: &Subject,
+    lines: &[Line],
+    state: &mut State,
+) -> Result<(), AllocError>
+    requires subject { IsMatched subject.now }
+    requires number { state.old.number ≡ 1 }
+    requires values { values_of state.old ≡ (problem_in subject.now).values }
+    ensures { let p = problem_in subject.now in let es = executions_in subject.now in
+        let parts = parts_of (map line_of lines.now) in
+        OnOk result (string_bytes text.new ≡ string_bytes text.old
+        ++ parts_text p es (Some (state_of state.old)) parts) }
+{
+    let mut grounds = Grounds::new(alloc);
+    let mut values = Vec::new(alloc);
+    let mut told = 0;
+    'parts: while told < lines.len() {
+        let rest = &lines[told..];
+        let Some(count) = put_part(text, subject, rest, state, &mut grounds, &mut values)? else {
+            return Ok(());
+        };
+        told += count;
+    }
+    Ok(())
+}
+
+/// Adds the part that these lines begin with, and goes on behind it. Answers how many lines it has, or none where all is said.
+fn put_part(
+    text: &mut String,
+    subject: &Subject,
+    lines: &[Line],
+    state: &mut State,
+    grounds: &mut Grounds,
+    values: &mut Vec<u8>,
+) -> Result<Option<usize>, AllocError>
+    requires subject { IsMatched subject.now }
+    requires some { 0 < length lines.now }
+    requires few { state.old.number + 1 < 2 ^ 64 }
+    requires values { values_of state.old ≡ (problem_in subject.now).values }
+    ensures text { let x = subject.now in let ls = lines.now in IfOk result (λ count.
+        string_bytes text.new ++ to_come x ls state.new count
+        ≡ string_bytes text.old ++ to_come x ls state.old (Some 0)) }
+    ensures count { IfOk result (λ count. IfSome count (λ n. 0 < n)) }
+    ensures lines { IfOk result (λ count. IfSome count (λ n. n ≤ length lines.now)) }
+    ensures number { IfOk result (λ count.
+        IfSome count (λ _. state.new.number ≤ state.old.number + 1)) }
+    ensures values { state.new.values ≡ state.old.values }
+{
+    match lines[0] {
+        Line::Remove {
+            execution,
+            process,
+            value,
+        } => {
+            let count = set_values(values, execution, process, value, lines)?;
+            put_taking(text, subject, execution, process, values, state, grounds)?;
+            Ok(Some(count))
+        }
+        Line::Empty { point } => {
+            let is_going = put_end(text, point, state)?;
+            Ok(one_if(is_going))
+        }
+        Line::Branch { point } => {
+            let is_going = put_split(text, point, state, values)?;
+            Ok(one_if(is_going))
+        }
+        Line::Found => Ok(None),
+    }
+}
+
+/// One line, where there is more to say behind it.
+fn one_if(is_going: bool) -> Option<usize>
+    ensures { result ≡ one_if is_going }
+{
+    if is_going { Some(1) } else { None }
+}
+
+/// Sets the values that the first of these lines take, which are of one process in one execution. Answers how many lines they are.
+fn set_values(
+    values: &mut Vec<u8>,
+    execution: u32,
+    process: u8,
+    first: u8,
+    lines: &[Line],
+) -> Result<usize, AllocError>
+    requires { 0 < length lines.now }
+    ensures values { let rest = map line_of (drop 1 lines.now) in
+        OnOk result (values.new.items ≡ first ∷ same_values execution process rest) }
+    ensures after { let rest = map line_of (drop 1 lines.now) in IfOk result (λ count.
+        map line_of (drop count lines.now) ≡ after_same execution process rest) }
+    ensures some { IfOk result (λ count. 0 < count) }
+    ensures within { IfOk result (λ count. count ≤ length lines.now) }
+{
+    values.clear();
+    values.push(first)?;
+    for place in 1..lines.len() {
+        let Some(value) = value_of(&lines[place], execution, process) else {
+            return Ok(place);
+        };
+        values.push(value)?;
+    }
+    Ok(lines.len())
+}
+
+/// The value that a line takes from this process in this execution, if it takes one.
+fn value_of(line: &Line, of: u32, from: u8) -> Option<u8>
+    ensures { result ≡ same_value of from (line_of line.now) }
+{
+    match line {
+        Line::Remove {
+            execution,
+            process,
+            value,
+        } if *execution == of && *process == from => Some(*value),
+        _ => None,
+    }
+}
+
+/// Adds that a point has no value left, and the case that begins then. Answers whether one does.
+fn put_end(text: &mut String, point: u32, state: &mut State) -> Result<bool, AllocError>
+    ensures text { let s = state_of state.old in
+        OnOk result (string_bytes text.new ≡ string_bytes text.old ++ end_text s point) }
+    ensures state { let s = state_of state.old in
+        IfOk result (λ is_going. now_if is_going state.new ≡ entered s.number s.later) }
+    ensures values { state.new.values ≡ state.old.values }
+{
+    put_emptied(text, state.depth, point)?;
+    let case = state.next()?;
+    put_case(text, case)?;
+    Ok(case.is_some())
+}
+
+/// Adds that a point has no value left.
+fn put_emptied(text: &mut String, depth: u8, point: u32) -> Result<(), AllocError>
+    ensures { OnOk result (string_bytes text.new ≡ string_bytes text.old
+        ++ indented depth (name point ++ codes " has no value left.")) }
+{
+    put_margin(text, depth)?;
+    writeln!(text, "v{point} has no value left.")?;
+    Ok(())
+}
+
+/// Adds the cases of a point, of which the first begins. Answers whether one does.
+fn put_split(
+    text: &mut String,
+    point: u32,
+    state: &mut State,
+    values: &mut Vec<u8>,
+) -> Result<bool, AllocError>
+    requires { state.old.number + 1 < 2 ^ 64 }
+    ensures text { let s = state_of state.old in OnOk result (string_bytes text.new
+        ≡ string_bytes text.old ++ split_text (values_of state.old) s point) }
+    ensures state { let s = state_of state.old in
+        let cases = cases_at (values_of state.old) s point ++ s.later in
+        IfOk result (λ is_going. now_if is_going state.new ≡ entered (suc s.number) cases) }
+    ensures values { state.new.values ≡ state.old.values }
+{
+    list_values(values, state.left(point))?;
+    put_choice(text, state.depth, state.number, point, values)?;
+    state.number += 1;
+    let case = state.split(point)?;
+    put_case(text, case)?;
+    Ok(case.is_some())
+}
+
+/// Adds the step of a number, that a point has one of these values.
+fn put_choice(
+    text: &mut String,
+    depth: u8,
+    number: usize,
+    point: u32,
+    values: &[u8],
+) -> Result<(), AllocError>
+    ensures { OnOk result (string_bytes text.new ≡ string_bytes text.old
+        ++ indented depth (step_text number point
+        ++ (codes " is " ++ (any_text number_text values.now ++ codes ".")))) }
+{
+    put_margin(text, depth)?;
+    write!(text, "{number}. v{point} is ")?;
+    put_any(text, values)?;
+    writeln!(text, ".")?;
+    Ok(())
+}
+
+/// The values of a set, ascending.
+fn list_values(values: &mut Vec<u8>, set: Mask) -> Result<(), AllocError>
+    ensures { OnOk result (values.new.items ≡ values_in set) }
+{
+    values.clear();
+    let mut left = set;
+    'values: while let Some(split) = split_first(left) {
+        let (value, others) = split;
+        values.push(value)?;
+        left = others;
+    }
+    Ok(())
+}
+
+/// Adds what a case supposes, if one has begun.
+fn put_case(text: &mut String, case: Option<Case>) -> Result<(), AllocError>
+    ensures { OnOk result (string_bytes text.new ≡ string_bytes text.old ++ begun_text case) }
+{
+    let Some(
+        Case {
+            point,
+            value,
+            depth,
+        },
+    ) = case
+    else {
+        return Ok(());
+    };
+    put_margin(text, depth)?;
+    writeln!(text, "Case v{point} = {value}")?;
+    Ok(())
+}

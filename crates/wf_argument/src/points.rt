@@ -1,0 +1,64 @@
+//! What the points are that an argument uses.
+
+ghost use Rattle.std.specs.Prelude.{◌≡◌, ◌<◌, ◌++◌, codes, length, slice_get, string_bytes, OnOk};
+ghost use Rattle.std.specs.List.{slice_index_or};
+ghost use Rattle.wf_model.specs.View.{base};
+ghost use Rattle.wf_argument.specs.Text.{point_text};
+ghost use Rattle.wf_argument.specs.Used.{marked_text, told_if};
+
+use crate::words::put_view;
+use std::alloc::AllocError;
+use std::fmt::Write;
+use wf_complex::Protocol;
+
+/// Adds what the points are that are marked. Where they are classes, processes go by their ranks.
+pub(crate) fn put_points(
+    text: &mut String,
+    protocol: &Protocol,
+    ranks: bool,
+    marks: &[bool],
+) -> Result<(), AllocError>
+    requires { length marks.now ≡ length protocol.now.points }
+    ensures { OnOk result (string_bytes text.new ≡ string_bytes text.old
+        ++ marked_text ranks marks.now 0 protocol.now.points) }
+{
+    for point in 0..protocol.points() {
+        put_if(text, protocol, ranks, point, marks[point as usize])?;
+    }
+    Ok(())
+}
+
+/// Adds what a point is, if it is marked.
+fn put_if(
+    text: &mut String,
+    protocol: &Protocol,
+    ranks: bool,
+    point: u32,
+    is_marked: bool,
+) -> Result<(), AllocError>
+    requires { point < length protocol.now.points }
+    ensures { OnOk result (string_bytes text.new ≡ string_bytes text.old ++ told_if is_marked
+        (point_text ranks (point, slice_index_or protocol.now.points point (base 0 0)))) }
+{
+    if is_marked {
+        put_point(text, protocol, ranks, point)?;
+    }
+    Ok(())
+}
+
+/// Adds what a point is.
+fn put_point(
+    text: &mut String,
+    protocol: &Protocol,
+    ranks: bool,
+    point: u32,
+) -> Result<(), AllocError>
+    requires { point < length protocol.now.points }
+    ensures { OnOk result (string_bytes text.new ≡ string_bytes text.old
+        ++ point_text ranks (point, slice_index_or protocol.now.points point (base 0 0))) }
+{
+    write!(text, "  v{point} is ")?;
+    put_view(text, protocol.views(), ranks, protocol.view_of(point))?;
+    writeln!(text)?;
+    Ok(())
+}

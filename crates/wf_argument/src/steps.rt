@@ -1,0 +1,144 @@
+//! The steps that take values.
+
+ghost use Rattle.std.specs.Prelude.{◌≡◌, ◌<◌, [], ◌++◌, ◌+◌, ◌^◌, codes, get_or, length, slice_get, slice_index, string_bytes, OnOk};
+ghost use Rattle.wf_model.specs.Simplex.{processes_of};
+ghost use Rattle.wf_model.specs.Task.{inputs};
+ghost use Rattle.wf_model.specs.Problem.{constraint_at};
+ghost use Rattle.wf_model.specs.Check.{place_of};
+ghost use Rattle.wf_argument.specs.Places.{place_in};
+ghost use Rattle.wf_argument.specs.State.{after_taking, left_at};
+ghost use Rattle.wf_argument.specs.Subject.{IsMatched, executions_in, problem_in};
+ghost use Rattle.wf_argument.specs.Text.{claim_text, execution_text, grounds_text, indented, rest_text, told_taking};
+ghost use Rattle.wf_argument.specs.Trail.{state_of, values_of};
+
+use crate::grounds::Grounds;
+use crate::state::State;
+use crate::subject::Subject;
+use crate::words::{put_any, put_margin, put_needed, put_reasons, put_rest};
+use std::alloc::AllocError;
+use std::fmt::Write;
+use wf_task::Task;
+
+/// A step that takes values from a point of an execution.
+#[derive(Clone, Copy, Debug)]
+struct Step<'a> {
+    execution: u32,
+    point: u32,
+    values: &'a [u8],
+    // those of the execution
+    points: &'a [u32],
+}
+
+/// Adds a step that takes values from a process in an execution, and takes them. Where it takes no part there, nothing is said.
+pub(crate) fn put_taking(
+    text: &mut String,
+    subject: &Subject,
+    execution: u32,
+    process: u8,
+    values: &[u8],
+    state: &mut State,
+    grounds: &mut Grounds,
+) -> Result<(), AllocError>
+    requires subject { IsMatched subject.now }
+    requires few { state.old.number + 1 < 2 ^ 64 }
+    requires values { values_of state.old ≡ (problem_in subject.now).values }
+    ensures text { let p = problem_in subject.now in let s = state_of state.old in
+        let at = place_of 0 process (constraint_at p execution).scope in
+        let es = executions_in subject.now in
+        OnOk result (string_bytes text.new ≡ string_bytes text.old
+        ++ told_taking p es s execution values.now at) }
+    ensures state { let p = problem_in subject.now in let s = state_of state.old in
+        let at = place_of 0 process (constraint_at p execution).scope in
+        OnOk result (state_of state.new ≡ after_taking p s execution values.now at) }
+    ensures values { state.new.values ≡ state.old.values }
+{
+    let protocol = subject.protocol;
+    if execution >= protocol.executions() {
+        return Ok(());
+    }
+    let number = protocol.simplex_of(execution);
+    let Some(place) = place_of(subject.task, number, process) else {
+        return Ok(());
+    };
+    let points = protocol.points_of(execution);
+    let tuples = subject.task.tuples(number);
+    grounds.take_each(tuples, points, place, values, state)?;
+    let step = Step {
+        execution,
+        point: points[place as usize],
+        values,
+        points,
+    };
+    put_step(text, subject, &step, state, grounds)?;
+    state.number += 1;
+    Ok(())
+}
+
+/// The place of a process in an input simplex, if it is there.
+fn place_of(task: &Task, number: u32, process: u8) -> Option<u8>
+    requires { number < length task.now.delta }
+    ensures { result ≡ place_in 0 process (processes_of (get_or (inputs task.now) number [])) }
+{
+    let simplex = &task.inputs().simplices()[number as usize];
+    for place in 0..simplex.colours() {
+        if simplex.colour(place) == process {
+            return Some(place);
+        }
+    }
+    None
+}
+
+/// Adds a step once its values are gone, with what it rests on.
+fn put_step(
+    text: &mut String,
+    subject: &Subject,
+    step: &Step,
+    state: &State,
+    grounds: &Grounds,
+) -> Result<(), AllocError>
+    requires subject { IsMatched subject.now }
+    requires execution { step.now.execution < length subject.now.protocol.now.simplices }
+    ensures { let s = state_of state.now in let v = step.now.point in let e = step.now.execution in
+        let left = left_at (values_of state.now) s.gone v in
+        let tuples = grounds.now.needed.items in let reasons = grounds.now.reasons.items in
+        OnOk result (string_bytes text.new ≡ string_bytes text.old
+        ++ indented s.depth (claim_text s.number v step.now.values.now e
+        ++ (execution_text (slice_get (executions_in subject.now) e) ++ (codes ", "
+        ++ (grounds_text step.now.points.now tuples reasons ++ rest_text v left))))) }
+{
+    put_margin(text, state.depth)?;
+    put_claim(text, state.number, step)?;
+    subject
+        .executions
+        .put(text, subject.task, subject.protocol, step.execution)?;
+    write!(text, ", ")?;
+    put_grounds(text, step.points, grounds)?;
+    put_rest(text, step.point, state.left(step.point))?;
+    writeln!(text)?;
+    Ok(())
+}
+
+/// Adds what the step of a number says of the point, and where.
+fn put_claim(text: &mut String, number: usize, step: &Step) -> Result<(), AllocError>
+    ensures { let v = step.now.point in OnOk result (string_bytes text.new ≡ string_bytes text.old
+        ++ claim_text number v step.now.values.now step.now.execution) }
+{
+    let point = step.point;
+    let execution = step.execution;
+    write!(text, "{number}. v{point} is not ")?;
+    put_any(text, step.values)?;
+    write!(text, ": in execution {execution}, ")?;
+    Ok(())
+}
+
+/// Adds the tuples that would be needed at some points, and why none of them can be decided.
+fn put_grounds(text: &mut String, points: &[u32], grounds: &Grounds) -> Result<(), AllocError>
+    ensures { let tuples = grounds.now.needed.items in let reasons = grounds.now.reasons.items in
+        OnOk result (string_bytes text.new ≡ string_bytes text.old
+        ++ grounds_text points.now tuples reasons) }
+{
+    put_needed(text, points, grounds.needed.as_slice())?;
+    put_reasons(text, grounds.reasons.as_slice())?;
+    write!(text, ".")?;
+    Ok(())
+}

@@ -1,0 +1,7 @@
+//! Tests of arguments in words.
+#![tactic(auto)]
+
+#[cfg(test)]
+mod argument_tests;
+#[cfg(test)]
+mod texts;
