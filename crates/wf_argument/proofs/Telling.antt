@@ -5,7 +5,8 @@ use Rattle.wf_model.specs.View.{View, base, seen, Views, no_views, view, process
 use Rattle.wf_model.specs.PointsText.{process_text, view_text, views_text, more_text}
 use Rattle.wf_view.specs.Views.{view_at, list_of, input_of, inner_views}
 
-and_more : (a b c l rest : List ℕ) → b ≡ a ++ l → c ≡ b ++ rest → c ≡ a ++ (l ++ rest)
+-- one text, and then another
+pub and_more : (a b c l rest : List ℕ) → b ≡ a ++ l → c ≡ b ++ rest → c ≡ a ++ (l ++ rest)
 and_more a b c l rest p q = q ∙ ap (λ x. x ++ rest) p ∙ append_assoc a l rest
 
 -- the views after the first

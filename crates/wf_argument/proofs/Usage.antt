@@ -23,6 +23,7 @@ use Rattle.wf_argument.specs.Text.{argument_text, is_in, is_step, names, parts_t
 use Rattle.wf_argument.specs.Used.{MarksEach, is_end, is_named, marked_text, more_steps, one_more, points_at, title_of, told_if}
 use Rattle.wf_argument.specs.declared.title.Run.{Run}
 use Rattle.wf_argument.proofs.Parting.{one_run}
+use Rattle.wf_argument.proofs.Telling.{and_more}
 
 -- ---- steps
 
@@ -159,9 +160,6 @@ got_by (x ∷ xs) (suc n) d = got_by xs n d
 pub same_got : {X : Type 0} (xs ys : List X) (n m : ℕ) (d : X) → slice_get xs n ≡ slice_get ys m → get_or xs n d ≡ get_or ys m d
 same_got xs ys n m d is = got_by xs n d ∙ ap (λ o. unwrap_or o d) is ∙ sym (got_by ys m d)
 
-pub joined : (a b c l rest : List ℕ) → b ≡ a ++ l → c ≡ b ++ rest → c ≡ a ++ (l ++ rest)
-joined a b c l rest first second = second ∙ ap (λ x. x ++ rest) first ∙ append_assoc a l rest
-
 pub point_line : (t0 t1 t2 t3 v view : List ℕ) → t1 ≡ t0 ++ (codes "  v" ++ (v ++ codes " is ")) → t2 ≡ t1 ++ view → t3 ≡ t2 ++ codes "\n"
     → t3 ≡ t0 ++ (codes "  " ++ (((codes "v" ++ v) ++ (codes " is " ++ view)) ++ codes "\n"))
 point_line t0 t1 t2 t3 v view first second third =
@@ -201,6 +199,6 @@ whole t b ls marks points steps used count t0 t1 t2 t3 t4 t5 text built h none f
     let points_text = marked_text t.symmetric points 0 b.points in
     let rest = parts_text (problem_of t b.rounds) (executions t b.rounds) (Some (start (problem_of t b.rounds))) (parts_of ls) in
     is
-    ∙ joined t0 t1 t5 title (codes "Points\n" ++ (points_text ++ (codes "Argument\n" ++ rest))) first
-    (joined t1 t2 t5 (codes "Points\n") (points_text ++ (codes "Argument\n" ++ rest)) second (joined t2 t3 t5 points_text (codes "Argument\n" ++ rest) third (joined t3 t4 t5 (codes "Argument\n") rest fourth fifth)))
+    ∙ and_more t0 t1 t5 title (codes "Points\n" ++ (points_text ++ (codes "Argument\n" ++ rest))) first
+    (and_more t1 t2 t5 (codes "Points\n") (points_text ++ (codes "Argument\n" ++ rest)) second (and_more t2 t3 t5 points_text (codes "Argument\n" ++ rest) third (and_more t3 t4 t5 (codes "Argument\n") rest fourth fifth)))
     ∙ (λ i. none i ++ (title_is t b ls marks points steps used count built h i ++ (codes "Points\n" ++ (points_told t b ls marks points steps used count built h i ++ (codes "Argument\n" ++ rest)))))

@@ -2,11 +2,11 @@
 pub mod Parts
 pub mod State
 pub mod Text
+pub mod Table
+pub mod Listing
 -- What they say of the program's own: what it keeps, and what it is to tell.
 pub mod Places
 pub mod Subject
-pub mod Table
-pub mod Listing
 pub mod Trail
 pub mod Used
 -- Worked examples: what the definitions give, by computation.

@@ -92,7 +92,8 @@ impl Grounds {
         points: &[u32],
         gone: &[Vec<Loss>],
     ) -> Result<(), AllocError>
-        ensures needed { OnOk result (self.new.needed.items ≡ self.old.needed.items ++ tuple.now ∷ []) }
+        ensures needed { OnOk result (self.new.needed.items
+            ≡ self.old.needed.items ++ tuple.now ∷ []) }
         ensures reasons { OnOk result (self.new.reasons.items ≡ with_reason self.old.reasons.items
             (first_gone (map vec_items gone.now) points.now tuple.now)) }
     {

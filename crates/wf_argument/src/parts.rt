@@ -39,7 +39,7 @@ pub(crate) fn put_lines(
         OnOk result (string_bytes text.new ≡ string_bytes text.old
         ++ parts_text p es (Some (start p)) (parts_of (map line_of lines.now))) }
 {
-    // each execution has a number, so that the table has room for them
+    // a protocol complex has no more executions than the table has room for
     let _count = protocol.executions();
     let executions = Executions::of(alloc, task, protocol.rounds())?;
     let subject = Subject {
@@ -132,7 +132,7 @@ fn one_if(is_going: bool) -> Option<usize>
     if is_going { Some(1) } else { None }
 }
 
-/// Sets the values that the first of these lines take, which are of one process in one execution. Answers how many lines they are.
+/// Sets the values that the first lines take, which are of one process in one execution. Answers how many lines they are.
 fn set_values(
     values: &mut Vec<u8>,
     execution: u32,

@@ -107,10 +107,12 @@ impl State {
 
     /// A point splits into a case for each value that it has left, and the first begins. Answers which, if there is one.
     pub(crate) fn split(&mut self, point: u32) -> Result<Option<Case>, AllocError>
-        ensures case { let s = state_of self.old in IfOk result (λ case.
-            case ≡ first_case (cases_at (values_of self.old) s point ++ s.later)) }
-        ensures state { let s = state_of self.old in IfOk result (λ case.
-            begun case self.new ≡ entered s.number (cases_at (values_of self.old) s point ++ s.later)) }
+        ensures case { let s = state_of self.old in
+            let cases = cases_at (values_of self.old) s point ++ s.later in
+            IfOk result (λ case. case ≡ first_case cases) }
+        ensures state { let s = state_of self.old in
+            let cases = cases_at (values_of self.old) s point ++ s.later in
+            IfOk result (λ case. begun case self.new ≡ entered s.number cases) }
         ensures values { self.new.values ≡ self.old.values }
     {
         let depth = self.depth.saturating_add(1).min(DEEPEST);
