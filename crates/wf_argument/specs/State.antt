@@ -42,10 +42,11 @@ with_losses gone v xs = slice_set gone v (losses gone v ++ xs)
 abbrev pub taken : ℕ → ℕ → Gone → ℕ → Gone
 taken n v gone a = if is_gone gone v a then gone else with_losses gone v (record { value = a; step = Some n } ∷ [])
 
--- a point is supposed to have a value: the others that it has left are gone
+-- a value that is gone because a case supposes another one
 abbrev pub in_this_case : ℕ → Loss
 in_this_case a = record { value = a; step = None }
 
+-- a point is supposed to have a value: the others that it has left are gone
 abbrev pub supposed : List ℕ → Gone → ℕ → ℕ → Gone
 supposed values gone v a = with_losses gone v (map in_this_case (filter (λ b. not (b == a)) (left_at values gone v)))
 
