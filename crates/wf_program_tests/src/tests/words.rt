@@ -74,6 +74,12 @@ fn words_are_a_job_or_a_fault(rt: HostRuntime) -> Result<(), Fail> {
             "proof a/b.json 2",
         ),
         ("wfcheck proof --task a", "clap MissingRequiredArgument"),
+        ("wfcheck trim --task a", "trim a"),
+        ("wfcheck trim", "clap MissingRequiredArgument"),
+        ("wfcheck explain --task a", "explain a"),
+        ("wfcheck lift --task a", "lift a"),
+        ("wfcheck lift --task a --rounds 3", "lift a to 3"),
+        ("wfcheck executions --rounds 2", "executions 2"),
         ("wfcheck proof --rounds 2", "clap MissingRequiredArgument"),
         ("wfcheck verify --task a/b.json", "verify a/b.json"),
         ("wfcheck verify", "clap MissingRequiredArgument"),
@@ -189,6 +195,13 @@ fn judged(alloc: Global, line: &str) -> Result<String, AllocError> {
         Ok(Job::Model { task, rounds }) => format!(in alloc; "model {task} {rounds}"),
         Ok(Job::Proof { task, rounds }) => format!(in alloc; "proof {task} {rounds}"),
         Ok(Job::Decisions { task }) => format!(in alloc; "decisions {task}"),
+        Ok(Job::Trim { task }) => format!(in alloc; "trim {task}"),
+        Ok(Job::Explain { task }) => format!(in alloc; "explain {task}"),
+        Ok(Job::Lift { task, rounds }) => match rounds {
+            None => format!(in alloc; "lift {task}"),
+            Some(rounds) => format!(in alloc; "lift {task} to {rounds}"),
+        },
+        Ok(Job::Executions { rounds }) => format!(in alloc; "executions {rounds}"),
         Ok(Job::Preset(preset)) => shown(alloc, preset),
         Err(WordsFault::Clap(error)) => {
             let kind = error.kind();
