@@ -4,7 +4,7 @@ _wfcheck() {
     local words
     COMPREPLY=()
     if [ "$COMP_CWORD" -eq 1 ]; then
-        mapfile -t COMPREPLY < <(compgen -W "solve verify views points cnf model proof preset help --help --version" -- "$cur")
+        mapfile -t COMPREPLY < <(compgen -W "solve verify views points cnf model proof trim explain lift executions preset help --help --version" -- "$cur")
         return
     fi
     case ${COMP_WORDS[1]}:$prev in
@@ -36,6 +36,23 @@ _wfcheck() {
             return
             ;;
         proof:--rounds) return ;;
+        trim:--task)
+            compopt -o filenames 2> /dev/null
+            mapfile -t COMPREPLY < <(compgen -f -- "$cur")
+            return
+            ;;
+        explain:--task)
+            compopt -o filenames 2> /dev/null
+            mapfile -t COMPREPLY < <(compgen -f -- "$cur")
+            return
+            ;;
+        lift:--task)
+            compopt -o filenames 2> /dev/null
+            mapfile -t COMPREPLY < <(compgen -f -- "$cur")
+            return
+            ;;
+        lift:--rounds) return ;;
+        executions:--rounds) return ;;
         preset:--processes) return ;;
         preset:--k) return ;;
         preset:--values) return ;;
@@ -49,8 +66,12 @@ _wfcheck() {
         cnf) words="--rounds --help" ;;
         model) words="--task --rounds --help" ;;
         proof) words="--task --rounds --help" ;;
+        trim) words="--task --help" ;;
+        explain) words="--task --help" ;;
+        lift) words="--task --rounds --help" ;;
+        executions) words="--rounds --help" ;;
         preset) words="set-agreement renaming --processes --k --values --names --help" ;;
-        help) words="solve verify views points cnf model proof preset" ;;
+        help) words="solve verify views points cnf model proof trim explain lift executions preset" ;;
         *) return ;;
     esac
     mapfile -t COMPREPLY < <(compgen -W "$words" -- "$cur")
