@@ -18,7 +18,7 @@ use wf_task::TaskFault;
 pub enum RunFault {
     /// 1: a text has too many bytes.
     TooLong,
-    /// 2 to 14: the text is no task.
+    /// 2 to 14, 18: the text is no task.
     Task(TaskFault),
     /// 16, 17: there are too many rounds or executions.
     Build(BuildFault),
