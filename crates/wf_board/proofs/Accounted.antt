@@ -1,6 +1,6 @@
 -- What the seats of a table have settled, counted by the statuses of the state that it shows.
-use Rattle.std.proofs.Common.{◌≡◌, ◌≢◌, ◌⊎◌, ℕ, suc, ◌+◌, ◌<◌, ◌≤◌, Bool, true, false, cond, List, [], ◌∷◌, ◌++◌, length, map, slice_index, refl, sym, ap, ◌∙◌, subst, ⊎_elim, inl, inr, arith, length-append}
-use Rattle.std.specs.Prelude.{All, Contains, Option, Some, None, slice_get}
+use Rattle.std.proofs.Common.{◌≡◌, ◌≢◌, ◌⊎◌, ℕ, ◌+◌, ◌≤◌, Bool, true, false, cond, List, [], ◌∷◌, ◌++◌, length, map, slice_index, refl, sym, ap, ◌∙◌, ⊎_elim, inl, inr, arith, length-append}
+use Rattle.std.specs.Prelude.{Contains, Option, Some, None, slice_get}
 use Rattle.std.specs.List.{count_by, sum_by}
 use Rattle.std.specs.List.Sorted.{IsPermutation}
 use Rattle.std.specs.Option.{option_map_or}
@@ -9,19 +9,16 @@ use Rattle.std.proofs.lemmas.List.Sorted.{sum_by-IsPermutation}
 use Rattle.std.proofs.lemmas.List.Sums.{sum_by-cons}
 use Rattle.std.proofs.lemmas.Bool.{true≢false}
 use Rattle.std.proofs.lemmas.Option.{none-some, same_Some}
-use mathlib.Core.Logic.{dite}
-use native.Mathlib.Decide.{dec_lt}
 use Rattle.wf_core.specs.declared.event.Status.{Status}
 use Rattle.wf_core.specs.declared.event.Status.TheVariants as status
-use Rattle.wf_core.specs.declared.event.Account.{Account}
-use Rattle.wf_core.specs.Account.{was_searched, was_cut, account_of}
-use Rattle.wf_core.specs.Core.{State as Core, Is}
+use Rattle.wf_core.specs.Account.{was_searched, was_cut}
+use Rattle.wf_core.specs.Core.{State as Core}
 use Rattle.wf_core.specs.Count.{times, times_in, total}
-use Rattle.wf_core.proofs.Lemmas.{Contains-times, count-cons, length-places, one_at, times-append, times-Contains}
+use Rattle.wf_core.proofs.Lemmas.{Contains-times, count-cons, length-places, times-append, times-Contains}
 use Rattle.wf_board.specs.declared.table.View.{View}
-use Rattle.wf_board.specs.Desk.{Place, Desk, known, joined, nothing, gathered, all_posted, all_refuted, all_cut, IsLeast}
-use Rattle.wf_board.specs.Rule.{Stands, Posted, Shown}
-use Rattle.wf_board.specs.Shows.{Table, Agree, Shows, AreSeatsAt, FinishAnswersTheAccount, ledger_of}
+use Rattle.wf_board.specs.Desk.{Place, Desk, known, joined, nothing, gathered, all_posted, IsLeast}
+use Rattle.wf_board.specs.Rule.{Posted, Shown}
+use Rattle.wf_board.specs.Shows.{Table, Agree, FinishAnswersTheAccount, ledger_of}
 use Rattle.wf_board.proofs.Views.{counted_stands, stands_counted, stands_not}
 
 -- all that stands in one list of each view

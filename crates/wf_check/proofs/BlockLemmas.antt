@@ -1,7 +1,7 @@
 -- The way back: what the entries of a trail stand for.
 use Rattle.std.proofs.Common.{◌≡◌, ℕ, zero, suc, ◌<◌, ◌==◌, List, [], ◌∷◌, ◌++◌, map, filter, reverse, length, get_or, false, not, refl, sym, ap, ◌∙◌, arith}
 use Rattle.std.specs.List.{slice_set}
-use Rattle.std.proofs.lemmas.List.{map-set, get_or-map, reverse-append, set-get_or}
+use Rattle.std.proofs.lemmas.List.{map-set, reverse-append, set-get_or}
 use Rattle.std.specs.List.{All}
 use Rattle.std.proofs.lemmas.List.Elements.{All-head, All-tail}
 use Rattle.wf_model.specs.Box.{Box, candidates, decided, without}

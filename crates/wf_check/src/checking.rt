@@ -1,6 +1,6 @@
 //! Whether a report about a task is right.
 
-ghost use Rattle.std.specs.Prelude.{◌≡◌, OnOk};
+ghost use Rattle.std.specs.Prelude.{OnOk};
 ghost use Rattle.wf_model.specs.Problem.{problem_of};
 ghost use Rattle.wf_model.specs.Check.{body_fault, header_fault, map_fault, report_fault};
 ghost use Rattle.wf_complex.specs.Protocol.{IsProtocol};

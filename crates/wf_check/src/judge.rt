@@ -4,7 +4,7 @@ ghost use Rattle.std.specs.Prelude.{◌≡◌, ◌+◌, ◌<◌, ◌≤◌, ◌�
 ghost use Rattle.wf_model.specs.Simplex.{processes_of};
 ghost use Rattle.wf_model.specs.Task.{inputs};
 ghost use Rattle.wf_model.specs.Problem.{Problem, problem_of};
-ghost use Rattle.wf_model.specs.Box.{candidates, is_supported, root, without};
+ghost use Rattle.wf_model.specs.Box.{is_supported, root};
 ghost use Rattle.wf_model.specs.Check.{verdict};
 ghost use Rattle.wf_model.specs.Refutation.{branch, empty, remove};
 ghost use Rattle.wf_complex.specs.Protocol.{IsProtocol};

@@ -1,5 +1,5 @@
 -- Propositional formulas in conjunctive normal form.
-use Rattle.std.specs.Prelude.{◌≡◌, ◌≤◌, ℕ, Bool, true, not, List, All, map}
+use Rattle.std.specs.Prelude.{◌≡◌, ◌≤◌, ℕ, Bool, true, not, List, All}
 use Rattle.std.specs.List.{list_any}
 
 -- a variable, by its number from 1 on, or its negation

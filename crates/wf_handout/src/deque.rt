@@ -1,7 +1,7 @@
 //! One worker's deque of branches. Its owner pops at the front, and one other worker, its raider, steals there. What
 //! was popped, stolen and left is what was dealt, each once.
 
-ghost use Rattle.std.specs.Prelude.{ℕ, ◌≡◌, ◌+◌, ◌*◌, ◌^◌, ◌<◌, ◌≤◌, [], ◌++◌, None, IfOk, OnOk, OnErr};
+ghost use Rattle.std.specs.Prelude.{◌≡◌, ◌+◌, ◌<◌, ◌≤◌, [], ◌++◌, None, IfOk, OnOk, OnErr};
 ghost use Rattle.crossbeam_deque.specs.Handles.{view as pass_view, worker_deque, stealer_deque, worker_view, worker_flavor, worker_index, worker_capacity, stealer_flavor};
 ghost use Rattle.wf_handout.specs.Piles.{pile, with_dealt, Held, Takes, AllTaken, Pops};
 ghost use Rattle.wf_handout.specs.Parts.{DequeId, Part, part, Gives, IsDealt, IsSettled, HasLeft};

@@ -1,6 +1,6 @@
 //! Where the executions on an input simplex stand in two protocol complexes of a task.
 
-ghost use Rattle.std.specs.Prelude.{◌≡◌, ◌≤◌, ◌+◌, ◌-◌, ◌/◌, All, IfOk, length};
+ghost use Rattle.std.specs.Prelude.{◌≡◌, ◌≤◌, ◌+◌, ◌-◌, ◌/◌, IfOk};
 ghost use Rattle.wf_model.specs.Limits.{most_executions, most_processes};
 ghost use Rattle.wf_complex.specs.Layout.{execution_total, turns};
 ghost use Rattle.wf_lift.specs.Stretches.{earlier, stretches};

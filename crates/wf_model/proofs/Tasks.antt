@@ -1,6 +1,6 @@
 -- The two halves of what a task has, and simplices within limits.
 use Rattle.std.proofs.Common.{ℕ, List, All}
-use Rattle.wf_model.specs.Simplex.{Simplex, complex_of}
+use Rattle.wf_model.specs.Simplex.{Simplex}
 use Rattle.wf_model.specs.Task.{Task, inputs, largest_value, IsTask, IsSimplexOn, IsComplexOn, IsSimplexWithin, IsComplexWithin, HasValuesUpTo}
 
 simplices_within : (n largest : ℕ) (ss : List Simplex) → All (IsSimplexOn n) ss → All (HasValuesUpTo largest) ss → All (IsSimplexWithin n largest) ss

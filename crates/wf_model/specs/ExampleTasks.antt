@@ -1,8 +1,8 @@
 -- Small tasks, for worked examples.
-use Rattle.std.specs.Prelude.{ℕ, suc, ◌+◌, ◌-◌, ◌==◌, nat_le, ◌&&◌, Bool, true, false, List, [], ◌∷◌, map, length, filter, Option, Some, None, max}
-use Rattle.wf_model.specs.Lists.{below, lists_of, in_order}
+use Rattle.std.specs.Prelude.{ℕ, suc, ◌+◌, nat_le, ◌&&◌, Bool, true, false, List, [], ◌∷◌, map, filter, None}
+use Rattle.wf_model.specs.Lists.{below, lists_of}
 use Rattle.wf_model.specs.Simplex.{Simplex, complex_of}
-use Rattle.wf_model.specs.Task.{Task, Rule, Tuple}
+use Rattle.wf_model.specs.Task.{Task, Tuple}
 
 abbrev pub one : ℕ → ℕ → Simplex
 one p x = (p, x) ∷ []

@@ -1,5 +1,5 @@
 -- Worked examples, by computation.
-use Rattle.std.specs.Prelude.{◌≡◌, ℕ, Bool, true, false, List, [], ◌∷◌, map, length, Option, Some, None, refl}
+use Rattle.std.specs.Prelude.{◌≡◌, ℕ, true, false, List, [], ◌∷◌, map, length, Option, Some, None, refl}
 use Rattle.wf_model.specs.Simplex.{is_face, complex_of}
 use Rattle.wf_model.specs.Word.{words}
 use Rattle.wf_model.specs.Task.{Task}

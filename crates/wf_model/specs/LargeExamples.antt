@@ -1,5 +1,5 @@
 -- Larger worked examples, by computation.
-use Rattle.std.specs.Prelude.{◌≡◌, ℕ, ◌+◌, Bool, true, false, List, [], ◌∷◌, map, length, Option, Some, None, refl}
+use Rattle.std.specs.Prelude.{◌≡◌, ℕ, ◌+◌, List, [], ◌∷◌, map, length, Option, Some, None, refl}
 use Rattle.wf_model.specs.Lists.{below}
 use Rattle.wf_model.specs.Task.{Task}
 use Rattle.wf_model.specs.Execution.{executions}
@@ -7,7 +7,6 @@ use Rattle.wf_model.specs.Points.{points}
 use Rattle.wf_model.specs.Presets.{set_agreement, renaming, own, all}
 use Rattle.wf_model.specs.Problem.{Problem, problem_of}
 use Rattle.wf_model.specs.Box.{root}
-use Rattle.wf_model.specs.Refutation.{Line, remove, empty, branch, found}
 use Rattle.wf_model.specs.Closing.{canonical}
 use Rattle.wf_model.specs.Split.{split}
 

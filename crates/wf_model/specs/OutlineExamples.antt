@@ -1,5 +1,5 @@
 -- Worked examples of outlines, by computation.
-use Rattle.std.specs.Prelude.{◌≡◌, List, [], ◌∷◌, map, refl}
+use Rattle.std.specs.Prelude.{◌≡◌, [], ◌∷◌, map, refl}
 use Rattle.wf_model.specs.ExampleTasks.{path, consensus, renaming_2_2}
 use Rattle.wf_model.specs.Problem.{problem_of}
 use Rattle.wf_model.specs.Refutation.{remove, empty, branch, found}

@@ -1,5 +1,5 @@
 -- The points of a protocol complex in words, for people, with what a map decides at each.
-use Rattle.std.specs.Prelude.{ℕ, Bool, List, [], ◌∷◌, ◌++◌, flat_map, Option, Some, None, slice_get, codes, decimal, if◌then◌else◌}
+use Rattle.std.specs.Prelude.{ℕ, Bool, List, [], ◌++◌, flat_map, Option, Some, None, slice_get, codes, decimal, if◌then◌else◌}
 use Rattle.std.specs.List.{enumerate_from}
 use Rattle.wf_model.specs.Task.{Task}
 use Rattle.wf_model.specs.View.{View, base, seen, Views, no_views, view}

@@ -1,5 +1,5 @@
 -- Worked reports, by computation.
-use Rattle.std.specs.Prelude.{◌≡◌, ℕ, ◌++◌, Bool, true, false, List, [], ◌∷◌, map, flat_map, length, Option, Some, None, Result, Ok, Err, option_map, codes, refl}
+use Rattle.std.specs.Prelude.{◌≡◌, ℕ, ◌++◌, false, List, [], ◌∷◌, map, Option, Some, None, Ok, Err, codes, refl}
 use Rattle.std.specs.Fmt.{digits}
 use Rattle.wf_model.specs.ExampleTasks.{path, consensus, renaming_2_2, alone}
 use Rattle.wf_model.specs.Problem.{problem_of}

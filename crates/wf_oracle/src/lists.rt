@@ -1,6 +1,6 @@
 //! Lists of letters, in lexicographic order.
 
-ghost use Rattle.std.specs.Prelude.{◌≡◌, ◌∷◌, ◌++◌, IfOk, OnOk, map, flat_map, vec_items};
+ghost use Rattle.std.specs.Prelude.{◌≡◌, ◌∷◌, ◌++◌, IfOk, OnOk, map, vec_items};
 ghost use Rattle.wf_model.specs.Lists.{lists_of};
 
 use std::alloc::{AllocError, Global};

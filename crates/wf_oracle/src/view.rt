@@ -1,7 +1,7 @@
 //! Views, kept as lists of tokens in preorder, under which two views are the same exactly where
 //! their tokens are.
 
-ghost use Rattle.std.specs.Prelude.{◌≡◌, ◌==◌, ◌↔◌, ◌++◌, ℕ, IfOk, OnOk, IsTrue, map, fold, vec_items};
+ghost use Rattle.std.specs.Prelude.{◌≡◌, ◌==◌, ◌↔◌, ◌++◌, IfOk, OnOk, IsTrue, map, fold, vec_items};
 ghost use Rattle.std.specs.List.{list_any};
 ghost use Rattle.wf_oracle.specs.Token.{tokens_of, token_process, token_renamed};
 ghost use Rattle.wf_model.specs.View.{View as ViewOfModel, base, seen, views_of, base_views, visible, round, process_of, same_view, occurs, rank, normal};

@@ -1,5 +1,5 @@
 -- The state of the search: how far the points have values, and what was tried.
-use Rattle.std.proofs.Common.{◌≡◌, ℕ, zero, suc, ◌+◌, ◌-◌, ◌<◌, ◌≤◌, ◌==◌, Bool, true, false, List, [], ◌∷◌, ◌++◌, map, flat_map, replicate, length, take, slice_index, Option, Some, None, nat_lt, eqb-true, All, inl, inr, refl, sym, ap, ◌∙◌, subst, arith, length-take}
+use Rattle.std.proofs.Common.{◌≡◌, ℕ, zero, suc, ◌+◌, ◌-◌, ◌<◌, ◌≤◌, ◌==◌, Bool, true, false, List, [], ◌∷◌, ◌++◌, map, flat_map, replicate, length, take, slice_index, Option, nat_lt, eqb-true, All, inl, inr, refl, sym, ap, ◌∙◌, subst, arith, length-take}
 use Rattle.std.specs.List.{AllByRecursion, list_all, list_any, slice_index_or}
 use Rattle.std.specs.Ordering.{nat_cmp}
 use Rattle.std.specs.Cmp.Lexicographic.{pointwise}

@@ -1,7 +1,6 @@
 //! Where executions end.
 
 ghost use Rattle.std.specs.Prelude.{◌≡◌, ◌<◌, ◌+◌, ℕ, [], All, length, map, vec_items, IfOk};
-ghost use Rattle.wf_model.specs.Problem.{problem_of};
 ghost use Rattle.wf_complex.specs.Protocol.{IsProtocol};
 ghost use Rattle.wf_plain.specs.Plain.{AreEndsIn};
 

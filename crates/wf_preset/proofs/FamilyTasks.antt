@@ -1,10 +1,9 @@
 -- The task of a family is a task.
-use Rattle.std.proofs.Common.{◌≡◌, Bool, true, ℕ, ◌<◌, ◌≤◌, ◌==◌, List, [], ◌∷◌, length, map, zip, sum_by, count_by, All, Contains, None, refl, sym, ap, ◌∙◌, subst, arith}
+use Rattle.std.proofs.Common.{◌≡◌, Bool, ℕ, ◌<◌, ◌≤◌, ◌==◌, List, [], ◌∷◌, length, map, zip, sum_by, count_by, All, Contains, None, refl, sym, ap, ◌∙◌, subst, arith}
 use Rattle.std.specs.List.Sorted.{IsStrictlySortedBy}
 use Rattle.std.specs.Ordering.{nat_cmp}
 use Rattle.std.specs.Cmp.{nat_cmp_total}
 use Rattle.std.specs.Cmp.Lexicographic.{slice_cmp, nat_list_cmp_total}
-use Rattle.std.proofs.lemmas.Bool.{and_parts}
 use Rattle.std.proofs.lemmas.List.{length-map}
 use Rattle.std.proofs.lemmas.List.Concat.{length-flat_map}
 use Rattle.std.proofs.lemmas.List.Elements.{All-map, All-weaker}
@@ -12,7 +11,7 @@ use Rattle.std.proofs.lemmas.List.FromFn.{length-range_with_len}
 use Rattle.std.proofs.lemmas.List.Kept.{IsStrictlySortedBy-filter}
 use Rattle.std.proofs.lemmas.List.Sums.{sum_by-le-sum_by}
 use Rattle.wf_model.specs.Lists.{below, lists_of, in_order}
-use Rattle.wf_model.specs.Simplex.{Simplex, Vertex, processes_of, values_of, is_nonempty, is_ascending, is_simplex, complex_of}
+use Rattle.wf_model.specs.Simplex.{Simplex, Vertex, processes_of, values_of, is_simplex, complex_of}
 use Rattle.wf_model.specs.Task.{Rule, Tuple, IsTask, IsRule, IsSimplexWithin, IsComplexWithin}
 use Rattle.wf_model.proofs.Tasks.{on_processes, up_to}
 use Rattle.wf_model.specs.Limits.{most_processes, most_plain_value, most_vertices, most_inputs, most_tuples}

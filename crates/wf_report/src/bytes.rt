@@ -1,6 +1,6 @@
 //! Pieces of a text, and numbers.
 
-ghost use Rattle.std.specs.Prelude.{◌≡◌, ◌<◌, ◌≤◌, ◌++◌, ◌∷◌, true, length, MatchOption};
+ghost use Rattle.std.specs.Prelude.{◌≡◌, ◌<◌, ◌++◌, ◌∷◌, true, MatchOption};
 ghost use Rattle.wf_model.specs.Report.{number_upto};
 ghost use Rattle.wf_report.specs.Numbers.{digits_upto, is_misspelt};
 ghost use Rattle.wf_report.specs.Reading.{lacks};

@@ -1,6 +1,6 @@
 //! Laws of the texts of reports.
 
-ghost use Rattle.std.specs.Prelude.{◌≡◌, ℕ, List, Ok, false};
+ghost use Rattle.std.specs.Prelude.{◌≡◌, ℕ, List, Ok};
 ghost use Rattle.wf_model.specs.Report.{Report, report_of, report_text};
 ghost use Rattle.wf_report.specs.Grammar.{IsInGrammar, IsTextOf};
 

@@ -8,10 +8,10 @@
 
 pub mod part;
 
-ghost use Rattle.std.specs.Prelude.{◌≡◌, ◌<◌, ◌==◌, ◌||◌, ◌∷◌, ℕ, [], true, not, nat_lt, filter, length, slice_index, IfSome, MatchOption};
+ghost use Rattle.std.specs.Prelude.{◌≡◌, ◌<◌, ◌==◌, ◌||◌, ◌∷◌, ℕ, [], not, nat_lt, filter, length, slice_index, MatchOption};
 ghost use Rattle.wf_model.specs.Lists.{has};
 ghost use Rattle.wf_set.specs.Parts.{part_limit, part_values};
-ghost use Rattle.wf_set.specs.Sets.{value_limit, values_in};
+ghost use Rattle.wf_set.specs.Sets.{values_in};
 
 use part::Part;
 

@@ -2,7 +2,7 @@
 //!
 //! A clause sees a part as the ascending list of its values, `part_values`, and each call is exact. No call takes memory.
 
-ghost use Rattle.std.specs.Prelude.{◌≡◌, ◌<◌, ◌≤◌, ◌==◌, ◌∷◌, [], true, not, nat_lt, filter, length, slice_index, IfSome, MatchOption};
+ghost use Rattle.std.specs.Prelude.{◌≡◌, ◌<◌, ◌≤◌, ◌==◌, ◌∷◌, [], true, not, filter, length, slice_index, IfSome, MatchOption};
 ghost use Rattle.wf_model.specs.Lists.{has};
 ghost use Rattle.wf_set.specs.Parts.{part_limit, part_values};
 

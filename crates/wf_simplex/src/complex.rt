@@ -1,6 +1,6 @@
 //! Complexes: simplices with all their faces.
 
-ghost use Rattle.std.specs.Prelude.{◌≡◌, ◌<◌, ◌≤◌, ◌↔◌, IfOk, IfSome, OnOk, IsTrue, IsNone, Contains, length, slice_get, Some};
+ghost use Rattle.std.specs.Prelude.{◌≡◌, ◌<◌, ◌≤◌, ◌↔◌, IfOk, IfSome, IsTrue, IsNone, Contains, length, slice_get, Some};
 ghost use Rattle.wf_model.specs.Limits.{most_facets};
 ghost use Rattle.wf_model.specs.Simplex.{complex_of};
 ghost use Rattle.wf_simplex.specs.Faces.{IsComplex};

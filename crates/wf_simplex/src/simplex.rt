@@ -1,11 +1,10 @@
 //! Simplices: vertices of different processes.
 
-ghost use Rattle.std.specs.Prelude.{◌≡◌, ℕ, ◌<◌, ◌≤◌, ◌&&◌, Bool, List, [], ◌∷◌, length, None, Some, MatchResult, OnOk, slice_index, slice_index_or, drop, map};
-ghost use Rattle.std.specs.Ordering.{ordering_then};
+ghost use Rattle.std.specs.Prelude.{◌≡◌, ℕ, ◌<◌, ◌≤◌, List, length, None, Some, MatchResult, OnOk, slice_index, slice_index_or, drop};
 ghost use Rattle.wf_model.specs.Simplex.{processes_of, faces_of, is_face, simplex_cmp};
 ghost use Rattle.wf_model.specs.Task.{IsTaskSimplex};
 ghost use Rattle.wf_simplex.specs.Faces.{with_all, faces_with, AreSmall};
-ghost use Rattle.wf_simplex.specs.Entries.{vertices_from, value_at, entry_cmp, is_within, ascends_from};
+ghost use Rattle.wf_simplex.specs.Entries.{vertices_from, value_at, entry_cmp, is_within};
 ghost use Rattle.wf_simplex.specs.Reading.{read_fault};
 
 use std::alloc::AllocError;

@@ -1,6 +1,6 @@
 //! Blocks of at most 64 rows: for each value and place, the set of the rows that have the value there.
 
-ghost use Rattle.std.specs.Prelude.{◌≡◌, ◌==◌, ◌<◌, ◌≤◌, ◌+◌, ◌*◌, ◌/◌, ◌%◌, ◌&&◌, ◌||◌, ℕ, [], List, All, IfOk, filter, get_or, length, map, nat_lt};
+ghost use Rattle.std.specs.Prelude.{◌≡◌, ◌==◌, ◌<◌, ◌≤◌, ◌+◌, ◌*◌, ◌/◌, ◌%◌, ◌&&◌, ◌||◌, ℕ, List, All, IfOk, filter, get_or, length, map, nat_lt};
 ghost use Rattle.wf_model.specs.Lists.{has};
 ghost use Rattle.wf_model.specs.Task.{Tuple};
 ghost use Rattle.wf_model.specs.Box.{has_at, is_supported};

@@ -1,11 +1,11 @@
 //! Rows that are looked at together, in blocks where there are many.
 
-ghost use Rattle.std.specs.Prelude.{◌≡◌, ◌<◌, ◌≤◌, ◌*◌, ℕ, true, List, All, IfOk, length, map};
+ghost use Rattle.std.specs.Prelude.{◌≡◌, ◌<◌, ◌≤◌, ◌*◌, true, List, All, IfOk, length, map};
 ghost use Rattle.wf_model.specs.Task.{Tuple};
 ghost use Rattle.wf_model.specs.Box.{is_supported};
 ghost use Rattle.wf_set.specs.Parts.{part_limit};
 ghost use Rattle.wf_set.specs.Sets.{values_in};
-ghost use Rattle.wf_support.specs.Blocks.{AreBlocks, AreNarrow, AreOfSize, IsBlock, IsCut, block_rows};
+ghost use Rattle.wf_support.specs.Blocks.{AreBlocks, AreNarrow, AreOfSize, IsCut, block_rows};
 
 use crate::block::{PLACES, block_of, has_support};
 use crate::rows::have_support;

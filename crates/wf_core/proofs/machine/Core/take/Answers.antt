@@ -1,4 +1,4 @@
-use Rattle.std.proofs.Common.{◌≡◌, ◌<◌, ap, refl, ◌∙◌, arith, length, slice_set}
+use Rattle.std.proofs.Common.{ap, refl, ◌∙◌, slice_set}
 use Rattle.std.specs.Prelude.{slice_get, ℕ}
 use Rattle.std.proofs.lemmas.Option.{slice_get_read}
 use Rattle.wf_core.specs.declared.event.Status.TheVariants.{Held}
