@@ -45,12 +45,14 @@ class Script(argparse.ArgumentParser):
         return found
 
     def chosen(self, things, words, name, fits=str.__eq__):
-        """The things of which a name fits one of the words, or all where no word is given. A word that fits none ends the script."""
+        """The things of which a name fits one of the words, or all where no word is given. A word that is a whole name picks that one
+        alone, and one that fits none ends the script."""
         names = [(thing, name(thing)) for thing in things]
+        whole = {it for _, it in names}
         for word in words:
             if not any(fits(it, word) for _, it in names):
                 self.error(f"nothing here is named {word!r}")
-        return [thing for thing, it in names if not words or any(fits(it, word) for word in words)]
+        return [thing for thing, it in names if not words or any(it == word if word in whole else fits(it, word) for word in words)]
 
 
 def contains(name, word):

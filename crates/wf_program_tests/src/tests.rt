@@ -5,6 +5,7 @@ mod command_line;
 mod ends;
 mod engines;
 mod failing;
+mod failing_pairs;
 mod rows;
 mod texts;
 mod watched;

@@ -23,7 +23,7 @@ use wf_task::TaskFault;
 pub(crate) const ONE: &str =
     r#"{"version":1,"processes":1,"symmetric":false,"inputs":[[[0,0]]],"outputs":[[[0,5]]],"delta":[{"in":[[0,0]],"out":[[5]]}]}"#;
 
-const REPORT: &str =
+pub(crate) const REPORT: &str =
     "wfcheck report 1\nprocesses 1\nrounds 8\npoints 1\nexecutions 1\nanswer map\nm 5\nend\n";
 
 const LIST: &str =

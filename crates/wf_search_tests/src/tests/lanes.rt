@@ -177,6 +177,10 @@ fn sets_are_met_and_counted(rt: HostRuntime) {
     assert_eq!(rt; first_empty(&single), Some(0));
     assert_eq!(rt; first_empty(&single[1..]), None);
     assert_eq!(rt; first_empty(&[]), None);
+    let one_empty = sets_of([1, 0, 0, 0]);
+    assert_eq!(rt; first_empty(&one_empty[..3]), Some(1));
+    let three = sets_of([3, 4, 0, 0]);
+    assert_eq!(rt; count(&three[..3]), 3);
     assert_eq!(rt; count(&single), 3);
     assert_eq!(rt; count(&[]), 0);
     assert_eq!(rt; count(&[[u64::MAX; 4]; 17]), 4352);
