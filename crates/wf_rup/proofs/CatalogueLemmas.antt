@@ -1,11 +1,11 @@
 -- Each clause that is kept stands in the index.
-use Rattle.std.proofs.Common.{◌≡◌, ℕ, ◌+◌, ◌<◌, ◌≤◌, Bool, true, false, List, [], ◌∷◌, ◌++◌, refl, sym, ◌∙◌, ap, subst, arith, length, length-set, get_or, set, take, inl, inr, get_or-set_other, get_or-set_same}
+use Rattle.std.proofs.Common.{◌≡◌, ℕ, ◌<◌, ◌≤◌, Bool, true, false, List, [], ◌∷◌, ◌++◌, refl, sym, ◌∙◌, ap, subst, arith, length, length-set, get_or, set, take, inl, inr, get_or-set_other, get_or-set_same}
 use Rattle.std.specs.Prelude.{if◌then◌else◌}
 use Rattle.std.specs.List.{All, Contains}
 use Rattle.std.proofs.lemmas.Bool.{cases_eq, cases_lt}
 use Rattle.std.proofs.lemmas.List.{get_or_append_left, get_or_push, length_push, take_all}
 use Rattle.std.proofs.lemmas.List.Elements.{All-contains}
-use Rattle.wf_rup.specs.Index.{Finds, FindsStill, FindsStillBut, IsAlikeAt, IsFoundAt, IsHashOf, IsIndexed, IsIndexedAt, IsKeptAt, IsOther, bucket_of}
+use Rattle.wf_rup.specs.Index.{Finds, FindsStill, FindsStillBut, IsAlikeAt, IsHashOf, IsIndexed, IsKeptAt, IsOther, bucket_of}
 use Rattle.wf_rup.specs.declared.index.Entry.{Entry}
 use Rattle.wf_rup.proofs.HashLemmas.{same-hash}
 

@@ -1,12 +1,11 @@
 -- Clauses with the same literals have one hash.
-use Rattle.std.proofs.Common.{◌≡◌, ℕ, ◌+◌, ◌%◌, ◌<◌, zero, suc, Bool, true, false, List, [], ◌∷◌, ◌++◌, refl, sym, ◌∙◌, ap, subst, arith, length, take, get_or, inl, inr}
+use Rattle.std.proofs.Common.{◌≡◌, ℕ, ◌+◌, ◌%◌, ◌<◌, suc, Bool, true, false, List, [], ◌∷◌, refl, sym, ◌∙◌, ap, subst, arith, length, take, get_or, inl, inr}
 use Rattle.std.specs.Prelude.{◌==◌, ◌||◌, ◌^◌, if◌then◌else◌}
-use Rattle.std.specs.List.{All, sum_by}
-use Rattle.std.proofs.Math.Nat.{mod-add-mod}
-use Rattle.std.proofs.lemmas.Bool.{cases_Bool, cases_eq, false≢true}
-use Rattle.std.proofs.lemmas.Grind.{common_steps}
-use Rattle.wf_rup.specs.Deleted.{AreAlike, IsAmong}
-use Rattle.wf_rup.specs.Index.{IsHashOf, hash_of_each, mixed}
+use Rattle.std.specs.List.{sum_by}
+use Rattle.std.proofs.lemmas.Bool.{cases_eq, false≢true}
+use Rattle.std.proofs.lemmas.List.Sums.{sum_by-cons}
+use Rattle.wf_rup.specs.Deleted.{AreAlike}
+use Rattle.wf_rup.specs.Index.{IsHashOf, mixed}
 use Rattle.wf_rup.specs.Stored.{IsDistinct, has}
 use Rattle.wf_rup.proofs.TrailLemmas.{other_test, same_test}
 use Rattle.wf_rup.proofs.UnitLemmas.{All-has, has-behind, has-first}
@@ -43,9 +42,10 @@ once-of : (xs : List ℕ) → IsDistinct xs → Once xs
 once-of [] h = tt
 once-of (x ∷ xs) h =
     let later : (k d : ℕ) → k < length xs → (x == get_or xs k d || has (take k xs) (get_or xs k d)) ≡ false =
-    λ k d here. let deeper : suc k < length (x ∷ xs) = omega arith in h (suc k) d deeper in
-    (none-there x xs (λ k d here. flip-test x (get_or xs k d) (or-left (x == get_or xs k d) (has (take k xs) (get_or xs k d)) (later k d here))),
-    once-of xs (λ k d here. or-right (x == get_or xs k d) (has (take k xs) (get_or xs k d)) (later k d here)))
+    λ k d here. let deeper : suc k < length (x ∷ xs) = omega arith in h (suc k) d deeper in (
+      none-there x xs (λ k d here. flip-test x (get_or xs k d) (or-left (x == get_or xs k d) (has (take k xs) (get_or xs k d)) (later k d here))),
+      once-of xs (λ k d here. or-right (x == get_or xs k d) (has (take k xs) (get_or xs k d)) (later k d here)),
+    )
 
 without : ℕ → List ℕ → List ℕ
 without x [] = []
@@ -87,18 +87,15 @@ once-without x (y ∷ ys) once = elim (cases_eq y x) [
   | inr apart ↦ subst Once (sym (without-there x y ys apart)) (has-without x y ys (λ e. apart (sym e)) ∙ once.0, once-without x ys once.1)
 ]
 
-sum-first : (f : ℕ → ℕ) (y : ℕ) (ys : List ℕ) → sum_by f (y ∷ ys) ≡ f y + sum_by f ys
-sum-first f y ys = grind (arith, common_steps)
-
 sum-without : (f : ℕ → ℕ) (x : ℕ) (ys : List ℕ) → has ys x ≡ true → sum_by f ys ≡ f x + sum_by f (without x ys)
 sum-without f x [] h = absurd (false≢true h)
 sum-without f x (y ∷ ys) h = elim (cases_eq y x) [
-  | inl same ↦ sum-first f y ys ∙ ap (λ n. f n + sum_by f ys) same ∙ ap (λ zs. f x + sum_by f zs) (sym (without-here x y ys same))
+  | inl same ↦ sum_by-cons f y ys ∙ ap (λ n. f n + sum_by f ys) same ∙ ap (λ zs. f x + sum_by f zs) (sym (without-here x y ys same))
   | inr apart ↦
       let rest : sum_by f ys ≡ f x + sum_by f (without x ys) = sum-without f x ys (has-behind x y ys apart h) in
       let all : f y + sum_by f ys ≡ f x + (f y + sum_by f (without x ys)) = omega (arith, rest) in
-      sum-first f y ys ∙ all
-      ∙ ap (λ n. f x + n) (sym (sum-first f y (without x ys)) ∙ ap (sum_by f) (sym (without-there x y ys apart)))
+      sum_by-cons f y ys ∙ all
+      ∙ ap (λ n. f x + n) (sym (sum_by-cons f y (without x ys)) ∙ ap (sum_by f) (sym (without-there x y ys apart)))
 ]
 
 none-has : (ys : List ℕ) → ((l : ℕ) → false ≡ has ys l) → ys ≡ []
@@ -114,7 +111,7 @@ same-rest x l xs ys once onces same = elim (cases_eq x l) [
 same-sum : (f : ℕ → ℕ) (xs ys : List ℕ) → Once xs → Once ys → ((l : ℕ) → has xs l ≡ has ys l) → sum_by f xs ≡ sum_by f ys
 same-sum f [] ys once onces same = ap (sum_by f) (sym (none-has ys same))
 same-sum f (x ∷ xs) ys once onces same =
-    sum-first f x xs ∙ ap (λ n. f x + n) (same-sum f xs (without x ys) once.1 (once-without x ys onces) (λ l. same-rest x l xs ys once onces same))
+    sum_by-cons f x xs ∙ ap (λ n. f x + n) (same-sum f xs (without x ys) once.1 (once-without x ys onces) (λ l. same-rest x l xs ys once onces same))
     ∙ sym (sum-without f x ys (sym (same x) ∙ has-first x xs))
 
 -- ---- hashes
@@ -130,5 +127,5 @@ alike-has c d alike l = both-ways (has c l) (has d l) (All-has (λ m. has d m �
 pub same-hash : (c d : List ℕ) (h k : ℕ) → AreAlike c d → IsHashOf c h → IsHashOf d k → h ≡ k
 same-hash c d h k alike one two =
     one.sum ∙ ap (λ n. n % 2 ^ 32) (same-sum mixed one.each two.each (once-of one.each one.distinct) (once-of two.each two.distinct)
-      (λ l. one.same l ∙ alike-has c d alike l ∙ sym (two.same l)))
+    (λ l. one.same l ∙ alike-has c d alike l ∙ sym (two.same l)))
     ∙ sym two.sum

@@ -1,6 +1,6 @@
 -- Where the entries of the index stand.
-use Rattle.std.proofs.Common.{◌≡◌, ℕ, ◌+◌, ◌%◌, ◌<◌, ◌≤◌, zero, suc, List, [], ◌∷◌, ◌++◌, refl, sym, ◌∙◌, ap, subst, arith, length, length-set, map, Vec, get_or, set, inl, inr, ◌⊎◌, get_or-set_other, get_or-set_same}
-use Rattle.std.specs.List.{All, Contains}
+use Rattle.std.proofs.Common.{◌≡◌, ℕ, ◌+◌, ◌%◌, ◌<◌, ◌≤◌, zero, suc, List, [], ◌∷◌, ◌++◌, sym, ◌∙◌, ap, subst, arith, length, length-set, map, Vec, get_or, set, inl, inr, get_or-set_other, get_or-set_same}
+use Rattle.std.specs.List.{Contains}
 use Rattle.std.proofs.lemmas.Bool.{cases_eq, cases_lt}
 use Rattle.std.proofs.lemmas.List.{get_or_past, get_or_default, get_or-map, length-map, map-set}
 use Rattle.std.proofs.lemmas.List.Elements.{All-contains, Contains-push, Contains-append_left}
@@ -57,7 +57,7 @@ FindsStill-take buckets at place x entry within is same = λ e other found.
     let bucket = get_or buckets at [] in
     Finds-set buckets at (swap_remove bucket place x) e
     (λ here there. Contains-behind x e (swap_remove bucket place x) (λ s. other (s ∙ sym same))
-      (Contains-permutation bucket (x ∷ swap_remove bucket place x) e (IsPermutation-swap_remove bucket place x within is) there))
+    (Contains-permutation bucket (x ∷ swap_remove bucket place x) e (IsPermutation-swap_remove bucket place x within is) there))
     found
 
 -- ---- buckets in vectors
@@ -106,7 +106,7 @@ pub still-same : {A : Type 0} (vs : List (Vec Entry A)) (buckets : List (List En
 still-same vs buckets at v new view within is same =
     subst (λ bs. FindsStill bs (buckets_of (set vs at new))) view
     (subst (FindsStill (buckets_of vs)) (sym (map-set (λ b. b.items) vs at new)) (λ e found.
-      Finds-set (buckets_of vs) at new.items e (λ here there. subst (λ xs. Contains xs e) (sym (same ∙ bucket-read vs at v within is)) there) found))
+    Finds-set (buckets_of vs) at new.items e (λ here there. subst (λ xs. Contains xs e) (sym (same ∙ bucket-read vs at v within is)) there) found))
 
 pub still-taken : {A : Type 0} (vs : List (Vec Entry A)) (buckets : List (List Entry)) (hash n place : ℕ) (v new : Vec Entry A) (x entry : Entry) → buckets_of vs ≡ buckets → n ≡ length vs → 0 < length vs
     → v ≡ get_or vs (hash % n) v → place < length (bucket_of buckets hash) → x ≡ get_or v.items place x → new.items ≡ swap_remove v.items place x
@@ -117,12 +117,12 @@ still-taken vs buckets hash n place v new x entry view long some is inside read 
     let bucket : v.items ≡ bucket_of buckets hash = bucket-here vs buckets hash n v view long some is in
     let old : v.items ≡ get_or (buckets_of vs) at [] = bucket-read vs at v within is in
     let same : entry ≡ x = this ∙ ap (λ xs. get_or xs place entry) (sym bucket)
-      ∙ get_or_default v.items place entry x (subst (λ xs. place < length xs) (sym bucket) inside) ∙ sym read in
+    ∙ get_or_default v.items place entry x (subst (λ xs. place < length xs) (sym bucket) inside) ∙ sym read in
     subst (λ bs. FindsStillBut entry bs (buckets_of (set vs at new))) view
     (subst (FindsStillBut entry (buckets_of vs)) (sym (map-set (λ b. b.items) vs at new
-      ∙ ap (set (buckets_of vs) at) (taken ∙ ap (λ xs. swap_remove xs place x) old)))
+    ∙ ap (set (buckets_of vs) at) (taken ∙ ap (λ xs. swap_remove xs place x) old)))
     (FindsStill-take (buckets_of vs) at place x entry (subst (λ xs. place < length xs) (sym bucket ∙ old) inside)
-      (read ∙ ap (λ xs. get_or xs place x) old) same))
+    (read ∙ ap (λ xs. get_or xs place x) old) same))
 
 -- ---- more entries
 

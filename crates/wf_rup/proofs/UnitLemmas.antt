@@ -80,7 +80,7 @@ Contains-map {A} {B} f (y ∷ ys) x (suc k, within, e) =
     let deeper : suc there.0 < length (f y ∷ map f ys) = omega arith in
     (suc there.0, deeper, there.2)
 
-Contains-of_image : {A B : Type 0} (f : A → B) (xs : List A) (y : B) → Contains (map f xs) y → (x : A) × Contains xs x × (f x ≡ y)
+pub Contains-of_image : {A B : Type 0} (f : A → B) (xs : List A) (y : B) → Contains (map f xs) y → (x : A) × Contains xs x × (f x ≡ y)
 Contains-of_image f xs y here = image-at f xs y here.0 here.1 here.2
 
 -- ---- the code of a negation

@@ -1,5 +1,5 @@
 -- Where the entries of the index stand, and what hash a clause has.
-use Rattle.std.specs.Prelude.{◌≡◌, ℕ, ◌<◌, ◌*◌, ◌/◌, ◌%◌, ◌^◌, true, false, List, [], All, Contains, get_or, length, set, bit_xor}
+use Rattle.std.specs.Prelude.{◌≡◌, ℕ, ◌<◌, ◌*◌, ◌/◌, ◌%◌, ◌^◌, List, [], All, Contains, get_or, length, set, bit_xor}
 use Rattle.std.specs.List.{sum_by}
 use Rattle.wf_rup.specs.Deleted.{AreAlike}
 use Rattle.wf_rup.specs.Stored.{IsDistinct, has}

@@ -1,4 +1,4 @@
-use Rattle.std.proofs.Common.{◌≡◌, arith, is_ok, length}
+use Rattle.std.proofs.Common.{is_ok}
 use Rattle.wf_rup.proofs.CatalogueLemmas.{indexed-either}
 use Rattle.wf_rup.proofs.catalogue.Catalogue.push.Goals as goal
 
