@@ -10,3 +10,4 @@ pub mod StoredLemmas
 pub mod IndexLemmas
 pub mod HashLemmas
 pub mod CatalogueLemmas
+pub mod FaultLemmas

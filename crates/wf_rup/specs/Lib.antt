@@ -7,5 +7,6 @@ pub mod Seen
 pub mod Unit
 pub mod Deleted
 pub mod Index
+pub mod Refused
 pub mod Kept
 pub mod Whole
