@@ -1,42 +1,60 @@
 -- Laws of deletions.
-use Rattle.std.proofs.Common.{◌≡◌, ℕ, ◌+◌, ◌<◌, zero, suc, Bool, true, false, List, [], ◌∷◌, ◌++◌, refl, sym, ◌∙◌, ap, subst, arith, length, take, get_or, map, set, ◌⊎◌, inl, inr}
+use Rattle.std.proofs.Common.{◌≡◌, ℕ, ◌+◌, ◌<◌, zero, suc, Bool, true, false, List, [], ◌∷◌, ◌++◌, refl, sym, ◌∙◌, ap, subst, arith, length, take, get_or, map, set, inl, inr}
 use Rattle.std.specs.Prelude.{◌==◌, ◌||◌, if◌then◌else◌}
 use Rattle.std.specs.List.{All, Contains}
 use Rattle.std.proofs.lemmas.Bool.{false≢true}
-use Rattle.std.proofs.lemmas.List.{get_or_default, map-append}
+use Rattle.std.proofs.lemmas.List.{get_or_default, get_or-map, length-map, map-append}
 use Rattle.std.proofs.lemmas.List.Elements.{All-contains}
+use Rattle.std.proofs.lemmas.List.Folds.{list_any_at}
 use Rattle.std.proofs.lemmas.Grind.{take_at_read}
 use Rattle.wf_clauses.specs.Formula.{Clause, Literal}
-use Rattle.wf_rup.specs.Codes.{code_of, literal_of}
-use Rattle.wf_rup.specs.Deleted.{AreAlike, Deletes, DeletesStored, HaveSameLiterals, IsAmong, IsSeenOf}
+use Rattle.wf_rup.specs.Codes.{code_of, code_of-literal_of, literal_of}
+use Rattle.wf_rup.specs.Deleted.{AreAlike, Deletes, DeletesStored, HasAlike, HasAlikeStored, HaveSameLiterals, IsStoredWithout, IsWithout, IsAmong, IsSeenOf}
+use Rattle.wf_rup.specs.Index.{IsAlikeAt, IsKeptAt, IsTaken}
 use Rattle.wf_rup.specs.Propagation.{with_literal}
 use Rattle.wf_rup.specs.Seen.{Known, known_of}
-use Rattle.wf_rup.specs.Stored.{Stored, has, kept_of}
+use Rattle.wf_rup.specs.Stored.{IsDistinct, Stored, has, kept_of}
 use Rattle.wf_rup.proofs.LiteralLemmas.{literal_of-code_of}
-use Rattle.wf_rup.proofs.TrailLemmas.{has-push}
-use Rattle.wf_rup.proofs.UnitLemmas.{Contains-image, image-at}
+use Rattle.wf_rup.proofs.TrailLemmas.{distinct-push, has-push, same_test}
+use Rattle.wf_rup.proofs.UnitLemmas.{Contains-image, Contains-of_image, image-at}
 
-pub seen-none : (clause : List ℕ) → IsSeenOf clause []
-seen-none clause = λ l h. absurd (false≢true h)
+same-of : (x l : ℕ) → (x == l) ≡ true → x ≡ l
+same-of x l e = grind (arith, e)
 
-or-more : (a b c : Bool) → (a ≡ true → b ≡ true) → (a || c) ≡ true → (b || c) ≡ true
-or-more true b c more h = ap (λ x. x || c) (more refl)
-or-more false true c more h = refl
-or-more false false c more h = h
+pub seen-none : (clause : List ℕ) (l : ℕ) → has [] l ≡ has (take 0 clause) l
+seen-none clause l = refl
 
-seen-either : (seen part : List ℕ) (x l : ℕ) (b : Bool) → IsSeenOf part seen → has (if b then seen else seen ++ x ∷ []) l ≡ true → has (part ++ x ∷ []) l ≡ true
-seen-either seen part x l true all h = has-push part x l ∙ ap (λ b. b || (x == l)) (all l h)
-seen-either seen part x l false all h = has-push part x l ∙ or-more (has seen l) (has part l) (x == l) (all l) (sym (has-push seen x l) ∙ h)
+or-same : (a b c : Bool) → (c ≡ true → b ≡ true) → a ≡ b → (b || c) ≡ a
+or-same a true c h e = sym e
+or-same a false true h e = absurd (false≢true (h refl))
+or-same a false false h e = sym e
+
+-- where the literal is there already, and where it is not
+seen-either : (seen part : List ℕ) (x l : ℕ) (b : Bool) → b ≡ has seen x → IsSeenOf part seen → has (if b then seen else seen ++ x ∷ []) l ≡ has (part ++ x ∷ []) l
+seen-either seen part x l true there all =
+    sym (has-push part x l ∙ or-same (has seen l) (has part l) (x == l)
+    (λ e. ap (has part) (sym (same-of x l e)) ∙ sym (all x) ∙ sym there) (all l))
+seen-either seen part x l false there all = has-push seen x l ∙ ap (λ b. b || (x == l)) (all l) ∙ sym (has-push part x l)
 
 pub seen-more : (seen clause : List ℕ) (i d : ℕ) → i < length clause → IsSeenOf (take i clause) seen
     → IsSeenOf (take (i + 1) clause) (with_literal seen (get_or clause i d))
-seen-more seen clause i d within all = λ l h.
-    ap (λ ys. has ys l) (take_at_read clause i d within).1
-    ∙ seen-either seen (take i clause) (get_or clause i d) l (has seen (get_or clause i d)) all h
+seen-more seen clause i d within all = λ l.
+    seen-either seen (take i clause) (get_or clause i d) l (has seen (get_or clause i d)) refl all
+    ∙ sym (ap (λ ys. has ys l) (take_at_read clause i d within).1)
+
+distinct-either : (seen : List ℕ) (x : ℕ) (b : Bool) → b ≡ has seen x → IsDistinct seen → IsDistinct (if b then seen else seen ++ x ∷ [])
+distinct-either seen x true there distinct = distinct
+distinct-either seen x false there distinct = distinct-push seen x distinct (sym there)
+
+pub distinct-with : (seen : List ℕ) (x : ℕ) → IsDistinct seen → IsDistinct (with_literal seen x)
+distinct-with seen x distinct = distinct-either seen x (has seen x) refl distinct
 
 -- what was seen of one clause is one of it
 pub among-seen : (clause seen other : List ℕ) → IsSeenOf clause seen → IsAmong seen other → IsAmong clause other
-among-seen clause seen other all among = λ k d here. all (get_or other k d) (among k d here)
+among-seen clause seen other all among = λ k d here. sym (all (get_or other k d)) ∙ among k d here
+
+pub seen-among : (clause seen other : List ℕ) → IsSeenOf clause seen → IsAmong clause other → IsAmong seen other
+seen-among clause seen other all among = λ k d here. all (get_or other k d) ∙ among k d here
 
 -- ---- one clause less
 
@@ -46,37 +64,70 @@ record IsSplit (c : List ℕ) (old new : List (List ℕ)) : Type 0 where
   pub before : old ≡ front ++ c ∷ back
   pub after : new ≡ front ++ back
 
-kept_of-less : (f : List (List ℕ)) (i : ℕ) (c : List ℕ) → i < length f → c ≡ get_or f i c
-    → (kept_of (set f i []) ≡ kept_of f) ⊎ IsSplit c (kept_of f) (kept_of (set f i []))
-kept_of-less [] i c within e = absurd (omega arith)
-kept_of-less ([] ∷ f) zero c within e = inl refl
-kept_of-less ([] ∷ f) (suc i) c within e = let rest : i < length f = omega arith in kept_of-less f i c rest e
-kept_of-less ((x ∷ xs) ∷ f) zero c within e =
-    inr (record { front = []; back = kept_of f; before = ap (λ y. y ∷ kept_of f) (sym e); after = refl })
-kept_of-less ((x ∷ xs) ∷ f) (suc i) c within e =
+kept_of-less : (f : List (List ℕ)) (i : ℕ) (c : List ℕ) → i < length f → c ≡ get_or f i [] → 0 < length c → IsSplit c (kept_of f) (kept_of (set f i []))
+kept_of-less [] i c within e some = absurd (omega arith)
+kept_of-less ([] ∷ f) zero c within e some = let none : length c ≡ 0 = ap length e in absurd (omega arith)
+kept_of-less ([] ∷ f) (suc i) c within e some = let rest : i < length f = omega arith in kept_of-less f i c rest e some
+kept_of-less ((x ∷ xs) ∷ f) zero c within e some =
+    record { front = []; back = kept_of f; before = ap (λ y. y ∷ kept_of f) (sym e); after = refl }
+kept_of-less ((x ∷ xs) ∷ f) (suc i) c within e some =
     let rest : i < length f = omega arith in
-    elim (kept_of-less f i c rest e) [
-      | inl same ↦ inl (ap (λ cs. (x ∷ xs) ∷ cs) same)
-      | inr split ↦ inr (record {
-        front = (x ∷ xs) ∷ split.front;
-        back = split.back;
-        before = ap (λ cs. (x ∷ xs) ∷ cs) split.before;
-        after = ap (λ cs. (x ∷ xs) ∷ cs) split.after;
-      })
-    ]
+    let split : IsSplit c (kept_of f) (kept_of (set f i [])) = kept_of-less f i c rest e some in
+    record {
+      front = (x ∷ xs) ∷ split.front;
+      back = split.back;
+      before = ap (λ cs. (x ∷ xs) ∷ cs) split.before;
+      after = ap (λ cs. (x ∷ xs) ∷ cs) split.after;
+    }
 
-stored-either : (literals : List ℕ) (old new : List (List ℕ)) (refuted : Bool) (clause c : List ℕ) → AreAlike clause c
-    → (new ≡ old) ⊎ IsSplit c old new
-    → DeletesStored clause (record { literals = literals; clauses = old; is_refuted = refuted }) (record { literals = literals; clauses = new; is_refuted = refuted })
-stored-either literals old new refuted clause c alike (inl same) = inl (ap (λ cs. record { literals = literals; clauses = cs; is_refuted = refuted }) same)
-stored-either literals old new refuted clause c alike (inr split) =
-    inr (record { front = split.front; deleted = c; back = split.back; same = alike; before = split.before; after = split.after; literals = refl; is_refuted = refl })
+abbrev view : List ℕ → List (List ℕ) → Bool → Stored
+view literals f refuted = record { literals = literals; clauses = kept_of f; is_refuted = refuted }
 
-pub deletes-stored : (literals : List ℕ) (f : List (List ℕ)) (refuted : Bool) (clause c : List ℕ) (i : ℕ) → i < length f → c ≡ get_or f i c → AreAlike clause c
-    → DeletesStored clause (record { literals = literals; clauses = kept_of f; is_refuted = refuted })
-    (record { literals = literals; clauses = kept_of (set f i []); is_refuted = refuted })
-deletes-stored literals f refuted clause c i within e alike =
-    stored-either literals (kept_of f) (kept_of (set f i [])) refuted clause c alike (kept_of-less f i c within e)
+pub deletes-taken : (old : Stored) (t : List ℕ) (f g : List (List ℕ)) (r : Bool) (clause : List ℕ) → record { literals = t; clauses = kept_of f; is_refuted = r } ≡ old
+    → IsTaken clause f g → IsStoredWithout clause old (record { literals = t; clauses = kept_of g; is_refuted = r })
+deletes-taken old t f g r clause e taken =
+    let n = taken.number in
+    let kept = taken.alike.kept in
+    let split : IsSplit (get_or f n []) (kept_of f) (kept_of (set f n [])) = kept_of-less f n (get_or f n []) kept.within refl kept.some in
+    subst (λ o. IsStoredWithout clause o (view t g r)) e
+    (subst (λ h. IsStoredWithout clause (view t f r) (view t h r)) (sym taken.is) (record {
+      front = split.front;
+      deleted = get_or f n [];
+      back = split.back;
+      same = taken.alike.alike;
+      before = split.before;
+      after = split.after;
+      literals = refl;
+      is_refuted = refl;
+    }))
+
+-- a clause that is kept stands somewhere
+record IsPlaced (f : List (List ℕ)) (c : List ℕ) : Type 0 where
+  pub number : ℕ
+  pub kept : IsKeptAt f number
+  pub is : get_or f number [] ≡ c
+
+placed-later : (f : List (List ℕ)) (x c : List ℕ) → IsPlaced f c → IsPlaced (x ∷ f) c
+placed-later f x c placed =
+    let before : placed.number < length f = placed.kept.within in
+    let within : suc placed.number < length (x ∷ f) = omega arith in
+    record { number = suc placed.number; kept = record { within = within; some = placed.kept.some }; is = placed.is }
+
+placed : (f : List (List ℕ)) (c : List ℕ) → Contains (kept_of f) c → IsPlaced f c
+placed [] c (k, within, is) = absurd (omega arith)
+placed ([] ∷ f) c there = placed-later f [] c (placed f c there)
+placed ((x ∷ xs) ∷ f) c (zero, within, is) =
+    let first : 0 < length ((x ∷ xs) ∷ f) = omega arith in
+    let some : 0 < length (x ∷ xs) = omega arith in
+    record { number = 0; kept = record { within = first; some = some }; is = is }
+placed ((x ∷ xs) ∷ f) c (suc k, within, is) = let rest : k < length (kept_of f) = omega arith in placed-later f (x ∷ xs) c (placed f c (k, rest, is))
+
+pub none-stored : (old : Stored) (t : List ℕ) (f : List (List ℕ)) (r : Bool) (clause : List ℕ) → record { literals = t; clauses = kept_of f; is_refuted = r } ≡ old
+    → ((n : ℕ) → IsAlikeAt f clause n → ⊥) → HasAlikeStored clause old → ⊥
+none-stored old t f r clause e none has =
+    let there : Contains (kept_of f) has.other = subst (λ (o : Stored). Contains o.clauses has.other) (sym e) has.stored_is in
+    let place : IsPlaced f has.other = placed f has.other there in
+    none place.number (record { kept = place.kept; alike = subst (AreAlike clause) (sym place.is) has.same })
 
 -- ---- the same of what is known
 
@@ -94,11 +145,10 @@ alike-images codes deleted clause e alike =
     subst (λ c. HaveSameLiterals c (map literal_of deleted)) (ap (map literal_of) e ∙ back-again clause)
     (among-images codes deleted alike.0, among-images deleted codes alike.1)
 
-known-either : (old new : Stored) (clause : Clause) (codes : List ℕ) → codes ≡ map code_of clause → DeletesStored codes old new → Deletes clause (known_of old) (known_of new)
-known-either old new clause codes e (inl same) = inl (ap known_of same)
-known-either old new clause codes e (inr less) =
+known-less : (old new : Stored) (clause : Clause) (codes : List ℕ) → codes ≡ map code_of clause → IsStoredWithout codes old new → IsWithout clause (known_of old) (known_of new)
+known-less old new clause codes e less =
     let all : List (List ℕ) → List Clause = map (map literal_of) in
-    inr (record {
+    record {
       front = all less.front;
       deleted = map literal_of less.deleted;
       back = all less.back;
@@ -107,19 +157,46 @@ known-either old new clause codes e (inr less) =
       after = ap all less.after ∙ map-append (map literal_of) less.front less.back;
       literals = ap (map literal_of) less.literals;
       is_refuted = less.is_refuted;
-    })
+    }
+
+known-either : (old new : Stored) (clause : Clause) (codes : List ℕ) → codes ≡ map code_of clause → DeletesStored codes old new → Deletes clause (known_of old) (known_of new)
+known-either old new clause codes e (inl same) = inl (ap known_of same)
+known-either old new clause codes e (inr less) = inr (known-less old new clause codes e less)
 
 pub deletes-known : (old new : Stored) (known : Known) (clause : Clause) (codes : List ℕ) → known_of old ≡ known → codes ≡ map code_of clause
     → DeletesStored codes old new → Deletes clause known (known_of new)
 deletes-known old new known clause codes same e less = subst (λ k. Deletes clause k (known_of new)) same (known-either old new clause codes e less)
 
-abbrev view : List ℕ → List (List ℕ) → Bool → Stored
-view literals f refuted = record { literals = literals; clauses = kept_of f; is_refuted = refuted }
+-- ---- the same of a clause that is known to be there
 
-pub deletes-between : (old : Stored) (t t2 : List ℕ) (f f2 g : List (List ℕ)) (r r2 : Bool) (clause c : List ℕ) (i : ℕ)
-    → record { literals = t; clauses = kept_of f; is_refuted = r } ≡ old → t2 ≡ t → f2 ≡ f → r2 ≡ r → g ≡ set f2 i []
-    → i < length f2 → c ≡ get_or f2 i c → AreAlike clause c → DeletesStored clause old (record { literals = t2; clauses = kept_of g; is_refuted = r2 })
-deletes-between old t t2 f f2 g r r2 clause c i e et ef er eg within here alike =
-    let same : view t2 f2 r2 ≡ old = ap (λ x. view x f2 r2) et ∙ ap (λ x. view t x r2) ef ∙ ap (λ x. view t f x) er ∙ e in
-    subst (λ o. DeletesStored clause o (view t2 g r2)) same
-    (subst (λ h. DeletesStored clause (view t2 f2 r2) (view t2 h r2)) (sym eg) (deletes-stored t2 f2 r2 clause c i within here alike))
+has-contained : (xs : List ℕ) (x : ℕ) → Contains xs x → has xs x ≡ true
+has-contained xs x (k, within, is) = list_any_at (λ z. z == x) xs k x within (same_test (get_or xs k x) x is)
+
+same-codes : (x y : ℕ) → literal_of x ≡ literal_of y → x ≡ y
+same-codes x y e = sym (code_of-literal_of x) ∙ ap code_of e ∙ code_of-literal_of y
+
+among-codes : (xs ys : List ℕ) → All (Contains (map literal_of xs)) (map literal_of ys) → IsAmong xs ys
+among-codes xs ys all = λ k d here.
+    let y = get_or ys k d in
+    let inside : k < length (map literal_of ys) = omega (arith, length-map ys literal_of) in
+    let there : Contains (map literal_of xs) (literal_of y) =
+    subst (Contains (map literal_of xs)) (get_or-map literal_of ys k d (literal_of d) here) (all k (literal_of d) inside) in
+    let one = Contains-of_image literal_of xs (literal_of y) there in
+    ap (has xs) (sym (same-codes one.0 y one.2)) ∙ has-contained xs one.0 one.1
+
+alike-codes : (codes other : List ℕ) (clause : Clause) → codes ≡ map code_of clause → HaveSameLiterals clause (map literal_of other) → AreAlike codes other
+alike-codes codes other clause e same =
+    let here : HaveSameLiterals (map literal_of codes) (map literal_of other) =
+    subst (λ c. HaveSameLiterals c (map literal_of other)) (sym (ap (map literal_of) e ∙ back-again clause)) same in
+    (among-codes codes other here.0, among-codes other codes here.1)
+
+pub stored-alike : (old : Stored) (known : Known) (clause : Clause) (codes : List ℕ) → known_of old ≡ known → codes ≡ map code_of clause
+    → HasAlike clause known → HasAlikeStored codes old
+stored-alike old known clause codes same e has =
+    let there : Contains (map (map literal_of) old.clauses) has.other = subst (λ (k : Known). Contains k.clauses has.other) (sym same) has.known_is in
+    let one = Contains-of_image (map literal_of) old.clauses has.other there in
+    record { other = one.0; stored_is = one.1; same = alike-codes codes one.0 clause e (subst (HaveSameLiterals clause) (sym one.2) has.same) }
+
+pub without-known : (old new : Stored) (known : Known) (clause : Clause) (codes : List ℕ) → known_of old ≡ known → codes ≡ map code_of clause
+    → IsStoredWithout codes old new → IsWithout clause known (known_of new)
+without-known old new known clause codes same e less = subst (λ k. IsWithout clause k (known_of new)) same (known-less old new clause codes e less)

@@ -7,3 +7,7 @@ pub mod SettledLemmas
 pub mod UnitLemmas
 pub mod DeletedLemmas
 pub mod StoredLemmas
+pub mod IndexLemmas
+pub mod HashLemmas
+pub mod CatalogueLemmas
+pub mod FaultLemmas

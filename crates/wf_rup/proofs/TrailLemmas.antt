@@ -9,10 +9,10 @@ use Rattle.std.proofs.lemmas.Grind.{common_steps, get_or-set_at}
 use Rattle.wf_rup.specs.Propagation.{with_literal}
 use Rattle.wf_rup.specs.Stored.{IsDistinct, IsMarked, has}
 
-same_test : (a b : ℕ) → a ≡ b → (a == b) ≡ true
+pub same_test : (a b : ℕ) → a ≡ b → (a == b) ≡ true
 same_test a b h = grind (arith, h)
 
-other_test : (a b : ℕ) → (a ≡ b → ⊥) → (a == b) ≡ false
+pub other_test : (a b : ℕ) → (a ≡ b → ⊥) → (a == b) ≡ false
 other_test a b h = grind (arith, h)
 
 or_right : (a b : Bool) → b ≡ true → (a || b) ≡ true

@@ -17,10 +17,10 @@ use Rattle.wf_rup.specs.Unit.{DoesNotFollow, HasConflict, IsForcedBy, given, las
 
 -- ---- lists
 
-has-behind : (x y : ℕ) (ys : List ℕ) → (y ≡ x → ⊥) → has (y ∷ ys) x ≡ true → has ys x ≡ true
+pub has-behind : (x y : ℕ) (ys : List ℕ) → (y ≡ x → ⊥) → has (y ∷ ys) x ≡ true → has ys x ≡ true
 has-behind x y ys other h = grind (arith, common_steps, h, other)
 
-All-has : (P : ℕ → Type 0) (xs : List ℕ) (x : ℕ) → All P xs → has xs x ≡ true → P x
+pub All-has : (P : ℕ → Type 0) (xs : List ℕ) (x : ℕ) → All P xs → has xs x ≡ true → P x
 All-has P [] x all h = absurd (false≢true h)
 All-has P (y ∷ ys) x all h = elim (cases_eq y x) [
   | inl same ↦ let first : 0 < length (y ∷ ys) = omega arith in subst P same (all 0 0 first)
@@ -32,7 +32,7 @@ All-has P (y ∷ ys) x all h = elim (cases_eq y x) [
 found-first : (q : ℕ → Bool) (y : ℕ) (ys : List ℕ) → q y ≡ false → list_any q (y ∷ ys) ≡ true → list_any q ys ≡ true
 found-first q y ys none h = grind (arith, common_steps, h, none)
 
-has-first : (y : ℕ) (ys : List ℕ) → has (y ∷ ys) y ≡ true
+pub has-first : (y : ℕ) (ys : List ℕ) → has (y ∷ ys) y ≡ true
 has-first y ys = grind (arith, common_steps)
 
 has-later : (x y : ℕ) (ys : List ℕ) → has ys x ≡ true → has (y ∷ ys) x ≡ true
@@ -80,7 +80,7 @@ Contains-map {A} {B} f (y ∷ ys) x (suc k, within, e) =
     let deeper : suc there.0 < length (f y ∷ map f ys) = omega arith in
     (suc there.0, deeper, there.2)
 
-Contains-of_image : {A B : Type 0} (f : A → B) (xs : List A) (y : B) → Contains (map f xs) y → (x : A) × Contains xs x × (f x ≡ y)
+pub Contains-of_image : {A B : Type 0} (f : A → B) (xs : List A) (y : B) → Contains (map f xs) y → (x : A) × Contains xs x × (f x ≡ y)
 Contains-of_image f xs y here = image-at f xs y here.0 here.1 here.2
 
 -- ---- the code of a negation

@@ -8,6 +8,12 @@ use Rattle.wf_rup.specs.Stored.{Stored, has}
 abbrev pub HaveSameLiterals : Clause → Clause → Type 0
 HaveSameLiterals clause other = All (Contains clause) other × All (Contains other) clause
 
+-- a clause that is known has these literals
+pub record HasAlike (clause : Clause) (known : Known) : Type 0 where
+  pub other : Clause
+  pub known_is : Contains known.clauses other
+  pub same : HaveSameLiterals clause other
+
 -- one clause with these literals is no longer known
 pub record IsWithout (clause : Clause) (old new : Known) : Type 0 where
   pub front : List Clause
@@ -29,13 +35,19 @@ Deletes clause old new = (new ≡ old) ⊎ IsWithout clause old new
 abbrev pub IsAmong : List ℕ → List ℕ → Type 0
 IsAmong codes others = All (λ l. has codes l ≡ true) others
 
--- each literal that was seen is one of the clause
+-- the literals that were seen are those of the clause
 abbrev pub IsSeenOf : List ℕ → List ℕ → Type 0
-IsSeenOf clause seen = (l : ℕ) → has seen l ≡ true → has clause l ≡ true
+IsSeenOf clause seen = (l : ℕ) → has seen l ≡ has clause l
 
 -- each clause has the literals of the other
 abbrev pub AreAlike : List ℕ → List ℕ → Type 0
 AreAlike clause other = IsAmong clause other × IsAmong other clause
+
+-- a clause that is stored has these literals
+pub record HasAlikeStored (clause : List ℕ) (stored : Stored) : Type 0 where
+  pub other : List ℕ
+  pub stored_is : Contains stored.clauses other
+  pub same : AreAlike clause other
 
 pub record IsStoredWithout (clause : List ℕ) (old new : Stored) : Type 0 where
   pub front : List (List ℕ)

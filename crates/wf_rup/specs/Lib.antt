@@ -6,5 +6,7 @@ pub mod Settled
 pub mod Seen
 pub mod Unit
 pub mod Deleted
+pub mod Index
+pub mod Refused
 pub mod Kept
 pub mod Whole

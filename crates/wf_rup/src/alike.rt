@@ -1,7 +1,8 @@
 //! Whether two clauses have the same literals, in whatever order.
 
-ghost use Rattle.std.specs.Prelude.{IfOk, IsTrue};
+ghost use Rattle.std.specs.Prelude.{◌≡◌, ◌↔◌, IfOk, IsTrue};
 ghost use Rattle.wf_rup.specs.Deleted.{AreAlike, IsAmong, IsSeenOf};
+ghost use Rattle.wf_rup.specs.Stored.{IsDistinct};
 
 use crate::literal::Code;
 use crate::trail::Trail;
@@ -13,7 +14,7 @@ pub(crate) fn are_alike(
     clause: &[Code],
     other: &[Code],
 ) -> Result<bool, AllocError>
-    ensures { IfOk result (λ alike. IsTrue alike → AreAlike clause.now other.now) }
+    ensures { IfOk result (λ alike. IsTrue alike ↔ AreAlike clause.now other.now) }
 {
     see(seen, clause)?;
     if !has_seen(seen, other) {
@@ -23,9 +24,10 @@ pub(crate) fn are_alike(
     Ok(has_seen(seen, clause))
 }
 
-/// The literals of the clause are seen, and no others.
-fn see(seen: &mut Trail, clause: &[Code]) -> Result<(), AllocError>
-    ensures { IfOk result (λ done. IsSeenOf clause.now seen.new) }
+/// The literals of the clause are seen, each once, and no others.
+pub(crate) fn see(seen: &mut Trail, clause: &[Code]) -> Result<(), AllocError>
+    ensures same { IfOk result (λ done. IsSeenOf clause.now seen.new) }
+    ensures distinct { IfOk result (λ done. IsDistinct seen.new) }
 {
     seen.undo(0);
     for literal in clause {
@@ -36,7 +38,7 @@ fn see(seen: &mut Trail, clause: &[Code]) -> Result<(), AllocError>
 
 /// Whether each literal of the clause was seen.
 fn has_seen(seen: &Trail, clause: &[Code]) -> bool
-    ensures { IsTrue result → IsAmong seen.now clause.now }
+    ensures { IsTrue result ↔ IsAmong seen.now clause.now }
 {
     for literal in clause {
         if !seen.is_true(*literal) {

@@ -2,7 +2,7 @@
 
 ghost use Rattle.std.specs.Prelude.{◌≡◌, false, IfOk, IsTrue, map};
 ghost use Rattle.wf_rup.specs.Codes.{code_of};
-ghost use Rattle.wf_rup.specs.Deleted.{Deletes};
+ghost use Rattle.wf_rup.specs.Deleted.{Deletes, HasAlike, IsWithout};
 ghost use Rattle.wf_rup.specs.Kept.{IsKept, KnowsStill};
 ghost use Rattle.wf_rup.specs.Seen.{Entails, HasNoModel, KeepsModels, KeepsModelsOf, KnowsNothing};
 ghost use Rattle.wf_rup.specs.Unit.{DoesNotFollow};
@@ -84,10 +84,13 @@ impl Checker {
         self.database.derive(alloc, &self.codes)
     }
 
-    /// A clause with these literals is no longer kept. Where there is none, or it forces a literal already, nothing
-    /// changes.
+    /// A clause with these literals is no longer kept, whatever their order is and how often each stands there. Where there
+    /// is none nothing changes: so of a clause that was never kept, as all its literals but one were false when it came.
+    /// A literal that a clause forced stays true.
     pub fn delete(&mut self, clause: &[Literal]) -> Result<(), AllocError>
         ensures exact { Deletes clause.now self.old self.new }
+        ensures found { IfOk result (λ done. HasAlike clause.now self.old
+            → IsWithout clause.now self.old self.new) }
         ensures kept { KeepsModels self.old self.new }
     {
         put_codes(&mut self.codes, clause)?;

@@ -1,15 +1,13 @@
 //! Clauses and what they force, with literals by their codes.
 
 ghost use Rattle.std.specs.Prelude.{◌≡◌, ◌++◌, ◌∷◌, [], false, true, IfOk, IsTrue, length, take};
-ghost use Rattle.wf_rup.specs.Deleted.{DeletesStored};
+ghost use Rattle.wf_rup.specs.Deleted.{DeletesStored, HasAlikeStored, IsStoredWithout};
 ghost use Rattle.wf_rup.specs.Kept.{IsStored, StoresStill};
 ghost use Rattle.wf_rup.specs.Propagation.{AddsClause, Implies};
 ghost use Rattle.wf_rup.specs.Stored.{HasNoStoredModel, KeepsStoredModels, KeepsStoredModelsOf, KeepsStoredModelsWith, StoredEntails, StoresNothing, has, kept_of};
 ghost use Rattle.wf_rup.specs.Settled.{Refuses, StopsBefore};
 
-use crate::alike::are_alike;
-use crate::clauses::Clauses;
-use crate::index::{Index, hash_of};
+use crate::catalogue::Catalogue;
 use crate::literal::Code;
 use crate::propagation::propagate;
 use crate::scan::{open_literal, other_open_literal};
@@ -28,14 +26,11 @@ const FEW: usize = 4096;
 #[derive(Drop)]
 pub(crate) struct Database {
     trail: Trail,
-    clauses: Clauses,
+    clauses: Catalogue,
     watches: Watches,
-    index: Index,
     is_refuted: bool,
     // how many of the clauses are no longer kept
     forgotten: usize,
-    // the literals of a clause, while it is compared
-    seen: Trail,
 }
 
 impl Model for Database {
@@ -58,12 +53,10 @@ impl Database {
         let codes = 2 * variables as usize + 2;
         Ok(Database {
             trail: Trail::new(alloc, codes)?,
-            clauses: Clauses::new(alloc),
+            clauses: Catalogue::new(alloc, codes)?,
             watches: Watches::new(alloc, codes)?,
-            index: Index::new(alloc)?,
             is_refuted: false,
             forgotten: 0,
-            seen: Trail::new(alloc, codes)?,
         })
     }
 
@@ -94,7 +87,6 @@ impl Database {
                     second,
                     &mut self.clauses,
                     &mut self.watches,
-                    &mut self.index,
                 )?;
                 Ok(())
             }
@@ -106,8 +98,7 @@ impl Database {
     fn compact(&mut self, alloc: Global) -> Result<(), AllocError>
         ensures { self.new ≡ self.old }
     {
-        let mut clauses = Clauses::new(alloc);
-        let mut index = Index::new(alloc)?;
+        let mut clauses = Catalogue::new(alloc, self.trail.room())?;
         self.watches.clear();
         'clauses: for number in 0..self.clauses.len() {
             let clause = self.clauses.literals(number);
@@ -122,11 +113,9 @@ impl Database {
                 second,
                 &mut clauses,
                 &mut self.watches,
-                &mut index,
             )?;
         }
         self.clauses = clauses;
-        self.index = index;
         self.forgotten = 0;
         Ok(())
     }
@@ -194,26 +183,16 @@ impl Database {
         }
     }
 
-    /// A clause with these literals is no longer kept. Where there is none, or it forces a literal already, nothing
-    /// changes.
+    /// A clause with these literals is no longer kept. Where there is none nothing changes. What a clause forced stays
+    /// true.
     pub(crate) fn delete(&mut self, clause: &[Code]) -> Result<(), AllocError>
         ensures exact { DeletesStored clause.now self.old self.new }
+        ensures found { IfOk result (λ done. HasAlikeStored clause.now self.old
+            → IsStoredWithout clause.now self.old self.new) }
         ensures kept { KeepsStoredModels self.old self.new }
     {
-        let mut next = self.index.last(hash_of(clause));
-        'chain: for _ in 0..self.index.len() {
-            let Some(number) = next else {
-                return Ok(());
-            };
-            if number < self.clauses.len()
-                && are_alike(&mut self.seen, clause, self.clauses.literals(number))?
-            {
-                self.clauses.forget(number);
-                self.index.forget(number);
-                self.forgotten = self.forgotten.saturating_add(1);
-                return Ok(());
-            }
-            next = self.index.before(number);
+        if self.clauses.delete(clause)? {
+            self.forgotten = self.forgotten.saturating_add(1);
         }
         Ok(())
     }
@@ -223,7 +202,7 @@ impl Database {
 fn assume(
     alloc: Global,
     clause: &[Code],
-    clauses: &mut Clauses,
+    clauses: &mut Catalogue,
     trail: &mut Trail,
     watches: &mut Watches,
 ) -> Result<bool, AllocError>
@@ -254,9 +233,8 @@ fn store(
     clause: &[Code],
     first: Code,
     second: Code,
-    clauses: &mut Clauses,
+    clauses: &mut Catalogue,
     watches: &mut Watches,
-    index: &mut Index,
 ) -> Result<(), AllocError>
     ensures sound { AddsClause clause.now (kept_of clauses.old) (kept_of clauses.new) }
     ensures exact { IfOk result (λ done. clauses.new ≡ clauses.old ++ clause.now ∷ []) }
@@ -265,8 +243,7 @@ fn store(
     if number >= u32::MAX as usize {
         return Err(AllocError);
     }
-    clauses.push(clause, first, second)?;
-    index.push(alloc, hash_of(clause))?;
+    clauses.push(alloc, clause, first, second)?;
     let clause = number as u32;
     watches.push(
         first,

@@ -1,128 +1,121 @@
-//! Clauses by their literals, so that a deletion finds the one that it means.
-//!
-//! No proof rests on it: a clause that it finds is compared, and one that it doesn't find is kept.
+//! Clauses by a hash of their literals, so that a deletion looks at few.
 
-use crate::literal::Code;
+ghost use Rattle.std.specs.Prelude.{◌≡◌, ℕ, ◌<◌, [], get_or, length, IfOk};
+ghost use Rattle.wf_rup.specs.Index.{Finds, FindsEach, FindsStill, FindsStillBut, bucket_of};
+ghost use Rattle.wf_rup.specs.declared.index.Entry.{Entry};
+
 use std::alloc::{AllocError, Global};
+use std::marker::Model;
 
-// ends a chain
-const END: u32 = u32::MAX;
+// so many entries in each bucket are borne with
+const FEW: usize = 4;
 
+/// The number of a clause, under the hash of its literals.
 #[derive(Clone, Copy, Drop)]
-struct Entry {
-    hash: u64,
-    next: u32,
+pub(crate) struct Entry {
+    pub(crate) hash: u32,
+    pub(crate) number: u32,
 }
 
-/// A hash table with chains: an entry for each clause that was stored, in their order.
+/// A hash table: each entry stands in the bucket of its hash.
+///
+/// A clause of a contract sees the buckets.
 #[derive(Drop)]
 pub(crate) struct Index {
-    heads: Vec<u32>,
-    entries: Vec<Entry>,
+    buckets: Vec<Vec<Entry>>,
+    // how many entries were added
+    size: usize,
 }
 
-/// A hash of the literals that does not depend on their order.
-pub(crate) fn hash_of(clause: &[Code]) -> u64 {
-    let mut sum: u64 = 0;
-    let mut exclusive: u64 = 0;
-    let mut product: u64 = 1;
-    for literal in clause {
-        let number = u64::from(*literal);
-        sum = sum.wrapping_add(number);
-        exclusive ^= number.wrapping_mul(0x9E37_79B9_7F4A_7C15);
-        product = product.wrapping_mul(number.wrapping_mul(2).wrapping_add(1023));
-    }
-    let mixed = sum
-        .wrapping_mul(0xFF51_AFD7_ED55_8CCD)
-        .wrapping_add(exclusive)
-        .wrapping_add(product);
-    mixed ^ (mixed >> 32)
+impl Model for Index {
+    ghost use Rattle.std.specs.Prelude.{◌<◌, List, length, map};
+    ghost use Rattle.wf_rup.specs.declared.index.Entry.{Entry};
+
+    ghost Value = { List (List Entry) };
+
+    ghost view = { λ i. map (λ b. b.items) i.buckets.items };
+
+    ghost invariant = { λ i. 0 < length i.buckets.items };
 }
 
 impl Index {
+    /// No entry.
     pub(crate) fn new(alloc: Global) -> Result<Index, AllocError> {
-        Ok(Index {
-            heads: vec![in alloc; END; 1024]?,
-            entries: Vec::new(alloc),
-        })
+        Index::with_buckets(alloc, 1024)
     }
 
-    /// Adds the next clause.
-    pub(crate) fn push(&mut self, alloc: Global, hash: u64) -> Result<(), AllocError> {
-        if self.entries.len() >= self.heads.len() {
+    /// No entry, and so many buckets.
+    fn with_buckets(alloc: Global, count: usize) -> Result<Index, AllocError>
+        requires { 0 < count }
+    {
+        let mut buckets = Vec::with_capacity(alloc, count)?;
+        for _ in 0..count {
+            buckets.push(Vec::new(alloc))?;
+        }
+        Ok(Index { buckets, size: 0 })
+    }
+
+    /// The entries among which those with this hash are.
+    #[inline]
+    pub(crate) fn bucket(&self, hash: u32) -> &[Entry]
+        ensures { result.now ≡ bucket_of self.now hash }
+    {
+        let at = hash as usize % self.buckets.len();
+        &self.buckets[at]
+    }
+
+    /// Adds an entry.
+    pub(crate) fn push(&mut self, alloc: Global, entry: Entry) -> Result<(), AllocError>
+        ensures found { IfOk result (λ done. Finds self.new entry) }
+        ensures still { FindsStill self.old self.new }
+    {
+        if self.size >= self.buckets.len().saturating_mul(FEW) {
             self.grow(alloc)?;
         }
-        self.entries.push(Entry { hash, next: END })?;
-        let last = self.entries.len() - 1;
-        self.link(last);
+        self.put(entry)
+    }
+
+    /// Adds an entry to the bucket of its hash.
+    fn put(&mut self, entry: Entry) -> Result<(), AllocError>
+        ensures found { IfOk result (λ done. Finds self.new entry) }
+        ensures still { FindsStill self.old self.new }
+    {
+        let at = entry.hash as usize % self.buckets.len();
+        self.buckets[at].push(entry)?;
+        self.size = self.size.saturating_add(1);
         Ok(())
     }
 
-    fn grow(&mut self, alloc: Global) -> Result<(), AllocError> {
-        let size = self.heads.len().saturating_mul(2);
-        self.heads = vec![in alloc; END; size]?;
-        for number in 0..self.entries.len() {
-            self.link(number);
+    /// Adds each of these entries.
+    fn put_all(&mut self, entries: &[Entry]) -> Result<(), AllocError>
+        ensures found { IfOk result (λ done. FindsEach self.new entries.now) }
+        ensures still { FindsStill self.old self.new }
+    {
+        'entries: for entry in entries {
+            self.put(*entry)?;
         }
         Ok(())
     }
 
-    fn link(&mut self, number: usize) {
-        if number < self.entries.len() && self.heads.len() > 0 && number < END as usize {
-            let bucket = (self.entries[number].hash % self.heads.len() as u64) as usize;
-            self.entries[number].next = self.heads[bucket];
-            self.heads[bucket] = number as u32;
+    /// Makes twice as many buckets.
+    fn grow(&mut self, alloc: Global) -> Result<(), AllocError>
+        ensures { FindsStill self.old self.new }
+    {
+        let mut larger = Index::with_buckets(alloc, self.buckets.len().saturating_mul(2))?;
+        'buckets: for bucket in &self.buckets {
+            larger.put_all(bucket)?;
         }
+        *self = larger;
+        Ok(())
     }
 
-    /// The last clause with this hash, if there is one.
-    pub(crate) fn last(&self, hash: u64) -> Option<usize> {
-        if self.heads.len() == 0 {
-            return None;
-        }
-        let bucket = (hash % self.heads.len() as u64) as usize;
-        self.search(self.heads[bucket], hash)
-    }
-
-    /// The clause with the same hash that was added before this one, if there is one.
-    pub(crate) fn before(&self, number: usize) -> Option<usize> {
-        if number >= self.entries.len() {
-            return None;
-        }
-        let entry = self.entries[number];
-        self.search(entry.next, entry.hash)
-    }
-
-    fn search(&self, from: u32, hash: u64) -> Option<usize> {
-        let mut at = from as usize;
-        for _ in 0..self.entries.len() {
-            if at >= self.entries.len() {
-                return None;
-            }
-            let entry = self.entries[at];
-            if entry.hash == hash {
-                return Some(at);
-            }
-            at = entry.next as usize;
-        }
-        None
-    }
-
-    /// The clause is no longer looked for where it is the last one of its chain: so of many with one hash that are
-    /// deleted in turn, each is found at once.
-    pub(crate) fn forget(&mut self, number: usize) {
-        if number >= self.entries.len() || self.heads.len() == 0 {
-            return;
-        }
-        let entry = self.entries[number];
-        let bucket = (entry.hash % self.heads.len() as u64) as usize;
-        if self.heads[bucket] as usize == number {
-            self.heads[bucket] = entry.next;
-        }
-    }
-
-    /// How many clauses were added.
-    pub(crate) fn len(&self) -> usize {
-        self.entries.len()
+    /// Takes out the entry at this place of the bucket of a hash.
+    pub(crate) fn take(&mut self, hash: u32, place: usize)
+        requires { place < length (bucket_of self.old hash) }
+        ensures { (entry : Entry) → entry ≡ get_or (bucket_of self.old hash) place entry
+            → FindsStillBut entry self.old self.new }
+    {
+        let at = hash as usize % self.buckets.len();
+        self.buckets[at].swap_remove(place);
     }
 }

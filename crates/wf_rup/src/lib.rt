@@ -9,9 +9,11 @@
 #![tactic(auto)]
 
 mod alike;
+mod catalogue;
 mod checker;
 mod clauses;
 mod database;
+mod hash;
 mod index;
 mod literal;
 mod proof;

@@ -3,12 +3,14 @@
 //! A proof is a list of lemmas and deletions: the literals of a clause in DIMACS, ended by 0, with `d` before those of a
 //! clause that is deleted. A clause may span lines. Lines that begin with `c` between two steps are passed over.
 
-ghost use Rattle.std.specs.Prelude.{◌≤◌, IfOk, IfSome};
-ghost use Rattle.wf_rup.specs.Seen.{HasNoModel, KeepsModels};
+ghost use Rattle.std.specs.Prelude.{◌≡◌, ◌≤◌, IfErr, IfOk, IfSome};
+ghost use Rattle.wf_rup.specs.Refused.{IsFaultAtEnd, IsFaultOf};
+ghost use Rattle.wf_rup.specs.Seen.{HasNoModel, KeepsModels, Known};
 
 use crate::checker::Checker;
 use crate::literal::{Literal, MOST_VARIABLES};
 use std::alloc::{AllocError, Global};
+use std::marker::Model;
 
 /// Why a proof is refused. Lines are counted from 1.
 #[derive(Clone, Copy, Debug, PartialEq, Eq)]
@@ -62,12 +64,21 @@ enum Reading {
 /// A proof that is read piece by piece, and checked step by step.
 ///
 /// Nothing is believed of it: whatever its bytes are, a checker that it refutes had no model before the first piece.
+/// Contracts see the step that is read: its line, and its literals so far.
 #[derive(Drop)]
 pub struct Proof {
     line: u64,
     reading: Reading,
     is_deletion: bool,
     clause: Vec<Literal>,
+}
+
+impl Model for Proof {
+    ghost use Rattle.wf_rup.specs.Refused.{Pending};
+
+    ghost Value = { Pending };
+
+    ghost view = { λ p. record { line = p.line; clause = p.clause.items } };
 }
 
 impl Proof {
@@ -81,14 +92,16 @@ impl Proof {
         }
     }
 
-    /// Reads the next piece. What comes behind the contradiction is passed over.
+    /// Reads the next piece. What comes behind the contradiction is passed over. Where a lemma is refused it is the clause
+    /// that was read last, and does not follow by unit propagation from what is known then.
     pub fn feed(
         &mut self,
         alloc: Global,
         checker: &mut Checker,
         piece: &[u8],
     ) -> Result<(), ProofFault>
-        ensures { KeepsModels checker.old checker.new }
+        ensures kept { KeepsModels checker.old checker.new }
+        ensures refused { IfErr result (IsFaultOf self.new checker.new) }
     {
         'bytes: for byte in piece {
             self.read(alloc, checker, *byte)?;
@@ -96,22 +109,30 @@ impl Proof {
         Ok(())
     }
 
-    /// Ends the proof. It is accepted where the contradiction was found.
+    /// Ends the proof. It is accepted where the contradiction was found, or follows by unit propagation.
     pub fn finish(mut self, alloc: Global, checker: &mut Checker) -> Result<(), ProofFault>
-        ensures { IfOk result (λ accepted. HasNoModel checker.old) }
+        ensures accepted { IfOk result (λ accepted. HasNoModel checker.old) }
+        ensures refused { IfErr result (IsFaultAtEnd self checker.new) }
     {
         let line = self.line;
-        self.read(alloc, checker, b'\n')?;
+        if let Err(fault) = self.read(alloc, checker, b'\n') {
+            return Err(fault);
+        }
         if checker.is_refuted() {
-            Ok(())
-        } else {
-            Err(ProofFault::NoContradiction { line })
+            return Ok(());
+        }
+        match checker.derive(alloc, &[]) {
+            Ok(true) => Ok(()),
+            Ok(false) => Err(ProofFault::NoContradiction { line }),
+            Err(_) => Err(ProofFault::OutOfMemory),
         }
     }
 
     /// Reads one byte.
     fn read(&mut self, alloc: Global, checker: &mut Checker, byte: u8) -> Result<(), ProofFault>
-        ensures { KeepsModels checker.old checker.new }
+        ensures kept { KeepsModels checker.old checker.new }
+        ensures refused { IfErr result (IsFaultOf self.new checker.new) }
+        ensures line { IfErr result (λ fault. self.new.line ≡ self.old.line) }
     {
         if checker.is_refuted() {
             return Ok(());
@@ -125,7 +146,9 @@ impl Proof {
 
     /// Takes a byte, which may end a number and with it a step.
     fn take(&mut self, alloc: Global, checker: &mut Checker, byte: u8) -> Result<(), ProofFault>
-        ensures { KeepsModels checker.old checker.new }
+        ensures kept { KeepsModels checker.old checker.new }
+        ensures refused { IfErr result (IsFaultOf self.new checker.new) }
+        ensures line { self.new.line ≡ self.old.line }
     {
         if let Reading::Number { is_negative, value } = self.reading
             && is_blank(byte)
@@ -133,12 +156,20 @@ impl Proof {
             self.reading = Reading::Blank;
             return self.end_number(alloc, checker, is_negative, value);
         }
-        self.reading = self.go_on(byte)?;
-        Ok(())
+        match self.go_on(byte) {
+            Ok(reading) => {
+                self.reading = reading;
+                Ok(())
+            }
+            Err(fault) => Err(fault),
+        }
     }
 
     /// What the bytes are with one more, which ends no number.
-    fn go_on(&mut self, byte: u8) -> Result<Reading, ProofFault> {
+    fn go_on(&mut self, byte: u8) -> Result<Reading, ProofFault>
+        ensures same { self.new ≡ self.old }
+        ensures refused { IfErr result (λ fault. (known : Known) → IsFaultOf self.old known fault) }
+    {
         match (self.reading, byte) {
             (Reading::Comment, b'\n') => Ok(Reading::Blank),
             (Reading::Comment, _) => Ok(Reading::Comment),
@@ -152,7 +183,10 @@ impl Proof {
     }
 
     /// What a byte begins that stands behind a blank or at the front.
-    fn begin(&mut self, byte: u8) -> Result<Reading, ProofFault> {
+    fn begin(&mut self, byte: u8) -> Result<Reading, ProofFault>
+        ensures same { self.new ≡ self.old }
+        ensures refused { IfErr result (λ fault. (known : Known) → IsFaultOf self.old known fault) }
+    {
         let is_between_steps = !self.is_deletion && self.clause.is_empty();
         match byte {
             _ if is_blank(byte) => Ok(Reading::Blank),
@@ -170,7 +204,9 @@ impl Proof {
     }
 
     /// The fault of a byte that stands in no literal. A text has no control characters and no bytes of 7F and above.
-    fn stray(&self, byte: u8) -> ProofFault {
+    fn stray(&self, byte: u8) -> ProofFault
+        ensures { (known : Known) → IsFaultOf self.now known result }
+    {
         match byte {
             b'\t' | b'\n' | b'\r' | b' '..=b'~' => ProofFault::NotALiteral { line: self.line },
             _ => ProofFault::Binary,
@@ -185,7 +221,9 @@ impl Proof {
         is_negative: bool,
         value: u32,
     ) -> Result<(), ProofFault>
-        ensures { KeepsModels checker.old checker.new }
+        ensures kept { KeepsModels checker.old checker.new }
+        ensures refused { IfErr result (IsFaultOf self.new checker.new) }
+        ensures line { self.new.line ≡ self.old.line }
     {
         let line = self.line;
         if value == 0 {
@@ -211,7 +249,9 @@ impl Proof {
 
     /// A clause was read.
     fn end_step(&mut self, alloc: Global, checker: &mut Checker) -> Result<(), ProofFault>
-        ensures { KeepsModels checker.old checker.new }
+        ensures kept { KeepsModels checker.old checker.new }
+        ensures refused { IfErr result (IsFaultOf self.new checker.new) }
+        ensures line { self.new.line ≡ self.old.line }
     {
         self.judge(alloc, checker)?;
         self.is_deletion = false;
@@ -221,16 +261,19 @@ impl Proof {
 
     /// The clause is deleted, or it is a lemma that has to follow.
     fn judge(&self, alloc: Global, checker: &mut Checker) -> Result<(), ProofFault>
-        ensures { KeepsModels checker.old checker.new }
+        ensures kept { KeepsModels checker.old checker.new }
+        ensures refused { IfErr result (IsFaultOf self.now checker.new) }
     {
         if self.is_deletion {
-            checker.delete(&self.clause)?;
-            return Ok(());
+            return match checker.delete(&self.clause) {
+                Ok(()) => Ok(()),
+                Err(_) => Err(ProofFault::OutOfMemory),
+            };
         }
-        if checker.derive(alloc, &self.clause)? {
-            Ok(())
-        } else {
-            Err(ProofFault::NotImplied { line: self.line })
+        match checker.derive(alloc, &self.clause) {
+            Ok(true) => Ok(()),
+            Ok(false) => Err(ProofFault::NotImplied { line: self.line }),
+            Err(_) => Err(ProofFault::OutOfMemory),
         }
     }
 }

@@ -4,7 +4,7 @@ ghost use Rattle.std.specs.Prelude.{◌≡◌, ◌≤◌, IfOk, IsTrue, vec_len}
 ghost use Rattle.wf_rup.specs.Propagation.{Conflicts, Extends, IsSound};
 ghost use Rattle.wf_rup.specs.Stored.{kept_of};
 
-use crate::clauses::Clauses;
+use crate::catalogue::Catalogue;
 use crate::literal::Code;
 use crate::scan::other_open_literal;
 use crate::trail::{Trail, negated};
@@ -27,7 +27,7 @@ enum Outcome {
 pub(crate) fn propagate(
     alloc: Global,
     from: usize,
-    clauses: &mut Clauses,
+    clauses: &mut Catalogue,
     trail: &mut Trail,
     watches: &mut Watches,
 ) -> Result<bool, AllocError>
@@ -51,7 +51,7 @@ pub(crate) fn propagate(
 fn visit_watchers(
     alloc: Global,
     falsified: Code,
-    clauses: &mut Clauses,
+    clauses: &mut Catalogue,
     trail: &mut Trail,
     watches: &mut Watches,
 ) -> Result<bool, AllocError>
@@ -110,7 +110,7 @@ fn close_gap(list: &mut Vec<Watch>, to: usize, from: usize)
 fn visit(
     clause: u32,
     falsified: Code,
-    clauses: &mut Clauses,
+    clauses: &mut Catalogue,
     trail: &Trail,
     watches: &mut Watches,
 ) -> Result<Outcome, AllocError>

@@ -7,7 +7,7 @@ ghost use Rattle.wf_rup.specs.Propagation.{Conflicts, Extends};
 ghost use Rattle.wf_rup.specs.Settled.{HoldsNever, IsConsistent, Stands, StandsOneOf, Stops};
 ghost use Rattle.wf_rup.specs.Stored.{kept_of};
 
-use crate::clauses::Clauses;
+use crate::catalogue::Catalogue;
 use crate::literal::Code;
 use crate::scan::{is_satisfied, open_literal, other_open_literal};
 use crate::trail::Trail;
@@ -24,7 +24,7 @@ pub(crate) enum Standing {
 }
 
 /// Makes true what the clauses force; whether they are in conflict with the literals that are true then.
-pub(crate) fn settle(clauses: &Clauses, trail: &mut Trail) -> Result<bool, AllocError>
+pub(crate) fn settle(clauses: &Catalogue, trail: &mut Trail) -> Result<bool, AllocError>
     ensures trail { Extends (kept_of clauses.now) trail.old trail.new }
     ensures conflict { IfOk result (λ found. IsTrue found
         → Conflicts (kept_of clauses.now) trail.old) }
@@ -41,7 +41,7 @@ pub(crate) fn settle(clauses: &Clauses, trail: &mut Trail) -> Result<bool, Alloc
 }
 
 /// What the first kept clause comes to that is not settled, if there is one.
-fn first_unsettled(clauses: &Clauses, trail: &Trail) -> Standing
+fn first_unsettled(clauses: &Catalogue, trail: &Trail) -> Standing
     ensures { StandsOneOf (kept_of clauses.now) trail.now result }
 {
     for number in 0..clauses.len() {

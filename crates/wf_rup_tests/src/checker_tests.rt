@@ -88,6 +88,22 @@ fn what_is_refused_leaves_no_trace(rt: HostRuntime) -> Result<(), Fail> {
 }
 
 #[test]
+fn a_clause_is_deleted_whatever_its_order(rt: HostRuntime) -> Result<(), Fail> {
+    let alloc = rt.alloc();
+    let mut checker = with(alloc, &[&[1, 2, 3], &[3, 2, 1], &[4, 5, 6]])?;
+    assert!(rt; derives(alloc, &mut checker, &[1, 2, 3, 4])?);
+    checker.delete(&clause(alloc, &[4, 3, 2, 1])?)?;
+    checker.delete(&clause(alloc, &[2, 3])?)?;
+    checker.delete(&clause(alloc, &[2, 3, 1, 3])?)?;
+    assert!(rt; derives(alloc, &mut checker, &[1, 3, 2])?);
+    checker.delete(&clause(alloc, &[3, 1, 2])?)?;
+    checker.delete(&clause(alloc, &[1, 3, 2])?)?;
+    assert!(rt; !derives(alloc, &mut checker, &[1, 3, 2])?);
+    assert!(rt; derives(alloc, &mut checker, &[6, 5, 4])?);
+    Ok(())
+}
+
+#[test]
 fn what_is_kept_outlasts_many_deletions(rt: HostRuntime) -> Result<(), Fail> {
     let alloc = rt.alloc();
     let mut checker = with(alloc, &[&[1, 2], &[1, -2], &[-1, 3, 4]])?;

@@ -32,7 +32,7 @@ returns-in-Ok-eq0 g c =
     let read = piece_read c.args.source.now c.pieces.source c.read.new.self c.args.checker c.pieces.checker c.pieces.given c.pieces.invariant.0
     c.pieces.checker n (take n c.read.new.piece) is.bound.1 is.bytes.0 is.taken is.failures (λ a model. model) in
     accepted c.args.source.now c.read.new.self c.args.checker c.pieces.checker _ read (omega (arith, none, few))
-    (is.bytes.1 none (omega (arith, few, room, kept, least, whole, long))) c.in_ok-finish-in-Ok-eq0.ensures
+    (is.bytes.1 none (omega (arith, few, room, kept, least, whole, long))) c.in_ok-finish-in-Ok-eq0.ensures.accepted
 
 pub pieces-preserved : goal.pieces-preserved
 pieces-preserved g c =
@@ -46,7 +46,7 @@ pieces-preserved g c =
     let taken = c.pieces.invariant.2 in
     let failures = c.pieces.invariant.3 in (
       piece_read c.args.source.now c.pieces.source c.read.new.self c.args.checker c.pieces.checker c.pieces.given c.pieces.invariant.0
-          c.feed.new.checker n (take n c.read.new.piece) is.bound.1 is.bytes.0 is.taken is.failures c.feed.ensures,
+          c.feed.new.checker n (take n c.read.new.piece) is.bound.1 is.bytes.0 is.taken is.failures c.feed.ensures.kept,
       omega (arith, few, bound, room, kept, least),
       omega (arith, taken, is.taken),
       omega (arith, failures, is.failures),
@@ -63,7 +63,7 @@ returns-in_err-feed-in-Ok g c =
     let kept = c.read.auto.piece in
     let least = c.min-room.ensures in
     let read = piece_read c.args.source.now c.pieces.source c.read.new.self c.args.checker c.pieces.checker c.pieces.given c.pieces.invariant.0
-    c.feed.new.checker n (take n c.read.new.piece) is.bound.1 is.bytes.0 is.taken is.failures c.feed.ensures in
+    c.feed.new.checker n (take n c.read.new.piece) is.bound.1 is.bytes.0 is.taken is.failures c.feed.ensures.kept in
     proof_refused c.args.source.now c.read.new.self c.args.checker c.feed.new.checker _ read (λ accepted. HasNoModel c.args.checker)
     (omega (arith, few, bound, room, kept, least)) c.in_err-feed-in-Ok.field-0.0 c.from_residual-in_err-feed-in-Ok.result c.from_residual-in_err-feed-in-Ok.ensures
 

@@ -16,5 +16,5 @@ pub returns : goal.returns
 returns c = IfOk-weaker c.finish.result _ _
     (λ accepted none a model.
     let all : take c.clauses.clause-index c.args.clauses.now ≡ c.args.clauses.now = take_all _ _ c.clauses-test.false in
-    none a (c.feed.ensures a (c.clauses.invariant a (subst (λ vs. SatisfiesAll a (clauses_of vs)) (sym all) model))))
-    c.finish.ensures
+    none a (c.feed.ensures.kept a (c.clauses.invariant a (subst (λ vs. SatisfiesAll a (clauses_of vs)) (sym all) model))))
+    c.finish.ensures.accepted

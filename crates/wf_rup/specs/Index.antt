@@ -1,0 +1,86 @@
+-- Where the entries of the index stand, and what hash a clause has.
+use Rattle.std.specs.Prelude.{◌≡◌, ℕ, ◌<◌, ◌*◌, ◌/◌, ◌%◌, ◌^◌, List, [], All, Contains, get_or, length, set, bit_xor}
+use Rattle.std.specs.List.{sum_by}
+use Rattle.wf_rup.specs.Deleted.{AreAlike}
+use Rattle.wf_rup.specs.Stored.{IsDistinct, has}
+use Rattle.wf_rup.specs.declared.catalogue.Found.{Found}
+use Rattle.wf_rup.specs.declared.index.Entry.{Entry}
+
+-- the bucket of a hash
+abbrev pub bucket_of : List (List Entry) → ℕ → List Entry
+bucket_of buckets hash = get_or buckets (hash % length buckets) []
+
+-- the entry stands in the bucket of its hash
+abbrev pub Finds : List (List Entry) → Entry → Type 0
+Finds buckets entry = Contains (bucket_of buckets entry.hash) entry
+
+-- each of these entries does
+abbrev pub FindsEach : List (List Entry) → List Entry → Type 0
+FindsEach buckets entries = All (Finds buckets) entries
+
+-- each entry that stood in its bucket stands there still
+abbrev pub FindsStill : List (List Entry) → List (List Entry) → Type 0
+FindsStill old new = (entry : Entry) → Finds old entry → Finds new entry
+
+-- each other entry that stood in its bucket stands there still
+abbrev pub FindsStillBut : Entry → List (List Entry) → List (List Entry) → Type 0
+FindsStillBut taken old new = (entry : Entry) → (entry ≡ taken → ⊥) → Finds old entry → Finds new entry
+
+-- ---- hashes
+
+-- what a literal adds to the hash of its clause
+unfoldable pub mixed : ℕ → ℕ
+mixed l =
+    let spread = l * 2654435761 % 2 ^ 32 in
+    bit_xor spread (spread / 2 ^ 15) * 2246822519 % 2 ^ 32
+
+-- the hash of literals that stand once each
+abbrev pub hash_of_each : List ℕ → ℕ
+hash_of_each literals = sum_by mixed literals % 2 ^ 32
+
+-- the hash of the clause, in which a literal counts once
+pub record IsHashOf (clause : List ℕ) (hash : ℕ) : Type 0 where
+  pub each : List ℕ
+  pub distinct : IsDistinct each
+  pub same : (l : ℕ) → has each l ≡ has clause l
+  pub sum : hash ≡ hash_of_each each
+
+-- ---- clauses
+
+-- the clause of this number is kept
+pub record IsKeptAt (clauses : List (List ℕ)) (number : ℕ) : Type 0 where
+  pub within : number < length clauses
+  pub some : 0 < length (get_or clauses number [])
+
+-- it stands in the index, under its hash
+pub record IsIndexedAt (clauses : List (List ℕ)) (index : List (List Entry)) (number : ℕ) : Type 0 where
+  pub hash : ℕ
+  pub hashed : IsHashOf (get_or clauses number []) hash
+  pub found : Finds index (record { hash = hash; number = number })
+
+-- each clause that is kept does
+abbrev pub IsIndexed : List (List ℕ) → List (List Entry) → Type 0
+IsIndexed clauses index = (number : ℕ) → IsKeptAt clauses number → IsIndexedAt clauses index number
+
+-- the clause of this number is kept, and has these literals
+pub record IsAlikeAt (clauses : List (List ℕ)) (clause : List ℕ) (number : ℕ) : Type 0 where
+  pub kept : IsKeptAt clauses number
+  pub alike : AreAlike clause (get_or clauses number [])
+
+-- one clause with these literals is no longer kept
+pub record IsTaken (clause : List ℕ) (old new : List (List ℕ)) : Type 0 where
+  pub number : ℕ
+  pub alike : IsAlikeAt old clause number
+  pub is : new ≡ set old number []
+
+-- the entry leads to a kept clause with these literals
+pub record IsFoundAt (entries : List Entry) (clauses : List (List ℕ)) (clause : List ℕ) (found : Found) : Type 0 where
+  pub entry : Entry
+  pub within : found.place < length entries
+  pub is : entry ≡ get_or entries found.place entry
+  pub numbered : entry.number ≡ found.number
+  pub alike : IsAlikeAt clauses clause found.number
+
+-- the entry has another hash, or its clause is not kept or has other literals
+abbrev pub IsOther : List (List ℕ) → ℕ → List ℕ → Entry → Type 0
+IsOther clauses hash clause entry = entry.hash ≡ hash → IsAlikeAt clauses clause entry.number → ⊥
