@@ -62,7 +62,7 @@ fn normals_of(alloc: Global, views: &mut Views, ids: &[u32]) -> Result<Vec<u32>,
     ensures normals { IfOk result
         (λ ns. views_at views.new ns.items ≡ map normal (views_at views.old ids.now)) }
 {
-    let mut normals = Vec::new(alloc);
+    let mut normals = Vec::with_capacity(alloc, ids.len())?;
     for id in ids {
         let number = views.normal(*id)?;
         normals.push(number)?;
@@ -75,7 +75,7 @@ pub(crate) fn pick(alloc: Global, ids: &[u32], places: &[u32]) -> Result<Vec<u32
     requires { All (λ p. p < length ids.now) places.now }
     ensures { IfOk result (λ v. v.items ≡ map (λ p. slice_index ids.now p) places.now) }
 {
-    let mut numbers = Vec::new(alloc);
+    let mut numbers = Vec::with_capacity(alloc, places.len())?;
     for place in places {
         numbers.push(ids[*place as usize])?;
     }

@@ -67,7 +67,8 @@ pub(crate) fn lay_out(
     requires sizes { All (λ s. length s ≤ most_processes) inputs.now }
     ensures { IfOk result (λ es. es.items ≡ laid_out first_block rounds 0 0 inputs.now) }
 {
-    let mut executions = Vec::new(alloc);
+    let count = execution_count(inputs, first_block, rounds);
+    let mut executions = Vec::with_capacity(alloc, count as usize)?;
     let mut place = 0;
     for (number, simplex) in inputs.iter().enumerate() {
         let size = simplex.colours();

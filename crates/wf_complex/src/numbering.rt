@@ -25,7 +25,7 @@ pub(crate) fn number_all(alloc: Global, ids: &[u32], bound: usize) -> Result<Num
         (λ n. numbers_at ids.now n.firsts.items n.places.items ≡ ids.now) }
 {
     let mut numbers: Vec<Option<u32>> = vec![in alloc; None; bound]?;
-    let mut places = Vec::new(alloc);
+    let mut places = Vec::with_capacity(alloc, ids.len())?;
     let mut firsts = Vec::new(alloc);
     for (i, id) in ids.iter().enumerate() {
         let place = number_one(&mut numbers, &mut firsts, *id, i as u32)?;

@@ -69,7 +69,7 @@ pub(crate) fn places_of(
     requires few { length executions.now ≤ most_executions }
     ensures { IfOk result (λ ps. ps.items ≡ places_on_all views.now lasts.now executions.now) }
 {
-    let mut places = Vec::new(alloc);
+    let mut places = Vec::with_capacity(alloc, lasts.len())?;
     for (number, execution) in executions.iter().enumerate() {
         let first = execution.place as usize;
         let end = first + execution.size as usize;

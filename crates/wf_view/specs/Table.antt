@@ -58,6 +58,10 @@ abbrev pub place_in : List Node → Node → Option ℕ
 place_in [] k = None
 place_in (node ∷ nodes) k = placed (same_node k node) (place_in nodes k)
 
+-- the entry has this place
+abbrev pub StandsAt : List Node → ℕ → Node → Type 0
+StandsAt nodes n node = (n < length nodes) × (get_or nodes n node ≡ node)
+
 -- what the table keeps: an entry for each number, none twice, the processes in each, and its number
 pub record IsTable {S : Type 0} (nodes : List Node) (colours : List ℕ) (numbers : HashMap Node ℕ S) : Type 0 where
   pub entries : AreEntriesFrom 0 nodes

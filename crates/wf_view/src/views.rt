@@ -1,6 +1,6 @@
 //! The table of views.
 
-ghost use Rattle.std.specs.Prelude.{◌≡◌, ◌<◌, ◌≤◌, ◌^◌, bit_or, true, [], ◌+◌, length, take, All, map, is_ok, OnOk, IfOk, Some, slice_get};
+ghost use Rattle.std.specs.Prelude.{◌≡◌, ◌<◌, ◌≤◌, ◌^◌, bit_or, true, [], ◌+◌, length, take, All, map, is_ok, OnOk, IfOk, IfSome, Some, slice_get};
 ghost use Rattle.std.specs.HashMap.{get};
 ghost use Rattle.std.specs.BTreeSet.{insert_key};
 ghost use Rattle.std.specs.List.{fold};
@@ -11,7 +11,7 @@ ghost use Rattle.wf_model.specs.Simplex.{is_ascending};
 ghost use Rattle.wf_model.specs.View.{base, process_of, same_view, normal};
 ghost use Rattle.wf_model.specs.Problem.{number_of};
 ghost use Rattle.wf_view.specs.Views.{view_at, view_seen, processes_at, with_view_if, input_of, inner_views, colours_of, count_within, GrowsByAtMost};
-ghost use Rattle.wf_view.specs.Table.{same_node, colours_at};
+ghost use Rattle.wf_view.specs.Table.{StandsAt, same_node, colours_at};
 ghost use Rattle.wf_view.specs.Renaming.{rank_in, renamed_at, SawAmong, AreInside, AreRenamed};
 
 use crate::node::{Node, input, number_beside, renumber, snapshot};
@@ -25,7 +25,12 @@ pub struct Views {
     nodes: Vec<Node>,
     colours: Vec<u8>,
     numbers: HashMap<Node, u32>,
+    // for some entries that were numbered lately their numbers, and else anything
+    recent: [u32; RECENT],
 }
+
+/// How many entries that were numbered lately are looked at first.
+const RECENT: usize = 256;
 
 impl Model for Views {
     ghost use Rattle.std.specs.Prelude.{List};
@@ -53,6 +58,7 @@ impl Views {
             nodes: Vec::new(alloc),
             colours: Vec::new(alloc),
             numbers: HashMap::new(alloc),
+            recent: [0; RECENT],
         }
     }
 
@@ -218,7 +224,12 @@ impl Views {
         ensures number { IfOk result (λ n. n ≡ number_of self.new (node_view self.old node)) }
         ensures stands { IfOk result (λ n. slice_get self.new n ≡ Some (node_view self.old node)) }
     {
+        let slot = slot_of(node);
+        if let Some(number) = recent_number(&self.nodes, self.recent[slot], node) {
+            return Ok(number);
+        }
         if let Some(number) = known_number(&self.numbers, node) {
+            self.recent[slot] = number;
             return Ok(number);
         }
         let number = self.nodes.len() as u32;
@@ -227,8 +238,36 @@ impl Views {
         self.numbers.insert(node, number)?;
         self.nodes.push_reserved(node);
         self.colours.push_reserved(colours);
+        self.recent[slot] = number;
         Ok(number)
     }
+}
+
+/// The number, where the entry stands there.
+fn recent_number(nodes: &[Node], number: u32, node: Node) -> Option<u32>
+    ensures { IfSome result (λ n. StandsAt nodes.now n node) }
+{
+    let place = number as usize;
+    if place < nodes.len() && nodes[place] == node {
+        Some(number)
+    } else {
+        None
+    }
+}
+
+/// Where among the recent ones an entry is looked for.
+fn slot_of(node: Node) -> usize
+    ensures { result < 256 }
+{
+    let [a, b, c, d] = node.ids;
+    let seen = a
+        .wrapping_add(b.wrapping_mul(3))
+        .wrapping_add(c.wrapping_mul(5))
+        .wrapping_add(d.wrapping_mul(7));
+    let mixed = seen
+        .wrapping_add(16 * u32::from(node.process))
+        .wrapping_mul(0x9e37_79b1);
+    (mixed >> 20) as usize % RECENT
 }
 
 /// The number of an entry that stands in the table.
