@@ -34,7 +34,8 @@ use wf_rewrite::run_executions;
 ///
 /// 0: a map was found, a report or a proof is accepted, or the text was written. 1: there is no map. 2: the task, the
 /// rounds, the report, the proof or the words are refused. 3: memory ran out. 4: a read or a write failed, or a file could
-/// not be opened. A refusal is one line on `errors`, and so is the account of a search that was not refused, where the
+/// not be opened. A refusal is one line on `errors`, with a second one where words
+/// are read that make no job, and so is the account of a search that was not refused, where the
 /// words ask for it.
 ///
 /// Where the words ask for progress, the gate is told of a search while it goes on. What a gate does
