@@ -1,16 +1,18 @@
 -- From what the parser finds to what the words ask for.
-use Rattle.std.proofs.Common.{◌≡◌, ◌∙◌, ◌≢◌, refl, sym, subst, ap, ap₂, ℕ, List, [], ◌∷◌, Option, Some, None, Result, Ok, Err, true, inl, inr}
+use Rattle.std.proofs.Common.{◌≡◌, ◌∙◌, ◌≢◌, refl, sym, subst, ap, ap₂, ℕ, List, [], ◌∷◌, Bool, Option, Some, None, Result, Err, true, inl, inr}
+use Rattle.std.specs.List.{list_any}
 use Rattle.std.specs.Prelude.{string_bytes}
 use Rattle.clap.specs.Words.{App, HasKind, IsAmong, Kinds, Row, Text, fault_of, is_simple, kind_of, subcommand_of}
 use Rattle.clap.specs.Faults.{is_simple_and_free}
 use Rattle.clap.specs.declared.error.Error.{Error}
 use Rattle.clap.specs.declared.error.ErrorKind.TheVariants as kind
 use Rattle.clap.proofs.OnLiterals.{clap_on_literals}
-use Rattle.wf_args.specs.Asked.{Answers, IsFault, IsJob, IsRefusal, Path, given, job_asked, judged, points_for, this_job_on}
+use Rattle.wf_args.specs.Asked.{Answers, IsFault, IsJob, IsRefusal, Path, asked_in, given, is_negative, job_asked, judged, points_for, this_job_on}
 use Rattle.wf_args.specs.CommandLine.{command_line}
 use Rattle.wf_args.specs.declared.Job.{Job}
 use Rattle.wf_args.specs.declared.Job.TheVariants as job
 use Rattle.wf_args.specs.declared.WordsFault.{WordsFault}
+use Rattle.wf_args.specs.declared.slip.Slip.{Slip}
 use Rattle.wf_args.specs.declared.WordsFault.TheVariants as fault
 
 -- ---- the parser
@@ -43,29 +45,32 @@ refuses app words e is kinds other = (among (subst (λ a. HasKind (fault_of a wo
 
 -- what the subcommand asks for, where the words are taken
 pub answered : (words : List Text) (found : Option (Text × List Row)) (result : Result Job WordsFault) → fault_of command_line words ≡ []
-    → found ≡ subcommand_of command_line words → Answers (judged [] found) result → Answers (job_asked words) result
-answered words found result taken same h = subst (λ asked. Answers asked result) (sym (ap₂ judged taken (sym same))) h
+    → found ≡ subcommand_of command_line words → Answers (asked_in found) result → Answers (job_asked words) result
+answered words found result taken same h =
+    subst (λ asked. Answers asked result) (sym (ap₂ (λ kinds f. judged kinds (list_any is_negative words) f) taken (sym same))) h
 
-refusal : (kinds : Kinds) (found : Option (Text × List Row)) (e : WordsFault) → IsRefusal kinds e → IsFault (judged kinds found) e
-refusal kinds found fault.OutOfMemory h = tt
-refusal kinds found fault.Words h = absurd h
-refusal [] found (fault.Clap e) h = absurd h.0
-refusal (k ∷ ks) found (fault.Clap e) h = h
+refusal : (kinds : Kinds) (negative : Bool) (found : Option (Text × List Row)) (e : WordsFault) → IsRefusal kinds negative e
+    → IsFault (judged kinds negative found) e
+refusal kinds negative found fault.OutOfMemory h = tt
+refusal kinds negative found (fault.Words s) h = absurd h
+refusal [] negative found (fault.Clap e n) h = absurd h.0
+refusal (k ∷ ks) negative found (fault.Clap e n) h = h
 
-pub refused_answered : (words : List Text) (e : WordsFault) → IsRefusal (fault_of command_line words) e → Answers (job_asked words) (Err e)
-refused_answered words e h = refusal (fault_of command_line words) (subcommand_of command_line words) e h
+pub refused_answered : (words : List Text) (e : WordsFault) → IsRefusal (fault_of command_line words) (list_any is_negative words) e
+    → Answers (job_asked words) (Err e)
+refused_answered words e h = refusal (fault_of command_line words) (list_any is_negative words) (subcommand_of command_line words) e h
 
 -- ---- jobs about the task in a file
 
-pub on_file : (found : Option Text) (asks : Path → Job) (path : Text) (task : Path) → Some path ≡ found → string_bytes task ≡ path
-    → IsJob (given found (λ p. this_job_on p asks)) (asks task)
-on_file found asks path task is bytes = subst (λ f. IsJob (given f (λ p. this_job_on p asks)) (asks task)) is (task, bytes, refl)
+pub on_file : (s : Slip) (found : Option Text) (asks : Path → Job) (path : Text) (task : Path) → Some path ≡ found → string_bytes task ≡ path
+    → IsJob (given s found (λ p. this_job_on p asks)) (asks task)
+on_file s found asks path task is bytes = subst (λ f. IsJob (given s f (λ p. this_job_on p asks)) (asks task)) is (task, bytes, refl)
 
-pub on_file_for : (found : Option Text) (number : Option ℕ) (asks : ℕ → Path → Job) (path : Text) (n : ℕ) (task : Path) → Some path ≡ found
-    → Some n ≡ number → string_bytes task ≡ path → IsJob (given found (λ p. given number (λ k. this_job_on p (asks k)))) (asks n task)
-on_file_for found number asks path n task is also bytes =
-    subst (λ f. IsJob (given f (λ p. given number (λ k. this_job_on p (asks k)))) (asks n task)) is
-    (subst (λ o. IsJob (given o (λ k. this_job_on path (asks k))) (asks n task)) also (task, bytes, refl))
+pub on_file_for : (s s' : Slip) (found : Option Text) (number : Option ℕ) (asks : ℕ → Path → Job) (path : Text) (n : ℕ) (task : Path) → Some path ≡ found
+    → Some n ≡ number → string_bytes task ≡ path → IsJob (given s found (λ p. given s' number (λ k. this_job_on p (asks k)))) (asks n task)
+on_file_for s s' found number asks path n task is also bytes =
+    subst (λ f. IsJob (given s f (λ p. given s' number (λ k. this_job_on p (asks k)))) (asks n task)) is
+    (subst (λ o. IsJob (given s' o (λ k. this_job_on path (asks k))) (asks n task)) also (task, bytes, refl))
 
 pub decisions_of : (number : Option ℕ) (found : Option Text) (path : Text) (task : Path) → None ≡ number → Some path ≡ found
     → string_bytes task ≡ path → IsJob (points_for number found) (job.Decisions task)

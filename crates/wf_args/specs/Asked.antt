@@ -2,7 +2,8 @@
 --
 -- How words are read is said by definitions of the crate that reads them: `fault_of` has the kinds of error that the words may get,
 -- which is none where they are taken; `subcommand_of` has the subcommand that they name, with a row for each of its options.
-use Rattle.std.specs.Prelude.{◌≡◌, ◌≢◌, ℕ, Bool, true, false, List, [], ◌∷◌, Option, Some, None, Result, Ok, Err, String, codes, find, option_and_then, string_bytes, nat_le, nat_lt, ◌&&◌, if◌then◌else◌}
+use Rattle.std.specs.Prelude.{◌≡◌, ◌≢◌, ℕ, Bool, false, List, [], ◌∷◌, Option, Some, None, Result, Ok, Err, String, codes, find, option_and_then, string_bytes, nat_le, nat_lt, ◌==◌, ◌&&◌, if◌then◌else◌}
+use Rattle.std.specs.List.{list_any}
 use Rattle.std.specs.Option.{option_map_or}
 use Rattle.std.specs.Str.{bytes_eq}
 use Rattle.std.specs.Str.Parse.{digits_value, without_leading_plus}
@@ -11,6 +12,7 @@ use Rattle.clap.specs.Words.{IsAmong, Kinds, Row, Text, fault_of, first_of, kind
 use Rattle.clap.specs.ValueTests.{is_unsigned_in}
 use Rattle.clap.specs.declared.error.ErrorKind.TheVariants as kind
 use Rattle.wf_model.specs.Limits.{most_workers}
+use Rattle.wf_preset.specs.declared.named.Preset.{Preset}
 use Rattle.wf_report.specs.declared.form.Form.{Form}
 use Rattle.wf_args.specs.CommandLine.{command_line}
 use Rattle.wf_args.specs.Forms.{form_asked}
@@ -20,17 +22,21 @@ use Rattle.wf_args.specs.declared.Job.TheVariants as job
 use Rattle.wf_args.specs.declared.WordsFault.{WordsFault}
 use Rattle.wf_args.specs.declared.WordsFault.TheVariants as fault
 use Rattle.wf_args.specs.declared.presets.Options.{Options}
+use Rattle.wf_args.specs.declared.slip.Piece.{Piece}
+use Rattle.wf_args.specs.declared.slip.Piece.TheVariants as piece
+use Rattle.wf_args.specs.declared.slip.Slip.{Slip}
+use Rattle.wf_args.specs.declared.slip.Slip.TheVariants as slip
 
 abbrev pub Path : Type 0
 Path = String Global
 
--- What words ask for: a job, or one about the task in the file of this path; or none that there is. Or they are refused, or
--- answered with help or the version, by an error of one of these kinds.
+-- What words ask for: a job, or one about the task in the file of this path; or none, by this slip. Or they are refused, or
+-- answered with help or the version, by an error of one of these kinds; and whether one of them is a negative number.
 pub data Asked : Type 0 where
   this_job : Job → Asked
   this_job_on : Text → (Path → Job) → Asked
-  no_job : Asked
-  refused : Kinds → Asked
+  no_job : Slip → Asked
+  refused : Kinds → Bool → Asked
 
 -- ---- the options of a subcommand
 
@@ -46,13 +52,19 @@ number_of name rows = option_and_then read_number (one_of name rows)
 abbrev pub has_flag : Text → List Row → Bool
 has_flag name rows = option_map_or (λ text. bytes_eq text (codes "true")) (first_of name rows) false
 
-abbrev pub given : {X : Type 0} → Option X → (X → Asked) → Asked
-given (Some x) asks = asks x
-given None asks = no_job
+-- what is asked with something that is to be given; where it is not, that is the slip
+abbrev pub given : {X : Type 0} → Slip → Option X → (X → Asked) → Asked
+given slip (Some x) asks = asks x
+given slip None asks = no_job slip
 
--- a job without a file, if there is one
-abbrev pub this_or_none : Option Job → Asked
-this_or_none found = given found this_job
+-- with an option that may not be left out
+abbrev pub needed : {X : Type 0} → Piece → Option X → (X → Asked) → Asked
+needed what = given (slip.Missing what)
+
+-- a job without a file, or the slip by which there is none
+abbrev pub this_or_slip : Result Job Slip → Asked
+this_or_slip (Ok j) = this_job j
+this_or_slip (Err s) = no_job s
 
 -- ---- the job of each subcommand
 
@@ -75,46 +87,48 @@ form_of rows = form_asked (has_flag (codes "verdict") rows) (has_flag (codes "le
 
 abbrev pub solve_asked : List Row → Asked
 solve_asked rows =
-    given (rounds_of rows) (λ rounds. given (workers_of rows) (λ workers. given (form_of rows) (λ form.
-    this_job (job.Solve rounds workers form (has_flag (codes "account") rows) (has_flag (codes "progress") rows)))))
+    needed piece.Rounds (rounds_of rows) (λ rounds. given slip.Workers (workers_of rows) (λ workers.
+    given (slip.Beside piece.Verdict piece.Least) (form_of rows) (λ form. this_job (job.Solve rounds workers form
+    (has_flag (codes "account") rows) (has_flag (codes "progress") rows)))))
 
 abbrev pub verify_asked : List Row → Asked
-verify_asked rows = given (task_of rows) (λ path. this_job_on path (λ task. job.Verify task (rounds_of rows)))
+verify_asked rows = needed piece.Task (task_of rows) (λ path. this_job_on path (λ task. job.Verify task (rounds_of rows)))
 
 abbrev pub views_asked : List Row → Asked
-views_asked rows = given (rounds_of rows) (λ rounds. this_job (job.Views rounds))
+views_asked rows = needed piece.Rounds (rounds_of rows) (λ rounds. this_job (job.Views rounds))
 
 -- one of `--rounds` and `--task` is given
 abbrev pub points_for : Option ℕ → Option Text → Asked
 points_for (Some rounds) None = this_job (job.Points rounds)
 points_for None (Some path) = this_job_on path (λ task. job.Decisions task)
-points_for rounds task = no_job
+points_for (Some rounds) (Some path) = no_job (slip.Beside piece.Rounds piece.Task)
+points_for None None = no_job (slip.Neither piece.Rounds piece.Task)
 
 abbrev pub points_asked : List Row → Asked
 points_asked rows = points_for (rounds_of rows) (task_of rows)
 
 abbrev pub cnf_asked : List Row → Asked
-cnf_asked rows = given (rounds_of rows) (λ rounds. this_job (job.Cnf rounds))
+cnf_asked rows = needed piece.Rounds (rounds_of rows) (λ rounds. this_job (job.Cnf rounds))
 
 abbrev pub model_asked : List Row → Asked
 model_asked rows =
-    given (task_of rows) (λ path. given (rounds_of rows) (λ rounds. this_job_on path (λ task. job.Model task rounds)))
+    needed piece.Task (task_of rows) (λ path. needed piece.Rounds (rounds_of rows) (λ rounds. this_job_on path (λ task. job.Model task rounds)))
 
 abbrev pub proof_asked : List Row → Asked
 proof_asked rows =
-    given (task_of rows) (λ path. given (rounds_of rows) (λ rounds. this_job_on path (λ task. job.Proof task rounds)))
+    needed piece.Task (task_of rows) (λ path. needed piece.Rounds (rounds_of rows) (λ rounds. this_job_on path (λ task. job.Proof task rounds)))
 
 abbrev pub trim_asked : List Row → Asked
-trim_asked rows = given (task_of rows) (λ path. this_job_on path (λ task. job.Trim task))
+trim_asked rows = needed piece.Task (task_of rows) (λ path. this_job_on path (λ task. job.Trim task))
 
 abbrev pub explain_asked : List Row → Asked
-explain_asked rows = given (task_of rows) (λ path. this_job_on path (λ task. job.Explain task))
+explain_asked rows = needed piece.Task (task_of rows) (λ path. this_job_on path (λ task. job.Explain task))
 
 abbrev pub lift_asked : List Row → Asked
-lift_asked rows = given (task_of rows) (λ path. this_job_on path (λ task. job.Lift task (rounds_of rows)))
+lift_asked rows = needed piece.Task (task_of rows) (λ path. this_job_on path (λ task. job.Lift task (rounds_of rows)))
 
 abbrev pub executions_asked : List Row → Asked
-executions_asked rows = given (rounds_of rows) (λ rounds. this_job (job.Executions rounds))
+executions_asked rows = needed piece.Rounds (rounds_of rows) (λ rounds. this_job (job.Executions rounds))
 
 -- the options of a preset
 abbrev pub options_of : List Row → ℕ → Options
@@ -125,9 +139,15 @@ options_of rows processes = record {
   names = number_of (codes "names") rows;
 }
 
+-- the job of a preset, or the slip by which there is none
+abbrev pub this_preset : Result Preset Slip → Asked
+this_preset (Ok preset) = this_job (job.Preset preset)
+this_preset (Err s) = no_job s
+
 abbrev pub preset_job_asked : List Row → Asked
-preset_job_asked rows = given (first_of (codes "kind") rows) (λ kind. given (number_of (codes "processes") rows) (λ processes.
-    given (preset_asked kind (options_of rows processes)) (λ preset. this_job (job.Preset preset))))
+preset_job_asked rows =
+    needed piece.Kind (first_of (codes "kind") rows) (λ kind. needed piece.Processes (number_of (codes "processes") rows) (λ processes.
+    this_preset (preset_asked kind (options_of rows processes))))
 
 -- the subcommands
 abbrev pub jobs : List (Text × (List Row → Asked))
@@ -146,18 +166,27 @@ jobs = (codes "solve", solve_asked)
 
 -- what the subcommand of this name asks for, by its options
 abbrev pub asked_of : Text → List Row → Asked
-asked_of name rows = given (find (λ entry. bytes_eq name entry.0) jobs) (λ entry. entry.1 rows)
+asked_of name rows = needed piece.Command (find (λ entry. bytes_eq name entry.0) jobs) (λ entry. entry.1 rows)
 
 -- ---- the words
 
-abbrev pub judged : Kinds → Option (Text × List Row) → Asked
-judged [] (Some (name, rows)) = asked_of name rows
-judged [] None = no_job
-judged (k ∷ ks) found = refused (k ∷ ks)
+-- a minus, and then a digit
+abbrev pub is_negative : Text → Bool
+is_negative (sign ∷ digit ∷ rest) = (sign == 45) && (nat_le 48 digit && nat_le digit 57)
+is_negative text = false
+
+-- what the subcommand that is found asks for, where words are taken
+abbrev pub asked_in : Option (Text × List Row) → Asked
+asked_in (Some (name, rows)) = asked_of name rows
+asked_in None = no_job (slip.Missing piece.Command)
+
+abbrev pub judged : Kinds → Bool → Option (Text × List Row) → Asked
+judged [] negative found = asked_in found
+judged (k ∷ ks) negative found = refused (k ∷ ks) negative
 
 -- what the words ask for, of which the first is the program's own name
 abbrev pub job_asked : List Text → Asked
-job_asked words = judged (fault_of command_line words) (subcommand_of command_line words)
+job_asked words = judged (fault_of command_line words) (list_any is_negative words) (subcommand_of command_line words)
 
 -- ---- the answer
 
@@ -165,21 +194,21 @@ job_asked words = judged (fault_of command_line words) (subcommand_of command_li
 abbrev pub IsJob : Asked → Job → Type 0
 IsJob (this_job asked) j = j ≡ asked
 IsJob (this_job_on path asked) j = (task : Path) × (string_bytes task ≡ path) × (j ≡ asked task)
-IsJob no_job j = ⊥
-IsJob (refused kinds) j = ⊥
+IsJob (no_job slip) j = ⊥
+IsJob (refused kinds negative) j = ⊥
 
--- `clap` refuses words by an error that may come
-abbrev pub IsRefusal : Kinds → WordsFault → Type 0
-IsRefusal kinds fault.OutOfMemory = Unit {0}
-IsRefusal kinds fault.Words = ⊥
-IsRefusal kinds (fault.Clap e) = IsAmong (kind_of e) kinds × (kind_of e ≢ kind.OutOfMemory)
+-- `clap` refuses words by an error that may come, and it is told whether one of them is a negative number
+abbrev pub IsRefusal : Kinds → Bool → WordsFault → Type 0
+IsRefusal kinds negative fault.OutOfMemory = Unit {0}
+IsRefusal kinds negative (fault.Words s) = ⊥
+IsRefusal kinds negative (fault.Clap e n) = IsAmong (kind_of e) kinds × (kind_of e ≢ kind.OutOfMemory) × (n ≡ negative)
 
--- A fault is the one of these words: they are none where no job is asked for, or the error has a kind that may come. Memory may run
+-- A fault is the one of these words: the slip by which there is no job, or the error has a kind that may come. Memory may run
 -- out at any words, and is no error of words.
 abbrev pub IsFault : Asked → WordsFault → Type 0
 IsFault asked fault.OutOfMemory = Unit {0}
-IsFault no_job fault.Words = Unit {0}
-IsFault (refused kinds) (fault.Clap e) = IsRefusal kinds (fault.Clap e)
+IsFault (no_job slip) (fault.Words s) = s ≡ slip
+IsFault (refused kinds negative) (fault.Clap e n) = IsRefusal kinds negative (fault.Clap e n)
 IsFault asked e = ⊥
 
 abbrev pub Answers : Asked → Result Job WordsFault → Type 0

@@ -1,13 +1,15 @@
 //! The job of each subcommand, by the options that are given to it.
 
-ghost use Rattle.std.specs.Prelude.{◌≡◌, [], IfOk, IfSome, option_map};
+ghost use Rattle.std.specs.Prelude.{◌≡◌, [], IfOk, option_map};
 ghost use Rattle.clap.specs.Words.{first_of, found_of, rows_of, subcommand_rows_of};
 ghost use Rattle.wf_args.specs.Job.{CanBeDone};
-ghost use Rattle.wf_args.specs.Asked.{Answers, this_or_none, asked_of, cnf_asked, executions_asked, explain_asked, has_flag, judged, lift_asked, model_asked, number_of, points_asked, preset_job_asked, proof_asked, solve_asked, trim_asked, verify_asked, views_asked, workers_of};
+ghost use Rattle.wf_args.specs.declared.WordsFault.TheVariants as fault;
+ghost use Rattle.wf_args.specs.declared.slip.Slip.TheVariants as slip;
+ghost use Rattle.wf_args.specs.Asked.{Answers, this_or_slip, asked_in, asked_of, cnf_asked, executions_asked, explain_asked, has_flag, lift_asked, model_asked, number_of, points_asked, preset_job_asked, proof_asked, solve_asked, trim_asked, verify_asked, views_asked, workers_of};
 
 use crate::forms::form_of;
 use crate::presets::Options;
-use crate::{Job, WordsFault};
+use crate::{Job, Piece, Slip, WordsFault};
 use clap::ArgMatches;
 use std::alloc::Global;
 use wf_pool::MAX_WORKERS;
@@ -58,12 +60,12 @@ fn named<'b, 'a>(found: &'b ArgMatches<'a>) -> Option<(&'a str, &'b ArgMatches<'
 
 /// The job of words that `clap` takes.
 pub(crate) fn job_in(alloc: Global, found: &ArgMatches<'_>) -> Result<Job, WordsFault>
-    ensures asked { Answers (judged [] (subcommand_rows_of found.now)) result }
+    ensures asked { Answers (asked_in (subcommand_rows_of found.now)) result }
     ensures can_be_done { IfOk result CanBeDone }
 {
     match named(found) {
         Some((name, inner)) => job_of(alloc, name, inner),
-        None => Err(WordsFault::Words),
+        None => Err(missing(Piece::Command)),
     }
 }
 
@@ -73,31 +75,53 @@ fn job_of(alloc: Global, name: &str, found: &ArgMatches<'_>) -> Result<Job, Word
     ensures can_be_done { IfOk result CanBeDone }
 {
     match name {
-        "solve" => solve_job(found).ok_or(WordsFault::Words),
+        "solve" => this(solve_job(found)),
         "verify" => verify_job(alloc, found),
-        "views" => views_job(found).ok_or(WordsFault::Words),
+        "views" => this(views_job(found)),
         "points" => points_job(alloc, found),
-        "cnf" => cnf_job(found).ok_or(WordsFault::Words),
+        "cnf" => this(cnf_job(found)),
         "model" => model_job(alloc, found),
         "proof" => proof_job(alloc, found),
         "trim" => trim_job(alloc, found),
         "explain" => explain_job(alloc, found),
         "lift" => lift_job(alloc, found),
-        "executions" => executions_job(found).ok_or(WordsFault::Words),
-        "preset" => preset_job(found).ok_or(WordsFault::Words),
-        _ => Err(WordsFault::Words),
+        "executions" => this(executions_job(found)),
+        "preset" => this(preset_job(found)),
+        _ => Err(missing(Piece::Command)),
     }
 }
 
-/// The job of `solve`. There is none with both `--verdict` and `--least`.
-fn solve_job(found: &ArgMatches<'_>) -> Option<Job>
-    ensures asked { this_or_none result ≡ solve_asked (rows_of (found_of found.now)) }
-    ensures can_be_done { IfSome result CanBeDone }
+/// A job without a file, or its slip.
+fn this(found: Result<Job, Slip>) -> Result<Job, WordsFault>
+    requires { IfOk found CanBeDone }
+    ensures asked { Answers (this_or_slip found) result }
+    ensures can_be_done { IfOk result CanBeDone }
 {
-    let rounds = number(found, "rounds")?;
-    let workers = workers(found)?;
-    let form = form_of(flag(found, "verdict"), flag(found, "least"))?;
-    Some(Job::Solve {
+    match found {
+        Ok(job) => Ok(job),
+        Err(slip) => Err(WordsFault::Words(slip)),
+    }
+}
+
+/// The fault where something that has to be given is not.
+fn missing(what: Piece) -> WordsFault
+    ensures { result ≡ fault.Words (slip.Missing what) }
+{
+    WordsFault::Words(Slip::Missing(what))
+}
+
+/// The job of `solve`. There is none with both `--verdict` and `--least`.
+fn solve_job(found: &ArgMatches<'_>) -> Result<Job, Slip>
+    ensures asked { this_or_slip result ≡ solve_asked (rows_of (found_of found.now)) }
+    ensures can_be_done { IfOk result CanBeDone }
+{
+    let rounds = number(found, "rounds").ok_or(Slip::Missing(Piece::Rounds))?;
+    let workers = workers(found).ok_or(Slip::Workers)?;
+    let form = form_of(flag(found, "verdict"), flag(found, "least")).ok_or(Slip::Beside(
+        Piece::Verdict,
+        Piece::Least,
+    ))?;
+    Ok(Job::Solve {
         rounds,
         workers,
         form,
@@ -116,17 +140,17 @@ fn verify_job(alloc: Global, found: &ArgMatches<'_>) -> Result<Job, WordsFault>
             task: String::from_str(alloc, task)?,
             rounds: number(found, "rounds"),
         }),
-        None => Err(WordsFault::Words),
+        None => Err(missing(Piece::Task)),
     }
 }
 
 /// The job of `views`.
-fn views_job(found: &ArgMatches<'_>) -> Option<Job>
-    ensures asked { this_or_none result ≡ views_asked (rows_of (found_of found.now)) }
-    ensures can_be_done { IfSome result CanBeDone }
+fn views_job(found: &ArgMatches<'_>) -> Result<Job, Slip>
+    ensures asked { this_or_slip result ≡ views_asked (rows_of (found_of found.now)) }
+    ensures can_be_done { IfOk result CanBeDone }
 {
-    let rounds = number(found, "rounds")?;
-    Some(Job::Views { rounds })
+    let rounds = number(found, "rounds").ok_or(Slip::Missing(Piece::Rounds))?;
+    Ok(Job::Views { rounds })
 }
 
 /// The job of `points`: there is one with `--rounds` or with `--task`, and none with both.
@@ -139,17 +163,18 @@ fn points_job(alloc: Global, found: &ArgMatches<'_>) -> Result<Job, WordsFault>
         (None, Some(task)) => Ok(Job::Decisions {
             task: String::from_str(alloc, task)?,
         }),
-        _ => Err(WordsFault::Words),
+        (Some(_), Some(_)) => Err(WordsFault::Words(Slip::Beside(Piece::Rounds, Piece::Task))),
+        (None, None) => Err(WordsFault::Words(Slip::Neither(Piece::Rounds, Piece::Task))),
     }
 }
 
 /// The job of `cnf`.
-fn cnf_job(found: &ArgMatches<'_>) -> Option<Job>
-    ensures asked { this_or_none result ≡ cnf_asked (rows_of (found_of found.now)) }
-    ensures can_be_done { IfSome result CanBeDone }
+fn cnf_job(found: &ArgMatches<'_>) -> Result<Job, Slip>
+    ensures asked { this_or_slip result ≡ cnf_asked (rows_of (found_of found.now)) }
+    ensures can_be_done { IfOk result CanBeDone }
 {
-    let rounds = number(found, "rounds")?;
-    Some(Job::Cnf { rounds })
+    let rounds = number(found, "rounds").ok_or(Slip::Missing(Piece::Rounds))?;
+    Ok(Job::Cnf { rounds })
 }
 
 /// The job of `model`.
@@ -162,7 +187,8 @@ fn model_job(alloc: Global, found: &ArgMatches<'_>) -> Result<Job, WordsFault>
             task: String::from_str(alloc, task)?,
             rounds,
         }),
-        _ => Err(WordsFault::Words),
+        (None, _) => Err(missing(Piece::Task)),
+        (Some(_), None) => Err(missing(Piece::Rounds)),
     }
 }
 
@@ -176,7 +202,8 @@ fn proof_job(alloc: Global, found: &ArgMatches<'_>) -> Result<Job, WordsFault>
             task: String::from_str(alloc, task)?,
             rounds,
         }),
-        _ => Err(WordsFault::Words),
+        (None, _) => Err(missing(Piece::Task)),
+        (Some(_), None) => Err(missing(Piece::Rounds)),
     }
 }
 
@@ -189,7 +216,7 @@ fn trim_job(alloc: Global, found: &ArgMatches<'_>) -> Result<Job, WordsFault>
         Some(task) => Ok(Job::Trim {
             task: String::from_str(alloc, task)?,
         }),
-        None => Err(WordsFault::Words),
+        None => Err(missing(Piece::Task)),
     }
 }
 
@@ -202,7 +229,7 @@ fn explain_job(alloc: Global, found: &ArgMatches<'_>) -> Result<Job, WordsFault>
         Some(task) => Ok(Job::Explain {
             task: String::from_str(alloc, task)?,
         }),
-        None => Err(WordsFault::Words),
+        None => Err(missing(Piece::Task)),
     }
 }
 
@@ -216,30 +243,30 @@ fn lift_job(alloc: Global, found: &ArgMatches<'_>) -> Result<Job, WordsFault>
             task: String::from_str(alloc, task)?,
             rounds: number(found, "rounds"),
         }),
-        None => Err(WordsFault::Words),
+        None => Err(missing(Piece::Task)),
     }
 }
 
 /// The job of `executions`.
-fn executions_job(found: &ArgMatches<'_>) -> Option<Job>
-    ensures asked { this_or_none result ≡ executions_asked (rows_of (found_of found.now)) }
-    ensures can_be_done { IfSome result CanBeDone }
+fn executions_job(found: &ArgMatches<'_>) -> Result<Job, Slip>
+    ensures asked { this_or_slip result ≡ executions_asked (rows_of (found_of found.now)) }
+    ensures can_be_done { IfOk result CanBeDone }
 {
-    let rounds = number(found, "rounds")?;
-    Some(Job::Executions { rounds })
+    let rounds = number(found, "rounds").ok_or(Slip::Missing(Piece::Rounds))?;
+    Ok(Job::Executions { rounds })
 }
 
 /// The job of `preset`.
-fn preset_job(found: &ArgMatches<'_>) -> Option<Job>
-    ensures asked { this_or_none result ≡ preset_job_asked (rows_of (found_of found.now)) }
-    ensures can_be_done { IfSome result CanBeDone }
+fn preset_job(found: &ArgMatches<'_>) -> Result<Job, Slip>
+    ensures asked { this_or_slip result ≡ preset_job_asked (rows_of (found_of found.now)) }
+    ensures can_be_done { IfOk result CanBeDone }
 {
-    let kind = text(found, "kind")?;
+    let kind = text(found, "kind").ok_or(Slip::Missing(Piece::Kind))?;
     let options = Options {
-        processes: number(found, "processes")?,
+        processes: number(found, "processes").ok_or(Slip::Missing(Piece::Processes))?,
         k: number(found, "k"),
         values: number(found, "values"),
         names: number(found, "names"),
     };
-    Some(Job::Preset(options.preset(kind)?))
+    Ok(Job::Preset(options.preset(kind)?))
 }

@@ -3,7 +3,8 @@
 
 ghost use Rattle.std.specs.Prelude.{◌≡◌, [], IfOk, IfErr, map, string_bytes};
 ghost use Rattle.clap.specs.Words.{fault_of, subcommand_of, subcommand_rows_of};
-ghost use Rattle.wf_args.specs.Asked.{Answers, IsRefusal, job_asked};
+ghost use Rattle.std.specs.List.{list_any};
+ghost use Rattle.wf_args.specs.Asked.{Answers, IsRefusal, is_negative, job_asked};
 ghost use Rattle.wf_args.specs.CommandLine.{command_line};
 ghost use Rattle.wf_args.specs.Job.{CanBeDone};
 
@@ -11,12 +12,14 @@ mod command;
 mod forms;
 mod jobs;
 mod presets;
+mod slip;
 mod version;
 
 use crate::command::whole_command;
 use crate::jobs::job_in;
 use clap::ArgMatches;
 use clap::error::ErrorKind;
+pub use slip::{Piece, Slip};
 use std::alloc::{AllocError, Global};
 use std::io;
 pub use version::{LOGIC, VERSION};
@@ -109,10 +112,15 @@ pub enum Job {
 /// Why words are no job.
 #[derive(Drop)]
 pub enum WordsFault {
-    /// The words are not those of the command line, or they ask for help or for the version: a text to be printed.
-    Clap(clap::Error),
+    /// The words are not those of the command line, or they ask for help or for the version.
+    Clap {
+        /// A text to be printed.
+        error: clap::Error,
+        /// Whether one of the words is a negative number, which no option takes.
+        negative: bool,
+    },
     /// The words are read but ask for what this program refuses, or one of them is no text.
-    Words,
+    Words(Slip),
     /// Memory ran out.
     OutOfMemory,
 }
@@ -137,7 +145,7 @@ impl From<io::Error> for WordsFault {
     fn from(error: io::Error) -> WordsFault {
         match error.kind() {
             io::ErrorKind::OutOfMemory => WordsFault::OutOfMemory,
-            _ => WordsFault::Words,
+            _ => WordsFault::Words(Slip::NotText),
         }
     }
 }
@@ -155,19 +163,40 @@ pub fn read_words(alloc: Global, words: &[String]) -> Result<Job, WordsFault>
     }
 }
 
+/// Whether one of the words is a negative number.
+fn has_negative(words: &[String]) -> bool
+    ensures { result ≡ list_any (λ word. is_negative (string_bytes word)) words.now }
+{
+    words.iter().any(|word| is_negative(word))
+}
+
+/// Whether the word is a minus, and then a digit.
+fn is_negative(word: &str) -> bool
+    ensures { result ≡ is_negative word.now }
+{
+    match word.as_bytes() {
+        [sign, digit, ..] => *sign == b'-' && b'0' <= *digit && *digit <= b'9',
+        _ => false,
+    }
+}
+
 /// What `clap` makes of the words.
 fn parse<'a>(alloc: Global, words: &'a [String]) -> Result<ArgMatches<'a>, WordsFault>
     ensures ok { IfOk result (λ m. (fault_of command_line (map string_bytes words.entry.now) ≡ [])
         × (subcommand_rows_of m ≡ subcommand_of command_line (map string_bytes words.entry.now))) }
     ensures err { IfErr result (IsRefusal
-        (fault_of command_line (map string_bytes words.entry.now))) }
+        (fault_of command_line (map string_bytes words.entry.now))
+        (list_any is_negative (map string_bytes words.entry.now))) }
 {
     let command = whole_command(alloc)?;
     match command.try_get_matches_from(words) {
         Ok(found) => Ok(found),
         Err(error) => match error.kind() {
             ErrorKind::OutOfMemory => Err(WordsFault::OutOfMemory),
-            _ => Err(WordsFault::Clap(error)),
+            _ => Err(WordsFault::Clap {
+                error,
+                negative: has_negative(words),
+            }),
         },
     }
 }

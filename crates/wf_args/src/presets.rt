@@ -3,6 +3,7 @@
 ghost use Rattle.std.specs.Prelude.{◌≡◌};
 ghost use Rattle.wf_args.specs.Presets.{agreement_asked, inputs_asked, preset_asked, renaming_asked};
 
+use crate::slip::{Piece, Slip};
 use wf_preset::{Inputs, Preset};
 
 /// The options of `preset`, as they were given.
@@ -15,9 +16,9 @@ pub(crate) struct Options {
 }
 
 impl Options {
-    /// The preset of a kind with these options. There is none of another kind, none without an option that the kind
-    /// needs, and none with an option of the other kind.
-    pub(crate) fn preset(self, kind: &str) -> Option<Preset>
+    /// The preset of a kind with these options. It is a slip to ask for another kind, to leave out an option that the
+    /// kind needs, and to give one of the other kind.
+    pub(crate) fn preset(self, kind: &str) -> Result<Preset, Slip>
         ensures { result ≡ preset_asked kind.now self }
     {
         if kind == "set-agreement" {
@@ -25,34 +26,37 @@ impl Options {
         } else if kind == "renaming" {
             self.renaming()
         } else {
-            None
+            Err(Slip::OtherKind)
         }
     }
 
     /// The set agreement with these options.
-    fn set_agreement(self) -> Option<Preset>
+    fn set_agreement(self) -> Result<Preset, Slip>
         ensures { result ≡ agreement_asked self.processes self.k self.values self.names }
     {
         match (self.k, self.names) {
-            (Some(k), None) => Some(Preset::SetAgreement {
+            (_, Some(_)) => Err(Slip::Beside(Piece::Names, Piece::SetAgreement)),
+            (None, None) => Err(Slip::Needs(Piece::SetAgreement, Piece::K)),
+            (Some(k), None) => Ok(Preset::SetAgreement {
                 processes: self.processes,
                 k,
                 inputs: inputs(self.values),
             }),
-            _ => None,
         }
     }
 
     /// The renaming with these options.
-    fn renaming(self) -> Option<Preset>
+    fn renaming(self) -> Result<Preset, Slip>
         ensures { result ≡ renaming_asked self.processes self.k self.values self.names }
     {
         match (self.k, self.values, self.names) {
-            (None, None, Some(names)) => Some(Preset::Renaming {
+            (Some(_), _, _) => Err(Slip::Beside(Piece::K, Piece::Renaming)),
+            (None, Some(_), _) => Err(Slip::Beside(Piece::Values, Piece::Renaming)),
+            (None, None, None) => Err(Slip::Needs(Piece::Renaming, Piece::Names)),
+            (None, None, Some(names)) => Ok(Preset::Renaming {
                 processes: self.processes,
                 names,
             }),
-            _ => None,
         }
     }
 }

@@ -28,6 +28,7 @@ use Rattle.wf_rewrite.specs.Trimming.{Trims}
 use Rattle.wf_rewrite.specs.Explaining.{Explains}
 use Rattle.wf_rewrite.specs.Lifting.{Lifts}
 use Rattle.wf_args.specs.Asked.{Answers, job_asked}
+use Rattle.wf_args.specs.Slips.{slip_line}
 use Rattle.wf_args.specs.declared.Job.{Job}
 use Rattle.wf_args.specs.declared.Job.TheVariants.{Solve, Verify, Views, Points, Cnf, Model, Proof, Decisions, Trim, Explain, Lift, Executions, Preset}
 use Rattle.wf_args.specs.declared.WordsFault.{WordsFault}
@@ -52,8 +53,8 @@ fault_status e = 2
 
 abbrev pub refusal_status : Refusal → ℕ
 refusal_status (Run e) = fault_status e
-refusal_status Words = 2
-refusal_status (Clap e) = 2
+refusal_status (Words slip) = 2
+refusal_status (Clap e negative) = 2
 
 -- the line that tells a refusal's number and name, with what it carries
 abbrev pub refusal_line : List ℕ → List ℕ
@@ -62,8 +63,8 @@ refusal_line name = codes "wfcheck: " ++ (name ++ 10 ∷ [])
 -- what is told of a refusal, where it is known
 abbrev pub refusal_text : Refusal → Option (List ℕ)
 refusal_text (Run e) = Some (refusal_line (fault_text e))
-refusal_text Words = Some (refusal_line (codes "32 Words"))
-refusal_text (Clap e) = None
+refusal_text (Words slip) = Some (refusal_line (codes "32 Words") ++ slip_line slip)
+refusal_text (Clap e negative) = None
 
 -- ---- what the words ask for
 
@@ -186,16 +187,16 @@ Shows text sink sink' done =
     (result : Result (Unit {0}) RunFault) × Ran (IsShown text) sink sink' result × (done ≡ written result)
 
 -- the words ask for help, which is any text, or for the version; or they are refused
-abbrev pub ShowsOrRefuses : Error → Writing → Writing → Result Done Refusal → Type 0
-ShowsOrRefuses e sink sink' done =
+abbrev pub ShowsOrRefuses : Error → Bool → Writing → Writing → Result Done Refusal → Type 0
+ShowsOrRefuses e negative sink sink' done =
     ((kind_of e ≡ kind.DisplayHelp) × Shows None sink sink' done)
     ⊎ ((kind_of e ≡ kind.DisplayVersion) × Shows (Some version_line) sink sink' done)
-    ⊎ (IsMistake e × (done ≡ Err (Clap e)) × (sink' ≡ sink))
+    ⊎ (IsMistake e × (done ≡ Err (Clap e negative)) × (sink' ≡ sink))
 
 -- the words ask for a text, or they are refused, or memory ran out
 abbrev pub Declines : WordsFault → Writing → Writing → Result Done Refusal → Type 0
-Declines (fault.Clap e) sink sink' done = ShowsOrRefuses e sink sink' done
-Declines fault.Words sink sink' done = (done ≡ Err Words) × (sink' ≡ sink)
+Declines (fault.Clap e negative) sink sink' done = ShowsOrRefuses e negative sink sink' done
+Declines (fault.Words slip) sink sink' done = (done ≡ Err (Words slip)) × (sink' ≡ sink)
 Declines fault.OutOfMemory sink sink' done = (done ≡ Err (Run run.OutOfMemory)) × (sink' ≡ sink)
 
 -- the job was done; or there is none, and nothing was read, and no file was asked for

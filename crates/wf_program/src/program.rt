@@ -3,6 +3,7 @@
 ghost use Rattle.std.specs.Prelude.{IfOk, ◌≡◌, ◌<◌, ◌≤◌};
 ghost use Rattle.wf_model.specs.Limits.{most_workers};
 ghost use Rattle.wf_io.specs.Ends.{CanCount, CanWrite};
+ghost use Rattle.wf_io.specs.Texts.{Tells};
 ghost use Rattle.wf_engine.specs.Texts.{SearchesInOrder, Solves};
 ghost use Rattle.wf_args.specs.Job.{CanBeDone};
 ghost use Rattle.wf_program.specs.Files.{CanAsk};
@@ -33,7 +34,8 @@ use wf_rewrite::run_executions;
 ///
 /// 0: a map was found, a report or a proof is accepted, or the text was written. 1: there is no map. 2: the task, the
 /// rounds, the report, the proof or the words are refused. 3: memory ran out. 4: a read or a write failed, or a file could
-/// not be opened. A refusal is one line on `errors`, and so is the account of a search that was not refused, where the
+/// not be opened. A refusal is one line on `errors`, with a second one where words
+/// are read that make no job, and so is the account of a search that was not refused, where the
 /// words ask for it.
 ///
 /// Where the words ask for progress, the gate is told of a search while it goes on. What a gate does
@@ -56,7 +58,7 @@ pub fn run_program<T: Threads + Sync, F: Files, G: Gate, R: Read, W: Write, E: W
         Ok(job) => do_job(rt, alloc, folder, gate, source, sink, &job),
         Err(fault) => decline(alloc, sink, fault),
     };
-    end(errors, done)
+    end(alloc, errors, done)
 }
 
 /// What the words ask for, if they could be had.
@@ -150,12 +152,12 @@ fn decline<W: Write>(alloc: Global, sink: &mut Sink<W>, fault: WordsFault) -> Re
     ensures { Declines fault sink.old sink.new result }
 {
     match fault {
-        WordsFault::Clap(error) => match error.kind() {
+        WordsFault::Clap { error, negative } => match error.kind() {
             ErrorKind::DisplayHelp => show(alloc, sink, &error),
             ErrorKind::DisplayVersion => show(alloc, sink, &VersionLine),
-            _ => Err(Refusal::Clap(error)),
+            _ => Err(Refusal::Clap { error, negative }),
         },
-        WordsFault::Words => Err(Refusal::Words),
+        WordsFault::Words(slip) => Err(Refusal::Words(slip)),
         WordsFault::OutOfMemory => Err(Refusal::Run(RunFault::OutOfMemory)),
     }
 }
@@ -173,21 +175,32 @@ fn show<W: Write, T: Display>(alloc: Global, sink: &mut Sink<W>, text: &T) -> Re
 }
 
 /// The exit status; an account is told, or a refusal. Nothing more can be done where that fails too.
-fn end<E: Write>(errors: &mut Sink<E>, done: Result<Done, Refusal>) -> u8
+fn end<E: Write>(alloc: Global, errors: &mut Sink<E>, done: Result<Done, Refusal>) -> u8
     requires { CanWrite errors.old }
     ensures { Ends errors.old errors.new done result }
 {
     match done {
         Ok(done) => {
             if let Some(account) = done.account {
-                errors.put(AccountLine(account));
+                tell(alloc, errors, AccountLine(account));
             }
             done.status
         }
         Err(refusal) => {
             let status = refusal.status();
-            errors.put(refusal);
+            tell(alloc, errors, refusal);
             status
         }
+    }
+}
+
+/// Writes a text to the error stream, by one call of its writer where there is memory to make the text first.
+fn tell<E: Write, D: Display + Drop>(alloc: Global, errors: &mut Sink<E>, text: D)
+    requires { CanWrite errors.old }
+    ensures { Tells errors.old errors.new (D.output text) }
+{
+    match format!(in alloc; "{text}") {
+        Ok(whole) => errors.put(whole),
+        Err(_) => errors.put(text),
     }
 }

@@ -7,7 +7,7 @@ use std::alloc::{AllocError, Global};
 use std::process::Abort;
 use std::test::Fail;
 use std::thread::Threads;
-use wf_args::WordsFault;
+use wf_args::{Slip, WordsFault};
 use wf_examples::{ONE_PROCESS, RENAMING_2_2};
 use wf_io::{Sink, Source};
 use wf_pool::Open;
@@ -113,7 +113,11 @@ fn begins(text: &[u8], front: &str) -> bool {
 fn words_that_could_not_be_had_are_the_refusal(rt: HostRuntime) -> Result<(), Fail> {
     let rows = [
         (WordsFault::OutOfMemory, "wfcheck: 15 OutOfMemory\n", 3),
-        (WordsFault::Words, "wfcheck: 32 Words\n", 2),
+        (
+            WordsFault::Words(Slip::NotText),
+            "wfcheck: 32 Words\nerror: one of the words is no UTF-8 text\n",
+            2,
+        ),
     ];
     for (fault, line, status) in rows {
         let mut source = Source::new(Drip::new(ONE_PROCESS.as_bytes(), 1));

@@ -43,11 +43,11 @@ fn words_are_a_job_or_a_fault(rt: HostRuntime) -> Result<(), Fail> {
         ),
         (
             "wfcheck solve --rounds 1 --workers 1 --least --verdict",
-            "words",
+            "words: the argument '--verdict' cannot be used with '--least'",
         ),
         (
             "wfcheck solve --verdict --rounds 1 --least --workers 1",
-            "words",
+            "words: the argument '--verdict' cannot be used with '--least'",
         ),
         ("wfcheck views --rounds 3 --least", "clap UnknownArgument"),
         (
@@ -61,8 +61,14 @@ fn words_are_a_job_or_a_fault(rt: HostRuntime) -> Result<(), Fail> {
         ("wfcheck cnf", "clap MissingRequiredArgument"),
         ("wfcheck cnf --rounds 3 --workers 1", "clap UnknownArgument"),
         ("wfcheck points --task a/b.json", "decisions a/b.json"),
-        ("wfcheck points --task a/b.json --rounds 3", "words"),
-        ("wfcheck points", "words"),
+        (
+            "wfcheck points --task a/b.json --rounds 3",
+            "words: the argument '--rounds' cannot be used with '--task'",
+        ),
+        (
+            "wfcheck points",
+            "words: one of the arguments '--rounds' and '--task' is needed",
+        ),
         (
             "wfcheck model --task a/b.json --rounds 2",
             "model a/b.json 2",
@@ -113,6 +119,8 @@ fn words_are_a_job_or_a_fault(rt: HostRuntime) -> Result<(), Fail> {
             "clap ValueValidation",
         ),
         ("wfcheck solve --rounds 1", "clap MissingRequiredArgument"),
+        ("wfcheck views --rounds -1", "clap UnknownArgument negative"),
+        ("wfcheck views --rounds -x", "clap UnknownArgument"),
         ("wfcheck", "clap MissingSubcommand"),
         ("wfcheck --help", "clap DisplayHelp"),
         ("wfcheck --version", "clap DisplayVersion"),
@@ -141,16 +149,30 @@ fn presets_are_a_job_or_a_fault(rt: HostRuntime) -> Result<(), Fail> {
             "wfcheck preset renaming --processes 4294967295 --names 0",
             "renaming 4294967295 0",
         ),
-        ("wfcheck preset set-agreement --processes 2", "words"),
+        (
+            "wfcheck preset set-agreement --processes 2",
+            "words: 'set-agreement' needs the argument '--k'",
+        ),
         (
             "wfcheck preset set-agreement --processes 2 --k 1 --names 2",
-            "words",
+            "words: the argument '--names' cannot be used with 'set-agreement'",
         ),
         (
             "wfcheck preset renaming --processes 2 --names 2 --values 2",
-            "words",
+            "words: the argument '--values' cannot be used with 'renaming'",
         ),
-        ("wfcheck preset consensus --processes 2 --k 1", "words"),
+        (
+            "wfcheck preset consensus --processes 2 --k 1",
+            "words: a preset is 'set-agreement' or 'renaming'",
+        ),
+        (
+            "wfcheck preset renaming --processes 2",
+            "words: 'renaming' needs the argument '--names'",
+        ),
+        (
+            "wfcheck preset renaming --processes 2 --k 1 --names 2",
+            "words: the argument '--k' cannot be used with 'renaming'",
+        ),
         (
             "wfcheck preset renaming --names 2",
             "clap MissingRequiredArgument",
@@ -203,11 +225,12 @@ fn judged(alloc: Global, line: &str) -> Result<String, AllocError> {
         },
         Ok(Job::Executions { rounds }) => format!(in alloc; "executions {rounds}"),
         Ok(Job::Preset(preset)) => shown(alloc, preset),
-        Err(WordsFault::Clap(error)) => {
+        Err(WordsFault::Clap { error, negative }) => {
             let kind = error.kind();
-            format!(in alloc; "clap {kind:?}")
+            let sign = if negative { " negative" } else { "" };
+            format!(in alloc; "clap {kind:?}{sign}")
         }
-        Err(WordsFault::Words) => String::from_str(alloc, "words"),
+        Err(WordsFault::Words(slip)) => format!(in alloc; "words: {slip}"),
         Err(WordsFault::OutOfMemory) => String::from_str(alloc, "memory"),
     }
 }

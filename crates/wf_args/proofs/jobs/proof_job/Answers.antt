@@ -4,4 +4,4 @@ use Rattle.wf_args.proofs.jobs.proof_job.Goals as goal
 
 pub returns-in_ok-from_str-in-Some-Some-clause-asked : goal.returns-in_ok-from_str-in-Some-Some-clause-asked
 returns-in_ok-from_str-in-Some-Some-clause-asked c =
-    on_file_for _ _ (λ rounds task. job.Proof task rounds) _ _ _ c.in-Some-Some.ensures c.in-Some-Some.ensures' c.in_ok-from_str-in-Some-Some.ensures.ok
+    on_file_for _ _ _ _ (λ rounds task. job.Proof task rounds) _ _ _ c.in-Some-Some.ensures c.in-Some-Some.ensures' c.in_ok-from_str-in-Some-Some.ensures.ok

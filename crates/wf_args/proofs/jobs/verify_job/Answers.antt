@@ -10,4 +10,4 @@ returns-in_ok-from_str-in-Some-clause-asked c =
     let rows = rows_of (found_of c.args.found.now) in
     let file = c.in_ok-from_str-in-Some in
     subst (λ rounds. IsJob (verify_asked rows) (job.Verify file.field-0 rounds)) (sym c.number.ensures)
-    (on_file _ (λ task. job.Verify task (rounds_of rows)) _ _ c.in-Some.ensures file.ensures.ok)
+    (on_file _ _ (λ task. job.Verify task (rounds_of rows)) _ _ c.in-Some.ensures file.ensures.ok)

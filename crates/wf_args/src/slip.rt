@@ -1,0 +1,100 @@
+//! What is wrong with words that `clap` takes and that make no job.
+
+ghost use Rattle.std.specs.Prelude.{Some};
+ghost use Rattle.wf_args.specs.Slips.{piece_text, slip_text};
+
+use std::fmt;
+use wf_pool::MAX_WORKERS;
+
+/// A piece of the command line that a slip names. Its text is the piece as it is written there.
+#[derive(Clone, Copy, Debug, PartialEq, Eq)]
+pub enum Piece {
+    /// The name of a subcommand.
+    Command,
+    /// The option `--rounds`.
+    Rounds,
+    /// The option `--workers`.
+    Workers,
+    /// The option `--task`.
+    Task,
+    /// The option `--verdict`.
+    Verdict,
+    /// The option `--least`.
+    Least,
+    /// The kind of a preset.
+    Kind,
+    /// The option `--processes`.
+    Processes,
+    /// The option `--k`.
+    K,
+    /// The option `--values`.
+    Values,
+    /// The option `--names`.
+    Names,
+    /// The kind `set-agreement`.
+    SetAgreement,
+    /// The kind `renaming`.
+    Renaming,
+}
+
+impl fmt::Display for Piece {
+    ghost output = { λ piece. Some (piece_text piece) };
+
+    fn fmt<W: fmt::Write>(&self, f: &mut fmt::Formatter<W>) -> fmt::Result {
+        let text = match self {
+            Piece::Command => "COMMAND",
+            Piece::Rounds => "--rounds",
+            Piece::Workers => "--workers",
+            Piece::Task => "--task",
+            Piece::Verdict => "--verdict",
+            Piece::Least => "--least",
+            Piece::Kind => "KIND",
+            Piece::Processes => "--processes",
+            Piece::K => "--k",
+            Piece::Values => "--values",
+            Piece::Names => "--names",
+            Piece::SetAgreement => "set-agreement",
+            Piece::Renaming => "renaming",
+        };
+        f.write_str(text)
+    }
+}
+
+/// Why words that are read make no job. Its text says which of them it is about.
+#[derive(Clone, Copy, Debug, PartialEq, Eq)]
+pub enum Slip {
+    /// One of the words is no text.
+    NotText,
+    /// This has to be given, and is not.
+    Missing(Piece),
+    /// With the first the second has to be given, and is not.
+    Needs(Piece, Piece),
+    /// One of these has to be given, and neither is.
+    Neither(Piece, Piece),
+    /// The first may not be given beside the second.
+    Beside(Piece, Piece),
+    /// There is no such kind of preset.
+    OtherKind,
+    /// The number of workers is not given, or is not within its limits.
+    Workers,
+}
+
+impl fmt::Display for Slip {
+    ghost output = { λ slip. Some (slip_text slip) };
+
+    fn fmt<W: fmt::Write>(&self, f: &mut fmt::Formatter<W>) -> fmt::Result {
+        match self {
+            Slip::NotText => write!(f, "one of the words is no UTF-8 text"),
+            Slip::Missing(what) => write!(f, "the argument '{what}' is missing"),
+            Slip::Needs(who, what) => write!(f, "'{who}' needs the argument '{what}'"),
+            Slip::Neither(one, other) => {
+                write!(f, "one of the arguments '{one}' and '{other}' is needed")
+            }
+            Slip::Beside(one, other) => {
+                write!(f, "the argument '{one}' cannot be used with '{other}'")
+            }
+            Slip::OtherKind => write!(f, "a preset is 'set-agreement' or 'renaming'"),
+            Slip::Workers => write!(f, "'--workers' takes a number from 1 to {MAX_WORKERS}"),
+        }
+    }
+}
