@@ -5,7 +5,7 @@ use Rattle.std.proofs.lemmas.Bool.{cases_Bool, or_cases, or_parts, and_from, or_
 use Rattle.std.proofs.lemmas.List.{get_or-map}
 use Rattle.std.proofs.lemmas.List.Elements.{recursion_from_All, All-from_recursion}
 use Rattle.wf_model.specs.Lists.{below, has}
-use Rattle.wf_model.specs.Box.{LiesIn, root, has_at}
+use Rattle.wf_model.specs.Box.{LiesIn, root, candidates, has_at}
 use Rattle.wf_model.specs.Problem.{Problem, Constraint, Participant, IsSolution, IsWellFormed, Satisfies, values_at}
 use Rattle.wf_model.proofs.Bridge.{weaker}
 use Rattle.wf_model.proofs.Headline.{each_append, each_map, each_flat}
@@ -21,7 +21,7 @@ use Rattle.wf_formula.proofs.Models.{any_map}
 -- ---- what is stated
 
 -- the pairs of a list that a variable is that of
-abbrev stated_from : List ℕ → ℕ → List ℕ → ℕ → Bool
+abbrev pub stated_from : List ℕ → ℕ → List ℕ → ℕ → Bool
 stated_from values c m n = list_any (λ at. variable values at.0 at.1 == n) (enumerate_from c m)
 
 states : (values : List ℕ) (c : ℕ) (m : List ℕ) (v : ℕ) → v < length m → stated_from values c m (variable values (c + v) (slice_index m v)) ≡ true
@@ -35,7 +35,7 @@ states values c (x ∷ m) (suc v) h =
     (subst (λ u. stated_from values (c + 1) m (variable values u (slice_index m v)) ≡ true) e (states values (c + 1) m v (omega (arith, h))))
 
 -- no other value is stated at a point
-stated_alone : (values : List ℕ) (c : ℕ) (m : List ℕ) (v x : ℕ) → AllByRecursion (λ y. has values y ≡ true) m → has values x ≡ true → stated_from values c m (variable values (c + v) x) ≡ true → slice_index m v ≡ x
+pub stated_alone : (values : List ℕ) (c : ℕ) (m : List ℕ) (v x : ℕ) → AllByRecursion (λ y. has values y ≡ true) m → has values x ≡ true → stated_from values c m (variable values (c + v) x) ≡ true → slice_index m v ≡ x
 stated_alone values c [] v x listed h s = absurd (false≢true s)
 stated_alone values c (y ∷ m) zero x listed h s =
     elim (or_cases (variable values c y == variable values (c + 0) x) (stated_from values (c + 1) m (variable values (c + 0) x)) s) [
@@ -76,16 +76,17 @@ any_has test (y ∷ xs) x h pass =
       | inr later ↦ or_right (test y) (list_any test xs) (any_has test xs x later pass)
     ]
 
+-- each point of the root has all values
+pub root_candidates : (values : List ℕ) (v n : ℕ) → v < n → candidates (replicate n values) v ≡ values
+root_candidates values v zero h = absurd (let none : ⊥ = omega (arith, h) in none)
+root_candidates values zero (suc n) h = refl
+root_candidates values (suc v) (suc n) h = root_candidates values v n (omega (arith, h))
+
 module _ (p : Problem) (m : List ℕ) (well : IsWellFormed p) (solves : IsSolution p m) (lies : LiesIn m (root p)) where
   listed_at : (v : ℕ) → v < p.points → has p.values (slice_index m v) ≡ true
-  listed_at v low = subst (λ set. has set (slice_index m v) ≡ true) (same v p.points low) (has_value m (root p) v lies (omega (arith, low, solves.long)))
-    where
-      same : (v n : ℕ) → v < n → get_or (replicate n p.values) v [] ≡ p.values
-      same v zero h = absurd (let none : ⊥ = omega (arith, h) in none)
-      same zero (suc n) h = refl
-      same (suc v) (suc n) h = same v n (omega (arith, h))
+  listed_at v low = subst (λ set. has set (slice_index m v) ≡ true) (root_candidates p.values v p.points low) (has_value m (root p) v lies (omega (arith, low, solves.long)))
 
-  all_listed : AllByRecursion (λ y. has p.values y ≡ true) m
+  pub all_listed : AllByRecursion (λ y. has p.values y ≡ true) m
   all_listed = each m p.points lies
     where
       each : (xs : List ℕ) (n : ℕ) → LiesIn xs (replicate n p.values) → AllByRecursion (λ y. has p.values y ≡ true) xs

@@ -107,13 +107,13 @@ module _ (p : Problem) (a : Assignment) (well : IsWellFormed p) (full : HasFullT
   clause_holds clause i = each_in (λ c. list_any (holds a) c ≡ true) (formula_of p).clauses clause (recursion_from_All _ (formula_of p).clauses model) i
 
   -- the value at a point is listed, and its variable is true
-  value_true : (v : ℕ) → v < p.points → (a (variable p.values v (least_true p.values a v)) ≡ true) × (has p.values (least_true p.values a v) ≡ true)
+  pub value_true : (v : ℕ) → v < p.points → (a (variable p.values v (least_true p.values a v)) ≡ true) × (has p.values (least_true p.values a v) ≡ true)
   value_true v low =
       first_passes (λ x. a (variable p.values v x)) p.values
       (sym (any_map (holds a) (λ x. pos (variable p.values v x)) p.values)
       ∙ clause_holds (at_least_one p.values v) (in_left (map (at_least_one p.values) (below p.points)) (flat_map (clauses_of p.values) p.constraints) (at_least_one p.values v) (in_map (at_least_one p.values) (below p.points) v (in_below p.points v low))))
 
-  value_there : (v : ℕ) → v < p.points → slice_index (map_in p a) v ≡ least_true p.values a v
+  pub value_there : (v : ℕ) → v < p.points → slice_index (map_in p a) v ≡ least_true p.values a v
   value_there v low =
       get_or-map (least_true p.values a) (below p.points) v 0 0 (omega (arith, low, length-below p.points))
       ∙ ap (least_true p.values a) (let e : 0 + v ≡ v = omega arith in range_at 0 p.points v low ∙ e)

@@ -24,13 +24,16 @@ formula_text f = line (codes "p cnf") (f.variables ∷ length f.clauses ∷ []) 
 abbrev pub numbering_line : List ℕ → List ℕ
 numbering_line vs = codes "c variable " ++ (decimal (length vs) ++ codes " * point + place of the value\n")
 
--- what the formula asks, in lines that are comments
-abbrev pub comments : Task → ℕ → List ℕ
-comments t r =
+-- what the formula asks, in lines that are comments, with further ones before those on values
+abbrev pub comments_with : List ℕ → Task → ℕ → List ℕ
+comments_with further t r =
     line (codes "c wfcheck formula 1") []
     ++ (line (codes "c processes") (t.processes ∷ []) ++ (line (codes "c rounds") (r ∷ [])
     ++ (line (codes "c points") (length (points t r) ∷ []) ++ (line (codes "c executions") (length (executions t r) ∷ [])
-    ++ (line (codes "c values") (values t) ++ numbering_line (values t))))))
+    ++ (further ++ (line (codes "c values") (values t) ++ numbering_line (values t)))))))
+
+abbrev pub comments : Task → ℕ → List ℕ
+comments t r = comments_with [] t r
 
 -- the formula of a task and a number of rounds, after comments
 abbrev pub question_text : Task → ℕ → List ℕ

@@ -4,6 +4,9 @@ pub mod Encoding
 pub mod Dimacs
 pub mod SolverText
 pub mod Laws
+pub mod Branches
+pub mod BranchLaws
 -- Worked examples: what the definitions give, by computation.
 pub mod Examples
 pub mod SolverTextExamples
+pub mod BranchExamples
