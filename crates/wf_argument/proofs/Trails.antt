@@ -6,7 +6,7 @@ use Rattle.wf_model.proofs.Basics.{equal_turned}
 use Rattle.wf_argument.specs.State as state
 use Rattle.std.specs.Option.{is_some}
 use Rattle.wf_set.specs.Sets.{values_in}
-use Rattle.wf_argument.specs.State.{Gone, losses, with_losses, has_loss, loss_among, is_gone, taken, left_at, in_this_case, case_of, entered}
+use Rattle.wf_argument.specs.State.{Gone, losses, with_losses, has_loss, loss_among, taken, left_at, in_this_case, case_of, entered}
 use Rattle.wf_argument.specs.Trail.{later, later_from, losing}
 use Rattle.wf_argument.specs.declared.losses.Loss.{Loss}
 use Rattle.wf_argument.specs.declared.state.Entry.{Entry}

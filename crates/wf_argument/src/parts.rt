@@ -1,6 +1,6 @@
 //! The parts of an argument, one after another.
 
-ghost use Rattle.std.specs.Prelude.{◌≡◌, ◌<◌, ◌≤◌, ◌∷◌, ◌++◌, ◌+◌, ◌^◌, [], codes, suc, drop, length, map, string_bytes, Some, None, IfOk, IfSome, OnOk};
+ghost use Rattle.std.specs.Prelude.{◌≡◌, ◌<◌, ◌≤◌, ◌∷◌, ◌++◌, ◌+◌, ◌^◌, codes, suc, drop, length, map, string_bytes, Some, None, IfOk, IfSome, OnOk};
 ghost use Rattle.wf_model.specs.Execution.{executions};
 ghost use Rattle.wf_model.specs.Problem.{problem_of};
 ghost use Rattle.wf_complex.specs.Protocol.{IsProtocol};

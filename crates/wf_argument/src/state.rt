@@ -3,11 +3,11 @@
 //! What is gone is kept once. A trail has what the open cases took, and for each split the values whose cases are still to
 //! come. So the memory that an argument can ask for grows with its lines and with the points, and not with their product.
 
-ghost use Rattle.std.specs.Prelude.{◌≡◌, ◌==◌, ◌<◌, ◌∷◌, ◌++◌, [], suc, filter, length, map, min, not, replicate, take, vec_items, IfOk, OnOk};
+ghost use Rattle.std.specs.Prelude.{◌≡◌, ◌==◌, ◌<◌, ◌∷◌, ◌++◌, [], filter, length, map, min, not, replicate, take, vec_items, IfOk, OnOk};
 ghost use Rattle.std.specs.List.{slice_set};
 ghost use Rattle.wf_model.specs.Problem.{Problem};
 ghost use Rattle.wf_set.specs.Sets.{values_in};
-ghost use Rattle.wf_argument.specs.State.{case_of, cases_at, deepest, entered, has_loss, in_this_case, left_at, losses, start, taken, with_losses};
+ghost use Rattle.wf_argument.specs.State.{case_of, cases_at, entered, has_loss, in_this_case, left_at, losses, start, taken, with_losses};
 ghost use Rattle.wf_argument.specs.Trail.{begun, first_case, losing, state_of, values_of};
 
 use crate::losses::{Loss, loss_of};

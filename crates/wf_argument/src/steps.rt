@@ -1,6 +1,6 @@
 //! The steps that take values.
 
-ghost use Rattle.std.specs.Prelude.{◌≡◌, ◌<◌, [], ◌++◌, ◌+◌, ◌^◌, codes, get_or, length, slice_get, slice_index, string_bytes, OnOk};
+ghost use Rattle.std.specs.Prelude.{◌≡◌, ◌<◌, [], ◌++◌, ◌+◌, ◌^◌, codes, get_or, length, slice_get, string_bytes, OnOk};
 ghost use Rattle.wf_model.specs.Simplex.{processes_of};
 ghost use Rattle.wf_model.specs.Task.{inputs};
 ghost use Rattle.wf_model.specs.Problem.{constraint_at};

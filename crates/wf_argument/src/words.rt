@@ -1,6 +1,6 @@
 //! What an argument says, word by word.
 
-ghost use Rattle.std.specs.Prelude.{◌≡◌, ◌++◌, ◌<◌, ◌+◌, ◌*◌, replicate, codes, decimal, length, None, OnOk, string_bytes};
+ghost use Rattle.std.specs.Prelude.{◌≡◌, ◌++◌, ◌<◌, ◌+◌, ◌*◌, decimal, length, None, OnOk, string_bytes};
 ghost use Rattle.wf_model.specs.PointsText.{process_text, view_text};
 ghost use Rattle.wf_set.specs.Sets.{values_in};
 ghost use Rattle.wf_view.specs.Views.{view_at};

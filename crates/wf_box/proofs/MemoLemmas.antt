@@ -1,9 +1,9 @@
 -- What is kept of the kernel's answers.
-use Rattle.std.proofs.Common.{◌≡◌, ℕ, suc, ◌<◌, ◌≤◌, List, [], ◌∷◌, length, zip, get_or, Option, Some, None, refl, sym, ap, ◌∙◌, subst, arith}
+use Rattle.std.proofs.Common.{◌≡◌, ℕ, suc, ◌<◌, ◌≤◌, List, [], ◌∷◌, length, zip, get_or, Some, refl, sym, ap, ◌∙◌, subst, arith}
 use Rattle.std.proofs.lemmas.List.{get_or-map, length-map}
 use Rattle.wf_model.specs.Simplex.{processes_of}
-use Rattle.wf_model.specs.Problem.{Constraint, no_constraint}
-use Rattle.wf_lane.specs.Table.{HasSupported, Table}
+use Rattle.wf_model.specs.Problem.{no_constraint}
+use Rattle.wf_lane.specs.Table.{HasSupported}
 use Rattle.wf_box.specs.Problems.{IsNetwork, IsWide, constraint_seen, constraints_in, no_rule, rule_in, rule_of}
 use Rattle.wf_box.specs.Quiet.{no_execution}
 use Rattle.wf_box.specs.Revising.{IsKnown, table_seen}

@@ -19,7 +19,7 @@ ghost use Rattle.wf_box.specs.Working.{AreMarked, AreSilent, IsSilent, IsWorking
 use crate::boxed::Box0;
 use crate::marks::Marks;
 use crate::memo::{Memo, Revised, slot_of};
-use crate::problem::{Execution, Network, Problem, Rule};
+use crate::problem::{Execution, Network, Problem};
 use crate::taking::{Place, put, take_each};
 use crate::tracked::Tracked;
 use crate::workspace::Workspace;

@@ -1,6 +1,6 @@
 //! Boxes that wait.
 
-ghost use Rattle.std.specs.Prelude.{◌≡◌, ◌≤◌, IfOk};
+ghost use Rattle.std.specs.Prelude.{◌≡◌, IfOk};
 ghost use Rattle.wf_model.specs.Box.{first_open};
 
 use crate::boxed::Box0;

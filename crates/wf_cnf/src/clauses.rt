@@ -1,8 +1,7 @@
 //! The clauses of points and of executions, as text.
 
-ghost use Rattle.std.specs.Prelude.{◌≡◌, ◌<◌, ◌≤◌, ◌+◌, ◌++◌, ◌∷◌, [], All, IfSome, List, OnOk, flat_map, length, map, string_bytes, ℕ};
+ghost use Rattle.std.specs.Prelude.{◌≡◌, ◌<◌, ◌≤◌, ◌+◌, All, IfSome, List, length, map, ℕ};
 ghost use Rattle.wf_model.specs.Limits.{most_points};
-ghost use Rattle.wf_model.specs.Lists.{below};
 ghost use Rattle.wf_io.specs.Ends.{CanWrite};
 ghost use Rattle.wf_io.specs.Texts.{PutsText};
 ghost use Rattle.wf_set.specs.Sets.{values_in};

@@ -1,9 +1,8 @@
 //! What stands before the clauses: comments, and how many variables and clauses there are.
 
-ghost use Rattle.std.specs.Prelude.{◌≡◌, ◌++◌, ◌∷◌, [], IfOk, OnOk, codes, length, string_bytes};
-ghost use Rattle.wf_model.specs.Report.{line, numbers_text};
+ghost use Rattle.std.specs.Prelude.{◌≡◌, ◌++◌, IfOk, OnOk, codes, string_bytes};
+ghost use Rattle.wf_model.specs.Report.{line};
 ghost use Rattle.wf_set.specs.Sets.{values_in};
-ghost use Rattle.wf_formula.specs.Dimacs.{numbering_line};
 ghost use Rattle.wf_cnf.specs.Head.{counts_text, head_text};
 
 use std::alloc::{AllocError, Global};

@@ -1,11 +1,10 @@
 //! The map of a model that a SAT solver's text says.
 
-ghost use Rattle.std.specs.Prelude.{◌≡◌, ◌<◌, ◌≤◌, ◌++◌, ◌∷◌, [], IfOk, MatchOption, None, Some, drop, false, if◌then◌else◌, length, nat_le, slice_index, take, true, ℕ};
+ghost use Rattle.std.specs.Prelude.{◌≡◌, ◌<◌, ◌≤◌, ◌++◌, ◌∷◌, [], IfOk, MatchOption, None, Some, drop, false, if◌then◌else◌, length, nat_le, slice_index, take, true};
 ghost use Rattle.std.specs.List.{list_all};
 ghost use Rattle.wf_model.specs.Limits.{most_bytes};
 ghost use Rattle.wf_model.specs.Report.{same_text};
 ghost use Rattle.wf_complex.specs.Protocol.{IsProtocol};
-ghost use Rattle.wf_clauses.specs.Formula as formula;
 ghost use Rattle.wf_formula.specs.SolverText.{is_blank, is_digit, is_numeral, lines, is_passed_over, literal_of, literal_on, model_words, number_of, words};
 ghost use Rattle.wf_cnf.specs.declared.solver.ModelFault.TheVariants.{OutOfMemory};
 ghost use Rattle.wf_cnf.specs.Models.{IsMapOfModel, map_seen};

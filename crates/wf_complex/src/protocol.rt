@@ -1,6 +1,6 @@
 //! The r-round protocol complex of a task.
 
-ghost use Rattle.std.specs.Prelude.{◌≡◌, ◌<◌, ◌≤◌, ℕ, Some, [], length, map, slice_get, All, IfOk};
+ghost use Rattle.std.specs.Prelude.{◌≡◌, ◌<◌, ◌≤◌, Some, [], length, map, slice_get, All, IfOk};
 ghost use Rattle.std.specs.List.{slice_index_or};
 ghost use Rattle.wf_model.specs.Limits.{most_executions, most_inputs, most_points, most_processes, most_rounds};
 ghost use Rattle.wf_model.specs.Task.{IsTaskSimplex};

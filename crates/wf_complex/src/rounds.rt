@@ -1,10 +1,9 @@
 //! One more round of immediate snapshots, on views by their numbers.
 
-ghost use Rattle.std.specs.Prelude.{◌≡◌, ◌<◌, ◌≤◌, ◌+◌, ◌++◌, length, map, take, flat_map, slice_index, All, IfOk, OnOk};
+ghost use Rattle.std.specs.Prelude.{◌≡◌, ◌<◌, ◌≤◌, ◌+◌, ◌++◌, length, take, flat_map, slice_index, All, IfOk, OnOk};
 ghost use Rattle.wf_model.specs.Limits.{most_number, most_processes};
 ghost use Rattle.wf_model.specs.View.{round, base_views};
 ghost use Rattle.wf_model.specs.Word.{words};
-ghost use Rattle.wf_view.specs.Views.{view_at};
 ghost use Rattle.wf_complex.specs.Rounds.{views_at, visible_ids, numbers_in, only_if, Extends, AreViews, leaves, cost, leaves_of, cost_of_each};
 
 use std::alloc::{AllocError, Global};

@@ -1,6 +1,5 @@
 //! Checking a SAT solver's clausal proof that the question of a task has no model.
 
-ghost use Rattle.std.specs.Prelude.{◌≡◌, IfOk};
 ghost use Rattle.wf_io.specs.Ends.{CanRead};
 ghost use Rattle.wf_complex.specs.Protocol.{IsProtocol};
 ghost use Rattle.wf_rup.specs.Seen.{HasNoModel};

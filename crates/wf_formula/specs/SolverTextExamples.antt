@@ -1,5 +1,5 @@
 -- Worked examples: the models that texts of solvers say, by computation.
-use Rattle.std.specs.Prelude.{◌≡◌, ℕ, [], ◌∷◌, List, true, false, codes, Ok, Err, refl}
+use Rattle.std.specs.Prelude.{◌≡◌, [], ◌∷◌, List, true, false, codes, Ok, Err, refl}
 use Rattle.wf_clauses.specs.Formula.{Literal, pos, neg}
 use Rattle.wf_formula.specs.SolverText.{NoModel, NotALiteral, NoSuchVariable, model_of, stated}
 

@@ -1,6 +1,6 @@
 //! Writing a text in pieces.
 
-ghost use Rattle.std.specs.Prelude.{◌≡◌, ◌+◌, ◌≤◌, ◌++◌, ◌∷◌, [], IfOk, OnOk, decimal, length, take};
+ghost use Rattle.std.specs.Prelude.{◌≡◌, ◌+◌, ◌≤◌, ◌++◌, [], IfOk, decimal, length, take};
 ghost use Rattle.wf_io.specs.Ends.{CanWrite};
 ghost use Rattle.wf_io.specs.Texts.{PutsText, WritesText};
 

@@ -1,5 +1,5 @@
 -- Steps of the loops over values, and over blocks of rows.
-use Rattle.std.proofs.Common.{◌≡◌, ℕ, zero, suc, ◌+◌, ◌*◌, ◌<◌, ◌^◌, List, [], ◌∷◌, ◌++◌, length, take, map, filter, replicate, Bool, true, false, cond, not, ◌&&◌, refl, sym, ◌∙◌, ap, arith, ⊎_elim, subst, eqb-true}
+use Rattle.std.proofs.Common.{◌≡◌, ℕ, ◌+◌, ◌*◌, ◌<◌, ◌^◌, List, [], ◌∷◌, ◌++◌, length, take, map, filter, replicate, Bool, true, false, cond, not, ◌&&◌, refl, sym, ◌∙◌, ap, arith, ⊎_elim, subst, eqb-true}
 use Rattle.std.specs.Prelude.{bit_and, bit_or, count_by, slice_index, ◌||◌, ◌==◌}
 use Rattle.std.specs.Int.{bit_at}
 use Rattle.std.specs.Int.Bits.{or_zero_l, or_zero_r}

@@ -1,5 +1,5 @@
 -- From one-hot words to values.
-use Rattle.std.proofs.Common.{pow_pos, ◌≡◌, ℕ, zero, suc, ◌+◌, ◌*◌, ◌<◌, ◌≤◌, ◌^◌, List, [], ◌∷◌, length, map, take, filter, Bool, true, false, cond, not, ◌&&◌, refl, sym, ◌∙◌, ap, arith, subst, eqb-true, ⊎_elim}
+use Rattle.std.proofs.Common.{pow_pos, ◌≡◌, ℕ, zero, suc, ◌+◌, ◌*◌, ◌<◌, ◌≤◌, ◌^◌, List, [], ◌∷◌, length, map, Bool, true, false, cond, not, ◌&&◌, refl, sym, ◌∙◌, ap, arith, subst, ⊎_elim}
 use Rattle.std.specs.Prelude.{bit_and, count_by, nat_lt, ◌||◌, ◌==◌}
 use Rattle.std.specs.Int.{bit_at, trailing_zeros, w64}
 use Rattle.std.specs.Int.Bits.{and_comm}
@@ -9,10 +9,8 @@ use Rattle.std.proofs.lemmas.Nat.{or_lt, pow_below}
 use Rattle.std.proofs.lemmas.Nat.Bits.{bit_at-lt, bit_at_above, and_pow, bit_at_ones}
 use Rattle.std.proofs.lemmas.List.Elements.{All-head, All-tail}
 use Rattle.std.proofs.lemmas.List.Sums.{sum_by-cons}
-use Rattle.std.proofs.lemmas.Map.Views.{any-filter_same}
 use Rattle.std.proofs.Math.Bool.{and-true}
 use Rattle.wf_model.specs.Lists.{has}
-use Rattle.wf_model.specs.Task.{Tuple}
 use Rattle.wf_model.specs.Box.{is_supported, is_alive, has_at}
 use Rattle.wf_set.proofs.Lemmas.{has-part_values, has_large, part_holds-or, part_holds-pow, holds_nothing}
 use Rattle.wf_set.specs.Parts.{part_holds, part_values}

@@ -1,9 +1,8 @@
 //! The values of a table's rows at one place: a word a row, and of a large table also the set of rows of each value.
 
-ghost use Rattle.std.specs.Prelude.{◌≡◌, ◌<◌, ◌≤◌, ◌+◌, ◌*◌, ◌++◌, [], cond, length, IfOk, OnOk};
+ghost use Rattle.std.specs.Prelude.{◌≡◌, ◌<◌, ◌≤◌, ◌+◌, ◌*◌, ◌++◌, [], cond, IfOk, OnOk};
 ghost use Rattle.std.specs.List.{All};
-ghost use Rattle.wf_model.specs.Lists.{has};
-ghost use Rattle.wf_set.specs.Parts.{part_limit, part_values};
+ghost use Rattle.wf_set.specs.Parts.{part_limit};
 ghost use Rattle.wf_lane.specs.Words.{ors};
 ghost use Rattle.wf_lane.specs.Table.{IsOneHot};
 ghost use Rattle.wf_lane.specs.Rows.{IsCut, block_limit, block_words, is_value, row_set, rows_of_value};

@@ -1,6 +1,6 @@
 //! The answer of all workers together.
 
-ghost use Rattle.std.specs.Prelude.{ℕ, ◌≡◌, ◌+◌, ◌*◌, ◌^◌, ◌<◌, ◌≤◌, map, length, All, IfOk};
+ghost use Rattle.std.specs.Prelude.{◌≡◌, ◌+◌, ◌*◌, ◌^◌, ◌<◌, ◌≤◌, map, length, All, IfOk};
 ghost use Rattle.wf_model.specs.Limits.{most_workers};
 ghost use Rattle.wf_model.specs.Outline.{boxes_left_out};
 ghost use Rattle.wf_board.specs.Desk.{fresh_desk};

@@ -1,13 +1,10 @@
 -- What an explanation writes is true.
-use Rattle.std.proofs.Common.{◌≡◌, List, ℕ, refl, ap, subst}
-use Rattle.wf_model.specs.Task.{Task}
-use Rattle.wf_model.specs.Report.{Report}
-use Rattle.wf_io.specs.Seen.{Reading, Writing}
+use Rattle.std.proofs.Common.{◌≡◌, subst}
 use Rattle.wf_io.specs.Texts.{Gave, Took}
 use Rattle.wf_check.specs.Truth.{HoldsOf}
 use Rattle.wf_engine.specs.Texts.{text_of_report}
 use Rattle.wf_rewrite.specs.Explaining.{ExplanationsAreTrue, body_explained}
-use Rattle.wf_rewrite.proofs.Trimmed.{IsTold, same_rounds, text_about, told}
+use Rattle.wf_rewrite.proofs.Trimmed.{same_rounds, text_about, told}
 
 pub explained_true : ExplanationsAreTrue
 explained_true task task' cert cert' sink sink' (answer, checks, hands) =

@@ -5,7 +5,7 @@ use Rattle.wf_model.specs.Report.{Report, report_about, report_of, report_text}
 use Rattle.wf_model.proofs.WholeReports.{numbers}
 use Rattle.wf_io.specs.Seen.{Reading}
 use Rattle.wf_io.specs.Texts as io
-use Rattle.wf_io.specs.Texts.{Gave, ReadsText}
+use Rattle.wf_io.specs.Texts.{Gave}
 use Rattle.wf_io.specs.declared.source.ReadFault.{ReadFault}
 use Rattle.wf_io.specs.declared.source.ReadFault.TheVariants as read
 use Rattle.wf_report.proofs.Lemmas.{read_written}

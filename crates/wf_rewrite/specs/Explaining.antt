@@ -1,5 +1,5 @@
 -- A run over two sources, a task and a report about it, that tells in words what the report says.
-use Rattle.std.specs.Prelude.{ℕ, List, Option, None, Result, Ok}
+use Rattle.std.specs.Prelude.{ℕ, List, None, Result, Ok}
 use Rattle.wf_model.specs.Limits.{most_bytes}
 use Rattle.wf_model.specs.Task.{Task}
 use Rattle.wf_model.specs.Report.{Body, Report, a_map, none, least}

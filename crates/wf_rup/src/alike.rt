@@ -1,6 +1,6 @@
 //! Whether two clauses have the same literals, in whatever order.
 
-ghost use Rattle.std.specs.Prelude.{◌≡◌, ◌↔◌, IfOk, IsTrue};
+ghost use Rattle.std.specs.Prelude.{◌↔◌, IfOk, IsTrue};
 ghost use Rattle.wf_rup.specs.Deleted.{AreAlike, IsAmong, IsSeenOf};
 ghost use Rattle.wf_rup.specs.Stored.{IsDistinct};
 

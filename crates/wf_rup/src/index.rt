@@ -1,6 +1,6 @@
 //! Clauses by a hash of their literals, so that a deletion looks at few.
 
-ghost use Rattle.std.specs.Prelude.{◌≡◌, ℕ, ◌<◌, [], get_or, length, IfOk};
+ghost use Rattle.std.specs.Prelude.{◌≡◌, ◌<◌, get_or, length, IfOk};
 ghost use Rattle.wf_rup.specs.Index.{Finds, FindsEach, FindsStill, FindsStillBut, bucket_of};
 ghost use Rattle.wf_rup.specs.declared.index.Entry.{Entry};
 

@@ -3,7 +3,7 @@
 //! A proof is a list of lemmas and deletions: the literals of a clause in DIMACS, ended by 0, with `d` before those of a
 //! clause that is deleted. A clause may span lines. Lines that begin with `c` between two steps are passed over.
 
-ghost use Rattle.std.specs.Prelude.{◌≡◌, ◌≤◌, IfErr, IfOk, IfSome};
+ghost use Rattle.std.specs.Prelude.{◌≡◌, ◌≤◌, IfErr, IfOk};
 ghost use Rattle.wf_rup.specs.Refused.{IsFaultAtEnd, IsFaultOf};
 ghost use Rattle.wf_rup.specs.Seen.{HasNoModel, KeepsModels, Known};
 

@@ -1,5 +1,5 @@
 -- What a canonical text lists is judged without a fault, and is the task.
-use Rattle.std.proofs.Common.{◌≡◌, ℕ, suc, ◌+◌, ◌*◌, ◌^◌, ◌<◌, ◌≤◌, ◌==◌, ◌&&◌, ◌||◌, Bool, true, false, not, nat_lt, Contains, List, [], ◌∷◌, length, map, flat_map, zip, All, sum_by, count_by, Option, None, Some, Result, Ok, cond, refl, sym, ap, ◌∙◌, subst, inl, inr, arith, lt-ltb, le-leb, eqb-true, eq-eqb, append-nil}
+use Rattle.std.proofs.Common.{◌≡◌, ℕ, ◌+◌, ◌*◌, ◌^◌, ◌<◌, ◌≤◌, ◌==◌, ◌&&◌, ◌||◌, Bool, true, false, not, nat_lt, Contains, List, [], ◌∷◌, length, map, flat_map, zip, All, sum_by, count_by, Option, None, Some, Result, Ok, cond, refl, sym, ap, ◌∙◌, subst, inl, inr, arith, lt-ltb, le-leb, eq-eqb, append-nil}
 use Rattle.std.specs.List.{AllByRecursion, list_any, list_all, position_from}
 use Rattle.std.specs.List.Sorted.{IsStrictlySortedBy}
 use Rattle.std.specs.declared.cmp.Ordering.TheVariants.{Less, Equal}

@@ -1,6 +1,6 @@
 //! What a text says before it is judged.
 
-ghost use Rattle.std.specs.Prelude.{◌≡◌, ◌==◌, List, map, option_map};
+ghost use Rattle.std.specs.Prelude.{◌≡◌, ◌==◌, map, option_map};
 ghost use Rattle.serde_json.specs.Find.{as_bool};
 ghost use Rattle.serde_json.specs.View.{view};
 ghost use Rattle.wf_task.specs.Shape.{whole_of};

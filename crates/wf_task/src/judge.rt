@@ -1,12 +1,11 @@
 //! From a draft to its task, or its first fault.
 
-ghost use Rattle.std.specs.Prelude.{◌≡◌, ℕ, ◌<◌, ◌≤◌, All, List, map, nat_lt, nat_le, not, ◌&&◌, sum_by, length, IfOk};
+ghost use Rattle.std.specs.Prelude.{◌≡◌, ◌<◌, map, ◌&&◌};
 ghost use Rattle.std.specs.List.{list_any, list_all};
-ghost use Rattle.wf_model.specs.Simplex.{complex_of};
 ghost use Rattle.wf_model.specs.Task.{largest_value};
 ghost use Rattle.wf_task.specs.Draft.{Gives};
 ghost use Rattle.wf_task.specs.DraftSeen.{draft_seen, entry_seen};
-ghost use Rattle.wf_task.specs.Judge.{is_large, has_large, rule_has_large, has_large_at, some_large, is_first_block, has_colours, rule_has_colours, all_colours, first_block_judged, numbers_judged};
+ghost use Rattle.wf_task.specs.Judge.{is_large, has_large, rule_has_large, is_first_block, has_colours, rule_has_colours, first_block_judged, numbers_judged};
 
 use crate::draft::{Draft, RESTRICTED, UNRESTRICTED};
 use crate::fault::TaskFault;

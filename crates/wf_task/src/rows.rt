@@ -1,6 +1,6 @@
 //! The rows of value lists, and the sets of values of simplices.
 
-ghost use Rattle.std.specs.Prelude.{◌≡◌, ◌≤◌, All, List, map, flat_map, length, vec_items, IfOk};
+ghost use Rattle.std.specs.Prelude.{◌≡◌, All, map, flat_map, vec_items, IfOk};
 ghost use Rattle.std.specs.Ordering.{nat_cmp};
 ghost use Rattle.std.specs.Cmp.Lexicographic.{slice_cmp};
 ghost use Rattle.wf_model.specs.Lists.{in_order};

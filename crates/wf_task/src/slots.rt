@@ -1,6 +1,6 @@
 //! Which entry of delta is for which input simplex.
 
-ghost use Rattle.std.specs.Prelude.{◌≡◌, ◌≤◌, List, map, length, IfOk};
+ghost use Rattle.std.specs.Prelude.{◌≡◌, ◌≤◌, map, length, IfOk};
 ghost use Rattle.std.specs.List.{position_from};
 ghost use Rattle.wf_model.specs.Limits.{most_bytes, most_inputs};
 ghost use Rattle.wf_task.specs.Draft.{Gives};

@@ -1,10 +1,9 @@
 //! The tuples of the entries of delta.
 
-ghost use Rattle.std.specs.Prelude.{◌≡◌, ◌==◌, ◌≤◌, false, All, List, map, not, zip, length};
+ghost use Rattle.std.specs.Prelude.{◌≡◌, ◌==◌, ◌≤◌, false, All, map, not, zip, length};
 ghost use Rattle.std.specs.List.{position_from};
 ghost use Rattle.wf_model.specs.Limits.{most_inputs, most_tuples};
 ghost use Rattle.wf_model.specs.Simplex.{processes_of, complex_of};
-ghost use Rattle.wf_model.specs.Task.{IsSimplexWithin};
 ghost use Rattle.wf_task.specs.Draft.{Gives};
 ghost use Rattle.wf_task.specs.DraftSeen.{draft_seen, entry_seen, pairs_seen};
 ghost use Rattle.wf_task.specs.Judge.{is_image_in, tuple_total, wrong_length, no_output, first_answer, some_large, tuples_judged};

@@ -2,7 +2,7 @@ use Rattle.std.proofs.Common.{◌≡◌, ◌<◌, ◌∙◌, Some, length, get_o
 use Rattle.std.proofs.lemmas.List.Elements.{All-get_or}
 use Rattle.std.specs.Cmp.Lexicographic.{bytes_decides, pointwise_decides}
 use Rattle.wf_lane.specs.Table.{HasSupported}
-use Rattle.wf_box.specs.Problems.{constraints_in, no_rule, rule_in, rule_of}
+use Rattle.wf_box.specs.Problems.{constraints_in, rule_in, rule_of}
 use Rattle.wf_box.specs.Quiet.{no_execution}
 use Rattle.wf_box.specs.Revising.{IsKnown}
 use Rattle.wf_box.specs.declared.problem.Execution.{Execution}

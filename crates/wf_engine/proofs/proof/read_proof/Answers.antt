@@ -1,6 +1,5 @@
-use Rattle.std.proofs.Common.{◌≤◌, arith, refl, take, length-take}
+use Rattle.std.proofs.Common.{arith, refl, take, length-take}
 use Rattle.wf_rup.specs.Seen.{HasNoModel}
-use Rattle.wf_engine.specs.Proofs.{most_proof_bytes}
 use Rattle.wf_engine.proofs.Refuting.{accepted, nothing_read, piece_read, proof_refused, read_failed}
 use Rattle.wf_engine.proofs.proof.read_proof.Goals as goal
 
