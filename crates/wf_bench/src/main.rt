@@ -14,6 +14,7 @@ mod stages;
 use anyhow::Result;
 use stages::{Last, time_stages};
 use std::alloc::{AllocError, Global};
+use std::time::CpuClock;
 use std::{env, io};
 use wf_lane::TupleTable;
 use wf_set::of_part;
