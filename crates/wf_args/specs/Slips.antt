@@ -1,5 +1,6 @@
 -- What is told of words that are read and make no job.
-use Rattle.std.specs.Prelude.{ℕ, List, [], ◌∷◌, ◌++◌, codes}
+use Rattle.std.specs.Prelude.{ℕ, List, [], ◌∷◌, ◌++◌, codes, decimal}
+use Rattle.wf_model.specs.Limits.{most_workers}
 use Rattle.wf_args.specs.declared.slip.Piece.{Piece}
 use Rattle.wf_args.specs.declared.slip.Piece.TheVariants as piece
 use Rattle.wf_args.specs.declared.slip.Slip.{Slip}
