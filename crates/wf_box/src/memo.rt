@@ -87,10 +87,18 @@ impl Memo {
 /// Any place would be right.
 pub(crate) fn slot_of(rule: u32, candidates: [Mask; 4], places: usize) -> usize {
     let [[a, ..], [b, ..], [c, ..], [d, ..]] = candidates;
-    let mixed = a.wrapping_mul(0x9e37_79b9_7f4a_7c15)
-        ^ b.wrapping_mul(0xc2b2_ae3d_27d4_eb4f)
-        ^ c.wrapping_mul(0x1656_67b1_9e37_79f9)
-        ^ d.wrapping_mul(0xd6e8_feb8_6659_fd93)
+    let mixed = fold(a).wrapping_mul(0x9e37_79b9_7f4a_7c15)
+        ^ fold(b).wrapping_mul(0xc2b2_ae3d_27d4_eb4f)
+        ^ fold(c).wrapping_mul(0x1656_67b1_9e37_79f9)
+        ^ fold(d).wrapping_mul(0xd6e8_feb8_6659_fd93)
         ^ u64::from(rule).wrapping_mul(0xff51_afd7_ed55_8ccd);
     (mixed >> 44) as usize & places.saturating_sub(1)
+}
+
+/// The word with its last 16 bits joined into the first: a product's middle bits do not tell words apart that differ in
+/// their last bits alone.
+///
+/// Any word would be right.
+fn fold(word: u64) -> u64 {
+    word ^ word >> 48
 }
