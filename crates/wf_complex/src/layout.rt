@@ -1,8 +1,8 @@
 //! Where the executions of a task lie in the list of their last views.
 
-ghost use Rattle.std.specs.Prelude.{◌≡◌, ◌≤◌, ◌+◌, ◌*◌, ◌++◌, min, length, All, IfOk, OnOk};
+ghost use Rattle.std.specs.Prelude.{◌≡◌, ◌≤◌, ◌+◌, ◌-◌, ◌*◌, ◌++◌, min, length, slice_get, All, IfOk, OnOk};
 ghost use Rattle.wf_model.specs.Limits.{most_executions, most_inputs, most_number, most_processes};
-ghost use Rattle.wf_complex.specs.Layout.{turns, execution_total, laid_on, laid_out};
+ghost use Rattle.wf_complex.specs.Layout.{turns, execution_total, laid_on, laid_out, place_after};
 
 use std::alloc::{AllocError, Global};
 use wf_simplex::{Simplex, allowed_count};
@@ -102,4 +102,14 @@ fn lay_on(
         place += u32::from(size);
     }
     Ok(())
+}
+
+/// The place after the last of these executions.
+pub(crate) fn place_after_all(executions: &[Execution]) -> usize
+    ensures { result ≡ place_after (slice_get executions.now (length executions.now - 1)) }
+{
+    match executions.last() {
+        Some(last) => last.place as usize + last.size as usize,
+        None => 0,
+    }
 }

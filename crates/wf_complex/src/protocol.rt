@@ -10,7 +10,7 @@ ghost use Rattle.wf_complex.specs.ProtocolMade.{IsMade, pairs_of};
 
 use crate::classes::{classes_of, pick};
 use crate::fault::BuildFault;
-use crate::layout::{Execution, MOST_EXECUTIONS, execution_count, lay_out};
+use crate::layout::{Execution, MOST_EXECUTIONS, execution_count, lay_out, place_after_all};
 use crate::numbering::number_all;
 use crate::places::{Place, places_of};
 use crate::rounds::last_views;
@@ -179,8 +179,9 @@ fn complex_from(
     ensures { IfOk result (IsMade inputs.now symmetric first_block rounds) }
 {
     let mut views = Views::start(alloc);
-    let lasts = last_views(alloc, &mut views, inputs, first_block, rounds)?;
     let executions = lay_out(alloc, inputs, first_block, rounds)?;
+    let room = place_after_all(&executions);
+    let lasts = last_views(alloc, &mut views, inputs, first_block, rounds, room)?;
     let places = places_of(alloc, &views, &lasts, &executions)?;
     let ids = classes_of(alloc, &mut views, lasts, symmetric)?;
     let numbered = number_all(alloc, &ids.ids, views.len() as usize)?;

@@ -134,12 +134,14 @@ fn walk(
 
 /// The last views of all executions on these simplices whose first blocks have at least `first_block` participants, or
 /// all where they are fewer, one after another: simplex by simplex, execution by execution, and by ascending process.
+/// Room is made for `room` of them at once.
 pub(crate) fn last_views(
     alloc: Global,
     views: &mut Views,
     simplices: &[Simplex],
     first_block: u8,
     rounds: u32,
+    room: usize,
 ) -> Result<Vec<u32>, AllocError>
     requires one { 1 ≤ first_block }
     requires most { first_block ≤ most_processes }
@@ -151,7 +153,7 @@ pub(crate) fn last_views(
     ensures made { IfOk result (λ lasts. views_at views.new lasts.items
         ≡ flat_map (leaves_of first_block rounds) simplices.now) }
 {
-    let mut lasts = Vec::new(alloc);
+    let mut lasts = Vec::with_capacity(alloc, room)?;
     for simplex in simplices {
         let first = first_views(views, simplex)?;
         walk(

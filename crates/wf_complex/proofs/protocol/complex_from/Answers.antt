@@ -26,12 +26,12 @@ pub places_of-requires-clause-within : goal.places_of-requires-clause-within
 places_of-requires-clause-within c =
     let inputs = c.args.inputs.now in
     let end = lasts_end c.args.first_block c.args.rounds inputs c.requires.executions (all_sized inputs c.requires.simplices) c.last_views.new.views c.in_ok-lasts.lasts.items c.in_ok-lasts.ensures.made in
-    subst (λ xs. All (EndsBy (length xs)) c.deref-2.result.now) (sym c.deref.ensures.value) (subst (All (EndsBy (length c.in_ok-lasts.lasts.items))) (sym (c.deref-2.ensures.value ∙ c.in_ok-executions.ensures)) end)
+    subst (λ xs. All (EndsBy (length xs)) c.deref-3.result.now) (sym c.deref-2.ensures.value) (subst (All (EndsBy (length c.in_ok-lasts.lasts.items))) (sym (c.deref-3.ensures.value ∙ c.in_ok-executions.ensures)) end)
 
 pub places_of-requires-clause-few : goal.places_of-requires-clause-few
 places_of-requires-clause-few c =
     let inputs = c.args.inputs.now in
-    omega (arith, ap length (c.deref-2.ensures.value ∙ c.in_ok-executions.ensures), few_laid c.args.first_block c.args.rounds inputs c.requires.executions (all_sized inputs c.requires.simplices) c.last_views.new.views c.in_ok-lasts.lasts.items c.in_ok-lasts.ensures.made)
+    omega (arith, ap length (c.deref-3.ensures.value ∙ c.in_ok-executions.ensures), few_laid c.args.first_block c.args.rounds inputs c.requires.executions (all_sized inputs c.requires.simplices) c.last_views.new.views c.in_ok-lasts.lasts.items c.in_ok-lasts.ensures.made)
 
 pub classes_of-requires-clause-few : goal.classes_of-requires-clause-few
 classes_of-requires-clause-few c =
@@ -56,14 +56,14 @@ number_all-requires-clause-few c =
     let inputs = c.args.inputs.now in
     let few = few_lasts c.args.first_block c.args.rounds inputs c.requires.executions (all_sized inputs c.requires.simplices) c.last_views.new.views c.in_ok-lasts.lasts.items c.in_ok-lasts.ensures.made in
     let same = length-classed c.args.first_block c.args.rounds inputs c.requires.executions (all_sized inputs c.requires.simplices) c.last_views.new.views c.in_ok-lasts.lasts.items c.in_ok-lasts.ensures.made (class_by c.args.symmetric) c.classes_of.new.views c.in_ok-ids.ids.ids.items c.in_ok-ids.ensures.classes in
-    omega (arith, ap length c.deref-3.ensures.value, few, same)
+    omega (arith, ap length c.deref-4.ensures.value, few, same)
 
 pub pick-requires : goal.pick-requires
 pick-requires c =
     let first : c.in_ok-numbered.numbered.firsts.items ≡ first_places c.in_ok-ids.ids.ids.items (length c.in_ok-ids.ids.ids.items) =
-    c.in_ok-numbered.ensures.firsts ∙ (λ i. first_places (c.deref-3.ensures.value i) (length (c.deref-3.ensures.value i))) in
-    subst (λ xs. All (λ p. p < length xs) c.deref-5.result.now) (sym c.deref-4.ensures.value)
-    (subst (All (λ p. p < length c.in_ok-ids.ids.ids.items)) (sym c.deref-5.ensures.value) (firsts_low c.in_ok-ids.ids.ids.items c.in_ok-numbered.numbered.firsts.items first))
+    c.in_ok-numbered.ensures.firsts ∙ (λ i. first_places (c.deref-4.ensures.value i) (length (c.deref-4.ensures.value i))) in
+    subst (λ xs. All (λ p. p < length xs) c.deref-6.result.now) (sym c.deref-5.ensures.value)
+    (subst (All (λ p. p < length c.in_ok-ids.ids.ids.items)) (sym c.deref-6.ensures.value) (firsts_low c.in_ok-ids.ids.ids.items c.in_ok-numbered.numbered.firsts.items first))
 
 pub invariant_of-result : goal.invariant_of-result
 invariant_of-result c =
@@ -77,13 +77,13 @@ invariant_of-result c =
     let numbers = c.in_ok-numbered.numbered.places.items in
     let made = c.in_ok-lasts.ensures.made in
     let first : c.in_ok-numbered.numbered.firsts.items ≡ first_places c.in_ok-ids.ids.ids.items (length c.in_ok-ids.ids.ids.items) =
-    c.in_ok-numbered.ensures.firsts ∙ (λ i. first_places (c.deref-3.ensures.value i) (length (c.deref-3.ensures.value i))) in
+    c.in_ok-numbered.ensures.firsts ∙ (λ i. first_places (c.deref-4.ensures.value i) (length (c.deref-4.ensures.value i))) in
     let picked : c.in_ok-classes.classes.items ≡ map (λ j. slice_index c.in_ok-ids.ids.ids.items j) c.in_ok-numbered.numbered.firsts.items =
-    c.in_ok-classes.ensures ∙ (λ i. map (λ j. slice_index (c.deref-4.ensures.value i) j) (c.deref-5.ensures.value i)) in
+    c.in_ok-classes.ensures ∙ (λ i. map (λ j. slice_index (c.deref-5.ensures.value i) j) (c.deref-6.ensures.value i)) in
     let marked : c.in_ok-places.places.items ≡ flat_map (places_on c.last_views.new.views c.in_ok-lasts.lasts.items) (enumerate_from 0 (laid_out c.args.first_block c.args.rounds 0 0 c.args.inputs.now)) =
-    c.in_ok-places.ensures ∙ (λ i. flat_map (places_on c.last_views.new.views (c.deref.ensures.value i)) (enumerate_from 0 ((c.deref-2.ensures.value ∙ c.in_ok-executions.ensures) i))) in
+    c.in_ok-places.ensures ∙ (λ i. flat_map (places_on c.last_views.new.views (c.deref-2.ensures.value i)) (enumerate_from 0 ((c.deref-3.ensures.value ∙ c.in_ok-executions.ensures) i))) in
     let many : length c.in_ok-numbered.numbered.places.items ≡ length c.in_ok-ids.ids.ids.items =
-    sym (length-map numbers (λ p. slice_index c.deref-3.result.now (slice_index c.in_ok-numbered.numbered.firsts.items p))) ∙ ap length (c.in_ok-numbered.ensures.numbers ∙ c.deref-3.ensures.value) in
+    sym (length-map numbers (λ p. slice_index c.deref-4.result.now (slice_index c.in_ok-numbered.numbered.firsts.items p))) ∙ ap length (c.in_ok-numbered.ensures.numbers ∙ c.deref-4.ensures.value) in
     let same = length-classed c.args.first_block r inputs c.requires.executions sized table lasts made (class_by c.args.symmetric) c.classes_of.new.views cs c.in_ok-ids.ensures.classes in
     let few = few_lasts c.args.first_block r inputs c.requires.executions sized table lasts made in
     let pointed : length c.in_ok-places.places.items ≡ length c.in_ok-numbered.numbered.places.items = ap length marked ∙ length-marked c.args.first_block r inputs c.requires.executions sized table lasts made ∙ sym same ∙ sym many in
@@ -105,14 +105,14 @@ returns c = λ t task given named least.
     let r = c.args.rounds in
     let inputs = c.args.inputs.now in
     let first : c.in_ok-numbered.numbered.firsts.items ≡ first_places c.in_ok-ids.ids.ids.items (length c.in_ok-ids.ids.ids.items) =
-    c.in_ok-numbered.ensures.firsts ∙ (λ i. first_places (c.deref-3.ensures.value i) (length (c.deref-3.ensures.value i))) in
+    c.in_ok-numbered.ensures.firsts ∙ (λ i. first_places (c.deref-4.ensures.value i) (length (c.deref-4.ensures.value i))) in
     let found : map (λ p. slice_index c.in_ok-ids.ids.ids.items (slice_index c.in_ok-numbered.numbered.firsts.items p)) c.in_ok-numbered.numbered.places.items ≡ c.in_ok-ids.ids.ids.items =
-    sym (λ i. map (λ p. slice_index (c.deref-3.ensures.value i) (slice_index c.in_ok-numbered.numbered.firsts.items p)) c.in_ok-numbered.numbered.places.items) ∙ c.in_ok-numbered.ensures.numbers ∙ c.deref-3.ensures.value in
+    sym (λ i. map (λ p. slice_index (c.deref-4.ensures.value i) (slice_index c.in_ok-numbered.numbered.firsts.items p)) c.in_ok-numbered.numbered.places.items) ∙ c.in_ok-numbered.ensures.numbers ∙ c.deref-4.ensures.value in
     is_protocol t task r inputs given c.args.symmetric named c.args.first_block least
     c.last_views.new.views c.in_ok-lasts.lasts.items c.in_ok-lasts.ensures.made
     c.in_ok-executions.executions.items c.in_ok-executions.ensures c.in_ok-places.places.items
-    (c.in_ok-places.ensures ∙ (λ i. flat_map (places_on c.last_views.new.views (c.deref.ensures.value i)) (enumerate_from 0 (c.deref-2.ensures.value i))))
+    (c.in_ok-places.ensures ∙ (λ i. flat_map (places_on c.last_views.new.views (c.deref-2.ensures.value i)) (enumerate_from 0 (c.deref-3.ensures.value i))))
     c.classes_of.new.views c.len.ensures.once c.in_ok-ids.ids.ids.items c.in_ok-ids.ensures.within c.in_ok-ids.ensures.classes
     c.in_ok-ids.ids.view_count c.in_ok-ids.ensures.count
     c.in_ok-numbered.numbered.firsts.items c.in_ok-numbered.numbered.places.items first c.in_ok-numbered.ensures.places found
-    c.in_ok-classes.classes.items (c.in_ok-classes.ensures ∙ (λ i. map (λ j. slice_index (c.deref-4.ensures.value i) j) (c.deref-5.ensures.value i)))
+    c.in_ok-classes.classes.items (c.in_ok-classes.ensures ∙ (λ i. map (λ j. slice_index (c.deref-5.ensures.value i) j) (c.deref-6.ensures.value i)))
