@@ -12,7 +12,7 @@ use Rattle.std.proofs.lemmas.List.{take-append-drop}
 use Rattle.std.proofs.lemmas.List.Folds.{list_any-append, list_any_at, list_any_more}
 use Rattle.wf_rup.specs.Propagation.{Implies}
 use Rattle.wf_clauses.specs.Formula.{Assignment}
-use Rattle.wf_rup.specs.Codes.{holds_code, hold_codes, is_model_of_codes, satisfies_codes}
+use Rattle.wf_drat.specs.Codes.{holds_code, hold_codes, is_model_of_codes, satisfies_codes}
 
 flipped : (a : Assignment) (r q : ℕ) → r < 2 → (if bit_xor r 1 == 0 then a q else not (a q)) ≡ not (if r == 0 then a q else not (a q))
 flipped a zero q h = refl

@@ -8,7 +8,7 @@ use Rattle.std.proofs.lemmas.List.Elements.{All-contains}
 use Rattle.std.proofs.lemmas.List.Folds.{list_any_at}
 use Rattle.std.proofs.lemmas.Grind.{take_at_read}
 use Rattle.wf_clauses.specs.Formula.{Clause, Literal}
-use Rattle.wf_rup.specs.Codes.{code_of, code_of-literal_of, literal_of}
+use Rattle.wf_drat.specs.Codes.{code_of, code_of-literal_of, literal_of}
 use Rattle.wf_rup.specs.Deleted.{AreAlike, Deletes, DeletesStored, HasAlike, HasAlikeStored, HaveSameLiterals, IsStoredWithout, IsWithout, IsAmong, IsSeenOf}
 use Rattle.wf_rup.specs.Index.{IsAlikeAt, IsKeptAt, IsTaken}
 use Rattle.wf_rup.specs.Propagation.{with_literal}
@@ -145,8 +145,8 @@ alike-images codes deleted clause e alike =
     subst (λ c. HaveSameLiterals c (map literal_of deleted)) (ap (map literal_of) e ∙ back-again clause)
     (among-images codes deleted alike.0, among-images deleted codes alike.1)
 
-known-less : (old new : Stored) (clause : Clause) (codes : List ℕ) → codes ≡ map code_of clause → IsStoredWithout codes old new → IsWithout clause (known_of old) (known_of new)
-known-less old new clause codes e less =
+known-less : (v : ℕ) (old new : Stored) (clause : Clause) (codes : List ℕ) → codes ≡ map code_of clause → IsStoredWithout codes old new → IsWithout clause (known_of v old) (known_of v new)
+known-less v old new clause codes e less =
     let all : List (List ℕ) → List Clause = map (map literal_of) in
     record {
       front = all less.front;
@@ -157,15 +157,16 @@ known-less old new clause codes e less =
       after = ap all less.after ∙ map-append (map literal_of) less.front less.back;
       literals = ap (map literal_of) less.literals;
       is_refuted = less.is_refuted;
+      variables = refl;
     }
 
-known-either : (old new : Stored) (clause : Clause) (codes : List ℕ) → codes ≡ map code_of clause → DeletesStored codes old new → Deletes clause (known_of old) (known_of new)
-known-either old new clause codes e (inl same) = inl (ap known_of same)
-known-either old new clause codes e (inr less) = inr (known-less old new clause codes e less)
+known-either : (v : ℕ) (old new : Stored) (clause : Clause) (codes : List ℕ) → codes ≡ map code_of clause → DeletesStored codes old new → Deletes clause (known_of v old) (known_of v new)
+known-either v old new clause codes e (inl same) = inl (ap (known_of v) same)
+known-either v old new clause codes e (inr less) = inr (known-less v old new clause codes e less)
 
-pub deletes-known : (old new : Stored) (known : Known) (clause : Clause) (codes : List ℕ) → known_of old ≡ known → codes ≡ map code_of clause
-    → DeletesStored codes old new → Deletes clause known (known_of new)
-deletes-known old new known clause codes same e less = subst (λ k. Deletes clause k (known_of new)) same (known-either old new clause codes e less)
+pub deletes-known : (v : ℕ) (old new : Stored) (known : Known) (clause : Clause) (codes : List ℕ) → known_of v old ≡ known → codes ≡ map code_of clause
+    → DeletesStored codes old new → Deletes clause known (known_of v new)
+deletes-known v old new known clause codes same e less = subst (λ k. Deletes clause k (known_of v new)) same (known-either v old new clause codes e less)
 
 -- ---- the same of a clause that is known to be there
 
@@ -190,13 +191,13 @@ alike-codes codes other clause e same =
     subst (λ c. HaveSameLiterals c (map literal_of other)) (sym (ap (map literal_of) e ∙ back-again clause)) same in
     (among-codes codes other here.0, among-codes other codes here.1)
 
-pub stored-alike : (old : Stored) (known : Known) (clause : Clause) (codes : List ℕ) → known_of old ≡ known → codes ≡ map code_of clause
+pub stored-alike : (v : ℕ) (old : Stored) (known : Known) (clause : Clause) (codes : List ℕ) → known_of v old ≡ known → codes ≡ map code_of clause
     → HasAlike clause known → HasAlikeStored codes old
-stored-alike old known clause codes same e has =
+stored-alike v old known clause codes same e has =
     let there : Contains (map (map literal_of) old.clauses) has.other = subst (λ (k : Known). Contains k.clauses has.other) (sym same) has.known_is in
     let one = Contains-of_image (map literal_of) old.clauses has.other there in
     record { other = one.0; stored_is = one.1; same = alike-codes codes one.0 clause e (subst (HaveSameLiterals clause) (sym one.2) has.same) }
 
-pub without-known : (old new : Stored) (known : Known) (clause : Clause) (codes : List ℕ) → known_of old ≡ known → codes ≡ map code_of clause
-    → IsStoredWithout codes old new → IsWithout clause known (known_of new)
-without-known old new known clause codes same e less = subst (λ k. IsWithout clause k (known_of new)) same (known-less old new clause codes e less)
+pub without-known : (v : ℕ) (old new : Stored) (known : Known) (clause : Clause) (codes : List ℕ) → known_of v old ≡ known → codes ≡ map code_of clause
+    → IsStoredWithout codes old new → IsWithout clause known (known_of v new)
+without-known v old new known clause codes same e less = subst (λ k. IsWithout clause k (known_of v new)) same (known-less v old new clause codes e less)

@@ -6,7 +6,7 @@ use Rattle.std.proofs.lemmas.List.Elements.{All-push}
 use Rattle.std.proofs.lemmas.Grind.{common_steps, take_at_read}
 use Rattle.std.proofs.lemmas.List.Folds.{list_all-append}
 use Rattle.wf_clauses.specs.Formula.{Assignment}
-use Rattle.wf_rup.specs.Codes.{is_model_of_codes, satisfies_codes}
+use Rattle.wf_drat.specs.Codes.{is_model_of_codes, satisfies_codes}
 use Rattle.wf_rup.specs.Propagation.{AddsClause}
 use Rattle.wf_rup.specs.Stored.{kept_of}
 use Rattle.wf_rup.proofs.CodeLemmas.{satisfies_codes-at}

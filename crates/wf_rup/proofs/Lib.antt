@@ -10,4 +10,4 @@ pub mod StoredLemmas
 pub mod IndexLemmas
 pub mod HashLemmas
 pub mod CatalogueLemmas
-pub mod FaultLemmas
+pub mod FedLemmas

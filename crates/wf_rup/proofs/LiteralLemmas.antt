@@ -6,7 +6,7 @@ use Rattle.std.proofs.lemmas.List.Sums.{AllPass-from_list_all, list_all-from_All
 use Rattle.std.proofs.lemmas.List.Folds.{list_all-map, list_all_more}
 use Rattle.std.proofs.lemmas.Bool.{false≢true}
 use Rattle.wf_clauses.specs.Formula.{Assignment, Literal, SatisfiesAll, holds, neg, pos, satisfies}
-use Rattle.wf_rup.specs.Codes.{code_of, hold_codes, holds_code, is_model_of_codes, literal_of, satisfies_codes}
+use Rattle.wf_drat.specs.Codes.{code_of, hold_codes, holds_code, is_model_of_codes, literal_of, satisfies_codes}
 use Rattle.wf_rup.specs.Stored.{IsModelOfStored, KeepsStoredModels, KeepsStoredModelsOf, Stored, StoredEntails}
 use Rattle.wf_rup.specs.Seen.{Entails, IsModelOf, KeepsModels, KeepsModelsOf, Known, known_of}
 use Rattle.wf_rup.specs.Whole.{clauses_of}
@@ -51,16 +51,16 @@ satisfies_all-literals a [] = refl
 satisfies_all-literals a (c ∷ cs) = rw (satisfies-literals a c, satisfies_all-literals a cs) refl
 
 -- a model of what is stored is one of what is known by it
-pub model_of_known : (a : Assignment) (s : Stored) → IsModelOfStored a s → IsModelOf a (known_of s)
-model_of_known a s model = record {
+pub model_of_known : (v : ℕ) (a : Assignment) (s : Stored) → IsModelOfStored a s → IsModelOf a (known_of v s)
+model_of_known v a s model = record {
   literals = AllPass-from_list_all (holds a) _ (hold-literals a s.literals ∙ model.literals);
   clauses = AllPass-from_list_all (satisfies a) _ (satisfies_all-literals a s.clauses ∙ model.clauses);
   unrefuted = model.unrefuted;
 }
 
 -- a model of what is known is one of what is stored
-pub model_of_stored : (a : Assignment) (s : Stored) → IsModelOf a (known_of s) → IsModelOfStored a s
-model_of_stored a s model = record {
+pub model_of_stored : (v : ℕ) (a : Assignment) (s : Stored) → IsModelOf a (known_of v s) → IsModelOfStored a s
+model_of_stored v a s model = record {
   literals = sym (hold-literals a s.literals) ∙ list_all-from_AllPass (holds a) _ model.literals;
   clauses = sym (satisfies_all-literals a s.clauses) ∙ list_all-from_AllPass (satisfies a) _ model.clauses;
   unrefuted = model.unrefuted;
@@ -83,19 +83,19 @@ satisfies_all-more {A} a vs i v within e model =
 
 -- ---- what is kept of what is stored is kept of what is known
 
-pub keeps-models : (old new : Stored) (known : Known) → known_of old ≡ known → KeepsStoredModels old new → KeepsModels known (known_of new)
-keeps-models old new known e kept = λ a model.
-    model_of_known a new (kept a (model_of_stored a old (subst (IsModelOf a) (sym e) model)))
+pub keeps-models : (v : ℕ) (old new : Stored) (known : Known) → known_of v old ≡ known → KeepsStoredModels old new → KeepsModels known (known_of v new)
+keeps-models v old new known e kept = λ a model.
+    model_of_known v a new (kept a (model_of_stored v a old (subst (IsModelOf a) (sym e) model)))
 
 -- the clause is the one of these codes
-pub keeps-models_of : (old new : Stored) (known : Known) (clause : List Literal) (codes : List ℕ) → known_of old ≡ known → codes ≡ map code_of clause
-    → KeepsStoredModelsOf codes old new → KeepsModelsOf clause known (known_of new)
-keeps-models_of old new known clause codes e same kept = λ a model satisfied.
-    model_of_known a new (kept a (model_of_stored a old (subst (IsModelOf a) (sym e) model))
+pub keeps-models_of : (v : ℕ) (old new : Stored) (known : Known) (clause : List Literal) (codes : List ℕ) → known_of v old ≡ known → codes ≡ map code_of clause
+    → KeepsStoredModelsOf codes old new → KeepsModelsOf clause known (known_of v new)
+keeps-models_of v old new known clause codes e same kept = λ a model satisfied.
+    model_of_known v a new (kept a (model_of_stored v a old (subst (IsModelOf a) (sym e) model))
     (ap (satisfies_codes a) same ∙ satisfies-codes a clause ∙ satisfied))
 
-pub entails-clause : (s : Stored) (known : Known) (clause : List Literal) (codes : List ℕ) → known_of s ≡ known → codes ≡ map code_of clause
+pub entails-clause : (v : ℕ) (s : Stored) (known : Known) (clause : List Literal) (codes : List ℕ) → known_of v s ≡ known → codes ≡ map code_of clause
     → StoredEntails s codes → Entails known clause
-entails-clause s known clause codes e same entailed = λ a model.
+entails-clause v s known clause codes e same entailed = λ a model.
     sym (ap (satisfies_codes a) same ∙ satisfies-codes a clause)
-    ∙ entailed a (model_of_stored a s (subst (IsModelOf a) (sym e) model))
+    ∙ entailed a (model_of_stored v a s (subst (IsModelOf a) (sym e) model))

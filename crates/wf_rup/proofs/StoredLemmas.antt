@@ -6,7 +6,7 @@ use Rattle.std.proofs.lemmas.Bool.{cases_Bool, false≢true}
 use Rattle.std.proofs.lemmas.List.Elements.{All-contains, All-take, Contains-push}
 use Rattle.std.proofs.lemmas.List.Folds.{list_any_at}
 use Rattle.wf_clauses.specs.Formula.{Assignment, Clause, Literal, holds, satisfies}
-use Rattle.wf_rup.specs.Codes.{code_of, literal_of}
+use Rattle.wf_drat.specs.Codes.{code_of, literal_of}
 use Rattle.wf_rup.specs.Kept.{IsKept, IsStored, KnowsStill, StoresStill}
 use Rattle.wf_rup.specs.Propagation.{with_literal}
 use Rattle.wf_rup.specs.Seen.{IsModelOf, Known, known_of}
@@ -51,20 +51,20 @@ front-map {A} {B} f (x ∷ xs) (y ∷ ys) h =
     let rest : take (length xs) ys ≡ xs = cc in
     ap (λ z. f z ∷ take (length (map f xs)) (map f ys)) first ∙ ap (λ zs. f x ∷ zs) (front-map f xs ys rest)
 
-pub knows-still : (old new : Stored) (known : Known) → known_of old ≡ known → StoresStill old new → KnowsStill known (known_of new)
-knows-still old new known is h =
-    subst (λ k. KnowsStill k (known_of new)) is
-    (record { literals = front-map literal_of old.literals new.literals h.literals; clauses = front-map (map literal_of) old.clauses new.clauses h.clauses; refuted = h.refuted })
+pub knows-still : (v : ℕ) (old new : Stored) (known : Known) → known_of v old ≡ known → StoresStill old new → KnowsStill known (known_of v new)
+knows-still v old new known is h =
+    subst (λ k. KnowsStill k (known_of v new)) is
+    (record { variables = refl; literals = front-map literal_of old.literals new.literals h.literals; clauses = front-map (map literal_of) old.clauses new.clauses h.clauses; refuted = h.refuted })
 
-kept-codes : (new : Stored) (clause : Clause) (codes : List ℕ) → map literal_of codes ≡ clause → IsStored codes new → IsKept clause (known_of new)
-kept-codes new clause codes is (inl refuted) = inl refuted
-kept-codes new clause codes is (inr (inl there)) =
-    inr (inl (subst (Contains (known_of new).clauses) is (Contains-map (map literal_of) new.clauses codes there)))
-kept-codes new clause codes is (inr (inr (l, inside, holds))) =
+kept-codes : (v : ℕ) (new : Stored) (clause : Clause) (codes : List ℕ) → map literal_of codes ≡ clause → IsStored codes new → IsKept clause (known_of v new)
+kept-codes v new clause codes is (inl refuted) = inl refuted
+kept-codes v new clause codes is (inr (inl there)) =
+    inr (inl (subst (Contains (known_of v new).clauses) is (Contains-map (map literal_of) new.clauses codes there)))
+kept-codes v new clause codes is (inr (inr (l, inside, holds))) =
     inr (inr (literal_of l, subst (λ c. Contains c (literal_of l)) is (Contains-image literal_of codes l inside), Contains-image literal_of new.literals l holds))
 
-pub is-kept : (new : Stored) (clause : Clause) (codes : List ℕ) → codes ≡ map code_of clause → IsStored codes new → IsKept clause (known_of new)
-is-kept new clause codes is stored = kept-codes new clause codes (ap (map literal_of) is ∙ back-again clause) stored
+pub is-kept : (v : ℕ) (new : Stored) (clause : Clause) (codes : List ℕ) → codes ≡ map code_of clause → IsStored codes new → IsKept clause (known_of v new)
+is-kept v new clause codes is stored = kept-codes v new clause codes (ap (map literal_of) is ∙ back-again clause) stored
 
 -- ---- the models of what is known
 

@@ -8,7 +8,7 @@ use Rattle.std.proofs.lemmas.Bool.{cases_Bool, cases_eq, false≢true}
 use Rattle.std.proofs.lemmas.Grind.{common_steps}
 use Rattle.std.proofs.lemmas.List.Elements.{All-contains, Contains-append_cases}
 use Rattle.wf_clauses.specs.Formula.{Clause, Literal, negation, pos, neg}
-use Rattle.wf_rup.specs.Codes.{code_of, code_of-literal_of, literal_of}
+use Rattle.wf_drat.specs.Codes.{code_of, code_of-literal_of, literal_of}
 use Rattle.wf_rup.specs.Propagation.{opposite}
 use Rattle.wf_rup.specs.Seen.{Known, known_of}
 use Rattle.wf_rup.specs.Settled.{IsConsistent, IsSettled, Refuses}
@@ -153,7 +153,7 @@ Contains-coded clause m here = Contains-map code_of clause m here
 
 -- what is assumed is there
 assumed-there : (s : Stored) (clause : Clause) (codes : List ℕ) (r : Refuses s codes) → codes ≡ map code_of clause → (l : Literal)
-    → Contains ((known_of s).literals ++ map negation clause) l → has r.trail (code_of l) ≡ true
+    → Contains ((known_of 0 s).literals ++ map negation clause) l → has r.trail (code_of l) ≡ true
 assumed-there s clause codes r e l here = elim (Contains-append_cases (map literal_of s.literals) (map negation clause) l here) [
   | inl known ↦
       let one : (x : ℕ) × Contains s.literals x × (literal_of x ≡ l) = Contains-of_image literal_of s.literals l known in
@@ -165,7 +165,7 @@ assumed-there s clause codes r e l here = elim (Contains-append_cases (map liter
       ∙ All-contains (λ x. has r.trail (opposite x) ≡ true) (map code_of clause) (code_of one.0) coded (Contains-coded clause one.0 one.1)
 ]
 
-settled-clause : (s : Stored) (codes : List ℕ) (r : Refuses s codes) (clause : Clause) → Contains (known_of s).clauses clause
+settled-clause : (s : Stored) (codes : List ℕ) (r : Refuses s codes) (clause : Clause) → Contains (known_of 0 s).clauses clause
     → (c : List ℕ) × (clause_of c ≡ clause) × IsSettled r.trail c
 settled-clause s codes r clause here =
     let one : (c : List ℕ) × Contains s.clauses c × (clause_of c ≡ clause) = Contains-of_image clause_of s.clauses clause here in
@@ -173,7 +173,7 @@ settled-clause s codes r clause here =
 
 -- and so is all that is forced
 pub forced-there : (s : Stored) (clause : Clause) (codes : List ℕ) (r : Refuses s codes) → codes ≡ map code_of clause → (l : Literal)
-    → IsForcedBy (known_of s).clauses ((known_of s).literals ++ map negation clause) l → has r.trail (code_of l) ≡ true
+    → IsForcedBy (known_of 0 s).clauses ((known_of 0 s).literals ++ map negation clause) l → has r.trail (code_of l) ≡ true
 forced-there s clause codes r e l (given l2 here) = assumed-there s clause codes r e l2 here
 forced-there s clause codes r e l (last c l2 here inside others) =
     let one = settled-clause s codes r c here in
@@ -181,7 +181,7 @@ forced-there s clause codes r e l (last c l2 here inside others) =
     (λ m within other. forced-there s clause codes r e (negation m) (others m (subst (λ d. Contains d m) one.1 within) other))
 
 no-conflict : (s : Stored) (clause : Clause) (codes : List ℕ) (r : Refuses s codes) → codes ≡ map code_of clause
-    → HasConflict (known_of s).clauses ((known_of s).literals ++ map negation clause) → ⊥
+    → HasConflict (known_of 0 s).clauses ((known_of 0 s).literals ++ map negation clause) → ⊥
 no-conflict s clause codes r e (inl (c, here, each)) =
     let one = settled-clause s codes r c here in
     not-false r.trail one.0 r.stops.stops.consistent one.2
@@ -190,9 +190,9 @@ no-conflict s clause codes r e (inr (l, one, other)) =
     never-both r.trail (code_of l) r.stops.stops.consistent (forced-there s clause codes r e l one)
     (ap (has r.trail) (sym (code_of-negation l)) ∙ forced-there s clause codes r e (negation l) other)
 
-pub does-not-follow : (s : Stored) (known : Known) (clause : Clause) (codes : List ℕ) → known_of s ≡ known → codes ≡ map code_of clause
+pub does-not-follow : (v : ℕ) (s : Stored) (known : Known) (clause : Clause) (codes : List ℕ) → known_of v s ≡ known → codes ≡ map code_of clause
     → Refuses s codes → DoesNotFollow known clause
-does-not-follow s known clause codes same e r = subst (λ k. DoesNotFollow k clause) same
+does-not-follow v s known clause codes same e r = subst (λ k. DoesNotFollow k clause) same
     (λ follows. elim follows [
       | inl refuted ↦ false≢true (sym r.unrefuted ∙ refuted)
       | inr conflict ↦ no-conflict s clause codes r e conflict

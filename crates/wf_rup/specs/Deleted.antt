@@ -24,6 +24,7 @@ pub record IsWithout (clause : Clause) (old new : Known) : Type 0 where
   pub after : new.clauses ≡ front ++ back
   pub literals : new.literals ≡ old.literals
   pub is_refuted : new.is_refuted ≡ old.is_refuted
+  pub variables : new.variables ≡ old.variables
 
 -- nothing changes, or one clause with these literals is no longer known
 abbrev pub Deletes : Clause → Known → Known → Type 0

@@ -11,6 +11,7 @@ IsKept clause known =
 
 -- nothing that was known is lost
 pub record KnowsStill (old new : Known) : Type 0 where
+  pub variables : new.variables ≡ old.variables
   pub literals : take (length old.literals) new.literals ≡ old.literals
   pub clauses : take (length old.clauses) new.clauses ≡ old.clauses
   pub refuted : old.is_refuted ≡ true → new.is_refuted ≡ true

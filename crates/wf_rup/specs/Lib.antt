@@ -1,5 +1,7 @@
 -- What contracts say, here and in the crates above.
-pub mod Codes
+pub use Rattle.wf_drat.specs.Codes
+pub use Rattle.wf_drat.specs.Text
+pub use Rattle.wf_drat.specs.Moves
 pub mod Stored
 pub mod Propagation
 pub mod Settled
@@ -7,6 +9,6 @@ pub mod Seen
 pub mod Unit
 pub mod Deleted
 pub mod Index
-pub mod Refused
+pub mod Fed
 pub mod Kept
 pub mod Whole

@@ -3,7 +3,7 @@ use Rattle.std.specs.Prelude.{◌≡◌, ℕ, Bool, true, false, not, List, [], 
 use Rattle.std.specs.List.{list_any}
 use Rattle.wf_rup.specs.Stored.{has}
 use Rattle.wf_clauses.specs.Formula.{Assignment}
-use Rattle.wf_rup.specs.Codes.{hold_codes, holds_code, is_model_of_codes, satisfies_codes}
+use Rattle.wf_drat.specs.Codes.{hold_codes, holds_code, is_model_of_codes, satisfies_codes}
 use Rattle.wf_rup.specs.declared.propagation.Outcome.{Outcome}
 use Rattle.wf_rup.specs.declared.propagation.Outcome.TheVariants.{Gone, Stays, Forces, Fails}
 

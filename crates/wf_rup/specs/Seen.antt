@@ -1,18 +1,20 @@
 -- What clauses see of a checker, and which assignments it keeps.
-use Rattle.std.specs.Prelude.{◌≡◌, Bool, true, false, List, All, map}
+use Rattle.std.specs.Prelude.{◌≡◌, ℕ, Bool, true, false, List, All, map}
 use Rattle.wf_clauses.specs.Formula.{Assignment, Clause, Literal, SatisfiesAll, holds, satisfies}
-use Rattle.wf_rup.specs.Codes.{literal_of}
+use Rattle.wf_drat.specs.Codes.{literal_of}
 use Rattle.wf_rup.specs.Stored.{Stored}
 
--- what a checker knows: literals, clauses, and whether they were refuted
+-- what a checker knows: the largest number of a variable, literals, clauses, and whether they were refuted
 pub record Known : Type 0 where
+  pub variables : ℕ
   pub literals : List Literal
   pub clauses : List Clause
   pub is_refuted : Bool
 
 -- what is known where these codes are stored
-abbrev pub known_of : Stored → Known
-known_of s = record {
+abbrev pub known_of : ℕ → Stored → Known
+known_of variables s = record {
+  variables = variables;
   literals = map literal_of s.literals;
   clauses = map (λ clause. map literal_of clause) s.clauses;
   is_refuted = s.is_refuted;

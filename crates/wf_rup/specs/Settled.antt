@@ -1,7 +1,7 @@
 -- Where unit propagation stops.
 use Rattle.std.specs.Prelude.{◌≡◌, ◌==◌, ◌⊎◌, ℕ, true, false, List, All, Contains}
 use Rattle.wf_clauses.specs.Formula.{Assignment}
-use Rattle.wf_rup.specs.Codes.{hold_codes}
+use Rattle.wf_drat.specs.Codes.{hold_codes}
 use Rattle.wf_rup.specs.Propagation.{IsOpen, LeavesAlone, MakesEachFalse, is_satisfied_by, opposite}
 use Rattle.wf_rup.specs.Stored.{Stored, has}
 use Rattle.wf_rup.specs.declared.settled.Standing.{Standing}

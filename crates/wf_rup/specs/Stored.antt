@@ -2,7 +2,7 @@
 use Rattle.std.specs.Prelude.{◌≡◌, ℕ, ◌+◌, ◌<◌, ◌≤◌, ◌==◌, Bool, true, false, List, [], ◌∷◌, All, get_or, length, map, take}
 use Rattle.std.specs.List.{AllPairs, list_any, slice_range}
 use Rattle.wf_clauses.specs.Formula.{Assignment}
-use Rattle.wf_rup.specs.Codes.{hold_codes, holds_code, is_model_of_codes, satisfies_codes}
+use Rattle.wf_drat.specs.Codes.{hold_codes, holds_code, is_model_of_codes, satisfies_codes}
 use Rattle.wf_rup.specs.declared.clauses.Span.{Span}
 
 -- what is stored: the literals that are true, the clauses, and whether they were refuted

@@ -4,9 +4,9 @@ ghost use Rattle.std.specs.Prelude.{◌↔◌, IfOk, IsTrue};
 ghost use Rattle.wf_rup.specs.Deleted.{AreAlike, IsAmong, IsSeenOf};
 ghost use Rattle.wf_rup.specs.Stored.{IsDistinct};
 
-use crate::literal::Code;
 use crate::trail::Trail;
 use std::alloc::AllocError;
+use wf_drat::Code;
 
 /// Whether two clauses have the same literals. What was seen before is written over.
 pub(crate) fn are_alike(

@@ -7,10 +7,10 @@ use crate::alike::are_alike;
 use crate::clauses::Clauses;
 use crate::hash::hash_of;
 use crate::index::{Entry, Index};
-use crate::literal::Code;
 use crate::trail::Trail;
 use std::alloc::{AllocError, Global};
 use std::marker::Model;
+use wf_drat::Code;
 
 /// Where a clause was found: the place of its entry in the bucket, and its number.
 #[derive(Clone, Copy)]

@@ -1,16 +1,16 @@
 //! The checker.
 
 ghost use Rattle.std.specs.Prelude.{◌≡◌, false, IfOk, IsTrue, map};
-ghost use Rattle.wf_rup.specs.Codes.{code_of};
+ghost use Rattle.wf_drat.specs.Codes.{code_of};
 ghost use Rattle.wf_rup.specs.Deleted.{Deletes, HasAlike, IsWithout};
 ghost use Rattle.wf_rup.specs.Kept.{IsKept, KnowsStill};
 ghost use Rattle.wf_rup.specs.Seen.{Entails, HasNoModel, KeepsModels, KeepsModelsOf, KnowsNothing};
 ghost use Rattle.wf_rup.specs.Unit.{DoesNotFollow};
 
 use crate::database::Database;
-use crate::literal::{Code, Literal};
 use std::alloc::{AllocError, Global};
 use std::marker::Model;
+use wf_drat::{Code, Literal};
 
 /// Clauses that are kept, and the literals that they force by unit propagation.
 ///
@@ -29,14 +29,15 @@ impl Model for Checker {
 
     ghost Value = { Known };
 
-    ghost view = { λ c. known_of c.database };
+    ghost view = { λ c. known_of c.variables c.database };
 }
 
 impl Checker {
     /// A checker that knows nothing, over the variables from 1 to this number. A larger variable is taken too where it
     /// comes, at the cost of memory for all those before it.
     pub fn new(alloc: Global, variables: u32) -> Result<Checker, AllocError>
-        ensures { IfOk result KnowsNothing }
+        ensures nothing { IfOk result KnowsNothing }
+        ensures variables { IfOk result (λ checker. checker.variables ≡ variables) }
     {
         Ok(Checker {
             variables,
@@ -46,14 +47,17 @@ impl Checker {
     }
 
     /// The largest number of a variable.
-    pub fn variables(&self) -> u32 {
+    pub fn variables(&self) -> u32
+        ensures { result ≡ self.now.variables }
+    {
         self.variables
     }
 
     /// Whether the empty clause was derived, or propagation found a conflict with no assumption: then what was added
     /// has no model.
     pub fn is_refuted(&self) -> bool
-        ensures { IsTrue result → HasNoModel self.now }
+        ensures sound { IsTrue result → HasNoModel self.now }
+        ensures exact { result ≡ self.now.is_refuted }
     {
         self.database.is_refuted()
     }

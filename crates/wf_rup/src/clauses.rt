@@ -2,9 +2,9 @@
 
 ghost use Rattle.std.specs.Prelude.{◌≡◌, ◌<◌, ◌∷◌, ◌++◌, [], get_or, length, set, is_ok, if◌then◌else◌};
 
-use crate::literal::Code;
 use std::alloc::{AllocError, Global};
 use std::marker::Model;
+use wf_drat::Code;
 
 /// Where a clause's literals lie. The two that are watched stand right before them. Of a clause that is no longer kept
 /// there are none.

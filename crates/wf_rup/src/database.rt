@@ -8,7 +8,6 @@ ghost use Rattle.wf_rup.specs.Stored.{HasNoStoredModel, KeepsStoredModels, Keeps
 ghost use Rattle.wf_rup.specs.Settled.{Refuses, StopsBefore};
 
 use crate::catalogue::Catalogue;
-use crate::literal::Code;
 use crate::propagation::propagate;
 use crate::scan::{open_literal, other_open_literal};
 use crate::settled::settle;
@@ -16,6 +15,7 @@ use crate::trail::{Trail, negated};
 use crate::watches::{Watch, Watches};
 use std::alloc::{AllocError, Global};
 use std::marker::Model;
+use wf_drat::Code;
 
 // so many clauses that are no longer kept are borne with
 const FEW: usize = 4096;
@@ -63,7 +63,8 @@ impl Database {
     /// Whether the empty clause was derived, or propagation found a conflict with no assumption: then what was added
     /// has no model.
     pub(crate) fn is_refuted(&self) -> bool
-        ensures { IsTrue result → HasNoStoredModel self.now }
+        ensures sound { IsTrue result → HasNoStoredModel self.now }
+        ensures exact { result ≡ self.now.is_refuted }
     {
         self.is_refuted
     }

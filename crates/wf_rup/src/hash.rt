@@ -4,9 +4,9 @@ ghost use Rattle.std.specs.Prelude.{◌≡◌, IfOk};
 ghost use Rattle.wf_rup.specs.Index.{IsHashOf, hash_of_each, mixed};
 
 use crate::alike::see;
-use crate::literal::Code;
 use crate::trail::Trail;
 use std::alloc::AllocError;
+use wf_drat::Code;
 
 /// A hash of the clause's literals, whatever their order is and how often each stands there. What was seen before is
 /// written over.

@@ -5,7 +5,8 @@
 //! proof's bytes are. [`check_proof`] says the same of a formula and a proof that are there as a whole.
 //!
 //! - [`Checker`]: takes the clauses one by one, and the steps of a proof.
-//! - [`Proof`]: reads a proof's text in pieces, and gives a checker each step.
+//! - [`Proof`]: reads a proof's text in pieces, and gives a checker each step. What becomes of the steps that the text has
+//!   by its definition, and which fault is of which bytes, is exact (`specs/Fed`).
 #![tactic(auto)]
 
 mod alike;
@@ -15,7 +16,6 @@ mod clauses;
 mod database;
 mod hash;
 mod index;
-mod literal;
 mod proof;
 mod propagation;
 mod scan;
@@ -25,6 +25,6 @@ mod watches;
 mod whole;
 
 pub use checker::Checker;
-pub use literal::{Literal, MOST_VARIABLES};
 pub use proof::{Proof, ProofFault};
+pub use wf_drat::{Literal, MOST_VARIABLES};
 pub use whole::check_proof;

@@ -5,11 +5,11 @@ ghost use Rattle.wf_rup.specs.Propagation.{Conflicts, Extends, IsSound};
 ghost use Rattle.wf_rup.specs.Stored.{kept_of};
 
 use crate::catalogue::Catalogue;
-use crate::literal::Code;
 use crate::scan::other_open_literal;
 use crate::trail::{Trail, negated};
 use crate::watches::{Watch, Watches};
 use std::alloc::{AllocError, Global};
+use wf_drat::Code;
 
 /// What became of a clause that watches a literal which is false.
 enum Outcome {

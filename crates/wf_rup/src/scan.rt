@@ -3,8 +3,8 @@
 ghost use Rattle.std.specs.Prelude.{◌≡◌, ◌==◌, false, IfNone, IfSome};
 ghost use Rattle.wf_rup.specs.Propagation.{IsOpen, LeavesAlone, MakesEachFalse, is_satisfied_by};
 
-use crate::literal::Code;
 use crate::trail::Trail;
+use wf_drat::Code;
 
 /// Whether a literal of the clause is true.
 pub(crate) fn is_satisfied(clause: &[Code], trail: &Trail) -> bool

@@ -4,9 +4,9 @@ ghost use Rattle.std.specs.Prelude.{◌≡◌, [], length, take, is_ok, IfOk, Is
 ghost use Rattle.wf_rup.specs.Propagation.{AddsLiteral, IsNegationOf, MakesFalse, MakesTrue, opposite, with_literal};
 ghost use Rattle.wf_rup.specs.Stored.{has};
 
-use crate::literal::Code;
 use std::alloc::{AllocError, Global};
 use std::marker::Model;
+use wf_drat::Code;
 
 /// The literal with the other sign.
 #[inline]

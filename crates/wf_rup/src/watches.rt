@@ -3,9 +3,9 @@
 //! No proof rests on what these lists hold: whatever stands in them is looked up before it is used, and before a lemma is
 //! refused each clause is looked at.
 
-use crate::literal::Code;
 use std::alloc::{AllocError, Global};
 use std::mem;
+use wf_drat::Code;
 
 /// A clause that watches a literal, and another literal of the clause. Where that one is true the clause need not be
 /// looked at.

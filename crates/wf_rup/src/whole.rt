@@ -5,9 +5,9 @@ ghost use Rattle.wf_clauses.specs.Formula.{IsUnsatisfiable};
 ghost use Rattle.wf_rup.specs.Whole.{formula_of};
 
 use crate::checker::Checker;
-use crate::literal::Literal;
 use crate::proof::{Proof, ProofFault};
 use std::alloc::Global;
+use wf_drat::Literal;
 
 /// Checks a proof that these clauses, on the variables from 1 to this number, have no model.
 ///
@@ -24,7 +24,7 @@ pub fn check_proof(
     'clauses: for clause in clauses {
         checker.add(alloc, clause)?;
     }
-    let mut reading = Proof::new(alloc);
+    let mut reading = Proof::new(alloc, variables);
     reading.feed(alloc, &mut checker, proof)?;
     reading.finish(alloc, &mut checker)
 }

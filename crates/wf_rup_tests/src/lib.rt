@@ -9,3 +9,5 @@ mod checker_tests;
 mod clauses;
 #[cfg(test)]
 mod proof_tests;
+#[cfg(test)]
+mod reader_tests;

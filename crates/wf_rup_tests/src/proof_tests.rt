@@ -66,7 +66,7 @@ fn answer_by_bytes(
     for row in rows {
         checker.add(alloc, &clause(alloc, row)?)?;
     }
-    let mut reading = Proof::new(alloc);
+    let mut reading = Proof::new(alloc, 2);
     for byte in proof {
         match reading.feed(alloc, &mut checker, &[*byte]) {
             Ok(()) => {}
@@ -101,6 +101,26 @@ fn pieces_are_one_proof(rt: HostRuntime) -> Result<(), Fail> {
             proof
         );
     }
+    Ok(())
+}
+
+#[test]
+fn a_proof_has_its_own_variables(rt: HostRuntime) -> Result<(), Fail> {
+    let alloc = rt.alloc();
+    let mut checker = Checker::new(alloc, 2)?;
+    for row in FOUR {
+        checker.add(alloc, &clause(alloc, row)?)?;
+    }
+    let mut fewer = Proof::new(alloc, 1);
+    let beyond = fewer.feed(alloc, &mut checker, b"d 1 1 0\n\n-2 0\n");
+    assert_eq!(rt; beyond, Err(ProofFault::NoSuchVariable { line: 3 }));
+    let mut more = Proof::new(alloc, 4);
+    assert_eq!(rt; more.feed(alloc, &mut checker, b"1 2 -3 4"), Ok(()));
+    assert_eq!(rt; more.feed(alloc, &mut checker, b" 0\n1"), Ok(()));
+    assert_eq!(rt;
+        more.feed(alloc, &mut checker, b"0 0\n"),
+        Err(ProofFault::NoSuchVariable { line: 2 })
+    );
     Ok(())
 }
 

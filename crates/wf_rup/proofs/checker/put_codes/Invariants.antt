@@ -1,5 +1,5 @@
 use Rattle.std.proofs.Common.{◌≡◌, map, take}
-use Rattle.wf_rup.specs.Codes.{code_of}
+use Rattle.wf_drat.specs.Codes.{code_of}
 use Rattle.wf_rup.proofs.checker.put_codes.Given as goal
 
 abbrev pub invariant-literals : goal.invariant-literals

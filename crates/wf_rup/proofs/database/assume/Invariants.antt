@@ -1,6 +1,6 @@
 use Rattle.std.proofs.Common.{◌≡◌, true, false, length, take}
 use Rattle.wf_clauses.specs.Formula.{Assignment}
-use Rattle.wf_rup.specs.Codes.{hold_codes, satisfies_codes}
+use Rattle.wf_drat.specs.Codes.{hold_codes, satisfies_codes}
 use Rattle.wf_rup.specs.Settled.{IsFalseOn}
 use Rattle.wf_rup.proofs.database.assume.Given as goal
 

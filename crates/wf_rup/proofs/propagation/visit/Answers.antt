@@ -1,6 +1,6 @@
 use Rattle.std.proofs.Common.{◌≡◌, ◌<◌, ◌∙◌, sym, arith, length, true}
 use Rattle.std.proofs.lemmas.Bool.{false≢true}
-use Rattle.wf_rup.specs.Codes.{satisfies_codes}
+use Rattle.wf_drat.specs.Codes.{satisfies_codes}
 use Rattle.wf_rup.proofs.KeptLemmas.{satisfies_codes-kept}
 use Rattle.wf_rup.proofs.propagation.visit.Goals as goal
 

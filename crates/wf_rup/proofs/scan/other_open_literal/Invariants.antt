@@ -1,6 +1,6 @@
 use Rattle.std.proofs.Common.{◌≡◌, true, take}
 use Rattle.wf_clauses.specs.Formula.{Assignment}
-use Rattle.wf_rup.specs.Codes.{hold_codes, holds_code, satisfies_codes}
+use Rattle.wf_drat.specs.Codes.{hold_codes, holds_code, satisfies_codes}
 use Rattle.wf_rup.proofs.scan.other_open_literal.Given as goal
 
 abbrev pub invariant-loop-literal : goal.invariant-loop-literal

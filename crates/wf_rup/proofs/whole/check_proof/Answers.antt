@@ -18,3 +18,6 @@ returns c = IfOk-weaker c.finish.result _ _
     let all : take c.clauses.clause-index c.args.clauses.now ≡ c.args.clauses.now = take_all _ _ c.clauses-test.false in
     none a (c.feed.ensures.kept a (c.clauses.invariant a (subst (λ vs. SatisfiesAll a (clauses_of vs)) (sym all) model))))
     c.finish.ensures.accepted
+
+pub clauses-init : goal.clauses-init
+clauses-init c = λ a model. c.in_ok-checker.ensures.nothing a

@@ -5,12 +5,12 @@ use Rattle.wf_rup.proofs.StoredLemmas.{is-kept, knows-still}
 use Rattle.wf_rup.proofs.checker.Checker.add.Goals as goal
 
 pub returns-clause-sound : goal.returns-clause-sound
-returns-clause-sound c = keeps-models_of c.self.inside.database c.add.new.self c.args.self.now c.args.clause.now _ c.self.view_is
+returns-clause-sound c = keeps-models_of c.self.inside.variables c.self.inside.database c.add.new.self c.args.self.now c.args.clause.now _ c.self.view_is
     (c.deref.ensures.value ∙ c.in_ok-put_codes.ensures) c.add.ensures.sound
 
 pub returns-clause-kept : goal.returns-clause-kept
 returns-clause-kept c = IfOk-weaker c.add.result _ _
-    (λ done stored. is-kept c.add.new.self c.args.clause.now _ (c.deref.ensures.value ∙ c.in_ok-put_codes.ensures) stored) c.add.ensures.kept
+    (λ done stored. is-kept c.self.inside.variables c.add.new.self c.args.clause.now _ (c.deref.ensures.value ∙ c.in_ok-put_codes.ensures) stored) c.add.ensures.kept
 
 pub returns-clause-still : goal.returns-clause-still
-returns-clause-still c = IfOk-weaker c.add.result _ _ (λ done still. knows-still c.self.inside.database c.add.new.self c.args.self.now c.self.view_is still) c.add.ensures.still
+returns-clause-still c = IfOk-weaker c.add.result _ _ (λ done still. knows-still c.self.inside.variables c.self.inside.database c.add.new.self c.args.self.now c.self.view_is still) c.add.ensures.still

@@ -8,28 +8,28 @@ use Rattle.wf_rup.proofs.checker.Checker.derive.Goals as goal
 
 pub returns-clause-follows : goal.returns-clause-follows
 returns-clause-follows c = IfOk-weaker c.derive.result _ _
-    (λ follows entailed yes. entails-clause c.self.inside.database c.args.self.now c.args.lemma.now _ c.self.view_is
+    (λ follows entailed yes. entails-clause c.self.inside.variables c.self.inside.database c.args.self.now c.args.lemma.now _ c.self.view_is
     (c.deref.ensures.value ∙ c.in_ok-put_codes.ensures) (entailed yes))
     c.derive.ensures.follows
 
 pub returns-clause-refused : goal.returns-clause-refused
 returns-clause-refused c = IfOk-weaker c.derive.result _ _
-    (λ follows refuses no. does-not-follow c.self.inside.database c.args.self.now c.args.lemma.now _ c.self.view_is
+    (λ follows refuses no. does-not-follow c.self.inside.variables c.self.inside.database c.args.self.now c.args.lemma.now _ c.self.view_is
     (c.deref.ensures.value ∙ c.in_ok-put_codes.ensures) (refuses no))
     c.derive.ensures.refused
 
 pub returns-clause-unchanged : goal.returns-clause-unchanged
 returns-clause-unchanged c = IfOk-weaker c.derive.result _ _
-    (λ follows same no. ap known_of (same no) ∙ c.self.view_is)
+    (λ follows same no. ap (known_of c.self.inside.variables) (same no) ∙ c.self.view_is)
     c.derive.ensures.unchanged
 
 pub returns-clause-kept : goal.returns-clause-kept
-returns-clause-kept c = keeps-models c.self.inside.database c.derive.new.self c.args.self.now c.self.view_is c.derive.ensures.kept
+returns-clause-kept c = keeps-models c.self.inside.variables c.self.inside.database c.derive.new.self c.args.self.now c.self.view_is c.derive.ensures.kept
 
 pub returns-clause-added : goal.returns-clause-added
 returns-clause-added c = IfOk-weaker c.derive.result _ _
-    (λ follows stored yes. is-kept c.derive.new.self c.args.lemma.now _ (c.deref.ensures.value ∙ c.in_ok-put_codes.ensures) (stored yes))
+    (λ follows stored yes. is-kept c.self.inside.variables c.derive.new.self c.args.lemma.now _ (c.deref.ensures.value ∙ c.in_ok-put_codes.ensures) (stored yes))
     c.derive.ensures.stored
 
 pub returns-clause-still : goal.returns-clause-still
-returns-clause-still c = IfOk-weaker c.derive.result _ _ (λ follows still. knows-still c.self.inside.database c.derive.new.self c.args.self.now c.self.view_is still) c.derive.ensures.still
+returns-clause-still c = IfOk-weaker c.derive.result _ _ (λ follows still. knows-still c.self.inside.variables c.self.inside.database c.derive.new.self c.args.self.now c.self.view_is still) c.derive.ensures.still

@@ -1,5 +1,5 @@
 use Rattle.std.proofs.Common.{sym, subst, ap, ◌∙◌, inr}
-use Rattle.wf_rup.specs.Codes.{is_model_of_codes}
+use Rattle.wf_drat.specs.Codes.{is_model_of_codes}
 use Rattle.wf_rup.specs.Index.{IsTaken}
 use Rattle.wf_rup.specs.Stored.{IsModelOfStored, kept_of}
 use Rattle.wf_rup.proofs.DeletedLemmas.{deletes-taken, none-stored}

@@ -1,13 +1,13 @@
 //! Literals, and the numbers that stand for them.
 
-ghost use Rattle.std.specs.Prelude.{◌≡◌, ◌≤◌};
+ghost use Rattle.std.specs.Prelude.{◌≡◌, ◌≤◌, if◌then◌else◌};
 ghost use Rattle.wf_clauses.specs.Formula.{pos, neg};
-ghost use Rattle.wf_rup.specs.Codes.{code_of, most_variables};
+ghost use Rattle.wf_drat.specs.Codes.{code_of, most_variables};
 
 use std::marker::Model;
 
 /// The number of a literal: 2 * v for the variable v, and 2 * v + 1 for its negation.
-pub(crate) type Code = u32;
+pub type Code = u32;
 
 /// The largest number that a variable may have.
 pub const MOST_VARIABLES: u32 = 2_147_483_646;
@@ -20,7 +20,7 @@ pub struct Literal {
 
 impl Model for Literal {
     ghost use Rattle.wf_clauses.specs.Formula.{Literal};
-    ghost use Rattle.wf_rup.specs.Codes.{code_of, code_of-literal_of, literal_of};
+    ghost use Rattle.wf_drat.specs.Codes.{code_of, code_of-literal_of, literal_of};
     ghost use Rattle.std.proofs.Common.{ap};
 
     ghost Value = { Literal };
@@ -51,9 +51,20 @@ impl Literal {
         }
     }
 
+    /// The variable or its negation.
+    #[inline]
+    pub fn new(is_negative: bool, variable: u32) -> Literal
+        requires { variable ≤ most_variables }
+        ensures { result ≡ if is_negative then neg variable else pos variable }
+    {
+        Literal {
+            code: 2 * variable + u32::from(is_negative),
+        }
+    }
+
     /// The number that stands for the literal.
     #[inline]
-    pub(crate) fn code(self) -> Code
+    pub fn code(self) -> Code
         ensures { result ≡ code_of self }
     {
         self.code

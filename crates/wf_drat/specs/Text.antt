@@ -1,0 +1,155 @@
+-- Which steps the text of a clausal proof has: it is read byte by byte.
+use Rattle.std.specs.Prelude.{ℕ, ◌+◌, ◌-◌, ◌*◌, ◌^◌, ◌==◌, ◌&&◌, ◌||◌, nat_lt, min, Bool, true, false, not, List, [], ◌∷◌, ◌++◌, length, if◌then◌else◌}
+use Rattle.std.specs.Char.{is_ascii_digit}
+use Rattle.std.specs.Int.{is_in_range}
+use Rattle.wf_clauses.specs.Formula.{Clause, pos, neg}
+use Rattle.wf_drat.specs.Codes.{most_variables}
+use Rattle.wf_drat.specs.declared.reader.Flaw.{Flaw}
+use Rattle.wf_drat.specs.declared.reader.Flaw.TheVariants.{NotALiteral, NoSuchVariable, Binary}
+use Rattle.wf_drat.specs.declared.reader.Reading.{Reading}
+use Rattle.wf_drat.specs.declared.reader.Reading.TheVariants.{Blank, Comment, Minus, Number}
+use Rattle.wf_drat.specs.declared.reader.Turn.{Turn}
+use Rattle.wf_drat.specs.declared.reader.Turn.TheVariants.{GoesOn, BeginsDeletion, Takes, Ends, Stops}
+
+-- a step: a lemma, which ends in the line of this number, or a deletion
+pub data Step : Type 0 where
+  lemma : (line : ℕ) → Clause → Step
+  deletion : Clause → Step
+
+-- where a text is read: it is on the variables from 1 to this number; the next byte stands in the line of this
+-- number; what the bytes before it are; whether the step at hand is a deletion; and its literals so far
+pub record State : Type 0 where
+  pub variables : ℕ
+  pub line : ℕ
+  pub reading : Reading
+  pub is_deletion : Bool
+  pub clause : Clause
+
+-- at the front of a text
+abbrev pub at_start : ℕ → State
+at_start variables = record { variables = min variables most_variables; line = 1; reading = Blank; is_deletion = false; clause = [] }
+
+-- ---- bytes
+
+-- a space, a tab, a carriage return or a line feed
+abbrev pub is_blank : ℕ → Bool
+is_blank byte = byte == 32 || (byte == 9 || (byte == 13 || byte == 10))
+
+-- a text has no other control characters, and no bytes of 7F and above
+abbrev pub is_of_text : ℕ → Bool
+is_of_text byte = is_blank byte || is_in_range 32 126 byte
+
+-- a number with one digit more, as far as 32 bits hold it: no variable has so large a one
+abbrev pub with_digit : ℕ → ℕ → ℕ
+with_digit value byte = min (value * 10 + (byte - 48)) (2 ^ 32 - 1)
+
+-- ---- what a byte comes to
+
+-- the byte stands in no literal
+abbrev pub stray_turn : ℕ → Turn
+stray_turn byte = Stops (if is_of_text byte then NotALiteral else Binary)
+
+-- a number has this digit more
+abbrev pub digit_turn : Bool → ℕ → ℕ → Turn
+digit_turn is_negative value byte = GoesOn (Number is_negative (with_digit value byte))
+
+-- a number was read: a literal, or the 0 that ends a step
+abbrev pub number_turn : State → Bool → ℕ → Turn
+number_turn s is_negative value =
+    if value == 0 then (if is_negative then Stops NotALiteral else Ends)
+    else if nat_lt s.variables value then Stops NoSuchVariable
+    else Takes (if is_negative then neg value else pos value)
+
+-- no step was begun
+abbrev pub is_between_steps : State → Bool
+is_between_steps s = not s.is_deletion && length s.clause == 0
+
+-- between two steps c begins a comment and d a deletion; a is the mark of a lemma in the binary form
+abbrev pub mark_turn : ℕ → Turn
+mark_turn byte =
+    if byte == 99 then GoesOn Comment
+    else if byte == 100 then BeginsDeletion
+    else if byte == 97 then Stops Binary
+    else stray_turn byte
+
+-- behind a blank, or at the front
+abbrev pub first_turn : State → ℕ → Turn
+first_turn s byte =
+    if is_blank byte then GoesOn Blank
+    else if byte == 45 then GoesOn Minus
+    else if is_ascii_digit byte then digit_turn false 0 byte
+    else if is_between_steps s then mark_turn byte
+    else stray_turn byte
+
+-- in a comment
+abbrev pub comment_turn : ℕ → Turn
+comment_turn byte = GoesOn (if byte == 10 then Blank else Comment)
+
+-- behind a sign
+abbrev pub sign_turn : ℕ → Turn
+sign_turn byte = if is_ascii_digit byte then digit_turn true 0 byte else stray_turn byte
+
+abbrev pub turn_behind : Reading → State → ℕ → Turn
+turn_behind Blank s byte = first_turn s byte
+turn_behind Comment s byte = comment_turn byte
+turn_behind Minus s byte = sign_turn byte
+turn_behind (Number is_negative value) s byte =
+    if is_ascii_digit byte then digit_turn is_negative value byte
+    else if is_blank byte then number_turn s is_negative value
+    else stray_turn byte
+
+abbrev pub turn_of : State → ℕ → Turn
+turn_of s byte = turn_behind s.reading s byte
+
+-- ---- texts
+
+-- what is read then
+abbrev pub after : Turn → State → State
+after (GoesOn reading) s = record { variables = s.variables; line = s.line; reading = reading; is_deletion = s.is_deletion; clause = s.clause }
+after BeginsDeletion s = record { variables = s.variables; line = s.line; reading = Blank; is_deletion = true; clause = s.clause }
+after (Takes literal) s = record { variables = s.variables; line = s.line; reading = Blank; is_deletion = s.is_deletion; clause = s.clause ++ literal ∷ [] }
+after Ends s = record { variables = s.variables; line = s.line; reading = Blank; is_deletion = false; clause = [] }
+after (Stops flaw) s = s
+
+-- lines are counted as far as 64 bits hold their number
+abbrev pub next_line : ℕ → State → State
+next_line byte s = record {
+  variables = s.variables;
+  line = if byte == 10 then min (s.line + 1) (2 ^ 64 - 1) else s.line;
+  reading = s.reading;
+  is_deletion = s.is_deletion;
+  clause = s.clause;
+}
+
+abbrev pub state_after : Turn → ℕ → State → State
+state_after turn byte s = next_line byte (after turn s)
+
+-- the step that ends here
+abbrev pub step_of : State → Step
+step_of s = if s.is_deletion then deletion s.clause else lemma s.line s.clause
+
+-- where bytes leave off, or in which line they are none of a proof, and why
+pub data End : Type 0 where
+  open_in : State → End
+  broken_in : (line : ℕ) → Flaw → End
+
+-- what bytes say
+pub record Text : Type 0 where
+  pub steps : List Step
+  pub end : End
+
+-- these steps, and then a text
+abbrev pub behind : List Step → Text → Text
+behind steps text = record { steps = steps ++ text.steps; end = text.end }
+
+-- what bytes say of which the first one comes to this turn
+abbrev pub text_from : Turn → State → ℕ → (State → Text) → Text
+text_from (GoesOn reading) s byte rest = rest (state_after (GoesOn reading) byte s)
+text_from BeginsDeletion s byte rest = rest (state_after BeginsDeletion byte s)
+text_from (Takes literal) s byte rest = rest (state_after (Takes literal) byte s)
+text_from Ends s byte rest = behind (step_of s ∷ []) (rest (state_after Ends byte s))
+text_from (Stops flaw) s byte rest = record { steps = []; end = broken_in s.line flaw }
+
+abbrev pub text_of : State → List ℕ → Text
+text_of s [] = record { steps = []; end = open_in s }
+text_of s (byte ∷ bytes) = text_from (turn_of s byte) s byte (λ next. text_of next bytes)
