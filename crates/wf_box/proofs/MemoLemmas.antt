@@ -1,16 +1,54 @@
 -- What is kept of the kernel's answers.
-use Rattle.std.proofs.Common.{◌≡◌, ℕ, suc, ◌<◌, ◌≤◌, List, [], ◌∷◌, length, zip, get_or, Some, refl, sym, ap, ◌∙◌, subst, arith}
+use Rattle.std.proofs.Common.{◌≡◌, ℕ, zero, suc, ◌<◌, ◌≤◌, List, [], ◌∷◌, ◌++◌, map, length, zip, get_or, slice_index, ◌↔◌, true, All, Option, Some, None, refl, sym, ap, ◌∙◌, subst, arith}
 use Rattle.std.proofs.lemmas.List.{get_or-map, length-map}
+use Rattle.std.proofs.lemmas.List.Elements.{All-append, All-map}
 use Rattle.wf_model.specs.Simplex.{processes_of}
-use Rattle.wf_model.specs.Problem.{no_constraint}
-use Rattle.wf_lane.specs.Table.{HasSupported}
+use Rattle.wf_model.specs.Problem.{Constraint, no_constraint}
+use Rattle.wf_lane.specs.Table.{HasSupported, Table, sets_of}
 use Rattle.wf_box.specs.Problems.{IsNetwork, IsWide, constraint_seen, constraints_in, no_rule, rule_in, rule_of}
 use Rattle.wf_box.specs.Quiet.{no_execution}
-use Rattle.wf_box.specs.Revising.{IsKnown, table_seen}
+use Rattle.wf_set.specs.Sets.{values_in}
+use Rattle.wf_model.specs.Lists.{has}
+use Rattle.wf_model.specs.Box.{is_supported}
+use Rattle.wf_box.specs.Revising.{AreKnown, IsKnown, IsKnownParts, answer_seen, answers_in, table_seen, wide_set, widened}
+use Rattle.wf_box.specs.declared.memo.Memo.{Memo}
 use Rattle.wf_box.specs.declared.memo.Revised.{Revised}
+use Rattle.wf_box.specs.declared.memo.RevisedParts.{RevisedParts}
 use Rattle.wf_box.specs.declared.problem.Execution.{Execution}
 use Rattle.wf_box.specs.declared.problem.Network.{Network}
 use Rattle.wf_box.specs.declared.problem.Rule.{Rule}
+
+-- ---- answers of both kinds
+
+front : {X : Type 0} (P : X → Type 0) (xs ys : List X) → All P (xs ++ ys) → All P xs
+front P [] ys all i d low = absurd (let none : ⊥ = omega (arith, low) in none)
+front P (x ∷ xs) ys all zero d low = all 0 d (omega arith)
+front P (x ∷ xs) ys all (suc i) d low = front P xs ys (λ k e h. all (suc k) e (omega (arith, h))) i d (omega (arith, low))
+
+back : {X : Type 0} (P : X → Type 0) (xs ys : List X) → All P (xs ++ ys) → All P ys
+back P [] ys all = all
+back P (x ∷ xs) ys all = back P xs ys (λ k e h. all (suc k) e (omega (arith, h)))
+
+seen_known : (ks : List Constraint) (answers : List (Option RevisedParts)) → AreKnown ks (map answer_seen answers) → All (IsKnownParts ks) answers
+seen_known ks [] all i d low = absurd (let none : ⊥ = omega (arith, low) in none)
+seen_known ks (x ∷ xs) all zero d low = all 0 None (omega arith)
+seen_known ks (x ∷ xs) all (suc i) d low = seen_known ks xs (λ k e h. all (suc k) e (omega (arith, h))) i d (omega (arith, low))
+
+pub narrow_known : (ks : List Constraint) (m : Memo) → AreKnown ks (answers_in m) → All (IsKnownParts ks) m.narrow.items
+narrow_known ks m known = seen_known ks m.narrow.items (front (IsKnown ks) (map answer_seen m.narrow.items) m.wide.items known)
+
+pub wide_known : (ks : List Constraint) (m : Memo) → AreKnown ks (answers_in m) → All (IsKnown ks) m.wide.items
+wide_known ks m known = back (IsKnown ks) (map answer_seen m.narrow.items) m.wide.items known
+
+pub both_known : (ks : List Constraint) (narrow : List (Option RevisedParts)) (wide : List (Option Revised)) → All (IsKnownParts ks) narrow → All (IsKnown ks) wide → AreKnown ks (map answer_seen narrow ++ wide)
+both_known ks narrow wide first then = All-append (IsKnown ks) (map answer_seen narrow) wide (All-map (IsKnown ks) answer_seen narrow first) then
+
+-- what is none or nothing at all is none
+pub none_alone : {A : Type 0} (C : Option A → Type 0) → ((x : A) → C (Some x) → ⊥) → (y : Option A) → C y → y ≡ None
+none_alone C never None h = refl
+none_alone C never (Some x) h = absurd (never x h)
+
+-- ---- one answer
 
 length_beside : (ps vs : List ℕ) → length ps ≤ length vs → length (zip ps vs) ≡ length ps
 length_beside [] vs few = refl
@@ -46,3 +84,15 @@ known_serves n e known network low few inside same right =
 pub known_now : (n : Network) (e : ℕ) (candidates supported : List (List ℕ)) → IsNetwork n → e < length n.executions.items → length (rule_in n e).simplex ≤ 4
     → HasSupported supported (rule_in n e).table candidates → IsKnown (constraints_in n) (Some (record { execution = e; candidates = candidates; supported = supported }))
 known_now n e candidates supported network low few right = λ inside. subst (λ t. HasSupported supported t candidates) (sym (table_at n e network low few)) right
+
+-- ---- parts
+
+same_set : (parts others : List ℕ) (i : ℕ) → i < length parts → i < length others → slice_index parts i ≡ slice_index others i → get_or (widened parts) i [] ≡ get_or (widened others) i []
+same_set parts others i low inside same = get_or-map wide_set parts i 0 [] low ∙ ap wide_set same ∙ sym (get_or-map wide_set others i 0 [] inside)
+
+-- parts that are the same up to the width of a table support the same
+pub supported_up_to : (masks candidates : List (List ℕ)) (parts up : List ℕ) (table : Table) → length up ≡ 4 → length parts ≡ 4 → table.width ≤ 4 → widened parts ≡ masks → ((i : ℕ) → i < table.width → slice_index up i ≡ slice_index parts i)
+    → HasSupported masks table candidates → HasSupported (widened up) table candidates
+supported_up_to masks candidates parts up table up_long long narrow is same right place v low =
+    let here : get_or (widened up) place [] ≡ get_or masks place [] = same_set up parts place (omega (arith, low, narrow, up_long)) (omega (arith, low, narrow, long)) (same place low) ∙ ap (λ ms. get_or ms place []) is in
+    subst (λ set. (has (values_in set) v ≡ true) ↔ (is_supported table.rows (sets_of table.width candidates) place v ≡ true)) (sym here) (right place v low)

@@ -10,7 +10,7 @@ use Rattle.wf_box.specs.Changes.{sets_in}
 use Rattle.wf_box.specs.Closes.{EndsAt, IsEmptied, emptied_by}
 use Rattle.wf_box.specs.Problems.{IsNetwork, IsWithin}
 use Rattle.wf_box.specs.Quiet.{IsUser, no_execution}
-use Rattle.wf_box.specs.Revising.{AreKnown}
+use Rattle.wf_box.specs.Revising.{AreKnown, answers_in}
 use Rattle.wf_box.specs.Steps.{HasRoom, IsPaid, IsSpent, point_if}
 use Rattle.wf_box.specs.Working.{Ends, IsWorking, Proceeds}
 use Rattle.wf_box.specs.declared.closing.Closed.{Closed}
@@ -35,7 +35,7 @@ proceeds_none points executions lines w working = record {
 }
 
 -- nothing was done yet but that other answers are kept
-pub proceeds_known : {A : Type 0} {ks : List Constraint} (points executions : ℕ) (lines : Vec Line A) (w : Workspace) (memo : Memo) → AreKnown ks memo.slots.items → IsWorking points executions ks lines w
+pub proceeds_known : {A : Type 0} {ks : List Constraint} (points executions : ℕ) (lines : Vec Line A) (w : Workspace) (memo : Memo) → AreKnown ks (answers_in memo) → IsWorking points executions ks lines w
     → Proceeds points executions ks lines w.tracked lines (record { tracked = w.tracked; marks = w.marks; memo = memo }) None
 proceeds_known points executions lines w memo known working = record {
   kept = working.kept;

@@ -8,7 +8,7 @@ use Rattle.wf_model.specs.Laws.{IsBoxOf}
 use Rattle.wf_set.specs.Sets.{box_of, values_in}
 use Rattle.wf_box.specs.Changes.{KeepsTrack}
 use Rattle.wf_box.specs.Kept.{box_kept}
-use Rattle.wf_box.specs.Revising.{AreKnown}
+use Rattle.wf_box.specs.Revising.{AreKnown, answers_in}
 use Rattle.wf_model.specs.Limits.{most_points}
 use Rattle.wf_box.specs.declared.memo.Revised.{Revised}
 use Rattle.wf_box.specs.declared.tracked.Change.{Change}
@@ -60,6 +60,14 @@ pub record IsFor (p : Problem) (b : Tracked) : Type 0 where
   pub closed : IfSome b.closed (WasClosed p b)
   pub known : AreKnown p.constraints b.known
 
+-- the answers are right for the problem
+abbrev pub ServeFor : Problem → List (Option Revised) → Type 0
+ServeFor p answers = AreKnown p.constraints answers
+
+-- the box with other answers
+abbrev pub with_known : Tracked → List (Option Revised) → Tracked
+with_known b known = record { sets = b.sets; trail = b.trail; closed = b.closed; known = known }
+
 -- so many changes if the test holds
 abbrev pub closed_if : Bool → ℕ → Option ℕ
 closed_if is_closed n = if is_closed then Some n else None
@@ -75,7 +83,7 @@ abbrev pub change_seen : Change → Was
 change_seen c = record { point = c.point; set = values_in c.before }
 
 abbrev pub box_seen : Inside → Tracked
-box_seen b = record { sets = box_of b.workspace.tracked.words.items; trail = map change_seen b.workspace.tracked.trail.items; closed = b.closed; known = b.workspace.memo.slots.items }
+box_seen b = record { sets = box_of b.workspace.tracked.words.items; trail = map change_seen b.workspace.tracked.trail.items; closed = b.closed; known = answers_in b.workspace.memo }
 
 pub record IsKeptBox (b : Inside) : Type 0 where
   pub tracked : KeepsTrack b.workspace.tracked

@@ -7,7 +7,7 @@ use Rattle.wf_box.specs.Closes.{EndsAt}
 use Rattle.wf_box.specs.Marks.{bit_of}
 use Rattle.wf_box.specs.Problems.{constraints_in}
 use Rattle.wf_box.specs.Quiet.{IsUntouched, IsUser, MarksTell}
-use Rattle.wf_box.specs.Revising.{AreKnown}
+use Rattle.wf_box.specs.Revising.{AreKnown, answers_in}
 use Rattle.wf_box.specs.Steps.{HasRoom, IsPaid}
 use Rattle.wf_box.specs.declared.problem.Network.{Network}
 use Rattle.wf_box.specs.declared.tracked.Tracked.{Tracked}
@@ -19,7 +19,7 @@ pub record IsWorking {A : Type 0} (points executions : ℕ) (ks : List Constrain
   pub long : length w.tracked.words.items ≡ points
   pub marks_long : executions ≤ 64 * length w.marks.words.items
   pub room : HasRoom lines w.tracked.words.items
-  pub known : AreKnown ks w.memo.slots.items
+  pub known : AreKnown ks (answers_in w.memo)
 
 abbrev pub IsWorkingOn : {A : Type 0} → Network → Vec Line A → Workspace → Type 0
 IsWorkingOn n lines w = IsWorking n.points (length n.executions.items) (constraints_in n) lines w
@@ -39,7 +39,7 @@ pub record Proceeds {A : Type 0} (points executions : ℕ) (ks : List Constraint
   pub marks_long : executions ≤ 64 * length new.marks.words.items
   pub grown : GrowsTo old new.tracked
   pub ends : Ends lines old more new.tracked emptied
-  pub known : AreKnown ks new.memo.slots.items
+  pub known : AreKnown ks (answers_in new.memo)
 
 abbrev pub ProceedsOn : {A : Type 0} → Network → Vec Line A → Workspace → Vec Line A → Workspace → Option ℕ → Type 0
 ProceedsOn n lines old more new emptied = Proceeds n.points (length n.executions.items) (constraints_in n) lines old.tracked more new emptied

@@ -9,17 +9,15 @@ ghost use Rattle.wf_box.specs.Boxes.{Grows, IsClosedNow, IsFor};
 ghost use Rattle.wf_box.specs.Changes.{KeepsTrack, sets_in};
 ghost use Rattle.wf_box.specs.Quiet.{EmptiesNoneSince, IsUntouchedSince, MarksTell, StoodClosed};
 ghost use Rattle.wf_set.specs.Sets.{box_of};
-ghost use Rattle.wf_lane.specs.Table.{HasSupported};
-ghost use Rattle.wf_box.specs.Problems.{IsNetwork, constraint_in, constraints_in, rule_in};
-ghost use Rattle.wf_box.specs.Revising.{AreKnown};
+ghost use Rattle.wf_box.specs.Problems.{IsNetwork, constraint_in, constraints_in};
 ghost use Rattle.wf_box.specs.Steps.{ClosesTo, NamesAll, NamesAt, NamesIn, NamesLost, Reaches, SweepsTo, TakesEach, box_in, point_if, revision};
 ghost use Rattle.wf_box.specs.Closes.{AddsClosing, AreFew, IsEmptied, IsSupported, KeepsSolutions, Leaves, LosesNamed, Takes, emptied_by, sweeps_to_close};
 ghost use Rattle.wf_box.specs.Working.{AreMarked, AreSilent, IsSilent, IsWorkingFor, IsWorkingOn, LeavesUntouched, ProceedsFor, ProceedsOn};
 
 use crate::boxed::Box0;
 use crate::marks::Marks;
-use crate::memo::{Memo, Revised, slot_of};
 use crate::problem::{Execution, Network, Problem};
+use crate::revising::supported_at;
 use crate::taking::{Place, put, take_each};
 use crate::tracked::Tracked;
 use crate::workspace::Workspace;
@@ -272,14 +270,20 @@ fn revise(
     let found = candidates_at(execution, &workspace.tracked.words);
     let rule = &network.rules[execution.rule as usize];
     let colours = rule.simplex.colours();
-    let supported = supported_at(number, found, network, &mut workspace.memo);
+    let Some(supported) = supported_at(number, found, network, &mut workspace.memo) else {
+        // what most executions lose is nothing
+        return None;
+    };
     'places: for place in 0..colours {
+        let lost = difference(found[place as usize], supported[place as usize]);
+        if is_empty(lost) {
+            continue;
+        }
         let at = Place {
             execution: number,
             process: rule.simplex.colour(place),
             point: execution.points[place as usize],
         };
-        let lost = difference(found[place as usize], supported[place as usize]);
         if take_place(lost, at, network, workspace, lines) {
             return Some(at.point);
         }
@@ -320,38 +324,6 @@ fn take_place(
     workspace.tracked.note(place.point, before);
     workspace.marks.mark_each(network.users_of(place.point));
     emptied
-}
-
-/// The values that the rule of an execution supports at each place for some candidates. Answers are kept, since many
-/// executions of a simplex have the same candidates, and have them again.
-fn supported_at(number: u32, candidates: [Mask; 4], network: &Network, memo: &mut Memo) -> [Mask; 4]
-    requires network { IsNetwork network.now }
-    requires number { number < length network.now.executions.items }
-    requires few { length (rule_in network.now number).simplex ≤ 4 }
-    requires known { AreKnown (constraints_in network.now) memo.old.slots.items }
-    ensures supported { HasSupported result (rule_in network.now number).table candidates }
-    ensures known { AreKnown (constraints_in network.now) memo.new.slots.items }
-{
-    let rule = network.executions[number as usize].rule;
-    let slot = slot_of(rule, candidates, memo.slots.len());
-    if slot < memo.slots.len()
-        && let Some(known) = memo.slots[slot]
-        && known.candidates == candidates
-        && known.execution < network.executions.len()
-        && network.executions[known.execution].rule == rule
-    {
-        return known.supported;
-    }
-    let supported = network.rules[rule as usize].table.revise(candidates).masks;
-    memo.keep(
-        slot,
-        Revised {
-            execution: number as usize,
-            candidates,
-            supported,
-        },
-    );
-    supported
 }
 
 /// The candidates of the points of an execution; past their number those of the first point.

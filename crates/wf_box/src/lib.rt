@@ -4,21 +4,25 @@
 //!   tuples, which its executions share.
 //! - [`Box0`]: the candidates of each point.
 //! - [`Snapshot`]: a box that waits.
+//! - [`Answers`]: what closing found out, for the next box of the same problem.
 //! - [`close`]: sweeps through the executions until each candidate is supported wherever its point stands.
 #![tactic(auto)]
 
+mod answers;
 mod boxed;
 mod closing;
 mod kept;
 mod marks;
 mod memo;
 mod problem;
+mod revising;
 mod snapshot;
 mod taking;
 mod tracked;
 mod users;
 mod workspace;
 
+pub use answers::Answers;
 pub use boxed::{Box0, Mark};
 pub use closing::{Closed, close};
 pub use problem::Problem;

@@ -2,18 +2,22 @@
 
 ghost use Rattle.std.specs.Prelude.{◌≡◌, [], List, Some};
 ghost use Rattle.wf_model.specs.Problem.{Constraint};
-ghost use Rattle.wf_box.specs.Revising.{AreKnown, IsKnown};
+ghost use Rattle.wf_box.specs.Revising.{AreKnown, IsKnown, IsKnownParts, answers_in};
 
 use std::alloc::Global;
 use wf_set::Mask;
+use wf_set::part::Part;
 
-/// How many places a memo has at first.
+/// How many places for answers there are at first.
 const FEWEST: usize = 64;
 
-/// How many it has at most.
-const MOST: usize = 4096;
+/// How many there are at most for candidates of which one is 64 or more.
+const MOST_WIDE: usize = 4096;
 
-/// A memo grows to so many times its places.
+/// How many there are at most for candidates below 64.
+const MOST_NARROW: usize = 65536;
+
+/// The places become so many times as many.
 const GROWTH: usize = 4;
 
 /// What the rule of an execution supports at each place for some candidates.
@@ -24,73 +28,132 @@ pub(crate) struct Revised {
     pub(crate) supported: [Mask; 4],
 }
 
+/// The same for candidates below 64, in a quarter of the memory. Past the places of the rule what is supported is said
+/// to be the candidates, so that both are the same where nothing is lost.
+#[derive(Clone, Copy, Debug)]
+pub(crate) struct RevisedParts {
+    pub(crate) execution: usize,
+    pub(crate) candidates: [Part; 4],
+    pub(crate) supported: [Part; 4],
+}
+
 /// Answers of the kernel. Each has its place by its rule and its candidates, and stays there until another one comes.
 #[derive(Drop)]
 pub(crate) struct Memo {
-    pub(crate) slots: Vec<Option<Revised>>,
-    // how many answers were not there, since it has so many places
-    pub(crate) misses: u32,
+    // for candidates below 64
+    pub(crate) narrow: Vec<Option<RevisedParts>>,
+    // how many of these answers were not there, since it has so many places for them
+    pub(crate) narrow_misses: u32,
+    // for others
+    pub(crate) wide: Vec<Option<Revised>>,
+    pub(crate) wide_misses: u32,
 }
 
 impl Memo {
     /// No answer, and no place for one.
     pub(crate) fn new(alloc: Global) -> Memo
-        ensures { result.slots.items ≡ [] }
+        ensures { answers_in result ≡ [] }
     {
         Memo {
-            slots: Vec::new(alloc),
-            misses: 0,
+            narrow: Vec::new(alloc),
+            narrow_misses: 0,
+            wide: Vec::new(alloc),
+            wide_misses: 0,
         }
     }
 
     /// Makes more places where too many answers were not there, and forgets those that it has. Where memory for that is
     /// refused it stays as it was: an answer that is not there costs time alone.
     pub(crate) fn grow(&mut self, alloc: Global)
-        ensures { (ks : List Constraint) → AreKnown ks self.old.slots.items
-            → AreKnown ks self.new.slots.items }
+        ensures { (ks : List Constraint) → AreKnown ks (answers_in self.old)
+            → AreKnown ks (answers_in self.new) }
     {
-        let places = self.places_wanted();
-        if places > self.slots.len()
-            && let Ok(slots) = vec![in alloc; None; places]
+        self.grow_narrow(alloc);
+        self.grow_wide(alloc);
+    }
+
+    /// The same for candidates below 64.
+    fn grow_narrow(&mut self, alloc: Global)
+        ensures { (ks : List Constraint) → AreKnown ks (answers_in self.old)
+            → AreKnown ks (answers_in self.new) }
+    {
+        let places = places_wanted(self.narrow.len(), self.narrow_misses, MOST_NARROW);
+        if places > self.narrow.len()
+            && let Ok(narrow) = vec![in alloc; None; places]
         {
-            self.slots = slots;
-            self.misses = 0;
+            self.narrow = narrow;
+            self.narrow_misses = 0;
         }
     }
 
-    /// How many places would serve.
-    fn places_wanted(&self) -> usize {
-        let places = self.slots.len();
-        if places < FEWEST {
-            FEWEST
-        } else if places < MOST && self.misses as usize / 2 > places {
-            GROWTH * places
-        } else {
-            places
-        }
-    }
-
-    /// Keeps an answer at this place, where there is one, and forgets the one that was there.
-    pub(crate) fn keep(&mut self, place: usize, answer: Revised)
-        ensures { (ks : List Constraint) → IsKnown ks (Some answer)
-            → AreKnown ks self.old.slots.items → AreKnown ks self.new.slots.items }
+    /// The same for others.
+    fn grow_wide(&mut self, alloc: Global)
+        ensures { (ks : List Constraint) → AreKnown ks (answers_in self.old)
+            → AreKnown ks (answers_in self.new) }
     {
-        self.misses = self.misses.saturating_add(1);
-        if place < self.slots.len() {
-            self.slots[place] = Some(answer);
+        let places = places_wanted(self.wide.len(), self.wide_misses, MOST_WIDE);
+        // most problems have none of these
+        if self.wide_misses > 0
+            && places > self.wide.len()
+            && let Ok(wide) = vec![in alloc; None; places]
+        {
+            self.wide = wide;
+            self.wide_misses = 0;
+        }
+    }
+
+    /// Keeps an answer for candidates below 64 at this place, where there is one, and forgets the one that was there.
+    pub(crate) fn keep_narrow(&mut self, place: usize, answer: RevisedParts)
+        ensures { (ks : List Constraint) → IsKnownParts ks (Some answer)
+            → AreKnown ks (answers_in self.old) → AreKnown ks (answers_in self.new) }
+    {
+        self.narrow_misses = self.narrow_misses.saturating_add(1);
+        if place < self.narrow.len() {
+            self.narrow[place] = Some(answer);
+        }
+    }
+
+    /// The same for others.
+    pub(crate) fn keep_wide(&mut self, place: usize, answer: Revised)
+        ensures { (ks : List Constraint) → IsKnown ks (Some answer)
+            → AreKnown ks (answers_in self.old) → AreKnown ks (answers_in self.new) }
+    {
+        self.wide_misses = self.wide_misses.saturating_add(1);
+        if place < self.wide.len() {
+            self.wide[place] = Some(answer);
         }
     }
 }
 
-/// Where among so many places, a power of two, the answer for a rule and these candidates is. With none at all it is 0.
+/// How many places would serve, where there are so many and so many answers were not there.
+fn places_wanted(places: usize, misses: u32, most: usize) -> usize {
+    if places < FEWEST {
+        FEWEST
+    } else if places < most && misses as usize / 2 > places {
+        GROWTH * places
+    } else {
+        places
+    }
+}
+
+/// Where among so many places, a power of two, the answer for a rule and these candidates is, by those of them that are
+/// below 64. With none at all it is 0.
 ///
 /// Any place would be right.
-pub(crate) fn slot_of(rule: u32, candidates: [Mask; 4], places: usize) -> usize {
-    let [[a, ..], [b, ..], [c, ..], [d, ..]] = candidates;
-    let mixed = a.wrapping_mul(0x9e37_79b9_7f4a_7c15)
-        ^ b.wrapping_mul(0xc2b2_ae3d_27d4_eb4f)
-        ^ c.wrapping_mul(0x1656_67b1_9e37_79f9)
-        ^ d.wrapping_mul(0xd6e8_feb8_6659_fd93)
+pub(crate) fn slot_of(rule: u32, candidates: [Part; 4], places: usize) -> usize {
+    let [a, b, c, d] = candidates;
+    let mixed = fold(a).wrapping_mul(0x9e37_79b9_7f4a_7c15)
+        ^ fold(b).wrapping_mul(0xc2b2_ae3d_27d4_eb4f)
+        ^ fold(c).wrapping_mul(0x1656_67b1_9e37_79f9)
+        ^ fold(d).wrapping_mul(0xd6e8_feb8_6659_fd93)
         ^ u64::from(rule).wrapping_mul(0xff51_afd7_ed55_8ccd);
     (mixed >> 44) as usize & places.saturating_sub(1)
+}
+
+/// The word with its last 16 bits joined into the first: a product's middle bits do not tell words apart that differ in
+/// their last bits alone.
+///
+/// Any word would be right.
+fn fold(word: u64) -> u64 {
+    word ^ word >> 48
 }

@@ -5,6 +5,7 @@ ghost use Rattle.wf_model.specs.Limits.{most_workers};
 ghost use Rattle.wf_model.specs.Outline.{boxes_left_out};
 ghost use Rattle.wf_board.specs.Desk.{fresh_desk};
 ghost use Rattle.wf_model.specs.Box.{root};
+ghost use Rattle.wf_box.specs.Boxes.{ServeFor};
 ghost use Rattle.wf_pool.specs.Branches.{AreLinesOf, HasEachLines, IsCoverOf, LeadIfKept, LeadInRoot, branch_count};
 ghost use Rattle.wf_pool.specs.declared.answer.KeptLines.TheVariants as keep;
 ghost use Rattle.wf_pool.specs.Work.{AreAllBut, AreAllSettled, AreToSettle, AreWorkers, HasSettledEach, IsFresh, IsGround};
@@ -21,11 +22,11 @@ use crate::worker::{Finds, Worker};
 use std::alloc::{AllocError, Global};
 use std::thread::Threads;
 use wf_board::{Board, BoardSeat};
-use wf_box::Problem;
+use wf_box::{Answers, Problem};
 use wf_core::Account;
 use wf_handout::Handout;
 use wf_lines::Lines;
-use wf_search::{Cover, Found, search, split};
+use wf_search::{Cover, Found, search_with, split};
 
 /// The most workers that [`solve`] takes.
 pub const MAX_WORKERS: u32 = 64;
@@ -94,8 +95,9 @@ pub fn solve_one_watched<G: Gate>(
     let branches = cover.branches();
     gate.branches(branches);
     let mut lists = Vec::with_capacity(alloc, branches as usize)?;
+    let mut answers = Answers::new(alloc);
     for branch in 0..branches {
-        match search_whole(alloc, problem, kept, &cover, branch, gate)? {
+        match search_whole(alloc, problem, kept, &cover, branch, gate, &mut answers)? {
             Answer::Map(map, own) => {
                 let account = Account {
                     branches,
@@ -128,7 +130,7 @@ fn branches_of(alloc: Global, problem: &Problem) -> Result<Cover, AllocError>
 }
 
 /// What a branch has, by a search that a gate is told of. Of its lines those that aren't kept are dropped as soon as it is
-/// searched.
+/// searched. It goes by what closing found out in earlier branches, and leaves what is known then.
 fn search_whole<G: Gate>(
     alloc: Global,
     problem: &Problem,
@@ -136,14 +138,17 @@ fn search_whole<G: Gate>(
     cover: &Cover,
     branch: u32,
     gate: &G,
+    answers: &mut Answers,
 ) -> Result<Answer, AllocError>
     requires cover { IsCoverOf problem.now cover.now }
     requires branch { branch < length (boxes_left_out cover.now) }
-    ensures { IfOk result (IsAnswerAt problem.now kept branch) }
+    requires answers { ServeFor problem.now answers.old }
+    ensures branch { IfOk result (IsAnswerAt problem.now kept branch) }
+    ensures answers { ServeFor problem.now answers.new }
 {
     gate.at(0, Moment::Taken(branch));
     let boxed = cover.branch(alloc, branch)?;
-    let found = search(alloc, problem, boxed, &mut Told { gate, branch })?;
+    let found = search_with(alloc, problem, boxed, &mut Told { gate, branch }, answers)?;
     gate.at(0, Moment::Settled(branch));
     match found {
         Found::Map(map, lines) => Ok(Answer::Map(map, kept.map_lines(alloc, lines))),

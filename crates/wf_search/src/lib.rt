@@ -1,7 +1,7 @@
 //! The canonical search of one box, and the split of a problem's root into branches.
 //!
 //! - [`search`]: the least decision map in a box and the lines that lead to it, or the lines of a refutation. A [`Stop`]
-//!   can end it.
+//!   can end it. [`search_with`]: the same, for several boxes of one problem in turn.
 //! - [`split`]: the branches of a problem, in order, as a [`Cover`], which makes one refutation of the root from those
 //!   of its branches, or the lines that lead to its least map from those of the branches up to the map's.
 //!
@@ -16,5 +16,5 @@ mod searching;
 mod stop;
 
 pub use cover::{Cover, split};
-pub use searching::{Found, search};
+pub use searching::{Found, search, search_with};
 pub use stop::{Never, Stop};

@@ -8,14 +8,14 @@ ghost use Rattle.wf_model.specs.Closing.{closing};
 ghost use Rattle.wf_model.specs.Outline.{boxes_left_out, closed_to, left_out, opened, written};
 ghost use Rattle.wf_model.specs.Split.{is_open};
 ghost use Rattle.wf_lines.specs.Lines.{line_of};
-ghost use Rattle.wf_box.specs.Boxes.{Grows, IsFor};
+ghost use Rattle.wf_box.specs.Boxes.{Grows, IsFor, ServeFor};
 ghost use Rattle.wf_search.specs.Cover.{IsFilled, IsFilledUpTo, branch_at};
 ghost use Rattle.wf_search.specs.Outline.{AreSlotsFilled, IsClosedBox, IsForIfClosed, IsJustClosed, as_written, branches_closed, is_to_open};
 
 use std::alloc::{AllocError, Global};
 use std::marker::Model;
 use std::mem;
-use wf_box::{Box0, Closed, Problem, Snapshot, close};
+use wf_box::{Answers, Box0, Closed, Problem, Snapshot, close};
 use wf_lines::{Line, Lines};
 use wf_set::split_first;
 
@@ -163,18 +163,19 @@ impl Outline {
         }
     }
 
-    /// The same for each branch of a box at a point.
+    /// The same for each branch of a box at a point. The box is given back as it was.
     fn close_branches(
         &mut self,
         alloc: Global,
         problem: &Problem,
         boxed: Box0,
         point: u32,
-    ) -> Result<(), AllocError>
+    ) -> Result<Box0, AllocError>
         requires boxed { IsFor problem.now boxed }
         requires point { point < length boxed.sets }
-        ensures { OnOk result (self.new
+        ensures items { OnOk result (self.new
             ≡ self.old ++ branches_closed problem.now boxed.sets point) }
+        ensures boxed { IfOk result (IsFor problem.now) }
     {
         let mut boxed = boxed;
         let mark = boxed.mark();
@@ -186,21 +187,34 @@ impl Outline {
             self.close(alloc, problem, &mut boxed)?;
             boxed.undo(mark);
         }
-        Ok(())
+        Ok(boxed)
     }
 
     /// Writes the branching of a closed box and the lines of closing its branches; where it has no open point, the lines
     /// that refute it are left out.
-    fn open(&mut self, alloc: Global, problem: &Problem, boxed: Snapshot) -> Result<(), AllocError>
+    fn open(
+        &mut self,
+        alloc: Global,
+        problem: &Problem,
+        boxed: Snapshot,
+        answers: &mut Answers,
+    ) -> Result<(), AllocError>
         requires boxed { IsFor problem.now boxed }
         requires closed { IsJustClosed boxed }
-        ensures { OnOk result (self.new ≡ self.old ++ opened problem.now (left_out boxed.sets)) }
+        requires answers { ServeFor problem.now answers.old }
+        ensures items { OnOk result (self.new
+            ≡ self.old ++ opened problem.now (left_out boxed.sets)) }
+        ensures answers { OnOk result (ServeFor problem.now answers.new) }
     {
         match boxed.first_open() {
             None => self.leave_out(alloc, boxed),
             Some(point) => {
                 self.write(Line::Branch { point })?;
-                self.close_branches(alloc, problem, boxed.to_box(alloc)?, point)
+                let mut opened = boxed.to_box(alloc)?;
+                opened.swap_answers(answers);
+                let mut left = self.close_branches(alloc, problem, opened, point)?;
+                left.swap_answers(answers);
+                Ok(())
             }
         }
     }
@@ -212,9 +226,10 @@ impl Outline {
     {
         let Outline { slots, after } = self;
         let mut outline = Outline::new(alloc);
+        let mut answers = Answers::new(alloc);
         for slot in slots {
             outline.write_all(&slot.before)?;
-            outline.open(alloc, problem, slot.boxed)?;
+            outline.open(alloc, problem, slot.boxed, &mut answers)?;
         }
         outline.write_all(&after)?;
         Ok(outline)

@@ -4,7 +4,7 @@ ghost use Rattle.std.specs.Prelude.{◌≡◌, ◌<◌, ◌∷◌, [], None, len
 ghost use Rattle.std.specs.Bool.{OnTrue, OnFalse};
 ghost use Rattle.wf_model.specs.Box.{candidates, first_empty, first_open};
 ghost use Rattle.wf_set.specs.Sets.{values_in};
-ghost use Rattle.wf_box.specs.Boxes.{IsFor};
+ghost use Rattle.wf_box.specs.Boxes.{IsFor, ServeFor};
 ghost use Rattle.wf_box.specs.Closes.{Leaves};
 ghost use Rattle.wf_box.specs.Least.{least_values};
 ghost use Rattle.wf_search.specs.Outline.{Adds};
@@ -12,7 +12,7 @@ ghost use Rattle.wf_search.specs.Pending.{HasFirst, closed_first, first, first_b
 
 use std::alloc::{AllocError, Global};
 use std::marker::Model;
-use wf_box::{Box0, Closed, Mark, Problem, close};
+use wf_box::{Answers, Box0, Closed, Mark, Problem, close};
 use wf_lines::Lines;
 use wf_set::{Mask, is_empty, split_first};
 
@@ -127,6 +127,14 @@ impl<'a> Pending<'a> {
             self.frames.push_reserved(Frame { left, ..frame });
         }
         true
+    }
+
+    /// Leaves the answers that were kept.
+    pub(crate) fn leave(self, answers: &mut Answers)
+        ensures { ServeFor self.entry.problem answers.new }
+    {
+        let mut current = self.current;
+        current.swap_answers(answers);
     }
 }
 

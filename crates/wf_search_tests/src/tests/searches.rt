@@ -8,13 +8,13 @@ use super::boxes::lost;
 use super::tasks::problem_of;
 use std::alloc::{AllocError, Global};
 use std::test::Fail;
-use wf_box::{Box0, Problem};
+use wf_box::{Answers, Box0, Problem};
 use wf_examples::{
     CONSENSUS_2, ONE_PROCESS, ONE_WITHOUT_OUTPUT, ONE_WITHOUT_TUPLE, PATH_2, PATH_3, RENAMING_2_2,
     RENAMING_2_3,
 };
 use wf_lines::{Line, Lines};
-use wf_search::{Cover, Found, Never, Stop, search, split};
+use wf_search::{Cover, Found, Never, Stop, search, search_with, split};
 
 /// It counts its questions, and answers yes to those past so many.
 #[derive(Drop)]
@@ -128,6 +128,34 @@ fn lines_of_two_names() -> [Line; 9] {
         lost(2, 0, 0),
         empty(1),
     ]
+}
+
+/// What two searches of the root of a problem find, the second one by the answers that the first one left.
+fn search_twice(alloc: Global, problem: &Problem) -> Result<(Found, Found), AllocError> {
+    let _points = problem.points();
+    let mut answers = Answers::new(alloc);
+    let root = Box0::root(alloc, problem)?;
+    let first = search_with(alloc, problem, root, &mut Never, &mut answers)?;
+    let again = Box0::root(alloc, problem)?;
+    let second = search_with(alloc, problem, again, &mut Never, &mut answers)?;
+    Ok((first, second))
+}
+
+#[test]
+fn answers_of_an_earlier_search(rt: HostRuntime) -> Result<(), Fail> {
+    let names = problem_of(rt.alloc(), RENAMING_2_2, 1)?;
+    let (first, second) = search_twice(rt.alloc(), &names)?;
+    let first = lines_of(rt.alloc(), first);
+    let second = lines_of(rt.alloc(), second);
+    assert_eq!(rt; first.as_slice(), lines_of_two_names().as_slice());
+    assert_eq!(rt; second.as_slice(), lines_of_two_names().as_slice());
+    let path = problem_of(rt.alloc(), PATH_2, 1)?;
+    let (first, second) = search_twice(rt.alloc(), &path)?;
+    let first = lines_to_map(rt.alloc(), first);
+    let second = lines_to_map(rt.alloc(), second);
+    assert_eq!(rt; first.as_slice(), lines_of_a_path().as_slice());
+    assert_eq!(rt; second.as_slice(), lines_of_a_path().as_slice());
+    Ok(())
 }
 
 // Of three names without a round, one point stands twice in the execution of both.

@@ -9,7 +9,7 @@ use Rattle.wf_box.specs.Boxes.{Grows, IsFor, Tracked}
 use Rattle.wf_box.specs.Closes.{KeepsSolutions, Leaves}
 use Rattle.wf_box.specs.Problems.{constraint_seen}
 use Rattle.wf_box.specs.Quiet as quiet
-use Rattle.wf_box.specs.Revising.{AreKnown}
+use Rattle.wf_box.specs.Revising.{AreKnown, answers_in}
 use Rattle.wf_box.proofs.ChangeLemmas.{room_now}
 use Rattle.wf_box.proofs.CloseLemmas.{is_box, left_of, solutions_kept, supported_there, was_closed}
 use Rattle.wf_box.proofs.SeenLemmas.{grown_seen, if_was, tracked_seen, was_seen}
@@ -23,14 +23,14 @@ overflow_cast-boxed c = omega (arith, c.len.ensures, c.close_tracked-closed.new.
 pub close_tracked-closed-requires-clause-closed : goal.close_tracked-closed-requires-clause-closed
 close_tracked-closed-requires-clause-closed c =
     let t = c.boxed.inside.workspace.tracked in
-    let is : IsFor c.args.problem.now (tracked_seen t.words.items t.trail.items c.boxed.inside.closed c.boxed.inside.workspace.memo.slots.items) = subst (IsFor c.args.problem.now) (sym c.boxed.view_is) c.requires in
-    if_was c.args.problem.now t.trail.items t.words.items c.boxed.inside.closed c.boxed.inside.workspace.memo.slots.items is.closed
+    let is : IsFor c.args.problem.now (tracked_seen t.words.items t.trail.items c.boxed.inside.closed (answers_in c.boxed.inside.workspace.memo)) = subst (IsFor c.args.problem.now) (sym c.boxed.view_is) c.requires in
+    if_was c.args.problem.now t.trail.items t.words.items c.boxed.inside.closed (answers_in c.boxed.inside.workspace.memo) is.closed
 
 pub returns-clause-grown : goal.returns-clause-grown
 returns-clause-grown c =
     let t = c.boxed.inside.workspace.tracked in
     let n = c.close_tracked-closed.new.workspace.tracked in
-    subst (λ (b : Tracked). Grows b (tracked_seen n.words.items n.trail.items c.match-closed.boxed c.close_tracked-closed.new.workspace.memo.slots.items)) c.boxed.view_is (grown_seen t.words.items t.trail.items n.words.items n.trail.items c.boxed.inside.closed c.match-closed.boxed c.boxed.inside.workspace.memo.slots.items c.close_tracked-closed.new.workspace.memo.slots.items c.close_tracked-closed.ensures.proceeds.grown)
+    subst (λ (b : Tracked). Grows b (tracked_seen n.words.items n.trail.items c.match-closed.boxed (answers_in c.close_tracked-closed.new.workspace.memo))) c.boxed.view_is (grown_seen t.words.items t.trail.items n.words.items n.trail.items c.boxed.inside.closed c.match-closed.boxed (answers_in c.boxed.inside.workspace.memo) (answers_in c.close_tracked-closed.new.workspace.memo) c.close_tracked-closed.ensures.proceeds.grown)
 
 pub close_tracked-closed-requires-clause-working : goal.close_tracked-closed-requires-clause-working
 close_tracked-closed-requires-clause-working c =

@@ -20,7 +20,7 @@ returns-in-Map-clause-answer g c =
     let own = c.in-Map.own.items in
     let lines = c.in_ok-lines-in-Map.lines.items in
     first_answer p c.args.kept c.loop-branch.branch c.in-Map.map.items own lines c.in_ok-cover.ensures.well_formed
-    (subst (IsAnswerAt p c.args.kept c.loop-branch.branch) c.in-Map.is c.in_ok-map.ensures)
+    (subst (IsAnswerAt p c.args.kept c.loop-branch.branch) c.in-Map.is c.in_ok-map.ensures.branch)
     (λ j low. lines_are p c.args.kept j _ (c.loop-branch.invariant.1 j low))
     (subst (λ n. LeadIfKept p c.args.kept n own lines) c.loop-branch.invariant.0 c.in_ok-lines-in-Map.ensures)
 
@@ -30,7 +30,7 @@ returns-in-Map-clause-account g c =
     let low = c.loop-branch-test.true in
     let count = c.branches-branches.ensures.branches ∙ count_of_cover p c.in_ok-cover.cover c.in_ok-cover.ensures in
     account_of_map p c.args.kept c.in-Map.map.items c.in-Map.own.items _ c.in_ok-cover.ensures.well_formed count
-    (subst (IsAnswerAt p c.args.kept c.loop-branch.branch) c.in-Map.is c.in_ok-map.ensures) (omega arith) (omega arith)
+    (subst (IsAnswerAt p c.args.kept c.loop-branch.branch) c.in-Map.is c.in_ok-map.ensures.branch) (omega arith) (omega arith)
 
 pub loop-branch-preserved : goal.loop-branch-preserved
 loop-branch-preserved g c =
@@ -44,7 +44,8 @@ loop-branch-preserved g c =
     let n = h.0 in (
       omega arith,
       λ i lt. subst (λ xs. HasLines p c.args.kept xs i) (sym (ap (map vec_items) more ∙ map-append vec_items lists (lines ∷ [])))
-          (one_more p c.args.kept (map vec_items lists) lines.items c.loop-branch.branch (length-map lists vec_items ∙ h.0) h.1 (subst (IsAnswerAt p c.args.kept c.loop-branch.branch) c.in-Nothing.is c.in_ok-map.ensures) i lt),
+          (one_more p c.args.kept (map vec_items lists) lines.items c.loop-branch.branch (length-map lists vec_items ∙ h.0) h.1 (subst (IsAnswerAt p c.args.kept c.loop-branch.branch) c.in-Nothing.is c.in_ok-map.ensures.branch) i lt),
+      c.in_ok-map.ensures.answers,
     )
 
 pub lines_of_none-requires-clause-count : goal.lines_of_none-requires-clause-count

@@ -11,6 +11,7 @@ loop-slot-init c = record {
   boxes = subst (λ slots. AllByRecursion (IsClosedBox c.args.problem.now) (map (λ (slot : Slot). slot.boxed.sets) slots)) (sym c.into_iter-slot-iterator.ensures.into_iter_gives.0)
       (boxes_of_slots (IsClosedBox c.args.problem.now) c.self.inside.slots.items c.self.inside.after.items c.args.self c.self.view_is c.requires);
   closed = subst (AllByRecursion (λ (slot : Slot). IsJustClosed slot.boxed)) (sym c.into_iter-slot-iterator.ensures.into_iter_gives.0) c.self.invariant;
+  answers = c.new-answers.ensures.serve c.args.problem.now;
   items = ap (λ items. items ++ flat_map (opened c.args.problem.now) (flat_map slot_seen c.into_iter-slot-iterator.result.rest.items)) c.new-outline.ensures;
 }
 
@@ -18,14 +19,15 @@ pub open-requires : goal.open-requires
 open-requires c =
     let boxes = subst (λ slots. AllByRecursion (IsClosedBox c.args.problem.now) (map (λ (slot : Slot). slot.boxed.sets) slots)) c.in-Some.ensures.steps.0 c.loop-slot.invariant.boxes in
     let closed = subst (AllByRecursion (λ (slot : Slot). IsJustClosed slot.boxed)) c.in-Some.ensures.steps.0 c.loop-slot.invariant.closed in
-    record { boxed = closed_for c.args.problem.now c.in-Some.slot.boxed closed.0 boxes.0; closed = closed.0 }
+    record { boxed = closed_for c.args.problem.now c.in-Some.slot.boxed closed.0 boxes.0; closed = closed.0; answers = c.loop-slot.invariant.answers }
 
 pub loop-slot-preserved : goal.loop-slot-preserved
 loop-slot-preserved c = record {
   boxes = (subst (λ slots. AllByRecursion (IsClosedBox c.args.problem.now) (map (λ (slot : Slot). slot.boxed.sets) slots)) c.in-Some.ensures.steps.0 c.loop-slot.invariant.boxes).1;
   closed = (subst (AllByRecursion (λ (slot : Slot). IsJustClosed slot.boxed)) c.in-Some.ensures.steps.0 c.loop-slot.invariant.closed).1;
+  answers = c.in_ok-open.ensures.answers;
   items = opened_step c.args.problem.now c.loop-slot.slot-iterator.rest.items c.next.new.self.rest.items c.in-Some.slot c.loop-slot.outline c.write_all.new.self c.open.new.self _ c.deref.result.now c.in-Some.ensures.steps.0 c.deref.ensures.value
-      c.in_ok-write_all.ensures c.in_ok-open.ensures c.loop-slot.invariant.items;
+      c.in_ok-write_all.ensures c.in_ok-open.ensures.items c.loop-slot.invariant.items;
 }
 
 pub returns : goal.returns

@@ -6,21 +6,21 @@ use Rattle.wf_box.specs.Problems.{constraints_in, rule_in, rule_of}
 use Rattle.wf_box.specs.Quiet.{no_execution}
 use Rattle.wf_box.specs.Revising.{IsKnown}
 use Rattle.wf_box.specs.declared.problem.Execution.{Execution}
-use Rattle.wf_box.proofs.MemoLemmas.{known_now, known_serves}
+use Rattle.wf_box.proofs.MemoLemmas.{known_now, known_serves, wide_known}
 use Rattle.wf_box.proofs.ProblemLemmas.{known_at}
 use Rattle.wf_box.proofs.WorkLemmas.{execution_is, execution_within}
-use Rattle.wf_box.proofs.closing.supported_at.Goals as goal
+use Rattle.wf_box.proofs.revising.supported_sets.Goals as goal
 
 -- the answer that is kept is right for this rule and these candidates
 pub returns-clause-supported : goal.returns-clause-supported
 returns-clause-supported c =
     let n = c.args.network.now in
-    let known = c.in-Some.known in
-    let slots = c.args.memo.now.slots.items in
+    let known = c.in-Some.answer in
+    let slots = c.args.memo.now.wide.items in
     let right : IsKnown (constraints_in n) (Some known) = subst (IsKnown (constraints_in n)) (sym c.index-2.ensures ∙ c.in-Some.is)
-    (All-get_or (IsKnown (constraints_in n)) slots c.slot_of-slot.result c.index-2.result.now (omega (arith, c.if-slot-len.true, c.len-2.ensures, c.args.memo.now.slots.ok.0)) c.requires.known) in
+    (All-get_or (IsKnown (constraints_in n)) slots c.slot_of-slot.result c.index-2.result.now (omega (arith, c.if-slot-len.true, c.len-2.ensures, c.args.memo.now.wide.ok.0)) (wide_known (constraints_in n) c.args.memo.now c.requires.known)) in
     let same : known.candidates ≡ c.args.candidates = (pointwise_decides bytes_decides known.candidates c.args.candidates).0 (sym c.eq.ensures ∙ c.if-eq.true) in
-    let inside : known.execution < length n.executions.items = omega (arith, c.if-known-len.true, c.len-3.ensures, n.executions.ok.0) in
+    let inside : known.execution < length n.executions.items = omega (arith, c.if-answer-len.true, c.len-3.ensures, n.executions.ok.0) in
     let rule : (get_or n.executions.items known.execution no_execution).rule ≡ (get_or n.executions.items c.args.number no_execution).rule =
     ap (λ (x : Execution). x.rule) (execution_is n known.execution c.index-3.result.now inside c.index-3.ensures) ∙ c.if-index-rule.true
     ∙ sym (ap (λ (x : Execution). x.rule) (execution_is n c.args.number c.index.result.now c.requires.number c.index.ensures)) in
@@ -36,4 +36,4 @@ returns-2-clause-known c =
     let is : rule_in n c.args.number ≡ rule = ap (rule_of n.rules.items) (execution_is n c.args.number x c.requires.number c.index.ensures)
     ∙ (known_at n.rules.items n.points x rule within c.requires.network.wide c.index-4.ensures).is in
     let right : HasSupported c.revise.result.masks (rule_in n c.args.number).table c.args.candidates = subst (λ r. HasSupported c.revise.result.masks r.table c.args.candidates) (sym is) c.revise.ensures.supported in
-    c.keep.ensures (constraints_in n) (known_now n c.args.number c.args.candidates c.revise.result.masks c.requires.network c.requires.number c.requires.few right) c.requires.known
+    c.keep_wide.ensures (constraints_in n) (known_now n c.args.number c.args.candidates c.revise.result.masks c.requires.network c.requires.number c.requires.few right) c.requires.known

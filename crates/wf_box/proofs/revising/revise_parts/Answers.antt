@@ -1,0 +1,34 @@
+use Rattle.std.proofs.Common.{◌≡◌, ◌∙◌, subst, sym, ap, arith}
+use Rattle.wf_lane.specs.Table.{HasSupported}
+use Rattle.wf_box.specs.Problems.{constraints_in, rule_in, rule_of}
+use Rattle.wf_box.specs.Revising.{widened}
+use Rattle.wf_box.specs.declared.problem.Rule.{Rule}
+use Rattle.wf_box.proofs.MemoLemmas.{known_now, supported_up_to}
+use Rattle.wf_box.proofs.ProblemLemmas.{known_at}
+use Rattle.wf_box.proofs.WorkLemmas.{execution_is, execution_within}
+use Rattle.wf_box.proofs.revising.revise_parts.Goals as goal
+
+-- the new answer is right for the execution
+new_answer : (c : goal.After-changed) → HasSupported (widened c.up_to-supported.result) (rule_in c.args.network.now c.args.number).table (widened c.args.candidates)
+new_answer c =
+    let n = c.args.network.now in
+    let x = c.index.result.now in
+    let rule = c.index-rule.result.now in
+    let within = execution_within n c.args.number x c.requires.network c.requires.number c.index.ensures in
+    let known = known_at n.rules.items n.points x rule within c.requires.network.wide c.index-rule.ensures in
+    let is : rule_in n c.args.number ≡ rule = ap (rule_of n.rules.items) (execution_is n c.args.number x c.requires.number c.index.ensures) ∙ known.is in
+    let raw : HasSupported c.revise.result.masks rule.table (widened c.args.candidates) = subst (HasSupported c.revise.result.masks rule.table) c.widened.ensures c.revise.ensures.supported in
+    let wide : rule.table.width ≡ c.colours.result = known.wide ∙ sym c.colours.ensures.count in
+    subst (λ (r : Rule). HasSupported (widened c.up_to-supported.result) r.table (widened c.args.candidates)) (sym is)
+    (supported_up_to c.revise.result.masks (widened c.args.candidates) c.in-Some.parts c.up_to-supported.result rule.table c.up_to-supported.ensures.long c.in-Some.ensures.long
+    (omega (arith, wide, c.colours.ensures.few)) c.in-Some.ensures.parts (λ i low. c.up_to-supported.ensures.firsts i (omega (arith, low, wide))) raw)
+
+pub returns-clause-supported : goal.returns-clause-supported
+returns-clause-supported c =
+    subst (λ masks. HasSupported masks (rule_in c.args.network.now c.args.number).table (widened c.args.candidates)) (sym c.changed.ensures) (new_answer c)
+
+pub returns-clause-known : goal.returns-clause-known
+returns-clause-known c =
+    let n = c.args.network.now in
+    c.keep_narrow.ensures (constraints_in n)
+    (known_now n c.args.number (widened c.args.candidates) (widened c.up_to-supported.result) c.requires.network c.requires.number c.requires.few (new_answer c)) c.requires.known

@@ -1,0 +1,192 @@
+//! What the rules of executions support.
+
+ghost use Rattle.std.specs.Prelude.{◌≡◌, ◌<◌, ◌≤◌, ◌∷◌, [], ℕ, length, slice_index, IfSome};
+ghost use Rattle.std.specs.Bool.{OnTrue};
+ghost use Rattle.wf_lane.specs.Table.{HasSupported};
+ghost use Rattle.wf_box.specs.Problems.{IsNetwork, constraints_in, rule_in};
+ghost use Rattle.wf_box.specs.Revising.{AreKnown, answers_in, left_of, widened};
+
+use crate::memo::{Memo, Revised, RevisedParts, slot_of};
+use crate::problem::Network;
+use wf_set::Mask;
+use wf_set::part::Part;
+
+/// The values that the rule of an execution supports at each place for some candidates; none where those are all that
+/// the candidates have. Answers are kept, since many executions of a simplex have the same candidates, and have them
+/// again.
+pub(crate) fn supported_at(
+    number: u32,
+    candidates: [Mask; 4],
+    network: &Network,
+    memo: &mut Memo,
+) -> Option<[Mask; 4]>
+    requires network { IsNetwork network.now }
+    requires number { number < length network.now.executions.items }
+    requires few { length (rule_in network.now number).simplex ≤ 4 }
+    requires known { AreKnown (constraints_in network.now) (answers_in memo.old) }
+    ensures supported { HasSupported (left_of candidates result)
+        (rule_in network.now number).table candidates }
+    ensures known { AreKnown (constraints_in network.now) (answers_in memo.new) }
+{
+    match narrowed(candidates) {
+        Some(parts) => supported_parts(number, parts, network, memo),
+        None => Some(supported_sets(number, candidates, network, memo)),
+    }
+}
+
+/// The same for candidates below 64.
+fn supported_parts(
+    number: u32,
+    candidates: [Part; 4],
+    network: &Network,
+    memo: &mut Memo,
+) -> Option<[Mask; 4]>
+    requires network { IsNetwork network.now }
+    requires number { number < length network.now.executions.items }
+    requires few { length (rule_in network.now number).simplex ≤ 4 }
+    requires known { AreKnown (constraints_in network.now) (answers_in memo.old) }
+    ensures supported { HasSupported (left_of (widened candidates) result)
+        (rule_in network.now number).table (widened candidates) }
+    ensures known { AreKnown (constraints_in network.now) (answers_in memo.new) }
+{
+    let rule = network.executions[number as usize].rule;
+    let slot = slot_of(rule, candidates, memo.narrow.len());
+    if slot < memo.narrow.len()
+        && let Some(known) = memo.narrow[slot]
+        && known.candidates == candidates
+        && known.execution < network.executions.len()
+        && network.executions[known.execution].rule == rule
+    {
+        return changed(candidates, known.supported);
+    }
+    revise_parts(number, slot, candidates, network, memo)
+}
+
+/// The same, where no answer is kept.
+fn revise_parts(
+    number: u32,
+    slot: usize,
+    candidates: [Part; 4],
+    network: &Network,
+    memo: &mut Memo,
+) -> Option<[Mask; 4]>
+    requires network { IsNetwork network.now }
+    requires number { number < length network.now.executions.items }
+    requires few { length (rule_in network.now number).simplex ≤ 4 }
+    requires known { AreKnown (constraints_in network.now) (answers_in memo.old) }
+    ensures supported { HasSupported (left_of (widened candidates) result)
+        (rule_in network.now number).table (widened candidates) }
+    ensures known { AreKnown (constraints_in network.now) (answers_in memo.new) }
+{
+    let rule = &network.rules[network.executions[number as usize].rule as usize];
+    let masks = rule.table.revise(widened(candidates)).masks;
+    let Some(parts) = narrowed(masks) else {
+        return Some(masks);
+    };
+    let supported = up_to(rule.simplex.colours(), parts, candidates);
+    memo.keep_narrow(
+        slot,
+        RevisedParts {
+            execution: number as usize,
+            candidates,
+            supported,
+        },
+    );
+    changed(candidates, supported)
+}
+
+/// The sets of the other parts, where they are not the first ones.
+fn changed(parts: [Part; 4], others: [Part; 4]) -> Option<[Mask; 4]>
+    ensures { left_of (widened parts) result ≡ widened others }
+{
+    if parts == others {
+        return None;
+    }
+    Some(widened(others))
+}
+
+/// The first parts up to a place, and then the others.
+fn up_to(place: u8, parts: [Part; 4], others: [Part; 4]) -> [Part; 4]
+    ensures firsts { (i : ℕ) → i < place → slice_index result i ≡ slice_index parts i }
+    ensures long { length result ≡ 4 }
+{
+    [
+        part_if(0 < place, parts[0], others[0]),
+        part_if(1 < place, parts[1], others[1]),
+        part_if(2 < place, parts[2], others[2]),
+        part_if(3 < place, parts[3], others[3]),
+    ]
+}
+
+/// The part, or another one where the test is false.
+fn part_if(test: bool, part: Part, other: Part) -> Part
+    ensures { OnTrue test (result ≡ part) }
+{
+    if test { part } else { other }
+}
+
+/// The sets of these parts.
+fn widened(parts: [Part; 4]) -> [Mask; 4]
+    ensures { result ≡ widened parts }
+{
+    let [a, b, c, d] = parts;
+    [[a, 0, 0, 0], [b, 0, 0, 0], [c, 0, 0, 0], [d, 0, 0, 0]]
+}
+
+/// The parts of these sets, where each value is below 64.
+fn narrowed(sets: [Mask; 4]) -> Option<[Part; 4]>
+    ensures parts { IfSome result (λ parts. widened parts ≡ sets) }
+    ensures long { IfSome result (λ parts. length parts ≡ 4) }
+{
+    let [a, b, c, d] = sets;
+    if is_low(a) & is_low(b) & is_low(c) & is_low(d) {
+        Some([a[0], b[0], c[0], d[0]])
+    } else {
+        None
+    }
+}
+
+/// Whether the words past the first are 0.
+fn is_low(set: Mask) -> bool
+    ensures { OnTrue result (set ≡ slice_index set 0 ∷ 0 ∷ 0 ∷ 0 ∷ []) }
+{
+    let [_, b, c, d] = set;
+    (b == 0) & (c == 0) & (d == 0)
+}
+
+/// The values that the rule of an execution supports at each place for some candidates, of which one is 64 or more.
+fn supported_sets(
+    number: u32,
+    candidates: [Mask; 4],
+    network: &Network,
+    memo: &mut Memo,
+) -> [Mask; 4]
+    requires network { IsNetwork network.now }
+    requires number { number < length network.now.executions.items }
+    requires few { length (rule_in network.now number).simplex ≤ 4 }
+    requires known { AreKnown (constraints_in network.now) (answers_in memo.old) }
+    ensures supported { HasSupported result (rule_in network.now number).table candidates }
+    ensures known { AreKnown (constraints_in network.now) (answers_in memo.new) }
+{
+    let rule = network.executions[number as usize].rule;
+    let [[a, ..], [b, ..], [c, ..], [d, ..]] = candidates;
+    let slot = slot_of(rule, [a, b, c, d], memo.wide.len());
+    if slot < memo.wide.len()
+        && let Some(answer) = memo.wide[slot]
+        && answer.candidates == candidates
+        && answer.execution < network.executions.len()
+        && network.executions[answer.execution].rule == rule
+    {
+        return answer.supported;
+    }
+    let supported = network.rules[rule as usize].table.revise(candidates).masks;
+    memo.keep_wide(
+        slot,
+        Revised {
+            execution: number as usize,
+            candidates,
+            supported,
+        },
+    );
+    supported
+}
