@@ -8,3 +8,4 @@ pub mod PutLemmas
 pub mod SolverLemmas
 pub mod StatedLemmas
 pub mod PosingLemmas
+pub mod ExclusionLemmas

@@ -25,7 +25,7 @@ use Rattle.wf_cnf.proofs.TextLemmas.{few_ranks, few_values, product_few}
 satisfied_in : (a : Assignment) (all : List Clause) (clause : Clause) → SatisfiesAll a all → In clause all → satisfies a clause ≡ true
 satisfied_in a all clause h among = each_in (λ c. satisfies a c ≡ true) all clause (recursion_from_All (λ c. satisfies a c ≡ true) all h) among
 
-satisfied_some : (a : Assignment) (all some : List Clause) → ((clause : Clause) → In clause some → In clause all) → SatisfiesAll a all → SatisfiesAll a some
+pub satisfied_some : (a : Assignment) (all some : List Clause) → ((clause : Clause) → In clause some → In clause all) → SatisfiesAll a all → SatisfiesAll a some
 satisfied_some a all some within h =
     All-from_recursion (λ c. satisfies a c ≡ true) some (each_from_in (λ c. satisfies a c ≡ true) some (λ clause here. satisfied_in a all clause h (within clause here)))
 

@@ -1,5 +1,5 @@
 -- The clauses of a task's executions, by its protocol complex.
-use Rattle.std.proofs.Common.{rules, ◌≡◌, ℕ, ◌+◌, ◌*◌, ◌<◌, ◌≤◌, true, List, [], ◌∷◌, ◌++◌, map, flat_map, zip, length, take, get_or, slice_index, All, Some, option_map, slice_get, length-append, append_assoc, codes, refl, sym, ap, ◌∙◌, subst, arith}
+use Rattle.std.proofs.Common.{rules, ◌≡◌, ℕ, ◌+◌, ◌*◌, ◌<◌, ◌≤◌, true, List, [], ◌∷◌, ◌++◌, map, flat_map, zip, length, take, get_or, slice_index, All, Some, option_map, slice_get, length-append, append_assoc, append-nil, Option, None, codes, refl, sym, ap, ◌∙◌, subst, arith}
 use Rattle.std.specs.List.{AllByRecursion, enumerate_from, slice_index_or}
 use Rattle.std.proofs.lemmas.List.{length-map, get_or-map, take_more}
 use Rattle.std.proofs.lemmas.List.Elements.{All-from_recursion}
@@ -14,19 +14,25 @@ use Rattle.wf_model.specs.Task.{Task, Tuple, inputs, values, first_block}
 use Rattle.wf_model.specs.Execution.{executions_on, executions}
 use Rattle.wf_model.specs.Points.{points}
 use Rattle.wf_model.specs.Report.{line}
+use Rattle.wf_model.specs.Box.{Box}
 use Rattle.wf_model.specs.Problem.{Constraint, Participant, problem_of, constraint_of, no_constraint}
 use Rattle.wf_model.proofs.Basics.{by_place, length-below}
 use Rattle.wf_model.proofs.Bridge.{weaker}
 use Rattle.wf_complex.specs.Protocol.{Built, IsProtocol}
 use Rattle.wf_complex.proofs.Lemmas.{constraint_there, got, known_points, rule_there}
+use Rattle.wf_set.specs.Sets.{values_in}
+use Rattle.wf_clauses.specs.Formula.{Formula}
+use Rattle.wf_formula.specs.Branches.{branch_line, exclusions}
 use Rattle.wf_formula.specs.Patterns.{Entry, Pattern, is_forbidden, minimal_patterns}
 use Rattle.wf_formula.specs.Encoding.{denied, clauses_of, at_least_one, question}
-use Rattle.wf_formula.specs.Dimacs.{clause_text, numbering_line, question_text}
+use Rattle.wf_formula.specs.Dimacs.{clause_text, comments, comments_with, formula_text, numbering_line}
 use Rattle.wf_formula.proofs.Members.{each_below}
 use Rattle.wf_formula.proofs.Shrinking.{IsEntry, each_minimal}
 use Rattle.wf_cnf.specs.Clauses.{denied_at, points_in, patterns_in, clauses_at, clauses_on, executions_text, patterns_of, points_text, HasPoints, AreCovered}
+use Rattle.wf_cnf.specs.Exclusions.{exclusions_at, exclusions_on, exclusions_text, Fits, line_in, part_text, sets_in}
 use Rattle.wf_cnf.specs.Head.{head_text}
 use Rattle.wf_cnf.specs.Questions.{text_after}
+use Rattle.wf_cnf.specs.declared.exclusions.Branch.{Branch}
 use Rattle.wf_cnf.specs.declared.head.Counts.{Counts}
 
 -- ---- the patterns of the input simplices
@@ -140,30 +146,48 @@ pub clauses_are_question : (t : Task) (r : ℕ) (b : Built) (all : List ℕ) (pa
 clauses_are_question t r b all patterns h all_is patterns_are =
     λ i. map (at_least_one (all_is i)) (below (length (h.points_are i))) ++ ((λ j. clauses_on (all_is j) (patterns_are j) b) ∙ clauses_same t r b h) i
 
+-- the clauses that rule out what a box with all points has not
+pub exclusions_same : (t : Task) (r : ℕ) (b : Built) (all : List ℕ) (box : Box) → IsProtocol t r b → all ≡ values t → length box ≡ length b.points
+    → exclusions_on all box ≡ exclusions (problem_of t r) box
+exclusions_same t r b all box h all_is long = λ i. flat_map (exclusions_at (all_is i) box) (below ((long ∙ ap length h.points_are) i))
+
+-- a branch that fits has as few points
+pub few_sets : (branch : Option Branch) (b : Built) → Fits branch b → length b.points ≤ most_points → length (sets_in branch) ≤ most_points
+few_sets None b fits few = omega arith
+few_sets (Some branch) b fits few = omega (arith, fits, few)
+
 -- ---- the whole text
 
-regrouped : (a b c d e v n p body : List ℕ) → ((a ++ (b ++ (c ++ (d ++ e)))) ++ (v ++ (n ++ p))) ++ body ≡ (a ++ (b ++ (c ++ (d ++ (e ++ (v ++ n)))))) ++ (p ++ body)
-regrouped a b c d e v n p body = search (rules, append_assoc)
+regrouped : (a b c d e f v n p body : List ℕ) → ((a ++ (b ++ (c ++ (d ++ e)))) ++ (f ++ (v ++ (n ++ p)))) ++ body ≡ (a ++ (b ++ (c ++ (d ++ (e ++ (f ++ (v ++ n))))))) ++ (p ++ body)
+regrouped a b c d e f v n p body = search (rules, append_assoc)
 
 -- what is known of the numbers of a question
-pub record AreCounts (t : Task) (b : Built) (n : Counts) (all : List ℕ) (patterns : List (List Pattern)) : Type 0 where
+pub record AreCounts (t : Task) (b : Built) (n : Counts) (all : List ℕ) (patterns : List (List Pattern)) (box : Box) : Type 0 where
   pub processes : n.processes ≡ t.processes
   pub rounds : n.rounds ≡ b.rounds
   pub points : n.points ≡ length b.points
   pub executions : n.executions ≡ length b.scopes
   pub variables : n.variables ≡ length b.points * length all
-  pub clauses : n.clauses ≡ length b.points + length (clauses_on all patterns b)
+  pub clauses : n.clauses ≡ (length b.points + length (clauses_on all patterns b)) + length (exclusions_on all box)
 
-module _ (t : Task) (r : ℕ) (b : Built) (n : Counts) (all : List ℕ) (patterns : List (List Pattern))
-    (h : IsProtocol t r b) (all_is : all ≡ values t) (patterns_are : patterns ≡ patterns_of t) (counts : AreCounts t b n all patterns) where
+module _ (t : Task) (r : ℕ) (b : Built) (n : Counts) (all : List ℕ) (patterns : List (List Pattern)) (further : List ℕ) (box : Box)
+    (h : IsProtocol t r b) (all_is : all ≡ values t) (patterns_are : patterns ≡ patterns_of t) (counts : AreCounts t b n all patterns box) where
+  -- the formula with the clauses that rule out what the box has not
+  formula : Formula
+  formula = record {
+    variables = (question t r).variables;
+    clauses = (question t r).clauses ++ exclusions_on (values t) box;
+  }
+
   of_question : Counts
+  unfolding formula
   of_question = record {
     processes = t.processes;
     rounds = r;
     points = length (points t r);
     executions = length (executions t r);
-    variables = (question t r).variables;
-    clauses = length (question t r).clauses;
+    variables = formula.variables;
+    clauses = length formula.clauses;
   }
 
   on : clauses_on all patterns b ≡ flat_map (clauses_of (values t)) (problem_of t r).constraints
@@ -172,16 +196,19 @@ module _ (t : Task) (r : ℕ) (b : Built) (n : Counts) (all : List ℕ) (pattern
   points_are : length b.points ≡ (problem_of t r).points
   points_are = ap length h.points_are
 
-  clauses_are : n.clauses ≡ length (question t r).clauses
+  clauses_are : n.clauses ≡ length formula.clauses
+  unfolding formula
   clauses_are =
       counts.clauses
-      ∙ (λ i. points_are i + length (on i))
-      ∙ ap (λ m. m + length (flat_map (clauses_of (values t)) (problem_of t r).constraints))
+      ∙ (λ i. (points_are i + length (on i)) + length (exclusions_on (all_is i) box))
+      ∙ ap (λ m. m + length (exclusions_on (values t) box))
+      (ap (λ m. m + length (flat_map (clauses_of (values t)) (problem_of t r).constraints))
       (sym (length-map (below (problem_of t r).points) (at_least_one (values t)) ∙ length-below (problem_of t r).points))
-      ∙ sym (length-append (map (at_least_one (values t)) (below (problem_of t r).points)) (flat_map (clauses_of (values t)) (problem_of t r).constraints))
+      ∙ sym (length-append (map (at_least_one (values t)) (below (problem_of t r).points)) (flat_map (clauses_of (values t)) (problem_of t r).constraints)))
+      ∙ sym (length-append (question t r).clauses (exclusions_on (values t) box))
 
   counts_are : n ≡ of_question
-  unfolding of_question
+  unfolding formula of_question
   counts_are = λ i. record {
     processes = counts.processes i;
     rounds = (counts.rounds ∙ h.rounds_are) i;
@@ -191,16 +218,37 @@ module _ (t : Task) (r : ℕ) (b : Built) (n : Counts) (all : List ℕ) (pattern
     clauses = clauses_are i;
   }
 
-  body_is : points_text all (length b.points) ++ executions_text all patterns b ≡ flat_map clause_text (question t r).clauses
+  body_is : points_text all (length b.points) ++ (executions_text all patterns b ++ exclusions_text all box) ≡ flat_map clause_text formula.clauses
+  unfolding formula
   body_is =
-      (λ i. flat_map clause_text (map (at_least_one (all_is i)) (below (points_are i))) ++ flat_map clause_text (on i))
-      ∙ sym (flat_map-append clause_text (map (at_least_one (values t)) (below (problem_of t r).points)) (flat_map (clauses_of (values t)) (problem_of t r).constraints))
+      let first = map (at_least_one (values t)) (below (problem_of t r).points) in
+      let second = flat_map (clauses_of (values t)) (problem_of t r).constraints in
+      let third = exclusions_on (values t) box in
+      (λ i. flat_map clause_text (map (at_least_one (all_is i)) (below (points_are i))) ++ (flat_map clause_text (on i) ++ exclusions_text (all_is i) box))
+      ∙ sym (append_assoc (flat_map clause_text first) (flat_map clause_text second) (flat_map clause_text third))
+      ∙ ap (λ bs. bs ++ flat_map clause_text third) (sym (flat_map-append clause_text first second))
+      ∙ sym (flat_map-append clause_text (first ++ second) third)
 
-  pub whole_text : (head : List ℕ) → head ≡ head_text n all → text_after head all patterns b ≡ question_text t r
-  unfolding of_question
+  whole_text : (head : List ℕ) → head ≡ head_text n further all → text_after head all patterns b box ≡ comments_with further t r ++ formula_text formula
+  unfolding formula of_question
   whole_text head is =
-      (λ i. (is ∙ (λ j. head_text (counts_are j) (all_is j))) i ++ body_is i)
+      (λ i. (is ∙ (λ j. head_text (counts_are j) further (all_is j))) i ++ body_is i)
       ∙ regrouped (line (codes "c wfcheck formula 1") []) (line (codes "c processes") (t.processes ∷ [])) (line (codes "c rounds") (r ∷ []))
       (line (codes "c points") (length (points t r) ∷ [])) (line (codes "c executions") (length (executions t r) ∷ []))
-      (line (codes "c values") (values t)) (numbering_line (values t))
-      (line (codes "p cnf") ((question t r).variables ∷ length (question t r).clauses ∷ [])) (flat_map clause_text (question t r).clauses)
+      further (line (codes "c values") (values t)) (numbering_line (values t))
+      (line (codes "p cnf") (formula.variables ∷ length formula.clauses ∷ [])) (flat_map clause_text formula.clauses)
+
+-- the text of a question, of a branch or of all maps
+pub text_of_part : (t : Task) (r : ℕ) (b : Built) (n : Counts) (all : List ℕ) (patterns : List (List Pattern)) (branch : Option Branch)
+    → IsProtocol t r b → all ≡ values t → patterns ≡ patterns_of t → Fits branch b → AreCounts t b n all patterns (map values_in (sets_in branch))
+    → (head : List ℕ) → head ≡ head_text n (line_in branch) all → text_after head all patterns b (map values_in (sets_in branch)) ≡ part_text t r branch
+unfolding formula
+text_of_part t r b n all patterns None h all_is patterns_are fits counts head is =
+    whole_text t r b n all patterns [] [] h all_is patterns_are counts head is
+    ∙ ap (λ cs. comments t r ++ formula_text (record { variables = (question t r).variables; clauses = cs })) (append-nil (question t r).clauses)
+text_of_part t r b n all patterns (Some branch) h all_is patterns_are fits counts head is =
+    let box = map values_in branch.sets.now in
+    let further = branch_line branch.number branch.count in
+    whole_text t r b n all patterns further box h all_is patterns_are counts head is
+    ∙ ap (λ cs. comments_with further t r ++ formula_text (record { variables = (question t r).variables; clauses = (question t r).clauses ++ cs }))
+    (exclusions_same t r b (values t) box h refl (length-map branch.sets.now values_in ∙ fits))

@@ -7,6 +7,7 @@ pub mod Found
 pub mod Groups
 pub mod Variables
 pub mod Clauses
+pub mod Exclusions
 pub mod Reading
 pub mod Head
 pub mod Questions

@@ -3,8 +3,10 @@
 ghost use Rattle.std.specs.Prelude.{◌≡◌, ◌++◌, IfOk, OnOk, codes, string_bytes};
 ghost use Rattle.wf_model.specs.Report.{line};
 ghost use Rattle.wf_set.specs.Sets.{values_in};
+ghost use Rattle.wf_cnf.specs.Exclusions.{line_in};
 ghost use Rattle.wf_cnf.specs.Head.{counts_text, head_text};
 
+use crate::exclusions::Branch;
 use std::alloc::{AllocError, Global};
 use std::fmt::Write;
 use wf_lines::{put_number, put_words};
@@ -28,12 +30,19 @@ pub(crate) struct Counts {
 }
 
 impl Counts {
-    /// The lines before the clauses, where these are the values.
-    pub fn head(self, alloc: Global, values: Mask) -> Result<String, AllocError>
-        ensures { IfOk result (λ text. string_bytes text ≡ head_text self (values_in values)) }
+    /// The lines before the clauses of a branch, if one is given, where these are the values.
+    pub fn head(
+        self,
+        alloc: Global,
+        branch: Option<Branch>,
+        values: Mask,
+    ) -> Result<String, AllocError>
+        ensures { IfOk result (λ text. string_bytes text
+            ≡ head_text self (line_in branch.entry) (values_in values)) }
     {
         let mut text = String::new(alloc);
         self.put(&mut text)?;
+        put_branch(&mut text, branch)?;
         put_values(&mut text, values)?;
         let width = count(values);
         writeln!(text, "c variable {width} * point + place of the value")?;
@@ -53,6 +62,19 @@ impl Counts {
         put_number(text, "c points", self.points)?;
         put_number(text, "c executions", self.executions)
     }
+}
+
+/// Adds the comment that tells which branch it is, if one is given.
+fn put_branch(text: &mut String, branch: Option<Branch>) -> Result<(), AllocError>
+    ensures { OnOk result (string_bytes text.new ≡ string_bytes text.old ++ line_in branch.entry) }
+{
+    let Some(branch) = branch else {
+        return Ok(());
+    };
+    let number = branch.number;
+    let count = branch.count;
+    writeln!(text, "c branch {number} of {count}")?;
+    Ok(())
 }
 
 /// Adds the comment with the values.

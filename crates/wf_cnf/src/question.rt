@@ -1,14 +1,18 @@
 //! The question of a task.
 
-ghost use Rattle.std.specs.Prelude.{◌≡◌, IfOk, map};
+ghost use Rattle.std.specs.Prelude.{◌≡◌, IfOk, length, map};
 ghost use Rattle.wf_complex.specs.Protocol.{IsProtocol};
+ghost use Rattle.wf_set.specs.Sets.{values_in};
+ghost use Rattle.wf_formula.specs.Branches.{box_text};
 ghost use Rattle.wf_formula.specs.Dimacs.{question_text};
 ghost use Rattle.wf_io.specs.Ends.{CanWrite};
 ghost use Rattle.wf_io.specs.Texts.{WritesText};
 ghost use Rattle.wf_cnf.specs.Patterns.{patterns_seen};
 ghost use Rattle.wf_cnf.specs.Clauses.{patterns_of};
+ghost use Rattle.wf_cnf.specs.Exclusions.{Fits, part_text};
 
 use crate::clauses::{count_clauses, put_executions, put_points};
+use crate::exclusions::{Branch, count_exclusions, put_exclusions, sets_of};
 use crate::head::Counts;
 use crate::patterns::Patterns;
 use crate::variables::Variables;
@@ -19,11 +23,13 @@ use wf_complex::Protocol;
 use wf_io::{Page, Sink, WriteFault};
 use wf_task::Task;
 
-/// The question whether a task has a decision map over its protocol complex, as a formula in conjunctive normal form that is
-/// ready to be written. Clauses see its text.
+/// The question whether a task has a decision map over its protocol complex, as a formula in conjunctive normal form
+/// that is ready to be written; or whether it has one in a branch. Clauses see its text.
 #[derive(Drop)]
 pub struct Question<'a> {
     protocol: &'a Protocol,
+    // none where it is the question of all maps
+    branch: Option<Branch<'a>>,
     head: String,
     variables: Variables,
     // those of each input simplex
@@ -53,10 +59,44 @@ impl<'a> Question<'a> {
         requires { IsProtocol task.now protocol.now.rounds protocol.now }
         ensures { IfOk result (λ q. q ≡ question_text task.now protocol.now.rounds) }
     {
-        let variables = Variables::of(alloc, task.values())?;
+        Question::on(alloc, task, protocol, None)
+    }
+
+    /// The question of a task on its protocol complex for the maps in a branch alone. Memory and refusals are as for
+    /// `of`.
+    pub fn of_branch(
+        alloc: Global,
+        task: &Task,
+        protocol: &'a Protocol,
+        branch: Branch<'a>,
+    ) -> Result<Question<'a>, AllocError>
+        requires protocol { IsProtocol task.now protocol.now.rounds protocol.now }
+        requires sets { length branch.sets.now ≡ length protocol.now.points }
+        ensures { let b = branch.entry in IfOk result (λ q. q
+            ≡ box_text task.now protocol.now.rounds b.number b.count (map values_in b.sets.now)) }
+    {
+        Question::on(alloc, task, protocol, Some(branch))
+    }
+
+    /// The question of a branch, or where none is given of all maps.
+    fn on(
+        alloc: Global,
+        task: &Task,
+        protocol: &'a Protocol,
+        branch: Option<Branch<'a>>,
+    ) -> Result<Question<'a>, AllocError>
+        requires protocol { IsProtocol task.now protocol.now.rounds protocol.now }
+        requires branch { Fits branch protocol.now }
+        ensures { IfOk result (λ q. q ≡ part_text task.now protocol.now.rounds branch.entry) }
+    {
+        let values = task.values();
+        let variables = Variables::of(alloc, values)?;
         let patterns = all_patterns(alloc, task)?;
         let points = protocol.points();
         let Some(clauses) = count_clauses(&patterns, protocol) else {
+            return Err(AllocError);
+        };
+        let Some(clauses) = count_exclusions(clauses, values, sets_of(branch)) else {
             return Err(AllocError);
         };
         let counts = Counts {
@@ -69,7 +109,8 @@ impl<'a> Question<'a> {
         };
         Ok(Question {
             protocol,
-            head: counts.head(alloc, task.values())?,
+            branch,
+            head: counts.head(alloc, branch, values)?,
             variables,
             patterns,
             page: Page::new(alloc)?,
@@ -91,6 +132,7 @@ impl<'a> Question<'a> {
             &self.patterns,
             self.protocol,
         )?;
+        put_exclusions(&mut page, sink, &self.variables, sets_of(self.branch))?;
         page.finish(sink)
     }
 }

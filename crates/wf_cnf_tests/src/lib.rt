@@ -2,6 +2,8 @@
 #![tactic(auto)]
 
 #[cfg(test)]
+mod branch_tests;
+#[cfg(test)]
 mod map_tests;
 #[cfg(test)]
 mod posing_tests;

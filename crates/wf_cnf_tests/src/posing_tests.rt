@@ -35,7 +35,7 @@ fn path_3_has_no_contradiction(rt: HostRuntime) -> Result<(), Fail> {
     let mut checker = posed(alloc, PATH_3)?;
     assert!(rt; !checker.is_refuted());
     assert!(rt; checker.variables() == 16);
-    let mut proof = Proof::new(alloc);
+    let mut proof = Proof::new(alloc, checker.variables());
     let read = proof.feed(alloc, &mut checker, b"0\n");
     assert!(rt; read == Err(ProofFault::NotImplied { line: 1 }));
     assert!(rt; !checker.is_refuted());
@@ -46,7 +46,7 @@ fn path_3_has_no_contradiction(rt: HostRuntime) -> Result<(), Fail> {
 fn lemmas_of_the_question_are_derived(rt: HostRuntime) -> Result<(), Fail> {
     let alloc = rt.alloc();
     let mut checker = posed(alloc, PATH_3)?;
-    let mut proof = Proof::new(alloc);
+    let mut proof = Proof::new(alloc, checker.variables());
     let read = proof.feed(alloc, &mut checker, b"-15 0\n");
     assert!(rt; read == Ok(()));
     let stopped = proof.feed(alloc, &mut checker, b"-14 0\n");

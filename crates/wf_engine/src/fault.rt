@@ -32,6 +32,11 @@ pub enum RunFault {
     OtherRounds,
     /// 43: the report is accepted, and has no map to be lifted.
     NoMap,
+    /// 44: the task's question has so many branches, numbered from 0, and not the one that was asked for.
+    NoBranch {
+        /// How many branches there are.
+        branches: u32,
+    },
     /// 15: memory ran out.
     OutOfMemory,
     /// 30: a call of the reader answered an error.
@@ -73,6 +78,7 @@ impl fmt::Display for RunFault {
             RunFault::Proof(ProofFault::OutOfMemory) => { write!(f, "{}", TaskFault::OutOfMemory) }
             RunFault::OtherRounds => write!(f, "36 OtherRounds"),
             RunFault::NoMap => write!(f, "43 NoMap"),
+            RunFault::NoBranch { branches } => write!(f, "44 NoBranch {branches}"),
             RunFault::OutOfMemory => write!(f, "{}", TaskFault::OutOfMemory),
             RunFault::Read => write!(f, "30 Read"),
             RunFault::Write => write!(f, "31 Write"),

@@ -88,7 +88,7 @@ fn refute<C: Read>(
     ensures { ReadsProof task.now protocol.now.rounds source.old source.new (answered result) }
 {
     let checker = pose(alloc, task, protocol)?;
-    read_proof(alloc, source, checker)?;
+    read_proof_from(alloc, source, checker)?;
     let text = accepted_text(
         alloc,
         &Body::Nothing(Vec::new(alloc)),
@@ -97,8 +97,9 @@ fn refute<C: Read>(
     Ok(((), text.into_bytes()))
 }
 
-/// Reads a source to its end as a proof that what a checker knows has no model.
-fn read_proof<C: Read>(
+/// Reads a source to its end as a proof that what a checker knows has no model, as the last step of a run over a proof. It is
+/// refused where its bytes are no such proof: `38 NotALiteral` to `42 Binary`, `1 TooLong`, `30 Read`.
+pub fn read_proof_from<C: Read>(
     alloc: Global,
     source: &mut Source<C>,
     mut checker: Checker,
@@ -106,7 +107,7 @@ fn read_proof<C: Read>(
     requires { CanRead source.old }
     ensures { ReadsAsProof (λ accepted. HasNoModel checker) source.old source.new result }
 {
-    let mut proof = Proof::new(alloc);
+    let mut proof = Proof::new(alloc, checker.variables());
     let mut piece = vec![in alloc; 0u8; PIECE]?;
     let mut given = 0;
     'pieces: while given <= MOST_PROOF_BYTES {

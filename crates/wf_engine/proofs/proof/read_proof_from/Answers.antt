@@ -1,7 +1,7 @@
 use Rattle.std.proofs.Common.{arith, refl, take, length-take}
 use Rattle.wf_rup.specs.Seen.{HasNoModel}
 use Rattle.wf_engine.proofs.Refuting.{accepted, nothing_read, piece_read, proof_refused, read_failed}
-use Rattle.wf_engine.proofs.proof.read_proof.Goals as goal
+use Rattle.wf_engine.proofs.proof.read_proof_from.Goals as goal
 
 pub pieces-init : goal.pieces-init
 pieces-init g c = (nothing_read c.args.source.now c.args.checker, omega arith, omega arith, refl, c.in_ok-piece.ensures.len)
