@@ -1,7 +1,10 @@
-"""What further commands have to write, found from the definitions of second_opinion.py: the list of executions, and lifted maps.
+"""What further commands have to write, found from the definitions of second_opinion.py: the list of executions, lifted maps, and
+branches.
 
     independent.py executions TASK ROUNDS     the text of `wfcheck executions`
     independent.py lift TASK REPORT ROUNDS    the text of `wfcheck lift --rounds ROUNDS` of a report of a map
+    independent.py branches TASK ROUNDS       the text of `wfcheck branches`
+    independent.py cnf TASK ROUNDS BRANCH     the text of `wfcheck cnf --branch BRANCH`
 
 It shares nothing with the program, and is slow.
 """
@@ -9,8 +12,11 @@ import itertools
 import json
 import sys
 
+import formula
 import reports
 import second_opinion as opinion
+
+ENOUGH_BOXES, MOST_LEVELS = 64, 8
 
 
 def walk(task, rounds):
@@ -57,7 +63,68 @@ def lift(task, report, rounds):
     return "\n".join([*front, "answer map", *(f"m {it}" for it in lifted(task, header["rounds"], values, rounds)), "end\n"])
 
 
+def closed(made, box):
+    """The box without the values that have no support in some execution, again and again; None where a point has none left."""
+    box, changes = [set(c) for c in box], True
+    while changes and all(box):
+        changes = False
+        for _, points, allowed in made.executions:
+            alive = [t for t in allowed if all(a in box[v] for a, v in zip(t, points))]
+            for place, v in enumerate(points):
+                left = box[v] & {t[place] for t in alive}
+                changes, box[v] = changes or left != box[v], left
+    return box if all(box) else None
+
+
+def children(made, box):
+    """The closed boxes in which the first open point has each of its values, and a box without an open point itself."""
+    point = next((v for v, c in enumerate(box) if len(c) > 1), None)
+    if point is None:
+        return [box]
+    parts = [closed(made, [{a} if v == point else c for v, c in enumerate(box)]) for a in sorted(box[point])]
+    return [it for it in parts if it]
+
+
+def split(made):
+    """The branches of a question."""
+    root = closed(made, [made.values] * made.points)
+    boxes = [root] if root else []
+    for _ in range(MOST_LEVELS):
+        if len(boxes) < ENOUGH_BOXES and any(len(c) > 1 for box in boxes for c in box):
+            boxes = [it for box in boxes for it in children(made, box)]
+    return boxes
+
+
+def branches(task, rounds):
+    """A line for each branch: its number, how many points are open, and how many candidates are left."""
+    made = opinion.Complex(task, rounds)
+    boxes = split(made)
+    front = ["wfcheck branches 1", f"processes {task['processes']}", f"rounds {rounds}", f"points {made.points}",
+             f"executions {len(made.executions)}", f"branches {len(boxes)}"]
+    lines = [f"branch {i} {sum(len(c) > 1 for c in box)} {sum(map(len, box))}" for i, box in enumerate(boxes)]
+    return "\n".join([*front, *lines, "end\n"])
+
+
+def cnf(task, rounds, branch):
+    """The formula of the whole question, and a clause for each value that the branch has not."""
+    made = opinion.Complex(task, rounds)
+    boxes, values = split(made), sorted(made.values)
+    lines = formula.text(task, rounds).split("\n")
+    at = lines.index(next(line for line in lines if line.startswith("p cnf")))
+    without = [f"-{len(values) * v + i} 0" for v, c in enumerate(boxes[branch]) for i, a in enumerate(values, 1) if a not in c]
+    words = lines[at].split()
+    lines[at] = " ".join([*words[:3], str(int(words[3]) + len(without))])
+    lines.insert(at - 2, f"c branch {branch} of {len(boxes)}")
+    return "\n".join([*lines[:-1], *without, ""])
+
+
 def main():
+    if sys.argv[1:2] == ["branches"] and len(sys.argv) == 4:
+        with open(sys.argv[2]) as file:
+            return branches(json.load(file), int(sys.argv[3]))
+    if sys.argv[1:2] == ["cnf"] and len(sys.argv) == 5:
+        with open(sys.argv[2]) as file:
+            return cnf(json.load(file), int(sys.argv[3]), int(sys.argv[4]))
     if sys.argv[1:2] == ["executions"] and len(sys.argv) == 4:
         with open(sys.argv[2]) as file:
             return executions(json.load(file), int(sys.argv[3]))

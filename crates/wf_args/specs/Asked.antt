@@ -71,6 +71,9 @@ this_or_slip (Err s) = no_job s
 abbrev pub rounds_of : List Row → Option ℕ
 rounds_of = number_of (codes "rounds")
 
+abbrev pub branch_of : List Row → Option ℕ
+branch_of = number_of (codes "branch")
+
 -- one worker at least, and no more than a run may have
 abbrev pub within_limits : ℕ → Option ℕ
 within_limits workers = if nat_lt 0 workers && nat_le workers most_workers then Some workers else None
@@ -107,8 +110,11 @@ points_for None None = no_job (slip.Neither piece.Rounds piece.Task)
 abbrev pub points_asked : List Row → Asked
 points_asked rows = points_for (rounds_of rows) (task_of rows)
 
+abbrev pub branches_asked : List Row → Asked
+branches_asked rows = needed piece.Rounds (rounds_of rows) (λ rounds. this_job (job.Branches rounds))
+
 abbrev pub cnf_asked : List Row → Asked
-cnf_asked rows = needed piece.Rounds (rounds_of rows) (λ rounds. this_job (job.Cnf rounds))
+cnf_asked rows = needed piece.Rounds (rounds_of rows) (λ rounds. this_job (job.Cnf rounds (branch_of rows)))
 
 abbrev pub model_asked : List Row → Asked
 model_asked rows =
@@ -116,7 +122,8 @@ model_asked rows =
 
 abbrev pub proof_asked : List Row → Asked
 proof_asked rows =
-    needed piece.Task (task_of rows) (λ path. needed piece.Rounds (rounds_of rows) (λ rounds. this_job_on path (λ task. job.Proof task rounds)))
+    needed piece.Task (task_of rows) (λ path. needed piece.Rounds (rounds_of rows) (λ rounds. this_job_on path (λ task. job.Proof task rounds
+    (branch_of rows))))
 
 abbrev pub trim_asked : List Row → Asked
 trim_asked rows = needed piece.Task (task_of rows) (λ path. this_job_on path (λ task. job.Trim task))
@@ -155,6 +162,7 @@ jobs = (codes "solve", solve_asked)
     ∷ (codes "verify", verify_asked)
     ∷ (codes "views", views_asked)
     ∷ (codes "points", points_asked)
+    ∷ (codes "branches", branches_asked)
     ∷ (codes "cnf", cnf_asked)
     ∷ (codes "model", model_asked)
     ∷ (codes "proof", proof_asked)

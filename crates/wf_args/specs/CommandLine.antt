@@ -39,6 +39,9 @@ required option = record option { required = true }
 abbrev pub rounds : Rule
 rounds = required (number_option (codes "rounds"))
 
+abbrev pub branch_option : Rule
+branch_option = number_option (codes "branch")
+
 -- ---- subcommands
 
 abbrev pub subcommand : Text → List Rule → Shape
@@ -58,14 +61,17 @@ views = subcommand (codes "views") (rounds ∷ [])
 abbrev pub points : Shape
 points = subcommand (codes "points") (number_option (codes "rounds") ∷ task_option ∷ [])
 
+abbrev pub branches : Shape
+branches = subcommand (codes "branches") (rounds ∷ [])
+
 abbrev pub cnf : Shape
-cnf = subcommand (codes "cnf") (rounds ∷ [])
+cnf = subcommand (codes "cnf") (rounds ∷ branch_option ∷ [])
 
 abbrev pub model : Shape
 model = subcommand (codes "model") (required task_option ∷ rounds ∷ [])
 
 abbrev pub proof : Shape
-proof = subcommand (codes "proof") (required task_option ∷ rounds ∷ [])
+proof = subcommand (codes "proof") (required task_option ∷ rounds ∷ branch_option ∷ [])
 
 abbrev pub trim : Shape
 trim = subcommand (codes "trim") (required task_option ∷ [])
@@ -88,5 +94,5 @@ preset = subcommand (codes "preset")
 abbrev pub command_line : App
 command_line = record {
   top = record (new_shape (codes "wfcheck")) { is_leaf = false; has_version = true; subcommand_required = true };
-  subs = solve ∷ verify ∷ views ∷ points ∷ cnf ∷ model ∷ proof ∷ trim ∷ explain ∷ lift ∷ executions ∷ preset ∷ [];
+  subs = solve ∷ verify ∷ views ∷ points ∷ branches ∷ cnf ∷ model ∷ proof ∷ trim ∷ explain ∷ lift ∷ executions ∷ preset ∷ [];
 }

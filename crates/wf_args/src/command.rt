@@ -172,6 +172,28 @@ fn points_command<'a>(alloc: Global) -> Result<Command<'a>, AllocError>
     ))
 }
 
+/// The number of a branch, which may be left out.
+fn branch<'a>(alloc: Global) -> Arg<'a>
+    ensures { IsOption line.branch_option result }
+{
+    optional(
+        alloc,
+        "branch",
+        "Of the branches of the question, which branches lists from 0, this one alone",
+    )
+}
+
+fn branches_command<'a>(alloc: Global) -> Result<Command<'a>, AllocError>
+    ensures { IfOk result (IsLeaf line.branches) }
+{
+    subcommand(
+        alloc,
+        "branches",
+        "Read a task on standard input, and list the branches into which its question is cut, each of which can be decided by itself",
+    )
+    .arg(rounds(alloc))
+}
+
 fn cnf_command<'a>(alloc: Global) -> Result<Command<'a>, AllocError>
     ensures { IfOk result (IsLeaf line.cnf) }
 {
@@ -180,7 +202,8 @@ fn cnf_command<'a>(alloc: Global) -> Result<Command<'a>, AllocError>
         "cnf",
         "Read a task on standard input, and write for SAT solvers the question whether it has a decision map",
     )
-    .arg(rounds(alloc))
+    .arg(rounds(alloc))?
+    .arg(branch(alloc))
 }
 
 fn model_command<'a>(alloc: Global) -> Result<Command<'a>, AllocError>
@@ -205,7 +228,8 @@ fn proof_command<'a>(alloc: Global) -> Result<Command<'a>, AllocError>
     )
     .after_help(PROOFS)
     .arg(task(alloc))?
-    .arg(rounds(alloc))
+    .arg(rounds(alloc))?
+    .arg(branch(alloc))
 }
 
 fn trim_command<'a>(alloc: Global) -> Result<Command<'a>, AllocError>
@@ -304,6 +328,7 @@ pub(crate) fn whole_command<'a>(alloc: Global) -> Result<Command<'a>, AllocError
         .subcommand(verify_command(alloc)?)?
         .subcommand(views_command(alloc)?)?
         .subcommand(points_command(alloc)?)?
+        .subcommand(branches_command(alloc)?)?
         .subcommand(cnf_command(alloc)?)?
         .subcommand(model_command(alloc)?)?
         .subcommand(proof_command(alloc)?)?

@@ -5,7 +5,7 @@ ghost use Rattle.clap.specs.Words.{first_of, found_of, rows_of, subcommand_rows_
 ghost use Rattle.wf_args.specs.Job.{CanBeDone};
 ghost use Rattle.wf_args.specs.declared.WordsFault.TheVariants as fault;
 ghost use Rattle.wf_args.specs.declared.slip.Slip.TheVariants as slip;
-ghost use Rattle.wf_args.specs.Asked.{Answers, this_or_slip, asked_in, asked_of, cnf_asked, executions_asked, explain_asked, has_flag, lift_asked, model_asked, number_of, points_asked, preset_job_asked, proof_asked, solve_asked, trim_asked, verify_asked, views_asked, workers_of};
+ghost use Rattle.wf_args.specs.Asked.{Answers, this_or_slip, asked_in, asked_of, branches_asked, cnf_asked, executions_asked, explain_asked, has_flag, lift_asked, model_asked, number_of, points_asked, preset_job_asked, proof_asked, solve_asked, trim_asked, verify_asked, views_asked, workers_of};
 
 use crate::forms::form_of;
 use crate::presets::Options;
@@ -79,6 +79,7 @@ fn job_of(alloc: Global, name: &str, found: &ArgMatches<'_>) -> Result<Job, Word
         "verify" => verify_job(alloc, found),
         "views" => this(views_job(found)),
         "points" => points_job(alloc, found),
+        "branches" => this(branches_job(found)),
         "cnf" => this(cnf_job(found)),
         "model" => model_job(alloc, found),
         "proof" => proof_job(alloc, found),
@@ -168,13 +169,25 @@ fn points_job(alloc: Global, found: &ArgMatches<'_>) -> Result<Job, WordsFault>
     }
 }
 
+/// The job of `branches`.
+fn branches_job(found: &ArgMatches<'_>) -> Result<Job, Slip>
+    ensures asked { this_or_slip result ≡ branches_asked (rows_of (found_of found.now)) }
+    ensures can_be_done { IfOk result CanBeDone }
+{
+    let rounds = number(found, "rounds").ok_or(Slip::Missing(Piece::Rounds))?;
+    Ok(Job::Branches { rounds })
+}
+
 /// The job of `cnf`.
 fn cnf_job(found: &ArgMatches<'_>) -> Result<Job, Slip>
     ensures asked { this_or_slip result ≡ cnf_asked (rows_of (found_of found.now)) }
     ensures can_be_done { IfOk result CanBeDone }
 {
     let rounds = number(found, "rounds").ok_or(Slip::Missing(Piece::Rounds))?;
-    Ok(Job::Cnf { rounds })
+    Ok(Job::Cnf {
+        rounds,
+        branch: number(found, "branch"),
+    })
 }
 
 /// The job of `model`.
@@ -201,6 +214,7 @@ fn proof_job(alloc: Global, found: &ArgMatches<'_>) -> Result<Job, WordsFault>
         (Some(task), Some(rounds)) => Ok(Job::Proof {
             task: String::from_str(alloc, task)?,
             rounds,
+            branch: number(found, "branch"),
         }),
         (None, _) => Err(missing(Piece::Task)),
         (Some(_), None) => Err(missing(Piece::Rounds)),

@@ -59,10 +59,17 @@ pub enum Job {
         /// How many rounds.
         rounds: u32,
     },
+    /// List the branches into which the question of a task after some rounds is cut.
+    Branches {
+        /// How many rounds.
+        rounds: u32,
+    },
     /// Write the question whether a task has a decision map after some rounds as a formula for SAT solvers.
     Cnf {
         /// How many rounds.
         rounds: u32,
+        /// The branch of the question that is asked about alone, by its number, where one is named.
+        branch: Option<u32>,
     },
     /// Check the model that a solver found of such a formula, and report its decision map.
     Model {
@@ -77,6 +84,8 @@ pub enum Job {
         task: String,
         /// How many rounds.
         rounds: u32,
+        /// The branch of the question that the proof is about alone, by its number, where one is named.
+        branch: Option<u32>,
     },
     /// Tell the points with what the map of a report decides there.
     Decisions {

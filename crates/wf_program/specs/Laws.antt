@@ -15,7 +15,7 @@ abbrev pub file_count : Result Job WordsFault → ℕ
 file_count (Ok (Verify task rounds)) = 1
 file_count (Ok (Decisions task)) = 1
 file_count (Ok (Model task rounds)) = 1
-file_count (Ok (Proof task rounds)) = 1
+file_count (Ok (Proof task rounds branch)) = 1
 file_count (Ok (Trim task)) = 1
 file_count (Ok (Explain task)) = 1
 file_count (Ok (Lift task rounds)) = 1
@@ -23,7 +23,7 @@ file_count asked = 0
 
 -- how many bytes the text may have that a job reads of the source
 abbrev pub most_read : Result Job WordsFault → ℕ
-most_read (Ok (Proof task rounds)) = most_proof_bytes
+most_read (Ok (Proof task rounds branch)) = most_proof_bytes
 most_read asked = most_bytes
 
 -- how many calls failed, by the status

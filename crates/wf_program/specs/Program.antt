@@ -27,10 +27,14 @@ use Rattle.wf_argument.specs.Listing.{executions_text}
 use Rattle.wf_rewrite.specs.Trimming.{Trims}
 use Rattle.wf_rewrite.specs.Explaining.{Explains}
 use Rattle.wf_rewrite.specs.Lifting.{Lifts}
+use Rattle.wf_formula.specs.Branches.{branch_text}
+use Rattle.wf_branches.specs.Branches.{ListsBranch}
+use Rattle.wf_branches.specs.Listing.{branches_text}
+use Rattle.wf_branches.specs.Refuting.{RefutesBranch}
 use Rattle.wf_args.specs.Asked.{Answers, job_asked}
 use Rattle.wf_args.specs.Slips.{slip_line}
 use Rattle.wf_args.specs.declared.Job.{Job}
-use Rattle.wf_args.specs.declared.Job.TheVariants.{Solve, Verify, Views, Points, Cnf, Model, Proof, Decisions, Trim, Explain, Lift, Executions, Preset}
+use Rattle.wf_args.specs.declared.Job.TheVariants.{Solve, Verify, Views, Points, Branches, Cnf, Model, Proof, Decisions, Trim, Explain, Lift, Executions, Preset}
 use Rattle.wf_args.specs.declared.WordsFault.{WordsFault}
 use Rattle.wf_args.specs.declared.WordsFault.TheVariants as fault
 use Rattle.wf_program.specs.Files.{Opening, Opens, opened, refused, Filing, CanAsk, after_asking, unread}
@@ -120,7 +124,9 @@ Ended {X = X} answered does task task' source source' sink sink' done =
 abbrev pub DoesWithFile : Filed → DoesBoth (Result Done Refusal)
 DoesWithFile (filed.Verify rounds) task task' source source' sink sink' done = Ended verified (Verifies rounds) task task' source source' sink sink' done
 DoesWithFile (filed.Model rounds) task task' source source' sink sink' done = Ended written (Models rounds) task task' source source' sink sink' done
-DoesWithFile (filed.Proof rounds) task task' source source' sink sink' done = Ended written (Refutes rounds) task task' source source' sink sink' done
+DoesWithFile (filed.Proof rounds None) task task' source source' sink sink' done = Ended written (Refutes rounds) task task' source source' sink sink' done
+DoesWithFile (filed.Proof rounds (Some branch)) task task' source source' sink sink' done =
+    Ended written (RefutesBranch rounds branch) task task' source source' sink sink' done
 DoesWithFile filed.Decisions task task' source source' sink sink' done = Ended written Decides task task' source source' sink sink' done
 DoesWithFile filed.Trim task task' source source' sink sink' done = Ended written Trims task task' source source' sink sink' done
 DoesWithFile filed.Explain task task' source source' sink sink' done = Ended written Explains task task' source source' sink sink' done
@@ -133,6 +139,11 @@ WithFile comes does folder folder' source source' sink sink' done =
     ((left : Option (List ℕ)) × (file' : Reading) × comes (opened left) × (folder' ≡ after_asking folder 0 (Some file'))
     × does (unread left) file' source source' sink sink' done)
     ⊎ (comes refused × (folder' ≡ after_asking folder 1 None) × (done ≡ Err (Run run.Read)) × (source' ≡ source) × (sink' ≡ sink))
+
+-- the question of the source's task after so many rounds was written, or that of one of its branches
+abbrev pub ListsQuestion : Option ℕ → ℕ → Reading → Reading → Writing → Writing → Result (Unit {0}) RunFault → Type 0
+ListsQuestion None rounds source source' sink sink' result = Lists question_text rounds source source' sink sink' result
+ListsQuestion (Some branch) rounds source source' sink sink' result = ListsBranch branch_text rounds branch source source' sink sink' result
 
 -- a text of the source's task after so many rounds was written, and no file was asked for
 abbrev pub ListsOf : {F : Type 0} → (Task → ℕ → List ℕ) → ℕ → Filing F → Filing F → Reading → Reading → Writing → Writing → Result Done Refusal → Type 0
@@ -153,12 +164,15 @@ Does opens (Views rounds) folder folder' source source' sink sink' done =
     ListsOf views_text rounds folder folder' source source' sink sink' done
 Does opens (Points rounds) folder folder' source source' sink sink' done =
     ListsOf undecided_points rounds folder folder' source source' sink sink' done
-Does opens (Cnf rounds) folder folder' source source' sink sink' done =
-    ListsOf question_text rounds folder folder' source source' sink sink' done
+Does opens (Branches rounds) folder folder' source source' sink sink' done =
+    ListsOf branches_text rounds folder folder' source source' sink sink' done
+Does opens (Cnf rounds branch) folder folder' source source' sink sink' done =
+    (result : Result (Unit {0}) RunFault) × ListsQuestion branch rounds source source' sink sink' result
+    × (folder' ≡ folder) × (done ≡ written result)
 Does opens (Model task rounds) folder folder' source source' sink sink' done =
     WithFile (opens (string_bytes task)) (DoesWithFile (filed.Model rounds)) folder folder' source source' sink sink' done
-Does opens (Proof task rounds) folder folder' source source' sink sink' done =
-    WithFile (opens (string_bytes task)) (DoesWithFile (filed.Proof rounds)) folder folder' source source' sink sink' done
+Does opens (Proof task rounds branch) folder folder' source source' sink sink' done =
+    WithFile (opens (string_bytes task)) (DoesWithFile (filed.Proof rounds branch)) folder folder' source source' sink sink' done
 Does opens (Decisions task) folder folder' source source' sink sink' done =
     WithFile (opens (string_bytes task)) (DoesWithFile filed.Decisions) folder folder' source source' sink sink' done
 Does opens (Trim task) folder folder' source source' sink sink' done =

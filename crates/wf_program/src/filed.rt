@@ -11,6 +11,7 @@ use crate::refusal::Refusal;
 use std::alloc::Global;
 use std::io::{Read, Write};
 use std::thread::Threads;
+use wf_branches::run_proof_branch;
 use wf_engine::{RunFault, run_decisions, run_model, run_proof, run_verify};
 use wf_io::{Sink, Source};
 use wf_rewrite::{run_explain, run_lift, run_trim};
@@ -22,8 +23,8 @@ pub(crate) enum Filed {
     Verify(Option<u32>),
     /// Report the map of a solver's model for so many rounds.
     Model(u32),
-    /// Check a solver's proof that there is no map after so many rounds.
-    Proof(u32),
+    /// Check a solver's proof that there is no map after so many rounds, or none in the branch of this number.
+    Proof(u32, Option<u32>),
     /// Tell what a report's map decides.
     Decisions,
     /// Write a report with the lines that are needed.
@@ -79,7 +80,12 @@ impl Filed {
             Filed::Model(rounds) => {
                 after_writing(run_model(rt, alloc, task, source, sink, rounds))
             }
-            Filed::Proof(rounds) => after_writing(run_proof(alloc, task, source, sink, rounds)),
+            Filed::Proof(rounds, None) => {
+                after_writing(run_proof(alloc, task, source, sink, rounds))
+            }
+            Filed::Proof(rounds, Some(branch)) => {
+                after_writing(run_proof_branch(alloc, task, source, sink, rounds, branch))
+            }
             Filed::Decisions => after_writing(run_decisions(rt, alloc, task, source, sink)),
             Filed::Trim => after_writing(run_trim(rt, alloc, task, source, sink)),
             Filed::Explain => after_writing(run_explain(rt, alloc, task, source, sink)),

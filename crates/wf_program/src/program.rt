@@ -7,7 +7,7 @@ ghost use Rattle.wf_io.specs.Texts.{Tells};
 ghost use Rattle.wf_engine.specs.Texts.{SearchesInOrder, Solves};
 ghost use Rattle.wf_args.specs.Job.{CanBeDone};
 ghost use Rattle.wf_program.specs.Files.{CanAsk};
-ghost use Rattle.wf_program.specs.Program.{CanServe, Declines, Does, Ends, IsAsked, Serves, Shows};
+ghost use Rattle.wf_program.specs.Program.{CanServe, Declines, Does, Ends, IsAsked, ListsQuestion, Serves, Shows};
 
 use crate::done::{AccountLine, Done, after_solving, after_writing};
 use crate::filed::Filed;
@@ -20,6 +20,7 @@ use std::fmt::Display;
 use std::io::{Read, Write};
 use std::thread::Threads;
 use wf_args::{Job, WordsFault, read_words};
+use wf_branches::{run_branches, run_cnf_branch};
 use wf_core::Account;
 use wf_engine::{
     Form, Outcome, RunFault, hand_out, run_cnf, run_points, run_preset, run_solve,
@@ -102,13 +103,18 @@ fn do_job<T: Threads + Sync, F: Files, G: Gate, R: Read, W: Write>(
         }
         Job::Views { rounds } => after_writing(run_views(alloc, source, sink, *rounds)),
         Job::Points { rounds } => after_writing(run_points(alloc, source, sink, *rounds)),
-        Job::Cnf { rounds } => after_writing(run_cnf(alloc, source, sink, *rounds)),
+        Job::Branches { rounds } => after_writing(run_branches(alloc, source, sink, *rounds)),
+        Job::Cnf { rounds, branch } => {
+            after_writing(ask_source(alloc, source, sink, *rounds, *branch))
+        }
         Job::Model { task, rounds } => {
             Filed::Model(*rounds).with_file(rt, alloc, folder, task, source, sink)
         }
-        Job::Proof { task, rounds } => {
-            Filed::Proof(*rounds).with_file(rt, alloc, folder, task, source, sink)
-        }
+        Job::Proof {
+            task,
+            rounds,
+            branch,
+        } => Filed::Proof(*rounds, *branch).with_file(rt, alloc, folder, task, source, sink),
         Job::Decisions { task } => {
             Filed::Decisions.with_file(rt, alloc, folder, task, source, sink)
         }
@@ -143,6 +149,23 @@ fn solve_source<T: Threads + Sync, G: Gate, R: Read, W: Write>(
     match gate {
         Some(gate) => { run_solve_watched(rt, alloc, source, sink, rounds, workers, form, gate) }
         None => run_solve(rt, alloc, source, sink, rounds, workers, form),
+    }
+}
+
+/// Writes the question of the source's task, or that of one of its branches.
+fn ask_source<R: Read, W: Write>(
+    alloc: Global,
+    source: &mut Source<R>,
+    sink: &mut Sink<W>,
+    rounds: u32,
+    branch: Option<u32>,
+) -> Result<(), RunFault>
+    requires { CanCount source.old sink.old }
+    ensures { ListsQuestion branch rounds source.old source.new sink.old sink.new result }
+{
+    match branch {
+        Some(branch) => run_cnf_branch(alloc, source, sink, rounds, branch),
+        None => run_cnf(alloc, source, sink, rounds),
     }
 }
 

@@ -177,6 +177,13 @@ fn presets_are_a_job_or_a_fault(rt: HostRuntime) -> Result<(), Fail> {
             "wfcheck preset renaming --names 2",
             "clap MissingRequiredArgument",
         ),
+        ("wfcheck branches --rounds 2", "branches 2"),
+        ("wfcheck branches", "clap MissingRequiredArgument"),
+        ("wfcheck cnf --rounds 2 --branch 5", "cnf 2 in 5"),
+        (
+            "wfcheck proof --task t.json --rounds 2 --branch 0",
+            "proof t.json 2 in 0",
+        ),
     ];
     for (line, want) in rows {
         let got = judged(rt.alloc(), line)?;
@@ -213,9 +220,22 @@ fn judged(alloc: Global, line: &str) -> Result<String, AllocError> {
         },
         Ok(Job::Views { rounds }) => format!(in alloc; "views {rounds}"),
         Ok(Job::Points { rounds }) => format!(in alloc; "points {rounds}"),
-        Ok(Job::Cnf { rounds }) => format!(in alloc; "cnf {rounds}"),
+        Ok(Job::Branches { rounds }) => format!(in alloc; "branches {rounds}"),
+        Ok(Job::Cnf { rounds, branch }) => match branch {
+            None => format!(in alloc; "cnf {rounds}"),
+            Some(branch) => format!(in alloc; "cnf {rounds} in {branch}"),
+        },
         Ok(Job::Model { task, rounds }) => format!(in alloc; "model {task} {rounds}"),
-        Ok(Job::Proof { task, rounds }) => format!(in alloc; "proof {task} {rounds}"),
+        Ok(
+            Job::Proof {
+                task,
+                rounds,
+                branch,
+            },
+        ) => match branch {
+            None => format!(in alloc; "proof {task} {rounds}"),
+            Some(branch) => format!(in alloc; "proof {task} {rounds} in {branch}"),
+        },
         Ok(Job::Decisions { task }) => format!(in alloc; "decisions {task}"),
         Ok(Job::Trim { task }) => format!(in alloc; "trim {task}"),
         Ok(Job::Explain { task }) => format!(in alloc; "explain {task}"),

@@ -4,4 +4,5 @@ use Rattle.wf_args.proofs.command.cnf_command.Goals as goal
 
 pub returns : goal.returns
 returns c =
-    IfOk-weaker c.arg.result _ _ (λ r h. with_option _ _ _ _ _ h c.rounds.ensures c.subcommand.ensures) c.arg.ensures
+    let has_rounds = with_option _ _ _ _ _ c.in_ok-arg.ensures c.rounds.ensures c.subcommand.ensures in
+    IfOk-weaker c.arg-2.result _ _ (λ r h. with_option _ _ _ _ _ h c.branch-alloc.ensures has_rounds) c.arg-2.ensures

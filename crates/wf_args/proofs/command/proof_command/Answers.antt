@@ -11,4 +11,5 @@ returns c =
     let told : IsLeaf (subcommand (codes "proof") []) c.after_help.result =
     (ap app_of_fields c.after_help.ensures ∙ c.subcommand.ensures.0, ap (λ f. f.has_globals) c.after_help.ensures ∙ c.subcommand.ensures.1) in
     let has_task = with_option _ _ _ _ _ c.in_ok-arg.ensures c.task.ensures told in
-    IfOk-weaker c.arg-2.result _ _ (λ r h. with_option _ _ _ _ _ h c.rounds.ensures has_task) c.arg-2.ensures
+    let has_rounds = with_option _ _ _ _ _ c.in_ok-arg-2.ensures c.rounds.ensures has_task in
+    IfOk-weaker c.arg-3.result _ _ (λ r h. with_option _ _ _ _ _ h c.branch-alloc.ensures has_rounds) c.arg-3.ensures

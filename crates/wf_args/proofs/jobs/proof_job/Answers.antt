@@ -1,7 +1,14 @@
+use Rattle.std.proofs.Common.{sym, subst}
+use Rattle.clap.specs.Words.{found_of, rows_of}
 use Rattle.wf_args.specs.declared.Job.TheVariants as job
+use Rattle.wf_args.specs.Asked.{IsJob, branch_of, proof_asked}
 use Rattle.wf_args.proofs.Answering.{on_file_for}
 use Rattle.wf_args.proofs.jobs.proof_job.Goals as goal
 
 pub returns-in_ok-from_str-in-Some-Some-clause-asked : goal.returns-in_ok-from_str-in-Some-Some-clause-asked
 returns-in_ok-from_str-in-Some-Some-clause-asked c =
-    on_file_for _ _ _ _ (λ rounds task. job.Proof task rounds) _ _ _ c.in-Some-Some.ensures c.in-Some-Some.ensures' c.in_ok-from_str-in-Some-Some.ensures.ok
+    let rows = rows_of (found_of c.args.found.now) in
+    let file = c.in_ok-from_str-in-Some-Some in
+    let given = c.in-Some-Some in
+    subst (λ branch. IsJob (proof_asked rows) (job.Proof file.field-0 given.rounds branch)) (sym c.number-in-Some-Some.ensures)
+    (on_file_for _ _ _ _ (λ rounds task. job.Proof task rounds (branch_of rows)) _ _ _ given.ensures given.ensures' file.ensures.ok)

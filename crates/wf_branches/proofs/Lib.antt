@@ -1,0 +1,4 @@
+pub mod Lines
+pub mod Counts
+pub mod Truth
+pub mod Answering

@@ -1,0 +1,5 @@
+use Rattle.wf_branches.proofs.Counts.{branch_counted}
+use Rattle.wf_branches.proofs.laws.listing_branches_is_counted.Goals as goal
+
+pub returns : goal.returns
+returns c = branch_counted

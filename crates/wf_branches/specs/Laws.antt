@@ -1,0 +1,37 @@
+-- What runs over branches say, and what holds after each.
+use Rattle.std.specs.Prelude.{ℕ, List, length, Result, Ok}
+use Rattle.wf_model.specs.Task.{Task, IsTask}
+use Rattle.wf_model.specs.DecisionMap.{HasNoDecisionMap}
+use Rattle.wf_formula.specs.Branches.{branches}
+use Rattle.wf_io.specs.Seen.{Reading, Writing}
+use Rattle.wf_io.specs.Texts.{Took}
+use Rattle.wf_engine.specs.Headline.{GaveTask}
+use Rattle.wf_engine.specs.Laws.{IsChecked, IsCounted}
+use Rattle.wf_engine.specs.Proofs.{most_proof_bytes}
+use Rattle.wf_engine.specs.declared.fault.RunFault.{RunFault}
+use Rattle.wf_branches.specs.Branches.{HasBranch, ListsBranch}
+use Rattle.wf_branches.specs.Refuting.{HasNoMapIn, RefutesBranch, accepted_text}
+
+-- where no decision map lies in any branch, no function on the views is a decision map
+abbrev pub BranchesCoverAllMaps : Type 0
+BranchesCoverAllMaps = (t : Task) (r : ℕ) → IsTask t → ((i : ℕ) → HasBranch t r i → HasNoMapIn t r i) → HasNoDecisionMap t r
+
+-- where a proof is accepted about a branch, the source of the task gave its bytes, the branch is there, no decision map lies in it,
+-- and the sink took the line that says so
+abbrev pub BranchRefutationsAreTrue : Type 0
+BranchRefutationsAreTrue =
+    (rounds branch : ℕ) (task task' proof proof' : Reading) (sink sink' : Writing)
+    → RefutesBranch rounds branch task task' proof proof' sink sink' (Ok tt)
+    → (t : Task) × GaveTask task task' t × HasBranch t rounds branch × HasNoMapIn t rounds branch
+    × Took sink sink' (accepted_text branch (length (branches t rounds)) rounds) 0
+
+abbrev pub ListingBranchesIsCounted : Type 0
+ListingBranchesIsCounted =
+    (text_of : Task → ℕ → ℕ → List ℕ) (rounds branch : ℕ) (source source' : Reading) (sink sink' : Writing) (result : Result (Unit {0}) RunFault)
+    → ListsBranch text_of rounds branch source source' sink sink' result → IsCounted source source' sink sink' result
+
+abbrev pub BranchProvingIsCounted : Type 0
+BranchProvingIsCounted =
+    (rounds branch : ℕ) (task task' proof proof' : Reading) (sink sink' : Writing) (result : Result (Unit {0}) RunFault)
+    → RefutesBranch rounds branch task task' proof proof' sink sink' result
+    → IsChecked most_proof_bytes task task' proof proof' sink sink' result

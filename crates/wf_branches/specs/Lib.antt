@@ -1,0 +1,5 @@
+-- What contracts say, here and in the crates above.
+pub mod Branches
+pub mod Listing
+pub mod Refuting
+pub mod Laws

@@ -1,0 +1,45 @@
+-- A run over two sources: a task, and the clausal proof by which a SAT solver shows that the question of one branch has no model.
+use Rattle.std.specs.Prelude.{◌≡◌, ℕ, List, ◌++◌, length, codes, decimal, Result, Ok, Err, Some}
+use Rattle.wf_model.specs.Task.{Task}
+use Rattle.wf_model.specs.View.{View}
+use Rattle.wf_model.specs.Box.{LiesIn}
+use Rattle.wf_model.specs.DecisionMap.{IsDecisionMap, listed}
+use Rattle.wf_formula.specs.Branches.{branch_at, branches}
+use Rattle.wf_io.specs.Seen.{Reading, Writing}
+use Rattle.wf_engine.specs.Run.{Ran}
+use Rattle.wf_engine.specs.Sources.{AsksBoth, NextReads}
+use Rattle.wf_engine.specs.Verify.{rounds_end}
+use Rattle.wf_engine.specs.Proofs.{ReadsAsProof}
+use Rattle.wf_engine.specs.declared.fault.RunFault.{RunFault}
+use Rattle.wf_branches.specs.Branches.{HasBranch, IsNoBranch}
+
+-- no decision map lies in branch i of the task's question after r rounds
+abbrev pub HasNoMapIn : Task → ℕ → ℕ → Type 0
+HasNoMapIn t r i = (m : View → ℕ) → IsDecisionMap t r m → LiesIn (listed t r m) (branch_at t r i) → ⊥
+
+-- the line that says that no decision map is accepted in branch i of n, for these rounds
+abbrev pub accepted_text : ℕ → ℕ → ℕ → List ℕ
+accepted_text i n r = codes "accepted none in branch " ++ (decimal i ++ (codes " of " ++ (decimal n ++ rounds_end (Some r))))
+
+-- there is none in branch i, and the text is the line that says so
+abbrev pub IsAcceptedBranch : ℕ → Task → ℕ → Unit {0} × List ℕ → Type 0
+IsAcceptedBranch i t r answer = HasNoMapIn t r i × (answer.1 ≡ accepted_text i (length (branches t r)) r)
+
+-- a source's bytes as a proof that no decision map lies in branch i
+abbrev pub ReadsBranchProof : ℕ → Task → ℕ → Reading → Reading → Result (Unit {0} × List ℕ) RunFault → Type 0
+ReadsBranchProof i t r old new result = ReadsAsProof (IsAcceptedBranch i t r) old new result
+
+-- there is a branch i, or why not
+abbrev pub FindsBranch : Task → ℕ → ℕ → Result (Unit {0}) RunFault → Type 0
+FindsBranch t r i (Ok found) = HasBranch t r i
+FindsBranch t r i (Err e) = IsNoBranch t r i e
+
+-- the same where there is a branch i; else the source is left alone
+abbrev pub ReadsProofIn : ℕ → Task → ℕ → Reading → Reading → Result (Unit {0} × List ℕ) RunFault → Type 0
+ReadsProofIn i t r old new result =
+    (found : Result (Unit {0}) RunFault) × FindsBranch t r i found × NextReads (λ there. ReadsBranchProof i t r) old new found result
+
+-- The proof of a source was checked about branch i of the question of another source's task after r rounds, and that no decision
+-- map is accepted there was written. The task, its limits and the branch are judged before the proof is read.
+abbrev pub RefutesBranch : ℕ → ℕ → Reading → Reading → Reading → Reading → Writing → Writing → Result (Unit {0}) RunFault → Type 0
+RefutesBranch r i task task' proof proof' sink sink' result = Ran (AsksBoth (ReadsProofIn i) r task task' proof proof') sink sink' result

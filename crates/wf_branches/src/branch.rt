@@ -1,0 +1,71 @@
+//! One branch of a task's question.
+
+ghost use Rattle.std.specs.Prelude.{◌≡◌, ◌<◌, IfErr, IfOk};
+ghost use Rattle.wf_complex.specs.Protocol.{IsProtocol};
+ghost use Rattle.wf_set.specs.Sets.{box_of};
+ghost use Rattle.wf_branches.specs.Branches.{IsCoverOf, IsNoBranch, IsBranch};
+
+use std::alloc::{AllocError, Global};
+use wf_box::{Box0, Problem};
+use wf_complex::Protocol;
+use wf_engine::RunFault;
+use wf_search::{Cover, split};
+use wf_set::Mask;
+use wf_task::Task;
+
+/// A branch of a task's question.
+#[derive(Drop)]
+pub(crate) struct FoundBranch {
+    /// Its number, from 0.
+    pub(crate) number: u32,
+    /// How many branches there are.
+    pub(crate) count: u32,
+    /// The values that it has at each point.
+    pub(crate) sets: Vec<Mask>,
+}
+
+/// The branch of this number. Refused with how many there are where it is not one of them, and where memory runs out.
+pub(crate) fn branch_of(
+    alloc: Global,
+    task: &Task,
+    protocol: &Protocol,
+    number: u32,
+) -> Result<FoundBranch, RunFault>
+    requires { IsProtocol task.now protocol.now.rounds protocol.now }
+    ensures found { IfOk result (IsBranch task.now protocol.now.rounds number) }
+    ensures refused { IfErr result (IsNoBranch task.now protocol.now.rounds number) }
+{
+    let cover = cover_of(alloc, task, protocol)?;
+    let count = cover.branches();
+    if number >= count {
+        return Err(RunFault::NoBranch { branches: count });
+    }
+    let boxed = cover.branch(alloc, number)?;
+    let sets = sets_of(alloc, &boxed)?;
+    Ok(FoundBranch {
+        number,
+        count,
+        sets,
+    })
+}
+
+/// The branches of a task's question. The problem takes more memory than they do, and is given back.
+pub(crate) fn cover_of(alloc: Global, task: &Task, protocol: &Protocol) -> Result<Cover, AllocError>
+    requires { IsProtocol task.now protocol.now.rounds protocol.now }
+    ensures { IfOk result (IsCoverOf task.now protocol.now.rounds) }
+{
+    let problem = Problem::join(alloc, task, protocol)?;
+    split(alloc, &problem)
+}
+
+/// The values that a box has at each point.
+fn sets_of(alloc: Global, boxed: &Box0) -> Result<Vec<Mask>, AllocError>
+    ensures { IfOk result (λ sets. box_of sets.items ≡ boxed.now.sets) }
+{
+    let points = boxed.points();
+    let mut sets = Vec::with_capacity(alloc, points as usize)?;
+    for point in 0..points {
+        sets.push(boxed.candidates(point))?;
+    }
+    Ok(sets)
+}

@@ -1,0 +1,26 @@
+//! Laws of runs over branches: that what they say is true, what all of them together come to, and what holds after each.
+
+ghost use Rattle.wf_branches.specs.Laws.{BranchesCoverAllMaps, BranchProvingIsCounted, BranchRefutationsAreTrue, ListingBranchesIsCounted};
+
+/// Where no decision map lies in any branch of a task's question, no function on the views is a decision map.
+pub fn branches_cover_all_maps()
+    ensures { BranchesCoverAllMaps }
+{}
+
+/// What is accepted for a SAT solver's proof about a branch is true: the source of the task gave its bytes, the branch is there,
+/// no decision map lies in it, and the sink took the line that says so, whatever the proof's bytes are.
+pub fn branch_refutations_are_true()
+    ensures { BranchRefutationsAreTrue }
+{}
+
+/// The writing of a branch's question takes at most one byte more than a text may have, tells each failed call, and writes
+/// nothing where it is refused for anything but a failed write.
+pub fn listing_branches_is_counted()
+    ensures { ListingBranchesIsCounted }
+{}
+
+/// A check of a proof about a branch takes at most one byte more than a text may have of the task's source, and one more than a
+/// proof may have of the proof's, tells each failed call, and writes nothing where it is refused for anything but a failed write.
+pub fn branch_proving_is_counted()
+    ensures { BranchProvingIsCounted }
+{}

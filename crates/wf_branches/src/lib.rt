@@ -1,0 +1,24 @@
+//! A task's question branch by branch: a run over one branch is a job of its own, and the branches together decide the question.
+//!
+//! - [`run_branches`]: a task's text in, and the list of the branches of its question out.
+//! - [`run_cnf_branch`]: a task's text in, and the question of one branch, as a formula, out.
+//! - [`run_proof_branch`]: a task's text and a SAT solver's clausal proof in, and that no decision map of one branch is accepted
+//!   out.
+//!
+//! What the branches are, `wf_model` says: the boxes into which [`wf_search::split`] cuts the root. The laws say what runs over
+//! all of them come to: where none of them has a decision map there is none ([`branches_cover_all_maps`]).
+#![tactic(auto)]
+
+mod asking;
+mod branch;
+mod laws;
+mod listing;
+mod refuting;
+
+pub use asking::run_cnf_branch;
+pub use laws::{
+    branch_proving_is_counted, branch_refutations_are_true, branches_cover_all_maps,
+    listing_branches_is_counted,
+};
+pub use listing::run_branches;
+pub use refuting::run_proof_branch;

@@ -1,0 +1,185 @@
+//! Listing the branches of a task's question.
+
+ghost use Rattle.std.specs.Prelude.{◌≡◌, ◌++◌, ◌<◌, ◌+◌, ◌^◌, IfOk, OnOk, cond, length, nat_lt, string_bytes};
+ghost use Rattle.std.specs.List.{enumerate_from};
+ghost use Rattle.wf_model.specs.Box.{count};
+ghost use Rattle.wf_model.specs.Execution.{executions};
+ghost use Rattle.wf_model.specs.Outline.{boxes_left_out};
+ghost use Rattle.wf_model.specs.Points.{points};
+ghost use Rattle.wf_complex.specs.Protocol.{IsProtocol};
+ghost use Rattle.wf_io.specs.Ends.{CanCount, CanRead};
+ghost use Rattle.wf_engine.specs.Run.{Answers, Asks, answered};
+ghost use Rattle.wf_engine.specs.Texts.{IsTextOf, Lists};
+ghost use Rattle.wf_branches.specs.Listing.{branches_text, entries_text, entry_line, header_text, open_points};
+
+use crate::branch::cover_of;
+use std::alloc::{AllocError, Global};
+use std::fmt::Write as _;
+use std::io::{Read, Write};
+use wf_box::Box0;
+use wf_complex::Protocol;
+use wf_engine::{RunFault, hand_out, read_task};
+use wf_io::{Sink, Source};
+use wf_lines::{put_number, put_words};
+use wf_search::Cover;
+use wf_set::count;
+use wf_task::Task;
+
+/// Reads a task to the reader's end and writes the list of the branches into which its question after some rounds is cut: a
+/// line for each, with its number, how many points have two candidates or more in it, and how many candidates are left at all
+/// points together.
+pub fn run_branches<R: Read, W: Write>(
+    alloc: Global,
+    source: &mut Source<R>,
+    sink: &mut Sink<W>,
+    rounds: u32,
+) -> Result<(), RunFault>
+    requires { CanCount source.old sink.old }
+    ensures { Lists branches_text rounds source.old source.new sink.old sink.new result }
+{
+    let answer = list_source(alloc, source, rounds);
+    hand_out(sink, answer)
+}
+
+/// The list of the branches of a source's task.
+fn list_source<R: Read>(
+    alloc: Global,
+    source: &mut Source<R>,
+    rounds: u32,
+) -> Result<((), Vec<u8>), RunFault>
+    requires { CanRead source.old }
+    ensures { Asks (IsTextOf branches_text) rounds source.old source.new (answered result) }
+{
+    let task = read_task(alloc, source)?;
+    list_task(alloc, &task, rounds)
+}
+
+/// The list of the branches of a task.
+fn list_task(alloc: Global, task: &Task, rounds: u32) -> Result<((), Vec<u8>), RunFault>
+    ensures { Answers (IsTextOf branches_text) task.now rounds (answered result) }
+{
+    let protocol = Protocol::build(alloc, task, rounds)?;
+    Ok(((), write_branches(alloc, task, &protocol)?))
+}
+
+/// The text that lists the branches on a protocol complex.
+fn write_branches(alloc: Global, task: &Task, protocol: &Protocol) -> Result<Vec<u8>, AllocError>
+    requires { IsProtocol task.now protocol.now.rounds protocol.now }
+    ensures { IfOk result (λ text. text.items ≡ branches_text task.now protocol.now.rounds) }
+{
+    let cover = cover_of(alloc, task, protocol)?;
+    let mut text = String::new(alloc);
+    Header::of(task, protocol, cover.branches()).put(&mut text)?;
+    put_entries(alloc, &mut text, &cover)?;
+    put_words(&mut text, "end")?;
+    Ok(text.into_bytes())
+}
+
+/// The numbers in the lines before those of the branches.
+#[derive(Clone, Copy)]
+struct Header {
+    processes: u8,
+    rounds: u32,
+    points: u32,
+    executions: u32,
+    branches: u32,
+}
+
+impl Header {
+    /// The numbers of a task and its protocol complex, with so many branches.
+    fn of(task: &Task, protocol: &Protocol, branches: u32) -> Header
+        requires { IsProtocol task.now protocol.now.rounds protocol.now }
+        ensures processes { result.processes ≡ task.now.processes }
+        ensures rounds { result.rounds ≡ protocol.now.rounds }
+        ensures points { result.points ≡ length (points task.now protocol.now.rounds) }
+        ensures executions { result.executions ≡ length (executions task.now protocol.now.rounds) }
+        ensures branches { result.branches ≡ branches }
+    {
+        Header {
+            processes: task.processes(),
+            rounds: protocol.rounds(),
+            points: protocol.points(),
+            executions: protocol.executions(),
+            branches,
+        }
+    }
+
+    /// Adds the lines.
+    fn put(&self, text: &mut String) -> Result<(), AllocError>
+        ensures { OnOk result (string_bytes text.new
+            ≡ string_bytes text.old ++ header_text self.now) }
+    {
+        put_words(text, "wfcheck branches 1")?;
+        put_number(text, "processes", self.processes as u32)?;
+        put_number(text, "rounds", self.rounds)?;
+        put_number(text, "points", self.points)?;
+        put_number(text, "executions", self.executions)?;
+        put_number(text, "branches", self.branches)?;
+        Ok(())
+    }
+}
+
+/// Adds a line for each branch.
+fn put_entries(alloc: Global, text: &mut String, cover: &Cover) -> Result<(), AllocError>
+    ensures { OnOk result (string_bytes text.new
+        ≡ string_bytes text.old ++ entries_text (enumerate_from 0 (boxes_left_out cover.now))) }
+{
+    for number in 0..cover.branches() {
+        let boxed = cover.branch(alloc, number)?;
+        put_entry(text, number, &boxed)?;
+    }
+    Ok(())
+}
+
+/// Adds the line of a branch.
+fn put_entry(text: &mut String, number: u32, boxed: &Box0) -> Result<(), AllocError>
+    ensures { OnOk result (string_bytes text.new
+        ≡ string_bytes text.old ++ entry_line (number, boxed.now.sets)) }
+{
+    let Size { open, candidates } = Size::of(boxed);
+    writeln!(text, "branch {number} {open} {candidates}")?;
+    Ok(())
+}
+
+/// How large a box is.
+#[derive(Clone, Copy)]
+struct Size {
+    /// How many points have two candidates or more.
+    open: u32,
+    /// How many candidates all points have.
+    candidates: u32,
+}
+
+impl Size {
+    /// The size of a box. It takes no memory.
+    fn of(boxed: &Box0) -> Size
+        ensures open { result.open ≡ open_points boxed.now.sets }
+        ensures candidates { result.candidates ≡ count boxed.now.sets }
+    {
+        let mut size = Size {
+            open: 0,
+            candidates: 0,
+        };
+        for point in 0..boxed.points() {
+            size = size.with(count(boxed.candidates(point)));
+        }
+        size
+    }
+
+    /// The size with a point more, which has so many candidates.
+    fn with(self, candidates: u32) -> Size
+        requires open { self.open + 1 < 2 ^ 32 }
+        requires candidates { self.candidates + candidates < 2 ^ 32 }
+        ensures open { result.open ≡ self.open + cond (nat_lt 1 candidates) 1 0 }
+        ensures candidates { result.candidates ≡ self.candidates + candidates }
+    {
+        Size {
+            open: if candidates > 1 {
+                self.open + 1
+            } else {
+                self.open
+            },
+            candidates: self.candidates + candidates,
+        }
+    }
+}

@@ -1,0 +1,5 @@
+//! Tests of runs over the branches of a question.
+#![tactic(auto)]
+
+#[cfg(test)]
+mod tests;

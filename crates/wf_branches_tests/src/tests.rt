@@ -1,0 +1,105 @@
+//! Tests of runs over the branches of a question. The texts are worked out by hand.
+
+use std::alloc::Global;
+use std::test::Fail;
+use wf_branches::{run_branches, run_cnf_branch, run_proof_branch};
+use wf_complex::BuildFault;
+use wf_engine::RunFault;
+use wf_examples::{AGREEMENT_2_2, CONSENSUS_2, PATH_3};
+use wf_io::{Sink, Source};
+use wf_rup::ProofFault;
+
+/// 2-set agreement of two after a round: those who saw both may decide either value.
+const AGREEMENT_2_2_ONE: &str =
+    "wfcheck branches 1\nprocesses 2\nrounds 1\npoints 4\nexecutions 5\nbranches 4\nbranch 0 0 4\nbranch 1 0 4\nbranch 2 0 4\nbranch 3 0 4\nend\n";
+
+/// The path of length 3 after a round: closing alone leaves one value at each point.
+const PATH_3_ONE: &str =
+    "wfcheck branches 1\nprocesses 2\nrounds 1\npoints 4\nexecutions 5\nbranches 1\nbranch 0 0 4\nend\n";
+
+/// Consensus of two after a round: closing the root leaves nothing.
+const CONSENSUS_2_ONE: &str =
+    "wfcheck branches 1\nprocesses 2\nrounds 1\npoints 4\nexecutions 5\nbranches 0\nend\n";
+
+/// The question of the third branch of the first of these: point 2 has 1, and point 3 has 0.
+const AGREEMENT_2_2_THIRD: &str =
+    "c wfcheck formula 1\nc processes 2\nc rounds 1\nc points 4\nc executions 5\nc branch 2 of 4\nc values 0 1\nc variable 2 * point + place of the value\np cnf 8 10\n1 2 0\n3 4 0\n5 6 0\n7 8 0\n-2 0\n-3 0\n-2 0\n-3 0\n-5 0\n-8 0\n";
+
+/// Whether this is the list of the branches of a task after some rounds.
+fn is_listed(alloc: Global, task: &str, rounds: u32, text: &str) -> bool {
+    let mut source = Source::new(task.as_bytes());
+    let mut written = Vec::new(alloc);
+    let mut sink = Sink::new(&mut written);
+    let is_whole = run_branches(alloc, &mut source, &mut sink, rounds).is_ok();
+    drop(sink);
+    is_whole && written.as_slice() == text.as_bytes()
+}
+
+/// What a question of a branch comes to: its text, or why there is none, where nothing was written.
+fn question(
+    alloc: Global,
+    task: &str,
+    rounds: u32,
+    branch: u32,
+) -> Result<Vec<u8>, Option<RunFault>> {
+    let mut source = Source::new(task.as_bytes());
+    let mut written = Vec::new(alloc);
+    let mut sink = Sink::new(&mut written);
+    let done = run_cnf_branch(alloc, &mut source, &mut sink, rounds, branch);
+    drop(sink);
+    match done {
+        Ok(()) => Ok(written),
+        Err(fault) if written.is_empty() => Err(Some(fault)),
+        Err(_) => Err(None),
+    }
+}
+
+/// Why a proof about a branch is refused; none where it is accepted.
+fn fault_of_proof(
+    alloc: Global,
+    task: &str,
+    rounds: u32,
+    branch: u32,
+    proof: &str,
+) -> Option<RunFault> {
+    let mut source = Source::new(task.as_bytes());
+    let mut proof = Source::new(proof.as_bytes());
+    let mut written = Vec::new(alloc);
+    let mut sink = Sink::new(&mut written);
+    run_proof_branch(alloc, &mut source, &mut proof, &mut sink, rounds, branch).err()
+}
+
+#[test]
+fn branches_are_listed(rt: HostRuntime) -> Result<(), Fail> {
+    assert!(rt; is_listed(rt.alloc(), AGREEMENT_2_2, 1, AGREEMENT_2_2_ONE));
+    assert!(rt; is_listed(rt.alloc(), PATH_3, 1, PATH_3_ONE));
+    assert!(rt; is_listed(rt.alloc(), CONSENSUS_2, 1, CONSENSUS_2_ONE));
+    Ok(())
+}
+
+#[test]
+fn a_branch_has_its_question(rt: HostRuntime) -> Result<(), Fail> {
+    let text = question(rt.alloc(), AGREEMENT_2_2, 1, 2).ok();
+    assert!(rt; text.is_some_and(|text| text.as_slice() == AGREEMENT_2_2_THIRD.as_bytes()));
+    Ok(())
+}
+
+#[test]
+fn a_branch_that_is_not_there_is_refused(rt: HostRuntime) -> Result<(), Fail> {
+    let none = Some(RunFault::NoBranch { branches: 4 });
+    let rounds = Some(RunFault::Build(BuildFault::Rounds));
+    assert!(rt; question(rt.alloc(), AGREEMENT_2_2, 1, 4).err() == Some(none));
+    assert!(rt; question(rt.alloc(), AGREEMENT_2_2, 9, 4).err() == Some(rounds));
+    assert!(rt; fault_of_proof(rt.alloc(), AGREEMENT_2_2, 1, 4, "x") == none);
+    assert!(rt; fault_of_proof(rt.alloc(), AGREEMENT_2_2, 9, 4, "x") == rounds);
+    Ok(())
+}
+
+#[test]
+fn a_branch_with_a_map_has_no_proof(rt: HostRuntime) -> Result<(), Fail> {
+    let open = Some(RunFault::Proof(ProofFault::NoContradiction { line: 1 }));
+    let lemma = Some(RunFault::Proof(ProofFault::NotImplied { line: 1 }));
+    assert!(rt; fault_of_proof(rt.alloc(), AGREEMENT_2_2, 1, 2, "") == open);
+    assert!(rt; fault_of_proof(rt.alloc(), AGREEMENT_2_2, 1, 2, "-6 0\n") == lemma);
+    Ok(())
+}

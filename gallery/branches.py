@@ -1,0 +1,130 @@
+"""A question branch by branch, for gallery/ask: each is a job of its own, and what is accepted of one is noted in a folder.
+
+A note is a file `branch-I` with one line, which is written whole or not at all: so a run that was cut off leaves no half of one, and
+a branch that has a note is not asked again. The folder says which question it is about, and is refused for another one."""
+import concurrent.futures
+import hashlib
+import os
+import pathlib
+import subprocess
+import sys
+import time
+
+FILES = {"none": ["said", "out"], "map": ["cnf", "said", "out", "drat"]}
+
+
+class Notes:
+    """What is known of the branches of one question."""
+
+    def __init__(self, folder, task, rounds, count):
+        self.folder, self.count = folder, count
+        digest = hashlib.sha256(task.read_bytes()).hexdigest()
+        about = f"{digest} {rounds} {count}\n"
+        if not (folder / "question").is_file():
+            self.write("question", about)
+        elif (folder / "question").read_text() != about:
+            sys.exit(f"{folder} has notes about another question: choose another folder")
+
+    def write(self, name, text):
+        part = self.folder / f".{name}.{os.getpid()}.{time.monotonic_ns()}"
+        part.write_text(text)
+        part.rename(self.folder / name)
+
+    def of(self, branch):
+        """The note of a branch; None where there is none."""
+        file = self.folder / f"branch-{branch}"
+        return file.read_text().strip() if file.is_file() else None
+
+    def all(self):
+        return {branch: note for branch in range(self.count) if (note := self.of(branch))}
+
+
+def branch_count(program, task, rounds):
+    """How many branches there are. Where the question is refused, that is the end."""
+    with open(task) as text:
+        run = subprocess.run([program, "branches", "--rounds", str(rounds)], stdin=text, capture_output=True, text=True)
+    if run.returncode:
+        print(run.stderr, end="")
+        sys.exit(2)
+    return int(next(line.split()[1] for line in run.stdout.split("\n") if line.startswith("branches ")))
+
+
+def decide(ask, notes, task, rounds, branch, solver, seconds):
+    """Asks the solver about a branch, and notes what is accepted of it."""
+    question = ask.Question(task, rounds, notes.folder, branch)
+    question.clear()
+    question.write_formula()
+    begun = time.monotonic()
+    run = question.begin_solver(solver)
+    try:
+        run.wait(seconds)
+    except subprocess.TimeoutExpired:
+        return None
+    finally:
+        run.kill()
+        run.wait()
+    taken = time.monotonic() - begun
+    answer = question.of_solver(f"branch {branch}: {solver.split()[0]}", taken)
+    if answer:
+        size = question.file("drat").stat().st_size if answer == "none" else 0
+        notes.write(f"branch-{branch}", f"{answer}, by {solver.split()[0]} in {taken:.2f} s" + (f", {size} bytes of proof" if size else "") + "\n")
+        for kind in ["cnf", *FILES[answer]]:
+            question.file(kind).unlink(missing_ok=True)
+    return answer
+
+
+def run_jobs(ask, notes, words, rounds, solver, chosen):
+    """Asks about the branches that have no note, so many at once, up to the first map."""
+    left = [branch for branch in chosen if not notes.of(branch)]
+    with concurrent.futures.ThreadPoolExecutor(words.jobs or 1) as pool:
+        jobs = [pool.submit(decide, ask, notes, words.task, rounds, branch, solver, words.seconds) for branch in left]
+        for job in concurrent.futures.as_completed(jobs):
+            if job.result() == "map":
+                pool.shutdown(wait=False, cancel_futures=True)
+                break
+
+
+def told(notes):
+    """What all notes come to, in words, and the answer."""
+    known = notes.all()
+    maps = [branch for branch, note in known.items() if note.startswith("map")]
+    nones = len(known) - len(maps)
+    if maps:
+        return f"map, in branch {min(maps)} of {notes.count}", "map"
+    if nones == notes.count:
+        return f"none: each of {notes.count} branches by a proof that is accepted", "none"
+    return f"not decided: none in {nones} of {notes.count} branches, and nothing is known of the others", None
+
+
+def array(words, rounds, count):
+    """The script of an array of jobs, one for each branch."""
+    here, program = pathlib.Path.cwd(), pathlib.Path(sys.argv[0])
+    command = f"{program} {words.task} {rounds} --keep {words.keep} --seconds {words.seconds:g}" + (f" --solver '{words.solver}'" if words.solver else "")
+    return "\n".join([
+        "#!/bin/sh",
+        f"#SBATCH --job-name={words.task.stem}-{rounds}",
+        f"#SBATCH --array=0-{count - 1}",
+        f"cd {here} || exit 1",
+        f'exec {command} --branch "$SLURM_ARRAY_TASK_ID"',
+    ])
+
+
+def main(ask, words, solver):
+    rounds = words.rounds[0]
+    if len(words.rounds) > 1:
+        sys.exit("branches are those of one number of rounds")
+    count = branch_count(ask.PROGRAM, words.task, rounds)
+    if words.array:
+        print(array(words, rounds, count))
+        return 0
+    if words.branch is not None and not 0 <= words.branch < count:
+        sys.exit(f"there are {count} branches, numbered from 0")
+    if not solver:
+        sys.exit(ask.NO_SOLVER.split(":")[0])
+    notes = Notes(words.keep, words.task, rounds, count)
+    chosen = range(count) if words.branch is None else [words.branch]
+    print(f"{words.task.stem} after {rounds} {'round' if rounds == 1 else 'rounds'}, {count} branches, {len(notes.all())} of them known:", flush=True)
+    run_jobs(ask, notes, words, rounds, solver, chosen)
+    text, answer = told(notes) if words.branch is None else (notes.of(words.branch) or "not decided", None)
+    print(f"    {text}", flush=True)
+    return ask.STATUS[answer if words.branch is None else (text.split(",")[0] if text != "not decided" else None)]
