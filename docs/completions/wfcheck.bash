@@ -4,7 +4,7 @@ _wfcheck() {
     local words
     COMPREPLY=()
     if [ "$COMP_CWORD" -eq 1 ]; then
-        mapfile -t COMPREPLY < <(compgen -W "solve verify views points cnf model proof trim explain lift executions preset help --help --version" -- "$cur")
+        mapfile -t COMPREPLY < <(compgen -W "solve verify views points branches cnf model proof trim explain lift executions preset help --help --version" -- "$cur")
         return
     fi
     case ${COMP_WORDS[1]}:$prev in
@@ -23,7 +23,9 @@ _wfcheck() {
             mapfile -t COMPREPLY < <(compgen -f -- "$cur")
             return
             ;;
+        branches:--rounds) return ;;
         cnf:--rounds) return ;;
+        cnf:--branch) return ;;
         model:--task)
             compopt -o filenames 2> /dev/null
             mapfile -t COMPREPLY < <(compgen -f -- "$cur")
@@ -36,6 +38,7 @@ _wfcheck() {
             return
             ;;
         proof:--rounds) return ;;
+        proof:--branch) return ;;
         trim:--task)
             compopt -o filenames 2> /dev/null
             mapfile -t COMPREPLY < <(compgen -f -- "$cur")
@@ -63,15 +66,16 @@ _wfcheck() {
         verify) words="--task --rounds --help" ;;
         views) words="--rounds --help" ;;
         points) words="--rounds --task --help" ;;
-        cnf) words="--rounds --help" ;;
+        branches) words="--rounds --help" ;;
+        cnf) words="--rounds --branch --help" ;;
         model) words="--task --rounds --help" ;;
-        proof) words="--task --rounds --help" ;;
+        proof) words="--task --rounds --branch --help" ;;
         trim) words="--task --help" ;;
         explain) words="--task --help" ;;
         lift) words="--task --rounds --help" ;;
         executions) words="--rounds --help" ;;
         preset) words="set-agreement renaming --processes --k --values --names --help" ;;
-        help) words="solve verify views points cnf model proof trim explain lift executions preset" ;;
+        help) words="solve verify views points branches cnf model proof trim explain lift executions preset" ;;
         *) return ;;
     esac
     mapfile -t COMPREPLY < <(compgen -W "$words" -- "$cur")
