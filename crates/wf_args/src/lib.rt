@@ -42,6 +42,17 @@ pub enum Job {
         /// Whether it is told how many branches are settled while they are searched.
         progress: bool,
     },
+    /// Search one branch of the question of a task after some rounds.
+    SolveBranch {
+        /// How many rounds.
+        rounds: u32,
+        /// The number of the branch, from 0.
+        branch: u32,
+        /// How much of what is found is written.
+        form: Form,
+        /// Whether it is told how the search goes on.
+        progress: bool,
+    },
     /// Check a report about a task.
     Verify {
         /// The file that has the task.

@@ -2,3 +2,4 @@ pub mod Lines
 pub mod Counts
 pub mod Truth
 pub mod Answering
+pub mod Solved

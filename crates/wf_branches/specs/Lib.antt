@@ -2,4 +2,5 @@
 pub mod Branches
 pub mod Listing
 pub mod Refuting
+pub mod Solving
 pub mod Laws

@@ -31,10 +31,11 @@ use Rattle.wf_formula.specs.Branches.{branch_text}
 use Rattle.wf_branches.specs.Branches.{ListsBranch}
 use Rattle.wf_branches.specs.Listing.{branches_text}
 use Rattle.wf_branches.specs.Refuting.{RefutesBranch}
+use Rattle.wf_branches.specs.Solving.{SolvesBranch}
 use Rattle.wf_args.specs.Asked.{Answers, job_asked}
 use Rattle.wf_args.specs.Slips.{slip_line}
 use Rattle.wf_args.specs.declared.Job.{Job}
-use Rattle.wf_args.specs.declared.Job.TheVariants.{Solve, Verify, Views, Points, Branches, Cnf, Model, Proof, Decisions, Trim, Explain, Lift, Executions, Preset}
+use Rattle.wf_args.specs.declared.Job.TheVariants.{Solve, SolveBranch, Verify, Views, Points, Branches, Cnf, Model, Proof, Decisions, Trim, Explain, Lift, Executions, Preset}
 use Rattle.wf_args.specs.declared.WordsFault.{WordsFault}
 use Rattle.wf_args.specs.declared.WordsFault.TheVariants as fault
 use Rattle.wf_program.specs.Files.{Opening, Opens, opened, refused, Filing, CanAsk, after_asking, unread}
@@ -103,6 +104,10 @@ abbrev pub solved : Bool → Result (Outcome × Account) RunFault → Result Don
 solved tells (Ok (outcome, a)) = Ok (record { status = outcome_status outcome; account = asked_for tells a })
 solved tells (Err e) = Err (Run e)
 
+abbrev pub searched : Result Outcome RunFault → Result Done Refusal
+searched (Ok outcome) = Ok (record { status = outcome_status outcome; account = None })
+searched (Err e) = Err (Run e)
+
 abbrev pub verified : Result Accepted RunFault → Result Done Refusal
 verified (Ok accepted) = Ok (record { status = 0; account = None })
 verified (Err e) = Err (Run e)
@@ -156,6 +161,9 @@ abbrev pub Does : {F : Type 0} → Opens → Job → Filing F → Filing F → R
 Does opens (Solve rounds workers form account progress) folder folder' source source' sink sink' done =
     (result : Result (Outcome × Account) RunFault) × Solves rounds form source source' sink sink' result
     × (workers ≡ 1 → SearchesInOrder result) × (folder' ≡ folder) × (done ≡ solved account result)
+Does opens (SolveBranch rounds branch form progress) folder folder' source source' sink sink' done =
+    (result : Result Outcome RunFault) × SolvesBranch rounds branch form source source' sink sink' result
+    × (folder' ≡ folder) × (done ≡ searched result)
 Does opens (Executions rounds) folder folder' source source' sink sink' done =
     ListsOf executions_text rounds folder folder' source source' sink sink' done
 Does opens (Verify task rounds) folder folder' source source' sink sink' done =

@@ -1,7 +1,7 @@
 use Rattle.std.proofs.Common.{subst, ap, ◌∙◌}
 use Rattle.wf_model.specs.Problem.{problem_of}
 use Rattle.wf_report.specs.Reports.{IsHeaderOf}
-use Rattle.wf_engine.proofs.solve.pose.Goals as goal
+use Rattle.wf_engine.proofs.solve.pose_problem.Goals as goal
 
 pub returns : goal.returns
 returns g c =
