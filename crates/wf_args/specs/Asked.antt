@@ -104,8 +104,22 @@ solve_asked rows =
     given (slip.Beside piece.Verdict piece.Least) (form_of rows) (λ form. solve_in (branch_of rows) rounds workers form
     (has_flag (codes "account") rows) (has_flag (codes "progress") rows))))
 
+-- a report about the whole is checked
+abbrev pub verify_whole : List Row → Asked
+verify_whole rows = needed piece.Task (task_of rows) (λ path. this_job_on path (λ task. job.Verify task (rounds_of rows)))
+
+-- a part about a branch is checked, for the rounds that are given with it
+abbrev pub verify_branch : ℕ → List Row → Asked
+verify_branch branch rows =
+    needed piece.Task (task_of rows) (λ path. given (slip.Needs piece.Branch piece.Rounds) (rounds_of rows) (λ rounds.
+    this_job_on path (λ task. job.VerifyBranch task rounds branch)))
+
+abbrev pub verify_in : Option ℕ → List Row → Asked
+verify_in None rows = verify_whole rows
+verify_in (Some branch) rows = verify_branch branch rows
+
 abbrev pub verify_asked : List Row → Asked
-verify_asked rows = needed piece.Task (task_of rows) (λ path. this_job_on path (λ task. job.Verify task (rounds_of rows)))
+verify_asked rows = verify_in (branch_of rows) rows
 
 abbrev pub views_asked : List Row → Asked
 views_asked rows = needed piece.Rounds (rounds_of rows) (λ rounds. this_job (job.Views rounds))

@@ -53,7 +53,7 @@ solve = subcommand (codes "solve")
     ∷ flag_option (codes "account") ∷ flag_option (codes "progress") ∷ branch_option ∷ [])
 
 abbrev pub verify : Shape
-verify = subcommand (codes "verify") (required task_option ∷ number_option (codes "rounds") ∷ [])
+verify = subcommand (codes "verify") (required task_option ∷ number_option (codes "rounds") ∷ branch_option ∷ [])
 
 abbrev pub views : Shape
 views = subcommand (codes "views") (rounds ∷ [])

@@ -140,7 +140,8 @@ fn verify_command<'a>(alloc: Global) -> Result<Command<'a>, AllocError>
         alloc,
         "rounds",
         "How many rounds the report is to be for: one for others is refused, and the answer tells them",
-    ))
+    ))?
+    .arg(branch(alloc))
 }
 
 fn views_command<'a>(alloc: Global) -> Result<Command<'a>, AllocError>

@@ -5,7 +5,7 @@ ghost use Rattle.clap.specs.Words.{first_of, found_of, rows_of, subcommand_rows_
 ghost use Rattle.wf_args.specs.Job.{CanBeDone};
 ghost use Rattle.wf_args.specs.declared.WordsFault.TheVariants as fault;
 ghost use Rattle.wf_args.specs.declared.slip.Slip.TheVariants as slip;
-ghost use Rattle.wf_args.specs.Asked.{Answers, this_or_slip, asked_in, asked_of, branch_job, branches_asked, cnf_asked, executions_asked, explain_asked, has_flag, lift_asked, model_asked, number_of, points_asked, preset_job_asked, proof_asked, solve_asked, trim_asked, verify_asked, views_asked, workers_of};
+ghost use Rattle.wf_args.specs.Asked.{Answers, this_or_slip, asked_in, asked_of, branch_job, branches_asked, cnf_asked, executions_asked, explain_asked, has_flag, lift_asked, model_asked, number_of, points_asked, preset_job_asked, proof_asked, solve_asked, trim_asked, verify_asked, verify_branch, verify_whole, views_asked, workers_of};
 
 use crate::forms::form_of;
 use crate::presets::Options;
@@ -162,6 +162,33 @@ fn branch_job(
 /// The job of `verify`.
 fn verify_job(alloc: Global, found: &ArgMatches<'_>) -> Result<Job, WordsFault>
     ensures asked { Answers (verify_asked (rows_of (found_of found.now))) result }
+    ensures can_be_done { IfOk result CanBeDone }
+{
+    match number(found, "branch") {
+        None => verify_whole(alloc, found),
+        Some(branch) => verify_branch(alloc, found, branch),
+    }
+}
+
+/// The job of `verify` with `--branch`, which needs `--rounds`.
+fn verify_branch(alloc: Global, found: &ArgMatches<'_>, branch: u32) -> Result<Job, WordsFault>
+    ensures asked { Answers (verify_branch branch (rows_of (found_of found.now))) result }
+    ensures can_be_done { IfOk result CanBeDone }
+{
+    match (text(found, "task"), number(found, "rounds")) {
+        (Some(task), Some(rounds)) => Ok(Job::VerifyBranch {
+            task: String::from_str(alloc, task)?,
+            rounds,
+            branch,
+        }),
+        (None, _) => Err(missing(Piece::Task)),
+        (Some(_), None) => Err(WordsFault::Words(Slip::Needs(Piece::Branch, Piece::Rounds))),
+    }
+}
+
+/// The job of `verify` without `--branch`.
+fn verify_whole(alloc: Global, found: &ArgMatches<'_>) -> Result<Job, WordsFault>
+    ensures asked { Answers (verify_whole (rows_of (found_of found.now))) result }
     ensures can_be_done { IfOk result CanBeDone }
 {
     match text(found, "task") {

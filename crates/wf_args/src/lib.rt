@@ -60,6 +60,15 @@ pub enum Job {
         /// How many rounds the report is to be for, where they are asked for.
         rounds: Option<u32>,
     },
+    /// Check the part of an answer that is about one branch of a task's question.
+    VerifyBranch {
+        /// The file that has the task.
+        task: String,
+        /// How many rounds.
+        rounds: u32,
+        /// The number of the branch, from 0.
+        branch: u32,
+    },
     /// List the points of a task's protocol complex after some rounds.
     Views {
         /// How many rounds.

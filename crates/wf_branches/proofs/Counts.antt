@@ -49,7 +49,7 @@ module _ {X : Type 0} (is_text : BranchAnswers X) (r i : ℕ) where
 -- ---- where a proof is checked
 
 -- a branch that is not there counts nowhere
-missing : (t : Task) (r i : ℕ) (e : RunFault) → IsNoBranch t r i e → (failed_reads e ≡ 0) × (failed_writes e ≡ 0)
+pub missing : (t : Task) (r i : ℕ) (e : RunFault) → IsNoBranch t r i e → (failed_reads e ≡ 0) × (failed_writes e ≡ 0)
 missing t r i (run.NoBranch n) is = (refl, refl)
 missing t r i run.OutOfMemory is = (refl, refl)
 missing t r i e is = absurd is

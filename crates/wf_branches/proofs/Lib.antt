@@ -3,3 +3,4 @@ pub mod Counts
 pub mod Truth
 pub mod Answering
 pub mod Solved
+pub mod Verified

@@ -38,13 +38,13 @@ use Rattle.wf_branches.specs.Laws.{BranchAnswersAreTrue}
 use Rattle.wf_branches.specs.Solving.{IsLeastInBranch, IsRefutationIn, IsSolvedIn, LeadsToMapIn, part_text}
 
 -- a branch is a box of the problem
-branch_is_box : (t : Task) (r i : ℕ) → IsTask t → HasBranch t r i → IsBoxOf (problem_of t r) (branch_at t r i)
+pub branch_is_box : (t : Task) (r i : ℕ) → IsTask t → HasBranch t r i → IsBoxOf (problem_of t r) (branch_at t r i)
 branch_is_box t r i task has =
     let p = problem_of t r in
     (All-get_or (IsClosedBranch p (root p)) (branches t r) i [] has (split_closed p (task_well_formed t r task))).is_box
 
 -- the least solution in a branch is the least decision map there
-least_there : (t : Task) (r i : ℕ) (values : List ℕ) → IsLeastIn (problem_of t r) (branch_at t r i) values → IsLeastInBranch t r i (by_number t r values)
+pub least_there : (t : Task) (r i : ℕ) (values : List ℕ) → IsLeastIn (problem_of t r) (branch_at t r i) values → IsLeastInBranch t r i (by_number t r values)
 least_there t r i values is =
     let same : values ≡ listed t r (by_number t r values) = sym (listed_by_number t r values is.solves.long) in
     record {

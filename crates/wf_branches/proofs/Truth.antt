@@ -16,13 +16,13 @@ use Rattle.wf_io.specs.Texts.{Took}
 use Rattle.wf_rup.specs.Seen.{HasNoModel, Known}
 use Rattle.wf_cnf.specs.Posing.{FollowsFrom}
 use Rattle.wf_engine.specs.Proofs.{ReadsAsProof}
-use Rattle.wf_engine.specs.Sources.{NextReads}
+use Rattle.wf_engine.specs.Sources.{NextReads, ReadsAbout}
 use Rattle.wf_engine.specs.declared.fault.RunFault.{RunFault}
 use Rattle.wf_engine.proofs.Both.{done}
 use Rattle.wf_engine.specs.Run.{answered}
 use Rattle.wf_engine.proofs.Asking.{IsRefusal}
 use Rattle.wf_branches.specs.Branches.{HasBranch, IsNoBranch}
-use Rattle.wf_branches.specs.Refuting.{FindsBranch, HasNoMapIn, ReadsBranchProof, ReadsProofIn, accepted_text}
+use Rattle.wf_branches.specs.Refuting.{FindsBranch, HasNoMapIn, ReadsBranchProof, ReadsIn, ReadsProofIn, accepted_text}
 use Rattle.wf_branches.specs.Laws.{BranchesCoverAllMaps, BranchRefutationsAreTrue}
 
 -- where what is known follows from a branch's question and has no model, no decision map lies there
@@ -61,10 +61,11 @@ branch_refutations_true r i task task' proof proof' sink sink' ran =
 
 -- ---- whether there is such a branch
 
-pub missing_in : {A : Type 0} (i : ℕ) (t : Task) (r : ℕ) (old : Reading) (e : RunFault) (result : Result (Unit {0} × Vec ℕ A) RunFault) → IsNoBranch t r i e → IsRefusal e result
-    → ReadsProofIn i t r old old (answered result)
-missing_in i t r old e (Ok x) none is = absurd (let ended = is.0 in let bad : ⊥ = cc in bad)
-missing_in i t r old e (Err found) none is = (Err e, none, (ap Err is.1, refl))
+module _ (reads : ℕ → ReadsAbout) (i : ℕ) (t : Task) (r : ℕ) (old : Reading) where
+  pub missing_in : {A : Type 0} (e : RunFault) (result : Result (Unit {0} × Vec ℕ A) RunFault) → IsNoBranch t r i e → IsRefusal e result
+      → ReadsIn reads i t r old old (answered result)
+  missing_in e (Ok x) none is = absurd (let ended = is.0 in let bad : ⊥ = cc in bad)
+  missing_in e (Err found) none is = (Err e, none, (ap Err is.1, refl))
 
-pub found_in : (i n : ℕ) (t : Task) (r : ℕ) (old new : Reading) (result : Result (Unit {0} × List ℕ) RunFault) → n ≡ i → HasBranch t r i → ReadsBranchProof n t r old new result → ReadsProofIn i t r old new result
-found_in i n t r old new result same has read = (Ok tt, has, subst (λ k. ReadsBranchProof k t r old new result) same read)
+  pub found_in : (n : ℕ) (new : Reading) (result : Result (Unit {0} × List ℕ) RunFault) → n ≡ i → HasBranch t r i → reads n t r old new result → ReadsIn reads i t r old new result
+  found_in n new result same has read = (Ok tt, has, subst (λ k. reads k t r old new result) same read)

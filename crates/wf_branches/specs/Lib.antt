@@ -3,4 +3,5 @@ pub mod Branches
 pub mod Listing
 pub mod Refuting
 pub mod Solving
+pub mod Verifying
 pub mod Laws

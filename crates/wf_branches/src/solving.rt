@@ -1,6 +1,6 @@
 //! Searching one branch of a task's question.
 
-ghost use Rattle.std.specs.Prelude.{◌≡◌, IfOk, length, string_bytes};
+ghost use Rattle.std.specs.Prelude.{◌≡◌, IfOk, length};
 ghost use Rattle.wf_model.specs.Problem.{problem_of};
 ghost use Rattle.wf_formula.specs.Branches.{branches};
 ghost use Rattle.wf_io.specs.Ends.{CanCount, CanRead};
@@ -10,15 +10,15 @@ ghost use Rattle.wf_engine.specs.Heads.{IsHead};
 ghost use Rattle.wf_engine.specs.Run.{answered};
 ghost use Rattle.wf_engine.specs.Texts.{lines_kept};
 ghost use Rattle.wf_branches.specs.Branches.{AnswersBranch, AsksBranch};
-ghost use Rattle.wf_branches.specs.Solving.{IsSolvedIn, SolvesBranch, part_head, part_text};
+ghost use Rattle.wf_branches.specs.Solving.{IsSolvedIn, SolvesBranch, part_text};
 
+use crate::branch::Place;
 use std::alloc::{AllocError, Global};
 use std::io::{Read, Write};
 use wf_engine::{
     Form, Outcome, RunFault, hand_out, lines_kept, map_body, pose_problem, read_task, report_text,
 };
 use wf_io::{Sink, Source};
-use wf_lines::{put_number, put_words};
 use wf_pool::{Answer, BranchAnswer, Gate, Open, solve_branch};
 use wf_report::{Body, Header};
 use wf_task::Task;
@@ -90,18 +90,14 @@ fn solve_task<G: Gate>(
     let (header, problem) = pose_problem(alloc, task, rounds, gate)?;
     match solve_branch(alloc, &problem, lines_kept(form), branch, gate)? {
         BranchAnswer::Answered(answer, count) => {
-            let place = Place { branch, count };
+            let place = Place {
+                number: branch,
+                count,
+            };
             Ok(with_part(alloc, task, rounds, header, place, answer, form)?)
         }
         BranchAnswer::Missing(branches) => Err(RunFault::NoBranch { branches }),
     }
-}
-
-/// Which branch a part is about, and how many there are.
-#[derive(Clone, Copy)]
-struct Place {
-    branch: u32,
-    count: u32,
 }
 
 /// What a search of a branch answers, with the text of the part about it.
@@ -116,8 +112,8 @@ fn with_part(
 ) -> Result<(Outcome, Vec<u8>), AllocError>
     requires header { IsHead task.now rounds header }
     requires count { place.count ≡ length (branches task.now rounds) }
-    requires answer { IsAnswerAt (problem_of task.now rounds) (lines_kept form) place.branch answer }
-    ensures { IfOk result (λ r. IsSolvedIn form task.now rounds place.branch r.0 r.1.items) }
+    requires answer { IsAnswerAt (problem_of task.now rounds) (lines_kept form) place.number answer }
+    ensures { IfOk result (λ r. IsSolvedIn form task.now rounds place.number r.0 r.1.items) }
 {
     match answer {
         Answer::Map(values, lines) => {
@@ -143,22 +139,9 @@ fn part_text(
     requires header { IsHead task.now rounds header }
     requires count { place.count ≡ length (branches task.now rounds) }
     ensures { IfOk result (λ text. text.items
-        ≡ part_text task.now rounds place.branch (body_of body)) }
+        ≡ part_text task.now rounds place.number (body_of body)) }
 {
     let mut text = place.head(alloc)?.into_bytes();
     text.extend_from_slice(&report_text(alloc, task, rounds, header, body)?)?;
     Ok(text)
-}
-
-impl Place {
-    /// The lines before the report.
-    fn head(self, alloc: Global) -> Result<String, AllocError>
-        ensures { IfOk result (λ text. string_bytes text ≡ part_head self.branch self.count) }
-    {
-        let mut text = String::new(alloc);
-        put_words(&mut text, "wfcheck part 1")?;
-        put_number(&mut text, "branch", self.branch)?;
-        put_number(&mut text, "branches", self.count)?;
-        Ok(text)
-    }
 }

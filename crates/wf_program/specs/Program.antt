@@ -32,10 +32,11 @@ use Rattle.wf_branches.specs.Branches.{ListsBranch}
 use Rattle.wf_branches.specs.Listing.{branches_text}
 use Rattle.wf_branches.specs.Refuting.{RefutesBranch}
 use Rattle.wf_branches.specs.Solving.{SolvesBranch}
+use Rattle.wf_branches.specs.Verifying.{VerifiesBranch}
 use Rattle.wf_args.specs.Asked.{Answers, job_asked}
 use Rattle.wf_args.specs.Slips.{slip_line}
 use Rattle.wf_args.specs.declared.Job.{Job}
-use Rattle.wf_args.specs.declared.Job.TheVariants.{Solve, SolveBranch, Verify, Views, Points, Branches, Cnf, Model, Proof, Decisions, Trim, Explain, Lift, Executions, Preset}
+use Rattle.wf_args.specs.declared.Job.TheVariants.{Solve, SolveBranch, Verify, VerifyBranch, Views, Points, Branches, Cnf, Model, Proof, Decisions, Trim, Explain, Lift, Executions, Preset}
 use Rattle.wf_args.specs.declared.WordsFault.{WordsFault}
 use Rattle.wf_args.specs.declared.WordsFault.TheVariants as fault
 use Rattle.wf_program.specs.Files.{Opening, Opens, opened, refused, Filing, CanAsk, after_asking, unread}
@@ -128,6 +129,8 @@ Ended {X = X} answered does task task' source source' sink sink' done =
 -- what a job does with the task in its file
 abbrev pub DoesWithFile : Filed → DoesBoth (Result Done Refusal)
 DoesWithFile (filed.Verify rounds) task task' source source' sink sink' done = Ended verified (Verifies rounds) task task' source source' sink sink' done
+DoesWithFile (filed.VerifyBranch rounds branch) task task' source source' sink sink' done =
+    Ended written (VerifiesBranch rounds branch) task task' source source' sink sink' done
 DoesWithFile (filed.Model rounds) task task' source source' sink sink' done = Ended written (Models rounds) task task' source source' sink sink' done
 DoesWithFile (filed.Proof rounds None) task task' source source' sink sink' done = Ended written (Refutes rounds) task task' source source' sink sink' done
 DoesWithFile (filed.Proof rounds (Some branch)) task task' source source' sink sink' done =
@@ -168,6 +171,8 @@ Does opens (Executions rounds) folder folder' source source' sink sink' done =
     ListsOf executions_text rounds folder folder' source source' sink sink' done
 Does opens (Verify task rounds) folder folder' source source' sink sink' done =
     WithFile (opens (string_bytes task)) (DoesWithFile (filed.Verify rounds)) folder folder' source source' sink sink' done
+Does opens (VerifyBranch task rounds branch) folder folder' source source' sink sink' done =
+    WithFile (opens (string_bytes task)) (DoesWithFile (filed.VerifyBranch rounds branch)) folder folder' source source' sink sink' done
 Does opens (Views rounds) folder folder' source source' sink sink' done =
     ListsOf views_text rounds folder folder' source source' sink sink' done
 Does opens (Points rounds) folder folder' source source' sink sink' done =

@@ -113,6 +113,15 @@ fn do_job<T: Threads + Sync, F: Files, G: Gate, R: Read, W: Write>(
         Job::Verify { task, rounds } => {
             Filed::Verify(*rounds).with_file(rt, alloc, folder, task, source, sink)
         }
+        Job::VerifyBranch {
+            task,
+            rounds,
+            branch,
+        } => Filed::VerifyBranch {
+            rounds: *rounds,
+            branch: *branch,
+        }
+        .with_file(rt, alloc, folder, task, source, sink),
         Job::Views { rounds } => after_writing(run_views(alloc, source, sink, *rounds)),
         Job::Points { rounds } => after_writing(run_points(alloc, source, sink, *rounds)),
         Job::Branches { rounds } => after_writing(run_branches(alloc, source, sink, *rounds)),

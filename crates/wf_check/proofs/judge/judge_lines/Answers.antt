@@ -1,24 +1,22 @@
 use Rattle.std.proofs.Common.{◌≡◌, ◌∙◌, ◌∷◌, ◌+◌, suc, drop, length, map, arith, subst, sym, ap}
-use Rattle.std.proofs.lemmas.List.{length-replicate}
 use Rattle.std.proofs.lemmas.Result.{err_from_is_err_and}
 use Rattle.wf_model.specs.Problem.{problem_of}
 use Rattle.wf_lines.specs.Lines.{line_of}
 use Rattle.wf_lines.specs.declared.line.Line.TheVariants as line
+use Rattle.wf_set.specs.Sets.{box_of}
 use Rattle.wf_check.specs.Blocks.{later}
 use Rattle.wf_check.specs.Claims.{fault_left, lines_fault}
 use Rattle.wf_check.specs.Faults.{Fails}
 use Rattle.wf_check.proofs.ClaimLemmas.{going_on, judges_fault, trailing_there}
-use Rattle.wf_check.proofs.RootLemmas.{root_is}
 use Rattle.wf_check.proofs.judge.judge_lines.Goals as goal
 
 pub loop-line-init : goal.loop-line-init
 loop-line-init c =
-    let t = c.args.task.now in
-    let b = c.args.protocol.now in
-    let sets = c.in_ok-blocks.blocks.sets.items in
-    let are = c.in_ok-blocks.ensures.sets in (
-      (λ i. lines_fault (problem_of t b.rounds) c.args.claim c.args.first (map line_of c.args.lines.now) (root_is t b.rounds b c.values.result c.points.result sets c.requires.built c.values.ensures.values c.points.ensures.points are i ∷ ap (λ es. later es sets) c.in_ok-blocks.ensures.alone i)),
-      ap length are ∙ length-replicate c.points.result c.values.result ∙ c.points.ensures.points,
+    let p = problem_of c.args.task.now c.args.protocol.now.rounds in
+    let sets = c.of.result.sets.items in
+    let are = c.of.ensures.sets in (
+      (λ i. lines_fault p c.args.claim c.args.first (map line_of c.args.lines.now) (ap box_of are i ∷ ap (λ es. later es sets) c.of.ensures.alone i)),
+      ap length are ∙ c.requires.long,
       omega arith,
     )
 
