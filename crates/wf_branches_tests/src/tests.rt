@@ -2,7 +2,10 @@
 
 use std::alloc::Global;
 use std::test::Fail;
-use wf_branches::{run_branches, run_cnf_branch, run_proof_branch, run_solve_branch};
+use std::thread::Threads;
+use wf_branches::{
+    run_branches, run_cnf_branch, run_proof_branch, run_solve_branch, run_verify_branch,
+};
 use wf_complex::BuildFault;
 use wf_engine::{Form, Outcome, RunFault};
 use wf_examples::{AGREEMENT_2_2, CONSENSUS_2, PATH_3};
@@ -28,6 +31,10 @@ const AGREEMENT_2_2_THIRD: &str =
 /// The part of the third branch of the first of these: its map is decided already.
 const AGREEMENT_2_2_PART: &str =
     "wfcheck part 1\nbranch 2\nbranches 4\nwfcheck report 1\nprocesses 2\nrounds 1\npoints 4\nexecutions 5\nanswer least\nm 0\nm 1\nm 1\nm 0\nf\nend\n";
+
+/// A map of the first branch as a part of the third.
+const AGREEMENT_2_2_ELSEWHERE: &str =
+    "wfcheck part 1\nbranch 2\nbranches 4\nwfcheck report 1\nprocesses 2\nrounds 1\npoints 4\nexecutions 5\nanswer map\nm 0\nm 1\nm 0\nm 0\nend\n";
 
 /// Whether this is the list of the branches of a task after some rounds.
 fn is_listed(alloc: Global, task: &str, rounds: u32, text: &str) -> bool {
@@ -74,6 +81,25 @@ fn part(
         Ok(outcome) => Ok((outcome, written)),
         Err(fault) if written.is_empty() => Err(Some(fault)),
         Err(_) => Err(None),
+    }
+}
+
+/// What is written of a part about a branch that is accepted, or why it is refused.
+fn judged<T: Threads + Sync>(
+    rt: &T,
+    alloc: Global,
+    branch: u32,
+    part: &str,
+) -> Result<Vec<u8>, RunFault> {
+    let mut source = Source::new(AGREEMENT_2_2.as_bytes());
+    let mut part = Source::new(part.as_bytes());
+    let mut written = Vec::new(alloc);
+    let mut sink = Sink::new(&mut written);
+    let done = run_verify_branch(rt, alloc, &mut source, &mut part, &mut sink, 1, branch);
+    drop(sink);
+    match done {
+        Ok(()) => Ok(written),
+        Err(fault) => Err(fault),
     }
 }
 
@@ -134,5 +160,17 @@ fn a_branch_is_searched_alone(rt: HostRuntime) -> Result<(), Fail> {
         && text.as_slice() == AGREEMENT_2_2_PART.as_bytes()));
     let none = Some(RunFault::NoBranch { branches: 4 });
     assert!(rt; part(rt.alloc(), AGREEMENT_2_2, 4, Form::Full).err() == Some(none));
+    Ok(())
+}
+
+#[test]
+fn a_part_is_checked_about_its_branch(rt: HostRuntime) -> Result<(), Fail> {
+    let line = judged(&rt, rt.alloc(), 2, AGREEMENT_2_2_PART).ok();
+    assert!(rt; line.is_some_and(|line| line.as_slice()
+        == b"accepted least in branch 2 of 4 at 1 round\n"));
+    let other = Some(RunFault::OtherPart);
+    assert!(rt; judged(&rt, rt.alloc(), 1, AGREEMENT_2_2_PART).err() == other);
+    let elsewhere = Some(RunFault::NotInBranch);
+    assert!(rt; judged(&rt, rt.alloc(), 2, AGREEMENT_2_2_ELSEWHERE).err() == elsewhere);
     Ok(())
 }

@@ -195,6 +195,14 @@ fn presets_are_a_job_or_a_fault(rt: HostRuntime) -> Result<(), Fail> {
             "wfcheck solve --branch 0 --rounds 1",
             "clap MissingRequiredArgument",
         ),
+        (
+            "wfcheck verify --branch 5 --task t.json --rounds 2",
+            "verify t.json for 2 in 5",
+        ),
+        (
+            "wfcheck verify --branch 5 --task t.json",
+            "words: '--branch' needs the argument '--rounds'",
+        ),
         ("wfcheck cnf --rounds 2 --branch 5", "cnf 2 in 5"),
         (
             "wfcheck proof --task t.json --rounds 2 --branch 0",
@@ -242,6 +250,13 @@ fn judged(alloc: Global, line: &str) -> Result<String, AllocError> {
             None => format!(in alloc; "verify {task}"),
             Some(rounds) => format!(in alloc; "verify {task} for {rounds}"),
         },
+        Ok(
+            Job::VerifyBranch {
+                task,
+                rounds,
+                branch,
+            },
+        ) => format!(in alloc; "verify {task} for {rounds} in {branch}"),
         Ok(Job::Views { rounds }) => format!(in alloc; "views {rounds}"),
         Ok(Job::Points { rounds }) => format!(in alloc; "points {rounds}"),
         Ok(Job::Branches { rounds }) => format!(in alloc; "branches {rounds}"),
