@@ -1,5 +1,5 @@
 -- What a checker answers about a report whose answer is about one box alone.
-use Rattle.std.specs.Prelude.{ℕ, ◌+◌, List, [], ◌∷◌, length, Option}
+use Rattle.std.specs.Prelude.{ℕ, ◌+◌, [], ◌∷◌, length, Option}
 use Rattle.wf_model.specs.Task.{Task}
 use Rattle.wf_model.specs.Problem.{Problem, problem_of}
 use Rattle.wf_model.specs.Box.{Box}

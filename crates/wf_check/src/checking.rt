@@ -1,6 +1,6 @@
 //! Whether a report about a task is right.
 
-ghost use Rattle.std.specs.Prelude.{◌≡◌, OnOk, length};
+ghost use Rattle.std.specs.Prelude.{◌≡◌, IfOk, OnOk, length, replicate};
 ghost use Rattle.wf_model.specs.Problem.{problem_of};
 ghost use Rattle.wf_model.specs.Check.{body_fault, header_fault, map_fault, report_fault};
 ghost use Rattle.wf_complex.specs.Protocol.{IsProtocol};
@@ -12,7 +12,7 @@ ghost use Rattle.wf_report.specs.Reports.{AreNumbered, body_length, body_of, rep
 
 use crate::judge::{Claim, judge_lines};
 use crate::maps::first_violated;
-use std::alloc::Global;
+use std::alloc::{AllocError, Global};
 use std::thread::Threads;
 use wf_complex::Protocol;
 use wf_report::{Body, CertFault, FIRST_LINE, Report};
@@ -105,10 +105,18 @@ fn judge_body<R: Threads + Sync>(
     match body {
         Body::Map(values) => judge_map(rt, task, protocol, values),
         Body::Nothing(_) | Body::Least(_, _) => {
-            let sets = vec![in alloc; task.values(); protocol.points() as usize]?;
+            let sets = all_alike(alloc, task.values(), protocol.points())?;
             judge_within(rt, alloc, task, protocol, sets, body)
         }
     }
+}
+
+/// The box with these values at so many points.
+fn all_alike(alloc: Global, values: Mask, points: u32) -> Result<Vec<Mask>, AllocError>
+    ensures { IfOk result (λ sets. sets.items ≡ replicate points values) }
+{
+    let sets = vec![in alloc; values; points as usize]?;
+    Ok(sets)
 }
 
 /// Judges the map, the lines over the box with these values at each point, or the map and then the lines.

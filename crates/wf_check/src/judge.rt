@@ -70,15 +70,34 @@ pub(crate) fn judge_lines(
         (lines_fault (problem_of task.now protocol.now.rounds) claim.entry first
         (map line_of lines.now) (box ∷ [])) }
 {
-    let supports = support_all(alloc, task)?;
     let mut blocks = Blocks::of(alloc, sets);
+    judge_from(alloc, task, protocol, claim, first, lines, &mut blocks)
+}
+
+/// Judges the lines over the boxes of these blocks.
+fn judge_from(
+    alloc: Global,
+    task: &Task,
+    protocol: &Protocol,
+    claim: Claim,
+    first: u32,
+    lines: &[Line],
+    blocks: &mut Blocks,
+) -> Result<(), CertFault>
+    requires built { IsProtocol task.now protocol.now.rounds protocol.now }
+    requires long { length blocks.old.sets.items ≡ length protocol.now.points }
+    requires few { first + length lines.now < u32.MAX }
+    ensures { Judges result (lines_fault (problem_of task.now protocol.now.rounds) claim.entry first
+        (map line_of lines.now) (box_now blocks.old ∷ boxes_later blocks.old)) }
+{
+    let supports = support_all(alloc, task)?;
     let mut progress = Progress::Going;
     let mut at = first;
     for line in lines {
         let Progress::Going = progress else {
             return Err(CertFault::Trailing(at));
         };
-        progress = judge_line(task, protocol, &supports, claim, *line, at, &mut blocks)?;
+        progress = judge_line(task, protocol, &supports, claim, *line, at, blocks)?;
         at += 1;
     }
     match (claim, progress) {
