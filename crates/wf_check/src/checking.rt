@@ -137,12 +137,28 @@ fn judge_within<R: Threads + Sync>(
     match body {
         Body::Map(values) => judge_map(rt, task, protocol, values),
         Body::Nothing(lines) => {
-            judge_lines(alloc, task, protocol, sets, Claim::Nothing, FIRST_LINE, lines)
+            judge_lines(
+                alloc,
+                task,
+                protocol,
+                sets,
+                Claim::Nothing,
+                FIRST_LINE,
+                lines,
+            )
         }
         Body::Least(values, lines) => {
             judge_map(rt, task, protocol, values)?;
             let first = FIRST_LINE + values.len() as u32;
-            judge_lines(alloc, task, protocol, sets, Claim::Least(values), first, lines)
+            judge_lines(
+                alloc,
+                task,
+                protocol,
+                sets,
+                Claim::Least(values),
+                first,
+                lines,
+            )
         }
     }
 }
