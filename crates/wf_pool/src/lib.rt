@@ -6,7 +6,7 @@
 //! [`solve_branch`] searches one branch alone.
 //!
 //! - `gate`: what a caller may watch and hold of the workers.
-//! - `worker`: a seat, and what the worker keeps of what it found.
+//! - `worker`: a seat, what the worker keeps of what it found, and what closing found out on the way.
 //! - `site`: what all workers share.
 //! - `watch`: a worker at a branch; it looks at the board before each turn of its search.
 //! - `crew`: all workers, each in a thread of its own where one can be had.
@@ -18,6 +18,9 @@
 //! branch is searched. In the end the others are moved to their places in a list of the branches, or of those up to the
 //! first with a map, and none is copied but into the lines of the root: this takes one list for each branch, and a step
 //! for each list of lines.
+//!
+//! Each worker, the only one too, begins a branch with what closing found out in its earlier ones. Workers share none of
+//! it, and it is moved with its worker and never copied. It saves time alone: whatever it holds, the answer is the same.
 #![tactic(auto)]
 
 mod answer;

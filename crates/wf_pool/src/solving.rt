@@ -277,7 +277,7 @@ fn search_all<R: Threads + Sync, H: Handout, G: Gate>(
     work_left(alloc, &site, workers, left.as_slice())
 }
 
-/// A worker for each seat.
+/// A worker for each seat. None has found out anything.
 fn fresh_workers(
     alloc: Global,
     problem: &Problem,
@@ -298,6 +298,7 @@ fn fresh_workers(
                 map: None,
                 lines: Vec::new(alloc),
             },
+            answers: Answers::new(alloc),
         })?;
     }
     Ok(workers)
