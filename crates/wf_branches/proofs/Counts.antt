@@ -2,6 +2,7 @@
 use Rattle.std.proofs.Common.{◌≡◌, ℕ, ◌+◌, List, Result, Ok, Err, refl, sym, ap, ◌∙◌, arith}
 use Rattle.wf_model.specs.Limits.{most_bytes}
 use Rattle.wf_model.specs.Task.{Task}
+use Rattle.wf_formula.specs.Branches.{branch_question}
 use Rattle.wf_io.specs.Seen.{Reading, Writing}
 use Rattle.wf_engine.specs.declared.fault.RunFault.{RunFault}
 use Rattle.wf_engine.specs.declared.fault.RunFault.TheVariants as run
@@ -56,7 +57,7 @@ missing t r i e is = absurd is
 
 read_counted : (i : ℕ) (t : Task) (r : ℕ) (old new : Reading) (found : Result (Unit {0}) RunFault) (answer : Result (Unit {0} × List ℕ) RunFault)
     → FindsBranch t r i found → NextReads (λ there. ReadsBranchProof i t r) old new found answer → IsReadCounted most_proof_bytes old new answer
-read_counted i t r old new (Ok there) answer is read = proof_counted (IsAcceptedBranch i t r) old new answer read
+read_counted i t r old new (Ok there) answer is read = proof_counted (branch_question t r i) (IsAcceptedBranch i t r) old new answer read
 read_counted i t r old new (Err e) answer is (refused, same) =
     let takes : new.taken ≡ old.taken = ap (λ s. s.taken) same in
     let fails : new.failures ≡ old.failures = ap (λ s. s.failures) same in

@@ -4,12 +4,12 @@ use Rattle.wf_model.specs.Task.{Task}
 use Rattle.wf_model.specs.View.{View}
 use Rattle.wf_model.specs.Box.{LiesIn}
 use Rattle.wf_model.specs.DecisionMap.{IsDecisionMap, listed}
-use Rattle.wf_formula.specs.Branches.{branch_at, branches}
+use Rattle.wf_formula.specs.Branches.{branch_at, branch_question, branches}
 use Rattle.wf_io.specs.Seen.{Reading, Writing}
 use Rattle.wf_engine.specs.Run.{Ran}
 use Rattle.wf_engine.specs.Sources.{AsksBoth, NextReads, ReadsAbout}
 use Rattle.wf_engine.specs.Verify.{rounds_end}
-use Rattle.wf_engine.specs.Proofs.{ReadsAsProof}
+use Rattle.wf_engine.specs.Proofs.{ReadsProofOf}
 use Rattle.wf_engine.specs.declared.fault.RunFault.{RunFault}
 use Rattle.wf_branches.specs.Branches.{HasBranch, IsNoBranch}
 
@@ -29,9 +29,9 @@ accepted_text i n r = accepted_in (codes "accepted none") i n r
 abbrev pub IsAcceptedBranch : ℕ → Task → ℕ → Unit {0} × List ℕ → Type 0
 IsAcceptedBranch i t r answer = HasNoMapIn t r i × (answer.1 ≡ accepted_text i (length (branches t r)) r)
 
--- a source's bytes as a proof that no decision map lies in branch i
+-- a source's bytes as a proof that no decision map lies in branch i: that the question of the branch has no model
 abbrev pub ReadsBranchProof : ℕ → Task → ℕ → Reading → Reading → Result (Unit {0} × List ℕ) RunFault → Type 0
-ReadsBranchProof i t r old new result = ReadsAsProof (IsAcceptedBranch i t r) old new result
+ReadsBranchProof i t r old new result = ReadsProofOf (branch_question t r i) (IsAcceptedBranch i t r) old new result
 
 -- there is a branch i, or why not
 abbrev pub FindsBranch : Task → ℕ → ℕ → Result (Unit {0}) RunFault → Type 0
