@@ -4,3 +4,4 @@ pub mod Truth
 pub mod Answering
 pub mod Solved
 pub mod Verified
+pub mod Told

@@ -1,11 +1,10 @@
 -- What a search of a branch answers, in the terms of the task.
-use Rattle.std.proofs.Common.{◌≡◌, ℕ, List, [], None, Some, length, All, Result, Ok, Err, refl, sym, ap, subst, ◌∙◌}
+use Rattle.std.proofs.Common.{◌≡◌, ℕ, List, [], map, Result, Ok, Err, refl, sym, ap, subst, ◌∙◌}
 use Rattle.std.proofs.lemmas.List.Elements.{All-get_or}
 use Rattle.wf_model.specs.Task.{Task, IsTask}
-use Rattle.wf_model.specs.View.{View}
 use Rattle.wf_model.specs.Lists.{IsBelowOrSame}
-use Rattle.wf_model.specs.Box.{Box, LiesIn, root}
-use Rattle.wf_model.specs.Problem.{Problem, problem_of}
+use Rattle.wf_model.specs.Box.{LiesIn, root}
+use Rattle.wf_model.specs.Problem.{problem_of}
 use Rattle.wf_model.specs.DecisionMap.{listed}
 use Rattle.wf_model.specs.Refutation.{Line}
 use Rattle.wf_model.specs.Closing.{canonical}
@@ -21,13 +20,13 @@ use Rattle.wf_model.proofs.WellFormed.{task_well_formed}
 use Rattle.wf_formula.specs.Branches.{branch_at, branches}
 use Rattle.wf_lines.specs.Lines.{line_of}
 use Rattle.wf_lines.specs.declared.line.Line as code
-use Rattle.wf_pool.specs.Branches.{AreLinesAt, IsMapAt}
+use Rattle.wf_pool.specs.Branches.{AreLinesAt, IsMapAt, branch_count}
 use Rattle.wf_report.specs.declared.form.Form.{Form}
 use Rattle.wf_io.specs.Seen.{Reading, Writing}
 use Rattle.wf_io.specs.Texts.{Took}
 use Rattle.wf_engine.specs.Headline.{GaveTask}
-use Rattle.wf_engine.specs.Run.{Hands, IsTaskOf, Next, Ran, Reads}
-use Rattle.wf_engine.specs.Texts.{lines_kept, map_body, none_body}
+use Rattle.wf_engine.specs.Run.{Hands, IsTaskOf, Next, Reads}
+use Rattle.wf_engine.specs.Texts.{lines_kept, map_body}
 use Rattle.wf_engine.specs.declared.fault.RunFault.{RunFault}
 use Rattle.wf_engine.specs.declared.outcome.Outcome.{Outcome}
 use Rattle.wf_engine.specs.declared.outcome.Outcome.TheVariants.{Map, Nothing}
@@ -35,7 +34,7 @@ use Rattle.wf_engine.proofs.Headline.{task_read}
 use Rattle.wf_engine.proofs.Verdicts.{kept_shown, none_shown}
 use Rattle.wf_branches.specs.Branches.{AnswersBranch, AsksBranch, HasBranch}
 use Rattle.wf_branches.specs.Laws.{BranchAnswersAreTrue}
-use Rattle.wf_branches.specs.Solving.{IsLeastInBranch, IsRefutationIn, IsSolvedIn, LeadsToMapIn, part_text}
+use Rattle.wf_branches.specs.Solving.{IsLeastInBranch, IsSolvedIn, LeadsToMapIn, part_text}
 
 -- a branch is a box of the problem
 pub branch_is_box : (t : Task) (r i : ℕ) → IsTask t → HasBranch t r i → IsBoxOf (problem_of t r) (branch_at t r i)
@@ -55,7 +54,7 @@ least_there t r i values is =
 
 pub map_part : (t : Task) (r i : ℕ) (form : Form) (values : List ℕ) (ls : List code.Line) (text : List ℕ) → IsTask t → IsMapAt (problem_of t r) (lines_kept form) i values ls
     → text ≡ part_text t r i (map_body form values (map line_of ls)) → IsSolvedIn form t r i Map text
-unfolding IsMapAt
+unfolding IsMapAt branch_count
 map_part t r i form values ls text task (there, found, kept) is =
     let p = problem_of t r in
     let box = branch_at t r i in
@@ -73,8 +72,8 @@ map_part t r i form values ls text task (there, found, kept) is =
 
 pub none_part : (t : Task) (r i : ℕ) (form : Form) (ls : List code.Line) (text : List ℕ) → IsTask t → AreLinesAt (problem_of t r) (lines_kept form) i ls
     → text ≡ part_text t r i (none (map line_of ls)) → IsSolvedIn form t r i Nothing text
-unfolding AreLinesAt
-none_part t r i form ls text task (there, nothing, kept) is =
+unfolding AreLinesAt branch_count
+none_part t r i form ls text task (there, (nothing, kept)) is =
     let p = problem_of t r in
     let box = branch_at t r i in
     let all : List Line = (canonical p box).lines in (
@@ -96,7 +95,7 @@ module _ (rounds branch : ℕ) (form : Form) (source source' : Reading) (sink si
 
   of_task : (found : Outcome) (text : List ℕ) (task : Result Task RunFault) → Reads IsTaskOf source source' task
       → Next (λ t. AnswersBranch (IsSolvedIn form) t rounds branch) task (Ok (found, text)) → Took sink sink' text 0 → Right found
-  of_task found text (Ok t) (read, reads, judged) next took = (t, text, task_read source source' read t reads judged, next.1.0, next.1.1, took)
+  of_task found text (Ok t) (read, reads, judged) next took = (t, text, task_read source source' read t reads judged, next.1, next.2, took)
   of_task found text (Err e) reads next took = absurd (let bad : ⊥ = cc in bad)
 
   of_answer : (found : Outcome) (answer : Result (Outcome × List ℕ) RunFault)

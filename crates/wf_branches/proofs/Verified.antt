@@ -1,18 +1,16 @@
 -- What is accepted of a part, in the terms of the task; and the counts of a check of one.
-use Rattle.std.proofs.Common.{◌≡◌, ℕ, ◌+◌, ◌≤◌, Bool, true, false, not, List, [], ◌∷◌, ◌++◌, length, Option, None, Some, Result, Ok, Err, Vec, refl, sym, ap, subst, ◌∙◌, arith, inl, inr}
-use Rattle.std.specs.List.{AllZip}
-use Rattle.std.specs.Cmp.Lexicographic.{pointwise}
+use Rattle.std.proofs.Common.{◌≡◌, ℕ, ◌+◌, Bool, true, false, not, List, [], ◌∷◌, length, Option, None, Some, Result, Ok, Err, refl, sym, ap, subst, ◌∙◌, arith}
 use Rattle.std.proofs.lemmas.Bool.{and_parts}
 use Rattle.std.proofs.lemmas.List.{append-nil}
 use Rattle.wf_model.specs.Lists.{has}
 use Rattle.wf_model.specs.Limits.{most_bytes}
 use Rattle.wf_model.specs.Task.{Task, IsTask}
 use Rattle.wf_model.specs.Box.{Box, LiesIn}
-use Rattle.wf_model.specs.Problem.{Problem, problem_of}
+use Rattle.wf_model.specs.Problem.{problem_of}
 use Rattle.wf_model.specs.DecisionMap.{listed}
 use Rattle.wf_model.specs.Refutation.{Line, Tree, Trees, no_trees, tree, lines, lines_each, Refutes, RefutesEach}
 use Rattle.wf_model.specs.Report.{Report, Body, a_map, none, least}
-use Rattle.wf_model.specs.Check.{Refusal, first_fault, first_least_fault, header_fault, map_fault, unless_fault}
+use Rattle.wf_model.specs.Check.{Refusal, first_least_fault, header_fault, map_fault, unless_fault}
 use Rattle.wf_model.proofs.Bridge.{by_number, listed_solves, solution_decides}
 use Rattle.wf_model.proofs.Numbers.{listed_by_number}
 use Rattle.wf_model.proofs.Checked.{accepted}
@@ -28,7 +26,6 @@ use Rattle.wf_io.specs.Texts.{Took}
 use Rattle.wf_io.specs.declared.source.ReadFault.{ReadFault}
 use Rattle.wf_io.specs.declared.source.ReadFault.TheVariants as read
 use Rattle.wf_check.specs.Within.{fault_within, report_fault_within}
-use Rattle.wf_engine.specs.Headline.{GaveTask}
 use Rattle.wf_engine.specs.Laws.{IsChecked}
 use Rattle.wf_engine.specs.Run.{Judged, Next, by_result, failed_reads, failed_writes}
 use Rattle.wf_engine.specs.Sources.{NextReads}
@@ -38,7 +35,7 @@ use Rattle.wf_engine.specs.declared.fault.RunFault.TheVariants as run
 use Rattle.wf_engine.proofs.Both.{IsReadCounted, done}
 use Rattle.wf_engine.proofs.Both as both
 use Rattle.wf_engine.proofs.Counts.{few}
-use Rattle.wf_branches.specs.Branches.{HasBranch, IsNoBranch}
+use Rattle.wf_branches.specs.Branches.{HasBranch}
 use Rattle.wf_branches.specs.Laws.{PartAcceptancesAreTrue}
 use Rattle.wf_branches.specs.Refuting.{FindsBranch, ReadsIn, accepted_in}
 use Rattle.wf_branches.specs.Verifying.{ChecksPart, HoldsIn, IsFaultlessIn, IsPartOf, JudgesPart, ReadsPart, VerifiesBranch, is_outside, lies_in}
@@ -82,8 +79,7 @@ module _ (t : Task) (r i : ℕ) (is : IsTask t) (has_branch : HasBranch t r i) w
       let box = branch_is_box t r i is has_branch in
       let parts = both_none (map_fault (problem_of t r) m) (first_least_fault (problem_of t r) m (7 + length m) ls (branch_at t r i ∷ [])) clear in
       let solves = (faultless (problem_of t r) m).0 parts.0 in
-      let leads = accepted_leads (problem_of t r) (branch_at t r i) m (7 + length m) ls box parts.1 in
-      (
+      let leads = accepted_leads (problem_of t r) (branch_at t r i) m (7 + length m) ls box parts.1 in (
         by_number t r m,
         least_there t r i m (tree_least (problem_of t r) (branch_at t r i) m leads.0 (task_well_formed t r is).in_range box.ascending solves leads.2),
         listed_by_number t r m solves.long,
@@ -117,7 +113,7 @@ module _ (i : ℕ) (t : Task) (r : ℕ) (old new : Reading) (written : List ℕ)
 pub part_acceptances_true : PartAcceptancesAreTrue
 part_acceptances_true r i task task' part part' sink sink' ran =
     let end = done (ReadsIn ReadsPart i) r task task' part part' sink sink' ran in
-    let (has, report, holds, same) = of_branch i end.t r part part' end.text end.read.0 end.read.1 end.read.2 in
+    let (has, (report, holds, same)) = of_branch i end.t r part part' end.text end.read.0 end.read.1 end.read.2 in
     (end.t, report.body, end.given, has, holds, subst (λ text. Took sink sink' text 0) same end.took)
 
 -- ---- counts

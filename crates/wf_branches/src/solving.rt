@@ -118,11 +118,17 @@ fn with_part(
     match answer {
         Answer::Map(values, lines) => {
             let body = map_body(form, values, lines);
-            Ok((Outcome::Map, part_text(alloc, task, rounds, header, place, body)?))
+            Ok((
+                Outcome::Map,
+                part_text(alloc, task, rounds, header, place, body)?,
+            ))
         }
         Answer::Nothing(lines) => {
             let body = Body::Nothing(lines);
-            Ok((Outcome::Nothing, part_text(alloc, task, rounds, header, place, body)?))
+            Ok((
+                Outcome::Nothing,
+                part_text(alloc, task, rounds, header, place, body)?,
+            ))
         }
     }
 }

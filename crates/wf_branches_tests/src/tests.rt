@@ -156,8 +156,10 @@ fn a_branch_with_a_map_has_no_proof(rt: HostRuntime) -> Result<(), Fail> {
 #[test]
 fn a_branch_is_searched_alone(rt: HostRuntime) -> Result<(), Fail> {
     let found = part(rt.alloc(), AGREEMENT_2_2, 2, Form::Least).ok();
-    assert!(rt; found.is_some_and(|(outcome, text)| outcome == Outcome::Map
-        && text.as_slice() == AGREEMENT_2_2_PART.as_bytes()));
+    assert!(rt;
+        found.is_some_and(|(outcome, text)| outcome == Outcome::Map
+            && text.as_slice() == AGREEMENT_2_2_PART.as_bytes())
+    );
     let none = Some(RunFault::NoBranch { branches: 4 });
     assert!(rt; part(rt.alloc(), AGREEMENT_2_2, 4, Form::Full).err() == Some(none));
     Ok(())
@@ -166,8 +168,9 @@ fn a_branch_is_searched_alone(rt: HostRuntime) -> Result<(), Fail> {
 #[test]
 fn a_part_is_checked_about_its_branch(rt: HostRuntime) -> Result<(), Fail> {
     let line = judged(&rt, rt.alloc(), 2, AGREEMENT_2_2_PART).ok();
-    assert!(rt; line.is_some_and(|line| line.as_slice()
-        == b"accepted least in branch 2 of 4 at 1 round\n"));
+    assert!(rt;
+        line.is_some_and(|line| line.as_slice() == b"accepted least in branch 2 of 4 at 1 round\n")
+    );
     let other = Some(RunFault::OtherPart);
     assert!(rt; judged(&rt, rt.alloc(), 1, AGREEMENT_2_2_PART).err() == other);
     let elsewhere = Some(RunFault::NotInBranch);

@@ -50,7 +50,7 @@ fn is_refuted_by(alloc: Global, sets: &[Mask], lemmas: &[u8]) -> Result<Option<b
         return Ok(None);
     }
     let mut checker = pose_branch(alloc, &task, &protocol, sets)?;
-    let mut proof = Proof::new(alloc);
+    let mut proof = Proof::new(alloc, checker.variables());
     let is_read = proof.feed(alloc, &mut checker, lemmas).is_ok();
     Ok(Some(is_read && checker.is_refuted()))
 }

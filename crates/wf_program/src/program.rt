@@ -21,9 +21,7 @@ use std::fmt::Display;
 use std::io::{Read, Write};
 use std::thread::Threads;
 use wf_args::{Job, WordsFault, read_words};
-use wf_branches::{
-    run_branches, run_cnf_branch, run_solve_branch, run_solve_branch_watched,
-};
+use wf_branches::{run_branches, run_cnf_branch, run_solve_branch, run_solve_branch_watched};
 use wf_core::Account;
 use wf_engine::{
     Form, Outcome, RunFault, hand_out, run_cnf, run_points, run_preset, run_solve,

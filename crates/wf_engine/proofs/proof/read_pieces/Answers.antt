@@ -42,7 +42,7 @@ pieces-preserved g c =
     let least = c.min-room.ensures in
     let long = c.pieces.invariant.4 in
     let same : take n _ ≡ take n c.read.new.piece =
-        take-append-le n c.read.new.piece _ bound in
+    take-append-le n c.read.new.piece _ bound in
     let taken = c.pieces.invariant.2 in
     let failures = c.pieces.invariant.3 in (
       piece_read c.args.source.now c.pieces.source c.read.new.self c.args.checker c.pieces.checker c.pieces.proof c.pieces.given c.pieces.invariant.0
@@ -66,7 +66,7 @@ returns-in_err-feed-in-Ok g c =
     let long = c.pieces.invariant.4 in
     let fault = c.in_err-feed-in-Ok.field-0.0 in
     let same : take n _ ≡ take n c.read.new.piece =
-        take-append-le n c.read.new.piece _ bound in
+    take-append-le n c.read.new.piece _ bound in
     piece_refused c.args.source.now c.pieces.source c.read.new.self c.args.checker c.pieces.checker c.pieces.proof c.pieces.given c.pieces.invariant.0
     (λ accepted. HasNoModel c.args.checker) c.feed.new.checker fault c.from_residual-in_err-feed-in-Ok.result
     n (take n c.read.new.piece) is.bound.1 is.bytes.0 is.taken is.failures (omega (arith, few, bound, room, kept, least))
