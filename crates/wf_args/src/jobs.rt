@@ -1,6 +1,7 @@
 //! The job of each subcommand, by the options that are given to it.
 
-ghost use Rattle.std.specs.Prelude.{◌≡◌, IfOk, option_map};
+ghost use Rattle.std.specs.Prelude.{◌≡◌, ◌<◌, ◌≤◌, IfOk, IfSome, option_map};
+ghost use Rattle.wf_model.specs.Limits.{most_workers};
 ghost use Rattle.clap.specs.Words.{first_of, found_of, rows_of, subcommand_rows_of};
 ghost use Rattle.wf_args.specs.Job.{CanBeDone};
 ghost use Rattle.wf_args.specs.declared.WordsFault.TheVariants as fault;
@@ -31,7 +32,8 @@ fn text<'a>(found: &ArgMatches<'a>, name: &str) -> Option<&'a str>
 
 /// The number of workers, if it is given and within the limits.
 fn workers(found: &ArgMatches<'_>) -> Option<u32>
-    ensures { result ≡ workers_of (rows_of (found_of found.now)) }
+    ensures asked { result ≡ workers_of (rows_of (found_of found.now)) }
+    ensures limits { IfSome result (λ w. (0 < w) × (w ≤ most_workers)) }
 {
     let workers = number(found, "workers")?;
     if 0 < workers && workers <= MAX_WORKERS {
