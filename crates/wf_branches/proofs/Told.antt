@@ -1,8 +1,7 @@
 -- The line that says what is accepted of a branch, and the texts of parts.
-use Rattle.std.proofs.Common.{◌≡◌, ◌==◌, ℕ, Bool, true, false, if◌then◌else◌, List, [], ◌∷◌, ◌++◌, codes, decimal, length, take, Result, Ok, Err, Vec, sym, refl, ap, ◌∙◌, arith, ◌+◌, ◌<◌, inl, inr, eq-eqb, eqb-true}
+use Rattle.std.proofs.Common.{◌≡◌, ◌==◌, ℕ, Bool, true, false, if◌then◌else◌, List, [], ◌∷◌, ◌++◌, codes, decimal, length, take, Result, Ok, Err, Vec, sym, refl, ap, ◌∙◌, ◌+◌, inl, inr, eq-eqb, eqb-true}
 use Rattle.std.proofs.lemmas.Bool.{and_from, cases_Bool}
 use Rattle.std.specs.Cmp.Lexicographic.{pointwise}
-use Rattle.std.proofs.lemmas.List.{length-append}
 use Rattle.wf_model.specs.Task.{Task}
 use Rattle.wf_engine.specs.Run.{answered}
 use Rattle.wf_engine.specs.declared.fault.RunFault.{RunFault}
