@@ -169,7 +169,8 @@ fn a_branch_is_searched_alone(rt: HostRuntime) -> Result<(), Fail> {
 fn a_part_is_checked_about_its_branch(rt: HostRuntime) -> Result<(), Fail> {
     let line = judged(&rt, rt.alloc(), 2, AGREEMENT_2_2_PART).ok();
     assert!(rt;
-        line.is_some_and(|line| line.as_slice() == b"accepted least in branch 2 of 4 at 1 round\n")
+        line.is_some_and(|line| line.as_slice()
+            == b"accepted least in branch 2 of 4 at 1 round\n".as_slice())
     );
     let other = Some(RunFault::OtherPart);
     assert!(rt; judged(&rt, rt.alloc(), 1, AGREEMENT_2_2_PART).err() == other);
