@@ -49,13 +49,20 @@ def branch_count(program, task, rounds):
     return int(next(line.split()[1] for line in run.stdout.split("\n") if line.startswith("branches ")))
 
 
+def begin(question, solver):
+    """Has the solver, or the search where there is none, begin with a question."""
+    if not solver:
+        return question.begin_search()
+    question.write_formula()
+    return question.begin_solver(solver)
+
+
 def decide(ask, notes, task, rounds, branch, solver, seconds):
-    """Asks the solver about a branch, and notes what is accepted of it."""
+    """Asks the solver about a branch, or the search where there is none, and notes what is accepted of it."""
     question = ask.Question(task, rounds, notes.folder, branch)
     question.clear()
-    question.write_formula()
     begun = time.monotonic()
-    run = question.begin_solver(solver)
+    run = begin(question, solver)
     try:
         run.wait(seconds)
     except subprocess.TimeoutExpired:
@@ -64,10 +71,11 @@ def decide(ask, notes, task, rounds, branch, solver, seconds):
         run.kill()
         run.wait()
     taken = time.monotonic() - begun
-    answer = question.of_solver(f"branch {branch}: {solver.split()[0]}", taken)
+    who = solver.split()[0] if solver else "the search"
+    answer = question.of_solver(question.who(who), taken) if solver else question.of_search(taken)
     if answer:
-        size = question.file("drat").stat().st_size if answer == "none" else 0
-        notes.write(f"branch-{branch}", f"{answer}, by {solver.split()[0]} in {taken:.2f} s" + (f", {size} bytes of proof" if size else "") + "\n")
+        size = question.file("drat" if solver else "report").stat().st_size if answer == "none" else 0
+        notes.write(f"branch-{branch}", f"{answer}, by {who} in {taken:.2f} s" + (f", {size} bytes of proof" if size else "") + "\n")
         for kind in ["cnf", *FILES[answer]]:
             question.file(kind).unlink(missing_ok=True)
     return answer
@@ -92,7 +100,7 @@ def told(notes):
     if maps:
         return f"map, in branch {min(maps)} of {notes.count}", "map"
     if nones == notes.count:
-        return f"none: each of {notes.count} branches by a proof that is accepted", "none"
+        return f"none: each of {notes.count} branches by a proof or a refutation that is accepted", "none"
     return f"not decided: none in {nones} of {notes.count} branches, and nothing is known of the others", None
 
 
@@ -119,8 +127,6 @@ def main(ask, words, solver):
         return 0
     if words.branch is not None and not 0 <= words.branch < count:
         sys.exit(f"there are {count} branches, numbered from 0")
-    if not solver:
-        sys.exit(ask.NO_SOLVER.split(":")[0])
     notes = Notes(words.keep, words.task, rounds, count)
     chosen = range(count) if words.branch is None else [words.branch]
     print(f"{words.task.stem} after {rounds} {'round' if rounds == 1 else 'rounds'}, {count} branches, {len(notes.all())} of them known:", flush=True)

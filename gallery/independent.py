@@ -1,10 +1,12 @@
-"""What further commands have to write, found from the definitions of second_opinion.py: the list of executions, lifted maps, and
-branches.
+"""What further commands have to write, found from the definitions of second_opinion.py: the list of executions, lifted maps,
+branches, and what a search of one branch writes.
 
     independent.py executions TASK ROUNDS     the text of `wfcheck executions`
     independent.py lift TASK REPORT ROUNDS    the text of `wfcheck lift --rounds ROUNDS` of a report of a map
     independent.py branches TASK ROUNDS       the text of `wfcheck branches`
     independent.py cnf TASK ROUNDS BRANCH     the text of `wfcheck cnf --branch BRANCH`
+    independent.py solve TASK ROUNDS BRANCH FORM
+                                              the part of `wfcheck solve --branch BRANCH`, FORM being full, verdict or least
 
 It shares nothing with the program, and is slow.
 """
@@ -118,7 +120,62 @@ def cnf(task, rounds, branch):
     return "\n".join([*lines[:-1], *without, ""])
 
 
+def lost(allowed, points, processes, box):
+    """What an execution has lost in a box: by process and then by value, a value of a point named once."""
+    alive, named = [t for t in allowed if all(a in box[v] for a, v in zip(t, points))], set()
+    for place, (process, v) in enumerate(zip(processes, points)):
+        for a in sorted(box[v] - {t[place] for t in alive}):
+            if (v, a) not in named:
+                named.add((v, a))
+                yield process, v, a
+
+
+def close(made, box, lines):
+    """Writes the lines of closing a box. Answers what they leave: None where a point was emptied."""
+    box, count = [set(c) for c in box], -1
+    while count != len(lines):
+        count = len(lines)
+        for e, (processes, points, allowed) in enumerate(made.executions):
+            for process, v, a in [*lost(allowed, points, processes, box)]:
+                lines.append(f"p {e} {process} {a}")
+                box[v].discard(a)
+                if not box[v]:
+                    lines.append(f"z {v}")
+                    return None
+    return box
+
+
+def search(made, box, lines):
+    """Writes the lines of the search of a box. Answers its least map, or None."""
+    left = close(made, box, lines)
+    if left is None:
+        return None
+    point = next((v for v, c in enumerate(left) if len(c) > 1), None)
+    if point is None:
+        lines.append("f")
+        return [min(c) for c in left]
+    lines.append(f"b {point}")
+    found = (search(made, [{a} if v == point else c for v, c in enumerate(left)], lines) for a in sorted(left[point]))
+    return next((it for it in found if it), None)
+
+
+def solve(task, rounds, branch, form):
+    """What a search of one branch writes: which branch it is, and a report about it alone."""
+    made, lines = opinion.Complex(task, rounds), []
+    boxes = split(made)
+    found = search(made, boxes[branch], lines)
+    front = ["wfcheck part 1", f"branch {branch}", f"branches {len(boxes)}", "wfcheck report 1", f"processes {task['processes']}",
+             f"rounds {rounds}", f"points {made.points}", f"executions {len(made.executions)}"]
+    if found is None:
+        return "\n".join([*front, "answer none", *(lines if form != "verdict" else []), "end\n"])
+    answer = "answer least" if form == "least" else "answer map"
+    return "\n".join([*front, answer, *(f"m {it}" for it in found), *(lines if form == "least" else []), "end\n"])
+
+
 def main():
+    if sys.argv[1:2] == ["solve"] and len(sys.argv) == 6:
+        with open(sys.argv[2]) as file:
+            return solve(json.load(file), int(sys.argv[3]), int(sys.argv[4]), sys.argv[5])
     if sys.argv[1:2] == ["branches"] and len(sys.argv) == 4:
         with open(sys.argv[2]) as file:
             return branches(json.load(file), int(sys.argv[3]))

@@ -10,12 +10,14 @@ _wfcheck() {
     case ${COMP_WORDS[1]}:$prev in
         solve:--rounds) return ;;
         solve:--workers) return ;;
+        solve:--branch) return ;;
         verify:--task)
             compopt -o filenames 2> /dev/null
             mapfile -t COMPREPLY < <(compgen -f -- "$cur")
             return
             ;;
         verify:--rounds) return ;;
+        verify:--branch) return ;;
         views:--rounds) return ;;
         points:--rounds) return ;;
         points:--task)
@@ -62,8 +64,8 @@ _wfcheck() {
         preset:--names) return ;;
     esac
     case ${COMP_WORDS[1]} in
-        solve) words="--rounds --workers --verdict --least --account --progress --help" ;;
-        verify) words="--task --rounds --help" ;;
+        solve) words="--rounds --workers --verdict --least --account --progress --branch --help" ;;
+        verify) words="--task --rounds --branch --help" ;;
         views) words="--rounds --help" ;;
         points) words="--rounds --task --help" ;;
         branches) words="--rounds --help" ;;

@@ -2,7 +2,7 @@
 --
 -- How words are read is said by definitions of the crate that reads them: `fault_of` has the kinds of error that the words may get,
 -- which is none where they are taken; `subcommand_of` has the subcommand that they name, with a row for each of its options.
-use Rattle.std.specs.Prelude.{◌≡◌, ◌≢◌, ℕ, Bool, false, List, [], ◌∷◌, Option, Some, None, Result, Ok, Err, String, codes, find, option_and_then, string_bytes, nat_le, nat_lt, ◌==◌, ◌&&◌, if◌then◌else◌}
+use Rattle.std.specs.Prelude.{◌≡◌, ◌≢◌, ℕ, Bool, true, false, List, [], ◌∷◌, Option, Some, None, Result, Ok, Err, String, codes, find, option_and_then, string_bytes, nat_le, nat_lt, ◌==◌, ◌&&◌, if◌then◌else◌}
 use Rattle.std.specs.List.{list_any}
 use Rattle.std.specs.Option.{option_map_or}
 use Rattle.std.specs.Str.{bytes_eq}
@@ -88,14 +88,38 @@ task_of = first_of (codes "task")
 abbrev pub form_of : List Row → Option Form
 form_of rows = form_asked (has_flag (codes "verdict") rows) (has_flag (codes "least") rows)
 
+-- the search of one branch, of which there is no account
+abbrev pub branch_job : ℕ → ℕ → Form → Bool → Bool → Asked
+branch_job rounds branch form true progress = no_job (slip.Beside piece.Branch piece.Account)
+branch_job rounds branch form false progress = this_job (job.SolveBranch rounds branch form progress)
+
+-- the search of all branches, or of one where it is named
+abbrev pub solve_in : Option ℕ → ℕ → ℕ → Form → Bool → Bool → Asked
+solve_in None rounds workers form account progress = this_job (job.Solve rounds workers form account progress)
+solve_in (Some branch) rounds workers form account progress = branch_job rounds branch form account progress
+
 abbrev pub solve_asked : List Row → Asked
 solve_asked rows =
     needed piece.Rounds (rounds_of rows) (λ rounds. given slip.Workers (workers_of rows) (λ workers.
-    given (slip.Beside piece.Verdict piece.Least) (form_of rows) (λ form. this_job (job.Solve rounds workers form
-    (has_flag (codes "account") rows) (has_flag (codes "progress") rows)))))
+    given (slip.Beside piece.Verdict piece.Least) (form_of rows) (λ form. solve_in (branch_of rows) rounds workers form
+    (has_flag (codes "account") rows) (has_flag (codes "progress") rows))))
+
+-- a report about the whole is checked
+abbrev pub verify_whole : List Row → Asked
+verify_whole rows = needed piece.Task (task_of rows) (λ path. this_job_on path (λ task. job.Verify task (rounds_of rows)))
+
+-- a part about a branch is checked, for the rounds that are given with it
+abbrev pub verify_branch : ℕ → List Row → Asked
+verify_branch branch rows =
+    needed piece.Task (task_of rows) (λ path. given (slip.Needs piece.Branch piece.Rounds) (rounds_of rows) (λ rounds.
+    this_job_on path (λ task. job.VerifyBranch task rounds branch)))
+
+abbrev pub verify_in : Option ℕ → List Row → Asked
+verify_in None rows = verify_whole rows
+verify_in (Some branch) rows = verify_branch branch rows
 
 abbrev pub verify_asked : List Row → Asked
-verify_asked rows = needed piece.Task (task_of rows) (λ path. this_job_on path (λ task. job.Verify task (rounds_of rows)))
+verify_asked rows = verify_in (branch_of rows) rows
 
 abbrev pub views_asked : List Row → Asked
 views_asked rows = needed piece.Rounds (rounds_of rows) (λ rounds. this_job (job.Views rounds))

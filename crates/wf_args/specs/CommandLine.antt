@@ -50,10 +50,10 @@ subcommand name options = record (new_shape name) { rules = options }
 abbrev pub solve : Shape
 solve = subcommand (codes "solve")
     (rounds ∷ required workers_option ∷ flag_option (codes "verdict") ∷ flag_option (codes "least")
-    ∷ flag_option (codes "account") ∷ flag_option (codes "progress") ∷ [])
+    ∷ flag_option (codes "account") ∷ flag_option (codes "progress") ∷ branch_option ∷ [])
 
 abbrev pub verify : Shape
-verify = subcommand (codes "verify") (required task_option ∷ number_option (codes "rounds") ∷ [])
+verify = subcommand (codes "verify") (required task_option ∷ number_option (codes "rounds") ∷ branch_option ∷ [])
 
 abbrev pub views : Shape
 views = subcommand (codes "views") (rounds ∷ [])

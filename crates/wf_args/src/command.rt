@@ -89,7 +89,7 @@ fn solve_command<'a>(alloc: Global) -> Result<Command<'a>, AllocError>
     let account = flag(
         alloc,
         "account",
-        "Tell on standard error how many branches were searched, and how many were cut",
+        "Tell on standard error how many branches were searched, and how many were cut; not beside --branch",
     );
     let progress = flag(
         alloc,
@@ -106,7 +106,8 @@ fn solve_command<'a>(alloc: Global) -> Result<Command<'a>, AllocError>
     .arg(verdict)?
     .arg(least)?
     .arg(account)?
-    .arg(progress)
+    .arg(progress)?
+    .arg(branch(alloc))
 }
 
 fn task_file<'a>(alloc: Global, help: &'a str) -> Arg<'a>
@@ -139,7 +140,8 @@ fn verify_command<'a>(alloc: Global) -> Result<Command<'a>, AllocError>
         alloc,
         "rounds",
         "How many rounds the report is to be for: one for others is refused, and the answer tells them",
-    ))
+    ))?
+    .arg(branch(alloc))
 }
 
 fn views_command<'a>(alloc: Global) -> Result<Command<'a>, AllocError>

@@ -1,11 +1,12 @@
 //! The job of each subcommand, by the options that are given to it.
 
-ghost use Rattle.std.specs.Prelude.{◌≡◌, IfOk, option_map};
+ghost use Rattle.std.specs.Prelude.{◌≡◌, ◌<◌, ◌≤◌, IfOk, IfSome, option_map};
+ghost use Rattle.wf_model.specs.Limits.{most_workers};
 ghost use Rattle.clap.specs.Words.{first_of, found_of, rows_of, subcommand_rows_of};
 ghost use Rattle.wf_args.specs.Job.{CanBeDone};
 ghost use Rattle.wf_args.specs.declared.WordsFault.TheVariants as fault;
 ghost use Rattle.wf_args.specs.declared.slip.Slip.TheVariants as slip;
-ghost use Rattle.wf_args.specs.Asked.{Answers, this_or_slip, asked_in, asked_of, branches_asked, cnf_asked, executions_asked, explain_asked, has_flag, lift_asked, model_asked, number_of, points_asked, preset_job_asked, proof_asked, solve_asked, trim_asked, verify_asked, views_asked, workers_of};
+ghost use Rattle.wf_args.specs.Asked.{Answers, this_or_slip, asked_in, asked_of, branch_job, branches_asked, cnf_asked, executions_asked, explain_asked, has_flag, lift_asked, model_asked, number_of, points_asked, preset_job_asked, proof_asked, solve_asked, trim_asked, verify_asked, verify_branch, verify_whole, views_asked, workers_of};
 
 use crate::forms::form_of;
 use crate::presets::Options;
@@ -13,6 +14,7 @@ use crate::{Job, Piece, Slip, WordsFault};
 use clap::ArgMatches;
 use std::alloc::Global;
 use wf_pool::MAX_WORKERS;
+use wf_report::Form;
 
 /// The number of an option, if it is given.
 fn number(found: &ArgMatches<'_>, name: &str) -> Option<u32>
@@ -30,7 +32,8 @@ fn text<'a>(found: &ArgMatches<'a>, name: &str) -> Option<&'a str>
 
 /// The number of workers, if it is given and within the limits.
 fn workers(found: &ArgMatches<'_>) -> Option<u32>
-    ensures { result ≡ workers_of (rows_of (found_of found.now)) }
+    ensures asked { result ≡ workers_of (rows_of (found_of found.now)) }
+    ensures limits { IfSome result (λ w. (0 < w) × (w ≤ most_workers)) }
 {
     let workers = number(found, "workers")?;
     if 0 < workers && workers <= MAX_WORKERS {
@@ -111,7 +114,7 @@ fn missing(what: Piece) -> WordsFault
     WordsFault::Words(Slip::Missing(what))
 }
 
-/// The job of `solve`. There is none with both `--verdict` and `--least`.
+/// The job of `solve`. There is none with both `--verdict` and `--least`, nor with both `--branch` and `--account`.
 fn solve_job(found: &ArgMatches<'_>) -> Result<Job, Slip>
     ensures asked { this_or_slip result ≡ solve_asked (rows_of (found_of found.now)) }
     ensures can_be_done { IfOk result CanBeDone }
@@ -122,18 +125,72 @@ fn solve_job(found: &ArgMatches<'_>) -> Result<Job, Slip>
         Piece::Verdict,
         Piece::Least,
     ))?;
-    Ok(Job::Solve {
+    let account = flag(found, "account");
+    let progress = flag(found, "progress");
+    match number(found, "branch") {
+        Some(branch) => branch_job(rounds, branch, form, account, progress),
+        None => Ok(Job::Solve {
+            rounds,
+            workers,
+            form,
+            account,
+            progress,
+        }),
+    }
+}
+
+/// The job of `solve` with `--branch`. There is no account of one branch.
+fn branch_job(
+    rounds: u32,
+    branch: u32,
+    form: Form,
+    account: bool,
+    progress: bool,
+) -> Result<Job, Slip>
+    ensures asked { this_or_slip result ≡ branch_job rounds branch form account progress }
+    ensures can_be_done { IfOk result CanBeDone }
+{
+    if account {
+        return Err(Slip::Beside(Piece::Branch, Piece::Account));
+    }
+    Ok(Job::SolveBranch {
         rounds,
-        workers,
+        branch,
         form,
-        account: flag(found, "account"),
-        progress: flag(found, "progress"),
+        progress,
     })
 }
 
 /// The job of `verify`.
 fn verify_job(alloc: Global, found: &ArgMatches<'_>) -> Result<Job, WordsFault>
     ensures asked { Answers (verify_asked (rows_of (found_of found.now))) result }
+    ensures can_be_done { IfOk result CanBeDone }
+{
+    match number(found, "branch") {
+        None => verify_whole(alloc, found),
+        Some(branch) => verify_branch(alloc, found, branch),
+    }
+}
+
+/// The job of `verify` with `--branch`, which needs `--rounds`.
+fn verify_branch(alloc: Global, found: &ArgMatches<'_>, branch: u32) -> Result<Job, WordsFault>
+    ensures asked { Answers (verify_branch branch (rows_of (found_of found.now))) result }
+    ensures can_be_done { IfOk result CanBeDone }
+{
+    match (text(found, "task"), number(found, "rounds")) {
+        (Some(task), Some(rounds)) => Ok(Job::VerifyBranch {
+            task: String::from_str(alloc, task)?,
+            rounds,
+            branch,
+        }),
+        (None, _) => Err(missing(Piece::Task)),
+        (Some(_), None) => Err(WordsFault::Words(Slip::Needs(Piece::Branch, Piece::Rounds))),
+    }
+}
+
+/// The job of `verify` without `--branch`.
+fn verify_whole(alloc: Global, found: &ArgMatches<'_>) -> Result<Job, WordsFault>
+    ensures asked { Answers (verify_whole (rows_of (found_of found.now))) result }
     ensures can_be_done { IfOk result CanBeDone }
 {
     match text(found, "task") {

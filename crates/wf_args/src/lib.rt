@@ -42,12 +42,32 @@ pub enum Job {
         /// Whether it is told how many branches are settled while they are searched.
         progress: bool,
     },
+    /// Search one branch of the question of a task after some rounds.
+    SolveBranch {
+        /// How many rounds.
+        rounds: u32,
+        /// The number of the branch, from 0.
+        branch: u32,
+        /// How much of what is found is written.
+        form: Form,
+        /// Whether it is told how the search goes on.
+        progress: bool,
+    },
     /// Check a report about a task.
     Verify {
         /// The file that has the task.
         task: String,
         /// How many rounds the report is to be for, where they are asked for.
         rounds: Option<u32>,
+    },
+    /// Check the part of an answer that is about one branch of a task's question.
+    VerifyBranch {
+        /// The file that has the task.
+        task: String,
+        /// How many rounds.
+        rounds: u32,
+        /// The number of the branch, from 0.
+        branch: u32,
     },
     /// List the points of a task's protocol complex after some rounds.
     Views {

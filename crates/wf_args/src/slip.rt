@@ -21,6 +21,10 @@ pub enum Piece {
     Verdict,
     /// The option `--least`.
     Least,
+    /// The option `--account`.
+    Account,
+    /// The option `--branch`.
+    Branch,
     /// The kind of a preset.
     Kind,
     /// The option `--processes`.
@@ -48,6 +52,8 @@ impl fmt::Display for Piece {
             Piece::Task => "--task",
             Piece::Verdict => "--verdict",
             Piece::Least => "--least",
+            Piece::Account => "--account",
+            Piece::Branch => "--branch",
             Piece::Kind => "KIND",
             Piece::Processes => "--processes",
             Piece::K => "--k",

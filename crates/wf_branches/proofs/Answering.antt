@@ -18,7 +18,7 @@ use Rattle.wf_engine.specs.Run.{HasComplex, IsBeyondLimits, Ran}
 use Rattle.wf_engine.specs.declared.fault.RunFault.{RunFault}
 use Rattle.wf_engine.specs.declared.fault.RunFault.TheVariants.{NoBranch, OutOfMemory, Write}
 use Rattle.wf_engine.proofs.Asking.{IsRefusal}
-use Rattle.wf_branches.specs.Branches.{AnswersBranch, HasBranch, IsBranch, IsCoverOf, IsNoBranch, IsRefusedBranch}
+use Rattle.wf_branches.specs.Branches.{AnswersBranch, HasBranch, IsBranch, IsBranchTextOf, IsCoverOf, IsNoBranch, IsRefusedBranch}
 use Rattle.wf_branches.specs.declared.branch.FoundBranch.{FoundBranch}
 
 module _ (t : Task) (r i : ℕ) where
@@ -35,17 +35,17 @@ module _ (t : Task) (r i : ℕ) where
 
 module _ (text_of : Task → ℕ → ℕ → List ℕ) (t : Task) (r i : ℕ) (old new : Writing) where
   -- before anything was written
-  pub refused : (e : RunFault) (result : Result (Unit {0}) RunFault) → IsRefusedBranch t r i e → IsRefusal e result → Ran (AnswersBranch text_of t r i) old old result
+  pub refused : (e : RunFault) (result : Result (Unit {0}) RunFault) → IsRefusedBranch t r i e → IsRefusal e result → Ran (AnswersBranch (IsBranchTextOf text_of) t r i) old old result
   refused e (Ok done) beyond is = absurd (let ended = is.0 in let bad : ⊥ = cc in bad)
   refused e (Err found) beyond is = (Err e, beyond, (ap Err is.1, refl))
 
   -- after a beginning was
   pub broken : (text : List ℕ) (fault : WriteFault) (result : Result (Unit {0}) RunFault) → HasComplex t r → HasBranch t r i → text ≡ text_of t r i → WritesText old new text (Err fault) → IsRefusal Write result
-      → Ran (AnswersBranch text_of t r i) old new result
+      → Ran (AnswersBranch (IsBranchTextOf text_of) t r i) old new result
   broken text fault (Ok done) has there same begun is = absurd (let ended = is.0 in let bad : ⊥ = cc in bad)
   broken text fault (Err found) has there same begun is = (Ok (tt, text), (has, there, same), (is.1, begun))
 
-  pub written : (text : List ℕ) → HasComplex t r → HasBranch t r i → text ≡ text_of t r i → WritesText old new text (Ok tt) → Ran (AnswersBranch text_of t r i) old new (Ok tt)
+  pub written : (text : List ℕ) → HasComplex t r → HasBranch t r i → text ≡ text_of t r i → WritesText old new text (Ok tt) → Ran (AnswersBranch (IsBranchTextOf text_of) t r i) old new (Ok tt)
   written text has there same took = (Ok (tt, text), (has, there, same), (refl, took))
 
 -- ---- the branch that is found

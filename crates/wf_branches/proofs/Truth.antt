@@ -8,21 +8,22 @@ use Rattle.wf_model.proofs.Bridge.{listed_solves}
 use Rattle.wf_model.proofs.Covering.{in_exactly_one, split_covers}
 use Rattle.wf_model.proofs.Least.{solution_in_root}
 use Rattle.wf_model.proofs.WellFormed.{task_well_formed}
-use Rattle.wf_formula.specs.Branches.{branch_at, branches, formula_in}
+use Rattle.wf_formula.specs.Branches.{branch_at, branch_question, branches, formula_in}
 use Rattle.wf_formula.specs.Encoding.{stating}
 use Rattle.wf_formula.proofs.Branches.{is_model_in}
 use Rattle.wf_io.specs.Seen.{Reading}
 use Rattle.wf_io.specs.Texts.{Took}
 use Rattle.wf_rup.specs.Seen.{HasNoModel, Known}
-use Rattle.wf_cnf.specs.Posing.{FollowsFrom}
+use Rattle.wf_cnf.specs.Posing.{FollowsFrom, HasModelsOf}
 use Rattle.wf_engine.specs.Proofs.{ReadsAsProof}
-use Rattle.wf_engine.specs.Sources.{NextReads}
+use Rattle.wf_engine.specs.Sources.{NextReads, ReadsAbout}
 use Rattle.wf_engine.specs.declared.fault.RunFault.{RunFault}
 use Rattle.wf_engine.proofs.Both.{done}
 use Rattle.wf_engine.specs.Run.{answered}
 use Rattle.wf_engine.proofs.Asking.{IsRefusal}
+use Rattle.wf_engine.proofs.Refuting.{accepted_of}
 use Rattle.wf_branches.specs.Branches.{HasBranch, IsNoBranch}
-use Rattle.wf_branches.specs.Refuting.{FindsBranch, HasNoMapIn, ReadsBranchProof, ReadsProofIn, accepted_text}
+use Rattle.wf_branches.specs.Refuting.{FindsBranch, HasNoMapIn, IsAcceptedBranch, ReadsBranchProof, ReadsIn, ReadsProofIn, accepted_text}
 use Rattle.wf_branches.specs.Laws.{BranchesCoverAllMaps, BranchRefutationsAreTrue}
 
 -- where what is known follows from a branch's question and has no model, no decision map lies there
@@ -34,11 +35,12 @@ no_map_in t r i known is follows refuted m decides lies =
     (record { solves = solves; listed = solution_in_root t r (listed t r m) is solves; lies = lies })))
 
 -- the line that says so
-module _ (t : Task) (r i : ℕ) (known : Known) (is : IsTask t) (follows : FollowsFrom (formula_in (problem_of t r) (branch_at t r i)) known) (old new : Reading) where
-  pub told : (n : ℕ) (text : List ℕ) → n ≡ length (branches t r) → text ≡ accepted_text i n r → ReadsAsProof {X = Unit {0}} (λ accepted. HasNoModel known) old new (Ok tt)
+module _ (t : Task) (r i : ℕ) (known : Known) (is : IsTask t) (posed : HasModelsOf (branch_question t r i) known) (old new : Reading) where
+  pub told : (n : ℕ) (text : List ℕ) → n ≡ length (branches t r) → text ≡ accepted_text i n r → ReadsAsProof {X = Unit {0}} known (λ accepted. HasNoModel known) old new (Ok tt)
       → ReadsBranchProof i t r old new (Ok (tt, text))
-  told n text count same (given, gave, read) =
-      (given, gave, ((no_map_in t r i known is follows read.0, same ∙ ap (λ k. accepted_text i k r) count), read.1, read.2))
+  told n text count same read =
+      accepted_of (branch_question t r i) (IsAcceptedBranch i t r) known posed old new text
+      (λ refuted. (no_map_in t r i known is posed.follows refuted, same ∙ ap (λ k. accepted_text i k r) count)) read
 
 pub branches_cover : BranchesCoverAllMaps
 branches_cover t r is none m decides =
@@ -50,7 +52,7 @@ branches_cover t r is none m decides =
 -- where the proof was read there is the branch
 was_found : (i : ℕ) (t : Task) (r : ℕ) (old new : Reading) (text : List ℕ) (found : Result (Unit {0}) RunFault) → FindsBranch t r i found
     → NextReads (λ there. ReadsBranchProof i t r) old new found (Ok (tt, text)) → HasBranch t r i × HasNoMapIn t r i × (text ≡ accepted_text i (length (branches t r)) r)
-was_found i t r old new text (Ok there) has (given, gave, is) = (has, is.0.0, is.0.1)
+was_found i t r old new text (Ok there) has (posed, whole, (given, gave, is)) = (has, is.0.0, is.0.1)
 was_found i t r old new text (Err e) has next = absurd (let bad : ⊥ = cc in bad)
 
 pub branch_refutations_true : BranchRefutationsAreTrue
@@ -61,10 +63,11 @@ branch_refutations_true r i task task' proof proof' sink sink' ran =
 
 -- ---- whether there is such a branch
 
-pub missing_in : {A : Type 0} (i : ℕ) (t : Task) (r : ℕ) (old : Reading) (e : RunFault) (result : Result (Unit {0} × Vec ℕ A) RunFault) → IsNoBranch t r i e → IsRefusal e result
-    → ReadsProofIn i t r old old (answered result)
-missing_in i t r old e (Ok x) none is = absurd (let ended = is.0 in let bad : ⊥ = cc in bad)
-missing_in i t r old e (Err found) none is = (Err e, none, (ap Err is.1, refl))
+module _ (reads : ℕ → ReadsAbout) (i : ℕ) (t : Task) (r : ℕ) (old : Reading) where
+  pub missing_in : {A : Type 0} (e : RunFault) (result : Result (Unit {0} × Vec ℕ A) RunFault) → IsNoBranch t r i e → IsRefusal e result
+      → ReadsIn reads i t r old old (answered result)
+  missing_in e (Ok x) none is = absurd (let ended = is.0 in let bad : ⊥ = cc in bad)
+  missing_in e (Err found) none is = (Err e, none, (ap Err is.1, refl))
 
-pub found_in : (i n : ℕ) (t : Task) (r : ℕ) (old new : Reading) (result : Result (Unit {0} × List ℕ) RunFault) → n ≡ i → HasBranch t r i → ReadsBranchProof n t r old new result → ReadsProofIn i t r old new result
-found_in i n t r old new result same has read = (Ok tt, has, subst (λ k. ReadsBranchProof k t r old new result) same read)
+  pub found_in : (n : ℕ) (new : Reading) (result : Result (Unit {0} × List ℕ) RunFault) → n ≡ i → HasBranch t r i → reads n t r old new result → ReadsIn reads i t r old new result
+  found_in n new result same has read = (Ok tt, has, subst (λ k. reads k t r old new result) same read)

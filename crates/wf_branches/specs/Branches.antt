@@ -46,16 +46,25 @@ abbrev pub IsRefusedBranch : Task → ℕ → ℕ → RunFault → Type 0
 IsRefusedBranch t r i (NoBranch n) = IsBeyondBranches t r i n
 IsRefusedBranch t r i e = IsBeyondLimits t r e
 
--- the text about branch i of a task after r rounds
-abbrev pub AnswersBranch : (Task → ℕ → ℕ → List ℕ) → Task → ℕ → ℕ → Result (Unit {0} × List ℕ) RunFault → Type 0
-AnswersBranch text_of t r i (Ok answer) = HasComplex t r × HasBranch t r i × (answer.1 ≡ text_of t r i)
-AnswersBranch text_of t r i (Err e) = IsRefusedBranch t r i e
+-- what is answered about a branch of a task after some rounds, and with which text
+abbrev pub BranchAnswers : Type 0 → Type 1
+BranchAnswers X = Task → ℕ → ℕ → X → List ℕ → Type 0
 
--- the text about branch i of the source's task after r rounds
-abbrev pub AsksBranch : (Task → ℕ → ℕ → List ℕ) → ℕ → ℕ → Reading → Reading → Result (Unit {0} × List ℕ) RunFault → Type 0
-AsksBranch text_of r i old new result =
-    (task : Result Task RunFault) × Reads IsTaskOf old new task × Next (λ t. AnswersBranch text_of t r i) task result
+-- the answer about branch i of a task after r rounds with its text, where is_text says which text an answer has
+abbrev pub AnswersBranch : {X : Type 0} → BranchAnswers X → Task → ℕ → ℕ → Result (X × List ℕ) RunFault → Type 0
+AnswersBranch is_text t r i (Ok answer) = HasComplex t r × HasBranch t r i × is_text t r i answer.0 answer.1
+AnswersBranch is_text t r i (Err e) = IsRefusedBranch t r i e
+
+-- the answer about branch i of the source's task after r rounds
+abbrev pub AsksBranch : {X : Type 0} → BranchAnswers X → ℕ → ℕ → Reading → Reading → Result (X × List ℕ) RunFault → Type 0
+AsksBranch is_text r i old new result =
+    (task : Result Task RunFault) × Reads IsTaskOf old new task × Next (λ t. AnswersBranch is_text t r i) task result
+
+-- the text that a branch has
+abbrev pub IsBranchTextOf : (Task → ℕ → ℕ → List ℕ) → BranchAnswers (Unit {0})
+IsBranchTextOf text_of t r i answer text = text ≡ text_of t r i
 
 -- it was written
 abbrev pub ListsBranch : (Task → ℕ → ℕ → List ℕ) → ℕ → ℕ → Reading → Reading → Writing → Writing → Result (Unit {0}) RunFault → Type 0
-ListsBranch text_of r i source source' sink sink' result = Ran (AsksBranch text_of r i source source') sink sink' result
+ListsBranch text_of r i source source' sink sink' result =
+    Ran (AsksBranch (IsBranchTextOf text_of) r i source source') sink sink' result

@@ -1,5 +1,7 @@
 -- What runs over branches say, and what holds after each.
 use Rattle.std.specs.Prelude.{ℕ, List, length, Result, Ok}
+use Rattle.wf_model.specs.Limits.{most_bytes}
+use Rattle.wf_model.specs.Report.{Body}
 use Rattle.wf_model.specs.Task.{Task, IsTask}
 use Rattle.wf_model.specs.DecisionMap.{HasNoDecisionMap}
 use Rattle.wf_formula.specs.Branches.{branches}
@@ -8,9 +10,23 @@ use Rattle.wf_io.specs.Texts.{Took}
 use Rattle.wf_engine.specs.Headline.{GaveTask}
 use Rattle.wf_engine.specs.Laws.{IsChecked, IsCounted}
 use Rattle.wf_engine.specs.Proofs.{most_proof_bytes}
+use Rattle.wf_engine.specs.Verify.{accepted_words}
 use Rattle.wf_engine.specs.declared.fault.RunFault.{RunFault}
+use Rattle.wf_engine.specs.declared.outcome.Outcome.{Outcome}
+use Rattle.wf_report.specs.declared.form.Form.{Form}
 use Rattle.wf_branches.specs.Branches.{HasBranch, ListsBranch}
-use Rattle.wf_branches.specs.Refuting.{HasNoMapIn, RefutesBranch, accepted_text}
+use Rattle.wf_branches.specs.Refuting.{HasNoMapIn, RefutesBranch, accepted_in, accepted_text}
+use Rattle.wf_branches.specs.Solving.{IsSolvedIn, SolvesBranch}
+use Rattle.wf_branches.specs.Verifying.{HoldsIn, VerifiesBranch}
+
+-- where branch i was searched, the source gave the bytes of a task, the branch is there, and the sink took what its search
+-- answers: the part of the least decision map there, or that none lies there
+abbrev pub BranchAnswersAreTrue : Type 0
+BranchAnswersAreTrue =
+    (rounds branch : ℕ) (form : Form) (source source' : Reading) (sink sink' : Writing) (found : Outcome)
+    → SolvesBranch rounds branch form source source' sink sink' (Ok found)
+    → (t : Task) × (text : List ℕ) × GaveTask source source' t × HasBranch t rounds branch
+    × IsSolvedIn form t rounds branch found text × Took sink sink' text 0
 
 -- where no decision map lies in any branch, no function on the views is a decision map
 abbrev pub BranchesCoverAllMaps : Type 0
@@ -29,6 +45,26 @@ abbrev pub ListingBranchesIsCounted : Type 0
 ListingBranchesIsCounted =
     (text_of : Task → ℕ → ℕ → List ℕ) (rounds branch : ℕ) (source source' : Reading) (sink sink' : Writing) (result : Result (Unit {0}) RunFault)
     → ListsBranch text_of rounds branch source source' sink sink' result → IsCounted source source' sink sink' result
+
+abbrev pub BranchSolvingIsCounted : Type 0
+BranchSolvingIsCounted =
+    (rounds branch : ℕ) (form : Form) (source source' : Reading) (sink sink' : Writing) (result : Result Outcome RunFault)
+    → SolvesBranch rounds branch form source source' sink sink' result → IsCounted source source' sink sink' result
+
+-- where a part is accepted about a branch, the source of the task gave its bytes, the branch is there, what the part says of it is
+-- true, and the sink took the line that says so
+abbrev pub PartAcceptancesAreTrue : Type 0
+PartAcceptancesAreTrue =
+    (rounds branch : ℕ) (task task' part part' : Reading) (sink sink' : Writing)
+    → VerifiesBranch rounds branch task task' part part' sink sink' (Ok tt)
+    → (t : Task) × (body : Body) × GaveTask task task' t × HasBranch t rounds branch × HoldsIn t rounds branch body
+    × Took sink sink' (accepted_in (accepted_words body) branch (length (branches t rounds)) rounds) 0
+
+abbrev pub PartCheckingIsCounted : Type 0
+PartCheckingIsCounted =
+    (rounds branch : ℕ) (task task' part part' : Reading) (sink sink' : Writing) (result : Result (Unit {0}) RunFault)
+    → VerifiesBranch rounds branch task task' part part' sink sink' result
+    → IsChecked most_bytes task task' part part' sink sink' result
 
 abbrev pub BranchProvingIsCounted : Type 0
 BranchProvingIsCounted =

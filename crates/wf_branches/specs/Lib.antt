@@ -2,4 +2,6 @@
 pub mod Branches
 pub mod Listing
 pub mod Refuting
+pub mod Solving
+pub mod Verifying
 pub mod Laws

@@ -3,7 +3,7 @@
 ghost use Rattle.wf_io.specs.Ends.{CanCount, CanWrite};
 ghost use Rattle.wf_engine.specs.Run.{Ran};
 ghost use Rattle.wf_formula.specs.Branches.{branch_text};
-ghost use Rattle.wf_branches.specs.Branches.{AnswersBranch, ListsBranch};
+ghost use Rattle.wf_branches.specs.Branches.{AnswersBranch, IsBranchTextOf, ListsBranch};
 
 use crate::branch::branch_of;
 use std::alloc::Global;
@@ -42,7 +42,8 @@ fn ask<W: Write>(
     number: u32,
 ) -> Result<(), RunFault>
     requires { CanWrite sink.old }
-    ensures { Ran (AnswersBranch branch_text task.now rounds number) sink.old sink.new result }
+    ensures { Ran (AnswersBranch (IsBranchTextOf branch_text) task.now rounds number)
+        sink.old sink.new result }
 {
     let protocol = Protocol::build(alloc, task, rounds)?;
     let found = branch_of(alloc, task, &protocol, number)?;

@@ -1,14 +1,17 @@
 //! One branch of a task's question.
 
-ghost use Rattle.std.specs.Prelude.{◌≡◌, ◌<◌, IfErr, IfOk};
+ghost use Rattle.std.specs.Prelude.{◌≡◌, ◌<◌, IfErr, IfOk, string_bytes};
 ghost use Rattle.wf_complex.specs.Protocol.{IsProtocol};
 ghost use Rattle.wf_set.specs.Sets.{box_of};
 ghost use Rattle.wf_branches.specs.Branches.{IsCoverOf, IsNoBranch, IsBranch};
+ghost use Rattle.wf_branches.specs.Refuting.{accepted_in};
+ghost use Rattle.wf_branches.specs.Solving.{part_head};
 
 use std::alloc::{AllocError, Global};
 use wf_box::{Box0, Problem};
 use wf_complex::Protocol;
 use wf_engine::RunFault;
+use wf_lines::{put_number, put_words};
 use wf_search::{Cover, split};
 use wf_set::Mask;
 use wf_task::Task;
@@ -22,6 +25,60 @@ pub(crate) struct FoundBranch {
     pub(crate) count: u32,
     /// The values that it has at each point.
     pub(crate) sets: Vec<Mask>,
+}
+
+/// Which branch something is about, and how many there are.
+#[derive(Clone, Copy)]
+pub(crate) struct Place {
+    /// The branch's number, from 0.
+    pub(crate) number: u32,
+    /// How many branches there are.
+    pub(crate) count: u32,
+}
+
+impl FoundBranch {
+    /// Which branch it is.
+    pub(crate) fn place(&self) -> Place
+        ensures number { result.number ≡ self.now.number }
+        ensures count { result.count ≡ self.now.count }
+    {
+        Place {
+            number: self.number,
+            count: self.count,
+        }
+    }
+}
+
+impl Place {
+    /// The lines with which a part begins.
+    pub(crate) fn head(self, alloc: Global) -> Result<String, AllocError>
+        ensures { IfOk result (λ text. string_bytes text ≡ part_head self.number self.count) }
+    {
+        let mut text = String::new(alloc);
+        put_words(&mut text, "wfcheck part 1")?;
+        put_number(&mut text, "branch", self.number)?;
+        put_number(&mut text, "branches", self.count)?;
+        Ok(text)
+    }
+
+    /// The line that tells by these words what is accepted in the branch.
+    pub(crate) fn accepted(
+        self,
+        alloc: Global,
+        words: &str,
+        rounds: u32,
+    ) -> Result<String, AllocError>
+        ensures { IfOk result (λ text. string_bytes text
+            ≡ accepted_in words.now self.number self.count rounds) }
+    {
+        let number = self.number;
+        let count = self.count;
+        if rounds == 1 {
+            format!(in alloc; "{words} in branch {number} of {count} at 1 round\n")
+        } else {
+            format!(in alloc; "{words} in branch {number} of {count} at {rounds} rounds\n")
+        }
+    }
 }
 
 /// The branch of this number. Refused with how many there are where it is not one of them, and where memory runs out.

@@ -1,10 +1,16 @@
 //! Laws of runs over branches: that what they say is true, what all of them together come to, and what holds after each.
 
-ghost use Rattle.wf_branches.specs.Laws.{BranchesCoverAllMaps, BranchProvingIsCounted, BranchRefutationsAreTrue, ListingBranchesIsCounted};
+ghost use Rattle.wf_branches.specs.Laws.{BranchAnswersAreTrue, BranchesCoverAllMaps, BranchProvingIsCounted, BranchRefutationsAreTrue, BranchSolvingIsCounted, ListingBranchesIsCounted, PartAcceptancesAreTrue, PartCheckingIsCounted};
 
 /// Where no decision map lies in any branch of a task's question, no function on the views is a decision map.
 pub fn branches_cover_all_maps()
     ensures { BranchesCoverAllMaps }
+{}
+
+/// What a search of a branch answers is true: the source of the task gave its bytes, the branch is there, and the sink took the
+/// part of the least decision map in it, or of a refutation of it, and then no decision map lies in it.
+pub fn branch_answers_are_true()
+    ensures { BranchAnswersAreTrue }
 {}
 
 /// What is accepted for a SAT solver's proof about a branch is true: the source of the task gave its bytes, the branch is there,
@@ -17,6 +23,24 @@ pub fn branch_refutations_are_true()
 /// nothing where it is refused for anything but a failed write.
 pub fn listing_branches_is_counted()
     ensures { ListingBranchesIsCounted }
+{}
+
+/// The search of a branch takes at most one byte more than a text may have, tells each failed call, and writes nothing where
+/// it is refused for anything but a failed write.
+pub fn branch_solving_is_counted()
+    ensures { BranchSolvingIsCounted }
+{}
+
+/// What is accepted of a part is true: the source of the task gave its bytes, the branch is there, and what the part says of it
+/// holds, whatever the part's bytes are: its map is a decision map that lies there, with lines the least one, or none lies there.
+pub fn part_acceptances_are_true()
+    ensures { PartAcceptancesAreTrue }
+{}
+
+/// A check of a part takes at most one byte more than a text may have of each source, tells each failed call, and writes nothing
+/// where it is refused for anything but a failed write.
+pub fn part_checking_is_counted()
+    ensures { PartCheckingIsCounted }
 {}
 
 /// A check of a proof about a branch takes at most one byte more than a text may have of the task's source, and one more than a

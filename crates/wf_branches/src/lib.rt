@@ -2,6 +2,8 @@
 //!
 //! - [`run_branches`]: a task's text in, and the list of the branches of its question out.
 //! - [`run_cnf_branch`]: a task's text in, and the question of one branch, as a formula, out.
+//! - [`run_solve_branch`]: a task's text in, and the least decision map of one branch, or a refutation of it, out.
+//! - [`run_verify_branch`]: a task's text and the text that `run_solve_branch` wrote in, and what is accepted of the branch out.
 //! - [`run_proof_branch`]: a task's text and a SAT solver's clausal proof in, and that no decision map of one branch is accepted
 //!   out.
 //!
@@ -14,11 +16,16 @@ mod branch;
 mod laws;
 mod listing;
 mod refuting;
+mod solving;
+mod verifying;
 
 pub use asking::run_cnf_branch;
 pub use laws::{
-    branch_proving_is_counted, branch_refutations_are_true, branches_cover_all_maps,
-    listing_branches_is_counted,
+    branch_answers_are_true, branch_proving_is_counted, branch_refutations_are_true,
+    branch_solving_is_counted, branches_cover_all_maps, listing_branches_is_counted,
+    part_acceptances_are_true, part_checking_is_counted,
 };
 pub use listing::run_branches;
 pub use refuting::run_proof_branch;
+pub use solving::{run_solve_branch, run_solve_branch_watched};
+pub use verifying::run_verify_branch;

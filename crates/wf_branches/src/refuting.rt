@@ -1,16 +1,15 @@
 //! Checking a SAT solver's clausal proof that the question of one branch has no model.
 
-ghost use Rattle.std.specs.Prelude.{◌≡◌, IfOk, string_bytes};
 ghost use Rattle.wf_io.specs.Ends.{CanRead};
 ghost use Rattle.wf_complex.specs.Protocol.{IsProtocol};
 ghost use Rattle.wf_engine.specs.Run.{answered};
 ghost use Rattle.wf_engine.specs.Verify.{CanVerify};
 ghost use Rattle.wf_branches.specs.Branches.{IsBranch};
 ghost use Rattle.wf_engine.specs.Sources.{AsksBoth, AsksWithin};
-ghost use Rattle.wf_branches.specs.Refuting.{ReadsBranchProof, ReadsProofIn, RefutesBranch, accepted_text};
+ghost use Rattle.wf_branches.specs.Refuting.{ReadsBranchProof, ReadsProofIn, RefutesBranch};
 
 use crate::branch::{FoundBranch, branch_of};
-use std::alloc::{AllocError, Global};
+use std::alloc::Global;
 use std::io::{Read, Write};
 use wf_cnf::pose_branch;
 use wf_complex::Protocol;
@@ -106,20 +105,7 @@ fn refute<C: Read>(
 {
     let checker = pose_branch(alloc, task, protocol, &branch.sets)?;
     read_proof_from(alloc, source, checker)?;
-    let text = accepted_text(alloc, branch, protocol.rounds())?;
+    let place = branch.place();
+    let text = place.accepted(alloc, "accepted none", protocol.rounds())?;
     Ok(((), text.into_bytes()))
-}
-
-/// The line that tells that no decision map is accepted in a branch.
-fn accepted_text(alloc: Global, branch: &FoundBranch, rounds: u32) -> Result<String, AllocError>
-    ensures { IfOk result (λ text. string_bytes text
-        ≡ accepted_text branch.now.number branch.now.count rounds) }
-{
-    let number = branch.number;
-    let count = branch.count;
-    if rounds == 1 {
-        format!(in alloc; "accepted none in branch {number} of {count} at 1 round\n")
-    } else {
-        format!(in alloc; "accepted none in branch {number} of {count} at {rounds} rounds\n")
-    }
 }

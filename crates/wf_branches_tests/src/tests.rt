@@ -2,9 +2,12 @@
 
 use std::alloc::Global;
 use std::test::Fail;
-use wf_branches::{run_branches, run_cnf_branch, run_proof_branch};
+use std::thread::Threads;
+use wf_branches::{
+    run_branches, run_cnf_branch, run_proof_branch, run_solve_branch, run_verify_branch,
+};
 use wf_complex::BuildFault;
-use wf_engine::RunFault;
+use wf_engine::{Form, Outcome, RunFault};
 use wf_examples::{AGREEMENT_2_2, CONSENSUS_2, PATH_3};
 use wf_io::{Sink, Source};
 use wf_rup::ProofFault;
@@ -24,6 +27,14 @@ const CONSENSUS_2_ONE: &str =
 /// The question of the third branch of the first of these: point 2 has 1, and point 3 has 0.
 const AGREEMENT_2_2_THIRD: &str =
     "c wfcheck formula 1\nc processes 2\nc rounds 1\nc points 4\nc executions 5\nc branch 2 of 4\nc values 0 1\nc variable 2 * point + place of the value\np cnf 8 10\n1 2 0\n3 4 0\n5 6 0\n7 8 0\n-2 0\n-3 0\n-2 0\n-3 0\n-5 0\n-8 0\n";
+
+/// The part of the third branch of the first of these: its map is decided already.
+const AGREEMENT_2_2_PART: &str =
+    "wfcheck part 1\nbranch 2\nbranches 4\nwfcheck report 1\nprocesses 2\nrounds 1\npoints 4\nexecutions 5\nanswer least\nm 0\nm 1\nm 1\nm 0\nf\nend\n";
+
+/// A map of the first branch as a part of the third.
+const AGREEMENT_2_2_ELSEWHERE: &str =
+    "wfcheck part 1\nbranch 2\nbranches 4\nwfcheck report 1\nprocesses 2\nrounds 1\npoints 4\nexecutions 5\nanswer map\nm 0\nm 1\nm 0\nm 0\nend\n";
 
 /// Whether this is the list of the branches of a task after some rounds.
 fn is_listed(alloc: Global, task: &str, rounds: u32, text: &str) -> bool {
@@ -51,6 +62,44 @@ fn question(
         Ok(()) => Ok(written),
         Err(fault) if written.is_empty() => Err(Some(fault)),
         Err(_) => Err(None),
+    }
+}
+
+/// What a search of a branch comes to: its outcome and its part, or why there is none, where nothing was written.
+fn part(
+    alloc: Global,
+    task: &str,
+    branch: u32,
+    form: Form,
+) -> Result<(Outcome, Vec<u8>), Option<RunFault>> {
+    let mut source = Source::new(task.as_bytes());
+    let mut written = Vec::new(alloc);
+    let mut sink = Sink::new(&mut written);
+    let done = run_solve_branch(alloc, &mut source, &mut sink, 1, branch, form);
+    drop(sink);
+    match done {
+        Ok(outcome) => Ok((outcome, written)),
+        Err(fault) if written.is_empty() => Err(Some(fault)),
+        Err(_) => Err(None),
+    }
+}
+
+/// What is written of a part about a branch that is accepted, or why it is refused.
+fn judged<T: Threads + Sync>(
+    rt: &T,
+    alloc: Global,
+    branch: u32,
+    part: &str,
+) -> Result<Vec<u8>, RunFault> {
+    let mut source = Source::new(AGREEMENT_2_2.as_bytes());
+    let mut part = Source::new(part.as_bytes());
+    let mut written = Vec::new(alloc);
+    let mut sink = Sink::new(&mut written);
+    let done = run_verify_branch(rt, alloc, &mut source, &mut part, &mut sink, 1, branch);
+    drop(sink);
+    match done {
+        Ok(()) => Ok(written),
+        Err(fault) => Err(fault),
     }
 }
 
@@ -101,5 +150,31 @@ fn a_branch_with_a_map_has_no_proof(rt: HostRuntime) -> Result<(), Fail> {
     let lemma = Some(RunFault::Proof(ProofFault::NotImplied { line: 1 }));
     assert!(rt; fault_of_proof(rt.alloc(), AGREEMENT_2_2, 1, 2, "") == open);
     assert!(rt; fault_of_proof(rt.alloc(), AGREEMENT_2_2, 1, 2, "-6 0\n") == lemma);
+    Ok(())
+}
+
+#[test]
+fn a_branch_is_searched_alone(rt: HostRuntime) -> Result<(), Fail> {
+    let found = part(rt.alloc(), AGREEMENT_2_2, 2, Form::Least).ok();
+    assert!(rt;
+        found.is_some_and(|(outcome, text)| outcome == Outcome::Map
+            && text.as_slice() == AGREEMENT_2_2_PART.as_bytes())
+    );
+    let none = Some(RunFault::NoBranch { branches: 4 });
+    assert!(rt; part(rt.alloc(), AGREEMENT_2_2, 4, Form::Full).err() == Some(none));
+    Ok(())
+}
+
+#[test]
+fn a_part_is_checked_about_its_branch(rt: HostRuntime) -> Result<(), Fail> {
+    let line = judged(&rt, rt.alloc(), 2, AGREEMENT_2_2_PART).ok();
+    assert!(rt;
+        line.is_some_and(|line| line.as_slice()
+            == b"accepted least in branch 2 of 4 at 1 round\n".as_slice())
+    );
+    let other = Some(RunFault::OtherPart);
+    assert!(rt; judged(&rt, rt.alloc(), 1, AGREEMENT_2_2_PART).err() == other);
+    let elsewhere = Some(RunFault::NotInBranch);
+    assert!(rt; judged(&rt, rt.alloc(), 2, AGREEMENT_2_2_ELSEWHERE).err() == elsewhere);
     Ok(())
 }

@@ -1,6 +1,7 @@
 -- What contracts say, here and in the crates above.
 pub mod Faults
 pub mod Truth
+pub mod Within
 -- What only this crate's own code and proofs use.
 pub mod Blocks
 pub mod Settled

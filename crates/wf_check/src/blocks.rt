@@ -4,7 +4,7 @@
 //! open block the values whose blocks are still to come. So the memory that a certificate can ask for grows with its
 //! lines and with the points, and not with their product.
 
-ghost use Rattle.std.specs.Prelude.{◌≡◌, ◌==◌, ◌<◌, ◌++◌, ◌∷◌, [], true, nat_lt, length, map, replicate, IfOk, OnOk};
+ghost use Rattle.std.specs.Prelude.{◌≡◌, ◌==◌, ◌<◌, ◌++◌, ◌∷◌, [], true, nat_lt, length, map, IfOk, OnOk};
 ghost use Rattle.std.specs.List.{slice_set};
 ghost use Rattle.std.specs.Cmp.Lexicographic.{pointwise};
 ghost use Rattle.wf_model.specs.Box.{branches_at, candidates, decided, first_open, without};
@@ -17,16 +17,16 @@ use std::alloc::{AllocError, Global};
 use wf_set::{Mask, has_two, holds, is_empty, only, split_first, without};
 
 impl Blocks {
-    /// One block, about the box with these values at so many points.
-    pub(crate) fn root(alloc: Global, values: Mask, points: u32) -> Result<Blocks, AllocError>
-        ensures sets { IfOk result (λ blocks. blocks.sets.items ≡ replicate points values) }
-        ensures alone { IfOk result (λ blocks. blocks.trail.items ≡ []) }
+    /// One block, about the box with these values at each point.
+    pub(crate) fn of(alloc: Global, sets: Vec<Mask>) -> Blocks
+        ensures sets { result.sets.items ≡ sets.items }
+        ensures alone { result.trail.items ≡ [] }
     {
-        Ok(Blocks {
-            sets: vec![in alloc; values; points as usize]?,
+        Blocks {
+            sets,
             trail: Vec::new(alloc),
             low: 0,
-        })
+        }
     }
 
     /// The box of now, a set for each point.

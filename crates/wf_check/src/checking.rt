@@ -1,19 +1,22 @@
 //! Whether a report about a task is right.
 
-ghost use Rattle.std.specs.Prelude.{OnOk};
+ghost use Rattle.std.specs.Prelude.{◌≡◌, IfOk, OnOk, length, replicate};
 ghost use Rattle.wf_model.specs.Problem.{problem_of};
 ghost use Rattle.wf_model.specs.Check.{body_fault, header_fault, map_fault, report_fault};
 ghost use Rattle.wf_complex.specs.Protocol.{IsProtocol};
+ghost use Rattle.wf_set.specs.Sets.{box_of};
 ghost use Rattle.wf_check.specs.Faults.{Judges};
 ghost use Rattle.wf_check.specs.Truth.{HoldsOf};
+ghost use Rattle.wf_check.specs.Within.{fault_within, report_fault_within};
 ghost use Rattle.wf_report.specs.Reports.{AreNumbered, body_length, body_of, report_seen};
 
 use crate::judge::{Claim, judge_lines};
 use crate::maps::first_violated;
-use std::alloc::Global;
+use std::alloc::{AllocError, Global};
 use std::thread::Threads;
 use wf_complex::Protocol;
 use wf_report::{Body, CertFault, FIRST_LINE, Report};
+use wf_set::Mask;
 use wf_task::Task;
 
 /// Accepts a report about a task and its protocol complex, or answers the first reason why it is refused.
@@ -41,6 +44,29 @@ pub fn check<R: Threads + Sync>(
     judge_body(rt, alloc, task, protocol, &report.body)
 }
 
+/// Accepts a report whose answer is about one box alone, that with these values at each point, or answers the first reason why
+/// it is refused. The header is judged first, and the rest as [`check`] does, but for where the lines begin.
+///
+/// Where lines are accepted there is no decision map in the box, and where a map with lines is, it is the least one there. A map
+/// without lines may lie outside.
+pub fn check_within<R: Threads + Sync>(
+    rt: &R,
+    alloc: Global,
+    task: &Task,
+    protocol: &Protocol,
+    sets: Vec<Mask>,
+    report: &Report,
+) -> Result<(), CertFault>
+    requires built { IsProtocol task.now protocol.now.rounds protocol.now }
+    requires long { length sets.items ≡ length protocol.now.points }
+    requires few { AreNumbered (body_length report.now.body) }
+    ensures { Judges result (report_fault_within task.now protocol.now.rounds
+        (box_of sets.items) (report_seen report.now)) }
+{
+    judge_header(task, protocol, report)?;
+    judge_within(rt, alloc, task, protocol, sets, &report.body)
+}
+
 /// Judges the numbers of the header.
 fn judge_header(task: &Task, protocol: &Protocol, report: &Report) -> Result<(), CertFault>
     requires built { IsProtocol task.now protocol.now.rounds protocol.now }
@@ -63,7 +89,7 @@ fn judge_header(task: &Task, protocol: &Protocol, report: &Report) -> Result<(),
     Ok(())
 }
 
-/// Judges the map, the lines, or the map and then the lines.
+/// Judges the map, the lines over the box with all values at all points, or the map and then the lines.
 fn judge_body<R: Threads + Sync>(
     rt: &R,
     alloc: Global,
@@ -78,13 +104,61 @@ fn judge_body<R: Threads + Sync>(
 {
     match body {
         Body::Map(values) => judge_map(rt, task, protocol, values),
+        Body::Nothing(_) | Body::Least(_, _) => {
+            let sets = all_alike(alloc, task.values(), protocol.points())?;
+            judge_within(rt, alloc, task, protocol, sets, body)
+        }
+    }
+}
+
+/// The box with these values at so many points.
+fn all_alike(alloc: Global, values: Mask, points: u32) -> Result<Vec<Mask>, AllocError>
+    ensures { IfOk result (λ sets. sets.items ≡ replicate points values) }
+{
+    let sets = vec![in alloc; values; points as usize]?;
+    Ok(sets)
+}
+
+/// Judges the map, the lines over the box with these values at each point, or the map and then the lines.
+fn judge_within<R: Threads + Sync>(
+    rt: &R,
+    alloc: Global,
+    task: &Task,
+    protocol: &Protocol,
+    sets: Vec<Mask>,
+    body: &Body,
+) -> Result<(), CertFault>
+    requires built { IsProtocol task.now protocol.now.rounds protocol.now }
+    requires long { length sets.items ≡ length protocol.now.points }
+    requires few { AreNumbered (body_length body.now) }
+    ensures { let p = problem_of task.now protocol.now.rounds in
+        Judges result (fault_within p (box_of sets.items) (body_of body.now)) }
+{
+    match body {
+        Body::Map(values) => judge_map(rt, task, protocol, values),
         Body::Nothing(lines) => {
-            judge_lines(alloc, task, protocol, Claim::Nothing, FIRST_LINE, lines)
+            judge_lines(
+                alloc,
+                task,
+                protocol,
+                sets,
+                Claim::Nothing,
+                FIRST_LINE,
+                lines,
+            )
         }
         Body::Least(values, lines) => {
             judge_map(rt, task, protocol, values)?;
             let first = FIRST_LINE + values.len() as u32;
-            judge_lines(alloc, task, protocol, Claim::Least(values), first, lines)
+            judge_lines(
+                alloc,
+                task,
+                protocol,
+                sets,
+                Claim::Least(values),
+                first,
+                lines,
+            )
         }
     }
 }

@@ -4,11 +4,12 @@ ghost use Rattle.std.specs.Prelude.{◌≡◌, ◌+◌, ◌<◌, ◌≤◌, ◌�
 ghost use Rattle.wf_model.specs.Simplex.{processes_of};
 ghost use Rattle.wf_model.specs.Task.{inputs};
 ghost use Rattle.wf_model.specs.Problem.{Problem, problem_of};
-ghost use Rattle.wf_model.specs.Box.{is_supported, root};
+ghost use Rattle.wf_model.specs.Box.{is_supported};
 ghost use Rattle.wf_model.specs.Check.{verdict};
 ghost use Rattle.wf_model.specs.Refutation.{branch, empty, remove};
 ghost use Rattle.wf_complex.specs.Protocol.{IsProtocol};
 ghost use Rattle.wf_lines.specs.Lines.{line_of};
+ghost use Rattle.wf_set.specs.Sets.{box_of};
 ghost use Rattle.wf_check.specs.Blocks.{HasSamePoints, box_now, boxes_later, boxes_left};
 ghost use Rattle.wf_check.specs.Claims.{Ends, Judged, is_branch_of, lines_fault, verdict_on};
 ghost use Rattle.wf_check.specs.Places.{place_in, tuples_of, unless_supported};
@@ -20,7 +21,7 @@ use std::alloc::Global;
 use wf_complex::Protocol;
 use wf_lines::Line;
 use wf_report::CertFault;
-use wf_set::is_empty;
+use wf_set::{Mask, is_empty};
 use wf_support::Support;
 use wf_task::Task;
 
@@ -52,29 +53,51 @@ enum Progress {
     Found,
 }
 
-/// Judges the lines over the root box, in order, from this line on. The first fault is answered.
+/// Judges the lines over the box with these values at each point, in order, from this line on. The first fault is answered.
 pub(crate) fn judge_lines(
+    alloc: Global,
+    task: &Task,
+    protocol: &Protocol,
+    sets: Vec<Mask>,
+    claim: Claim,
+    first: u32,
+    lines: &[Line],
+) -> Result<(), CertFault>
+    requires built { IsProtocol task.now protocol.now.rounds protocol.now }
+    requires long { length sets.items ≡ length protocol.now.points }
+    requires few { first + length lines.now < u32.MAX }
+    ensures { let box = box_of sets.items in Judges result
+        (lines_fault (problem_of task.now protocol.now.rounds) claim.entry first
+        (map line_of lines.now) (box ∷ [])) }
+{
+    let mut blocks = Blocks::of(alloc, sets);
+    judge_from(alloc, task, protocol, claim, first, lines, &mut blocks)
+}
+
+/// Judges the lines over the boxes of these blocks.
+fn judge_from(
     alloc: Global,
     task: &Task,
     protocol: &Protocol,
     claim: Claim,
     first: u32,
     lines: &[Line],
+    blocks: &mut Blocks,
 ) -> Result<(), CertFault>
     requires built { IsProtocol task.now protocol.now.rounds protocol.now }
+    requires long { length blocks.old.sets.items ≡ length protocol.now.points }
     requires few { first + length lines.now < u32.MAX }
-    ensures { let p = problem_of task.now protocol.now.rounds in
-        Judges result (lines_fault p claim.entry first (map line_of lines.now) (root p ∷ [])) }
+    ensures { Judges result (lines_fault (problem_of task.now protocol.now.rounds) claim.entry first
+        (map line_of lines.now) (box_now blocks.old ∷ boxes_later blocks.old)) }
 {
     let supports = support_all(alloc, task)?;
-    let mut blocks = Blocks::root(alloc, task.values(), protocol.points())?;
     let mut progress = Progress::Going;
     let mut at = first;
     for line in lines {
         let Progress::Going = progress else {
             return Err(CertFault::Trailing(at));
         };
-        progress = judge_line(task, protocol, &supports, claim, *line, at, &mut blocks)?;
+        progress = judge_line(task, protocol, &supports, claim, *line, at, blocks)?;
         at += 1;
     }
     match (claim, progress) {

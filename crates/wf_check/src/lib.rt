@@ -1,6 +1,7 @@
 //! The checker of reports.
 //!
 //! - [`check`]: accepts a report about a task, or answers the first reason why it is refused.
+//! - [`check_within`]: the same of a report whose answer is about one box alone.
 //!
 //! It stands on reports, protocol complexes, sets of values and their support alone: what it accepts rests on nothing of the
 //! search.
@@ -13,4 +14,4 @@ mod judge;
 mod maps;
 mod support;
 
-pub use checking::check;
+pub use checking::{check, check_within};

@@ -8,5 +8,5 @@ use Rattle.wf_engine.proofs.Both.{done}
 pub refutations_true : RefutationsAreTrue
 refutations_true r task task' proof proof' sink sink' ran =
     let end = done ReadsProof r task task' proof proof' sink sink' ran in
-    let (given, gave, is) = end.read in
+    let (posed, models, (given, gave, is)) = end.read in
     (end.t, end.given, is.0.0, subst (λ text. Took sink sink' text 0) is.0.1 end.took)

@@ -16,7 +16,7 @@ use Rattle.wf_cnf.specs.declared.solver.ModelFault.TheVariants as model
 use Rattle.wf_rup.specs.declared.proof.ProofFault.{ProofFault}
 use Rattle.wf_rup.specs.declared.proof.ProofFault.TheVariants as proof
 use Rattle.wf_engine.specs.declared.fault.RunFault.{RunFault}
-use Rattle.wf_engine.specs.declared.fault.RunFault.TheVariants.{TooLong, Task, Build, Cert, Model, Proof, OtherRounds, NoMap, NoBranch, OutOfMemory, Read, Write}
+use Rattle.wf_engine.specs.declared.fault.RunFault.TheVariants.{TooLong, Task, Build, Cert, Model, Proof, OtherRounds, NoMap, NoBranch, OtherPart, NotInBranch, OutOfMemory, Read, Write}
 
 -- a text that is too long is one refusal, and so is out of memory, wherever they came
 abbrev pub of_read : ReadFault → RunFault
@@ -74,5 +74,7 @@ fault_text (Proof e) = proof_text e
 fault_text OtherRounds = codes "36 OtherRounds"
 fault_text NoMap = codes "43 NoMap"
 fault_text (NoBranch branches) = codes "44 NoBranch " ++ decimal branches
+fault_text OtherPart = codes "45 OtherPart"
+fault_text NotInBranch = codes "46 NotInBranch"
 fault_text Read = codes "30 Read"
 fault_text Write = codes "31 Write"

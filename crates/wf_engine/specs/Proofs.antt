@@ -1,12 +1,20 @@
 -- A run over two sources: a task, and the clausal proof by which a SAT solver shows that its question has no model.
-use Rattle.std.specs.Prelude.{◌≡◌, ◌≤◌, ◌+◌, ◌^◌, ℕ, List, [], length, Option, Some, Result, Ok, Err}
+use Rattle.std.specs.Prelude.{◌≡◌, ◌≤◌, ◌+◌, ◌^◌, ℕ, List, [], ◌∷◌, ◌++◌, length, Option, Some, Result, Ok, Err}
 use Rattle.std.specs.Io.KnownBytes.{IsAtEnd}
 use Rattle.wf_model.specs.Task.{Task}
 use Rattle.wf_model.specs.DecisionMap.{HasNoDecisionMap}
 use Rattle.wf_model.specs.Report.{none}
+use Rattle.wf_clauses.specs.Formula.{Formula}
+use Rattle.wf_formula.specs.Encoding.{question}
 use Rattle.wf_io.specs.Seen.{Reading, Writing}
 use Rattle.wf_io.specs.Texts.{Gave}
+use Rattle.wf_drat.specs.Text.{State, Text, at_start, open_in, text_of}
+use Rattle.wf_rup.specs.Seen.{Known}
+use Rattle.wf_rup.specs.Fed.{IsFaultIn, IsReadTo}
+use Rattle.wf_rup.specs.Unit.{DoesNotFollow}
+use Rattle.wf_rup.specs.declared.proof.ProofFault.{ProofFault}
 use Rattle.wf_rup.specs.declared.proof.ProofFault.TheVariants as proof
+use Rattle.wf_cnf.specs.Posing.{HasModelsOf}
 use Rattle.wf_engine.specs.Run.{Ran, by_result, failed_reads}
 use Rattle.wf_engine.specs.Sources.{AsksBoth, AsksWithin}
 use Rattle.wf_engine.specs.Verify.{accepted_text}
@@ -17,34 +25,61 @@ use Rattle.wf_engine.specs.declared.fault.RunFault.TheVariants.{Proof, OutOfMemo
 abbrev pub most_proof_bytes : ℕ
 most_proof_bytes = 2 ^ 62
 
--- what may come of a proof that is refused
-abbrev pub IsRefusedProof : RunFault → Type 0
-IsRefusedProof (Proof proof.OutOfMemory) = ⊥
-IsRefusedProof (Proof e) = Unit {0}
-IsRefusedProof TooLong = Unit {0}
-IsRefusedProof OutOfMemory = Unit {0}
-IsRefusedProof Read = Unit {0}
-IsRefusedProof e = ⊥
+-- ---- why a proof is refused
+
+-- what the bytes of a proof say, of clauses on the variables from 1 to this number: a line feed ends its last line
+abbrev pub text_of_proof : ℕ → List ℕ → Text
+text_of_proof variables given = text_of (at_start variables) (given ++ 10 ∷ [])
+
+-- the bytes leave off in this line, all steps of the proof are taken, and the contradiction does not follow by unit propagation
+pub record EndsUnrefuted (posed : Known) (given : List ℕ) (line : ℕ) (known : Known) : Type 0 where
+  pub last : State
+  pub end : (text_of (at_start posed.variables) given).end ≡ open_in last
+  pub in_line : line ≡ last.line
+  pub next : State
+  pub read : IsReadTo (text_of_proof posed.variables given) next posed known
+  pub refused : DoesNotFollow known []
+
+-- A proof of these bytes is refused for this fault, where this was known before its first step, and that behind the steps that
+-- were taken: it ends too early; or it has a flaw, or a lemma that does not follow, in the line that is named.
+abbrev pub IsFaultOfProof : Known → List ℕ → Known → ProofFault → Type 0
+IsFaultOfProof posed given known (proof.NoContradiction line) = EndsUnrefuted posed given line known
+IsFaultOfProof posed given known proof.OutOfMemory = ⊥
+IsFaultOfProof posed given known fault = IsFaultIn (text_of_proof posed.variables given) posed known fault
+
+-- what may come of a proof of these bytes that is refused, where this was known before it
+abbrev pub IsRefusedProof : Known → List ℕ → RunFault → Type 0
+IsRefusedProof posed given (Proof fault) = (known : Known) × IsFaultOfProof posed given known fault
+IsRefusedProof posed given TooLong = Unit {0}
+IsRefusedProof posed given OutOfMemory = Unit {0}
+IsRefusedProof posed given Read = Unit {0}
+IsRefusedProof posed given e = ⊥
+
+-- ---- what is made of a proof
 
 -- What is made of the bytes that a source gave as a proof. Where it is accepted, this holds of what is answered, and the source
 -- is at its end. There are too many bytes where there is one more than a proof may have.
-abbrev pub IsOfProof : {X : Type 0} → (X → Type 0) → List ℕ → Option (List ℕ) → Result X RunFault → Type 0
-IsOfProof holds given left (Ok x) = holds x × IsAtEnd left × (length given ≤ most_proof_bytes)
-IsOfProof holds given left (Err TooLong) = length given ≡ most_proof_bytes + 1
-IsOfProof holds given left (Err e) = IsRefusedProof e × (length given ≤ most_proof_bytes + 1)
+abbrev pub IsOfProof : {X : Type 0} → Known → (X → Type 0) → List ℕ → Option (List ℕ) → Result X RunFault → Type 0
+IsOfProof posed holds given left (Ok x) = holds x × IsAtEnd left × (length given ≤ most_proof_bytes)
+IsOfProof posed holds given left (Err TooLong) = length given ≡ most_proof_bytes + 1
+IsOfProof posed holds given left (Err e) = IsRefusedProof posed given e × (length given ≤ most_proof_bytes + 1)
 
--- a source's bytes as a proof
-abbrev pub ReadsAsProof : {X : Type 0} → (X → Type 0) → Reading → Reading → Result X RunFault → Type 0
-ReadsAsProof holds old new result =
-    (given : List ℕ) × Gave old new given (by_result failed_reads result) × IsOfProof holds given new.left result
+-- a source's bytes as a proof, where this was known before it
+abbrev pub ReadsAsProof : {X : Type 0} → Known → (X → Type 0) → Reading → Reading → Result X RunFault → Type 0
+ReadsAsProof posed holds old new result =
+    (given : List ℕ) × Gave old new given (by_result failed_reads result) × IsOfProof posed holds given new.left result
+
+-- the same where what was known has the models of a formula, and no others
+abbrev pub ReadsProofOf : Formula → (Unit {0} × List ℕ → Type 0) → Reading → Reading → Result (Unit {0} × List ℕ) RunFault → Type 0
+ReadsProofOf f holds old new result = (posed : Known) × HasModelsOf f posed × ReadsAsProof posed holds old new result
 
 -- there is no decision map, and the text is the line that says that this is accepted for these rounds
 abbrev pub IsAcceptedNone : Task → ℕ → Unit {0} × List ℕ → Type 0
 IsAcceptedNone t r answer = HasNoDecisionMap t r × (answer.1 ≡ accepted_text (Some r) (none []))
 
--- a source's bytes as a proof that there is no decision map
+-- a source's bytes as a proof that there is no decision map: that the task's question has no model
 abbrev pub ReadsProof : Task → ℕ → Reading → Reading → Result (Unit {0} × List ℕ) RunFault → Type 0
-ReadsProof t r old new result = ReadsAsProof (IsAcceptedNone t r) old new result
+ReadsProof t r old new result = ReadsProofOf (question t r) (IsAcceptedNone t r) old new result
 
 -- the limits are judged before the proof is read
 abbrev pub AsksProof : ℕ → Task → Reading → Reading → Result (Unit {0} × List ℕ) RunFault → Type 0

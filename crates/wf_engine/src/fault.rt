@@ -37,6 +37,10 @@ pub enum RunFault {
         /// How many branches there are.
         branches: u32,
     },
+    /// 45: the text doesn't begin with the lines of a part about the branch that was asked for.
+    OtherPart,
+    /// 46: the map of a part is a decision map, and lies in another branch.
+    NotInBranch,
     /// 15: memory ran out.
     OutOfMemory,
     /// 30: a call of the reader answered an error.
@@ -79,6 +83,8 @@ impl fmt::Display for RunFault {
             RunFault::OtherRounds => write!(f, "36 OtherRounds"),
             RunFault::NoMap => write!(f, "43 NoMap"),
             RunFault::NoBranch { branches } => write!(f, "44 NoBranch {branches}"),
+            RunFault::OtherPart => write!(f, "45 OtherPart"),
+            RunFault::NotInBranch => write!(f, "46 NotInBranch"),
             RunFault::OutOfMemory => write!(f, "{}", TaskFault::OutOfMemory),
             RunFault::Read => write!(f, "30 Read"),
             RunFault::Write => write!(f, "31 Write"),

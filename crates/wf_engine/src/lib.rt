@@ -10,8 +10,8 @@
 //! - [`run_model`]: a task's text and a SAT solver's output in, and the report of the map that the solver's model gives out.
 //! - [`run_proof`]: a task's text and a SAT solver's clausal proof in, and that no decision map is accepted out.
 //! - [`run_preset`]: the canonical text of a [`Preset`] out.
-//! - [`read_task`], [`read_report_from`], [`read_proof_from`], [`check_report`], [`write_points`], [`hand_out`]: steps that runs
-//!   share, for those of other crates too.
+//! - [`read_task`], [`read_report_from`], [`read_proof_from`], [`check_report`], [`write_points`], [`pose_problem`],
+//!   [`lines_kept`], [`map_body`], [`report_text`], [`accepted_words`], [`hand_out`]: steps that runs share, for those of other crates too.
 //! - [`RunFault`]: why a run is refused, with its number and its name.
 //!
 //! Each engine has one condition, that source and sink can count what it asks of them, and one relation that says what
@@ -49,9 +49,11 @@ pub use outcome::{Accepted, Outcome};
 pub use points::{run_points, write_points};
 pub use preset::run_preset;
 pub use proof::{MOST_PROOF_BYTES, read_proof_from, run_proof};
-pub use solve::{run_solve, run_solve_one, run_solve_watched};
+pub use solve::{
+    lines_kept, map_body, pose_problem, report_text, run_solve, run_solve_one, run_solve_watched,
+};
 pub use steps::{hand_out, read_task};
-pub use verify::{check_report, read_report_from, run_verify};
+pub use verify::{accepted_words, check_report, read_report_from, run_verify};
 pub use views::run_views;
 pub use wf_pool::MAX_WORKERS;
 pub use wf_preset::{Inputs, Preset};

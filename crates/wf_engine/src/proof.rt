@@ -1,5 +1,6 @@
 //! Checking a SAT solver's clausal proof that the question of a task has no model.
 
+ghost use Rattle.std.specs.Prelude.{◌<◌, length};
 ghost use Rattle.wf_io.specs.Ends.{CanRead};
 ghost use Rattle.wf_complex.specs.Protocol.{IsProtocol};
 ghost use Rattle.wf_rup.specs.Seen.{HasNoModel};
@@ -98,20 +99,36 @@ fn refute<C: Read>(
 }
 
 /// Reads a source to its end as a proof that what a checker knows has no model, as the last step of a run over a proof. It is
-/// refused where its bytes are no such proof: `38 NotALiteral` to `42 Binary`, `1 TooLong`, `30 Read`.
+/// refused where its bytes are no such proof, with its first fault: `38 NotALiteral` to `42 Binary`; and `1 TooLong`, `30 Read`.
 pub fn read_proof_from<C: Read>(
     alloc: Global,
     source: &mut Source<C>,
-    mut checker: Checker,
+    checker: Checker,
 ) -> Result<(), RunFault>
     requires { CanRead source.old }
-    ensures { ReadsAsProof (λ accepted. HasNoModel checker) source.old source.new result }
+    ensures { ReadsAsProof checker (λ accepted. HasNoModel checker)
+        source.old source.new result }
+{
+    let mut piece = vec![in alloc; 0u8; PIECE]?;
+    read_pieces(alloc, source, checker, &mut piece)
+}
+
+/// The same, with the room for a piece.
+fn read_pieces<C: Read>(
+    alloc: Global,
+    source: &mut Source<C>,
+    mut checker: Checker,
+    piece: &mut [u8],
+) -> Result<(), RunFault>
+    requires source { CanRead source.old }
+    requires piece { 0 < length piece.old }
+    ensures { ReadsAsProof checker (λ accepted. HasNoModel checker)
+        source.old source.new result }
 {
     let mut proof = Proof::new(alloc, checker.variables());
-    let mut piece = vec![in alloc; 0u8; PIECE]?;
     let mut given = 0;
     'pieces: while given <= MOST_PROOF_BYTES {
-        let room = (MOST_PROOF_BYTES + 1 - given).min(PIECE as u64) as usize;
+        let room = (MOST_PROOF_BYTES + 1 - given).min(piece.len() as u64) as usize;
         match source.read(&mut piece[..room]) {
             Ok(0) => return Ok(proof.finish(alloc, &mut checker)?),
             Ok(n) => {

@@ -157,7 +157,7 @@ fn solve_task_one<G: Gate>(
     ensures answers { Answers (IsSolved form) task.now rounds (answered result) }
     ensures in_order { IfOk result (λ answer. IsInOrder answer.0) }
 {
-    let (header, problem) = pose(alloc, task, rounds, gate)?;
+    let (header, problem) = pose_problem(alloc, task, rounds, gate)?;
     let (answer, account) = solve_one_watched(alloc, &problem, lines_kept(form), gate)?;
     Ok(with_text(alloc, task, rounds, header, answer, account, form)?)
 }
@@ -175,7 +175,7 @@ fn solve_task<T: Threads + Sync, G: Gate>(
     requires { (0 < workers) × (workers ≤ most_workers) }
     ensures { Answers (IsSolved form) task.now rounds (answered result) }
 {
-    let (header, problem) = pose(alloc, task, rounds, gate)?;
+    let (header, problem) = pose_problem(alloc, task, rounds, gate)?;
     let kept = lines_kept(form);
     let (answer, account) = solve::<T, Branches, G>(rt, alloc, &problem, workers, kept, gate)?;
     Ok(with_text(alloc, task, rounds, header, answer, account, form)?)
@@ -183,7 +183,7 @@ fn solve_task<T: Threads + Sync, G: Gate>(
 
 /// The header of the report about a task, and the problem to solve for it. The complex, of which the gate is told, takes more
 /// memory than either, and is given back before the search begins.
-fn pose<G: Gate>(
+pub fn pose_problem<G: Gate>(
     alloc: Global,
     task: &Task,
     rounds: u32,
@@ -198,7 +198,7 @@ fn pose<G: Gate>(
 }
 
 /// What lines a search keeps: those that the form shows.
-fn lines_kept(form: Form) -> KeptLines
+pub fn lines_kept(form: Form) -> KeptLines
     ensures { result ≡ lines_kept form }
 {
     match form {
@@ -238,7 +238,7 @@ fn with_text(
 }
 
 /// What a report says of a map: in the least form the lines that lead to it too.
-fn map_body(form: Form, values: Vec<u8>, lines: Lines) -> Body
+pub fn map_body(form: Form, values: Vec<u8>, lines: Lines) -> Body
     ensures { body_of result ≡ map_body form values.items (map line_of lines.items) }
 {
     match form {
@@ -249,7 +249,7 @@ fn map_body(form: Form, values: Vec<u8>, lines: Lines) -> Body
 
 /// The text of the report with this header and this answer.
 #[tactic(auto, unfolding(crate::specs::Texts::text_of_report))]
-fn report_text(
+pub fn report_text(
     alloc: Global,
     task: &Task,
     rounds: u32,

@@ -139,7 +139,7 @@ fn accepted_of(body: &Body) -> Accepted
 }
 
 /// The words that tell that a report with this answer is accepted.
-fn accepted_words(body: &Body) -> &'static str
+pub fn accepted_words(body: &Body) -> &'static str
     ensures { result.now ≡ accepted_words (body_of body.now) }
 {
     match body {

@@ -1,5 +1,5 @@
 -- What is answered about a problem, and the account of the work.
-use Rattle.std.specs.Prelude.{◌≡◌, ℕ, ◌+◌, ◌≤◌, List, map, length, Some, None}
+use Rattle.std.specs.Prelude.{◌≡◌, ℕ, ◌+◌, ◌<◌, ◌≤◌, List, map, length, Some, None}
 use Rattle.wf_model.specs.Problem.{Problem}
 use Rattle.wf_model.specs.Box.{root}
 use Rattle.wf_model.specs.Closing.{canonical}
@@ -10,6 +10,8 @@ use Rattle.wf_lines.specs.Lines.{line_of}
 use Rattle.wf_pool.specs.declared.answer.Answer.{Answer}
 use Rattle.wf_pool.specs.declared.answer.Answer.TheVariants as answer
 use Rattle.wf_pool.specs.declared.answer.KeptLines.{KeptLines}
+use Rattle.wf_pool.specs.declared.answer.BranchAnswer.{BranchAnswer}
+use Rattle.wf_pool.specs.declared.answer.BranchAnswer.TheVariants as at
 pub use Rattle.wf_pool.specs.Branches.{map_lines, refuting_lines}
 use Rattle.wf_pool.specs.Branches.{IsMapAt, AreLinesAt, branch_of}
 
@@ -49,6 +51,11 @@ IsInOrder (answer.Nothing ls) a = a.searched ≡ a.branches
 abbrev pub IsAnswerAt : Problem → KeptLines → ℕ → Answer → Type 0
 IsAnswerAt p kept i (answer.Map m ls) = IsMapAt p kept i m.items ls.items
 IsAnswerAt p kept i (answer.Nothing ls) = AreLinesAt p kept i ls.items
+
+-- branch i is there, and this is what it has; or there are so many branches, and no branch i
+abbrev pub HasBranchAnswer : Problem → KeptLines → ℕ → BranchAnswer → Type 0
+HasBranchAnswer p kept i (at.Answered answer n) = (n ≡ length (split p)) × (i < length (split p)) × IsAnswerAt p kept i answer
+HasBranchAnswer p kept i (at.Missing n) = (n ≡ length (split p)) × (n ≤ i)
 
 -- the same map, or none, and the same lines
 abbrev pub IsSame : Answer → Answer → Type 0

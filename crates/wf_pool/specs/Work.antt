@@ -4,6 +4,7 @@ use Rattle.wf_model.specs.Problem.{Problem}
 use Rattle.wf_model.specs.Outline.{Item, boxes_left_out}
 use Rattle.wf_core.specs.Count.{times, times_in, once_below}
 use Rattle.wf_board.specs.Desk.{Place, Desk, looked, settled}
+use Rattle.wf_box.specs.Boxes.{ServeFor}
 use Rattle.wf_search.specs.declared.searching.Found.{Found}
 use Rattle.wf_search.specs.declared.searching.Found.TheVariants as found
 use Rattle.wf_pool.specs.declared.answer.KeptLines.{KeptLines}
@@ -53,9 +54,9 @@ pub record HasLooked (d e : Desk) : Type 0 where
   pub same : e ≡ looked d e.seen
   pub down : e.seen ≤ d.seen
 
--- a worker of the board that tells the truth about the problem
+-- a worker of the board that tells the truth about the problem, and keeps answers of the kernel that are right for it
 abbrev pub IsWorker : Problem → KeptLines → Place → Worker → Type 0
-IsWorker p kept b w = IsSeat b w.seat × IsHonest p kept w.seat w.finds
+IsWorker p kept b w = IsSeat b w.seat × IsHonest p kept w.seat w.finds × ServeFor p w.answers
 
 -- a worker that has settled nothing
 abbrev pub IsFresh : Problem → KeptLines → Place → Worker → Type 0

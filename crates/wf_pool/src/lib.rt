@@ -3,9 +3,10 @@
 //! [`solve_one`] searches the branches in order, in this thread. [`solve`] has workers share them out; each worker has
 //! a seat at the board, where it sees the least branch that has a map so far, and a share of the handout. Both answer
 //! what the canonical search of the whole problem finds: its least map, or none; and its lines, if such lines are kept.
+//! [`solve_branch`] searches one branch alone.
 //!
 //! - `gate`: what a caller may watch and hold of the workers.
-//! - `worker`: a seat, and what the worker keeps of what it found.
+//! - `worker`: a seat, what the worker keeps of what it found, and what closing found out on the way.
 //! - `site`: what all workers share.
 //! - `watch`: a worker at a branch; it looks at the board before each turn of its search.
 //! - `crew`: all workers, each in a thread of its own where one can be had.
@@ -17,6 +18,9 @@
 //! branch is searched. In the end the others are moved to their places in a list of the branches, or of those up to the
 //! first with a map, and none is copied but into the lines of the root: this takes one list for each branch, and a step
 //! for each list of lines.
+//!
+//! Each worker, the only one too, begins a branch with what closing found out in its earlier ones. Workers share none of
+//! it, and it is moved with its worker and never copied. It saves time alone: whatever it holds, the answer is the same.
 #![tactic(auto)]
 
 mod answer;
@@ -28,7 +32,7 @@ mod solving;
 mod watch;
 mod worker;
 
-pub use answer::{Answer, KeptLines};
+pub use answer::{Answer, BranchAnswer, KeptLines};
 pub use gate::{Gate, Moment, Open};
 pub use laws::{a_problem_has_one_answer, searches_have_most_workers};
-pub use solving::{MAX_WORKERS, solve, solve_one, solve_one_watched};
+pub use solving::{MAX_WORKERS, solve, solve_branch, solve_one, solve_one_watched};

@@ -11,9 +11,9 @@ ghost use Rattle.wf_pool.specs.declared.answer.KeptLines.TheVariants as keep;
 ghost use Rattle.wf_pool.specs.Work.{AreAllBut, AreAllSettled, AreToSettle, AreWorkers, HasSettledEach, IsFresh, IsGround};
 ghost use Rattle.wf_pool.specs.Sites.{AreWorkersOf, IsWorkerOf};
 ghost use Rattle.wf_pool.specs.Together.{Tells};
-ghost use Rattle.wf_pool.specs.Answers.{IsAnswer, IsAnswerAt, HasAccount, IsInOrder};
+ghost use Rattle.wf_pool.specs.Answers.{IsAnswer, IsAnswerAt, HasAccount, HasBranchAnswer, IsInOrder};
 
-use crate::answer::{AllFinds, Answer, KeptLines, apart, in_order, map_of};
+use crate::answer::{AllFinds, Answer, BranchAnswer, KeptLines, apart, in_order, map_of};
 use crate::crew::crew;
 use crate::gate::{Gate, Moment, Open};
 use crate::site::Site;
@@ -119,6 +119,31 @@ pub fn solve_one_watched<G: Gate>(
         cut: 0,
     };
     Ok((Answer::Nothing(lines), account))
+}
+
+/// What the branch of this number has, from 0: the least of its decision maps, or none. No other branch is searched, so a
+/// map in an earlier one may be smaller. It starts no thread, and returns.
+///
+/// The gate is told that there is one branch to search, and then of its search, which is that of worker 0. Refused out of
+/// memory alone.
+pub fn solve_branch<G: Gate>(
+    alloc: Global,
+    problem: &Problem,
+    kept: KeptLines,
+    branch: u32,
+    gate: &G,
+) -> Result<BranchAnswer, AllocError>
+    ensures { IfOk result (HasBranchAnswer problem.now kept branch) }
+{
+    let cover = branches_of(alloc, problem)?;
+    let branches = cover.branches();
+    if branch >= branches {
+        return Ok(BranchAnswer::Missing(branches));
+    }
+    gate.branches(1);
+    let mut answers = Answers::new(alloc);
+    let answer = search_whole(alloc, problem, kept, &cover, branch, gate, &mut answers)?;
+    Ok(BranchAnswer::Answered(answer, branches))
 }
 
 /// The branches of a problem.
@@ -252,7 +277,7 @@ fn search_all<R: Threads + Sync, H: Handout, G: Gate>(
     work_left(alloc, &site, workers, left.as_slice())
 }
 
-/// A worker for each seat.
+/// A worker for each seat. None has found out anything.
 fn fresh_workers(
     alloc: Global,
     problem: &Problem,
@@ -273,6 +298,7 @@ fn fresh_workers(
                 map: None,
                 lines: Vec::new(alloc),
             },
+            answers: Answers::new(alloc),
         })?;
     }
     Ok(workers)

@@ -10,7 +10,7 @@ use crate::site::Site;
 use crate::worker::Worker;
 use std::alloc::{AllocError, Global};
 use wf_board::{Board, BoardSeat};
-use wf_search::{Stop, search};
+use wf_search::{Stop, search_with};
 
 /// The seat of a worker while it searches a branch. It looks before each turn, and stops where a lower branch is posted.
 #[derive(Drop)]
@@ -70,7 +70,8 @@ impl<'a, G: Gate> Stop for Told<'a, G> {
     ghost transitive = { λ s t u first second. first ∙ second };
 }
 
-/// Settles a branch that the worker has taken.
+/// Settles a branch that the worker has taken. Its search goes by what closing found out in the worker's earlier branches,
+/// and leaves the worker what is known then.
 pub(crate) fn settle<G: Gate>(
     alloc: Global,
     site: &Site<G>,
@@ -85,7 +86,11 @@ pub(crate) fn settle<G: Gate>(
 {
     site.gate.at(worker, Moment::Taken(branch));
     let boxed = site.cover.branch(alloc, branch)?;
-    let Worker { seat, finds } = me;
+    let Worker {
+        seat,
+        finds,
+        mut answers,
+    } = me;
     let mut watch = Watch {
         board: site.board,
         gate: site.gate,
@@ -93,7 +98,7 @@ pub(crate) fn settle<G: Gate>(
         branch,
         seat,
     };
-    let found = search(alloc, site.problem, boxed, &mut watch)?;
+    let found = search_with(alloc, site.problem, boxed, &mut watch, &mut answers)?;
     let Watch {
         board: _,
         gate: _,
@@ -101,7 +106,11 @@ pub(crate) fn settle<G: Gate>(
         branch: _,
         seat,
     } = watch;
-    let me = Worker { seat, finds };
+    let me = Worker {
+        seat,
+        finds,
+        answers,
+    };
     let settled = me.settle(alloc, site.board, site.kept, branch, found)?;
     site.gate.at(worker, Moment::Settled(branch));
     Ok(settled)

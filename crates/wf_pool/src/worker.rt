@@ -1,4 +1,4 @@
-//! A worker: its seat at the board, and what it keeps of what it found.
+//! A worker: its seat at the board, what it keeps of what it found, and what closing found out on the way.
 
 ghost use Rattle.std.specs.Prelude.{◌≡◌, ◌<◌, IfOk, OnOk, filter, nat_lt};
 ghost use Rattle.wf_pool.specs.Branches.{IsMapAt, AreLinesAt};
@@ -8,6 +8,7 @@ ghost use Rattle.wf_pool.specs.Work.{HasSettled, IsFoundAt, IsSeat, IsToSettle, 
 use crate::answer::KeptLines;
 use std::alloc::{AllocError, Global};
 use wf_board::{Board, BoardSeat};
+use wf_box::Answers;
 use wf_lines::Lines;
 use wf_search::Found;
 
@@ -33,10 +34,12 @@ pub(crate) struct Finds {
     pub(crate) lines: Vec<LinesAt>,
 }
 
+/// A worker: its seat, its finds, and what closing found out in its branches so far, with which it begins the next one.
 #[derive(Drop)]
 pub(crate) struct Worker {
     pub(crate) seat: BoardSeat,
     pub(crate) finds: Finds,
+    pub(crate) answers: Answers,
 }
 
 impl Worker {
@@ -48,6 +51,7 @@ impl Worker {
         ensures settled { HasSettled branch self.old self.new }
         ensures honest { StaysHonestIf
             (λ p kept. IsMapAt p kept branch map.items lines.items) self.old self.new }
+        ensures answers { self.new.answers ≡ self.old.answers }
     {
         if board.post(&mut self.seat, branch) == branch {
             self.finds.map = Some(MapAt { branch, map, lines });
@@ -58,6 +62,7 @@ impl Worker {
     fn forget(&mut self)
         ensures seat { self.new.seat ≡ self.old.seat }
         ensures honest { StaysHonest self.old self.new }
+        ensures answers { self.new.answers ≡ self.old.answers }
     {
         keep_below(&mut self.finds.lines, self.seat.seen());
     }
@@ -75,6 +80,7 @@ impl Worker {
         ensures settled { OnOk result (HasSettled branch self.old self.new) }
         ensures honest { OnOk result (StaysHonestIf
             (λ p kept. AreLinesAt p kept branch lines.items) self.old self.new) }
+        ensures answers { self.new.answers ≡ self.old.answers }
     {
         board.searched(&mut self.seat, branch);
         if branch < self.seat.seen() {
@@ -91,6 +97,7 @@ impl Worker {
         ensures seat { IsSeat board.now self.new.seat }
         ensures settled { HasSettled branch self.old self.new }
         ensures honest { StaysHonest self.old self.new }
+        ensures answers { self.new.answers ≡ self.old.answers }
     {
         board.cut(&mut self.seat, branch);
     }
@@ -111,6 +118,7 @@ impl Worker {
         ensures settled { IfOk result (HasSettled branch self) }
         ensures honest { IfOk result (StaysHonestIf
             (λ p k. (k ≡ kept) × IsFoundAt p branch found) self) }
+        ensures answers { IfOk result (λ w. w.answers ≡ self.answers) }
     {
         let mut me = self;
         match found {

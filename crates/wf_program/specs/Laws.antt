@@ -5,7 +5,7 @@ use Rattle.wf_core.specs.declared.Account.{Account}
 use Rattle.wf_io.specs.Seen.{Reading, Writing}
 use Rattle.wf_engine.specs.Proofs.{most_proof_bytes}
 use Rattle.wf_args.specs.declared.Job.{Job}
-use Rattle.wf_args.specs.declared.Job.TheVariants.{Verify, Decisions, Model, Proof, Trim, Explain, Lift}
+use Rattle.wf_args.specs.declared.Job.TheVariants.{Verify, VerifyBranch, Decisions, Model, Proof, Trim, Explain, Lift}
 use Rattle.wf_args.specs.declared.WordsFault.{WordsFault}
 use Rattle.wf_program.specs.Files.{Filing, Opens}
 use Rattle.wf_program.specs.Program.{GivenWords, IsAsked, Serves, TellsAccount}
@@ -13,6 +13,7 @@ use Rattle.wf_program.specs.Program.{GivenWords, IsAsked, Serves, TellsAccount}
 -- how many files a job opens
 abbrev pub file_count : Result Job WordsFault → ℕ
 file_count (Ok (Verify task rounds)) = 1
+file_count (Ok (VerifyBranch task rounds branch)) = 1
 file_count (Ok (Decisions task)) = 1
 file_count (Ok (Model task rounds)) = 1
 file_count (Ok (Proof task rounds branch)) = 1

@@ -31,10 +31,12 @@ use Rattle.wf_formula.specs.Branches.{branch_text}
 use Rattle.wf_branches.specs.Branches.{ListsBranch}
 use Rattle.wf_branches.specs.Listing.{branches_text}
 use Rattle.wf_branches.specs.Refuting.{RefutesBranch}
+use Rattle.wf_branches.specs.Solving.{SolvesBranch}
+use Rattle.wf_branches.specs.Verifying.{VerifiesBranch}
 use Rattle.wf_args.specs.Asked.{Answers, job_asked}
 use Rattle.wf_args.specs.Slips.{slip_line}
 use Rattle.wf_args.specs.declared.Job.{Job}
-use Rattle.wf_args.specs.declared.Job.TheVariants.{Solve, Verify, Views, Points, Branches, Cnf, Model, Proof, Decisions, Trim, Explain, Lift, Executions, Preset}
+use Rattle.wf_args.specs.declared.Job.TheVariants.{Solve, SolveBranch, Verify, VerifyBranch, Views, Points, Branches, Cnf, Model, Proof, Decisions, Trim, Explain, Lift, Executions, Preset}
 use Rattle.wf_args.specs.declared.WordsFault.{WordsFault}
 use Rattle.wf_args.specs.declared.WordsFault.TheVariants as fault
 use Rattle.wf_program.specs.Files.{Opening, Opens, opened, refused, Filing, CanAsk, after_asking, unread}
@@ -103,6 +105,10 @@ abbrev pub solved : Bool → Result (Outcome × Account) RunFault → Result Don
 solved tells (Ok (outcome, a)) = Ok (record { status = outcome_status outcome; account = asked_for tells a })
 solved tells (Err e) = Err (Run e)
 
+abbrev pub searched : Result Outcome RunFault → Result Done Refusal
+searched (Ok outcome) = Ok (record { status = outcome_status outcome; account = None })
+searched (Err e) = Err (Run e)
+
 abbrev pub verified : Result Accepted RunFault → Result Done Refusal
 verified (Ok accepted) = Ok (record { status = 0; account = None })
 verified (Err e) = Err (Run e)
@@ -123,6 +129,8 @@ Ended {X = X} answered does task task' source source' sink sink' done =
 -- what a job does with the task in its file
 abbrev pub DoesWithFile : Filed → DoesBoth (Result Done Refusal)
 DoesWithFile (filed.Verify rounds) task task' source source' sink sink' done = Ended verified (Verifies rounds) task task' source source' sink sink' done
+DoesWithFile (filed.VerifyBranch rounds branch) task task' source source' sink sink' done =
+    Ended written (VerifiesBranch rounds branch) task task' source source' sink sink' done
 DoesWithFile (filed.Model rounds) task task' source source' sink sink' done = Ended written (Models rounds) task task' source source' sink sink' done
 DoesWithFile (filed.Proof rounds None) task task' source source' sink sink' done = Ended written (Refutes rounds) task task' source source' sink sink' done
 DoesWithFile (filed.Proof rounds (Some branch)) task task' source source' sink sink' done =
@@ -156,10 +164,15 @@ abbrev pub Does : {F : Type 0} → Opens → Job → Filing F → Filing F → R
 Does opens (Solve rounds workers form account progress) folder folder' source source' sink sink' done =
     (result : Result (Outcome × Account) RunFault) × Solves rounds form source source' sink sink' result
     × (workers ≡ 1 → SearchesInOrder result) × (folder' ≡ folder) × (done ≡ solved account result)
+Does opens (SolveBranch rounds branch form progress) folder folder' source source' sink sink' done =
+    (result : Result Outcome RunFault) × SolvesBranch rounds branch form source source' sink sink' result
+    × (folder' ≡ folder) × (done ≡ searched result)
 Does opens (Executions rounds) folder folder' source source' sink sink' done =
     ListsOf executions_text rounds folder folder' source source' sink sink' done
 Does opens (Verify task rounds) folder folder' source source' sink sink' done =
     WithFile (opens (string_bytes task)) (DoesWithFile (filed.Verify rounds)) folder folder' source source' sink sink' done
+Does opens (VerifyBranch task rounds branch) folder folder' source source' sink sink' done =
+    WithFile (opens (string_bytes task)) (DoesWithFile (filed.VerifyBranch rounds branch)) folder folder' source source' sink sink' done
 Does opens (Views rounds) folder folder' source source' sink sink' done =
     ListsOf views_text rounds folder folder' source source' sink sink' done
 Does opens (Points rounds) folder folder' source source' sink sink' done =

@@ -2,7 +2,7 @@
 
 ghost use Rattle.std.specs.Prelude.{◌≡◌, Some};
 ghost use Rattle.wf_program.specs.AccountText.{account_line};
-ghost use Rattle.wf_program.specs.Program.{outcome_status, solved, verified, written};
+ghost use Rattle.wf_program.specs.Program.{outcome_status, searched, solved, verified, written};
 
 use crate::refusal::Refusal;
 use std::fmt;
@@ -61,6 +61,19 @@ pub(crate) fn after_solving(
         Ok((outcome, account)) => Ok(Done {
             status: status_of(outcome),
             account: if tells { Some(account) } else { None },
+        }),
+        Err(fault) => Err(Refusal::Run(fault)),
+    }
+}
+
+/// What is answered after a search of one branch.
+pub(crate) fn after_searching(found: Result<Outcome, RunFault>) -> Result<Done, Refusal>
+    ensures { result ≡ searched found }
+{
+    match found {
+        Ok(outcome) => Ok(Done {
+            status: status_of(outcome),
+            account: None,
         }),
         Err(fault) => Err(Refusal::Run(fault)),
     }

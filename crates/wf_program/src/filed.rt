@@ -11,7 +11,7 @@ use crate::refusal::Refusal;
 use std::alloc::Global;
 use std::io::{Read, Write};
 use std::thread::Threads;
-use wf_branches::run_proof_branch;
+use wf_branches::{run_proof_branch, run_verify_branch};
 use wf_engine::{RunFault, run_decisions, run_model, run_proof, run_verify};
 use wf_io::{Sink, Source};
 use wf_rewrite::{run_explain, run_lift, run_trim};
@@ -21,6 +21,8 @@ use wf_rewrite::{run_explain, run_lift, run_trim};
 pub(crate) enum Filed {
     /// Check a report, for these rounds where any are asked for.
     Verify(Option<u32>),
+    /// Check a part about the branch of this number, for so many rounds.
+    VerifyBranch { rounds: u32, branch: u32 },
     /// Report the map of a solver's model for so many rounds.
     Model(u32),
     /// Check a solver's proof that there is no map after so many rounds, or none in the branch of this number.
@@ -76,6 +78,9 @@ impl Filed {
         match self {
             Filed::Verify(rounds) => {
                 after_verifying(run_verify(rt, alloc, task, source, sink, rounds))
+            }
+            Filed::VerifyBranch { rounds, branch } => {
+                after_writing(run_verify_branch(rt, alloc, task, source, sink, rounds, branch))
             }
             Filed::Model(rounds) => {
                 after_writing(run_model(rt, alloc, task, source, sink, rounds))

@@ -5,11 +5,12 @@ ghost use Rattle.wf_model.specs.Limits.{most_workers};
 ghost use Rattle.wf_io.specs.Ends.{CanCount, CanWrite};
 ghost use Rattle.wf_io.specs.Texts.{Tells};
 ghost use Rattle.wf_engine.specs.Texts.{SearchesInOrder, Solves};
+ghost use Rattle.wf_branches.specs.Solving.{SolvesBranch};
 ghost use Rattle.wf_args.specs.Job.{CanBeDone};
 ghost use Rattle.wf_program.specs.Files.{CanAsk};
 ghost use Rattle.wf_program.specs.Program.{CanServe, Declines, Does, Ends, IsAsked, ListsQuestion, Serves, Shows};
 
-use crate::done::{AccountLine, Done, after_solving, after_writing};
+use crate::done::{AccountLine, Done, after_searching, after_solving, after_writing};
 use crate::filed::Filed;
 use crate::files::{Files, Folder};
 use crate::refusal::Refusal;
@@ -20,7 +21,7 @@ use std::fmt::Display;
 use std::io::{Read, Write};
 use std::thread::Threads;
 use wf_args::{Job, WordsFault, read_words};
-use wf_branches::{run_branches, run_cnf_branch};
+use wf_branches::{run_branches, run_cnf_branch, run_solve_branch, run_solve_branch_watched};
 use wf_core::Account;
 use wf_engine::{
     Form, Outcome, RunFault, hand_out, run_cnf, run_points, run_preset, run_solve,
@@ -98,9 +99,27 @@ fn do_job<T: Threads + Sync, F: Files, G: Gate, R: Read, W: Write>(
             let found = solve_source(rt, alloc, gate, source, sink, *rounds, *workers, *form);
             after_solving(found, *account)
         }
+        Job::SolveBranch {
+            rounds,
+            branch,
+            form,
+            progress,
+        } => {
+            let gate = if *progress { Some(gate) } else { None };
+            after_searching(search_source(alloc, gate, source, sink, *rounds, *branch, *form))
+        }
         Job::Verify { task, rounds } => {
             Filed::Verify(*rounds).with_file(rt, alloc, folder, task, source, sink)
         }
+        Job::VerifyBranch {
+            task,
+            rounds,
+            branch,
+        } => Filed::VerifyBranch {
+            rounds: *rounds,
+            branch: *branch,
+        }
+        .with_file(rt, alloc, folder, task, source, sink),
         Job::Views { rounds } => after_writing(run_views(alloc, source, sink, *rounds)),
         Job::Points { rounds } => after_writing(run_points(alloc, source, sink, *rounds)),
         Job::Branches { rounds } => after_writing(run_branches(alloc, source, sink, *rounds)),
@@ -149,6 +168,25 @@ fn solve_source<T: Threads + Sync, G: Gate, R: Read, W: Write>(
     match gate {
         Some(gate) => { run_solve_watched(rt, alloc, source, sink, rounds, workers, form, gate) }
         None => run_solve(rt, alloc, source, sink, rounds, workers, form),
+    }
+}
+
+/// Searches one branch of the question of the source's task. If there is a gate, it is told of the search.
+fn search_source<G: Gate, R: Read, W: Write>(
+    alloc: Global,
+    gate: Option<&G>,
+    source: &mut Source<R>,
+    sink: &mut Sink<W>,
+    rounds: u32,
+    branch: u32,
+    form: Form,
+) -> Result<Outcome, RunFault>
+    requires { CanCount source.old sink.old }
+    ensures { SolvesBranch rounds branch form source.old source.new sink.old sink.new result }
+{
+    match gate {
+        Some(gate) => run_solve_branch_watched(alloc, source, sink, rounds, branch, form, gate),
+        None => run_solve_branch(alloc, source, sink, rounds, branch, form),
     }
 }
 

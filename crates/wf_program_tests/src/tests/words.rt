@@ -179,6 +179,30 @@ fn presets_are_a_job_or_a_fault(rt: HostRuntime) -> Result<(), Fail> {
         ),
         ("wfcheck branches --rounds 2", "branches 2"),
         ("wfcheck branches", "clap MissingRequiredArgument"),
+        (
+            "wfcheck solve --rounds 2 --workers 3 --branch 5 --least",
+            "solve 2 in 5 Least false",
+        ),
+        (
+            "wfcheck solve --branch 0 --rounds 1 --progress --workers 1",
+            "solve 1 in 0 Full true",
+        ),
+        (
+            "wfcheck solve --branch 0 --rounds 1 --account --workers 1",
+            "words: the argument '--branch' cannot be used with '--account'",
+        ),
+        (
+            "wfcheck solve --branch 0 --rounds 1",
+            "clap MissingRequiredArgument",
+        ),
+        (
+            "wfcheck verify --branch 5 --task t.json --rounds 2",
+            "verify t.json for 2 in 5",
+        ),
+        (
+            "wfcheck verify --branch 5 --task t.json",
+            "words: '--branch' needs the argument '--rounds'",
+        ),
         ("wfcheck cnf --rounds 2 --branch 5", "cnf 2 in 5"),
         (
             "wfcheck proof --task t.json --rounds 2 --branch 0",
@@ -214,10 +238,25 @@ fn judged(alloc: Global, line: &str) -> Result<String, AllocError> {
                 progress: true,
             },
         ) => format!(in alloc; "solve {rounds} {workers} {form:?} {account} progress"),
+        Ok(
+            Job::SolveBranch {
+                rounds,
+                branch,
+                form,
+                progress,
+            },
+        ) => format!(in alloc; "solve {rounds} in {branch} {form:?} {progress}"),
         Ok(Job::Verify { task, rounds }) => match rounds {
             None => format!(in alloc; "verify {task}"),
             Some(rounds) => format!(in alloc; "verify {task} for {rounds}"),
         },
+        Ok(
+            Job::VerifyBranch {
+                task,
+                rounds,
+                branch,
+            },
+        ) => format!(in alloc; "verify {task} for {rounds} in {branch}"),
         Ok(Job::Views { rounds }) => format!(in alloc; "views {rounds}"),
         Ok(Job::Points { rounds }) => format!(in alloc; "points {rounds}"),
         Ok(Job::Branches { rounds }) => format!(in alloc; "branches {rounds}"),

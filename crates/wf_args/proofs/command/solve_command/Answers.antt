@@ -9,4 +9,5 @@ returns c =
     let has_verdict = with_option _ _ _ _ _ c.in_ok-arg-3.ensures c.flag-verdict.ensures has_workers in
     let has_least = with_option _ _ _ _ _ c.in_ok-arg-4.ensures c.flag-least.ensures has_verdict in
     let has_account = with_option _ _ _ _ _ c.in_ok-arg-5.ensures c.flag-account.ensures has_least in
-    IfOk-weaker c.arg-6.result _ _ (λ r h. with_option _ _ _ _ _ h c.flag-progress.ensures has_account) c.arg-6.ensures
+    let has_progress = with_option _ _ _ _ _ c.in_ok-arg-6.ensures c.flag-progress.ensures has_account in
+    IfOk-weaker c.arg-7.result _ _ (λ r h. with_option _ _ _ _ _ h c.branch-alloc.ensures has_progress) c.arg-7.ensures

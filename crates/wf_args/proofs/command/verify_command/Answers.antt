@@ -5,4 +5,5 @@ use Rattle.wf_args.proofs.command.verify_command.Goals as goal
 pub returns : goal.returns
 returns c =
     let has_task = with_option _ _ _ _ _ c.in_ok-arg.ensures c.task.ensures c.subcommand.ensures in
-    IfOk-weaker c.arg-2.result _ _ (λ r h. with_option _ _ _ _ _ h c.optional.ensures has_task) c.arg-2.ensures
+    let has_rounds = with_option _ _ _ _ _ c.in_ok-arg-2.ensures c.optional.ensures has_task in
+    IfOk-weaker c.arg-3.result _ _ (λ r h. with_option _ _ _ _ _ h c.branch-alloc.ensures has_rounds) c.arg-3.ensures

@@ -1,54 +1,16 @@
-use Rattle.std.proofs.Common.{◌≡◌, ◌∙◌, ◌∷◌, ◌+◌, suc, drop, length, map, arith, subst, sym, ap}
-use Rattle.std.proofs.lemmas.List.{length-replicate}
-use Rattle.std.proofs.lemmas.Result.{err_from_is_err_and}
+use Rattle.std.proofs.Common.{ap, subst, ◌∷◌, map}
 use Rattle.wf_model.specs.Problem.{problem_of}
 use Rattle.wf_lines.specs.Lines.{line_of}
-use Rattle.wf_lines.specs.declared.line.Line.TheVariants as line
+use Rattle.wf_set.specs.Sets.{box_of}
 use Rattle.wf_check.specs.Blocks.{later}
-use Rattle.wf_check.specs.Claims.{fault_left, lines_fault}
-use Rattle.wf_check.specs.Faults.{Fails}
-use Rattle.wf_check.proofs.ClaimLemmas.{going_on, judges_fault, trailing_there}
-use Rattle.wf_check.proofs.RootLemmas.{root_is}
+use Rattle.wf_check.specs.Claims.{lines_fault}
+use Rattle.wf_check.specs.Faults.{Judges}
 use Rattle.wf_check.proofs.judge.judge_lines.Goals as goal
 
-pub loop-line-init : goal.loop-line-init
-loop-line-init c =
-    let t = c.args.task.now in
-    let b = c.args.protocol.now in
-    let sets = c.in_ok-blocks.blocks.sets.items in
-    let are = c.in_ok-blocks.ensures.sets in (
-      (λ i. lines_fault (problem_of t b.rounds) c.args.claim c.args.first (map line_of c.args.lines.now) (root_is t b.rounds b c.values.result c.points.result sets c.requires.built c.values.ensures.values c.points.ensures.points are i ∷ ap (λ es. later es sets) c.in_ok-blocks.ensures.alone i)),
-      ap length are ∙ length-replicate c.points.result c.values.result ∙ c.points.ensures.points,
-      omega arith,
-    )
-
-pub returns-in_default : goal.returns-in_default
-returns-in_default c =
+pub returns : goal.returns
+returns c =
     let p = problem_of c.args.task.now c.args.protocol.now.rounds in
-    sym c.loop-line.invariant.0 ∙ trailing_there p c.args.claim c.loop-line.at c.loop-line.line-index c.args.lines.now c.loop-line.progress c.loop-line.blocks c.loop-line-test.true c.in_default.not-Going
-
-pub returns-in_err-progress : goal.returns-in_err-progress
-returns-in_err-progress c =
-    let p = problem_of c.args.task.now c.args.protocol.now.rounds in
-    let k = c.loop-line in
-    let lines = c.args.lines.now in
-    let e = err_from_is_err_and c.from_residual-in_err-progress.result c.from_residual-in_err-progress.ensures.1 in
-    judges_fault c.from_residual-in_err-progress.result e.0 c.in_err-progress.field-0.0 _ e.1 e.2
-    (subst (Fails c.in_err-progress.field-0.0)
-    (sym (going_on p c.args.claim k.at k.line-index lines (line.Remove 0 0 0) k.progress k.blocks c.loop-line-test.true c.in-Going.is) ∙ k.invariant.0)
-    (c.in_err-progress.ensures.step (map line_of (drop (k.line-index + 1) lines))))
-
-pub loop-line-preserved : goal.loop-line-preserved
-loop-line-preserved c =
-    let p = problem_of c.args.task.now c.args.protocol.now.rounds in
-    let k = c.loop-line in
-    let lines = c.args.lines.now in
-    let more = map line_of (drop (k.line-index + 1) lines) in
-    let next : k.at + 1 ≡ suc k.at = omega arith in (
-      ap (λ n. fault_left p c.args.claim n more c.in_ok-progress.progress c.judge_line.new.blocks) next
-          ∙ sym (c.in_ok-progress.ensures.step more)
-          ∙ sym (going_on p c.args.claim k.at k.line-index lines (line.Remove 0 0 0) k.progress k.blocks c.loop-line-test.true c.in-Going.is)
-          ∙ k.invariant.0,
-      c.in_ok-progress.ensures.points ∙ k.invariant.1,
-      omega (arith, k.invariant.2),
-    )
+    let sets = c.of-blocks.result.sets.items in
+    subst (Judges c.judge_from.result)
+    (λ i. lines_fault p c.args.claim c.args.first (map line_of c.args.lines.now) (ap box_of c.of-blocks.ensures.sets i ∷ ap (λ es. later es sets) c.of-blocks.ensures.alone i))
+    c.judge_from.ensures

@@ -1,4 +1,5 @@
 use Rattle.std.proofs.Common.{◌<◌, ℕ, refl, sym, subst}
+use Rattle.wf_box.specs.Boxes.{ServeFor}
 use Rattle.wf_pool.proofs.Branches.{found_at}
 use Rattle.wf_pool.proofs.Keeping.{looked_honest}
 use Rattle.wf_pool.proofs.watch.settle.Goals as goal
@@ -12,4 +13,5 @@ returns-clause-worker g c =
       w.honest site.problem.now site.kept
           (looked_honest site.problem.now site.kept c.args.me.seat _ c.args.me.finds look c.requires.me.1)
           (refl, found_at site.problem.now site.cover.now c.args.branch c.in_ok-boxed.boxed.sets c.in_ok-found.found site.ground.cover (subst (λ (n : ℕ). c.args.branch < n) (sym site.ground.count) c.requires.branch.0) c.in_ok-boxed.ensures.branch c.in_ok-found.ensures.canonical),
+      subst (ServeFor site.problem.now) (sym w.answers) c.in_ok-found.ensures.answers,
     )

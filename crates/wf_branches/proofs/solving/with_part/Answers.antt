@@ -1,0 +1,25 @@
+use Rattle.std.proofs.Common.{ap, subst, ◌∙◌}
+use Rattle.wf_model.specs.Problem.{problem_of}
+use Rattle.wf_pool.specs.Answers.{IsAnswerAt}
+use Rattle.wf_engine.specs.Texts.{lines_kept}
+use Rattle.wf_branches.specs.Solving.{part_text}
+use Rattle.wf_branches.proofs.Solved.{map_part, none_part}
+use Rattle.wf_branches.proofs.solving.with_part.Goals as goal
+
+pub returns-in_ok-part_text-in-Map : goal.returns-in_ok-part_text-in-Map
+returns-in_ok-part_text-in-Map c =
+    let t = c.args.task.now in
+    let r = c.args.rounds in
+    let i = c.args.place.number in
+    let answer = subst (IsAnswerAt (problem_of t r) (lines_kept c.args.form) i) c.in-Map.is c.requires.answer in
+    map_part t r i c.args.form c.in-Map.values.items c.in-Map.lines.items c.in_ok-part_text-in-Map.field-0.items c.requires.header.task answer
+    (c.in_ok-part_text-in-Map.ensures ∙ ap (part_text t r i) c.map_body-body.ensures)
+
+pub returns-in_ok-part_text-in-Nothing : goal.returns-in_ok-part_text-in-Nothing
+returns-in_ok-part_text-in-Nothing c =
+    let t = c.args.task.now in
+    let r = c.args.rounds in
+    let i = c.args.place.number in
+    let answer = subst (IsAnswerAt (problem_of t r) (lines_kept c.args.form) i) c.in-Nothing.is c.requires.answer in
+    none_part t r i c.args.form c.in-Nothing.lines.items c.in_ok-part_text-in-Nothing.field-0.items c.requires.header.task answer
+    c.in_ok-part_text-in-Nothing.ensures

@@ -1,0 +1,218 @@
+//! Checking a part: a report whose answer is about one branch of a task's question.
+
+ghost use Rattle.std.specs.Prelude.{◌≡◌, ◌++◌, ℕ, List, IfOk, IfSome, None};
+ghost use Rattle.wf_io.specs.Ends.{CanRead};
+ghost use Rattle.wf_complex.specs.Protocol.{IsProtocol};
+ghost use Rattle.wf_report.specs.Reports.{AreNumbered, body_length, body_of, report_seen};
+ghost use Rattle.wf_set.specs.Sets.{box_of};
+ghost use Rattle.wf_engine.specs.Run.{answered};
+ghost use Rattle.wf_engine.specs.Sources.{AsksBoth, AsksWithin};
+ghost use Rattle.wf_engine.specs.Verify.{CanVerify, seen};
+ghost use Rattle.wf_branches.specs.Branches.{IsBranch};
+ghost use Rattle.wf_branches.specs.Refuting.{ReadsIn};
+ghost use Rattle.wf_branches.specs.Verifying.{ChecksPart, IsPartOf, JudgesPart, ReadsPart, VerifiesBranch, is_outside, lies_in};
+
+use crate::branch::{FoundBranch, Place, branch_of};
+use std::alloc::Global;
+use std::io::{Read, Write};
+use std::thread::Threads;
+use wf_check::check_within;
+use wf_complex::Protocol;
+use wf_engine::{RunFault, accepted_words, hand_out, read_task};
+use wf_io::{Sink, Source, read_all};
+use wf_report::{Body, Report, read_report};
+use wf_set::{Mask, holds};
+use wf_task::{LONGEST, Task};
+
+/// Reads a task to its reader's end, and then the part of an answer about one branch of its question after these rounds to its
+/// own reader's end; checks the part without a search; and writes what is accepted. A map that is accepted is a decision map
+/// that lies in the branch, and with its lines the least one there; where none is accepted, no decision map lies in the branch.
+///
+/// A branch that is not there is refused before the part is read, with how many branches there are. The part of another branch
+/// is refused, `45 OtherPart`, and so is a decision map that lies in another one, `46 NotInBranch`. The lines of other refusals
+/// are counted from that on with which the report begins.
+pub fn run_verify_branch<T: Threads + Sync, R: Read, C: Read, W: Write>(
+    rt: &T,
+    alloc: Global,
+    task_source: &mut Source<R>,
+    part_source: &mut Source<C>,
+    sink: &mut Sink<W>,
+    rounds: u32,
+    branch: u32,
+) -> Result<(), RunFault>
+    requires { CanVerify task_source.old part_source.old sink.old }
+    ensures { VerifiesBranch rounds branch task_source.old task_source.new
+        part_source.old part_source.new sink.old sink.new result }
+{
+    let answer = verify_sources(rt, alloc, task_source, part_source, rounds, branch);
+    hand_out(sink, answer)
+}
+
+/// The line that tells what is accepted of a source's part about another source's task.
+fn verify_sources<T: Threads + Sync, R: Read, C: Read>(
+    rt: &T,
+    alloc: Global,
+    task_source: &mut Source<R>,
+    part_source: &mut Source<C>,
+    rounds: u32,
+    number: u32,
+) -> Result<((), Vec<u8>), RunFault>
+    requires task { CanRead task_source.old }
+    requires part { CanRead part_source.old }
+    ensures { AsksBoth (ReadsIn ReadsPart number) rounds task_source.old task_source.new
+        part_source.old part_source.new (answered result) }
+{
+    let task = read_task(alloc, task_source)?;
+    verify_source(rt, alloc, &task, part_source, rounds, number)
+}
+
+/// The line that tells what is accepted of a source's part about a task.
+fn verify_source<T: Threads + Sync, C: Read>(
+    rt: &T,
+    alloc: Global,
+    task: &Task,
+    source: &mut Source<C>,
+    rounds: u32,
+    number: u32,
+) -> Result<((), Vec<u8>), RunFault>
+    requires { CanRead source.old }
+    ensures { AsksWithin (ReadsIn ReadsPart number) rounds task.now source.old source.new
+        (answered result) }
+{
+    let protocol = Protocol::build(alloc, task, rounds)?;
+    verify_in(rt, alloc, task, &protocol, source, number)
+}
+
+/// The same on the task's protocol complex, if there is such a branch.
+fn verify_in<T: Threads + Sync, C: Read>(
+    rt: &T,
+    alloc: Global,
+    task: &Task,
+    protocol: &Protocol,
+    source: &mut Source<C>,
+    number: u32,
+) -> Result<((), Vec<u8>), RunFault>
+    requires source { CanRead source.old }
+    requires protocol { IsProtocol task.now protocol.now.rounds protocol.now }
+    ensures { ReadsIn ReadsPart number task.now protocol.now.rounds source.old source.new
+        (answered result) }
+{
+    let branch = branch_of(alloc, task, protocol, number)?;
+    verify_part(rt, alloc, task, protocol, branch, source)
+}
+
+/// The line that tells what is accepted of a source's part about a branch.
+fn verify_part<T: Threads + Sync, C: Read>(
+    rt: &T,
+    alloc: Global,
+    task: &Task,
+    protocol: &Protocol,
+    branch: FoundBranch,
+    source: &mut Source<C>,
+) -> Result<((), Vec<u8>), RunFault>
+    requires source { CanRead source.old }
+    requires protocol { IsProtocol task.now protocol.now.rounds protocol.now }
+    requires branch { IsBranch task.now protocol.now.rounds branch.number branch }
+    ensures { ReadsPart branch.number task.now protocol.now.rounds source.old source.new
+        (answered result) }
+{
+    let text = read_all(alloc, source, LONGEST)?;
+    judge_part(rt, alloc, task, protocol, branch, &text)
+}
+
+/// The line that tells what is accepted of a text as a part about a branch.
+fn judge_part<T: Threads + Sync>(
+    rt: &T,
+    alloc: Global,
+    task: &Task,
+    protocol: &Protocol,
+    branch: FoundBranch,
+    text: &[u8],
+) -> Result<((), Vec<u8>), RunFault>
+    requires protocol { IsProtocol task.now protocol.now.rounds protocol.now }
+    requires branch { IsBranch task.now protocol.now.rounds branch.number branch }
+    ensures { JudgesPart branch.number task.now protocol.now.rounds text.now (answered result) }
+{
+    let report = part_of(alloc, &branch, text)?;
+    accept(rt, alloc, task, protocol, branch, &report)
+}
+
+/// The report of a part about a branch.
+fn part_of(alloc: Global, branch: &FoundBranch, text: &[u8]) -> Result<Report, RunFault>
+    ensures read { IsPartOf branch.now.number branch.now.count text.now (seen result) }
+    ensures few { IfOk result (λ report. AreNumbered (body_length report.body)) }
+{
+    let place = branch.place();
+    let head = place.head(alloc)?;
+    match behind(head.as_bytes(), text) {
+        Some(rest) => Ok(read_report(alloc, rest)?),
+        None => Err(RunFault::OtherPart),
+    }
+}
+
+/// What comes behind this beginning of a text, if it is one.
+fn behind<'a>(head: &[u8], text: &'a [u8]) -> Option<&'a [u8]>
+    ensures there { IfSome result (λ rest. text.now ≡ head.now ++ rest.now) }
+    ensures elsewhere { result ≡ None → (rest : List ℕ) → text.now ≡ head.now ++ rest → ⊥ }
+{
+    if head.len() > text.len() {
+        return None;
+    }
+    let (front, rest) = text.split_at(head.len());
+    if front == head { Some(rest) } else { None }
+}
+
+/// The line that tells what is accepted of a report about a branch.
+fn accept<T: Threads + Sync>(
+    rt: &T,
+    alloc: Global,
+    task: &Task,
+    protocol: &Protocol,
+    branch: FoundBranch,
+    report: &Report,
+) -> Result<((), Vec<u8>), RunFault>
+    requires few { AreNumbered (body_length report.now.body) }
+    requires protocol { IsProtocol task.now protocol.now.rounds protocol.now }
+    requires branch { IsBranch task.now protocol.now.rounds branch.number branch }
+    ensures { ChecksPart branch.number task.now protocol.now.rounds (report_seen report.now)
+        (answered result) }
+{
+    let FoundBranch {
+        number,
+        count,
+        sets,
+    } = branch;
+    let is_elsewhere = is_outside(&report.body, &sets);
+    check_within(rt, alloc, task, protocol, sets, report)?;
+    if is_elsewhere {
+        return Err(RunFault::NotInBranch);
+    }
+    let place = Place { number, count };
+    let text = place.accepted(alloc, accepted_words(&report.body), protocol.rounds())?;
+    Ok(((), text.into_bytes()))
+}
+
+/// Whether a report's map, which comes without lines, doesn't lie in the box of these sets.
+fn is_outside(body: &Body, sets: &[Mask]) -> bool
+    ensures { result ≡ is_outside (body_of body.now) (box_of sets.now) }
+{
+    match body {
+        Body::Map(values) => !lies_in(values, sets),
+        Body::Nothing(_) | Body::Least(_, _) => false,
+    }
+}
+
+/// Whether each value is in the set of its point.
+fn lies_in(values: &[u8], sets: &[Mask]) -> bool
+    ensures { result ≡ lies_in values.now (box_of sets.now) }
+{
+    if values.len() != sets.len() {
+        return false;
+    }
+    for (point, value) in values.iter().enumerate() {
+        if !holds(sets[point], *value) {
+            return false;
+        }
+    }
+    true
+}
