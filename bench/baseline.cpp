@@ -6,7 +6,8 @@
 //                                                            stages up to the last take: join, close or search
 //
 // The algorithms are the program's: views by number, sets of rows for each value of a table of tuples, a trail of changes,
-// marks on executions, and branches that threads share out. The task file has to be right, with values below 64, of
+// marks on executions, answers of tables that are kept, and branches that threads share out. Where a table is small, all of its
+// answers are kept. The task file has to be right, with values below 64, of
 // version 1. The report is byte for byte that of the program.
 #include "baseline/answer.hpp"
 #include "baseline/check.hpp"
@@ -47,7 +48,8 @@ static size_t run_stages(const std::string& text, u32 rounds, const std::string&
     Problem problem(task, complex);
     times.end(times.join);
     if (final == "join") return problem.users.size();
-    Search search(problem, true);
+    Caches caches(problem);
+    Search search(problem, caches, true);
     bool is_left = search.close();
     times.end(times.close);
     if (final == "close" || !is_left) return search.count;

@@ -14,7 +14,8 @@ struct Answer {
 };
 
 static Answer solve_one(const Problem& problem, bool keeps_lines) {
-    Search search(problem, keeps_lines);
+    Caches caches(problem);
+    Search search(problem, caches, keeps_lines);
     if (search.is_empty()) return {Found::none, {}, std::move(search.lines)};
     Found found = search.run();
     return {found, std::move(search.sets), std::move(search.lines)};
@@ -32,6 +33,7 @@ struct Slot {
 class Outline {
     static constexpr size_t enough_boxes = 64, most_levels = 8;
     const Problem& problem;
+    Caches caches;
     bool keeps_lines;
 
     void leave_out(std::vector<Set> sets) {
@@ -41,7 +43,7 @@ class Outline {
     }
     void append(const Lines& lines) { after.insert(after.end(), lines.begin(), lines.end()); }
     void open(std::vector<Set> closed) {
-        Search box(problem, keeps_lines, std::move(closed));
+        Search box(problem, caches, keeps_lines, std::move(closed));
         u32 point = box.first_open();
         if (keeps_lines) after.push_back({'b', 0, 0, point});
         for (Set left = box.sets[point]; left; left &= left - 1) {
@@ -70,8 +72,8 @@ class Outline {
     std::vector<Slot> slots;
     Lines after;
 
-    Outline(const Problem& p, bool keeps) : problem(p), keeps_lines(keeps) {
-        Search root(p, keeps);
+    Outline(const Problem& p, bool keeps) : problem(p), caches(p), keeps_lines(keeps) {
+        Search root(p, caches, keeps);
         bool is_left = !root.is_empty() && root.close();
         after = std::move(root.lines);
         if (is_left) leave_out(std::move(root.sets));
@@ -100,9 +102,10 @@ static Answer solve(const Problem& problem, bool keeps_lines, u32 workers) {
     std::vector<Answer> answers(branches);
     std::atomic<u32> next{0}, least{branches};
     auto work = [&] {
+        Caches caches(problem);
         for (u32 own; (own = next++) < branches;) {
             if (least < own) return;
-            Search search(problem, keeps_lines, std::move(outline.slots[own].sets));
+            Search search(problem, caches, keeps_lines, std::move(outline.slots[own].sets));
             Found found = search.run(&least, own);
             answers[own] = {found, {}, std::move(search.lines)};
             if (found != Found::map) continue;

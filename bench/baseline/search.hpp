@@ -1,6 +1,6 @@
 // Boxes, their closing, and the search of one.
 #pragma once
-#include "complex.hpp"
+#include "caches.hpp"
 #include <atomic>
 
 struct Line {
@@ -44,14 +44,13 @@ enum class Found { map, none, stopped };
 class Search {
     struct Change { u32 point; Set before; };
     struct Frame { u32 point; Set left; size_t length; };
-    struct Revised { u32 rule = ~0u; Set candidates[4] = {}, supported[4] = {}; };
 
     const Problem& problem;
+    Caches& caches;
     bool keeps_lines;
     std::vector<Change> trail;
     std::vector<Frame> frames;
     Marks marks;
-    Revised last;
 
     void say(Line line) {
         count++;
@@ -62,16 +61,11 @@ class Search {
         sets[point] = set;
         for (u32 i = problem.starts[point]; i < problem.starts[point + 1]; i++) marks.mark(problem.users[i]);
     }
-    // What the tuples support at each place. Most executions of a simplex have the same candidates.
+    // What the tuples support at each place.
     const Set* supported(const Execution& e, u32 places) {
-        bool is_same = last.rule == e.rule;
-        for (u32 c = 0; c < places; c++) {
-            is_same &= last.candidates[c] == sets[e.points[c]];
-            last.candidates[c] = sets[e.points[c]];
-        }
-        last.rule = e.rule;
-        if (!is_same) problem.tables[e.rule].revise(last.candidates, last.supported);
-        return last.supported;
+        Set candidates[4];
+        for (u32 c = 0; c < places; c++) candidates[c] = sets[e.points[c]];
+        return caches.supported(e.rule, places, candidates);
     }
     // False where a point was emptied.
     bool revise(u32 number) {
@@ -107,13 +101,13 @@ class Search {
     u32 open_from = 0;  // no point before this one has two candidates
 
     // The root box.
-    Search(const Problem& p, bool keeps)
-        : problem(p), keeps_lines(keeps), marks(p.complex.executions.size()), sets(p.complex.points, p.task.values) {
+    Search(const Problem& p, Caches& known, bool keeps)
+        : problem(p), caches(known), keeps_lines(keeps), marks(p.complex.executions.size()), sets(p.complex.points, p.task.values) {
         for (u32 e = 0; e < p.complex.executions.size(); e++) marks.mark(e);
     }
     // A box that is closed.
-    Search(const Problem& p, bool keeps, std::vector<Set> closed)
-        : problem(p), keeps_lines(keeps), marks(p.complex.executions.size()), sets(std::move(closed)) {}
+    Search(const Problem& p, Caches& known, bool keeps, std::vector<Set> closed)
+        : problem(p), caches(known), keeps_lines(keeps), marks(p.complex.executions.size()), sets(std::move(closed)) {}
 
     // Sweep by sweep through the executions that are marked. False where a point was emptied.
     bool close() {

@@ -200,6 +200,8 @@ class Table {
             default: return revise_by<8>(candidates, supported);
         }
     }
+    // The values that some tuple has at a place.
+    Set occurs(u32 place) const { return occurring[place]; }
     // Whether the value would be among those if it were a candidate at its place.
     bool supports(const Set* candidates, u32 place, u32 value) const {
         if (!(occurring[place] >> value & 1)) return false;
