@@ -23,6 +23,10 @@ rule_seen rule = record { input = rule.simplex; tuples = rule.table.rows }
 abbrev pub IsWide : Rule → Type 0
 IsWide rule = rule.table.width ≡ length rule.simplex
 
+-- there are four processes at most
+abbrev pub IsNarrow : Rule → Type 0
+IsNarrow rule = length rule.simplex ≤ 4
+
 -- the rule of an execution
 abbrev pub rule_of : List Rule → Execution → Rule
 rule_of rules e = get_or rules e.rule no_rule
@@ -73,6 +77,7 @@ pub record IsNetwork (n : Network) : Type 0 where
   pub few_points : n.points ≤ most_points
   pub few_executions : length n.executions.items ≤ most_executions
   pub wide : All IsWide n.rules.items
+  pub narrow : All IsNarrow n.rules.items
   pub within : All (IsWithin (length n.rules.items) n.points) n.executions.items
   pub users : AreUsers n.users n.points (length n.executions.items)
   pub told : AreTold n.users n.executions.items

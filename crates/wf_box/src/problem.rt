@@ -6,7 +6,7 @@ ghost use Rattle.wf_model.specs.Problem.{IsWellFormed, problem_of};
 ghost use Rattle.wf_complex.specs.Protocol.{IsProtocol};
 ghost use Rattle.wf_model.specs.Split.{most_values};
 ghost use Rattle.wf_model.specs.Limits.{most_executions, most_points};
-ghost use Rattle.wf_box.specs.Problems.{AreExecutionsOf, AreWithin, IsNetwork, IsRuleOf, IsWide, rule_seen};
+ghost use Rattle.wf_box.specs.Problems.{AreExecutionsOf, AreWithin, IsNarrow, IsNetwork, IsRuleOf, IsWide, rule_seen};
 ghost use Rattle.wf_box.specs.Quiet.{users_of};
 
 use crate::users::Users;
@@ -32,6 +32,7 @@ impl Rule {
         requires few { length tuples.now < 2 ^ 32 }
         ensures rule { IfOk result (IsRuleOf simplex tuples.now) }
         ensures wide { IfOk result IsWide }
+        ensures narrow { IfOk result IsNarrow }
     {
         let table = TupleTable::build(alloc, tuples, simplex.colours())?;
         Ok(Rule { simplex, table })
@@ -129,6 +130,7 @@ impl Problem {
 fn rules(alloc: Global, task: &Task) -> Result<Vec<Rule>, AllocError>
     ensures rules { IfOk result (λ rules. map rule_seen rules.items ≡ task.now.delta) }
     ensures wide { IfOk result (λ rules. All IsWide rules.items) }
+    ensures narrow { IfOk result (λ rules. All IsNarrow rules.items) }
     ensures task { IsTask task.now }
 {
     let inputs = task.inputs().simplices();

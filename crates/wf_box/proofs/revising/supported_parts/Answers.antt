@@ -7,7 +7,7 @@ use Rattle.wf_box.specs.Quiet.{no_execution}
 use Rattle.wf_box.specs.Revising.{IsKnownParts, widened}
 use Rattle.wf_box.specs.declared.problem.Execution.{Execution}
 use Rattle.wf_box.proofs.MemoLemmas.{known_serves, narrow_known}
-use Rattle.wf_box.proofs.WorkLemmas.{execution_is}
+use Rattle.wf_box.proofs.WorkLemmas.{execution_is, few_at}
 use Rattle.wf_box.proofs.revising.supported_parts.Goals as goal
 
 -- the answer that is kept is right for this rule and these candidates
@@ -24,6 +24,6 @@ returns-clause-supported c =
     ap (λ (x : Execution). x.rule) (execution_is n known.execution c.index-3.result.now inside c.index-3.ensures) ∙ c.if-index-rule.true
     ∙ sym (ap (λ (x : Execution). x.rule) (execution_is n c.args.number c.index.result.now c.requires.number c.index.ensures)) in
     let serves : HasSupported (widened known.supported) (rule_in n c.args.number).table (widened known.candidates) =
-    known_serves n c.args.number (record { execution = known.execution; candidates = widened known.candidates; supported = widened known.supported }) c.requires.network c.requires.number c.requires.few inside rule right in
+    known_serves n c.args.number (record { execution = known.execution; candidates = widened known.candidates; supported = widened known.supported }) c.requires.network c.requires.number (few_at n c.args.number c.requires.network c.requires.number) inside rule right in
     subst (λ masks. HasSupported masks (rule_in n c.args.number).table (widened c.args.candidates)) (sym c.changed.ensures)
     (subst (λ parts. HasSupported (widened known.supported) (rule_in n c.args.number).table (widened parts)) same serves)
