@@ -9,7 +9,6 @@ use Rattle.wf_box.specs.Problems.{IsWithin, constraint_in, constraint_seen, no_r
 use Rattle.wf_box.specs.Revising.{found_at, found_in, left_of}
 use Rattle.wf_box.specs.Steps.{NamesLost, loss, point_if, reached, revision, take_present}
 use Rattle.wf_box.specs.Working.{IsSilent}
-use Rattle.wf_box.specs.declared.problem.Execution.{Execution}
 use Rattle.wf_box.specs.declared.problem.Rule.{Rule}
 use Rattle.wf_box.proofs.ProblemLemmas.{known_at}
 use Rattle.wf_box.proofs.StepLemmas.{lost_in_turn, then_keeps}
