@@ -1,9 +1,10 @@
 //! Answers of the kernel that a box keeps.
 
-ghost use Rattle.std.specs.Prelude.{◌≡◌, [], List, Some};
+ghost use Rattle.std.specs.Prelude.{◌≡◌, [], All, List, Some};
 ghost use Rattle.wf_model.specs.Problem.{Constraint};
 ghost use Rattle.wf_box.specs.Revising.{AreKnown, IsKnown, IsKnownParts, answers_in};
 
+use crate::problem::Execution;
 use std::alloc::Global;
 use wf_set::Mask;
 use wf_set::part::Part;
@@ -62,18 +63,18 @@ impl Memo {
         }
     }
 
-    /// Makes more places where too many answers were not there, and forgets those that it has. Where memory for that is
-    /// refused it stays as it was: an answer that is not there costs time alone.
-    pub(crate) fn grow(&mut self, alloc: Global)
+    /// Makes more places where too many answers were not there. Those for candidates below 64 are kept, and the others
+    /// are forgotten. Where memory for that is refused it stays as it was: an answer that is not there costs time alone.
+    pub(crate) fn grow(&mut self, alloc: Global, executions: &[Execution])
         ensures { (ks : List Constraint) → AreKnown ks (answers_in self.old)
             → AreKnown ks (answers_in self.new) }
     {
-        self.grow_narrow(alloc);
+        self.grow_narrow(alloc, executions);
         self.grow_wide(alloc);
     }
 
     /// The same for candidates below 64.
-    fn grow_narrow(&mut self, alloc: Global)
+    fn grow_narrow(&mut self, alloc: Global, executions: &[Execution])
         ensures { (ks : List Constraint) → AreKnown ks (answers_in self.old)
             → AreKnown ks (answers_in self.new) }
     {
@@ -81,7 +82,9 @@ impl Memo {
         if places > self.narrow.len()
             && let Ok(narrow) = vec![in alloc; None; places]
         {
-            self.narrow = narrow;
+            let mut more = narrow;
+            keep_each(&mut more, &self.narrow, executions);
+            self.narrow = more;
             self.narrow_misses = 0;
         }
     }
@@ -125,11 +128,33 @@ impl Memo {
     }
 }
 
+/// Keeps these answers at their places, each of which forgets the one that was there.
+fn keep_each(
+    places: &mut Vec<Option<RevisedParts>>,
+    answers: &[Option<RevisedParts>],
+    executions: &[Execution],
+)
+    ensures { (ks : List Constraint) → All (IsKnownParts ks) answers.now
+        → All (IsKnownParts ks) places.old.items → All (IsKnownParts ks) places.new.items }
+{
+    for answer in answers {
+        if let Some(known) = answer
+            && known.execution < executions.len()
+        {
+            let rule = executions[known.execution].rule;
+            let place = slot_of(rule, known.candidates, places.len());
+            if place < places.len() {
+                places[place] = Some(*known);
+            }
+        }
+    }
+}
+
 /// How many places would serve, where there are so many and so many answers were not there.
 fn places_wanted(places: usize, misses: u32, most: usize) -> usize {
     if places < FEWEST {
         FEWEST
-    } else if places < most && misses as usize / 2 > places {
+    } else if places < most && misses as usize > places / 4 {
         GROWTH * places
     } else {
         places
