@@ -70,10 +70,7 @@ pub fn close(
     let executions = problem.network.executions.len() as u32;
     boxed.workspace.marks.reserve(alloc, executions)?;
     // no call after this one is refused
-    boxed
-        .workspace
-        .memo
-        .grow(alloc, &problem.network.executions);
+    boxed.workspace.memo.grow(alloc, &problem.network);
     let closed = close_tracked(problem, boxed.closed, &mut boxed.workspace, lines);
     boxed.closed = match closed {
         Closed::Open { .. } => Some(boxed.workspace.tracked.trail.len() as u32),

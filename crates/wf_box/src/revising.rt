@@ -65,13 +65,13 @@ fn supported_parts(
         (rule_in network.now number).table (widened candidates) }
     ensures known { AreKnown (constraints_in network.now) (answers_in memo.new) }
 {
-    let rule = network.executions[number as usize].rule;
-    let slot = slot_of(rule, candidates, memo.narrow.len());
+    let like = network.like_at(number as usize);
+    let slot = slot_of(like, candidates, memo.narrow.len());
     if slot < memo.narrow.len()
         && let Some(known) = &memo.narrow[slot]
         && known.candidates == candidates
         && known.execution < network.executions.len()
-        && network.executions[known.execution].rule == rule
+        && network.like_at(known.execution) == like
     {
         return changed(candidates, known.supported);
     }
