@@ -17,6 +17,7 @@ use Rattle.wf_box.specs.declared.memo.RevisedParts.{RevisedParts}
 use Rattle.wf_box.specs.declared.problem.Execution.{Execution}
 use Rattle.wf_box.specs.declared.problem.Network.{Network}
 use Rattle.wf_box.specs.declared.problem.Rule.{Rule}
+use Rattle.wf_box.proofs.WorkLemmas.{few_at}
 
 -- ---- answers of both kinds
 
@@ -70,15 +71,21 @@ table_at n e network low few =
     ap table_seen (get_or-map (constraint_seen n.rules.items) n.executions.items e no_execution no_constraint low)
     ∙ table_is n.rules.items x within.long few (network.wide x.rule no_rule within.rule)
 
--- what is kept for an execution serves for each one of its rule
-pub known_serves : (n : Network) (e : ℕ) (known : Revised) → IsNetwork n → e < length n.executions.items → length (rule_in n e).simplex ≤ 4
-    → known.execution < length n.executions.items → (get_or n.executions.items known.execution no_execution).rule ≡ (get_or n.executions.items e no_execution).rule
+-- what is kept for an execution serves for each one with its table
+pub known_serves : (n : Network) (e : ℕ) (known : Revised) → IsNetwork n → e < length n.executions.items
+    → known.execution < length n.executions.items → (rule_in n known.execution).table ≡ (rule_in n e).table
     → IsKnown (constraints_in n) (Some known) → HasSupported known.supported (rule_in n e).table known.candidates
-known_serves n e known network low few inside same right =
-    let rule : rule_in n known.execution ≡ rule_in n e = ap (λ r. get_or n.rules.items r no_rule) same in
+known_serves n e known network low inside same right =
     let table : table_seen (get_or (constraints_in n) known.execution no_constraint) ≡ (rule_in n e).table =
-    table_at n known.execution network inside (subst (λ (r : Rule). length r.simplex ≤ 4) (sym rule) few) ∙ ap (λ (r : Rule). r.table) rule in
+    table_at n known.execution network inside (few_at n known.execution network inside) ∙ same in
     subst (λ t. HasSupported known.supported t known.candidates) table (right (omega (arith, inside, length-map n.executions.items (constraint_seen n.rules.items))))
+
+like_table : (n : Network) (e : ℕ) → IsNetwork n → e < length n.executions.items → (get_or n.rules.items (rule_in n e).like no_rule).table ≡ (rule_in n e).table
+like_table n e network low = (network.alike (get_or n.executions.items e no_execution).rule no_rule (network.within e no_execution low).rule).same
+
+-- executions whose rules name one rule have one table
+pub same_table : (n : Network) (e f : ℕ) → IsNetwork n → e < length n.executions.items → f < length n.executions.items → (rule_in n e).like ≡ (rule_in n f).like → (rule_in n e).table ≡ (rule_in n f).table
+same_table n e f network low inside same = sym (like_table n e network low) ∙ ap (λ r. (get_or n.rules.items r no_rule).table) same ∙ like_table n f network inside
 
 -- what the rule of an execution supports may be kept
 pub known_now : (n : Network) (e : ℕ) (candidates supported : List (List ℕ)) → IsNetwork n → e < length n.executions.items → length (rule_in n e).simplex ≤ 4

@@ -1,5 +1,5 @@
 -- One part of a closing after another.
-use Rattle.std.proofs.Common.{◌≡◌, ◌<◌, ◌∙◌, ℕ, List, length, get_or, slice_index, Vec, Option, Some, None, Bool, true, false, arith, sym, subst}
+use Rattle.std.proofs.Common.{◌≡◌, ◌<◌, ◌≤◌, ◌∙◌, ℕ, List, length, get_or, slice_index, Vec, Option, Some, None, Bool, true, false, arith, ap, sym, subst}
 use Rattle.std.specs.Bool.{OnFalse, OnTrue}
 use Rattle.std.specs.List.{slice_index_or}
 use Rattle.std.proofs.lemmas.List.{get_or_default}
@@ -8,9 +8,10 @@ use Rattle.wf_set.specs.Sets.{box_of}
 use Rattle.wf_lines.specs.declared.line.Line.{Line}
 use Rattle.wf_box.specs.Changes.{sets_in}
 use Rattle.wf_box.specs.Closes.{EndsAt, IsEmptied, emptied_by}
-use Rattle.wf_box.specs.Problems.{IsNetwork, IsWithin}
+use Rattle.wf_lane.specs.Table.{HasSupported}
+use Rattle.wf_box.specs.Problems.{IsNetwork, IsWithin, no_rule, rule_in, rule_of}
 use Rattle.wf_box.specs.Quiet.{IsUser, no_execution}
-use Rattle.wf_box.specs.Revising.{AreKnown, answers_in}
+use Rattle.wf_box.specs.Revising.{AreKnown, answers_in, found_at, found_in}
 use Rattle.wf_box.specs.Steps.{HasRoom, IsPaid, IsSpent, point_if}
 use Rattle.wf_box.specs.Working.{Ends, IsWorking, Proceeds}
 use Rattle.wf_box.specs.declared.closing.Closed.{Closed}
@@ -107,3 +108,18 @@ execution_within n e x network low here = subst (IsWithin (length n.rules.items)
 
 pub execution_told : (n : Network) (e : ℕ) (x : Execution) → IsNetwork n → e < length n.executions.items → x ≡ slice_index_or n.executions.items e x → (place : ℕ) → place < 4 → IsUser n.users (slice_index x.points place) e
 execution_told n e x network low here place small = subst (λ (y : Execution). IsUser n.users (slice_index y.points place) e) (execution_is n e x low here) (network.told e place low small)
+
+-- there are four processes at most
+pub few_at : (n : Network) (e : ℕ) → IsNetwork n → e < length n.executions.items → length (rule_in n e).simplex ≤ 4
+few_at n e network low = network.narrow (get_or n.executions.items e no_execution).rule no_rule (network.within e no_execution low).rule
+
+-- what is found at its points
+pub found_is : (n : Network) (e : ℕ) (x : Execution) (sets words : List (List ℕ)) → e < length n.executions.items → x ≡ slice_index_or n.executions.items e x → sets ≡ words → found_in n e sets ≡ found_at x words
+found_is n e x sets words low here same = ap (λ (y : Execution). found_at y sets) (execution_is n e x low here) ∙ ap (found_at x) same
+
+-- what is supported there
+pub supported_here : (n : Network) (e : ℕ) (x : Execution) (sets words found supported : List (List ℕ)) → e < length n.executions.items → x ≡ slice_index_or n.executions.items e x → sets ≡ words → found ≡ found_at x words
+    → HasSupported supported (rule_in n e).table (found_in n e sets) → HasSupported supported (rule_of n.rules.items x).table found
+supported_here n e x sets words found supported low here same is right =
+    subst (HasSupported supported (rule_of n.rules.items x).table) (found_is n e x sets words low here same ∙ sym is)
+    (subst (λ (y : Execution). HasSupported supported (rule_of n.rules.items y).table (found_in n e sets)) (execution_is n e x low here) right)

@@ -13,7 +13,7 @@ use Rattle.wf_box.specs.declared.problem.Problem.TheInside.{Inside}
 
 -- no input simplex at all
 abbrev pub no_rule : Rule
-no_rule = record { simplex = []; table = record { width = 0; rows = [] } }
+no_rule = record { simplex = []; table = record { width = 0; rows = [] }; like = 0 }
 
 -- the rule as the definitions have it
 abbrev pub rule_seen : Rule → task.Rule
@@ -22,6 +22,23 @@ rule_seen rule = record { input = rule.simplex; tuples = rule.table.rows }
 -- the table is as wide as the simplex has processes
 abbrev pub IsWide : Rule → Type 0
 IsWide rule = rule.table.width ≡ length rule.simplex
+
+-- there are four processes at most
+abbrev pub IsNarrow : Rule → Type 0
+IsNarrow rule = length rule.simplex ≤ 4
+
+-- it names a rule that has the same table
+pub record IsAlike (rules : List Rule) (rule : Rule) : Type 0 where
+  pub there : rule.like < length rules
+  pub same : (get_or rules rule.like no_rule).table ≡ rule.table
+
+-- so does each of them
+abbrev pub AreAlike : List Rule → Type 0
+AreAlike rules = All (IsAlike rules) rules
+
+-- the rule of this number has the table of these tuples of a simplex
+abbrev pub HasTable : Simplex → List task.Tuple → List Rule → ℕ → Type 0
+HasTable simplex tuples rules number = (get_or rules number no_rule).table ≡ record { width = length simplex; rows = tuples }
 
 -- the rule of an execution
 abbrev pub rule_of : List Rule → Execution → Rule
@@ -73,6 +90,8 @@ pub record IsNetwork (n : Network) : Type 0 where
   pub few_points : n.points ≤ most_points
   pub few_executions : length n.executions.items ≤ most_executions
   pub wide : All IsWide n.rules.items
+  pub narrow : All IsNarrow n.rules.items
+  pub alike : AreAlike n.rules.items
   pub within : All (IsWithin (length n.rules.items) n.points) n.executions.items
   pub users : AreUsers n.users n.points (length n.executions.items)
   pub told : AreTold n.users n.executions.items

@@ -16,8 +16,8 @@ ghost use Rattle.wf_box.specs.Working.{AreMarked, AreSilent, IsSilent, IsWorking
 
 use crate::boxed::Box0;
 use crate::marks::Marks;
-use crate::problem::{Execution, Network, Problem};
-use crate::revising::supported_at;
+use crate::problem::{Network, Problem};
+use crate::revising::{candidates_at, supported_at};
 use crate::taking::{Place, put, take_each};
 use crate::tracked::Tracked;
 use crate::workspace::Workspace;
@@ -70,7 +70,7 @@ pub fn close(
     let executions = problem.network.executions.len() as u32;
     boxed.workspace.marks.reserve(alloc, executions)?;
     // no call after this one is refused
-    boxed.workspace.memo.grow(alloc);
+    boxed.workspace.memo.grow(alloc, &problem.network);
     let closed = close_tracked(problem, boxed.closed, &mut boxed.workspace, lines);
     boxed.closed = match closed {
         Closed::Open { .. } => Some(boxed.workspace.tracked.trail.len() as u32),
@@ -267,13 +267,14 @@ fn revise(
     ensures named { NamesIn network.now number lines.old workspace.old lines.new workspace.new }
 {
     let execution = network.executions[number as usize];
-    let found = candidates_at(execution, &workspace.tracked.words);
     let rule = &network.rules[execution.rule as usize];
-    let colours = rule.simplex.colours();
-    let Some(supported) = supported_at(number, found, network, &mut workspace.memo) else {
+    let sets = &workspace.tracked.words;
+    let Some(supported) = supported_at(number, sets, network, &mut workspace.memo) else {
         // what most executions lose is nothing
         return None;
     };
+    let found = candidates_at(execution, &workspace.tracked.words);
+    let colours = rule.simplex.colours();
     'places: for place in 0..colours {
         let lost = difference(found[place as usize], supported[place as usize]);
         if is_empty(lost) {
@@ -324,20 +325,4 @@ fn take_place(
     workspace.tracked.note(place.point, before);
     workspace.marks.mark_each(network.users_of(place.point));
     emptied
-}
-
-/// The candidates of the points of an execution; past their number those of the first point.
-fn candidates_at(execution: Execution, sets: &[Mask]) -> [Mask; 4]
-    requires long { length execution.points ≡ 4 }
-    requires within { All (λ v. v < length sets.now) execution.points }
-    ensures candidates { result ≡ map (λ v. get_or sets.now v []) execution.points }
-    ensures long { length result ≡ 4 }
-{
-    let [first, second, third, fourth] = execution.points;
-    [
-        sets[first as usize],
-        sets[second as usize],
-        sets[third as usize],
-        sets[fourth as usize],
-    ]
 }

@@ -1,9 +1,11 @@
 //! Answers of the kernel that a box keeps.
 
-ghost use Rattle.std.specs.Prelude.{◌≡◌, [], List, Some};
+ghost use Rattle.std.specs.Prelude.{◌≡◌, [], All, List, Some};
 ghost use Rattle.wf_model.specs.Problem.{Constraint};
+ghost use Rattle.wf_box.specs.Problems.{IsNetwork};
 ghost use Rattle.wf_box.specs.Revising.{AreKnown, IsKnown, IsKnownParts, answers_in};
 
+use crate::problem::Network;
 use std::alloc::Global;
 use wf_set::Mask;
 use wf_set::part::Part;
@@ -62,18 +64,20 @@ impl Memo {
         }
     }
 
-    /// Makes more places where too many answers were not there, and forgets those that it has. Where memory for that is
-    /// refused it stays as it was: an answer that is not there costs time alone.
-    pub(crate) fn grow(&mut self, alloc: Global)
+    /// Makes more places where too many answers were not there. Those for candidates below 64 are kept, and the others
+    /// are forgotten. Where memory for that is refused it stays as it was: an answer that is not there costs time alone.
+    pub(crate) fn grow(&mut self, alloc: Global, network: &Network)
+        requires { IsNetwork network.now }
         ensures { (ks : List Constraint) → AreKnown ks (answers_in self.old)
             → AreKnown ks (answers_in self.new) }
     {
-        self.grow_narrow(alloc);
+        self.grow_narrow(alloc, network);
         self.grow_wide(alloc);
     }
 
     /// The same for candidates below 64.
-    fn grow_narrow(&mut self, alloc: Global)
+    fn grow_narrow(&mut self, alloc: Global, network: &Network)
+        requires { IsNetwork network.now }
         ensures { (ks : List Constraint) → AreKnown ks (answers_in self.old)
             → AreKnown ks (answers_in self.new) }
     {
@@ -81,7 +85,9 @@ impl Memo {
         if places > self.narrow.len()
             && let Ok(narrow) = vec![in alloc; None; places]
         {
-            self.narrow = narrow;
+            let mut more = narrow;
+            keep_each(&mut more, &self.narrow, network);
+            self.narrow = more;
             self.narrow_misses = 0;
         }
     }
@@ -125,11 +131,34 @@ impl Memo {
     }
 }
 
+/// Keeps these answers at their places, each of which forgets the one that was there.
+fn keep_each(
+    places: &mut Vec<Option<RevisedParts>>,
+    answers: &[Option<RevisedParts>],
+    network: &Network,
+)
+    requires { IsNetwork network.now }
+    ensures { (ks : List Constraint) → All (IsKnownParts ks) answers.now
+        → All (IsKnownParts ks) places.old.items → All (IsKnownParts ks) places.new.items }
+{
+    for answer in answers {
+        if let Some(known) = answer
+            && known.execution < network.executions.len()
+        {
+            let like = network.like_at(known.execution);
+            let place = slot_of(like, known.candidates, places.len());
+            if place < places.len() {
+                places[place] = Some(*known);
+            }
+        }
+    }
+}
+
 /// How many places would serve, where there are so many and so many answers were not there.
 fn places_wanted(places: usize, misses: u32, most: usize) -> usize {
     if places < FEWEST {
         FEWEST
-    } else if places < most && misses as usize / 2 > places {
+    } else if places < most && misses as usize > places / 4 {
         GROWTH * places
     } else {
         places
@@ -142,18 +171,11 @@ fn places_wanted(places: usize, misses: u32, most: usize) -> usize {
 /// Any place would be right.
 pub(crate) fn slot_of(rule: u32, candidates: [Part; 4], places: usize) -> usize {
     let [a, b, c, d] = candidates;
-    let mixed = fold(a).wrapping_mul(0x9e37_79b9_7f4a_7c15)
-        ^ fold(b).wrapping_mul(0xc2b2_ae3d_27d4_eb4f)
-        ^ fold(c).wrapping_mul(0x1656_67b1_9e37_79f9)
-        ^ fold(d).wrapping_mul(0xd6e8_feb8_6659_fd93)
+    // a product's middle bits do not tell words apart that differ in their last bits alone
+    let mixed = (a ^ a >> 48).wrapping_mul(0x9e37_79b9_7f4a_7c15)
+        ^ (b ^ b >> 48).wrapping_mul(0xc2b2_ae3d_27d4_eb4f)
+        ^ (c ^ c >> 48).wrapping_mul(0x1656_67b1_9e37_79f9)
+        ^ (d ^ d >> 48).wrapping_mul(0xd6e8_feb8_6659_fd93)
         ^ u64::from(rule).wrapping_mul(0xff51_afd7_ed55_8ccd);
     (mixed >> 44) as usize & places.saturating_sub(1)
-}
-
-/// The word with its last 16 bits joined into the first: a product's middle bits do not tell words apart that differ in
-/// their last bits alone.
-///
-/// Any word would be right.
-fn fold(word: u64) -> u64 {
-    word ^ word >> 48
 }

@@ -6,7 +6,7 @@ ghost use Rattle.wf_model.specs.Problem.{IsWellFormed, problem_of};
 ghost use Rattle.wf_complex.specs.Protocol.{IsProtocol};
 ghost use Rattle.wf_model.specs.Split.{most_values};
 ghost use Rattle.wf_model.specs.Limits.{most_executions, most_points};
-ghost use Rattle.wf_box.specs.Problems.{AreExecutionsOf, AreWithin, IsNetwork, IsRuleOf, IsWide, rule_seen};
+ghost use Rattle.wf_box.specs.Problems.{AreExecutionsOf, AreWithin, AreAlike, HasTable, IsNarrow, IsNetwork, IsRuleOf, IsWide, rule_in, rule_seen};
 ghost use Rattle.wf_box.specs.Quiet.{users_of};
 
 use crate::users::Users;
@@ -18,23 +18,39 @@ use wf_set::Mask;
 use wf_simplex::Simplex;
 use wf_task::{Row, Task};
 
+/// So many rules before one are looked at for the same tuples.
+const NEAR: usize = 64;
+
 /// What an input simplex allows: its processes, and its tuples as a table.
 #[derive(Drop)]
 pub(crate) struct Rule {
     pub(crate) simplex: Simplex,
     pub(crate) table: TupleTable,
+    // the number of a rule with the same table
+    pub(crate) like: u32,
 }
 
 impl Rule {
-    /// The rule of a simplex with these tuples.
-    pub(crate) fn of(alloc: Global, simplex: Simplex, tuples: &[Row]) -> Result<Rule, AllocError>
+    /// The rule of a simplex with these tuples, of which the rule of this number has the table too.
+    pub(crate) fn of(
+        alloc: Global,
+        simplex: Simplex,
+        tuples: &[Row],
+        like: u32,
+    ) -> Result<Rule, AllocError>
         requires long { All (λ tuple. length tuple ≡ length simplex) tuples.now }
         requires few { length tuples.now < 2 ^ 32 }
         ensures rule { IfOk result (IsRuleOf simplex tuples.now) }
         ensures wide { IfOk result IsWide }
+        ensures narrow { IfOk result IsNarrow }
+        ensures like { IfOk result (λ rule. rule.like ≡ like) }
     {
         let table = TupleTable::build(alloc, tuples, simplex.colours())?;
-        Ok(Rule { simplex, table })
+        Ok(Rule {
+            simplex,
+            table,
+            like,
+        })
     }
 }
 
@@ -57,6 +73,15 @@ pub(crate) struct Network {
 }
 
 impl Network {
+    /// The number of a rule that has the table of an execution's rule.
+    pub(crate) fn like_at(&self, execution: usize) -> u32
+        requires network { IsNetwork self.now }
+        requires execution { execution < length self.now.executions.items }
+        ensures { result ≡ (rule_in self.now execution).like }
+    {
+        self.rules[self.executions[execution].rule as usize].like
+    }
+
     /// The executions in which a point stands.
     pub(crate) fn users_of(&self, point: u32) -> &[u32]
         requires network { IsNetwork self.now }
@@ -129,14 +154,38 @@ impl Problem {
 fn rules(alloc: Global, task: &Task) -> Result<Vec<Rule>, AllocError>
     ensures rules { IfOk result (λ rules. map rule_seen rules.items ≡ task.now.delta) }
     ensures wide { IfOk result (λ rules. All IsWide rules.items) }
+    ensures narrow { IfOk result (λ rules. All IsNarrow rules.items) }
+    ensures alike { IfOk result (λ rules. AreAlike rules.items) }
     ensures task { IsTask task.now }
 {
     let inputs = task.inputs().simplices();
     let mut rules = Vec::with_capacity(alloc, inputs.len())?;
     for (number, simplex) in inputs.iter().enumerate() {
-        rules.push(Rule::of(alloc, *simplex, task.tuples(number as u32))?)?;
+        let tuples = task.tuples(number as u32);
+        let like = like_of(task, &rules, *simplex, tuples);
+        rules.push(Rule::of(alloc, *simplex, tuples, like)?)?;
     }
     Ok(rules)
+}
+
+/// The number of a rule with this table, where one of the last few has it, and else the number of the next one.
+fn like_of(task: &Task, rules: &[Rule], simplex: Simplex, tuples: &[Row]) -> u32
+    requires rules { map rule_seen rules.now ≡ take (length rules.now) task.now.delta }
+    requires wide { All IsWide rules.now }
+    requires alike { AreAlike rules.now }
+    requires within { length rules.now ≤ length task.now.delta }
+    requires few { length rules.now < 2 ^ 32 }
+    ensures within { result ≤ length rules.now }
+    ensures same { result < length rules.now → HasTable simplex tuples.now rules.now result }
+{
+    let count = rules.len();
+    for number in count.saturating_sub(NEAR)..count {
+        let rule = &rules[number];
+        if rule.simplex.colours() == simplex.colours() && task.tuples(number as u32) == tuples {
+            return rule.like;
+        }
+    }
+    count as u32
 }
 
 /// The executions of a protocol complex, whose input simplices have these rules.

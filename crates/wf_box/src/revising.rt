@@ -1,37 +1,54 @@
 //! What the rules of executions support.
 
-ghost use Rattle.std.specs.Prelude.{◌≡◌, ◌<◌, ◌≤◌, ◌∷◌, [], ℕ, length, slice_index, IfSome};
+ghost use Rattle.std.specs.Prelude.{◌≡◌, ◌<◌, ◌≤◌, ◌∷◌, [], ℕ, All, length, slice_index, IfSome};
 ghost use Rattle.std.specs.Bool.{OnTrue};
 ghost use Rattle.wf_lane.specs.Table.{HasSupported};
 ghost use Rattle.wf_box.specs.Problems.{IsNetwork, constraints_in, rule_in};
-ghost use Rattle.wf_box.specs.Revising.{AreKnown, answers_in, left_of, widened};
+ghost use Rattle.wf_box.specs.Revising.{AreKnown, answers_in, found_at, found_in, left_of, widened};
 
 use crate::memo::{Memo, Revised, RevisedParts, slot_of};
-use crate::problem::Network;
+use crate::problem::{Execution, Network};
 use wf_set::Mask;
 use wf_set::part::Part;
 
-/// The values that the rule of an execution supports at each place for some candidates; none where those are all that
-/// the candidates have. Answers are kept, since many executions of a simplex have the same candidates, and have them
-/// again.
+/// The values that the rule of an execution supports at each place for the candidates of its points; none where those
+/// are all that the candidates have. Answers are kept, since many executions of a simplex have the same candidates, and
+/// have them again.
 pub(crate) fn supported_at(
     number: u32,
-    candidates: [Mask; 4],
+    sets: &[Mask],
     network: &Network,
     memo: &mut Memo,
 ) -> Option<[Mask; 4]>
     requires network { IsNetwork network.now }
     requires number { number < length network.now.executions.items }
-    requires few { length (rule_in network.now number).simplex ≤ 4 }
+    requires long { length sets.now ≡ network.now.points }
     requires known { AreKnown (constraints_in network.now) (answers_in memo.old) }
-    ensures supported { HasSupported (left_of candidates result)
-        (rule_in network.now number).table candidates }
+    ensures supported { HasSupported (left_of (found_in network.now number sets.now) result)
+        (rule_in network.now number).table (found_in network.now number sets.now) }
     ensures known { AreKnown (constraints_in network.now) (answers_in memo.new) }
 {
-    match narrowed(candidates) {
+    let execution = network.executions[number as usize];
+    match narrowed(candidates_at(execution, sets)) {
         Some(parts) => supported_parts(number, parts, network, memo),
-        None => Some(supported_sets(number, candidates, network, memo)),
+        None => Some(supported_sets(number, candidates_at(execution, sets), network, memo)),
     }
+}
+
+/// The candidates of the points of an execution; past their number those of the first point.
+pub(crate) fn candidates_at(execution: Execution, sets: &[Mask]) -> [Mask; 4]
+    requires long { length execution.points ≡ 4 }
+    requires within { All (λ v. v < length sets.now) execution.points }
+    ensures candidates { result ≡ found_at execution sets.now }
+    ensures long { length result ≡ 4 }
+{
+    let [first, second, third, fourth] = execution.points;
+    [
+        sets[first as usize],
+        sets[second as usize],
+        sets[third as usize],
+        sets[fourth as usize],
+    ]
 }
 
 /// The same for candidates below 64.
@@ -43,19 +60,18 @@ fn supported_parts(
 ) -> Option<[Mask; 4]>
     requires network { IsNetwork network.now }
     requires number { number < length network.now.executions.items }
-    requires few { length (rule_in network.now number).simplex ≤ 4 }
     requires known { AreKnown (constraints_in network.now) (answers_in memo.old) }
     ensures supported { HasSupported (left_of (widened candidates) result)
         (rule_in network.now number).table (widened candidates) }
     ensures known { AreKnown (constraints_in network.now) (answers_in memo.new) }
 {
-    let rule = network.executions[number as usize].rule;
-    let slot = slot_of(rule, candidates, memo.narrow.len());
+    let like = network.like_at(number as usize);
+    let slot = slot_of(like, candidates, memo.narrow.len());
     if slot < memo.narrow.len()
-        && let Some(known) = memo.narrow[slot]
+        && let Some(known) = &memo.narrow[slot]
         && known.candidates == candidates
         && known.execution < network.executions.len()
-        && network.executions[known.execution].rule == rule
+        && network.like_at(known.execution) == like
     {
         return changed(candidates, known.supported);
     }
@@ -72,7 +88,6 @@ fn revise_parts(
 ) -> Option<[Mask; 4]>
     requires network { IsNetwork network.now }
     requires number { number < length network.now.executions.items }
-    requires few { length (rule_in network.now number).simplex ≤ 4 }
     requires known { AreKnown (constraints_in network.now) (answers_in memo.old) }
     ensures supported { HasSupported (left_of (widened candidates) result)
         (rule_in network.now number).table (widened candidates) }
@@ -163,7 +178,6 @@ fn supported_sets(
 ) -> [Mask; 4]
     requires network { IsNetwork network.now }
     requires number { number < length network.now.executions.items }
-    requires few { length (rule_in network.now number).simplex ≤ 4 }
     requires known { AreKnown (constraints_in network.now) (answers_in memo.old) }
     ensures supported { HasSupported result (rule_in network.now number).table candidates }
     ensures known { AreKnown (constraints_in network.now) (answers_in memo.new) }

@@ -2,13 +2,13 @@
 use Rattle.std.proofs.Common.{◌≡◌, ℕ, ◌+◌, ◌*◌, ◌<◌, ◌^◌, List, [], ◌∷◌, ◌++◌, length, take, map, filter, replicate, Bool, true, false, cond, not, ◌&&◌, refl, sym, ◌∙◌, ap, arith, ⊎_elim, subst, eqb-true}
 use Rattle.std.specs.Prelude.{bit_and, bit_or, count_by, slice_index, ◌||◌, ◌==◌}
 use Rattle.std.specs.Int.{bit_at}
-use Rattle.std.specs.Int.Bits.{or_zero_l, or_zero_r}
+use Rattle.std.specs.Int.Bits.{and_zero_l, or_zero_l, or_zero_r}
 use Rattle.std.specs.List.{All, list_any}
 use Rattle.std.specs.Simd.Lanes.{zip2, chunk}
 use Rattle.std.proofs.Math.Seq.{take-add}
 use Rattle.std.proofs.Math.Bool.{and-true}
 use Rattle.std.proofs.lemmas.Bool.{cases_eq, eq-eqb, ne_eqb}
-use Rattle.std.proofs.lemmas.Nat.Bits.{bit_at-lt, same_from_bits_below}
+use Rattle.std.proofs.lemmas.Nat.Bits.{bit_at-lt, bit_at-zero, bit_at_or, same_from_bits, same_from_bits_below}
 use Rattle.std.proofs.lemmas.Simd.{zip2_splat, zip2_splat_left}
 use Rattle.std.proofs.lemmas.List.Elements.{All-head, All-tail, All-nil, All-cons, All-weaker}
 use Rattle.std.proofs.lemmas.List.Folds.{list_any-append}
@@ -345,3 +345,33 @@ whole_count s t (r ∷ rows) same =
     ∙ ap (λ b. cond b 1 0 + count_by (is_among t) rows) (All-head (λ k. is_among t k ≡ is_live s k) r rows same)
     ∙ ap (λ n. cond (is_live s r) 1 0 + n) (whole_count s t rows (All-tail (λ k. is_among t k ≡ is_live s k) r rows same))
     ∙ sym (sum_by-cons (λ x. cond (is_live s x) 1 0) r rows)
+
+-- ---- a block without a live row
+
+nothing_joined : (a b : ℕ) → bit_or a b ≡ 0 → a ≡ 0
+nothing_joined a b none = same_from_bits a 0 (λ i. omega (arith, bit_at_or a b i, ap (λ n. bit_at n i) none, bit_at-zero i))
+
+none_met : (live rows : List ℕ) → ors live ≡ 0 → ors (zip2 bit_and live rows) ≡ 0
+none_met [] rows none = refl
+none_met (x ∷ xs) [] none = refl
+none_met (x ∷ xs) (y ∷ ys) none =
+    let here : x ≡ 0 = nothing_joined x (ors xs) none in
+    let there : ors xs ≡ 0 = sym (or_zero_l (ors xs)) ∙ ap (λ n. bit_or n (ors xs)) (sym here) ∙ none in
+    ap (λ n. bit_or (bit_and n y) (ors (zip2 bit_and xs ys))) here ∙ ap (λ n. bit_or n (ors (zip2 bit_and xs ys))) (and_zero_l y) ∙ or_zero_l (ors (zip2 bit_and xs ys)) ∙ none_met xs ys there
+
+kept_true : (b : Bool) → b ≡ (b && true)
+kept_true true = refl
+kept_true false = refl
+
+-- meets none of the values
+pub all_unmet : (values : ℕ) (live words : List ℕ) (start : ℕ) → ors live ≡ 0 → AreLeft values values (is_met live words start)
+all_unmet values live words start none v =
+    kept_true (has (part_values values) v) ∙ ap (λ n. has (part_values values) v && not (not (n == 0))) (sym (none_met live (row_sets (is_value v) words start 8) none))
+
+not_not : (b : Bool) → not b ≡ false → b ≡ true
+not_not true e = refl
+not_not false e = sym e
+
+-- a test of no live row
+pub none_from_test : (n : ℕ) (some : Bool) → some ≡ not (n == 0) → some ≡ false → n ≡ 0
+none_from_test n some is false_so = eqb-true n 0 (not_not (n == 0) (sym is ∙ false_so))

@@ -120,6 +120,9 @@ impl Columns {
         requires block { IsInBlocks self.now.first start }
         ensures { AreAllLeft self.now live start result values }
     {
+        if !has_some(live) {
+            return values;
+        }
         [
             self.first.unmet(values[0], live, start),
             self.second.unmet(values[1], live, start),

@@ -1,6 +1,7 @@
 //! The split of a problem's root into branches.
 
-ghost use Rattle.std.specs.Prelude.{◌≡◌, ◌<◌, ◌≤◌, length, IfOk};
+ghost use Rattle.std.specs.Prelude.{◌≡◌, ◌<◌, ◌≤◌, length, IfOk, OnOk};
+ghost use Rattle.wf_box.specs.Boxes.{ServeFor};
 ghost use Rattle.wf_model.specs.Outline.{boxes_left_out, outline};
 ghost use Rattle.wf_model.specs.Split.{most_branches, split};
 ghost use Rattle.wf_search.specs.Cover.{AreClosedBranches, CoversRoot, IsCanonicalInRoot, IsClosedIn, IsFilled, IsFilledUpTo, IsForIn, LeadsToMapInRoot, RefutesRoot, branch_at};
@@ -8,7 +9,7 @@ ghost use Rattle.wf_search.specs.Cover.{AreClosedBranches, CoversRoot, IsCanonic
 use crate::outline::Outline;
 use std::alloc::{AllocError, Global};
 use std::marker::Model;
-use wf_box::{Box0, Problem};
+use wf_box::{Answers, Box0, Problem};
 use wf_lines::Lines;
 
 /// How often each box is branched at most.
@@ -101,11 +102,24 @@ pub fn split(alloc: Global, problem: &Problem) -> Result<Cover, AllocError>
     ensures covers { IfOk result (CoversRoot problem.now) }
     ensures closed { IfOk result (AreClosedBranches problem.now) }
 {
+    let mut answers = Answers::new(alloc);
+    split_with(alloc, problem, &mut answers)
+}
+
+/// The same, with what closing found out earlier, and it leaves what is known then.
+fn split_with(alloc: Global, problem: &Problem, answers: &mut Answers) -> Result<Cover, AllocError>
+    requires { ServeFor problem.now answers.old }
+    ensures outline { IfOk result (λ cover. cover ≡ outline problem.now) }
+    ensures branches { IfOk result (λ cover. boxes_left_out cover ≡ split problem.now) }
+    ensures covers { IfOk result (CoversRoot problem.now) }
+    ensures closed { IfOk result (AreClosedBranches problem.now) }
+    ensures answers { OnOk result (ServeFor problem.now answers.new) }
+{
     let _points = problem.points();
-    let mut outline = Outline::of_root(alloc, problem)?;
+    let mut outline = Outline::of_root(alloc, problem, answers)?;
     let mut levels: u32 = MOST_LEVELS;
     'levels: while levels > 0 && outline.is_to_open() {
-        outline = outline.open_each(alloc, problem)?;
+        outline = outline.open_each(alloc, problem, answers)?;
         levels -= 1;
     }
     Ok(Cover { outline })

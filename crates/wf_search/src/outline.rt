@@ -52,15 +52,23 @@ impl Model for Outline {
 
 impl Outline {
     /// The lines of closing a problem's root, with those that refute what it leaves left out.
-    pub(crate) fn of_root(alloc: Global, problem: &Problem) -> Result<Outline, AllocError>
+    pub(crate) fn of_root(
+        alloc: Global,
+        problem: &Problem,
+        answers: &mut Answers,
+    ) -> Result<Outline, AllocError>
+        requires { ServeFor problem.now answers.old }
         ensures root { IfOk result (λ outline.
             outline ≡ closed_to (closing problem.now (root problem.now))) }
         ensures boxes { IfOk result (λ outline.
             AllByRecursion (IsClosedBox problem.now) (boxes_left_out outline)) }
+        ensures answers { OnOk result (ServeFor problem.now answers.new) }
     {
         let mut outline = Outline::new(alloc);
         let mut root = Box0::root(alloc, problem)?;
+        root.swap_answers(answers);
         outline.close(alloc, problem, &mut root)?;
+        root.swap_answers(answers);
         Ok(outline)
     }
 
@@ -220,16 +228,22 @@ impl Outline {
     }
 
     /// Each open box gives way to its branches, and the others stay.
-    pub(crate) fn open_each(self, alloc: Global, problem: &Problem) -> Result<Outline, AllocError>
-        requires { AllByRecursion (IsClosedBox problem.now) (boxes_left_out self) }
-        ensures { IfOk result (λ outline. outline ≡ flat_map (opened problem.now) self) }
+    pub(crate) fn open_each(
+        self,
+        alloc: Global,
+        problem: &Problem,
+        answers: &mut Answers,
+    ) -> Result<Outline, AllocError>
+        requires boxes { AllByRecursion (IsClosedBox problem.now) (boxes_left_out self) }
+        requires answers { ServeFor problem.now answers.old }
+        ensures opened { IfOk result (λ outline. outline ≡ flat_map (opened problem.now) self) }
+        ensures answers { OnOk result (ServeFor problem.now answers.new) }
     {
         let Outline { slots, after } = self;
         let mut outline = Outline::new(alloc);
-        let mut answers = Answers::new(alloc);
         for slot in slots {
             outline.write_all(&slot.before)?;
-            outline.open(alloc, problem, slot.boxed, &mut answers)?;
+            outline.open(alloc, problem, slot.boxed, answers)?;
         }
         outline.write_all(&after)?;
         Ok(outline)

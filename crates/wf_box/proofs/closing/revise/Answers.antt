@@ -1,33 +1,22 @@
-use Rattle.std.proofs.Common.{[], map, ◌≡◌, None, length, get_or, refl, sym, ap, ◌∙◌, subst, arith, eqb-true}
+use Rattle.std.proofs.Common.{[], map, ◌≡◌, ◌≤◌, None, length, get_or, refl, sym, ap, ◌∙◌, subst, arith, eqb-true}
 use Rattle.std.proofs.lemmas.List.{length-map, nil_from_length}
 use Rattle.wf_model.specs.Simplex.{processes_of}
 use Rattle.wf_model.specs.Problem.{Problem, constraint_at}
 use Rattle.wf_model.specs.Closing.{Step, and_then}
 use Rattle.wf_lane.specs.Table.{HasSupported}
 use Rattle.wf_set.specs.Sets.{box_of, values_in}
-use Rattle.wf_box.specs.Problems.{IsWithin, constraint_in, constraint_seen, rule_in, rule_of}
-use Rattle.wf_box.specs.Revising.{left_of}
+use Rattle.wf_box.specs.Problems.{IsWithin, constraint_in, constraint_seen, no_rule, rule_in, rule_of}
+use Rattle.wf_box.specs.Revising.{found_at, found_in, left_of}
 use Rattle.wf_box.specs.Steps.{NamesLost, loss, point_if, reached, revision, take_present}
 use Rattle.wf_box.specs.Working.{IsSilent}
-use Rattle.wf_box.specs.declared.problem.Execution.{Execution}
 use Rattle.wf_box.specs.declared.problem.Rule.{Rule}
 use Rattle.wf_box.proofs.ProblemLemmas.{known_at}
 use Rattle.wf_box.proofs.StepLemmas.{lost_in_turn, then_keeps}
 use Rattle.wf_box.proofs.NameLemmas.{named_none, named_then, point_of_place}
 use Rattle.wf_box.proofs.QuietLemmas.{untouched_none, untouched_then}
 use Rattle.wf_box.proofs.PlaceLemmas.{keeps_all, place_done, no_place_more}
-use Rattle.wf_box.proofs.WorkLemmas.{execution_is, execution_told, execution_within, proceeds_known, proceeds_then, still_working}
+use Rattle.wf_box.proofs.WorkLemmas.{execution_is, execution_told, execution_within, found_is, proceeds_known, proceeds_then, still_working, supported_here}
 use Rattle.wf_box.proofs.closing.revise.Goals as goal
-
-pub supported_at-requires-clause-few : goal.supported_at-requires-clause-few
-supported_at-requires-clause-few c =
-    let n = c.args.network.now in
-    let x = c.index.result.now in
-    let inside = execution_within n c.args.number x c.requires.network c.requires.number c.index.ensures in
-    let known = known_at n.rules.items n.points x c.index-rule.result.now inside c.requires.network.wide c.index-rule.ensures in
-    let rule : rule_in n c.args.number ≡ c.index-rule.result.now = ap (rule_of n.rules.items) (execution_is n c.args.number x c.requires.number c.index.ensures) ∙ known.is in
-    let long : length (rule_in n c.args.number).simplex ≡ length c.index-rule.result.now.simplex = ap (λ (r : Rule). length r.simplex) rule in
-    omega (arith, long, c.colours-colours.ensures.count, c.colours-colours.ensures.few)
 
 pub returns-in_default-clause-step : goal.returns-in_default-clause-step
 returns-in_default-clause-step c =
@@ -35,14 +24,18 @@ returns-in_default-clause-step c =
     let x = c.index.result.now in
     let rule = c.index-rule.result.now in
     let words = c.args.workspace.now.tracked.words.items in
-    let found = c.candidates_at-found.result in
+    let sets = c.deref.result.now in
     let inside = execution_within n c.args.number x c.requires.network c.requires.number c.index.ensures in
     let known = known_at n.rules.items n.points x rule inside c.requires.network.wide c.index-rule.ensures in
     let seen : constraint_in n c.args.number ≡ constraint_seen n.rules.items x = ap (constraint_seen n.rules.items) (execution_is n c.args.number x c.requires.number c.index.ensures) in
-    let rule_is : rule_in n c.args.number ≡ rule = ap (rule_of n.rules.items) (execution_is n c.args.number x c.requires.number c.index.ensures) ∙ known.is in
-    let all : HasSupported found (rule_in n c.args.number).table found = subst (λ o. HasSupported (left_of found o) (rule_in n c.args.number).table found) c.in_default.is c.supported_at.ensures.supported in
-    keeps_all n.rules.items x rule words found c.args.number c.args.lines.now.items known (subst (λ m. IsWithin (length n.rules.items) m x) (sym c.requires.working.long) inside) (omega (arith, c.colours-colours.ensures.count, c.colours-colours.ensures.few))
-    (c.candidates_at-found.ensures.candidates ∙ ap (λ ws. map (λ v. get_or ws v []) x.points) c.deref.ensures.value) (subst (λ (r : Rule). HasSupported found r.table found) rule_is all)
+    let few : length rule.simplex ≤ 4 = omega (arith, ap (λ (r : Rule). length r.simplex) known.is, c.requires.network.narrow x.rule no_rule inside.rule) in
+    let is : found_in n c.args.number sets ≡ found_at x words = found_is n c.args.number x sets words c.requires.number c.index.ensures c.deref.ensures.value in
+    let all : HasSupported (found_at x words) (rule_of n.rules.items x).table (found_at x words) =
+    supported_here n c.args.number x sets words (found_at x words) (found_at x words) c.requires.number c.index.ensures c.deref.ensures.value refl
+    (subst (λ found. HasSupported found (rule_in n c.args.number).table (found_in n c.args.number sets)) is
+    (subst (λ o. HasSupported (left_of (found_in n c.args.number sets) o) (rule_in n c.args.number).table (found_in n c.args.number sets)) c.in_default.is c.supported_at.ensures.supported)) in
+    keeps_all n.rules.items x rule words (found_at x words) c.args.number c.args.lines.now.items known (subst (λ m. IsWithin (length n.rules.items) m x) (sym c.requires.working.long) inside) few
+    refl (subst (λ (r : Rule). HasSupported (found_at x words) r.table (found_at x words)) known.is all)
     ∙ ap (λ k. and_then (reached c.args.lines.now.items None words) (revision c.args.number k)) (sym seen)
 
 pub places-init : goal.places-init
@@ -88,8 +81,8 @@ returns-then-take_place-clause-step c =
     let step = ap (λ b. reached c.take_place.new.lines.items (point_if b (get_or x.points c.places.place 0)) c.take_place.new.workspace.tracked.words.items) (sym c.if-take_place.true) ∙ c.take_place.ensures.step in
     let done = place_done n.rules.items x rule words c.candidates_at-found.result c.in-Some.supported c.args.number c.places.place c.colour.result c.difference-lost.result
     (reached c.places.lines.items None c.places.workspace.tracked.words.items) _ known (subst (λ m. IsWithin (length n.rules.items) m x) (sym c.requires.working.long) inside) (omega (arith, c.colours-colours.ensures.count, c.colours-colours.ensures.few)) (omega (arith, c.colours-colours.ensures.count, c.places-test.true))
-    (c.candidates_at-found.ensures.candidates ∙ ap (λ ws. map (λ v. get_or ws v []) x.points) c.deref.ensures.value) (subst (λ (y : Execution). HasSupported c.in-Some.supported (rule_of n.rules.items y).table c.candidates_at-found.result) (execution_is n c.args.number x c.requires.number c.index.ensures)
-    (subst (λ o. HasSupported (left_of c.candidates_at-found.result o) (rule_in n c.args.number).table c.candidates_at-found.result) c.in-Some.is c.supported_at.ensures.supported)) c.colour.ensures c.difference-lost.ensures step
+    (c.candidates_at-found.ensures.candidates ∙ ap (found_at x) c.deref-2.ensures.value) (supported_here n c.args.number x c.deref.result.now words c.candidates_at-found.result c.in-Some.supported c.requires.number c.index.ensures c.deref.ensures.value (c.candidates_at-found.ensures.candidates ∙ ap (found_at x) c.deref-2.ensures.value)
+    (subst (λ o. HasSupported (left_of (found_in n c.args.number c.deref.result.now) o) (rule_in n c.args.number).table (found_in n c.args.number c.deref.result.now)) c.in-Some.is c.supported_at.ensures.supported)) c.colour.ensures c.difference-lost.ensures step
     ∙ c.places.invariant.1 in
     let seen : constraint_in n c.args.number ≡ constraint_seen n.rules.items x = ap (constraint_seen n.rules.items) (execution_is n c.args.number x c.requires.number c.index.ensures) in
     done ∙ ap (λ k. and_then (reached c.args.lines.now.items None words) (revision c.args.number k)) (sym seen)
@@ -124,8 +117,8 @@ places-preserved-then-is_empty c =
     sym (then_keeps now) ∙ ap (λ vs. and_then now (take_present c.args.number (map (loss (get_or (processes_of rule.simplex) c.places.place 0) (get_or x.points c.places.place 0)) vs))) (sym none) in
     let done = place_done n.rules.items x rule words c.candidates_at-found.result c.in-Some.supported c.args.number c.places.place (get_or (processes_of rule.simplex) c.places.place 0) c.difference-lost.result
     now _ known (subst (λ m. IsWithin (length n.rules.items) m x) (sym c.requires.working.long) inside) (omega (arith, c.colours-colours.ensures.count, c.colours-colours.ensures.few)) (omega (arith, c.colours-colours.ensures.count, c.places-test.true))
-    (c.candidates_at-found.ensures.candidates ∙ ap (λ ws. map (λ v. get_or ws v []) x.points) c.deref.ensures.value) (subst (λ (y : Execution). HasSupported c.in-Some.supported (rule_of n.rules.items y).table c.candidates_at-found.result) (execution_is n c.args.number x c.requires.number c.index.ensures)
-    (subst (λ o. HasSupported (left_of c.candidates_at-found.result o) (rule_in n c.args.number).table c.candidates_at-found.result) c.in-Some.is c.supported_at.ensures.supported)) refl c.difference-lost.ensures step in
+    (c.candidates_at-found.ensures.candidates ∙ ap (found_at x) c.deref-2.ensures.value) (supported_here n c.args.number x c.deref.result.now words c.candidates_at-found.result c.in-Some.supported c.requires.number c.index.ensures c.deref.ensures.value (c.candidates_at-found.ensures.candidates ∙ ap (found_at x) c.deref-2.ensures.value)
+    (subst (λ o. HasSupported (left_of (found_in n c.args.number c.deref.result.now) o) (rule_in n c.args.number).table (found_in n c.args.number c.deref.result.now)) c.in-Some.is c.supported_at.ensures.supported)) refl c.difference-lost.ensures step in
     (c.places.invariant.0, done ∙ c.places.invariant.1, c.places.invariant.2, c.places.invariant.3, c.places.invariant.4)
 
 pub places-preserved : goal.places-preserved
@@ -139,8 +132,8 @@ places-preserved c =
     let step = ap (λ b. reached c.take_place.new.lines.items (point_if b (get_or x.points c.places.place 0)) c.take_place.new.workspace.tracked.words.items) (sym c.if-take_place.false) ∙ c.take_place.ensures.step in
     let done = place_done n.rules.items x rule words c.candidates_at-found.result c.in-Some.supported c.args.number c.places.place c.colour.result c.difference-lost.result
     (reached c.places.lines.items None c.places.workspace.tracked.words.items) _ known (subst (λ m. IsWithin (length n.rules.items) m x) (sym c.requires.working.long) inside) (omega (arith, c.colours-colours.ensures.count, c.colours-colours.ensures.few)) (omega (arith, c.colours-colours.ensures.count, c.places-test.true))
-    (c.candidates_at-found.ensures.candidates ∙ ap (λ ws. map (λ v. get_or ws v []) x.points) c.deref.ensures.value) (subst (λ (y : Execution). HasSupported c.in-Some.supported (rule_of n.rules.items y).table c.candidates_at-found.result) (execution_is n c.args.number x c.requires.number c.index.ensures)
-    (subst (λ o. HasSupported (left_of c.candidates_at-found.result o) (rule_in n c.args.number).table c.candidates_at-found.result) c.in-Some.is c.supported_at.ensures.supported)) c.colour.ensures c.difference-lost.ensures step
+    (c.candidates_at-found.ensures.candidates ∙ ap (found_at x) c.deref-2.ensures.value) (supported_here n c.args.number x c.deref.result.now words c.candidates_at-found.result c.in-Some.supported c.requires.number c.index.ensures c.deref.ensures.value (c.candidates_at-found.ensures.candidates ∙ ap (found_at x) c.deref-2.ensures.value)
+    (subst (λ o. HasSupported (left_of (found_in n c.args.number c.deref.result.now) o) (rule_in n c.args.number).table (found_in n c.args.number c.deref.result.now)) c.in-Some.is c.supported_at.ensures.supported)) c.colour.ensures c.difference-lost.ensures step
     ∙ c.places.invariant.1 in
     let named : (p : Problem) → constraint_at p c.args.number ≡ constraint_seen n.rules.items x → NamesLost p c.args.lines.now c.args.workspace.now c.take_place.new.lines c.take_place.new.workspace = λ p at.
     named_then p _ _ _ _ _ _ (c.places.invariant.0 p at)

@@ -5,7 +5,7 @@ use Rattle.wf_box.specs.Revising.{widened}
 use Rattle.wf_box.specs.declared.problem.Rule.{Rule}
 use Rattle.wf_box.proofs.MemoLemmas.{known_now, supported_up_to}
 use Rattle.wf_box.proofs.ProblemLemmas.{known_at}
-use Rattle.wf_box.proofs.WorkLemmas.{execution_is, execution_within}
+use Rattle.wf_box.proofs.WorkLemmas.{execution_is, execution_within, few_at}
 use Rattle.wf_box.proofs.revising.revise_parts.Goals as goal
 
 -- the new answer is right for the execution
@@ -31,4 +31,4 @@ pub returns-clause-known : goal.returns-clause-known
 returns-clause-known c =
     let n = c.args.network.now in
     c.keep_narrow.ensures (constraints_in n)
-    (known_now n c.args.number (widened c.args.candidates) (widened c.up_to-supported.result) c.requires.network c.requires.number c.requires.few (new_answer c)) c.requires.known
+    (known_now n c.args.number (widened c.args.candidates) (widened c.up_to-supported.result) c.requires.network c.requires.number (few_at n c.args.number c.requires.network c.requires.number) (new_answer c)) c.requires.known

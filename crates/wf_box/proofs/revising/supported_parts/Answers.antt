@@ -1,13 +1,10 @@
-use Rattle.std.proofs.Common.{◌≡◌, ◌<◌, ◌∙◌, Some, length, get_or, subst, sym, ap, arith}
+use Rattle.std.proofs.Common.{◌≡◌, ◌<◌, ◌∙◌, Some, length, subst, sym, arith}
 use Rattle.std.proofs.lemmas.List.Elements.{All-get_or}
 use Rattle.std.specs.Cmp.Lexicographic.{bytes_decides}
 use Rattle.wf_lane.specs.Table.{HasSupported}
 use Rattle.wf_box.specs.Problems.{constraints_in, rule_in}
-use Rattle.wf_box.specs.Quiet.{no_execution}
 use Rattle.wf_box.specs.Revising.{IsKnownParts, widened}
-use Rattle.wf_box.specs.declared.problem.Execution.{Execution}
-use Rattle.wf_box.proofs.MemoLemmas.{known_serves, narrow_known}
-use Rattle.wf_box.proofs.WorkLemmas.{execution_is}
+use Rattle.wf_box.proofs.MemoLemmas.{known_serves, narrow_known, same_table}
 use Rattle.wf_box.proofs.revising.supported_parts.Goals as goal
 
 -- the answer that is kept is right for this rule and these candidates
@@ -16,14 +13,13 @@ returns-clause-supported c =
     let n = c.args.network.now in
     let known = c.in-Some.known in
     let answers = c.args.memo.now.narrow.items in
-    let right : IsKnownParts (constraints_in n) (Some known) = subst (IsKnownParts (constraints_in n)) (sym c.index-2.ensures ∙ c.in-Some.is)
-    (All-get_or (IsKnownParts (constraints_in n)) answers c.slot_of-slot.result c.index-2.result.now (omega (arith, c.if-slot-len.true, c.len-2.ensures, c.args.memo.now.narrow.ok.0)) (narrow_known (constraints_in n) c.args.memo.now c.requires.known)) in
+    let right : IsKnownParts (constraints_in n) (Some known) = subst (IsKnownParts (constraints_in n)) (sym c.index.ensures ∙ c.in-Some.is)
+    (All-get_or (IsKnownParts (constraints_in n)) answers c.slot_of-slot.result c.index.result.now (omega (arith, c.if-slot-len.true, c.len-2.ensures, c.args.memo.now.narrow.ok.0)) (narrow_known (constraints_in n) c.args.memo.now c.requires.known)) in
     let same : known.candidates ≡ c.args.candidates = (bytes_decides known.candidates c.args.candidates).0 (sym c.eq.ensures ∙ c.if-eq.true) in
     let inside : known.execution < length n.executions.items = omega (arith, c.if-known-len.true, c.len-3.ensures, n.executions.ok.0) in
-    let rule : (get_or n.executions.items known.execution no_execution).rule ≡ (get_or n.executions.items c.args.number no_execution).rule =
-    ap (λ (x : Execution). x.rule) (execution_is n known.execution c.index-3.result.now inside c.index-3.ensures) ∙ c.if-index-rule.true
-    ∙ sym (ap (λ (x : Execution). x.rule) (execution_is n c.args.number c.index.result.now c.requires.number c.index.ensures)) in
+    let same_like : (rule_in n known.execution).like ≡ (rule_in n c.args.number).like = sym c.like_at.ensures ∙ c.if-like_at-like.true ∙ c.like_at-like.ensures in
     let serves : HasSupported (widened known.supported) (rule_in n c.args.number).table (widened known.candidates) =
-    known_serves n c.args.number (record { execution = known.execution; candidates = widened known.candidates; supported = widened known.supported }) c.requires.network c.requires.number c.requires.few inside rule right in
+    known_serves n c.args.number (record { execution = known.execution; candidates = widened known.candidates; supported = widened known.supported }) c.requires.network c.requires.number inside
+    (same_table n known.execution c.args.number c.requires.network inside c.requires.number same_like) right in
     subst (λ masks. HasSupported masks (rule_in n c.args.number).table (widened c.args.candidates)) (sym c.changed.ensures)
     (subst (λ parts. HasSupported (widened known.supported) (rule_in n c.args.number).table (widened parts)) same serves)

@@ -2,13 +2,13 @@ use Rattle.std.proofs.Common.{◌≡◌, ◌<◌, ◌∙◌, Some, length, get_o
 use Rattle.std.proofs.lemmas.List.Elements.{All-get_or}
 use Rattle.std.specs.Cmp.Lexicographic.{bytes_decides, pointwise_decides}
 use Rattle.wf_lane.specs.Table.{HasSupported}
-use Rattle.wf_box.specs.Problems.{constraints_in, rule_in, rule_of}
+use Rattle.wf_box.specs.Problems.{constraints_in, no_rule, rule_in, rule_of}
 use Rattle.wf_box.specs.Quiet.{no_execution}
 use Rattle.wf_box.specs.Revising.{IsKnown}
 use Rattle.wf_box.specs.declared.problem.Execution.{Execution}
 use Rattle.wf_box.proofs.MemoLemmas.{known_now, known_serves, wide_known}
 use Rattle.wf_box.proofs.ProblemLemmas.{known_at}
-use Rattle.wf_box.proofs.WorkLemmas.{execution_is, execution_within}
+use Rattle.wf_box.proofs.WorkLemmas.{execution_is, execution_within, few_at}
 use Rattle.wf_box.proofs.revising.supported_sets.Goals as goal
 
 -- the answer that is kept is right for this rule and these candidates
@@ -24,7 +24,7 @@ returns-clause-supported c =
     let rule : (get_or n.executions.items known.execution no_execution).rule ≡ (get_or n.executions.items c.args.number no_execution).rule =
     ap (λ (x : Execution). x.rule) (execution_is n known.execution c.index-3.result.now inside c.index-3.ensures) ∙ c.if-index-rule.true
     ∙ sym (ap (λ (x : Execution). x.rule) (execution_is n c.args.number c.index.result.now c.requires.number c.index.ensures)) in
-    subst (HasSupported known.supported (rule_in n c.args.number).table) same (known_serves n c.args.number known c.requires.network c.requires.number c.requires.few inside rule right)
+    subst (HasSupported known.supported (rule_in n c.args.number).table) same (known_serves n c.args.number known c.requires.network c.requires.number inside (ap (λ r. (get_or n.rules.items r no_rule).table) rule) right)
 
 -- the new answer is right for the execution
 pub returns-2-clause-known : goal.returns-2-clause-known
@@ -36,4 +36,4 @@ returns-2-clause-known c =
     let is : rule_in n c.args.number ≡ rule = ap (rule_of n.rules.items) (execution_is n c.args.number x c.requires.number c.index.ensures)
     ∙ (known_at n.rules.items n.points x rule within c.requires.network.wide c.index-4.ensures).is in
     let right : HasSupported c.revise.result.masks (rule_in n c.args.number).table c.args.candidates = subst (λ r. HasSupported c.revise.result.masks r.table c.args.candidates) (sym is) c.revise.ensures.supported in
-    c.keep_wide.ensures (constraints_in n) (known_now n c.args.number c.args.candidates c.revise.result.masks c.requires.network c.requires.number c.requires.few right) c.requires.known
+    c.keep_wide.ensures (constraints_in n) (known_now n c.args.number c.args.candidates c.revise.result.masks c.requires.network c.requires.number (few_at n c.args.number c.requires.network c.requires.number) right) c.requires.known

@@ -9,9 +9,9 @@ use Rattle.wf_search.proofs.outline.Outline.open_each.Goals as goal
 pub loop-slot-init : goal.loop-slot-init
 loop-slot-init c = record {
   boxes = subst (λ slots. AllByRecursion (IsClosedBox c.args.problem.now) (map (λ (slot : Slot). slot.boxed.sets) slots)) (sym c.into_iter-slot-iterator.ensures.into_iter_gives.0)
-      (boxes_of_slots (IsClosedBox c.args.problem.now) c.self.inside.slots.items c.self.inside.after.items c.args.self c.self.view_is c.requires);
+      (boxes_of_slots (IsClosedBox c.args.problem.now) c.self.inside.slots.items c.self.inside.after.items c.args.self c.self.view_is c.requires.boxes);
   closed = subst (AllByRecursion (λ (slot : Slot). IsJustClosed slot.boxed)) (sym c.into_iter-slot-iterator.ensures.into_iter_gives.0) c.self.invariant;
-  answers = c.new-answers.ensures.serve c.args.problem.now;
+  answers = c.requires.answers;
   items = ap (λ items. items ++ flat_map (opened c.args.problem.now) (flat_map slot_seen c.into_iter-slot-iterator.result.rest.items)) c.new-outline.ensures;
 }
 
@@ -30,8 +30,8 @@ loop-slot-preserved c = record {
       c.in_ok-write_all.ensures c.in_ok-open.ensures.items c.loop-slot.invariant.items;
 }
 
-pub returns : goal.returns
-returns c =
+pub returns-clause-opened : goal.returns-clause-opened
+returns-clause-opened c =
     let none = none_of c.loop-slot.slot-iterator.rest.items (let long = c.loop-slot.slot-iterator.rest.ok.0 in let ended = c.in-None.ensures.steps.0 in omega (arith, long, ended)) in
     opened_last c.args.problem.now c.self.inside.slots.items c.loop-slot.slot-iterator.rest.items c.self.inside.after.items c.deref-2.result.now c.loop-slot.outline c.write_all-2.new.self c.args.self none c.deref-2.ensures.value
     c.in_ok-write_all-2.ensures
