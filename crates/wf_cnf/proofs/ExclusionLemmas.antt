@@ -1,5 +1,5 @@
 -- The clauses that rule out what a branch has not: their text, and a checker that is told them.
-use Rattle.std.proofs.Common.{◌≡◌, ℕ, ◌+◌, true, List, [], ◌∷◌, ◌++◌, map, flat_map, length, inl, inr, refl, sym, ap, ◌∙◌, subst, arith}
+use Rattle.std.proofs.Common.{◌≡◌, ℕ, ◌+◌, List, [], ◌∷◌, ◌++◌, map, flat_map, length, inl, inr, refl, sym, ap, ◌∙◌, subst, arith}
 use Rattle.std.proofs.lemmas.List.{length-map}
 use Rattle.std.proofs.lemmas.List.Elements.{All-cons, All-nil}
 use Rattle.wf_model.specs.Lists.{below}
@@ -7,7 +7,7 @@ use Rattle.wf_clauses.specs.Formula.{Clause, Formula, SatisfiesAll}
 use Rattle.wf_formula.specs.Dimacs.{clause_text}
 use Rattle.wf_formula.proofs.Members.{In, in_left, in_right}
 use Rattle.wf_rup.specs.Kept.{IsKept, KnowsStill}
-use Rattle.wf_rup.specs.Seen.{IsModelOf, KeepsModelsOf, Known}
+use Rattle.wf_rup.specs.Seen.{KeepsModelsOf, Known}
 use Rattle.wf_rup.proofs.StoredLemmas.{kept-on, still-both, still-same}
 use Rattle.wf_cnf.specs.Posing.{FollowsFrom, IsPosed, KeepsAll, KeepsEach, KeepsModelsOfAll}
 use Rattle.wf_cnf.proofs.PosingLemmas.{keeps_one, kept_more, posed_of, satisfied_some}

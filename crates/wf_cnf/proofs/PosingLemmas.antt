@@ -10,12 +10,12 @@ use Rattle.wf_model.specs.Limits.{most_points}
 use Rattle.wf_model.specs.Lists.{below}
 use Rattle.wf_model.proofs.Basics.{below_next}
 use Rattle.wf_set.specs.Sets.{values_in}
-use Rattle.wf_clauses.specs.Formula.{Assignment, Clause, Formula, IsModel, Literal, SatisfiesAll, satisfies}
+use Rattle.wf_clauses.specs.Formula.{Assignment, Clause, Formula, Literal, SatisfiesAll, satisfies}
 use Rattle.wf_formula.specs.Encoding.{variable}
 use Rattle.wf_formula.proofs.Members.{In, each_from_in, each_in, in_left, in_right}
 use Rattle.wf_rup.specs.Codes.{most_variables}
 use Rattle.wf_rup.specs.Kept.{IsKept, KnowsStill}
-use Rattle.wf_rup.specs.Seen.{IsModelOf, KeepsModelsOf, Known, KnowsNothing}
+use Rattle.wf_rup.specs.Seen.{KeepsModelsOf, Known, KnowsNothing}
 use Rattle.wf_rup.proofs.StoredLemmas.{kept-on, models-kept, still-both, still-same}
 use Rattle.wf_cnf.specs.Posing.{FollowsFrom, IsPosed, KeepsAll, KeepsEach, KeepsModelsOfAll}
 use Rattle.wf_cnf.proofs.TextLemmas.{few_ranks, few_values, product_few}
