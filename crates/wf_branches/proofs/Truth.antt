@@ -14,7 +14,7 @@ use Rattle.wf_formula.proofs.Branches.{is_model_in}
 use Rattle.wf_io.specs.Seen.{Reading}
 use Rattle.wf_io.specs.Texts.{Took}
 use Rattle.wf_rup.specs.Seen.{HasNoModel, Known}
-use Rattle.wf_cnf.specs.Posing.{FollowsFrom, HasModelsOf}
+use Rattle.wf_cnf.specs.Posing.{FollowsFrom, IsPosed}
 use Rattle.wf_engine.specs.Proofs.{ReadsAsProof}
 use Rattle.wf_engine.specs.Sources.{NextReads, ReadsAbout}
 use Rattle.wf_engine.specs.declared.fault.RunFault.{RunFault}
@@ -35,12 +35,12 @@ no_map_in t r i known is follows refuted m decides lies =
     (record { solves = solves; listed = solution_in_root t r (listed t r m) is solves; lies = lies })))
 
 -- the line that says so
-module _ (t : Task) (r i : ℕ) (known : Known) (is : IsTask t) (posed : HasModelsOf (branch_question t r i) known) (old new : Reading) where
+module _ (t : Task) (r i : ℕ) (known : Known) (is : IsTask t) (posed : IsPosed (branch_question t r i) known) (old new : Reading) where
   pub told : (n : ℕ) (text : List ℕ) → n ≡ length (branches t r) → text ≡ accepted_text i n r → ReadsAsProof {X = Unit {0}} known (λ accepted. HasNoModel known) old new (Ok tt)
       → ReadsBranchProof i t r old new (Ok (tt, text))
   told n text count same read =
       accepted_of (branch_question t r i) (IsAcceptedBranch i t r) known posed old new text
-      (λ refuted. (no_map_in t r i known is posed.follows refuted, same ∙ ap (λ k. accepted_text i k r) count)) read
+      (λ refuted. (no_map_in t r i known is posed.models.follows refuted, same ∙ ap (λ k. accepted_text i k r) count)) read
 
 pub branches_cover : BranchesCoverAllMaps
 branches_cover t r is none m decides =

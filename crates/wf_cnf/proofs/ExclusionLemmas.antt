@@ -1,16 +1,16 @@
 -- The clauses that rule out what a branch has not: their text, and a checker that is told them.
-use Rattle.std.proofs.Common.{◌≡◌, ℕ, ◌+◌, true, List, [], ◌∷◌, ◌++◌, map, flat_map, length, inl, inr, refl, sym, ap, ◌∙◌, subst, arith}
+use Rattle.std.proofs.Common.{◌≡◌, ℕ, ◌+◌, List, [], ◌∷◌, ◌++◌, map, flat_map, length, inl, inr, refl, sym, ap, ◌∙◌, subst, arith}
 use Rattle.std.proofs.lemmas.List.{length-map}
-use Rattle.std.proofs.lemmas.List.Elements.{All-append, All-from_recursion, All-nil, recursion_from_All}
+use Rattle.std.proofs.lemmas.List.Elements.{All-cons, All-nil}
 use Rattle.wf_model.specs.Lists.{below}
-use Rattle.wf_clauses.specs.Formula.{Assignment, Clause, Formula, IsModel, SatisfiesAll, satisfies}
+use Rattle.wf_clauses.specs.Formula.{Clause, Formula, SatisfiesAll}
 use Rattle.wf_formula.specs.Dimacs.{clause_text}
 use Rattle.wf_formula.proofs.Members.{In, in_left, in_right}
 use Rattle.wf_rup.specs.Kept.{IsKept, KnowsStill}
-use Rattle.wf_rup.specs.Seen.{IsModelOf, KeepsModelsOf, Known}
-use Rattle.wf_rup.proofs.StoredLemmas.{models-added}
-use Rattle.wf_cnf.specs.Posing.{FollowsFrom, KeepsModelsOfAll, KnowsAll}
-use Rattle.wf_cnf.proofs.PosingLemmas.{keeps_one, satisfied_some}
+use Rattle.wf_rup.specs.Seen.{KeepsModelsOf, Known}
+use Rattle.wf_rup.proofs.StoredLemmas.{kept-on, still-both, still-same}
+use Rattle.wf_cnf.specs.Posing.{FollowsFrom, IsPosed, KeepsAll, KeepsEach, KeepsModelsOfAll}
+use Rattle.wf_cnf.proofs.PosingLemmas.{keeps_one, kept_more, posed_of, satisfied_some}
 use Rattle.wf_cnf.proofs.TextLemmas.{length_more}
 
 -- ---- the clauses of a point
@@ -29,24 +29,27 @@ next_clause f v left rest is = ap (λ vs. flat_map clause_text (map f vs)) is
 
 -- ---- one clause after another is told
 
--- all of the clauses are satisfied where those that are left are
-abbrev pub KnowsBut : List Clause → List Clause → Known → Known → Type 0
-KnowsBut all left old now = (a : Assignment) → IsModelOf a now → SatisfiesAll a left → IsModelOf a old × SatisfiesAll a all
+-- nothing that was known before is lost, and all of the clauses are kept once those that are left are
+pub record KeepsBut (all left : List Clause) (old now : Known) : Type 0 where
+  pub still : KnowsStill old now
+  pub later : (new : Known) → KnowsStill now new → KeepsEach left new → KeepsEach all new
 
 -- what is left is among all
 abbrev pub IsAmong : List Clause → List Clause → Type 0
 IsAmong left all = (clause : Clause) → In clause left → In clause all
 
-pub knows_all_but : (all : List Clause) (known : Known) → KnowsBut all all known known
-knows_all_but all known = λ a model h. (model, h)
+pub kept_but_all : (all : List Clause) (known : Known) → KeepsBut all all known known
+kept_but_all all known = record { still = still-same known; later = λ new still each. each }
 
 pub told_one : (f : ℕ → Clause) (all : List Clause) (v : ℕ) (left rest : List ℕ) (added : Clause) (old now new : Known) → left ≡ v ∷ rest → added ≡ f v
-    → KnowsBut all (map f left) old now → IsKept added new → KnowsStill now new → KnowsBut all (map f rest) old new
-told_one f all v left rest added old now new is same so_far kept still = λ a model h.
-    let one = models-added added now new kept still a model in
-    let begun : SatisfiesAll a (f v ∷ map f rest) =
-    All-from_recursion (λ c. satisfies a c ≡ true) (f v ∷ map f rest) (ap (satisfies a) (sym same) ∙ one.1, recursion_from_All (λ c. satisfies a c ≡ true) (map f rest) h) in
-    so_far a one.0 (subst (λ vs. SatisfiesAll a (map f vs)) (sym is) begun)
+    → KeepsBut all (map f left) old now → IsKept added new → KnowsStill now new → KeepsBut all (map f rest) old new
+told_one f all v left rest added old now new is same so_far kept still = record {
+  still = still-both old now new so_far.still still;
+  later = λ later after each.
+      let first : IsKept (f v) later = kept-on (f v) new later after (subst (λ c. IsKept c new) same kept) in
+      so_far.later later (still-both now new later still after)
+      (subst (λ vs. KeepsEach (map f vs) later) (sym is) (All-cons (λ c. IsKept c later) (f v) (map f rest) first each));
+}
 
 pub among_rest : (f : ℕ → Clause) (all : List Clause) (v : ℕ) (left rest : List ℕ) → left ≡ v ∷ rest → IsAmong (map f left) all → IsAmong (map f rest) all
 among_rest f all v left rest is among = λ clause here. among clause (subst (λ vs. In clause (map f vs)) (sym is) (inr here))
@@ -56,21 +59,24 @@ pub keeps_next : (f : ℕ → Clause) (all : List Clause) (v : ℕ) (left rest :
 keeps_next f all v left rest added old now new is same among so_far kept =
     keeps_one all (f v) added old now new (among (f v) (subst (λ vs. In (f v) (map f vs)) (sym is) (inl refl))) same so_far kept
 
-pub told_all : (f : ℕ → Clause) (all : List Clause) (left : List ℕ) (old now : Known) → left ≡ [] → KnowsBut all (map f left) old now → KnowsAll all old now
-told_all f all left old now none so_far = λ a model.
-    so_far a model (subst (λ vs. SatisfiesAll a (map f vs)) (sym none) (All-nil (λ c. satisfies a c ≡ true)))
+pub told_all : (f : ℕ → Clause) (all : List Clause) (left : List ℕ) (old now : Known) → left ≡ [] → KeepsBut all (map f left) old now → KeepsAll all old now
+told_all f all left old now none so_far = record {
+  still = so_far.still;
+  each = so_far.later now (still-same now) (subst (λ vs. KeepsEach (map f vs) now) (sym none) (All-nil (λ c. IsKept c now)));
+}
 
 -- ---- a formula and further clauses
 
-pub follows_also : (f g : Formula) (more : List Clause) (some known : Known) → f.clauses ++ more ≡ g.clauses
+follows_also : (f g : Formula) (more : List Clause) (some known : Known) → f.clauses ++ more ≡ g.clauses
     → FollowsFrom f some → KeepsModelsOfAll more some known → FollowsFrom g known
 follows_also f g more some known whole begun ended = λ a model.
     let h : SatisfiesAll a (f.clauses ++ more) = subst (SatisfiesAll a) (sym whole) model in
     ended a (begun a (satisfied_some a (f.clauses ++ more) f.clauses (λ clause here. in_left f.clauses more clause here) h))
     (satisfied_some a (f.clauses ++ more) more (λ clause here. in_right f.clauses more clause here) h)
 
-pub complete_also : (f g : Formula) (more : List Clause) (some known : Known) → f.clauses ++ more ≡ g.clauses
-    → ((a : Assignment) → IsModelOf a some → IsModel a f) → KnowsAll more some known → (a : Assignment) → IsModelOf a known → IsModel a g
-complete_also f g more some known whole begun ended a model =
-    let last = ended a model in
-    subst (SatisfiesAll a) whole (All-append (λ c. satisfies a c ≡ true) f.clauses more (begun a last.0) last.1)
+-- a formula is known, and the clauses by which another one is longer are added
+pub posed_also : (f g : Formula) (more : List Clause) (some known : Known) → f.variables ≡ g.variables → f.clauses ++ more ≡ g.clauses
+    → IsPosed f some → KeepsModelsOfAll more some known → KeepsAll more some known → IsPosed g known
+posed_also f g more some known variables whole posed follows all =
+    posed_of g some known (follows_also f g more some known whole posed.models.follows follows) (posed.variables ∙ variables)
+    (kept_more f.clauses g.clauses more more some some known (sym whole) refl (record { still = still-same some; each = posed.each }) all)

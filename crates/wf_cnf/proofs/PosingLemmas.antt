@@ -1,23 +1,23 @@
 -- Clauses that are added to a checker, and the models that it keeps.
-use Rattle.std.proofs.Common.{◌≡◌, ℕ, ◌+◌, ◌<◌, ◌≤◌, Bool, true, false, List, [], ◌∷◌, ◌++◌, map, zip, length, take, get_or, min, slice_index, flat_map, refl, sym, ap, ◌∙◌, subst, arith, append-nil, append_assoc}
+use Rattle.std.proofs.Common.{◌≡◌, ℕ, ◌+◌, ◌<◌, ◌≤◌, Bool, true, false, List, [], ◌∷◌, ◌++◌, map, zip, length, take, get_or, min, slice_index, flat_map, Result, Ok, Err, refl, sym, ap, ◌∙◌, subst, arith, append-nil, append_assoc}
 use Rattle.std.proofs.lemmas.List.{map-append, take_more}
-use Rattle.std.proofs.lemmas.List.Elements.{All-append, All-from_recursion, All-nil, All-push, recursion_from_All}
+use Rattle.std.proofs.lemmas.List.Elements.{All-append, All-cons, All-from_recursion, All-nil, All-push, All-weaker, recursion_from_All}
 use Rattle.std.proofs.lemmas.Slice.Zip.{length-zip, get_or-zip}
-use Rattle.std.specs.Prelude.{if◌then◌else◌}
+use Rattle.std.specs.Prelude.{IfOk, if◌then◌else◌}
 use Rattle.std.proofs.lemmas.Bool.{false≢true}
 use Rattle.std.proofs.lemmas.List.Concat.{flat_map-append}
 use Rattle.wf_model.specs.Limits.{most_points}
 use Rattle.wf_model.specs.Lists.{below}
 use Rattle.wf_model.proofs.Basics.{below_next}
 use Rattle.wf_set.specs.Sets.{values_in}
-use Rattle.wf_clauses.specs.Formula.{Assignment, Clause, Formula, IsModel, Literal, SatisfiesAll, satisfies}
+use Rattle.wf_clauses.specs.Formula.{Assignment, Clause, Formula, Literal, SatisfiesAll, satisfies}
 use Rattle.wf_formula.specs.Encoding.{variable}
 use Rattle.wf_formula.proofs.Members.{In, each_from_in, each_in, in_left, in_right}
 use Rattle.wf_rup.specs.Codes.{most_variables}
 use Rattle.wf_rup.specs.Kept.{IsKept, KnowsStill}
-use Rattle.wf_rup.specs.Seen.{IsModelOf, KeepsModelsOf, Known, KnowsNothing}
-use Rattle.wf_rup.proofs.StoredLemmas.{models-added}
-use Rattle.wf_cnf.specs.Posing.{FollowsFrom, KeepsModelsOfAll, KnowsAll}
+use Rattle.wf_rup.specs.Seen.{KeepsModelsOf, Known, KnowsNothing}
+use Rattle.wf_rup.proofs.StoredLemmas.{kept-on, models-kept, still-both, still-same}
+use Rattle.wf_cnf.specs.Posing.{FollowsFrom, IsPosed, KeepsAll, KeepsEach, KeepsModelsOfAll}
 use Rattle.wf_cnf.proofs.TextLemmas.{few_ranks, few_values, product_few}
 
 -- ---- clauses among others
@@ -51,35 +51,52 @@ follows f first second none some known whole nothing begun ended = λ a model.
 
 -- ---- no clause is forgotten
 
-pub knows_same : (some all : List Clause) (before old now : Known) → some ≡ all → before ≡ old → KnowsAll some before now → KnowsAll all old now
-knows_same some all before old now is same known = subst (λ o. KnowsAll all o now) same (subst (λ cs. KnowsAll cs before now) is known)
+pub kept_same : (some all : List Clause) (before old now : Known) → some ≡ all → before ≡ old → KeepsAll some before now → KeepsAll all old now
+kept_same some all before old now is same kept = subst (λ o. KeepsAll all o now) same (subst (λ cs. KeepsAll cs before now) is kept)
 
 -- nothing was added
-pub knows_none : (known : Known) → KnowsAll [] known known
-knows_none known = λ a model. (model, All-nil (λ c. satisfies a c ≡ true))
+pub kept_none : (known : Known) → KeepsAll [] known known
+kept_none known = record { still = still-same known; each = All-nil (λ c. IsKept c known) }
+
+-- what is kept stays so
+each_on : (clauses : List Clause) (old new : Known) → KnowsStill old new → KeepsEach clauses old → KeepsEach clauses new
+each_on clauses old new still each = All-weaker (λ c. IsKept c old) (λ c. IsKept c new) (λ c here. kept-on c old new still here) clauses each
 
 -- one more clause is added
-pub knows_one : (some more : List Clause) (clause added : Clause) (old now new : Known) → more ≡ some ++ clause ∷ [] → added ≡ clause
-    → KnowsAll some old now → IsKept added new → KnowsStill now new → KnowsAll more old new
-knows_one some more clause added old now new is same so_far kept still = λ a model.
-    let one = models-added added now new kept still a model in
-    let before = so_far a one.0 in
-    (before.0, subst (SatisfiesAll a) (sym is) (All-push (λ c. satisfies a c ≡ true) some clause before.1 (ap (satisfies a) (sym same) ∙ one.1)))
+pub kept_one : (some more : List Clause) (clause added : Clause) (old now new : Known) → more ≡ some ++ clause ∷ [] → added ≡ clause
+    → KeepsAll some old now → IsKept added new → KnowsStill now new → KeepsAll more old new
+kept_one some more clause added old now new is same so_far kept still = record {
+  still = still-both old now new so_far.still still;
+  each = subst (λ cs. KeepsEach cs new) (sym is) (All-push (λ c. IsKept c new) some clause (each_on some now new still so_far.each) (subst (λ c. IsKept c new) same kept));
+}
+
+-- one clause is added
+pub kept_alone : {X E : Type 0} (r : Result X E) (clauses : List Clause) (clause : Clause) (before old new : Known) → clauses ≡ clause ∷ [] → before ≡ old
+    → IfOk r (λ done. IsKept clause new) → IfOk r (λ done. KnowsStill before new) → IfOk r (λ done. KeepsAll clauses old new)
+kept_alone (Ok x) clauses clause before old new is same kept still =
+    record { still = subst (λ o. KnowsStill o new) same still; each = subst (λ cs. KeepsEach cs new) (sym is) (All-cons (λ c. IsKept c new) clause [] kept (All-nil (λ c. IsKept c new))) }
+kept_alone (Err e) clauses clause before old new is same kept still = tt
 
 -- further clauses are added
-pub knows_more : (some more next added : List Clause) (old now new : Known) → more ≡ some ++ next → added ≡ next
-    → KnowsAll some old now → KnowsAll added now new → KnowsAll more old new
-knows_more some more next added old now new is same so_far all = λ a model.
-    let last = all a model in
-    let before = so_far a last.0 in
-    (before.0, subst (SatisfiesAll a) (sym is) (All-append (λ c. satisfies a c ≡ true) some next before.1 (subst (SatisfiesAll a) same last.1)))
+pub kept_more : (some more next added : List Clause) (old now new : Known) → more ≡ some ++ next → added ≡ next
+    → KeepsAll some old now → KeepsAll added now new → KeepsAll more old new
+kept_more some more next added old now new is same so_far all = record {
+  still = still-both old now new so_far.still all.still;
+  each = subst (λ cs. KeepsEach cs new) (sym is) (All-append (λ c. IsKept c new) some next (each_on some now new all.still so_far.each) (subst (λ cs. KeepsEach cs new) same all.each));
+}
 
--- first some of the clauses of a formula were added, then the others
-pub knows_whole : (f : Formula) (first second : List Clause) (none some known : Known) → first ++ second ≡ f.clauses
-    → KnowsAll first none some → KnowsAll second some known → (a : Assignment) → IsModelOf a known → IsModel a f
-knows_whole f first second none some known whole begun ended a model =
-    let last = ended a model in
-    subst (SatisfiesAll a) whole (All-append (λ c. satisfies a c ≡ true) first second (begun a last.0).1 last.1)
+-- what is known follows from a formula, and its clauses were added where as many variables were known
+pub posed_of : (f : Formula) (old known : Known) → FollowsFrom f known → old.variables ≡ f.variables → KeepsAll f.clauses old known → IsPosed f known
+posed_of f old known follows variables all = record {
+  models = record { follows = follows; complete = λ a model. (models-kept f.clauses old known all.still all.each a model).1 };
+  variables = all.still.variables ∙ variables;
+  each = all.each;
+}
+
+-- where nothing is allowed, there is one pattern
+pub nothing_seen : {X : Type 0} (b : Bool) (xs ys : List X) → b ≡ true → (if b then xs else ys) ≡ xs
+nothing_seen true xs ys is = refl
+nothing_seen false xs ys is = absurd (false≢true is)
 
 -- where something is allowed, the patterns are the others
 pub others_seen : {X : Type 0} (b : Bool) (xs ys : List X) → b ≡ false → (if b then xs else ys) ≡ ys

@@ -1,6 +1,7 @@
 -- What a checker knows to which the clauses of a question were added.
-use Rattle.std.specs.Prelude.{List}
+use Rattle.std.specs.Prelude.{◌≡◌, List, All}
 use Rattle.wf_clauses.specs.Formula.{Assignment, Clause, Formula, IsModel, SatisfiesAll}
+use Rattle.wf_rup.specs.Kept.{IsKept, KnowsStill}
 use Rattle.wf_rup.specs.Seen.{IsModelOf, Known}
 
 -- each model of the formula is a model of what is known
@@ -11,11 +12,22 @@ FollowsFrom f known = (a : Assignment) → IsModel a f → IsModelOf a known
 abbrev pub KeepsModelsOfAll : List Clause → Known → Known → Type 0
 KeepsModelsOfAll clauses old new = (a : Assignment) → IsModelOf a old → SatisfiesAll a clauses → IsModelOf a new
 
--- each model of what is known after is a model of what was known before, and satisfies all of the clauses
-abbrev pub KnowsAll : List Clause → Known → Known → Type 0
-KnowsAll clauses old new = (a : Assignment) → IsModelOf a new → IsModelOf a old × SatisfiesAll a clauses
+-- each of the clauses is kept
+abbrev pub KeepsEach : List Clause → Known → Type 0
+KeepsEach clauses known = All (λ clause. IsKept clause known) clauses
+
+-- nothing that was known before is lost, and each of the clauses is kept
+pub record KeepsAll (clauses : List Clause) (old new : Known) : Type 0 where
+  pub still : KnowsStill old new
+  pub each : KeepsEach clauses new
 
 -- the models of what is known are those of the formula, and no others
 pub record HasModelsOf (f : Formula) (known : Known) : Type 0 where
   pub follows : FollowsFrom f known
   pub complete : (a : Assignment) → IsModelOf a known → IsModel a f
+
+-- what is known is the formula: its models and no others, as many variables, and each of its clauses is kept
+pub record IsPosed (f : Formula) (known : Known) : Type 0 where
+  pub models : HasModelsOf f known
+  pub variables : known.variables ≡ f.variables
+  pub each : KeepsEach f.clauses known

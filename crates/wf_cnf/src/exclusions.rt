@@ -10,7 +10,7 @@ ghost use Rattle.wf_set.specs.Sets.{values_in};
 ghost use Rattle.wf_formula.specs.Branches.{formula_in, missing, ruled_out};
 ghost use Rattle.wf_formula.specs.Dimacs.{clause_text};
 ghost use Rattle.wf_cnf.specs.Variables.{IsNumbered};
-ghost use Rattle.wf_cnf.specs.Posing.{HasModelsOf, KeepsModelsOfAll, KnowsAll};
+ghost use Rattle.wf_cnf.specs.Posing.{IsPosed, KeepsAll, KeepsModelsOfAll};
 ghost use Rattle.wf_cnf.specs.Exclusions.{exclusions_on, exclusions_text, sets_in};
 
 use crate::posing::pose;
@@ -141,7 +141,7 @@ pub fn pose_branch(
 ) -> Result<Checker, AllocError>
     requires protocol { IsProtocol task.now protocol.now.rounds protocol.now }
     requires sets { length sets.now ≡ length protocol.now.points }
-    ensures { IfOk result (HasModelsOf (formula_in (problem_of task.now protocol.now.rounds)
+    ensures { IfOk result (IsPosed (formula_in (problem_of task.now protocol.now.rounds)
         (map values_in sets.now))) }
 {
     let variables = Variables::of(alloc, task.values())?;
@@ -163,7 +163,7 @@ fn add_exclusions(
     requires few { length sets.now ≤ most_points }
     ensures sound { KeepsModelsOfAll (exclusions_on (values_in variables.now.values)
         (map values_in sets.now)) checker.old checker.new }
-    ensures whole { IfOk result (λ done. KnowsAll (exclusions_on
+    ensures whole { IfOk result (λ done. KeepsAll (exclusions_on
         (values_in variables.now.values) (map values_in sets.now)) checker.old checker.new) }
 {
     for point in 0..sets.len() {
@@ -185,7 +185,7 @@ fn add_missing(
     requires point { point < most_points }
     ensures sound { KeepsModelsOfAll (map (ruled_out (values_in variables.now.values) point)
         (values_in missing)) checker.old checker.new }
-    ensures whole { IfOk result (λ done. KnowsAll (map (ruled_out
+    ensures whole { IfOk result (λ done. KeepsAll (map (ruled_out
         (values_in variables.now.values) point) (values_in missing)) checker.old checker.new) }
 {
     let mut left = missing;

@@ -10,7 +10,7 @@ ghost use Rattle.wf_rup.specs.Seen.{KnowsNothing};
 ghost use Rattle.wf_cnf.specs.Patterns.{pattern_seen, patterns_seen};
 ghost use Rattle.wf_cnf.specs.Variables.{IsNumbered};
 ghost use Rattle.wf_cnf.specs.Clauses.{AreCovered, AreFew, HasPoints, clauses_on, denied_at};
-ghost use Rattle.wf_cnf.specs.Posing.{HasModelsOf, KeepsModelsOfAll, KnowsAll};
+ghost use Rattle.wf_cnf.specs.Posing.{IsPosed, KeepsAll, KeepsModelsOfAll};
 
 use crate::patterns::{Pattern, Patterns};
 use crate::question::all_patterns;
@@ -28,7 +28,7 @@ use wf_task::Task;
 /// Its memory grows with the number of clauses and their literals. Refused where memory runs out.
 pub fn pose(alloc: Global, task: &Task, protocol: &Protocol) -> Result<Checker, AllocError>
     requires { IsProtocol task.now protocol.now.rounds protocol.now }
-    ensures { IfOk result (HasModelsOf (question task.now protocol.now.rounds)) }
+    ensures { IfOk result (IsPosed (question task.now protocol.now.rounds)) }
 {
     let variables = Variables::of(alloc, task.values())?;
     let patterns = all_patterns(alloc, task)?;
@@ -58,7 +58,8 @@ impl Model for Posing {
 impl Posing {
     /// One that knows nothing, on so many variables.
     fn new(alloc: Global, variables: u32) -> Result<Posing, AllocError>
-        ensures { IfOk result KnowsNothing }
+        ensures nothing { IfOk result KnowsNothing }
+        ensures variables { IfOk result (λ posing. posing.variables ≡ variables) }
     {
         Ok(Posing {
             checker: Checker::new(alloc, variables)?,
@@ -77,7 +78,7 @@ impl Posing {
         requires few { points ≤ most_points }
         ensures sound { KeepsModelsOfAll (map (at_least_one (values_in variables.now.values))
             (below points)) self.old self.new }
-        ensures whole { IfOk result (λ done. KnowsAll (map (at_least_one
+        ensures whole { IfOk result (λ done. KeepsAll (map (at_least_one
             (values_in variables.now.values)) (below points)) self.old self.new) }
     {
         for point in 0..points {
@@ -99,7 +100,7 @@ impl Posing {
         requires covered { AreCovered (map patterns_seen patterns.now) protocol.now }
         ensures sound { KeepsModelsOfAll (clauses_on (values_in variables.now.values)
             (map patterns_seen patterns.now) protocol.now) self.old self.new }
-        ensures whole { IfOk result (λ done. KnowsAll (clauses_on (values_in variables.now.values)
+        ensures whole { IfOk result (λ done. KeepsAll (clauses_on (values_in variables.now.values)
             (map patterns_seen patterns.now) protocol.now) self.old self.new) }
     {
         for execution in 0..protocol.executions() {
@@ -123,7 +124,7 @@ impl Posing {
         requires few { AreFew points.now }
         ensures sound { KeepsModelsOfAll (map (denied_at (values_in variables.now.values)
             points.now) (patterns_seen patterns.now)) self.old self.new }
-        ensures whole { IfOk result (λ done. KnowsAll (map (denied_at (values_in variables.now.values)
+        ensures whole { IfOk result (λ done. KeepsAll (map (denied_at (values_in variables.now.values)
             points.now) (patterns_seen patterns.now)) self.old self.new) }
     {
         if patterns.nothing_is_allowed {
@@ -145,7 +146,7 @@ impl Posing {
         requires few { AreFew points.now }
         ensures sound { KeepsModelsOfAll (map (denied_at (values_in variables.now.values)
             points.now) (map pattern_seen patterns.now)) self.old self.new }
-        ensures whole { IfOk result (λ done. KnowsAll (map (denied_at (values_in variables.now.values)
+        ensures whole { IfOk result (λ done. KeepsAll (map (denied_at (values_in variables.now.values)
             points.now) (map pattern_seen patterns.now)) self.old self.new) }
     {
         for pattern in patterns {

@@ -1,6 +1,7 @@
 -- From the bytes of a proof to the line that no decision map is accepted.
-use Rattle.std.proofs.Common.{◌≡◌, ◌+◌, ◌≤◌, ℕ, List, [], length, take, ◌++◌, false, Option, Some, Vec, Result, Ok, Err, refl, sym, ap, ◌∙◌, subst, arith, append-nil, length-append}
+use Rattle.std.proofs.Common.{◌≡◌, ◌+◌, ◌≤◌, ℕ, List, [], length, take, ◌++◌, false, Option, Some, Vec, Result, Ok, Err, Contains, inl, inr, refl, sym, ap, ◌∙◌, subst, arith, append-nil, length-append}
 use Rattle.std.proofs.KnownBytes.{Consumes-trans, Consumes-kept, Consumes-nil}
+use Rattle.std.proofs.lemmas.List.Elements.{All-contains_itself, All-weaker}
 use Rattle.std.specs.Io.KnownBytes.{Consumes, Keeps, IsAtEnd}
 use Rattle.wf_model.specs.Task.{Task, IsTask}
 use Rattle.wf_model.specs.DecisionMap.{HasNoDecisionMap}
@@ -12,10 +13,11 @@ use Rattle.wf_io.specs.Seen.{Reading}
 use Rattle.wf_io.specs.Texts.{Gave}
 use Rattle.wf_drat.specs.Text.{State, at_start, text_of}
 use Rattle.wf_rup.specs.Fed.{IsFaultAtEnd, IsFaultIn, IsReadIn}
+use Rattle.wf_rup.specs.Kept.{IsKept}
 use Rattle.wf_rup.specs.Seen.{HasNoModel, KeepsModels, Known}
 use Rattle.wf_rup.specs.declared.proof.ProofFault.{ProofFault}
 use Rattle.wf_rup.specs.declared.proof.ProofFault.TheVariants as proof
-use Rattle.wf_cnf.specs.Posing.{FollowsFrom, HasModelsOf}
+use Rattle.wf_cnf.specs.Posing.{FollowsFrom, IsPosed}
 use Rattle.wf_engine.specs.Faults.{of_proof}
 use Rattle.wf_engine.specs.Run.{answered}
 use Rattle.wf_engine.specs.Verify.{accepted_text}
@@ -149,10 +151,14 @@ module _ (old mid new : Reading) (known left : Known) (state : State) (count : �
 abbrev stated : Formula → Known
 stated f = record { variables = f.variables; literals = []; clauses = f.clauses; is_refuted = false }
 
-stated_whole : (f : Formula) → HasModelsOf f (stated f)
-stated_whole f = record {
-  follows = λ a model. record { literals = λ k d within. absurd (omega (arith, within)); clauses = model; unrefuted = refl };
-  complete = λ a model. model.clauses;
+stated_posed : (f : Formula) → IsPosed f (stated f)
+stated_posed f = record {
+  models = record {
+    follows = λ a model. record { literals = λ k d within. absurd (omega (arith, within)); clauses = model; unrefuted = refl };
+    complete = λ a model. model.clauses;
+  };
+  variables = refl;
+  each = All-weaker (Contains f.clauses) (λ clause. IsKept clause (stated f)) (λ clause there. inr (inl there)) f.clauses (All-contains_itself f.clauses);
 }
 
 -- what is said of a refusal does not depend on what holds where a proof is accepted
@@ -166,9 +172,9 @@ module _ (f : Formula) (holds : Unit {0} × List ℕ → Type 0) {A : Type 0} wh
   pub unposed : (old : Reading) (result : Result (Unit {0} × Vec ℕ A) RunFault) → IsRefusal run.OutOfMemory result → ReadsProofOf f holds old old (answered result)
   unposed old (Ok x) is = absurd (let ended = is.0 in let bad : ⊥ = cc in bad)
   unposed old (Err found) is = subst (λ fault. ReadsProofOf f holds old old (Err fault)) (sym is.1)
-      (stated f, stated_whole f, ([], record { bytes_are = Consumes-nil old.left; taken = omega arith; failures = omega arith }, (tt, omega arith)))
+      (stated f, stated_posed f, ([], record { bytes_are = Consumes-nil old.left; taken = omega arith; failures = omega arith }, (tt, omega arith)))
 
-  module _ (known : Known) (posed : HasModelsOf f known) (old new : Reading) where
+  module _ (known : Known) (posed : IsPosed f known) (old new : Reading) where
     -- the proof was refused
     pub refused : (e : RunFault) (result : Result (Unit {0} × Vec ℕ A) RunFault) → ReadsAsProof {X = Unit {0}} known (λ accepted. HasNoModel known) old new (Err e) → IsRefusal e result
         → ReadsProofOf f holds old new (answered result)
@@ -182,7 +188,7 @@ module _ (f : Formula) (holds : Unit {0} × List ℕ → Type 0) {A : Type 0} wh
     untold (Ok x) read is = absurd (let ended = is.0 in let bad : ⊥ = cc in bad)
     untold (Err found) (given, gave, (sound, end, few)) is = subst (λ fault. ReadsProofOf f holds old new (Err fault)) (sym is.1) (known, posed, (given, gave, (tt, omega (arith, few))))
 
-module _ (f : Formula) (holds : Unit {0} × List ℕ → Type 0) (known : Known) (posed : HasModelsOf f known) (old new : Reading) where
+module _ (f : Formula) (holds : Unit {0} × List ℕ → Type 0) (known : Known) (posed : IsPosed f known) (old new : Reading) where
   -- it was accepted
   pub accepted_of : (text : List ℕ) → (HasNoModel known → holds (tt, text)) → ReadsAsProof {X = Unit {0}} known (λ accepted. HasNoModel known) old new (Ok tt) → ReadsProofOf f holds old new (Ok (tt, text))
   accepted_of text told (given, gave, read) = (known, posed, (given, gave, (told read.0, read.1, read.2)))
@@ -193,7 +199,7 @@ module _ (f : Formula) (holds : Unit {0} × List ℕ → Type 0) (known : Known)
 no_map : (t : Task) (r : ℕ) (known : Known) → IsTask t → FollowsFrom (question t r) known → HasNoModel known → HasNoDecisionMap t r
 no_map t r known is follows refuted = (unsatisfiable_where t r is).0 (λ a model. refuted a (follows a model))
 
-module _ (t : Task) (r : ℕ) (known : Known) (is : IsTask t) (posed : HasModelsOf (question t r) known) (old new : Reading) where
+module _ (t : Task) (r : ℕ) (known : Known) (is : IsTask t) (posed : IsPosed (question t r) known) (old new : Reading) where
   -- the line that says so
   pub told : (text : List ℕ) → text ≡ accepted_text (Some r) (none []) → ReadsAsProof {X = Unit {0}} known (λ accepted. HasNoModel known) old new (Ok tt) → ReadsProof t r old new (Ok (tt, text))
-  told text same read = accepted_of (question t r) (IsAcceptedNone t r) known posed old new text (λ refuted. (no_map t r known is posed.follows refuted, same)) read
+  told text same read = accepted_of (question t r) (IsAcceptedNone t r) known posed old new text (λ refuted. (no_map t r known is posed.models.follows refuted, same)) read

@@ -14,7 +14,7 @@ use Rattle.wf_rup.specs.Fed.{IsFaultIn, IsReadTo}
 use Rattle.wf_rup.specs.Unit.{DoesNotFollow}
 use Rattle.wf_rup.specs.declared.proof.ProofFault.{ProofFault}
 use Rattle.wf_rup.specs.declared.proof.ProofFault.TheVariants as proof
-use Rattle.wf_cnf.specs.Posing.{HasModelsOf}
+use Rattle.wf_cnf.specs.Posing.{IsPosed}
 use Rattle.wf_engine.specs.Run.{Ran, by_result, failed_reads}
 use Rattle.wf_engine.specs.Sources.{AsksBoth, AsksWithin}
 use Rattle.wf_engine.specs.Verify.{accepted_text}
@@ -69,9 +69,9 @@ abbrev pub ReadsAsProof : {X : Type 0} → Known → (X → Type 0) → Reading 
 ReadsAsProof posed holds old new result =
     (given : List ℕ) × Gave old new given (by_result failed_reads result) × IsOfProof posed holds given new.left result
 
--- the same where what was known has the models of a formula, and no others
+-- the same of a formula: what was known is this formula, with its variables and each of its clauses kept
 abbrev pub ReadsProofOf : Formula → (Unit {0} × List ℕ → Type 0) → Reading → Reading → Result (Unit {0} × List ℕ) RunFault → Type 0
-ReadsProofOf f holds old new result = (posed : Known) × HasModelsOf f posed × ReadsAsProof posed holds old new result
+ReadsProofOf f holds old new result = (posed : Known) × IsPosed f posed × ReadsAsProof posed holds old new result
 
 -- there is no decision map, and the text is the line that says that this is accepted for these rounds
 abbrev pub IsAcceptedNone : Task → ℕ → Unit {0} × List ℕ → Type 0

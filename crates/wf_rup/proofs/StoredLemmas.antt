@@ -1,11 +1,12 @@
 -- What is stored stays, and what that says of what is known.
-use Rattle.std.proofs.Common.{◌≡◌, ℕ, ◌<◌, Bool, true, List, [], ◌∷◌, ◌++◌, refl, sym, ◌∙◌, ap, subst, arith, length, take, map, inl, inr}
+use Rattle.std.proofs.Common.{◌≡◌, ℕ, ◌<◌, Bool, true, List, [], ◌∷◌, ◌++◌, refl, sym, ◌∙◌, ap, subst, arith, length, take, get_or, map, inl, inr}
 use Rattle.std.specs.List.{All, Contains}
 use Rattle.std.proofs.Math.Seq.{take-append_seam, take-length}
 use Rattle.std.proofs.lemmas.Bool.{cases_Bool, false≢true}
-use Rattle.std.proofs.lemmas.List.Elements.{All-contains, All-take, Contains-push}
+use Rattle.std.proofs.lemmas.List.{get_or-take, length-take}
+use Rattle.std.proofs.lemmas.List.Elements.{All-contains, All-take, All-weaker, Contains-push}
 use Rattle.std.proofs.lemmas.List.Folds.{list_any_at}
-use Rattle.wf_clauses.specs.Formula.{Assignment, Clause, Literal, holds, satisfies}
+use Rattle.wf_clauses.specs.Formula.{Assignment, Clause, Literal, SatisfiesAll, holds, satisfies}
 use Rattle.wf_drat.specs.Codes.{code_of, literal_of}
 use Rattle.wf_rup.specs.Kept.{IsKept, IsStored, KnowsStill, StoresStill}
 use Rattle.wf_rup.specs.Propagation.{with_literal}
@@ -87,7 +88,43 @@ model-before a old new still model = record {
   unrefuted = elim (cases_Bool old.is_refuted) [ inl was ↦ absurd (false≢true (sym model.unrefuted ∙ still.refuted was)) | inr never ↦ never ];
 }
 
--- each model of what is known after a clause was added is one of what was known before, and satisfies the clause
-pub models-added : (clause : Clause) (old new : Known) → IsKept clause new → KnowsStill old new → (a : Assignment) → IsModelOf a new
-    → IsModelOf a old × (satisfies a clause ≡ true)
-models-added clause old new kept still a model = (model-before a old new still model, satisfied-kept a clause new model kept)
+-- ---- what stays known
+
+front-same : {X : Type 0} (old mid new : List X) → take (length old) mid ≡ old → take (length mid) new ≡ mid → take (length old) new ≡ old
+front-same [] mid new first second = refl
+front-same (x ∷ xs) [] new first second = absurd (let bad : ⊥ = cc in bad)
+front-same (x ∷ xs) (y ∷ ys) [] first second = absurd (let bad : ⊥ = cc in bad)
+front-same {X} (x ∷ xs) (y ∷ ys) (z ∷ zs) first second =
+    let here : z ≡ x = cc in
+    let one : take (length xs) ys ≡ xs = cc in
+    let two : take (length ys) zs ≡ ys = cc in
+    ap (λ w. w ∷ take (length xs) zs) here ∙ ap (λ ws. x ∷ ws) (front-same xs ys zs one two)
+
+contains-front : {X : Type 0} (old new : List X) (x : X) → take (length old) new ≡ old → Contains old x → Contains new x
+contains-front old new x front (k, within, is) =
+    let long : length (take (length old) new) ≡ length old = ap length front in
+    let inside : k < length new = omega (arith, within, long, length-take (length old) new) in
+    (k, inside, sym (get_or-take (length old) new k x within) ∙ ap (λ xs. get_or xs k x) front ∙ is)
+
+pub still-same : (known : Known) → KnowsStill known known
+still-same known = record { variables = refl; literals = take-length known.literals; clauses = take-length known.clauses; refuted = λ was. was }
+
+pub still-both : (old mid new : Known) → KnowsStill old mid → KnowsStill mid new → KnowsStill old new
+still-both old mid new first second = record {
+  variables = second.variables ∙ first.variables;
+  literals = front-same old.literals mid.literals new.literals first.literals second.literals;
+  clauses = front-same old.clauses mid.clauses new.clauses first.clauses second.clauses;
+  refuted = λ was. second.refuted (first.refuted was);
+}
+
+-- what is kept stays so where nothing is lost
+pub kept-on : (clause : Clause) (old new : Known) → KnowsStill old new → IsKept clause old → IsKept clause new
+kept-on clause old new still (inl refuted) = inl (still.refuted refuted)
+kept-on clause old new still (inr (inl there)) = inr (inl (contains-front old.clauses new.clauses clause still.clauses there))
+kept-on clause old new still (inr (inr (l, inside, there))) = inr (inr (l, inside, contains-front old.literals new.literals l still.literals there))
+
+-- where nothing is lost each model is one of what was known, and where clauses are kept it satisfies them
+pub models-kept : (clauses : List Clause) (old new : Known) → KnowsStill old new → All (λ clause. IsKept clause new) clauses → (a : Assignment) → IsModelOf a new
+    → IsModelOf a old × SatisfiesAll a clauses
+models-kept clauses old new still kept a model =
+    (model-before a old new still model, All-weaker (λ c. IsKept c new) (λ c. satisfies a c ≡ true) (λ c here. satisfied-kept a c new model here) clauses kept)

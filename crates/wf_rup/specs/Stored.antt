@@ -1,5 +1,5 @@
 -- What clauses see of the stored clauses and their parts, with literals by their codes.
-use Rattle.std.specs.Prelude.{◌≡◌, ℕ, ◌+◌, ◌<◌, ◌≤◌, ◌==◌, Bool, true, false, List, [], ◌∷◌, All, get_or, length, map, take}
+use Rattle.std.specs.Prelude.{◌≡◌, ℕ, ◌+◌, ◌<◌, ◌≤◌, ◌==◌, Bool, true, false, List, [], ◌∷◌, All, Contains, get_or, length, map, take}
 use Rattle.std.specs.List.{AllPairs, list_any, slice_range}
 use Rattle.wf_clauses.specs.Formula.{Assignment}
 use Rattle.wf_drat.specs.Codes.{hold_codes, holds_code, is_model_of_codes, satisfies_codes}
@@ -69,13 +69,27 @@ clause_at arena span = slice_range arena span.start span.«end»
 abbrev pub clauses_in : List ℕ → List Span → List (List ℕ)
 clauses_in arena spans = map (clause_at arena) spans
 
--- the span lies within so many words, behind the two for what is watched
+-- the word with which a clause begins: no literal's number
+abbrev pub head_word : ℕ
+head_word = 4294967295
+
+-- none of these words is it
+abbrev pub HasNoHead : List ℕ → Type 0
+HasNoHead words = (place : ℕ) → get_or words place 0 ≡ head_word → ⊥
+
+-- where the literals lie of a clause that begins here: behind four words, of which the second says where they end
+abbrev pub span_at : List ℕ → ℕ → Span
+span_at arena place = record { start = place + 4; «end» = get_or arena (place + 1) 0 }
+
+-- the span lies within so many words, behind four others
 pub record IsWithin (size : ℕ) (span : Span) : Type 0 where
-  pub headed : 2 ≤ span.start
+  pub headed : 4 ≤ span.start
   pub ordered : span.start ≤ span.«end»
   pub bounded : span.«end» ≤ size
 
--- the spans lie within the list, and each before the two words of the next ones
+-- the spans lie within the list, and each before the four words of the next ones; a clause begins where the list says so
 pub record AreLaid (arena : List ℕ) (spans : List Span) : Type 0 where
   pub within : All (IsWithin (length arena)) spans
-  pub apart : AllPairs (λ s t. s.«end» + 2 ≤ t.start) spans
+  pub apart : AllPairs (λ s t. s.«end» + 4 ≤ t.start) spans
+  pub marked : (place : ℕ) → get_or arena place 0 ≡ head_word → Contains spans (span_at arena place)
+  pub few : length arena < head_word

@@ -1,6 +1,6 @@
 //! The clauses that are kept, each found by its literals.
 
-ghost use Rattle.std.specs.Prelude.{◌≡◌, ◌<◌, ◌↔◌, ◌∷◌, ◌++◌, ℕ, [], false, All, get_or, length, is_ok, IfOk, IfSome, IsTrue, None, OnErr, if◌then◌else◌};
+ghost use Rattle.std.specs.Prelude.{◌≡◌, ◌<◌, ◌↔◌, ◌∷◌, ◌++◌, ℕ, [], false, All, Contains, get_or, length, is_ok, IfOk, IfSome, IsTrue, None, OnErr, if◌then◌else◌};
 ghost use Rattle.wf_rup.specs.Index.{IsAlikeAt, IsFoundAt, IsOther, IsTaken};
 
 use crate::alike::are_alike;
@@ -78,13 +78,34 @@ impl Catalogue {
         self.clauses.watched(number)
     }
 
-    /// The clause watches these two literals from now on.
+    /// Where a clause begins.
     #[inline]
-    pub(crate) fn watch(&mut self, number: usize, first: Code, second: Code)
-        requires { number < length self.old }
+    pub(crate) fn place(&self, number: usize) -> u32
+        requires { number < length self.now }
+    {
+        self.clauses.place(number)
+    }
+
+    /// The two literals that the clause watches that begins at this place, if one does.
+    #[inline]
+    pub(crate) fn watched_at(&self, place: u32) -> Option<(Code, Code)> {
+        self.clauses.watched_at(place)
+    }
+
+    /// The literals of the clause that begins at this place; none where none does.
+    #[inline]
+    pub(crate) fn literals_at(&self, place: u32) -> &[Code]
+        ensures { 0 < length result.now → Contains self.now result.now }
+    {
+        self.clauses.literals_at(place)
+    }
+
+    /// The clause that begins at this place watches these two literals from now on.
+    #[inline]
+    pub(crate) fn watch_at(&mut self, place: u32, first: Code, second: Code)
         ensures { self.new ≡ self.old }
     {
-        self.clauses.watch(number, first, second);
+        self.clauses.watch_at(place, first, second);
     }
 
     /// Stores a clause that watches these two literals. Refused for want of memory alone, which there is for fewer than

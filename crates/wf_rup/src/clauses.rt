@@ -1,20 +1,31 @@
 //! The clauses that are kept.
 
-ghost use Rattle.std.specs.Prelude.{◌≡◌, ◌<◌, ◌∷◌, ◌++◌, [], get_or, length, set, is_ok, if◌then◌else◌};
+ghost use Rattle.std.specs.Prelude.{◌≡◌, ◌<◌, ◌∷◌, ◌++◌, [], false, Contains, get_or, length, set, is_ok, if◌then◌else◌};
+ghost use Rattle.wf_rup.specs.Stored.{HasNoHead};
 
 use std::alloc::{AllocError, Global};
 use std::marker::Model;
 use wf_drat::Code;
 
-/// Where a clause's literals lie. The two that are watched stand right before them. Of a clause that is no longer kept
-/// there are none.
+/// Where this word stands a clause begins: no literal has so large a number.
+const HEAD: Code = u32::MAX;
+
+/// How many words stand before the literals of a clause: that it begins here, where its literals end, and the two that
+/// are watched.
+const HEAD_WORDS: usize = 4;
+
+/// The most words that there are.
+const MOST_WORDS: usize = u32::MAX as usize - 1;
+
+/// Where a clause's literals lie, right behind its other words. Of a clause that is no longer kept there are none.
 #[derive(Clone, Copy, Drop)]
 struct Span {
     start: u32,
     end: u32,
 }
 
-/// The clauses that were stored, one after the other in one list: the two watched literals, and then all.
+/// The clauses that were stored, one after the other in one list. Where a clause begins, it can be read from that list
+/// alone.
 ///
 /// A clause of a contract sees them as a formula. In the place of one that is no longer kept it sees no literal.
 #[derive(Drop)]
@@ -72,15 +83,48 @@ impl Clauses {
         (self.arena[start - 2], self.arena[start - 1])
     }
 
-    /// The clause watches these two literals from now on.
+    /// Where the words of a clause begin.
     #[inline]
-    pub(crate) fn watch(&mut self, number: usize, first: Code, second: Code)
-        requires { number < length self.old }
+    pub(crate) fn place(&self, number: usize) -> u32
+        requires { number < length self.now }
+    {
+        self.spans[number].start - HEAD_WORDS as u32
+    }
+
+    /// The two literals that the clause watches that begins at this place, if one does.
+    #[inline]
+    pub(crate) fn watched_at(&self, place: u32) -> Option<(Code, Code)> {
+        let at = place as usize;
+        if at >= self.arena.len() || self.arena[at] != HEAD {
+            return None;
+        }
+        Some((self.arena[at + 2], self.arena[at + 3]))
+    }
+
+    /// The literals of the clause that begins at this place; none where none does.
+    #[inline]
+    pub(crate) fn literals_at(&self, place: u32) -> &[Code]
+        ensures { 0 < length result.now → Contains self.now result.now }
+    {
+        let at = place as usize;
+        if at >= self.arena.len() || self.arena[at] != HEAD {
+            return &[];
+        }
+        let end = self.arena[at + 1] as usize;
+        &self.arena[at + HEAD_WORDS..end]
+    }
+
+    /// The clause that begins at this place watches these two literals from now on.
+    #[inline]
+    pub(crate) fn watch_at(&mut self, place: u32, first: Code, second: Code)
         ensures { self.new ≡ self.old }
     {
-        let start = self.spans[number].start as usize;
-        self.arena[start - 2] = first;
-        self.arena[start - 1] = second;
+        let at = place as usize;
+        if at >= self.arena.len() || self.arena[at] != HEAD || first == HEAD || second == HEAD {
+            return;
+        }
+        self.arena[at + 2] = first;
+        self.arena[at + 3] = second;
     }
 
     /// The clause is no longer kept.
@@ -89,11 +133,12 @@ impl Clauses {
         ensures { self.new ≡ set self.old number [] }
     {
         let start = self.spans[number].start;
+        self.arena[start as usize - 3] = start;
         self.spans[number] = Span { start, end: start };
     }
 
     /// Stores a clause that watches these two literals. Refused for want of memory alone, which there is for fewer than
-    /// 2^32 literals.
+    /// 2^32 - 1 words.
     pub(crate) fn push(
         &mut self,
         literals: &[Code],
@@ -103,15 +148,34 @@ impl Clauses {
         ensures { self.new ≡ (if is_ok result then self.old ++ literals.now ∷ [] else self.old) }
     {
         let head = self.arena.len();
-        if head > u32::MAX as usize - 2 || literals.len() > u32::MAX as usize - 2 - head {
+        if head > MOST_WORDS - HEAD_WORDS || literals.len() > MOST_WORDS - HEAD_WORDS - head {
             return Err(AllocError);
         }
-        self.arena.extend_from_slice(&[first, second])?;
+        if first == HEAD || second == HEAD || has_head(literals) {
+            return Err(AllocError);
+        }
+        let start = head + HEAD_WORDS;
+        let end = start + literals.len();
+        self.arena
+            .extend_from_slice(&[0, end as u32, first, second])?;
         self.arena.extend_from_slice(literals)?;
         self.spans.push(Span {
-            start: (head + 2) as u32,
-            end: (head + 2 + literals.len()) as u32,
+            start: start as u32,
+            end: end as u32,
         })?;
+        self.arena[head] = HEAD;
         Ok(())
     }
+}
+
+/// Whether one of these words is that with which clauses begin.
+fn has_head(words: &[Code]) -> bool
+    ensures { result ≡ false → HasNoHead words.now }
+{
+    for word in words {
+        if *word == HEAD {
+            return true;
+        }
+    }
+    false
 }

@@ -241,22 +241,19 @@ fn store(
     ensures exact { IfOk result (λ done. clauses.new ≡ clauses.old ++ clause.now ∷ []) }
 {
     let number = clauses.len();
-    if number >= u32::MAX as usize {
-        return Err(AllocError);
-    }
     clauses.push(alloc, clause, first, second)?;
-    let clause = number as u32;
+    let place = clauses.place(number);
     watches.push(
         first,
         Watch {
-            clause,
+            place,
             blocker: second,
         },
     )?;
     watches.push(
         second,
         Watch {
-            clause,
+            place,
             blocker: first,
         },
     )

@@ -64,21 +64,21 @@ fn visit_watchers(
     let mut kept = 0;
     for at in 0..list.len() {
         let watch = list[at];
-        let clause = watch.clause;
+        let place = watch.place;
         if trail.is_true(watch.blocker) {
             list[kept] = watch;
             kept += 1;
             continue;
         }
-        match visit(clause, falsified, clauses, trail, watches)? {
+        match visit(place, falsified, clauses, trail, watches)? {
             Outcome::Gone => {}
             Outcome::Stays(blocker) => {
-                list[kept] = Watch { clause, blocker };
+                list[kept] = Watch { place, blocker };
                 kept += 1;
             }
             Outcome::Forces(blocker) => {
                 trail.put(blocker)?;
-                list[kept] = Watch { clause, blocker };
+                list[kept] = Watch { place, blocker };
                 kept += 1;
             }
             Outcome::Fails => {
@@ -105,10 +105,10 @@ fn close_gap(list: &mut Vec<Watch>, to: usize, from: usize)
     }
 }
 
-/// Looks at a clause that watches a literal which is false now.
+/// Looks at the clause that begins at this place, if it watches a literal which is false now.
 #[inline]
 fn visit(
-    clause: u32,
+    place: u32,
     falsified: Code,
     clauses: &mut Catalogue,
     trail: &Trail,
@@ -117,11 +117,9 @@ fn visit(
     ensures clauses { clauses.new ≡ clauses.old }
     ensures sound { IfOk result (IsSound (kept_of clauses.old) trail.now) }
 {
-    let number = clause as usize;
-    if number >= clauses.len() {
+    let Some((first, second)) = clauses.watched_at(place) else {
         return Ok(Outcome::Gone);
-    }
-    let (first, second) = clauses.watched(number);
+    };
     let other = if first == falsified {
         second
     } else if second == falsified {
@@ -132,17 +130,17 @@ fn visit(
     if trail.is_true(other) {
         return Ok(Outcome::Stays(other));
     }
-    let literals = clauses.literals(number);
+    let literals = clauses.literals_at(place);
     if literals.is_empty() {
         return Ok(Outcome::Gone);
     }
     match other_open_literal(literals, trail, other) {
         Some(literal) => {
-            clauses.watch(number, other, literal);
+            clauses.watch_at(place, other, literal);
             watches.push(
                 literal,
                 Watch {
-                    clause,
+                    place,
                     blocker: other,
                 },
             )?;

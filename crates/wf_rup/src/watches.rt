@@ -7,11 +7,11 @@ use std::alloc::{AllocError, Global};
 use std::mem;
 use wf_drat::Code;
 
-/// A clause that watches a literal, and another literal of the clause. Where that one is true the clause need not be
+/// Where a clause begins that watches a literal, and another literal of the clause. Where that one is true the clause need not be
 /// looked at.
 #[derive(Clone, Copy, Drop)]
 pub(crate) struct Watch {
-    pub(crate) clause: u32,
+    pub(crate) place: u32,
     pub(crate) blocker: Code,
 }
 

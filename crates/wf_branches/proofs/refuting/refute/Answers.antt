@@ -2,7 +2,7 @@ use Rattle.std.proofs.Common.{ap, map, subst, ◌∙◌}
 use Rattle.wf_model.specs.Problem.{problem_of}
 use Rattle.wf_set.specs.Sets.{values_in}
 use Rattle.wf_formula.specs.Branches.{branch_question, formula_in}
-use Rattle.wf_cnf.specs.Posing.{HasModelsOf}
+use Rattle.wf_cnf.specs.Posing.{IsPosed}
 use Rattle.wf_engine.proofs.Refuting.{refused, unposed, untold}
 use Rattle.wf_branches.specs.Refuting.{IsAcceptedBranch, accepted_text}
 use Rattle.wf_branches.proofs.Truth.{told}
@@ -21,7 +21,7 @@ returns-in_err-read_proof_from g c =
     let r = c.args.protocol.now.rounds in
     let i = c.args.branch.now.number in
     let known = c.in_ok-checker.checker in
-    let posed = subst (λ box. HasModelsOf (formula_in (problem_of t r) box) known) (ap (map values_in) c.deref.ensures.value ∙ c.requires.branch.sets) c.in_ok-checker.ensures in
+    let posed = subst (λ box. IsPosed (formula_in (problem_of t r) box) known) (ap (map values_in) c.deref.ensures.value ∙ c.requires.branch.sets) c.in_ok-checker.ensures in
     refused (branch_question t r i) (IsAcceptedBranch i t r) known posed c.args.source.now c.read_proof_from.new.source
     c.in_err-read_proof_from.field-0.0 c.from_residual-in_err-read_proof_from.result c.in_err-read_proof_from.ensures c.from_residual-in_err-read_proof_from.ensures
 
@@ -31,7 +31,7 @@ returns-in_err-text g c =
     let r = c.args.protocol.now.rounds in
     let i = c.args.branch.now.number in
     let known = c.in_ok-checker.checker in
-    let posed = subst (λ box. HasModelsOf (formula_in (problem_of t r) box) known) (ap (map values_in) c.deref.ensures.value ∙ c.requires.branch.sets) c.in_ok-checker.ensures in
+    let posed = subst (λ box. IsPosed (formula_in (problem_of t r) box) known) (ap (map values_in) c.deref.ensures.value ∙ c.requires.branch.sets) c.in_ok-checker.ensures in
     untold (branch_question t r i) (IsAcceptedBranch i t r) known posed c.args.source.now c.read_proof_from.new.source
     c.from_residual-in_err-text.result c.in_ok-read_proof_from.ensures c.from_residual-in_err-text.ensures
 
@@ -41,7 +41,7 @@ returns g c =
     let r = c.args.protocol.now.rounds in
     let branch = c.args.branch.now in
     let known = c.in_ok-checker.checker in
-    let posed = subst (λ box. HasModelsOf (formula_in (problem_of t r) box) known) (ap (map values_in) c.deref.ensures.value ∙ c.requires.branch.sets) c.in_ok-checker.ensures in
+    let posed = subst (λ box. IsPosed (formula_in (problem_of t r) box) known) (ap (map values_in) c.deref.ensures.value ∙ c.requires.branch.sets) c.in_ok-checker.ensures in
     told t r branch.number known c.requires.protocol.task posed c.args.source.now c.read_proof_from.new.source branch.count c.into_bytes.result.items c.requires.branch.count
     (ap (λ v. v.items) c.into_bytes.ensures.value ∙ c.in_ok-text.ensures
     ∙ ap (λ n. accepted_text n c.place-place.result.count c.rounds.result) c.place-place.ensures.number

@@ -5,7 +5,7 @@ use Rattle.wf_set.specs.Sets.{values_in}
 use Rattle.wf_formula.proofs.Members.{in_below, in_flat}
 use Rattle.wf_formula.specs.Branches.{ruled_out}
 use Rattle.wf_cnf.specs.Exclusions.{exclusions_at, exclusions_on}
-use Rattle.wf_cnf.proofs.PosingLemmas.{keeps_some, knows_more, knows_same, one_part_more}
+use Rattle.wf_cnf.proofs.PosingLemmas.{keeps_some, kept_more, kept_same, one_part_more}
 use Rattle.wf_cnf.proofs.exclusions.add_exclusions.Goals as goal
 
 pub loop-point-preserved : goal.loop-point-preserved
@@ -19,7 +19,7 @@ loop-point-preserved c =
     record {
       sound = keeps_some (exclusions_on values box) (f i) _ _ _ _ (λ clause among. in_flat f (below (length box)) i clause (in_below (length box) i low) among)
           here c.loop-point.invariant.sound c.add_missing.ensures.sound;
-      whole = knows_more (flat_map f (below i)) (flat_map f (below (i + 1))) (f i) _ _ _ _ (one_part_more f i) here
+      whole = kept_more (flat_map f (below i)) (flat_map f (below (i + 1))) (f i) _ _ _ _ (one_part_more f i) here
           c.loop-point.invariant.whole c.in_ok-add_missing.ensures.whole;
     }
 
@@ -38,4 +38,4 @@ returns-clause-whole c =
     let box = map values_in c.args.sets.now in
     let f = exclusions_at (values_in c.args.variables.now.values) box in
     let all : c.loop-point.point ≡ length box = omega (arith, c.loop-point-test.false, c.loop-point.auto.point-end, length-map c.args.sets.now values_in) in
-    knows_same _ _ _ _ _ (ap (λ n. flat_map f (below n)) all) refl c.loop-point.invariant.whole
+    kept_same _ _ _ _ _ (ap (λ n. flat_map f (below n)) all) refl c.loop-point.invariant.whole

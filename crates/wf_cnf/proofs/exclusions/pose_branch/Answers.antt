@@ -1,11 +1,11 @@
-use Rattle.std.proofs.Common.{◌≤◌, ◌++◌, map, ap, ◌∙◌, sym, subst}
+use Rattle.std.proofs.Common.{◌≤◌, ◌++◌, map, ap, ◌∙◌, refl, sym, subst}
 use Rattle.std.proofs.lemmas.List.{length-map}
 use Rattle.wf_model.specs.Limits.{most_points}
 use Rattle.wf_model.specs.Problem.{problem_of}
 use Rattle.wf_set.specs.Sets.{values_in}
 use Rattle.wf_formula.specs.Branches.{formula_in}
 use Rattle.wf_formula.specs.Encoding.{question}
-use Rattle.wf_cnf.proofs.ExclusionLemmas.{complete_also, follows_also}
+use Rattle.wf_cnf.proofs.ExclusionLemmas.{posed_also}
 use Rattle.wf_cnf.proofs.Questions.{exclusions_same}
 use Rattle.wf_cnf.proofs.exclusions.pose_branch.Goals as goal
 
@@ -23,9 +23,5 @@ returns c =
     let f = question t b.rounds in
     let more = exclusions_same t b.rounds b all box c.requires.protocol all_is (length-map c.args.sets.now values_in ∙ c.requires.sets) in
     let whole = ap (λ cs. f.clauses ++ cs) more in
-    let posed = c.in_ok-checker.ensures in
     let told = c.in_ok-add_exclusions.ensures in
-    record {
-      follows = follows_also f (formula_in (problem_of t b.rounds) box) _ _ _ whole posed.follows told.sound;
-      complete = complete_also f (formula_in (problem_of t b.rounds) box) _ _ _ whole posed.complete told.whole;
-    }
+    posed_also f (formula_in (problem_of t b.rounds) box) _ _ _ refl whole c.in_ok-checker.ensures told.sound told.whole

@@ -1,12 +1,12 @@
-use Rattle.std.proofs.Common.{◌≤◌, ◌++◌, ◌∙◌, map, length, ap, sym, subst}
+use Rattle.std.proofs.Common.{◌*◌, ◌≤◌, ◌++◌, ◌∙◌, map, length, ap, refl, sym, subst}
 use Rattle.wf_model.specs.Limits.{most_points}
 use Rattle.wf_model.specs.Lists.{below}
 use Rattle.wf_set.specs.Sets.{values_in}
 use Rattle.wf_formula.specs.Encoding.{at_least_one, question}
 use Rattle.wf_cnf.specs.Patterns.{patterns_seen}
 use Rattle.wf_cnf.specs.Clauses.{clauses_on}
-use Rattle.wf_cnf.specs.Posing.{HasModelsOf}
-use Rattle.wf_cnf.proofs.PosingLemmas.{follows, knows_whole}
+use Rattle.wf_cnf.specs.Posing.{IsPosed}
+use Rattle.wf_cnf.proofs.PosingLemmas.{follows, kept_more, posed_of}
 use Rattle.wf_cnf.proofs.Questions.{clauses_are_question, covered}
 use Rattle.wf_cnf.proofs.posing.pose.Goals as goal
 
@@ -26,7 +26,11 @@ returns c =
     ∙ clauses_are_question t b.rounds b all (map patterns_seen c.in_ok-patterns.patterns.items) c.requires all_is c.in_ok-patterns.ensures in
     let begun = c.in_ok-add_points.ensures in
     let ended = c.in_ok-add_executions.ensures in
-    subst (HasModelsOf (question t b.rounds)) (sym c.posing-2.view_is) (record {
-      follows = follows (question t b.rounds) _ _ _ _ _ whole c.in_ok-posing.ensures begun.sound ended.sound;
-      complete = knows_whole (question t b.rounds) _ _ _ _ _ whole begun.whole ended.whole;
-    })
+    let f = question t b.rounds in
+    let variables =
+    c.in_ok-posing.ensures.variables
+    ∙ c.count.ensures
+    ∙ (λ i. (c.points-points.ensures.points ∙ ap length c.requires.points_are) i * length (all_is i)) in
+    subst (IsPosed f) (sym c.posing-2.view_is)
+    (posed_of f _ _ (follows f _ _ _ _ _ whole c.in_ok-posing.ensures.nothing begun.sound ended.sound) variables
+    (kept_more _ f.clauses _ _ _ _ _ (sym whole) refl begun.whole ended.whole))

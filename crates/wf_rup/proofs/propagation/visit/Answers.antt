@@ -6,14 +6,14 @@ use Rattle.wf_rup.proofs.propagation.visit.Goals as goal
 
 pub returns-then-is_false-clause-sound : goal.returns-then-is_false-clause-sound
 returns-then-is_false-clause-sound c = λ a model all.
-    let within : c.args.clause < length c.args.clauses.now = omega (arith, c.if-number-len.false, c.len.ensures) in
-    let long : 0 < length c.literals-literals.result.now = grind (arith, c.is_empty.ensures, c.if-is_empty.false) in
-    let satisfied : satisfies_codes a c.literals-literals.result.now ≡ true =
-    satisfies_codes-kept a c.args.clauses.now c.args.clause _ model within c.literals-literals.ensures long in
+    let long : 0 < length c.literals_at-literals.result.now = grind (arith, c.is_empty.ensures, c.if-is_empty.false) in
+    let (n, within, is) = c.literals_at-literals.ensures long in
+    let satisfied : satisfies_codes a c.literals_at-literals.result.now ≡ true =
+    satisfies_codes-kept a c.args.clauses.now n _ model within (sym is) long in
     false≢true (sym (c.is_false.ensures.sound c.if-is_false.true a all) ∙ c.in-None.ensures.none a all satisfied)
 
 pub returns-else-is_false-clause-sound : goal.returns-else-is_false-clause-sound
 returns-else-is_false-clause-sound c = λ a model all.
-    let within : c.args.clause < length c.args.clauses.now = omega (arith, c.if-number-len.false, c.len.ensures) in
-    let long : 0 < length c.literals-literals.result.now = grind (arith, c.is_empty.ensures, c.if-is_empty.false) in
-    c.in-None.ensures.none a all (satisfies_codes-kept a c.args.clauses.now c.args.clause _ model within c.literals-literals.ensures long)
+    let long : 0 < length c.literals_at-literals.result.now = grind (arith, c.is_empty.ensures, c.if-is_empty.false) in
+    let (n, within, is) = c.literals_at-literals.ensures long in
+    c.in-None.ensures.none a all (satisfies_codes-kept a c.args.clauses.now n _ model within (sym is) long)

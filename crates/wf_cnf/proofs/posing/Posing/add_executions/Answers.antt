@@ -4,7 +4,7 @@ use Rattle.wf_set.specs.Sets.{values_in}
 use Rattle.wf_formula.proofs.Members.{in_below, in_flat}
 use Rattle.wf_cnf.specs.Patterns.{patterns_seen}
 use Rattle.wf_cnf.specs.Clauses.{clauses_at, clauses_on, denied_at, patterns_in}
-use Rattle.wf_cnf.proofs.PosingLemmas.{keeps_some, knows_more, knows_same, one_part_more}
+use Rattle.wf_cnf.proofs.PosingLemmas.{keeps_some, kept_more, kept_same, one_part_more}
 use Rattle.wf_cnf.proofs.TextLemmas.{pattern_there}
 use Rattle.wf_cnf.proofs.posing.Posing.add_executions.Goals as goal
 
@@ -24,7 +24,7 @@ loop-execution-preserved c =
       sound = keeps_some (clauses_on values patterns b) (f e) _ _ _ _
           (λ clause among. in_flat f (below (length b.scopes)) e clause (in_below (length b.scopes) e low) among)
           here c.loop-execution.invariant.sound c.add_patterns.ensures.sound;
-      whole = knows_more (flat_map f (below e)) (flat_map f (below (e + 1))) (f e) _ _ _ _ (one_part_more f e) here
+      whole = kept_more (flat_map f (below e)) (flat_map f (below (e + 1))) (f e) _ _ _ _ (one_part_more f e) here
           c.loop-execution.invariant.whole c.in_ok-add_patterns.ensures.whole;
     }
 
@@ -48,4 +48,4 @@ returns-clause-whole c =
     let b = c.args.protocol.now in
     let f = clauses_at (values_in c.args.variables.now.values) (map patterns_seen c.args.patterns.now) b in
     let all : c.loop-execution.execution ≡ length b.scopes = omega (arith, c.loop-execution-test.false, c.loop-execution.auto.execution-end, c.executions-execution-end.ensures.executions) in
-    knows_same _ _ _ _ _ (ap (λ n. flat_map f (below n)) all) refl c.loop-execution.invariant.whole
+    kept_same _ _ _ _ _ (ap (λ n. flat_map f (below n)) all) refl c.loop-execution.invariant.whole

@@ -5,7 +5,7 @@ use Rattle.wf_cnf.specs.Patterns.{pattern_seen}
 use Rattle.wf_cnf.specs.Clauses.{HasPoints, denied_at}
 use Rattle.wf_formula.proofs.Members.{in_from_contains, in_map}
 use Rattle.wf_cnf.specs.Posing.{KeepsModelsOfAll}
-use Rattle.wf_cnf.proofs.PosingLemmas.{keeps_one, knows_one, knows_same, one_more}
+use Rattle.wf_cnf.proofs.PosingLemmas.{keeps_one, kept_one, kept_same, one_more}
 use Rattle.wf_cnf.proofs.posing.Posing.add_others.Goals as goal
 
 pub put_denied-requires-clause-places : goal.put_denied-requires-clause-places
@@ -27,7 +27,7 @@ loop-pattern-preserved c =
       sound = keeps_one (map f (map pattern_seen patterns)) (f (pattern_seen x)) _ _ _ _
           (in_map f (map pattern_seen patterns) (pattern_seen x) (in_map pattern_seen patterns x (in_from_contains patterns x (i, c.loop-pattern-test.true, sym c.pattern-item.is))))
           added c.loop-pattern.invariant.sound c.add.ensures.sound;
-      whole = knows_one (map f (map pattern_seen (take i patterns))) (map f (map pattern_seen (take (i + 1) patterns))) (f (pattern_seen x)) _ _ _ _
+      whole = kept_one (map f (map pattern_seen (take i patterns))) (map f (map pattern_seen (take (i + 1) patterns))) (f (pattern_seen x)) _ _ _ _
           (one_more f pattern_seen patterns i x c.loop-pattern-test.true c.pattern-item.is) added
           c.loop-pattern.invariant.whole c.in_ok-add.ensures.kept c.in_ok-add.ensures.still;
     }
@@ -45,4 +45,4 @@ returns-in_err-add-clause-sound c =
 pub returns-clause-whole : goal.returns-clause-whole
 returns-clause-whole c =
     let f = denied_at (values_in c.args.variables.now.values) c.args.points.now in
-    knows_same _ _ _ _ _ (ap (λ ps. map f (map pattern_seen ps)) (take_all _ _ c.loop-pattern-test.false)) c.self.view_is c.loop-pattern.invariant.whole
+    kept_same _ _ _ _ _ (ap (λ ps. map f (map pattern_seen ps)) (take_all _ _ c.loop-pattern-test.false)) c.self.view_is c.loop-pattern.invariant.whole

@@ -6,7 +6,7 @@ use Rattle.wf_formula.specs.Encoding.{at_least_one}
 use Rattle.wf_formula.proofs.Members.{in_below, in_map}
 use Rattle.wf_model.proofs.Basics.{below_next}
 use Rattle.wf_cnf.specs.Posing.{KeepsModelsOfAll}
-use Rattle.wf_cnf.proofs.PosingLemmas.{keeps_one, knows_one, knows_same}
+use Rattle.wf_cnf.proofs.PosingLemmas.{keeps_one, kept_one, kept_same}
 use Rattle.wf_cnf.proofs.posing.Posing.add_points.Goals as goal
 
 pub loop-point-preserved : goal.loop-point-preserved
@@ -17,7 +17,7 @@ loop-point-preserved c =
     let added = c.deref.ensures.value ∙ c.in_ok-put_point.ensures in
     record {
       sound = keeps_one (map f (below n)) (f i) _ _ _ _ (in_map f (below n) i (in_below n i c.loop-point-test.true)) added c.loop-point.invariant.sound c.add.ensures.sound;
-      whole = knows_one (map f (below i)) (map f (below (i + 1))) (f i) _ _ _ _ (ap (map f) (below_next i) ∙ map-append f (below i) (i ∷ [])) added
+      whole = kept_one (map f (below i)) (map f (below (i + 1))) (f i) _ _ _ _ (ap (map f) (below_next i) ∙ map-append f (below i) (i ∷ [])) added
           c.loop-point.invariant.whole c.in_ok-add.ensures.kept c.in_ok-add.ensures.still;
     }
 
@@ -33,4 +33,4 @@ pub returns-clause-whole : goal.returns-clause-whole
 returns-clause-whole c =
     let f = at_least_one (values_in c.args.variables.now.values) in
     let all : c.loop-point.point ≡ c.args.points = omega (arith, c.loop-point-test.false, c.loop-point.auto.point-end) in
-    knows_same _ _ _ _ _ (ap (λ n. map f (below n)) all) c.self.view_is c.loop-point.invariant.whole
+    kept_same _ _ _ _ _ (ap (λ n. map f (below n)) all) c.self.view_is c.loop-point.invariant.whole
