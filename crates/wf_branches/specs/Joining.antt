@@ -1,9 +1,9 @@
 -- A run over two sources: a task, and the parts of the branches of its question one behind another, which are put together to the
 -- report of the whole question.
-use Rattle.std.specs.Prelude.{◌≡◌, ◌-◌, ◌+◌, ◌^◌, ℕ, zero, suc, Bool, List, [], ◌∷◌, ◌++◌, length, take, drop, codes, None, Result, Ok, Err, if◌then◌else◌}
+use Rattle.std.specs.Prelude.{◌≡◌, ◌≢◌, ◌<◌, ◌≤◌, ◌-◌, ◌+◌, ◌^◌, ℕ, zero, suc, Bool, List, [], ◌∷◌, ◌++◌, length, take, drop, codes, None, Result, Ok, Err, if◌then◌else◌}
 use Rattle.wf_model.specs.Task.{Task}
-use Rattle.wf_model.specs.Problem.{Problem, problem_of}
-use Rattle.wf_model.specs.Outline.{filled, filled_up_to, outline}
+use Rattle.wf_model.specs.Problem.{problem_of}
+use Rattle.wf_model.specs.Outline.{Item, boxes_left_out, filled, filled_up_to, outline}
 use Rattle.wf_model.specs.Refutation.{Line}
 use Rattle.wf_model.specs.Report.{Report, Body, a_map, none, least, line, report_about, same_text}
 use Rattle.wf_model.specs.Check.{report_fault}
@@ -12,7 +12,9 @@ use Rattle.wf_io.specs.Seen.{Reading, Writing}
 use Rattle.wf_io.specs.Texts.{ReadsText}
 use Rattle.wf_io.specs.declared.source.ReadFault.{ReadFault}
 use Rattle.wf_check.specs.Faults.{Fails}
-use Rattle.wf_report.specs.Reports.{AreNumbered}
+use Rattle.wf_search.specs.Cover.{each_seen}
+use Rattle.wf_report.specs.Reports.{AreNumbered, body_of}
+use Rattle.wf_report.specs.declared.report.Body as code
 use Rattle.wf_report.specs.declared.fault.CertFault.TheVariants as cert
 use Rattle.wf_engine.specs.Run.{Judged, Next, Ran}
 use Rattle.wf_engine.specs.Sources.{AsksBoth}
@@ -22,6 +24,8 @@ use Rattle.wf_engine.specs.declared.fault.PartFault.TheVariants as part
 use Rattle.wf_engine.specs.declared.fault.RunFault.{RunFault}
 use Rattle.wf_engine.specs.declared.fault.RunFault.TheVariants.{Cert, InPart, NoPart, NotInBranch, OtherPart, OutOfMemory, TooLong, TooManyParts}
 use Rattle.wf_branches.specs.Verifying.{ChecksIn, IsPartOf}
+use Rattle.wf_branches.specs.declared.joining.Gathered as found
+use Rattle.wf_branches.specs.declared.joining.Gathered.TheVariants as kept
 
 -- the parts of all branches have at most so many bytes together
 abbrev pub most_parts_bytes : ℕ
@@ -82,8 +86,10 @@ pub data Gathered : Type 0 where
 
 -- the parts of all n branches are taken, and nothing is left behind them
 abbrev pub EndsAll : ℕ → List (List Line) → List ℕ → Result Gathered RunFault → Type 0
-EndsAll n lists [] result = result ≡ Ok (without_map lists)
-EndsAll n lists (b ∷ bs) result = result ≡ Err (TooManyParts n)
+EndsAll n lists text (Ok gathered) = (text ≡ []) × (gathered ≡ without_map lists)
+EndsAll n lists text (Err (TooManyParts k)) = (text ≢ []) × (k ≡ n)
+EndsAll n lists text (Err OutOfMemory) = Unit {0}
+EndsAll n lists text (Err e) = ⊥
 
 -- a map ends the going through the branches; lines of a refutation are kept, and the next branch is to come
 abbrev pub GoesOn : (List (List Line) → Result Gathered RunFault → Type 0) → List (List Line) → Body → Result Gathered RunFault → Type 0
@@ -106,10 +112,10 @@ GathersAll t r text result = Gathers t r (length (branches t r)) 0 [] text resul
 
 -- what they say of the whole question: the lines with which the root is cut into branches, with those of the branches in their
 -- places
-abbrev pub joined_body : Problem → Gathered → Body
-joined_body p (without_map lists) = none (filled (outline p) lists)
-joined_body p (with_map m) = a_map m
-joined_body p (with_least m lists) = least m (filled_up_to (outline p) lists)
+abbrev pub joined_body : List Item → Gathered → Body
+joined_body cover (without_map lists) = none (filled cover lists)
+joined_body cover (with_map m) = a_map m
+joined_body cover (with_least m lists) = least m (filled_up_to cover lists)
 
 -- how many values and lines there are
 abbrev pub lines_in : Body → ℕ
@@ -130,7 +136,7 @@ AcceptsJoined t r body (Err e) = ⊥
 -- the parts of the text are put together to a report, and that is checked
 abbrev pub JoinsText : Task → ℕ → List ℕ → Result (Unit {0} × List ℕ) RunFault → Type 0
 JoinsText t r text result =
-    (gathered : Result Gathered RunFault) × GathersAll t r text gathered × Next (λ g. AcceptsJoined t r (joined_body (problem_of t r) g)) gathered result
+    (gathered : Result Gathered RunFault) × GathersAll t r text gathered × Next (λ g. AcceptsJoined t r (joined_body (outline (problem_of t r)) g)) gathered result
 
 -- a source's text as such parts
 abbrev pub ReadsParts : Task → ℕ → Reading → Reading → Result (Unit {0} × List ℕ) RunFault → Type 0
@@ -142,3 +148,26 @@ ReadsParts t r old new result =
 -- read.
 abbrev pub Joins : ℕ → Reading → Reading → Reading → Reading → Writing → Writing → Result (Unit {0}) RunFault → Type 0
 Joins r task task' parts parts' sink sink' result = Ran (AsksBoth ReadsParts r task task' parts parts') sink sink' result
+
+-- ---- of the code
+
+-- a body of the code, and what clauses see of it
+abbrev pub body_seen : Result code.Body RunFault → Result Body RunFault
+body_seen (Ok body) = Ok (body_of body)
+body_seen (Err e) = Err e
+
+-- what the parts come to in the code, and what clauses see of it
+abbrev pub gathered_of : found.Gathered → Gathered
+gathered_of (kept.WithoutMap lists) = without_map (each_seen lists.items)
+gathered_of (kept.WithMap values) = with_map values.items
+gathered_of (kept.WithLeast values lists) = with_least values.items (each_seen lists.items)
+
+abbrev pub gathered_seen : Result found.Gathered RunFault → Result Gathered RunFault
+gathered_seen (Ok gathered) = Ok (gathered_of gathered)
+gathered_seen (Err e) = Err e
+
+-- there is a list for each branch, or for each of the first ones
+abbrev pub HasListsFor : List Item → found.Gathered → Type 0
+HasListsFor cover (kept.WithoutMap lists) = length lists.items ≡ length (boxes_left_out cover)
+HasListsFor cover (kept.WithMap values) = Unit {0}
+HasListsFor cover (kept.WithLeast values lists) = (0 < length lists.items) × (length lists.items ≤ length (boxes_left_out cover))

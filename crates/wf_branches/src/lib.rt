@@ -17,6 +17,7 @@ mod branch;
 mod joining;
 mod laws;
 mod listing;
+mod parts;
 mod refuting;
 mod solving;
 mod verifying;
