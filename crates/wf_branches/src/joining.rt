@@ -1,9 +1,9 @@
 //! Putting the parts of all branches together to the report of the whole question.
 
-ghost use Rattle.std.specs.Prelude.{◌≡◌, ◌++◌, ◌∷◌, [], IfOk, OnOk};
+ghost use Rattle.std.specs.Prelude.{◌≡◌, ◌++◌, ◌∷◌, [], IfOk, Ok, OnOk};
 ghost use Rattle.wf_model.specs.Problem.{problem_of};
 ghost use Rattle.wf_io.specs.Ends.{CanRead};
-ghost use Rattle.wf_complex.specs.Protocol.{IsProtocol};
+ghost use Rattle.wf_complex.specs.Protocol.{Builds, IsProtocol};
 ghost use Rattle.wf_check.specs.Within.{IsCheckerOf};
 ghost use Rattle.wf_report.specs.Reports.{body_length, body_of};
 ghost use Rattle.wf_engine.specs.Run.{answered};
@@ -96,7 +96,7 @@ fn join_in<T: Threads + Sync, C: Read>(
     source: &mut Source<C>,
 ) -> Result<((), Vec<u8>), RunFault>
     requires source { CanRead source.old }
-    requires protocol { IsProtocol task.now protocol.now.rounds protocol.now }
+    requires protocol { Builds task.now protocol.now.rounds (Ok protocol.now) }
     ensures { ReadsParts task.now protocol.now.rounds source.old source.new (answered result) }
 {
     let text = read_all(alloc, source, MOST_PARTS_BYTES)?;
@@ -111,7 +111,7 @@ fn join_text<T: Threads + Sync>(
     protocol: &Protocol,
     text: Vec<u8>,
 ) -> Result<((), Vec<u8>), RunFault>
-    requires { IsProtocol task.now protocol.now.rounds protocol.now }
+    requires { Builds task.now protocol.now.rounds (Ok protocol.now) }
     ensures { JoinsText task.now protocol.now.rounds text.items (answered result) }
 {
     let cover = cover_of(alloc, task, protocol)?;
@@ -201,7 +201,7 @@ fn accept_joined<T: Threads + Sync>(
     protocol: &Protocol,
     body: Body,
 ) -> Result<((), Vec<u8>), RunFault>
-    requires { IsProtocol task.now protocol.now.rounds protocol.now }
+    requires { Builds task.now protocol.now.rounds (Ok protocol.now) }
     ensures { AcceptsJoined task.now protocol.now.rounds (body_of body) (answered result) }
 {
     if count_lines(&body) >= MOST_LINES {
