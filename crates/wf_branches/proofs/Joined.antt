@@ -53,7 +53,7 @@ module _ (i : ℕ) (t : Task) (r : ℕ) (text : List ℕ) where
   taken alone body same is = (Ok (body_of body), subst (λ found. IsBodyIn i t r text (body_seen found)) same is, refl)
 
   pub untaken : (alone : Result found.Body RunFault) (e told : RunFault) → alone ≡ Err e → told ≡ in_part i e → IsBodyIn i t r text (body_seen alone) → TakesPart i t r text (Err told)
-  untaken alone e told same as is = (Err e, subst (λ found. IsBodyIn i t r text (body_seen found)) same is, ap Err as)
+  untaken alone e told same known is = (Err e, subst (λ found. IsBodyIn i t r text (body_seen found)) same is, ap Err known)
 
 -- ---- all parts
 
@@ -78,7 +78,7 @@ pub record IsGoing {A : Type 0} (t : Task) (r : ℕ) (text : List ℕ) (number :
   pub long : length lists ≡ number
 
 module _ {A : Type 0} (t : Task) (r : ℕ) (text : List ℕ) where
-  pub begins : IsGoing {A} t r text 0 [] text
+  pub begins : IsGoing {A = A} t r text 0 [] text
   begins = record {
     goes = λ left result all gathers.
         let same : left ≡ length (branches t r) = omega (arith, all) in
@@ -93,7 +93,7 @@ module _ {A : Type 0} (t : Task) (r : ℕ) (text : List ℕ) where
 
     -- all parts are taken
     pub ended : length (branches t r) ≡ number → rest ≡ [] → GathersAll t r text (Ok (without_map (each_seen lists)))
-    ended all none = going.goes 0 _ (omega (arith, all)) (none, refl)
+    ended all empty = going.goes 0 _ (omega (arith, all)) (empty, refl)
 
     pub longer : (n : ℕ) → n ≡ length (branches t r) → length (branches t r) ≡ number → rest ≢ [] → GathersAll t r text (Err (TooManyParts n))
     longer n is all some = going.goes 0 _ (omega (arith, all)) (some, is ∙ all)
@@ -139,10 +139,10 @@ as_many (Least values lines) = ap (λ n. length values.items + n) (length-map li
 
 module _ (t : Task) (r : ℕ) (body : Body) where
   -- a report without a fault
-  pub right : (b : Built) (seen : Report) (text : List ℕ) → Builds t r (Ok b) → AreNumbered (lines_in body) → seen ≡ report_about t r body → report_fault t r seen ≡ None → HoldsOf t r body → text ≡ report_text seen
+  pub right : (b : Built) (report : Report) (text : List ℕ) → Builds t r (Ok b) → AreNumbered (lines_in body) → report ≡ report_about t r body → report_fault t r report ≡ None → HoldsOf t r body → text ≡ report_text report
       → AcceptsJoined t r body (Ok (tt, text))
   unfolding text_of_report
-  right b seen text built few same clear holds is =
+  right b report text built few same clear holds is =
       (few, record { within = (b, built); faultless = ap (report_fault t r) (sym same) ∙ clear; holds = holds }, is ∙ ap report_text same)
 
   -- one with a fault
@@ -152,8 +152,8 @@ module _ (t : Task) (r : ℕ) (body : Body) where
   wrong cert.OutOfMemory few fails = tt
   wrong e few fails = (few, fails)
 
-  pub faulty : {A : Type 0} (seen : Report) (e : CertFault) (result : Result (Unit {0} × Vec ℕ A) RunFault) → AreNumbered (lines_in body) → seen ≡ report_about t r body → Fails e (report_fault t r seen)
+  pub faulty : {A : Type 0} (report : Report) (e : CertFault) (result : Result (Unit {0} × Vec ℕ A) RunFault) → AreNumbered (lines_in body) → report ≡ report_about t r body → Fails e (report_fault t r report)
       → IsRefusal (of_cert e) result → AcceptsJoined t r body (answered result)
-  faulty seen e (Ok x) few same fails is = absurd (let ended = is.0 in let bad : ⊥ = cc in bad)
-  faulty seen e (Err found) few same fails is =
+  faulty report e (Ok x) few same fails is = absurd (let ended = is.0 in let bad : ⊥ = cc in bad)
+  faulty report e (Err found) few same fails is =
       subst (λ f. AcceptsJoined t r body (Err f)) (sym is.1) (wrong e few (subst (λ x. Fails e (report_fault t r x)) same fails))

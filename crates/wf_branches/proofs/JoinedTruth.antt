@@ -8,7 +8,7 @@ use Rattle.wf_model.specs.Box.{root}
 use Rattle.wf_model.specs.Problem.{problem_of}
 use Rattle.wf_model.specs.DecisionMap.{listed}
 use Rattle.wf_model.specs.Outline.{filled, filled_up_to, outline}
-use Rattle.wf_model.specs.Refutation.{Line, remove, empty, branch, found}
+use Rattle.wf_model.specs.Refutation.{Line}
 use Rattle.wf_model.specs.Report.{Report, Body, a_map, none, least, report_about}
 use Rattle.wf_model.specs.Check.{body_fault, first_least_fault, header_fault, map_fault}
 use Rattle.wf_model.specs.LeastTree.{IsLeastTree}
@@ -40,7 +40,7 @@ use Rattle.wf_engine.proofs.Both.{IsReadCounted, done}
 use Rattle.wf_engine.proofs.Both as both
 use Rattle.wf_engine.proofs.Counts.{few}
 use Rattle.wf_engine.proofs.Headline.{task_read}
-use Rattle.wf_engine.proofs.Written.{HasSmallValue, map_within, root_small, small_least_within, small_none_within}
+use Rattle.wf_engine.proofs.Written.{HasSmallValue, line_small, map_within, root_small, small_least_within, small_none_within, step_small}
 use Rattle.wf_branches.specs.Joining.{AcceptsBody, AcceptsJoined, EndsAll, Gathered, with_map, with_least, without_map, Gathers, GathersAll, GoesOn, IsBodyIn, Joins, JoinsText, ReadsParts, TakesPart, among_parts, in_part, joined_body, most_parts_bytes, next_part}
 use Rattle.wf_branches.specs.Laws.{JoinsAreAccepted, JoinsAreTrue, JoiningIsCounted}
 use Rattle.wf_branches.specs.Verifying.{ChecksIn, IsPartOf}
@@ -75,18 +75,6 @@ joins_true r task task' parts parts' sink sink' ran =
 
 -- ---- the values in the lines of parts
 
-line_small : (l : Line) → IsLineWithin l → HasSmallValue l
-line_small (remove e c a) h = h.2
-line_small (empty v) h = tt
-line_small (branch v) h = tt
-line_small found h = tt
-
-step_small : (l : Line) → IsStepWithin l → HasSmallValue l
-step_small (remove e c a) h = h.2
-step_small (empty v) h = tt
-step_small (branch v) h = tt
-step_small found h = tt
-
 -- the lines of an answer have small values
 abbrev HasSmallLines : Body → Type 0
 HasSmallLines (a_map m) = Unit {0}
@@ -112,8 +100,8 @@ module _ (t : Task) (r : ℕ) where
 
   alone_small : (i : ℕ) (text : List ℕ) (alone : Result Body RunFault) (body : Body) → IsBodyIn i t r text alone → Ok body ≡ among_parts i alone → HasSmallLines body
   alone_small i text (Ok alone) body (report, is, accepts) same =
-      let as : alone ≡ body = cc in
-      subst HasSmallLines as (report_small i text report alone is accepts)
+      let known : alone ≡ body = cc in
+      subst HasSmallLines known (report_small i text report alone is accepts)
   alone_small i text (Err e) body is same = absurd (let bad : ⊥ = cc in bad)
 
   one_more : (lists : List (List Line)) (ls : List Line) → AllByRecursion AreSmallLines lists → AreSmallLines ls → AllByRecursion AreSmallLines (lists ++ ls ∷ [])
@@ -197,8 +185,8 @@ module _ (t : Task) (r : ℕ) where
   quiet_taken : (i : ℕ) (text : List ℕ) (alone : Result Body RunFault) (e : RunFault) → IsBodyIn i t r text alone → Err e ≡ among_parts i alone → (failed_reads e ≡ 0) × (failed_writes e ≡ 0)
   quiet_taken i text (Ok body) e is same = absurd (let bad : ⊥ = cc in bad)
   quiet_taken i text (Err f) e (report, is, next) same =
-      let as : in_part i f ≡ e = cc in
-      subst (λ x. (failed_reads x ≡ 0) × (failed_writes x ≡ 0)) as (quiet_among i f (quiet_part i text report f is next))
+      let known : in_part i f ≡ e = cc in
+      subst (λ x. (failed_reads x ≡ 0) × (failed_writes x ≡ 0)) known (quiet_among i f (quiet_part i text report f is next))
 
   quiet_end : (n : ℕ) (lists : List (List Line)) (text : List ℕ) (e : RunFault) → EndsAll n lists text (Err e) → (failed_reads e ≡ 0) × (failed_writes e ≡ 0)
   quiet_end n lists text (run.TooManyParts k) ends = (refl, refl)
@@ -216,7 +204,7 @@ module _ (t : Task) (r : ℕ) where
       → ((more : List (List Line)) → Gathers t r left (suc i) more (next_part text).1 (Err e) → (failed_reads e ≡ 0) × (failed_writes e ≡ 0))
       → Next (GoesOn (λ more. Gathers t r left (suc i) more (next_part text).1) lists) body (Err e) → (failed_reads e ≡ 0) × (failed_writes e ≡ 0)
   quiet_next i left lists text (Ok body) e takes keeps goes = quiet_body body (λ more. Gathers t r left (suc i) more (next_part text).1) lists e keeps goes
-  quiet_next i left lists text (Err f) e (alone, is, same) keeps next = let as : Err e ≡ among_parts i alone = cc in quiet_taken i (next_part text).0 alone e is as
+  quiet_next i left lists text (Err f) e (alone, is, same) keeps next = let known : Err e ≡ among_parts i alone = cc in quiet_taken i (next_part text).0 alone e is known
 
   quiet_gathered : (left i : ℕ) (lists : List (List Line)) (text : List ℕ) (e : RunFault) → Gathers t r left i lists text (Err e) → (failed_reads e ≡ 0) × (failed_writes e ≡ 0)
   quiet_gathered zero i lists text e ends = quiet_end i lists text e ends
@@ -253,4 +241,4 @@ parts_counted t r old new answer (text, (given, gave, read), judged) =
     record { taken = omega (arith, gave.taken, bound); failures = omega (arith, fails, reads); writes = counts.1 }
 
 pub joining_counted : JoiningIsCounted
-joining_counted r = both.counted most_parts_bytes ReadsParts r parts_counted
+joining_counted r = both.counted most_parts_bytes ReadsParts r (λ t old new answer reads. parts_counted t r old new answer reads)

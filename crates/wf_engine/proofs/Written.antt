@@ -243,6 +243,21 @@ step_within (empty v) h k = h
 step_within (branch v) h k = h
 step_within found h k = tt
 
+-- a line that was read has a small value
+pub line_small : (l : Line) → IsLineWithin l → HasSmallValue l
+unfolding IsSmall
+line_small (remove e c a) h = h.2
+line_small (empty v) h = tt
+line_small (branch v) h = tt
+line_small found h = tt
+
+pub step_small : (l : Line) → IsStepWithin l → HasSmallValue l
+unfolding IsSmall
+step_small (remove e c a) h = h.2
+step_small (empty v) h = tt
+step_small (branch v) h = tt
+step_small found h = tt
+
 -- ---- a task
 
 -- a list of at most so many for each element
