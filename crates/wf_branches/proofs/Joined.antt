@@ -1,6 +1,6 @@
 -- The steps of putting parts together.
-use Rattle.std.proofs.Common.{◌≡◌, ◌≢◌, ◌∙◌, ◌+◌, ◌-◌, ◌<◌, ◌≤◌, ℕ, zero, suc, List, [], ◌∷◌, ◌++◌, length, length-append, map, None, Result, Ok, Err, Vec, refl, sym, ap, subst, arith}
-use Rattle.std.proofs.lemmas.List.{length-map, map-append}
+use Rattle.std.proofs.Common.{◌≡◌, ◌≢◌, ◌==◌, ◌∙◌, true, false, eqb-true, ◌+◌, ◌-◌, ◌<◌, ◌≤◌, ℕ, zero, suc, List, [], ◌∷◌, ◌++◌, length, length-append, map, None, Result, Ok, Err, Vec, refl, sym, ap, subst, arith}
+use Rattle.std.proofs.lemmas.List.{length-map, map-append, nil_from_length}
 use Rattle.wf_model.specs.Task.{Task}
 use Rattle.wf_model.specs.Problem.{problem_of}
 use Rattle.wf_model.specs.Outline.{outline}
@@ -25,8 +25,11 @@ use Rattle.wf_engine.specs.Texts.{text_of_report}
 use Rattle.wf_engine.specs.declared.fault.RunFault.{RunFault}
 use Rattle.wf_engine.specs.declared.fault.RunFault.TheVariants.{OutOfMemory, TooManyParts}
 use Rattle.wf_engine.proofs.Asking.{IsRefusal}
+use Rattle.wf_branches.specs.Branches.{IsBranch}
+use Rattle.wf_branches.specs.declared.branch.FoundBranch.{FoundBranch}
+use Rattle.wf_branches.specs.declared.joining.Gathered as kept
 use Rattle.wf_branches.specs.Verifying.{ChecksIn, ChecksPart, IsPartOf}
-use Rattle.wf_branches.specs.Joining.{AcceptsJoined, Gathered, with_map, with_least, without_map, Gathers, GathersAll, GoesOn, IsBodyIn, JoinsText, TakesPart, body_seen, in_part, joined_body, lines_in, next_part}
+use Rattle.wf_branches.specs.Joining.{AcceptsJoined, Gathered, with_map, with_least, without_map, Gathers, GathersAll, GoesOn, IsBodyIn, JoinsText, TakesPart, body_seen, gathered_seen, in_part, joined_body, lines_in, next_part}
 
 -- ---- one part
 
@@ -55,6 +58,12 @@ module _ (i : ℕ) (t : Task) (r : ℕ) (text : List ℕ) where
   pub untaken : (alone : Result found.Body RunFault) (e told : RunFault) → alone ≡ Err e → told ≡ in_part i e → IsBodyIn i t r text (body_seen alone) → TakesPart i t r text (Err told)
   untaken alone e told same known is = (Err e, subst (λ found. IsBodyIn i t r text (body_seen found)) same is, ap Err known)
 
+-- a text as a part about the branch that the code keeps
+pub same_part : (i : ℕ) (t : Task) (r : ℕ) (text : List ℕ) (branch : FoundBranch) → IsBranch t r i branch → (report : Result Report RunFault) → IsPartOf branch.number branch.count text report
+    → IsPartOf i (length (branches t r)) text report
+same_part i t r text branch is report read =
+    subst (λ n. IsPartOf i n text report) is.count (subst (λ k. IsPartOf k branch.count text report) is.number read)
+
 -- ---- all parts
 
 -- out of memory is an answer wherever the going through stands
@@ -68,9 +77,29 @@ module _ (t : Task) (r : ℕ) (text : List ℕ) where
   unjoined e (Ok x) gathers is = absurd (let ended = is.0 in let bad : ⊥ = cc in bad)
   unjoined e (Err found) gathers is = (Err e, gathers, ap Err is.1)
 
+  -- the same where the code answers what they come to
+  pub ungathered : (e : RunFault) (result : Result kept.Gathered RunFault) → GathersAll t r text (Err e) → IsRefusal e result → GathersAll t r text (gathered_seen result)
+  ungathered e (Ok x) gathers is = absurd (let ended = is.0 in let bad : ⊥ = cc in bad)
+  ungathered e (Err found) gathers is = subst (λ f. GathersAll t r text (Err f)) (sym is.1) gathers
+
+  -- no report is made of what they come to
+  pub unmade : {A : Type 0} (gathered : Gathered) (result : Result (Unit {0} × Vec ℕ A) RunFault) → GathersAll t r text (Ok gathered) → IsRefusal OutOfMemory result → JoinsText t r text (answered result)
+  unmade gathered (Ok x) gathers is = absurd (let ended = is.0 in let bad : ⊥ = cc in bad)
+  unmade gathered (Err found) gathers is =
+      (Ok gathered, gathers, subst (λ f. AcceptsJoined t r (joined_body (outline (problem_of t r)) gathered) (Err f)) (sym is.1) tt)
+
   -- they come to this
   pub joins : (gathered : Gathered) (result : Result (Unit {0} × List ℕ) RunFault) → GathersAll t r text (Ok gathered) → AcceptsJoined t r (joined_body (outline (problem_of t r)) gathered) result → JoinsText t r text result
   joins gathered result gathers accepts = (Ok gathered, gathers, accepts)
+
+-- whether something is left of a text
+pub some_left : (rest : List ℕ) → (length rest == 0) ≡ false → rest ≢ []
+some_left rest some = λ nil.
+    let whole : (length rest == 0) ≡ true = ap (λ x. length x == 0) nil in
+    absurd (let bad : ⊥ = cc in bad)
+
+pub none_left : (rest : List ℕ) → (length rest == 0) ≡ true → rest ≡ []
+none_left rest whole = nil_from_length rest (eqb-true (length rest) 0 whole)
 
 -- what is kept on the way: what the rest of the text comes to is what all of it does
 pub record IsGoing {A : Type 0} (t : Task) (r : ℕ) (text : List ℕ) (number : ℕ) (lists : List (Vec code.Line A)) (rest : List ℕ) : Type 0 where
