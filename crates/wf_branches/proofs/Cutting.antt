@@ -1,5 +1,5 @@
 -- Where a part ends.
-use Rattle.std.proofs.Common.{◌≡◌, ◌<◌, ◌-◌, ◌+◌, ℕ, suc, zero, Bool, false, List, [], ◌∷◌, drop, take, length, length-drop, sym, ap, ◌∙◌, arith, if◌then◌else◌}
+use Rattle.std.proofs.Common.{◌≡◌, ◌<◌, ◌-◌, ◌+◌, ℕ, suc, zero, false, List, [], ◌∷◌, drop, take, length, length-drop, sym, ap, ◌∙◌, arith, if◌then◌else◌}
 use Rattle.std.proofs.Math.Seq.{take-length}
 use Rattle.wf_branches.specs.Joining.{ends_here, part_length}
 

@@ -1,12 +1,9 @@
 -- What is written for the parts of all branches is true and accepted; and the counts of a joining.
-use Rattle.std.proofs.Common.{◌≡◌, ◌≤◌, ◌+◌, ◌++◌, ◌∙◌, ℕ, zero, suc, List, [], ◌∷◌, length, Some, None, Result, Ok, Err, refl, sym, ap, subst, arith}
+use Rattle.std.proofs.Common.{◌≡◌, ◌+◌, ◌++◌, ◌∙◌, ℕ, zero, suc, List, [], ◌∷◌, length, Some, Result, Ok, Err, refl, sym, ap, subst, arith}
 use Rattle.std.specs.List.{AllByRecursion}
-use Rattle.wf_model.specs.Limits.{most_bytes}
 use Rattle.wf_model.specs.Task.{Task, IsTask}
-use Rattle.wf_model.specs.View.{View}
 use Rattle.wf_model.specs.Box.{root}
 use Rattle.wf_model.specs.Problem.{problem_of}
-use Rattle.wf_model.specs.DecisionMap.{listed}
 use Rattle.wf_model.specs.Outline.{filled, filled_up_to, outline}
 use Rattle.wf_model.specs.Refutation.{Line}
 use Rattle.wf_model.specs.Report.{Report, Body, a_map, none, least, report_about}
@@ -19,31 +16,26 @@ use Rattle.wf_model.proofs.LeastChecked.{accepted_leads}
 use Rattle.wf_model.proofs.Least.{root_is_box}
 use Rattle.wf_model.proofs.WellFormed.{task_well_formed}
 use Rattle.wf_formula.specs.Branches.{branches}
-use Rattle.wf_io.specs.Seen.{Reading, Writing}
+use Rattle.wf_io.specs.Seen.{Reading}
 use Rattle.wf_io.specs.Texts as io
 use Rattle.wf_io.specs.Texts.{ReadsText, Took}
 use Rattle.wf_io.specs.declared.source.ReadFault.{ReadFault}
 use Rattle.wf_io.specs.declared.source.ReadFault.TheVariants as read
-use Rattle.wf_check.specs.Within.{fault_within, report_fault_within}
 use Rattle.wf_report.specs.Grammar.{IsInGrammar, IsBodyWithin, IsLineWithin, IsStepWithin}
 use Rattle.wf_report.proofs.Lemmas.{read_written}
-use Rattle.wf_engine.specs.Headline.{GaveTask}
-use Rattle.wf_engine.specs.Laws.{Accepts, IsChecked}
 use Rattle.wf_engine.specs.Run.{HasComplex, Judged, Next, by_result, failed_reads, failed_writes}
 use Rattle.wf_engine.specs.Texts.{text_of_report}
-use Rattle.wf_engine.specs.Verify.{ChecksText, IsFaultless, IsReportOf, accepted_of}
+use Rattle.wf_engine.specs.Verify.{IsFaultless}
 use Rattle.wf_engine.specs.declared.fault.RunFault.{RunFault}
 use Rattle.wf_engine.specs.declared.fault.RunFault.TheVariants as run
-use Rattle.wf_engine.specs.declared.outcome.Accepted.{Accepted}
 use Rattle.wf_engine.proofs.Acceptance.{body_accepted}
 use Rattle.wf_engine.proofs.Both.{IsReadCounted, done}
 use Rattle.wf_engine.proofs.Both as both
 use Rattle.wf_engine.proofs.Counts.{few}
-use Rattle.wf_engine.proofs.Headline.{task_read}
 use Rattle.wf_engine.proofs.Written.{HasSmallValue, line_small, map_within, root_small, small_least_within, small_none_within, step_small}
-use Rattle.wf_branches.specs.Joining.{AcceptsBody, AcceptsJoined, EndsAll, Gathered, with_map, with_least, without_map, Gathers, GathersAll, GoesOn, IsBodyIn, Joins, JoinsText, ReadsParts, TakesPart, among_parts, in_part, joined_body, most_parts_bytes, next_part}
+use Rattle.wf_branches.specs.Joining.{AcceptsBody, AcceptsJoined, EndsAll, Gathered, with_map, with_least, without_map, Gathers, GathersAll, GoesOn, IsBodyIn, JoinsText, ReadsParts, TakesPart, among_parts, in_part, joined_body, most_parts_bytes, next_part}
 use Rattle.wf_branches.specs.Laws.{JoinsAreAccepted, JoinsAreTrue, JoiningIsCounted}
-use Rattle.wf_branches.specs.Verifying.{ChecksIn, IsPartOf}
+use Rattle.wf_branches.specs.Verifying.{IsPartOf}
 use Rattle.wf_branches.proofs.Small.{AreSmallLines, filled_small, filled_up_small}
 use Rattle.wf_branches.proofs.Verified.{both_none}
 

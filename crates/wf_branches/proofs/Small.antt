@@ -1,11 +1,11 @@
 -- The lines that are written while the root is cut into branches have small values.
-use Rattle.std.proofs.Common.{◌≡◌, ℕ, zero, suc, Bool, true, false, List, [], ◌∷◌, ◌++◌, map, Option, Some, None}
+use Rattle.std.proofs.Common.{ℕ, zero, suc, Bool, true, false, List, [], ◌∷◌, map, Option, Some, None}
 use Rattle.std.specs.List.{AllByRecursion, list_any}
 use Rattle.std.specs.Prelude.{nat_lt, ◌&&◌, length}
 use Rattle.wf_model.specs.Limits.{enough_boxes, most_levels}
 use Rattle.wf_model.specs.Problem.{Problem}
 use Rattle.wf_model.specs.Box.{Box, branches_at, first_empty, first_open, root}
-use Rattle.wf_model.specs.Refutation.{Line, branch}
+use Rattle.wf_model.specs.Refutation.{Line}
 use Rattle.wf_model.specs.Closing.{Step, closing}
 use Rattle.wf_model.specs.Split.{is_open}
 use Rattle.wf_model.specs.Outline.{Item, box_left, boxes_left_out, closed_each, closed_to, filled, filled_up_to, left_out, opened, opened_at, opened_if, opened_levels, outline, written}

@@ -1,6 +1,6 @@
 -- A run over two sources: a task, and the parts of the branches of its question one behind another, which are put together to the
 -- report of the whole question.
-use Rattle.std.specs.Prelude.{◌≡◌, ◌≢◌, ◌<◌, ◌≤◌, ◌-◌, ◌+◌, ◌^◌, ℕ, zero, suc, Bool, List, [], ◌∷◌, ◌++◌, length, take, drop, codes, None, Result, Ok, Err, if◌then◌else◌}
+use Rattle.std.specs.Prelude.{◌≡◌, ◌≢◌, ◌<◌, ◌≤◌, ◌-◌, ◌+◌, ◌^◌, ℕ, zero, suc, Bool, List, [], ◌∷◌, ◌++◌, length, take, drop, codes, Result, Ok, Err, if◌then◌else◌}
 use Rattle.wf_model.specs.Task.{Task}
 use Rattle.wf_model.specs.Problem.{problem_of}
 use Rattle.wf_model.specs.Outline.{Item, boxes_left_out, filled, filled_up_to, outline}
