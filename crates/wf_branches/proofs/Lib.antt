@@ -5,3 +5,7 @@ pub mod Answering
 pub mod Solved
 pub mod Verified
 pub mod Told
+pub mod Cutting
+pub mod Joined
+pub mod Small
+pub mod JoinedTruth

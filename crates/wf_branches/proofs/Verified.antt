@@ -55,7 +55,7 @@ kept : (b : Bool) → not b ≡ false → b ≡ true
 kept true h = refl
 kept false h = absurd (let bad : ⊥ = cc in bad)
 
-both_none : (first next : Option Refusal) → unless_fault first next ≡ None → (first ≡ None) × (next ≡ None)
+pub both_none : (first next : Option Refusal) → unless_fault first next ≡ None → (first ≡ None) × (next ≡ None)
 both_none None next h = (refl, h)
 both_none (Some f) next h = absurd (let never : ⊥ = cc in never)
 

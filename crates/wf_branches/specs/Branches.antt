@@ -1,6 +1,6 @@
 -- One branch of a task's question, and runs that write a text about it.
 use Rattle.std.specs.Prelude.{◌≡◌, ◌<◌, ◌≤◌, ℕ, List, length, Result, Ok, Err}
-use Rattle.wf_model.specs.Task.{Task}
+use Rattle.wf_model.specs.Task.{Task, IsTask}
 use Rattle.wf_model.specs.Problem.{problem_of}
 use Rattle.wf_model.specs.Outline.{Item, boxes_left_out, outline}
 use Rattle.wf_model.specs.Points.{points}
@@ -28,6 +28,10 @@ pub record IsBranch (t : Task) (r i : ℕ) (branch : FoundBranch) : Type 0 where
   pub count : branch.count ≡ length (branches t r)
   pub sets : box_of branch.sets.items ≡ branch_at t r i
   pub long : length branch.sets.items ≡ length (points t r)
+
+-- it is branch i of each task's question whose cover this is
+abbrev pub IsBranchIn : List Item → ℕ → FoundBranch → Type 0
+IsBranchIn cover i branch = (t : Task) (r : ℕ) → IsTask t → IsCoverOf t r cover → IsBranch t r i branch
 
 -- there are so many branches, and no branch i
 pub record IsBeyondBranches (t : Task) (r i n : ℕ) : Type 0 where

@@ -1,5 +1,5 @@
 -- What runs over branches say, and what holds after each.
-use Rattle.std.specs.Prelude.{ℕ, List, length, Result, Ok}
+use Rattle.std.specs.Prelude.{◌≡◌, ◌≤◌, ℕ, List, length, Some, Result, Ok}
 use Rattle.wf_model.specs.Limits.{most_bytes}
 use Rattle.wf_model.specs.Report.{Body}
 use Rattle.wf_model.specs.Task.{Task, IsTask}
@@ -8,9 +8,12 @@ use Rattle.wf_formula.specs.Branches.{branches}
 use Rattle.wf_io.specs.Seen.{Reading, Writing}
 use Rattle.wf_io.specs.Texts.{Took}
 use Rattle.wf_engine.specs.Headline.{GaveTask}
-use Rattle.wf_engine.specs.Laws.{IsChecked, IsCounted}
+use Rattle.wf_check.specs.Truth.{HoldsOf}
+use Rattle.wf_engine.specs.Laws.{Accepts, IsChecked, IsCounted}
 use Rattle.wf_engine.specs.Proofs.{most_proof_bytes}
-use Rattle.wf_engine.specs.Verify.{accepted_words}
+use Rattle.wf_engine.specs.Texts.{text_of_report}
+use Rattle.wf_engine.specs.Verify.{ChecksText, accepted_of, accepted_words}
+use Rattle.wf_engine.specs.declared.outcome.Accepted.{Accepted}
 use Rattle.wf_engine.specs.declared.fault.RunFault.{RunFault}
 use Rattle.wf_engine.specs.declared.outcome.Outcome.{Outcome}
 use Rattle.wf_report.specs.declared.form.Form.{Form}
@@ -18,6 +21,7 @@ use Rattle.wf_branches.specs.Branches.{HasBranch, ListsBranch}
 use Rattle.wf_branches.specs.Refuting.{HasNoMapIn, RefutesBranch, accepted_in, accepted_text}
 use Rattle.wf_branches.specs.Solving.{IsSolvedIn, SolvesBranch}
 use Rattle.wf_branches.specs.Verifying.{HoldsIn, VerifiesBranch}
+use Rattle.wf_branches.specs.Joining.{Joins, most_parts_bytes}
 
 -- where branch i was searched, the source gave the bytes of a task, the branch is there, and the sink took what its search
 -- answers: the part of the least decision map there, or that none lies there
@@ -71,3 +75,27 @@ BranchProvingIsCounted =
     (rounds branch : ℕ) (task task' proof proof' : Reading) (sink sink' : Writing) (result : Result (Unit {0}) RunFault)
     → RefutesBranch rounds branch task task' proof proof' sink sink' result
     → IsChecked most_proof_bytes task task' proof proof' sink sink' result
+
+-- where parts were joined, the source gave the bytes of a task, and the sink took the text of a report; what that says of the whole
+-- question is true: a map is a decision map, the least one where lines say so, and where there is none, no function on the views is one
+abbrev pub JoinsAreTrue : Type 0
+JoinsAreTrue =
+    (rounds : ℕ) (task task' parts parts' : Reading) (sink sink' : Writing)
+    → Joins rounds task task' parts parts' sink sink' (Ok tt)
+    → (t : Task) × (body : Body) × GaveTask task task' t × HoldsOf t rounds body × Took sink sink' (text_of_report t rounds body) 0
+
+-- of the report that was written a check that asks for these rounds says that it is accepted, where its text has at most as many
+-- bytes as a text may have
+abbrev pub JoinsAreAccepted : Type 0
+JoinsAreAccepted =
+    (rounds : ℕ) (task task' parts parts' : Reading) (sink sink' : Writing)
+    → Joins rounds task task' parts parts' sink sink' (Ok tt)
+    → (t : Task) × (body : Body) × (text : List ℕ) × GaveTask task task' t × (text ≡ text_of_report t rounds body) × Took sink sink' text 0
+    × (length text ≤ most_bytes → (answer : Result (Accepted × List ℕ) RunFault)
+    → ChecksText (Some rounds) t text answer → Accepts (accepted_of body) answer)
+
+abbrev pub JoiningIsCounted : Type 0
+JoiningIsCounted =
+    (rounds : ℕ) (task task' parts parts' : Reading) (sink sink' : Writing) (result : Result (Unit {0}) RunFault)
+    → Joins rounds task task' parts parts' sink sink' result
+    → IsChecked most_parts_bytes task task' parts parts' sink sink' result

@@ -4,4 +4,5 @@ pub mod Listing
 pub mod Refuting
 pub mod Solving
 pub mod Verifying
+pub mod Joining
 pub mod Laws

@@ -49,14 +49,19 @@ pub record IsFaultlessIn (t : Task) (r i : ℕ) (report : Report) : Type 0 where
   pub faultless : report_fault_within t r (branch_at t r i) report ≡ None
   pub holds : HoldsIn t r i report.body
 
--- the report is accepted, and the text is the line that says so; or it has a fault, or its map lies elsewhere
+-- the report is accepted as one about branch i; or it has a fault, or its map lies elsewhere
+abbrev pub ChecksIn : ℕ → Task → ℕ → Report → Result (Unit {0}) RunFault → Type 0
+ChecksIn i t r report (Ok done) = IsFaultlessIn t r i report
+ChecksIn i t r report (Err (Cert cert.OutOfMemory)) = ⊥
+ChecksIn i t r report (Err (Cert e)) = Fails e (report_fault_within t r (branch_at t r i) report)
+ChecksIn i t r report (Err NotInBranch) = (report_fault_within t r (branch_at t r i) report ≡ None) × (is_outside report.body (branch_at t r i) ≡ true)
+ChecksIn i t r report (Err OutOfMemory) = Unit {0}
+ChecksIn i t r report (Err e) = ⊥
+
+-- it is accepted, and the text is the line that says so; or it is refused
 abbrev pub ChecksPart : ℕ → Task → ℕ → Report → Result (Unit {0} × List ℕ) RunFault → Type 0
-ChecksPart i t r report (Ok answer) = IsFaultlessIn t r i report × (answer.1 ≡ accepted_in (accepted_words report.body) i (length (branches t r)) r)
-ChecksPart i t r report (Err (Cert cert.OutOfMemory)) = ⊥
-ChecksPart i t r report (Err (Cert e)) = Fails e (report_fault_within t r (branch_at t r i) report)
-ChecksPart i t r report (Err NotInBranch) = (report_fault_within t r (branch_at t r i) report ≡ None) × (is_outside report.body (branch_at t r i) ≡ true)
-ChecksPart i t r report (Err OutOfMemory) = Unit {0}
-ChecksPart i t r report (Err e) = ⊥
+ChecksPart i t r report (Ok answer) = ChecksIn i t r report (Ok tt) × (answer.1 ≡ accepted_in (accepted_words report.body) i (length (branches t r)) r)
+ChecksPart i t r report (Err e) = ChecksIn i t r report (Err e)
 
 -- the text is read as a part about branch i, and that is checked
 abbrev pub JudgesPart : ℕ → Task → ℕ → List ℕ → Result (Unit {0} × List ℕ) RunFault → Type 0

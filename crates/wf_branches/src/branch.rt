@@ -1,9 +1,10 @@
 //! One branch of a task's question.
 
-ghost use Rattle.std.specs.Prelude.{◌≡◌, ◌<◌, IfErr, IfOk, string_bytes};
+ghost use Rattle.std.specs.Prelude.{◌≡◌, ◌<◌, IfErr, IfOk, length, string_bytes};
+ghost use Rattle.wf_model.specs.Outline.{boxes_left_out};
 ghost use Rattle.wf_complex.specs.Protocol.{IsProtocol};
 ghost use Rattle.wf_set.specs.Sets.{box_of};
-ghost use Rattle.wf_branches.specs.Branches.{IsCoverOf, IsNoBranch, IsBranch};
+ghost use Rattle.wf_branches.specs.Branches.{IsBranch, IsBranchIn, IsCoverOf, IsNoBranch};
 ghost use Rattle.wf_branches.specs.Refuting.{accepted_in};
 ghost use Rattle.wf_branches.specs.Solving.{part_head};
 
@@ -97,11 +98,23 @@ pub(crate) fn branch_of(
     if number >= count {
         return Err(RunFault::NoBranch { branches: count });
     }
+    Ok(branch_in(alloc, &cover, number)?)
+}
+
+/// The branch of this number in the cover of a task's question. Refused for want of memory alone.
+pub(crate) fn branch_in(
+    alloc: Global,
+    cover: &Cover,
+    number: u32,
+) -> Result<FoundBranch, AllocError>
+    requires { number < length (boxes_left_out cover.now) }
+    ensures { IfOk result (IsBranchIn cover.now number) }
+{
     let boxed = cover.branch(alloc, number)?;
     let sets = sets_of(alloc, &boxed)?;
     Ok(FoundBranch {
         number,
-        count,
+        count: cover.branches(),
         sets,
     })
 }

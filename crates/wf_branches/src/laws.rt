@@ -1,6 +1,6 @@
 //! Laws of runs over branches: that what they say is true, what all of them together come to, and what holds after each.
 
-ghost use Rattle.wf_branches.specs.Laws.{BranchAnswersAreTrue, BranchesCoverAllMaps, BranchProvingIsCounted, BranchRefutationsAreTrue, BranchSolvingIsCounted, ListingBranchesIsCounted, PartAcceptancesAreTrue, PartCheckingIsCounted};
+ghost use Rattle.wf_branches.specs.Laws.{BranchAnswersAreTrue, BranchesCoverAllMaps, BranchProvingIsCounted, BranchRefutationsAreTrue, BranchSolvingIsCounted, JoiningIsCounted, JoinsAreAccepted, JoinsAreTrue, ListingBranchesIsCounted, PartAcceptancesAreTrue, PartCheckingIsCounted};
 
 /// Where no decision map lies in any branch of a task's question, no function on the views is a decision map.
 pub fn branches_cover_all_maps()
@@ -47,4 +47,21 @@ pub fn part_checking_is_counted()
 /// proof may have of the proof's, tells each failed call, and writes nothing where it is refused for anything but a failed write.
 pub fn branch_proving_is_counted()
     ensures { BranchProvingIsCounted }
+{}
+
+/// What is written for the parts of all branches is true: the source of the task gave its bytes, and the sink took the report of
+/// the whole question, whatever the parts' bytes are. Its map is a decision map, with lines the least one, or there is none.
+pub fn joins_are_true()
+    ensures { JoinsAreTrue }
+{}
+
+/// The report that is written for the parts of all branches is accepted, where it has at most as many bytes as a text may have.
+pub fn joins_are_accepted()
+    ensures { JoinsAreAccepted }
+{}
+
+/// The joining of parts takes at most one byte more than a text may have of the task's source, and one more than all parts may
+/// have of theirs, tells each failed call, and writes nothing where it is refused for anything but a failed write.
+pub fn joining_is_counted()
+    ensures { JoiningIsCounted }
 {}

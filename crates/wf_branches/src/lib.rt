@@ -6,6 +6,7 @@
 //! - [`run_verify_branch`]: a task's text and the text that `run_solve_branch` wrote in, and what is accepted of the branch out.
 //! - [`run_proof_branch`]: a task's text and a SAT solver's clausal proof in, and that no decision map of one branch is accepted
 //!   out.
+//! - [`run_join`]: a task's text and the parts of its branches in, and the report of the whole question out.
 //!
 //! What the branches are, `wf_model` says: the boxes into which [`wf_search::split`] cuts the root. The laws say what runs over
 //! all of them come to: where none of them has a decision map there is none ([`branches_cover_all_maps`]).
@@ -13,17 +14,21 @@
 
 mod asking;
 mod branch;
+mod joining;
 mod laws;
 mod listing;
+mod parts;
 mod refuting;
 mod solving;
 mod verifying;
 
 pub use asking::run_cnf_branch;
+pub use joining::run_join;
 pub use laws::{
     branch_answers_are_true, branch_proving_is_counted, branch_refutations_are_true,
-    branch_solving_is_counted, branches_cover_all_maps, listing_branches_is_counted,
-    part_acceptances_are_true, part_checking_is_counted,
+    branch_solving_is_counted, branches_cover_all_maps, joining_is_counted, joins_are_accepted,
+    joins_are_true, listing_branches_is_counted, part_acceptances_are_true,
+    part_checking_is_counted,
 };
 pub use listing::run_branches;
 pub use refuting::run_proof_branch;

@@ -4,19 +4,20 @@ ghost use Rattle.std.specs.Prelude.{◌≡◌, ◌++◌, ℕ, List, IfOk, IfSome
 ghost use Rattle.wf_io.specs.Ends.{CanRead};
 ghost use Rattle.wf_complex.specs.Protocol.{IsProtocol};
 ghost use Rattle.wf_report.specs.Reports.{AreNumbered, body_length, body_of, report_seen};
+ghost use Rattle.wf_check.specs.Within.{IsCheckerOf};
 ghost use Rattle.wf_set.specs.Sets.{box_of};
 ghost use Rattle.wf_engine.specs.Run.{answered};
 ghost use Rattle.wf_engine.specs.Sources.{AsksBoth, AsksWithin};
 ghost use Rattle.wf_engine.specs.Verify.{CanVerify, seen};
 ghost use Rattle.wf_branches.specs.Branches.{IsBranch};
 ghost use Rattle.wf_branches.specs.Refuting.{ReadsIn};
-ghost use Rattle.wf_branches.specs.Verifying.{ChecksPart, IsPartOf, JudgesPart, ReadsPart, VerifiesBranch, is_outside, lies_in};
+ghost use Rattle.wf_branches.specs.Verifying.{ChecksIn, ChecksPart, IsPartOf, JudgesPart, ReadsPart, VerifiesBranch, is_outside, lies_in};
 
-use crate::branch::{FoundBranch, Place, branch_of};
+use crate::branch::{FoundBranch, branch_of};
 use std::alloc::Global;
 use std::io::{Read, Write};
 use std::thread::Threads;
-use wf_check::check_within;
+use wf_check::Checker;
 use wf_complex::Protocol;
 use wf_engine::{RunFault, accepted_words, hand_out, read_task};
 use wf_io::{Sink, Source, read_all};
@@ -138,7 +139,7 @@ fn judge_part<T: Threads + Sync>(
 }
 
 /// The report of a part about a branch.
-fn part_of(alloc: Global, branch: &FoundBranch, text: &[u8]) -> Result<Report, RunFault>
+pub(crate) fn part_of(alloc: Global, branch: &FoundBranch, text: &[u8]) -> Result<Report, RunFault>
     ensures read { IsPartOf branch.now.number branch.now.count text.now (seen result) }
     ensures few { IfOk result (λ report. AreNumbered (body_length report.body)) }
 {
@@ -177,19 +178,35 @@ fn accept<T: Threads + Sync>(
     ensures { ChecksPart branch.number task.now protocol.now.rounds (report_seen report.now)
         (answered result) }
 {
-    let FoundBranch {
-        number,
-        count,
-        sets,
-    } = branch;
-    let is_elsewhere = is_outside(&report.body, &sets);
-    check_within(rt, alloc, task, protocol, sets, report)?;
+    let place = branch.place();
+    let checker = Checker::of(alloc, task)?;
+    check_part(rt, alloc, task, protocol, &checker, branch, report)?;
+    let text = place.accepted(alloc, accepted_words(&report.body), protocol.rounds())?;
+    Ok(((), text.into_bytes()))
+}
+
+/// Checks a report about a branch.
+pub(crate) fn check_part<T: Threads + Sync>(
+    rt: &T,
+    alloc: Global,
+    task: &Task,
+    protocol: &Protocol,
+    checker: &Checker,
+    branch: FoundBranch,
+    report: &Report,
+) -> Result<(), RunFault>
+    requires few { AreNumbered (body_length report.now.body) }
+    requires protocol { IsProtocol task.now protocol.now.rounds protocol.now }
+    requires checker { IsCheckerOf task.now checker.now }
+    requires branch { IsBranch task.now protocol.now.rounds branch.number branch }
+    ensures { ChecksIn branch.number task.now protocol.now.rounds (report_seen report.now) result }
+{
+    let is_elsewhere = is_outside(&report.body, &branch.sets);
+    checker.check_within(rt, alloc, task, protocol, branch.sets, report)?;
     if is_elsewhere {
         return Err(RunFault::NotInBranch);
     }
-    let place = Place { number, count };
-    let text = place.accepted(alloc, accepted_words(&report.body), protocol.rounds())?;
-    Ok(((), text.into_bytes()))
+    Ok(())
 }
 
 /// Whether a report's map, which comes without lines, doesn't lie in the box of these sets.

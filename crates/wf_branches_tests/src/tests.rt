@@ -4,12 +4,13 @@ use std::alloc::Global;
 use std::test::Fail;
 use std::thread::Threads;
 use wf_branches::{
-    run_branches, run_cnf_branch, run_proof_branch, run_solve_branch, run_verify_branch,
+    run_branches, run_cnf_branch, run_join, run_proof_branch, run_solve_branch, run_verify_branch,
 };
 use wf_complex::BuildFault;
-use wf_engine::{Form, Outcome, RunFault};
-use wf_examples::{AGREEMENT_2_2, CONSENSUS_2, PATH_3};
+use wf_engine::{Form, Outcome, PartFault, RunFault, run_solve_one};
+use wf_examples::{AGREEMENT_2_2, AGREEMENT_3_2, CONSENSUS_2, PATH_3};
 use wf_io::{Sink, Source};
+use wf_report::CertFault;
 use wf_rup::ProofFault;
 
 /// 2-set agreement of two after a round: those who saw both may decide either value.
@@ -35,6 +36,14 @@ const AGREEMENT_2_2_PART: &str =
 /// A map of the first branch as a part of the third.
 const AGREEMENT_2_2_ELSEWHERE: &str =
     "wfcheck part 1\nbranch 2\nbranches 4\nwfcheck report 1\nprocesses 2\nrounds 1\npoints 4\nexecutions 5\nanswer map\nm 0\nm 1\nm 0\nm 0\nend\n";
+
+/// The first branch as one without a map, which it isn't.
+const AGREEMENT_2_2_UNREFUTED: &str =
+    "wfcheck part 1\nbranch 0\nbranches 4\nwfcheck report 1\nprocesses 2\nrounds 1\npoints 4\nexecutions 5\nanswer none\nend\n";
+
+/// A map of the third branch as a part of the first.
+const AGREEMENT_2_2_OTHER_MAP: &str =
+    "wfcheck part 1\nbranch 0\nbranches 4\nwfcheck report 1\nprocesses 2\nrounds 1\npoints 4\nexecutions 5\nanswer map\nm 0\nm 1\nm 1\nm 0\nend\n";
 
 /// Whether this is the list of the branches of a task after some rounds.
 fn is_listed(alloc: Global, task: &str, rounds: u32, text: &str) -> bool {
@@ -101,6 +110,79 @@ fn judged<T: Threads + Sync>(
         Ok(()) => Ok(written),
         Err(fault) => Err(fault),
     }
+}
+
+/// The parts of these branches after a round in a form, one behind another.
+fn parts(alloc: Global, task: &str, branches: &[u32], form: Form) -> Option<Vec<u8>> {
+    let mut all = Vec::new(alloc);
+    for branch in branches {
+        let (_outcome, text) = part(alloc, task, *branch, form).ok()?;
+        all.extend_from_slice(&text).ok()?;
+    }
+    Some(all)
+}
+
+/// What parts come to, or why they are refused; none where something was written at a refusal.
+fn joined<T: Threads + Sync>(
+    rt: &T,
+    alloc: Global,
+    task: &str,
+    parts: &[u8],
+) -> Result<Vec<u8>, Option<RunFault>> {
+    let mut source = Source::new(task.as_bytes());
+    let mut parts = Source::new(parts);
+    let mut written = Vec::new(alloc);
+    let mut sink = Sink::new(&mut written);
+    let done = run_join(rt, alloc, &mut source, &mut parts, &mut sink, 1);
+    drop(sink);
+    match done {
+        Ok(()) => Ok(written),
+        Err(fault) if written.is_empty() => Err(Some(fault)),
+        Err(_) => Err(None),
+    }
+}
+
+/// The report of one search of a whole question after a round.
+fn solved(alloc: Global, task: &str, form: Form) -> Option<Vec<u8>> {
+    let mut source = Source::new(task.as_bytes());
+    let mut written = Vec::new(alloc);
+    let mut sink = Sink::new(&mut written);
+    let done = run_solve_one(alloc, &mut source, &mut sink, 1, form);
+    drop(sink);
+    done.ok()?;
+    Some(written)
+}
+
+/// Whether the parts of the first branches are joined to what one search writes.
+fn is_joined<T: Threads + Sync>(
+    rt: &T,
+    alloc: Global,
+    task: &str,
+    branches: u32,
+    form: Form,
+) -> bool {
+    let mut all = Vec::new(alloc);
+    for branch in 0..branches {
+        let Ok((_outcome, text)) = part(alloc, task, branch, form) else {
+            return false;
+        };
+        if all.extend_from_slice(&text).is_err() {
+            return false;
+        }
+    }
+    let report = solved(alloc, task, form);
+    report.is_some() && joined(rt, alloc, task, &all).ok() == report
+}
+
+/// Why the parts of these branches are not joined; none where they are.
+fn fault_of_parts<T: Threads + Sync>(
+    rt: &T,
+    alloc: Global,
+    task: &str,
+    branches: &[u32],
+) -> Option<RunFault> {
+    let all = parts(alloc, task, branches, Form::Full)?;
+    joined(rt, alloc, task, &all).err()?
 }
 
 /// Why a proof about a branch is refused; none where it is accepted.
@@ -176,5 +258,61 @@ fn a_part_is_checked_about_its_branch(rt: HostRuntime) -> Result<(), Fail> {
     assert!(rt; judged(&rt, rt.alloc(), 1, AGREEMENT_2_2_PART).err() == other);
     let elsewhere = Some(RunFault::NotInBranch);
     assert!(rt; judged(&rt, rt.alloc(), 2, AGREEMENT_2_2_ELSEWHERE).err() == elsewhere);
+    Ok(())
+}
+
+#[test]
+fn parts_are_joined_to_the_report_of_one_search(rt: HostRuntime) -> Result<(), Fail> {
+    for form in [Form::Full, Form::Least] {
+        assert!(rt; is_joined(&rt, rt.alloc(), AGREEMENT_2_2, 1, form));
+        assert!(rt; is_joined(&rt, rt.alloc(), CONSENSUS_2, 0, form));
+    }
+    assert!(rt; is_joined(&rt, rt.alloc(), AGREEMENT_3_2, 64, Form::Full));
+    Ok(())
+}
+
+#[test]
+fn a_part_that_is_missing_is_told(rt: HostRuntime) -> Result<(), Fail> {
+    let first = Some(RunFault::NoPart { branch: 0 });
+    let next = Some(RunFault::NoPart { branch: 1 });
+    assert!(rt; fault_of_parts(&rt, rt.alloc(), AGREEMENT_2_2, &[]) == first);
+    assert!(rt; fault_of_parts(&rt, rt.alloc(), AGREEMENT_2_2, &[2]) == first);
+    assert!(rt; fault_of_parts(&rt, rt.alloc(), AGREEMENT_3_2, &[0]) == next);
+    assert!(rt; fault_of_parts(&rt, rt.alloc(), AGREEMENT_3_2, &[0, 2]) == next);
+    assert!(rt; fault_of_parts(&rt, rt.alloc(), AGREEMENT_3_2, &[0, 0]) == next);
+    Ok(())
+}
+
+#[test]
+fn a_part_that_is_not_accepted_is_told(rt: HostRuntime) -> Result<(), Fail> {
+    let unfinished = RunFault::InPart {
+        branch: 0,
+        fault: PartFault::Report(CertFault::Unfinished),
+    };
+    let found = joined(
+        &rt,
+        rt.alloc(),
+        AGREEMENT_2_2,
+        AGREEMENT_2_2_UNREFUTED.as_bytes(),
+    );
+    assert!(rt; found.err() == Some(Some(unfinished)));
+    let elsewhere = RunFault::InPart {
+        branch: 0,
+        fault: PartFault::NotInBranch,
+    };
+    let found = joined(
+        &rt,
+        rt.alloc(),
+        AGREEMENT_2_2,
+        AGREEMENT_2_2_OTHER_MAP.as_bytes(),
+    );
+    assert!(rt; found.err() == Some(Some(elsewhere)));
+    Ok(())
+}
+
+#[test]
+fn what_comes_behind_all_parts_is_told(rt: HostRuntime) -> Result<(), Fail> {
+    let found = joined(&rt, rt.alloc(), CONSENSUS_2, b"x".as_slice());
+    assert!(rt; found.err() == Some(Some(RunFault::TooManyParts { branches: 0 })));
     Ok(())
 }

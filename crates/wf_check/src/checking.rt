@@ -7,16 +7,19 @@ ghost use Rattle.wf_complex.specs.Protocol.{IsProtocol};
 ghost use Rattle.wf_set.specs.Sets.{box_of};
 ghost use Rattle.wf_check.specs.Faults.{Judges};
 ghost use Rattle.wf_check.specs.Truth.{HoldsOf};
-ghost use Rattle.wf_check.specs.Within.{fault_within, report_fault_within};
+ghost use Rattle.wf_check.specs.Within.{IsCheckerOf, fault_within, report_fault_within};
 ghost use Rattle.wf_report.specs.Reports.{AreNumbered, body_length, body_of, report_seen};
 
 use crate::judge::{Claim, judge_lines};
 use crate::maps::first_violated;
+use crate::support::support_all;
 use std::alloc::{AllocError, Global};
+use std::marker::Model;
 use std::thread::Threads;
 use wf_complex::Protocol;
 use wf_report::{Body, CertFault, FIRST_LINE, Report};
 use wf_set::Mask;
+use wf_support::Support;
 use wf_task::Task;
 
 /// Accepts a report about a task and its protocol complex, or answers the first reason why it is refused.
@@ -44,27 +47,103 @@ pub fn check<R: Threads + Sync>(
     judge_body(rt, alloc, task, protocol, &report.body)
 }
 
-/// Accepts a report whose answer is about one box alone, that with these values at each point, or answers the first reason why
-/// it is refused. The header is judged first, and the rest as [`check`] does, but for where the lines begin.
+/// What is made of a task once, to check reports whose answers are about one box alone.
 ///
-/// Where lines are accepted there is no decision map in the box, and where a map with lines is, it is the least one there. A map
-/// without lines may lie outside.
-pub fn check_within<R: Threads + Sync>(
-    rt: &R,
-    alloc: Global,
-    task: &Task,
-    protocol: &Protocol,
-    sets: Vec<Mask>,
-    report: &Report,
-) -> Result<(), CertFault>
-    requires built { IsProtocol task.now protocol.now.rounds protocol.now }
-    requires long { length sets.items ≡ length protocol.now.points }
-    requires few { AreNumbered (body_length report.now.body) }
-    ensures { Judges result (report_fault_within task.now protocol.now.rounds
-        (box_of sets.items) (report_seen report.now)) }
-{
-    judge_header(task, protocol, report)?;
-    judge_within(rt, alloc, task, protocol, sets, &report.body)
+/// A clause sees it as the tuples of each rule of the task.
+#[derive(Drop)]
+pub struct Checker {
+    supports: Vec<Support>,
+}
+
+impl Model for Checker {
+    ghost use Rattle.std.specs.Prelude.{List};
+    ghost use Rattle.wf_model.specs.Task.{Tuple};
+
+    ghost Value = { List (List Tuple) };
+
+    ghost view = { λ checker. checker.supports.items };
+}
+
+impl Checker {
+    /// The checker of reports about a task. Refused for want of memory alone.
+    pub fn of(alloc: Global, task: &Task) -> Result<Checker, AllocError>
+        ensures { IfOk result (IsCheckerOf task.now) }
+    {
+        let supports = support_all(alloc, task)?;
+        Ok(Checker { supports })
+    }
+
+    /// Accepts a report whose answer is about one box alone, that with these values at each point, or answers the first reason
+    /// why it is refused. The header is judged first, and the rest as [`check`] does, but for where the lines begin.
+    ///
+    /// Where lines are accepted there is no decision map in the box, and where a map with lines is, it is the least one there. A
+    /// map without lines may lie outside.
+    pub fn check_within<R: Threads + Sync>(
+        &self,
+        rt: &R,
+        alloc: Global,
+        task: &Task,
+        protocol: &Protocol,
+        sets: Vec<Mask>,
+        report: &Report,
+    ) -> Result<(), CertFault>
+        requires checker { IsCheckerOf task.now self.now }
+        requires built { IsProtocol task.now protocol.now.rounds protocol.now }
+        requires long { length sets.items ≡ length protocol.now.points }
+        requires few { AreNumbered (body_length report.now.body) }
+        ensures { Judges result (report_fault_within task.now protocol.now.rounds
+            (box_of sets.items) (report_seen report.now)) }
+    {
+        judge_header(task, protocol, report)?;
+        self.judge(rt, alloc, task, protocol, sets, &report.body)
+    }
+
+    /// Judges the map, the lines over the box with these values at each point, or the map and then the lines.
+    fn judge<R: Threads + Sync>(
+        &self,
+        rt: &R,
+        alloc: Global,
+        task: &Task,
+        protocol: &Protocol,
+        sets: Vec<Mask>,
+        body: &Body,
+    ) -> Result<(), CertFault>
+        requires checker { IsCheckerOf task.now self.now }
+        requires built { IsProtocol task.now protocol.now.rounds protocol.now }
+        requires long { length sets.items ≡ length protocol.now.points }
+        requires few { AreNumbered (body_length body.now) }
+        ensures { let p = problem_of task.now protocol.now.rounds in
+            Judges result (fault_within p (box_of sets.items) (body_of body.now)) }
+    {
+        let supports = &self.supports;
+        match body {
+            Body::Map(values) => judge_map(rt, task, protocol, values),
+            Body::Nothing(lines) => judge_lines(
+                alloc,
+                task,
+                protocol,
+                supports,
+                sets,
+                Claim::Nothing,
+                FIRST_LINE,
+                lines,
+            ),
+            Body::Least(values, lines) => {
+                judge_map(rt, task, protocol, values)?;
+                let first = FIRST_LINE + values.len() as u32;
+                judge_lines(
+                    alloc,
+                    task,
+                    protocol,
+                    supports,
+                    sets,
+                    Claim::Least(values),
+                    first,
+                    lines,
+                )
+            }
+        }
+    }
 }
 
 /// Judges the numbers of the header.
@@ -119,7 +198,8 @@ fn all_alike(alloc: Global, values: Mask, points: u32) -> Result<Vec<Mask>, Allo
     Ok(sets)
 }
 
-/// Judges the map, the lines over the box with these values at each point, or the map and then the lines.
+/// Judges the map, the lines over the box with these values at each point, or the map and then the lines. A map alone takes no
+/// memory.
 fn judge_within<R: Threads + Sync>(
     rt: &R,
     alloc: Global,
@@ -136,29 +216,9 @@ fn judge_within<R: Threads + Sync>(
 {
     match body {
         Body::Map(values) => judge_map(rt, task, protocol, values),
-        Body::Nothing(lines) => {
-            judge_lines(
-                alloc,
-                task,
-                protocol,
-                sets,
-                Claim::Nothing,
-                FIRST_LINE,
-                lines,
-            )
-        }
-        Body::Least(values, lines) => {
-            judge_map(rt, task, protocol, values)?;
-            let first = FIRST_LINE + values.len() as u32;
-            judge_lines(
-                alloc,
-                task,
-                protocol,
-                sets,
-                Claim::Least(values),
-                first,
-                lines,
-            )
+        Body::Nothing(_) | Body::Least(_, _) => {
+            let checker = Checker::of(alloc, task)?;
+            checker.judge(rt, alloc, task, protocol, sets, body)
         }
     }
 }

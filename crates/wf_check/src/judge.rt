@@ -16,7 +16,7 @@ ghost use Rattle.wf_check.specs.Places.{place_in, tuples_of, unless_supported};
 ghost use Rattle.wf_check.specs.Faults.{Judges, Steps};
 
 use crate::boxes::Blocks;
-use crate::support::{is_supported, support_all};
+use crate::support::is_supported;
 use std::alloc::Global;
 use wf_complex::Protocol;
 use wf_lines::Line;
@@ -58,12 +58,14 @@ pub(crate) fn judge_lines(
     alloc: Global,
     task: &Task,
     protocol: &Protocol,
+    supports: &[Support],
     sets: Vec<Mask>,
     claim: Claim,
     first: u32,
     lines: &[Line],
 ) -> Result<(), CertFault>
     requires built { IsProtocol task.now protocol.now.rounds protocol.now }
+    requires supports { supports.now ≡ tuples_of task.now.delta }
     requires long { length sets.items ≡ length protocol.now.points }
     requires few { first + length lines.now < u32.MAX }
     ensures { let box = box_of sets.items in Judges result
@@ -71,33 +73,33 @@ pub(crate) fn judge_lines(
         (map line_of lines.now) (box ∷ [])) }
 {
     let mut blocks = Blocks::of(alloc, sets);
-    judge_from(alloc, task, protocol, claim, first, lines, &mut blocks)
+    judge_from(task, protocol, supports, claim, first, lines, &mut blocks)
 }
 
 /// Judges the lines over the boxes of these blocks.
 fn judge_from(
-    alloc: Global,
     task: &Task,
     protocol: &Protocol,
+    supports: &[Support],
     claim: Claim,
     first: u32,
     lines: &[Line],
     blocks: &mut Blocks,
 ) -> Result<(), CertFault>
     requires built { IsProtocol task.now protocol.now.rounds protocol.now }
+    requires supports { supports.now ≡ tuples_of task.now.delta }
     requires long { length blocks.old.sets.items ≡ length protocol.now.points }
     requires few { first + length lines.now < u32.MAX }
     ensures { Judges result (lines_fault (problem_of task.now protocol.now.rounds) claim.entry first
         (map line_of lines.now) (box_now blocks.old ∷ boxes_later blocks.old)) }
 {
-    let supports = support_all(alloc, task)?;
     let mut progress = Progress::Going;
     let mut at = first;
     for line in lines {
         let Progress::Going = progress else {
             return Err(CertFault::Trailing(at));
         };
-        progress = judge_line(task, protocol, &supports, claim, *line, at, blocks)?;
+        progress = judge_line(task, protocol, supports, claim, *line, at, blocks)?;
         at += 1;
     }
     match (claim, progress) {

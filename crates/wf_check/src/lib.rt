@@ -1,7 +1,7 @@
 //! The checker of reports.
 //!
 //! - [`check`]: accepts a report about a task, or answers the first reason why it is refused.
-//! - [`check_within`]: the same of a report whose answer is about one box alone.
+//! - [`Checker`]: the same of reports whose answers are about one box alone. It is made once of a task.
 //!
 //! It stands on reports, protocol complexes, sets of values and their support alone: what it accepts rests on nothing of the
 //! search.
@@ -14,4 +14,4 @@ mod judge;
 mod maps;
 mod support;
 
-pub use checking::{check, check_within};
+pub use checking::{Checker, check};

@@ -97,7 +97,7 @@ finds_none t r task fails = by_map (canonical (problem_of t r) (root (problem_of
 
 module _ (t : Task) (r : ℕ) where
   -- what is answered about the text of a report with this body
-  body_accepted : (rounds : Option ℕ) (body : Body) (text : List ℕ) (answer : Result (Accepted × List ℕ) RunFault) → AreAsked rounds r → IsInGrammar (report_about t r body) → HasComplex t r → report_fault t r (report_about t r body) ≡ None
+  pub body_accepted : (rounds : Option ℕ) (body : Body) (text : List ℕ) (answer : Result (Accepted × List ℕ) RunFault) → AreAsked rounds r → IsInGrammar (report_about t r body) → HasComplex t r → report_fault t r (report_about t r body) ≡ None
       → text ≡ text_of_report t r body → length text ≤ most_bytes → ChecksText rounds t text answer → Accepts (accepted_of body) answer
   unfolding text_of_report
   body_accepted rounds body text answer asked grammar within clear is short checks =

@@ -38,15 +38,15 @@ use Rattle.wf_engine.specs.Run.{HasComplex}
 -- ---- the values of removed candidates
 
 -- a value that a line may hold
-IsSmall : ℕ → Type 0
+pub IsSmall : ℕ → Type 0
 IsSmall a = a ≤ largest 2
 
 -- each candidate is such a value
-abbrev AreSmall : Box → Type 0
+abbrev pub AreSmall : Box → Type 0
 AreSmall box = AllByRecursion (λ set. AllByRecursion IsSmall set) box
 
 -- the value of a removal is one
-abbrev HasSmallValue : Line → Type 0
+abbrev pub HasSmallValue : Line → Type 0
 HasSmallValue (remove e c a) = IsSmall a
 HasSmallValue (empty v) = Unit {0}
 HasSmallValue (branch v) = Unit {0}
@@ -67,7 +67,7 @@ without_small box v a h =
     set_small box v (filter (λ b. not (b == a)) (candidates box v)) h
     (each_filter IsSmall (λ b. not (b == a)) (candidates box v) (candidates_small box v h))
 
-branches_small : (box : Box) (v : ℕ) → AreSmall box → AllByRecursion AreSmall (branches_at box v)
+pub branches_small : (box : Box) (v : ℕ) → AreSmall box → AllByRecursion AreSmall (branches_at box v)
 branches_small box v h =
     each_map AreSmall (decided box v) (candidates box v)
     (weaker IsSmall (λ a. AreSmall (decided box v a)) (λ a k. set_small box v (a ∷ []) h (k, tt)) (candidates box v) (candidates_small box v h))
@@ -84,7 +84,7 @@ losses_small box k h =
     (each_filter IsSmall (λ a. not (is_supported_in k box q.0 a)) (candidates box q.2) (candidates_small box q.2 h))) (places k.scope)))
 
 -- lines with small values, and a box with small candidates, if one is left
-abbrev KeepsSmall : List Line → Option Box → Type 0
+abbrev pub KeepsSmall : List Line → Option Box → Type 0
 KeepsSmall ls left = AllByRecursion HasSmallValue ls × Leaves AreSmall left
 
 continued_small : (ls : List Line) (left : Option Box) (next : Box → Step) → KeepsSmall ls left → ((b : Box) → AreSmall b → KeepsSmall (next b).lines (next b).left) →
@@ -118,7 +118,7 @@ sweeps_small : (p : Problem) (n : ℕ) (box : Box) → AreSmall box → KeepsSma
 sweeps_small p zero box h = (tt, h)
 sweeps_small p (suc n) box h = unless_none_small (sweep p box).lines (sweep p box) (sweeps n p) (sweep_small 0 p.constraints box h) (sweeps_small p n)
 
-closing_small : (p : Problem) (o : Option ℕ) (box : Box) → AreSmall box → KeepsSmall (closing_at o p box).lines (closing_at o p box).left
+pub closing_small : (p : Problem) (o : Option ℕ) (box : Box) → AreSmall box → KeepsSmall (closing_at o p box).lines (closing_at o p box).left
 closing_small p None box h = sweeps_small p (suc (count box)) box h
 closing_small p (Some v) box h = ((tt, tt), tt)
 
@@ -243,6 +243,21 @@ step_within (empty v) h k = h
 step_within (branch v) h k = h
 step_within found h k = tt
 
+-- a line that was read has a small value
+pub line_small : (l : Line) → IsLineWithin l → HasSmallValue l
+unfolding IsSmall
+line_small (remove e c a) h = h.2
+line_small (empty v) h = tt
+line_small (branch v) h = tt
+line_small found h = tt
+
+pub step_small : (l : Line) → IsStepWithin l → HasSmallValue l
+unfolding IsSmall
+step_small (remove e c a) h = h.2
+step_small (empty v) h = tt
+step_small (branch v) h = tt
+step_small found h = tt
+
 -- ---- a task
 
 -- a list of at most so many for each element
@@ -320,7 +335,7 @@ module _ (t : Task) (r : ℕ) (task : IsTask t) where
       let all = flat_map values_of t.outputs in
       weaker (λ a. has (values t) a ≡ true) IsSmall (λ a h. each_with_value IsSmall all a outputs_small (has_from_order a all h)) (values t) (each_has (values t))
 
-  root_small : AreSmall (root (problem_of t r))
+  pub root_small : AreSmall (root (problem_of t r))
   root_small = recursion_from_All _ (root (problem_of t r)) (All-replicate (λ set. AllByRecursion IsSmall set) (length (points t r)) (values t) values_small)
 
   module _ (within : HasComplex t r) where
@@ -352,26 +367,33 @@ module _ (t : Task) (r : ℕ) (task : IsTask t) where
     canonical_small : AllByRecursion HasSmallValue (canonical (problem_of t r) (root (problem_of t r))).lines
     canonical_small = search_small (problem_of t r) (suc (count (root (problem_of t r)))) (root (problem_of t r)) root_small
 
-    -- a report of a refutation with the lines of the canonical search
-    pub none_within : (shape : Tree) → lines shape ≡ (canonical (problem_of t r) (root (problem_of t r))).lines → Refutes (problem_of t r) shape (root (problem_of t r)) →
-        IsInGrammar (report_about t r (none (canonical (problem_of t r) (root (problem_of t r))).lines))
-    none_within shape same refutes =
+    -- a report of a refutation with lines that have small values
+    pub small_none_within : (shape : Tree) (ls : List Line) → lines shape ≡ ls → Refutes (problem_of t r) shape (root (problem_of t r)) → AllByRecursion HasSmallValue ls → IsInGrammar (report_about t r (none ls))
+    small_none_within shape ls same refutes small =
         let p = problem_of t r in
-        let ls : List Line = (canonical p (root p)).lines in
         about_within (none ls)
         (both IsPlaced HasSmallValue IsLineWithin line_within ls
         (subst (AllByRecursion IsPlaced) same (placed p as_many (constraints_have t r task) shape (root p) short_root refutes))
-        canonical_small)
+        small)
 
-    -- a report of a decision map with the lines of the canonical search, which lead to it
-    pub least_within : (m : View → ℕ) → IsDecisionMap t r m → (shape : Tree) → lines shape ≡ (canonical (problem_of t r) (root (problem_of t r))).lines → IsLeastTree (problem_of t r) (listed t r m) shape (root (problem_of t r)) →
-        IsInGrammar (report_about t r (least (listed t r m) (canonical (problem_of t r) (root (problem_of t r))).lines))
-    least_within m decides shape same leads =
+    -- a report of a decision map with such lines, which lead to it
+    pub small_least_within : (m : View → ℕ) → IsDecisionMap t r m → (shape : Tree) (ls : List Line) → lines shape ≡ ls → IsLeastTree (problem_of t r) (listed t r m) shape (root (problem_of t r)) →
+        AllByRecursion HasSmallValue ls → IsInGrammar (report_about t r (least (listed t r m) ls))
+    small_least_within m decides shape ls same leads small =
         let p = problem_of t r in
-        let ls : List Line = (canonical p (root p)).lines in
         about_within (least (listed t r m) ls) (
           (map_within m decides).body,
           both IsStepPlaced HasSmallValue IsStepWithin step_within ls
               (subst (AllByRecursion IsStepPlaced) same (led p as_many (constraints_have t r task) (listed t r m) shape (root p) short_root leads))
-              canonical_small,
+              small,
         )
+
+    -- a report of a refutation with the lines of the canonical search
+    pub none_within : (shape : Tree) → lines shape ≡ (canonical (problem_of t r) (root (problem_of t r))).lines → Refutes (problem_of t r) shape (root (problem_of t r)) →
+        IsInGrammar (report_about t r (none (canonical (problem_of t r) (root (problem_of t r))).lines))
+    none_within shape same refutes = small_none_within shape (canonical (problem_of t r) (root (problem_of t r))).lines same refutes canonical_small
+
+    -- a report of a decision map with the lines of the canonical search, which lead to it
+    pub least_within : (m : View → ℕ) → IsDecisionMap t r m → (shape : Tree) → lines shape ≡ (canonical (problem_of t r) (root (problem_of t r))).lines → IsLeastTree (problem_of t r) (listed t r m) shape (root (problem_of t r)) →
+        IsInGrammar (report_about t r (least (listed t r m) (canonical (problem_of t r) (root (problem_of t r))).lines))
+    least_within m decides shape same leads = small_least_within m decides shape (canonical (problem_of t r) (root (problem_of t r))).lines same leads canonical_small

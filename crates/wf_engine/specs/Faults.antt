@@ -15,8 +15,10 @@ use Rattle.wf_cnf.specs.declared.solver.ModelFault.{ModelFault}
 use Rattle.wf_cnf.specs.declared.solver.ModelFault.TheVariants as model
 use Rattle.wf_rup.specs.declared.proof.ProofFault.{ProofFault}
 use Rattle.wf_rup.specs.declared.proof.ProofFault.TheVariants as proof
+use Rattle.wf_engine.specs.declared.fault.PartFault.{PartFault}
+use Rattle.wf_engine.specs.declared.fault.PartFault.TheVariants as part
 use Rattle.wf_engine.specs.declared.fault.RunFault.{RunFault}
-use Rattle.wf_engine.specs.declared.fault.RunFault.TheVariants.{TooLong, Task, Build, Cert, Model, Proof, OtherRounds, NoMap, NoBranch, OtherPart, NotInBranch, OutOfMemory, Read, Write}
+use Rattle.wf_engine.specs.declared.fault.RunFault.TheVariants.{TooLong, Task, Build, Cert, Model, Proof, OtherRounds, NoMap, NoBranch, OtherPart, NotInBranch, NoPart, InPart, TooManyParts, OutOfMemory, Read, Write}
 
 -- a text that is too long is one refusal, and so is out of memory, wherever they came
 abbrev pub of_read : ReadFault → RunFault
@@ -62,6 +64,11 @@ proof_text (proof.NoContradiction line) = codes "41 NoContradiction " ++ decimal
 proof_text proof.Binary = codes "42 Binary: ask the solver for text by --no-binary"
 proof_text proof.OutOfMemory = task_text.fault_text task.OutOfMemory
 
+-- what is printed of a part about a branch that is not accepted
+abbrev pub part_fault_text : PartFault → List ℕ
+part_fault_text (part.Report e) = cert_text.fault_text e
+part_fault_text part.NotInBranch = codes "46 NotInBranch"
+
 -- each part owns the numbers and the names of its own refusals
 abbrev pub fault_text : RunFault → List ℕ
 fault_text TooLong = task_text.fault_text task.TooLong
@@ -76,5 +83,8 @@ fault_text NoMap = codes "43 NoMap"
 fault_text (NoBranch branches) = codes "44 NoBranch " ++ decimal branches
 fault_text OtherPart = codes "45 OtherPart"
 fault_text NotInBranch = codes "46 NotInBranch"
+fault_text (NoPart branch) = codes "47 NoPart " ++ decimal branch
+fault_text (InPart branch e) = codes "48 InPart " ++ (decimal branch ++ (codes ": " ++ part_fault_text e))
+fault_text (TooManyParts branches) = codes "49 TooManyParts " ++ decimal branches
 fault_text Read = codes "30 Read"
 fault_text Write = codes "31 Write"

@@ -1,7 +1,7 @@
 //! Why a run is refused.
 
 ghost use Rattle.std.specs.Prelude.{◌≡◌, Some};
-ghost use Rattle.wf_engine.specs.Faults.{of_read, of_task, of_build, of_cert, of_model, of_proof, fault_text};
+ghost use Rattle.wf_engine.specs.Faults.{of_read, of_task, of_build, of_cert, of_model, of_proof, fault_text, part_fault_text};
 ghost use Rattle.wf_engine.specs.declared.fault.RunFault.TheVariants.{OutOfMemory, Write};
 
 use std::alloc::AllocError;
@@ -41,12 +41,49 @@ pub enum RunFault {
     OtherPart,
     /// 46: the map of a part is a decision map, and lies in another branch.
     NotInBranch,
+    /// 47: what comes next in a text of parts is no part about the branch that is to come.
+    NoPart {
+        /// The number of that branch.
+        branch: u32,
+    },
+    /// 48: among the parts of all branches, this one is refused.
+    InPart {
+        /// The number of its branch.
+        branch: u32,
+        /// Why it is.
+        fault: PartFault,
+    },
+    /// 49: a text of parts goes on behind the parts of all branches.
+    TooManyParts {
+        /// How many branches there are.
+        branches: u32,
+    },
     /// 15: memory ran out.
     OutOfMemory,
     /// 30: a call of the reader answered an error.
     Read,
     /// 31: a call of the writer answered an error, or took no byte.
     Write,
+}
+
+/// Why a part about a branch is refused.
+#[derive(Clone, Copy, Debug, PartialEq, Eq)]
+pub enum PartFault {
+    /// 1, 20 to 29, 34, 35: its report is none, or it is not accepted about the branch.
+    Report(CertFault),
+    /// 46: its map is a decision map, and lies in another branch.
+    NotInBranch,
+}
+
+impl fmt::Display for PartFault {
+    ghost output = { λ f. Some (part_fault_text f) };
+
+    fn fmt<W: fmt::Write>(&self, f: &mut fmt::Formatter<W>) -> fmt::Result {
+        match self {
+            PartFault::Report(fault) => write!(f, "{fault}"),
+            PartFault::NotInBranch => write!(f, "46 NotInBranch"),
+        }
+    }
 }
 
 impl fmt::Display for RunFault {
@@ -85,6 +122,9 @@ impl fmt::Display for RunFault {
             RunFault::NoBranch { branches } => write!(f, "44 NoBranch {branches}"),
             RunFault::OtherPart => write!(f, "45 OtherPart"),
             RunFault::NotInBranch => write!(f, "46 NotInBranch"),
+            RunFault::NoPart { branch } => write!(f, "47 NoPart {branch}"),
+            RunFault::InPart { branch, fault } => write!(f, "48 InPart {branch}: {fault}"),
+            RunFault::TooManyParts { branches } => write!(f, "49 TooManyParts {branches}"),
             RunFault::OutOfMemory => write!(f, "{}", TaskFault::OutOfMemory),
             RunFault::Read => write!(f, "30 Read"),
             RunFault::Write => write!(f, "31 Write"),

@@ -12,7 +12,7 @@
 //! - [`run_preset`]: the canonical text of a [`Preset`] out.
 //! - [`read_task`], [`read_report_from`], [`read_proof_from`], [`check_report`], [`write_points`], [`pose_problem`],
 //!   [`lines_kept`], [`map_body`], [`report_text`], [`accepted_words`], [`hand_out`]: steps that runs share, for those of other crates too.
-//! - [`RunFault`]: why a run is refused, with its number and its name.
+//! - [`RunFault`]: why a run is refused, with its number and its name; [`PartFault`]: why one part among others is.
 //!
 //! Each engine has one condition, that source and sink can count what it asks of them, and one relation that says what
 //! it read, answered and wrote (`specs/Texts.antt`, step by step in `specs/Run.antt`). The laws say what follows from
@@ -37,7 +37,7 @@ mod views;
 
 pub use cnf::run_cnf;
 pub use decisions::run_decisions;
-pub use fault::RunFault;
+pub use fault::{PartFault, RunFault};
 pub use laws::{
     acceptances_are_true, answers_are_true, deciding_is_counted, decisions_are_true,
     listing_is_counted, modelling_is_counted, models_are_accepted, models_are_true,

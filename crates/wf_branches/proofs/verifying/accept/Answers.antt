@@ -1,29 +1,22 @@
-use Rattle.std.proofs.Common.{ap, subst, sym, ◌≡◌, ◌∙◌, None, length}
-use Rattle.wf_formula.specs.Branches.{branch_at, branches}
-use Rattle.wf_set.specs.Sets.{box_of}
-use Rattle.wf_check.specs.Within.{report_fault_within}
-use Rattle.wf_report.specs.Reports.{body_of, report_seen}
+use Rattle.std.proofs.Common.{ap, ◌∙◌, length}
+use Rattle.wf_formula.specs.Branches.{branches}
+use Rattle.wf_report.specs.Reports.{body_of}
 use Rattle.wf_engine.specs.Verify.{accepted_words}
 use Rattle.wf_branches.specs.Refuting.{accepted_in}
-use Rattle.wf_branches.specs.Verifying.{is_outside}
-use Rattle.wf_branches.proofs.Verified.{part_true}
 use Rattle.wf_branches.proofs.verifying.accept.Goals as goal
 
 pub returns : goal.returns
 returns g c =
     let t = c.args.task.now in
     let r = c.args.protocol.now.rounds in
+    let place = c.place-place.ensures in
     let branch = c.requires.branch in
     let i = c.args.branch.number in
-    let report = report_seen c.args.report.now in
-    let body = body_of c.args.report.now.body in
-    let clear = subst (λ box. report_fault_within t r box report ≡ None) branch.sets c.in_ok-check_within.ensures in
-    let same : c.is_outside-is_elsewhere.result ≡ is_outside body (branch_at t r i) =
-    c.is_outside-is_elsewhere.ensures ∙ ap (λ sets. is_outside body (box_of sets)) c.deref.ensures.value ∙ ap (is_outside body) branch.sets in
-    let words = accepted_words body in (
-      part_true t r i c.requires.protocol.task branch.there report clear (sym same ∙ c.if-is_elsewhere.false),
+    let words = accepted_words (body_of c.args.report.now.body) in (
+      c.in_ok-check_part.ensures,
       ap (λ v. v.items) c.into_bytes.ensures.value ∙ c.in_ok-text.ensures
-          ∙ ap (λ w. accepted_in w i c.args.branch.count c.rounds.result) c.accepted_words.ensures
-          ∙ ap (λ n. accepted_in words i n c.rounds.result) branch.count
+          ∙ ap (λ w. accepted_in w c.place-place.result.number c.place-place.result.count c.rounds.result) c.accepted_words.ensures
+          ∙ ap (λ k. accepted_in words k c.place-place.result.count c.rounds.result) place.number
+          ∙ ap (λ n. accepted_in words i n c.rounds.result) (place.count ∙ branch.count)
           ∙ ap (accepted_in words i (length (branches t r))) c.rounds.ensures,
     )

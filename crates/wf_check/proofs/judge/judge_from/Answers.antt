@@ -22,8 +22,8 @@ returns-in_err-progress c =
     let p = problem_of c.args.task.now c.args.protocol.now.rounds in
     let k = c.loop-line in
     let lines = c.args.lines.now in
-    let e = err_from_is_err_and c.from_residual-in_err-progress.result c.from_residual-in_err-progress.ensures.1 in
-    judges_fault c.from_residual-in_err-progress.result e.0 c.in_err-progress.field-0.0 _ e.1 e.2
+    let e = err_from_is_err_and c.from_residual.result c.from_residual.ensures.1 in
+    judges_fault c.from_residual.result e.0 c.in_err-progress.field-0.0 _ e.1 e.2
     (subst (Fails c.in_err-progress.field-0.0)
     (sym (going_on p c.args.claim k.at k.line-index lines (line.Remove 0 0 0) k.progress k.blocks c.loop-line-test.true c.in-Going.is) ∙ k.invariant.0)
     (c.in_err-progress.ensures.step (map line_of (drop (k.line-index + 1) lines))))

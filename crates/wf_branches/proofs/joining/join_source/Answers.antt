@@ -1,0 +1,12 @@
+use Rattle.wf_engine.specs.Run.{answered}
+use Rattle.wf_engine.proofs.Asking.{asked, unasked}
+use Rattle.wf_branches.specs.Joining.{ReadsParts}
+use Rattle.wf_branches.proofs.joining.join_source.Goals as goal
+
+pub returns-in_err-protocol : goal.returns-in_err-protocol
+returns-in_err-protocol g c =
+    unasked ReadsParts c.args.task.now c.args.rounds c.args.source.now c.in_err-protocol.field-0.0 c.from_residual.result c.in_err-protocol.ensures c.from_residual.ensures
+
+pub returns : goal.returns
+returns g c =
+    asked ReadsParts c.args.task.now c.args.rounds c.in_ok-protocol.protocol c.in_ok-protocol.ensures c.args.source.now c.join_in.new.source (answered c.join_in.result) c.join_in.ensures

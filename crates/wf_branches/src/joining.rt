@@ -1,0 +1,225 @@
+//! Putting the parts of all branches together to the report of the whole question.
+
+ghost use Rattle.std.specs.Prelude.{◌≡◌, ◌++◌, ◌∷◌, [], IfOk, Ok, OnOk};
+ghost use Rattle.wf_model.specs.Problem.{problem_of};
+ghost use Rattle.wf_io.specs.Ends.{CanRead};
+ghost use Rattle.wf_complex.specs.Protocol.{Builds, IsProtocol};
+ghost use Rattle.wf_check.specs.Within.{IsCheckerOf};
+ghost use Rattle.wf_report.specs.Reports.{body_length, body_of};
+ghost use Rattle.wf_engine.specs.Run.{answered};
+ghost use Rattle.wf_engine.specs.Sources.{AsksBoth, AsksWithin};
+ghost use Rattle.wf_engine.specs.Verify.{CanVerify};
+ghost use Rattle.wf_branches.specs.Branches.{IsCoverOf};
+ghost use Rattle.wf_branches.specs.Joining.{AcceptsJoined, GathersAll, HasListsFor, Joins, JoinsText, ReadsParts, gathered_of, gathered_seen, joined_body};
+
+use crate::branch::cover_of;
+use crate::parts::{next_part, take_part};
+use std::alloc::{AllocError, Global};
+use std::io::{Read, Write};
+use std::thread::Threads;
+use wf_check::{Checker, check};
+use wf_complex::Protocol;
+use wf_engine::{RunFault, hand_out, read_task};
+use wf_io::{Sink, Source, read_all};
+use wf_lines::Lines;
+use wf_report::{Body, Header, Report, write_report};
+use wf_search::Cover;
+use wf_task::Task;
+
+/// The parts of all branches have at most so many bytes together.
+const MOST_PARTS_BYTES: usize = u32::MAX as usize;
+
+/// A report has fewer values and lines than this.
+const MOST_LINES: usize = 1 << 31;
+
+/// Reads a task to its reader's end, and then the parts of the branches of its question after these rounds to their own reader's
+/// end, one part behind another in the order of the branches; checks each of them without a search, up to the first that has a
+/// map; and writes the report of the whole question, which is checked as well before it is written.
+///
+/// A part goes up to its line `end`. Where what comes next is no part about the branch that is to come, that is told, `47 NoPart`;
+/// a part that is not accepted is, `48 InPart`; and where the text goes on behind the parts of all branches, that is, `49
+/// TooManyParts`. What comes behind the first part that has a map is not looked at.
+pub fn run_join<T: Threads + Sync, R: Read, C: Read, W: Write>(
+    rt: &T,
+    alloc: Global,
+    task_source: &mut Source<R>,
+    parts_source: &mut Source<C>,
+    sink: &mut Sink<W>,
+    rounds: u32,
+) -> Result<(), RunFault>
+    requires { CanVerify task_source.old parts_source.old sink.old }
+    ensures { Joins rounds task_source.old task_source.new parts_source.old parts_source.new
+        sink.old sink.new result }
+{
+    let answer = join_sources(rt, alloc, task_source, parts_source, rounds);
+    hand_out(sink, answer)
+}
+
+/// The report that a source's parts come to about another source's task.
+fn join_sources<T: Threads + Sync, R: Read, C: Read>(
+    rt: &T,
+    alloc: Global,
+    task_source: &mut Source<R>,
+    parts_source: &mut Source<C>,
+    rounds: u32,
+) -> Result<((), Vec<u8>), RunFault>
+    requires task { CanRead task_source.old }
+    requires parts { CanRead parts_source.old }
+    ensures { AsksBoth ReadsParts rounds task_source.old task_source.new
+        parts_source.old parts_source.new (answered result) }
+{
+    let task = read_task(alloc, task_source)?;
+    join_source(rt, alloc, &task, parts_source, rounds)
+}
+
+/// The report that a source's parts come to about a task.
+fn join_source<T: Threads + Sync, C: Read>(
+    rt: &T,
+    alloc: Global,
+    task: &Task,
+    source: &mut Source<C>,
+    rounds: u32,
+) -> Result<((), Vec<u8>), RunFault>
+    requires { CanRead source.old }
+    ensures { AsksWithin ReadsParts rounds task.now source.old source.new (answered result) }
+{
+    let protocol = Protocol::build(alloc, task, rounds)?;
+    join_in(rt, alloc, task, &protocol, source)
+}
+
+/// The same on the task's protocol complex.
+fn join_in<T: Threads + Sync, C: Read>(
+    rt: &T,
+    alloc: Global,
+    task: &Task,
+    protocol: &Protocol,
+    source: &mut Source<C>,
+) -> Result<((), Vec<u8>), RunFault>
+    requires source { CanRead source.old }
+    requires protocol { Builds task.now protocol.now.rounds (Ok protocol.now) }
+    ensures { ReadsParts task.now protocol.now.rounds source.old source.new (answered result) }
+{
+    let text = read_all(alloc, source, MOST_PARTS_BYTES)?;
+    join_text(rt, alloc, task, protocol, text)
+}
+
+/// The report that the parts of a text come to. The text is given back before the report is made.
+fn join_text<T: Threads + Sync>(
+    rt: &T,
+    alloc: Global,
+    task: &Task,
+    protocol: &Protocol,
+    text: Vec<u8>,
+) -> Result<((), Vec<u8>), RunFault>
+    requires { Builds task.now protocol.now.rounds (Ok protocol.now) }
+    ensures { JoinsText task.now protocol.now.rounds text.items (answered result) }
+{
+    let cover = cover_of(alloc, task, protocol)?;
+    let gathered = gather(rt, alloc, task, protocol, &cover, &text)?;
+    drop(text);
+    let body = gathered.join(alloc, &cover)?;
+    accept_joined(rt, alloc, task, protocol, body)
+}
+
+/// What the parts of all branches come to.
+#[derive(Drop)]
+enum Gathered {
+    /// The lines of each branch; none has a map.
+    WithoutMap(Vec<Lines>),
+    /// The map of the first branch that has one.
+    WithMap(Vec<u8>),
+    /// The same with the lines of the branches up to it.
+    WithLeast(Vec<u8>, Vec<Lines>),
+}
+
+/// What the parts of a text come to.
+fn gather<T: Threads + Sync>(
+    rt: &T,
+    alloc: Global,
+    task: &Task,
+    protocol: &Protocol,
+    cover: &Cover,
+    text: &[u8],
+) -> Result<Gathered, RunFault>
+    requires protocol { IsProtocol task.now protocol.now.rounds protocol.now }
+    requires cover { IsCoverOf task.now protocol.now.rounds cover.now }
+    ensures gathers { GathersAll task.now protocol.now.rounds text.now (gathered_seen result) }
+    ensures few { IfOk result (HasListsFor cover.now) }
+{
+    let checker = Checker::of(alloc, task)?;
+    let mut rest = text;
+    let mut lists = Vec::new(alloc);
+    for number in 0..cover.branches() {
+        let (part, behind) = next_part(rest);
+        match take_part(rt, alloc, task, protocol, cover, &checker, number, part)? {
+            Body::Map(values) => return Ok(Gathered::WithMap(values)),
+            Body::Nothing(lines) => keep(&mut lists, lines)?,
+            Body::Least(values, lines) => {
+                keep(&mut lists, lines)?;
+                return Ok(Gathered::WithLeast(values, lists));
+            }
+        }
+        rest = behind;
+    }
+    if !rest.is_empty() {
+        return Err(RunFault::TooManyParts {
+            branches: cover.branches(),
+        });
+    }
+    Ok(Gathered::WithoutMap(lists))
+}
+
+/// Keeps the lines of one branch more.
+fn keep(lists: &mut Vec<Lines>, lines: Lines) -> Result<(), AllocError>
+    ensures { OnOk result (lists.new.items ≡ lists.old.items ++ lines ∷ []) }
+{
+    lists.push(lines)?;
+    Ok(())
+}
+
+impl Gathered {
+    /// What it says of the whole question.
+    fn join(self, alloc: Global, cover: &Cover) -> Result<Body, AllocError>
+        requires { HasListsFor cover.now self }
+        ensures { IfOk result (λ body. body_of body ≡ joined_body cover.now (gathered_of self)) }
+    {
+        match self {
+            Gathered::WithoutMap(lists) => Ok(Body::Nothing(cover.fill(alloc, lists)?)),
+            Gathered::WithMap(values) => Ok(Body::Map(values)),
+            Gathered::WithLeast(values, lists) => {
+                Ok(Body::Least(values, cover.fill_least(alloc, lists)?))
+            }
+        }
+    }
+}
+
+/// The report with this answer, where the checker finds no fault in it.
+fn accept_joined<T: Threads + Sync>(
+    rt: &T,
+    alloc: Global,
+    task: &Task,
+    protocol: &Protocol,
+    body: Body,
+) -> Result<((), Vec<u8>), RunFault>
+    requires { Builds task.now protocol.now.rounds (Ok protocol.now) }
+    ensures { AcceptsJoined task.now protocol.now.rounds (body_of body) (answered result) }
+{
+    if count_lines(&body) >= MOST_LINES {
+        return Err(RunFault::TooLong);
+    }
+    let header = Header::about(task, protocol);
+    let report = Report { header, body };
+    check(rt, alloc, task, protocol, &report)?;
+    Ok(((), write_report(alloc, &report)?))
+}
+
+/// How many values and lines an answer has.
+fn count_lines(body: &Body) -> usize
+    ensures { result ≡ body_length body.now }
+{
+    match body {
+        Body::Map(values) => values.len(),
+        Body::Nothing(lines) => lines.len(),
+        Body::Least(values, lines) => values.len() + lines.len(),
+    }
+}
