@@ -104,6 +104,26 @@ def told(notes):
     return f"not decided: none in {nones} of {notes.count} branches, and nothing is known of the others", None
 
 
+def joined(ask, notes, words, rounds):
+    """Puts the parts together where the search wrote one of each branch up to the first with a map: the report of the whole question,
+    which is checked. Where a solver was asked about some of them there is none."""
+    known = notes.all()
+    first_map = next((branch for branch, note in known.items() if note.startswith("map")), notes.count - 1)
+    parts = [ask.Question(words.task, rounds, notes.folder, branch).file("report") for branch in range(first_map + 1)]
+    if not all(branch in known and part.is_file() and part.stat().st_size for branch, part in enumerate(parts)):
+        return
+    whole = ask.Question(words.task, rounds, notes.folder)
+    with open(whole.file("parts"), "wb") as text:
+        for part in parts:
+            text.write(part.read_bytes())
+    status, report, taken = ask.program(["join", *whole.about], whole.file("parts"))
+    print(f"    wfcheck join: {'the report of the whole' if status == 0 else report.strip()} ({taken:.2f} s)", flush=True)
+    whole.file("parts").unlink()
+    if status == 0:
+        whole.file("report").write_text(report)
+        ask.checked(["verify", *whole.about], whole.file("report"), None)
+
+
 def array(words, rounds, count):
     """The script of an array of jobs, one for each branch."""
     here, program = pathlib.Path.cwd(), pathlib.Path(sys.argv[0])
@@ -131,6 +151,8 @@ def main(ask, words, solver):
     chosen = range(count) if words.branch is None else [words.branch]
     print(f"{words.task.stem} after {rounds} {'round' if rounds == 1 else 'rounds'}, {count} branches, {len(notes.all())} of them known:", flush=True)
     run_jobs(ask, notes, words, rounds, solver, chosen)
+    if words.branch is None:
+        joined(ask, notes, words, rounds)
     text, answer = told(notes) if words.branch is None else (notes.of(words.branch) or "not decided", None)
     print(f"    {text}", flush=True)
     return ask.STATUS[answer if words.branch is None else (text.split(",")[0] if text != "not decided" else None)]

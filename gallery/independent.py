@@ -1,5 +1,5 @@
 """What further commands have to write, found from the definitions of second_opinion.py: the list of executions, lifted maps,
-branches, and what a search of one branch writes.
+branches, and what a search of one branch writes, or of the whole.
 
     independent.py executions TASK ROUNDS     the text of `wfcheck executions`
     independent.py lift TASK REPORT ROUNDS    the text of `wfcheck lift --rounds ROUNDS` of a report of a map
@@ -7,6 +7,8 @@ branches, and what a search of one branch writes.
     independent.py cnf TASK ROUNDS BRANCH     the text of `wfcheck cnf --branch BRANCH`
     independent.py solve TASK ROUNDS BRANCH FORM
                                               the part of `wfcheck solve --branch BRANCH`, FORM being full, verdict or least
+    independent.py solve TASK ROUNDS all FORM the report of `wfcheck solve`, and what `wfcheck join` makes of the parts of all branches
+    independent.py parts TASK ROUNDS FORM     the parts of all branches, or of the first up to one with a map
 
 It shares nothing with the program, and is slow.
 """
@@ -159,23 +161,49 @@ def search(made, box, lines):
     return next((it for it in found if it), None)
 
 
-def solve(task, rounds, branch, form):
-    """What a search of one branch writes: which branch it is, and a report about it alone."""
-    made, lines = opinion.Complex(task, rounds), []
-    boxes = split(made)
-    found = search(made, boxes[branch], lines)
-    front = ["wfcheck part 1", f"branch {branch}", f"branches {len(boxes)}", "wfcheck report 1", f"processes {task['processes']}",
-             f"rounds {rounds}", f"points {made.points}", f"executions {len(made.executions)}"]
+def report(task, rounds, made, box, form):
+    """The report of a search of a box, and whether it has a map."""
+    lines = []
+    found = search(made, box, lines)
+    front = ["wfcheck report 1", f"processes {task['processes']}", f"rounds {rounds}", f"points {made.points}", f"executions {len(made.executions)}"]
     if found is None:
-        return "\n".join([*front, "answer none", *(lines if form != "verdict" else []), "end\n"])
+        return "\n".join([*front, "answer none", *(lines if form != "verdict" else []), "end\n"]), False
     answer = "answer least" if form == "least" else "answer map"
-    return "\n".join([*front, answer, *(f"m {it}" for it in found), *(lines if form == "least" else []), "end\n"])
+    return "\n".join([*front, answer, *(f"m {it}" for it in found), *(lines if form == "least" else []), "end\n"]), True
+
+
+def solve(task, rounds, branch, form):
+    """What a search of one branch writes: which branch it is, and a report about it alone. Of the whole it is the report."""
+    made = opinion.Complex(task, rounds)
+    if branch is None:
+        return report(task, rounds, made, [made.values] * made.points, form)[0]
+    boxes = split(made)
+    return part_head(branch, len(boxes)) + report(task, rounds, made, boxes[branch], form)[0]
+
+
+def part_head(branch, count):
+    return f"wfcheck part 1\nbranch {branch}\nbranches {count}\n"
+
+
+def parts(task, rounds, form):
+    """The parts of the branches in order, up to the first with a map."""
+    made, found = opinion.Complex(task, rounds), []
+    boxes = split(made)
+    for branch, box in enumerate(boxes):
+        text, has_map = report(task, rounds, made, box, form)
+        found.append(part_head(branch, len(boxes)) + text)
+        if has_map:
+            break
+    return "".join(found)
 
 
 def main():
     if sys.argv[1:2] == ["solve"] and len(sys.argv) == 6:
         with open(sys.argv[2]) as file:
-            return solve(json.load(file), int(sys.argv[3]), int(sys.argv[4]), sys.argv[5])
+            return solve(json.load(file), int(sys.argv[3]), None if sys.argv[4] == "all" else int(sys.argv[4]), sys.argv[5])
+    if sys.argv[1:2] == ["parts"] and len(sys.argv) == 5:
+        with open(sys.argv[2]) as file:
+            return parts(json.load(file), int(sys.argv[3]), sys.argv[4])
     if sys.argv[1:2] == ["branches"] and len(sys.argv) == 4:
         with open(sys.argv[2]) as file:
             return branches(json.load(file), int(sys.argv[3]))

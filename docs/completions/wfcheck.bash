@@ -4,7 +4,7 @@ _wfcheck() {
     local words
     COMPREPLY=()
     if [ "$COMP_CWORD" -eq 1 ]; then
-        mapfile -t COMPREPLY < <(compgen -W "solve verify views points branches cnf model proof trim explain lift executions preset help --help --version" -- "$cur")
+        mapfile -t COMPREPLY < <(compgen -W "solve verify views points branches join cnf model proof trim explain lift executions preset help --help --version" -- "$cur")
         return
     fi
     case ${COMP_WORDS[1]}:$prev in
@@ -26,6 +26,12 @@ _wfcheck() {
             return
             ;;
         branches:--rounds) return ;;
+        join:--task)
+            compopt -o filenames 2> /dev/null
+            mapfile -t COMPREPLY < <(compgen -f -- "$cur")
+            return
+            ;;
+        join:--rounds) return ;;
         cnf:--rounds) return ;;
         cnf:--branch) return ;;
         model:--task)
@@ -69,6 +75,7 @@ _wfcheck() {
         views) words="--rounds --help" ;;
         points) words="--rounds --task --help" ;;
         branches) words="--rounds --help" ;;
+        join) words="--task --rounds --help" ;;
         cnf) words="--rounds --branch --help" ;;
         model) words="--task --rounds --help" ;;
         proof) words="--task --rounds --branch --help" ;;
@@ -77,7 +84,7 @@ _wfcheck() {
         lift) words="--task --rounds --help" ;;
         executions) words="--rounds --help" ;;
         preset) words="set-agreement renaming --processes --k --values --names --help" ;;
-        help) words="solve verify views points branches cnf model proof trim explain lift executions preset" ;;
+        help) words="solve verify views points branches join cnf model proof trim explain lift executions preset" ;;
         *) return ;;
     esac
     mapfile -t COMPREPLY < <(compgen -W "$words" -- "$cur")

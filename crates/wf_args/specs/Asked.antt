@@ -137,6 +137,10 @@ points_asked rows = points_for (rounds_of rows) (task_of rows)
 abbrev pub branches_asked : List Row → Asked
 branches_asked rows = needed piece.Rounds (rounds_of rows) (λ rounds. this_job (job.Branches rounds))
 
+abbrev pub join_asked : List Row → Asked
+join_asked rows =
+    needed piece.Task (task_of rows) (λ path. needed piece.Rounds (rounds_of rows) (λ rounds. this_job_on path (λ task. job.Join task rounds)))
+
 abbrev pub cnf_asked : List Row → Asked
 cnf_asked rows = needed piece.Rounds (rounds_of rows) (λ rounds. this_job (job.Cnf rounds (branch_of rows)))
 
@@ -187,6 +191,7 @@ jobs = (codes "solve", solve_asked)
     ∷ (codes "views", views_asked)
     ∷ (codes "points", points_asked)
     ∷ (codes "branches", branches_asked)
+    ∷ (codes "join", join_asked)
     ∷ (codes "cnf", cnf_asked)
     ∷ (codes "model", model_asked)
     ∷ (codes "proof", proof_asked)

@@ -64,6 +64,9 @@ points = subcommand (codes "points") (number_option (codes "rounds") ∷ task_op
 abbrev pub branches : Shape
 branches = subcommand (codes "branches") (rounds ∷ [])
 
+abbrev pub join : Shape
+join = subcommand (codes "join") (required task_option ∷ rounds ∷ [])
+
 abbrev pub cnf : Shape
 cnf = subcommand (codes "cnf") (rounds ∷ branch_option ∷ [])
 
@@ -94,5 +97,5 @@ preset = subcommand (codes "preset")
 abbrev pub command_line : App
 command_line = record {
   top = record (new_shape (codes "wfcheck")) { is_leaf = false; has_version = true; subcommand_required = true };
-  subs = solve ∷ verify ∷ views ∷ points ∷ branches ∷ cnf ∷ model ∷ proof ∷ trim ∷ explain ∷ lift ∷ executions ∷ preset ∷ [];
+  subs = solve ∷ verify ∷ views ∷ points ∷ branches ∷ join ∷ cnf ∷ model ∷ proof ∷ trim ∷ explain ∷ lift ∷ executions ∷ preset ∷ [];
 }

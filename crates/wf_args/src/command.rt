@@ -196,6 +196,18 @@ fn branches_command<'a>(alloc: Global) -> Result<Command<'a>, AllocError>
     .arg(rounds(alloc))
 }
 
+fn join_command<'a>(alloc: Global) -> Result<Command<'a>, AllocError>
+    ensures { IfOk result (IsLeaf line.join) }
+{
+    subcommand(
+        alloc,
+        "join",
+        "Read the parts of an answer on standard input, one behind another in the order of the branches, check them, and write the report of the whole question",
+    )
+    .arg(task(alloc))?
+    .arg(rounds(alloc))
+}
+
 fn cnf_command<'a>(alloc: Global) -> Result<Command<'a>, AllocError>
     ensures { IfOk result (IsLeaf line.cnf) }
 {
@@ -331,6 +343,7 @@ pub(crate) fn whole_command<'a>(alloc: Global) -> Result<Command<'a>, AllocError
         .subcommand(views_command(alloc)?)?
         .subcommand(points_command(alloc)?)?
         .subcommand(branches_command(alloc)?)?
+        .subcommand(join_command(alloc)?)?
         .subcommand(cnf_command(alloc)?)?
         .subcommand(model_command(alloc)?)?
         .subcommand(proof_command(alloc)?)?

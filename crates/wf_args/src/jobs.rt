@@ -6,7 +6,7 @@ ghost use Rattle.clap.specs.Words.{first_of, found_of, rows_of, subcommand_rows_
 ghost use Rattle.wf_args.specs.Job.{CanBeDone};
 ghost use Rattle.wf_args.specs.declared.WordsFault.TheVariants as fault;
 ghost use Rattle.wf_args.specs.declared.slip.Slip.TheVariants as slip;
-ghost use Rattle.wf_args.specs.Asked.{Answers, this_or_slip, asked_in, asked_of, branch_job, branches_asked, cnf_asked, executions_asked, explain_asked, has_flag, lift_asked, model_asked, number_of, points_asked, preset_job_asked, proof_asked, solve_asked, trim_asked, verify_asked, verify_branch, verify_whole, views_asked, workers_of};
+ghost use Rattle.wf_args.specs.Asked.{Answers, this_or_slip, asked_in, asked_of, branch_job, branches_asked, cnf_asked, executions_asked, explain_asked, has_flag, join_asked, lift_asked, model_asked, number_of, points_asked, preset_job_asked, proof_asked, solve_asked, trim_asked, verify_asked, verify_branch, verify_whole, views_asked, workers_of};
 
 use crate::forms::form_of;
 use crate::presets::Options;
@@ -83,6 +83,7 @@ fn job_of(alloc: Global, name: &str, found: &ArgMatches<'_>) -> Result<Job, Word
         "views" => this(views_job(found)),
         "points" => points_job(alloc, found),
         "branches" => this(branches_job(found)),
+        "join" => join_job(alloc, found),
         "cnf" => this(cnf_job(found)),
         "model" => model_job(alloc, found),
         "proof" => proof_job(alloc, found),
@@ -233,6 +234,21 @@ fn branches_job(found: &ArgMatches<'_>) -> Result<Job, Slip>
 {
     let rounds = number(found, "rounds").ok_or(Slip::Missing(Piece::Rounds))?;
     Ok(Job::Branches { rounds })
+}
+
+/// The job of `join`.
+fn join_job(alloc: Global, found: &ArgMatches<'_>) -> Result<Job, WordsFault>
+    ensures asked { Answers (join_asked (rows_of (found_of found.now))) result }
+    ensures can_be_done { IfOk result CanBeDone }
+{
+    match (text(found, "task"), number(found, "rounds")) {
+        (Some(task), Some(rounds)) => Ok(Job::Join {
+            task: String::from_str(alloc, task)?,
+            rounds,
+        }),
+        (None, _) => Err(missing(Piece::Task)),
+        (Some(_), None) => Err(missing(Piece::Rounds)),
+    }
 }
 
 /// The job of `cnf`.

@@ -84,6 +84,13 @@ pub enum Job {
         /// How many rounds.
         rounds: u32,
     },
+    /// Put the parts of an answer together, one of each branch of a task's question, and report the answer of the whole.
+    Join {
+        /// The file that has the task.
+        task: String,
+        /// How many rounds.
+        rounds: u32,
+    },
     /// Write the question whether a task has a decision map after some rounds as a formula for SAT solvers.
     Cnf {
         /// How many rounds.

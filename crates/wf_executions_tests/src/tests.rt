@@ -12,8 +12,14 @@ use wf_rewrite::run_executions;
 use wf_task::Task;
 
 /// Consensus of three, where the first block of a word has two at least.
-const FIRST_BLOCK_2: &str =
-    r#"{"delta":[{"in":[[0,0]],"out":[[0]]},{"in":[[1,1]],"out":[[1]]},{"in":[[2,2]],"out":[[2]]},{"in":[[0,0],[1,1]],"out":[[0,0],[1,1]]},{"in":[[0,0],[2,2]],"out":[[0,0],[2,2]]},{"in":[[1,1],[2,2]],"out":[[1,1],[2,2]]},{"in":[[0,0],[1,1],[2,2]],"out":[[0,0,0],[1,1,1],[2,2,2]]}],"first_block":2,"inputs":[[[0,0],[1,1],[2,2]]],"outputs":[[[0,0],[1,0],[2,0]],[[0,1],[1,1],[2,1]],[[0,2],[1,2],[2,2]]],"processes":3,"symmetric":false,"version":2}"#;
+const FIRST_BLOCK_2: &str = concat!(
+    r#"{"delta":[{"in":[[0,0]],"out":[[0]]},{"in":[[1,1]],"out":[[1]]},{"in":[[2,2]],"#,
+    r#""out":[[2]]},{"in":[[0,0],[1,1]],"out":[[0,0],[1,1]]},{"in":[[0,0],[2,2]],"#,
+    r#""out":[[0,0],[2,2]]},{"in":[[1,1],[2,2]],"out":[[1,1],[2,2]]},{"in":[[0,0],[1,1],"#,
+    r#"[2,2]],"out":[[0,0,0],[1,1,1],[2,2,2]]}],"first_block":2,"inputs":[[[0,0],[1,1],"#,
+    r#"[2,2]]],"outputs":[[[0,0],[1,0],[2,0]],[[0,1],[1,1],[2,1]],[[0,2],[1,2],[2,2]]],"#,
+    r#""processes":3,"symmetric":false,"version":2}"#,
+);
 
 /// Consensus of two before the first round: those who take part, and their points.
 const CONSENSUS_2_NONE: &str = "0 {p0} : 0\n1 {p1} : 1\n2 {p0 p1} : 0 1\n";

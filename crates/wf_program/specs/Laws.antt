@@ -4,8 +4,9 @@ use Rattle.wf_model.specs.Limits.{most_bytes}
 use Rattle.wf_core.specs.declared.Account.{Account}
 use Rattle.wf_io.specs.Seen.{Reading, Writing}
 use Rattle.wf_engine.specs.Proofs.{most_proof_bytes}
+use Rattle.wf_branches.specs.Joining.{most_parts_bytes}
 use Rattle.wf_args.specs.declared.Job.{Job}
-use Rattle.wf_args.specs.declared.Job.TheVariants.{Verify, VerifyBranch, Decisions, Model, Proof, Trim, Explain, Lift}
+use Rattle.wf_args.specs.declared.Job.TheVariants.{Verify, VerifyBranch, Decisions, Join, Model, Proof, Trim, Explain, Lift}
 use Rattle.wf_args.specs.declared.WordsFault.{WordsFault}
 use Rattle.wf_program.specs.Files.{Filing, Opens}
 use Rattle.wf_program.specs.Program.{GivenWords, IsAsked, Serves, TellsAccount}
@@ -15,6 +16,7 @@ abbrev pub file_count : Result Job WordsFault → ℕ
 file_count (Ok (Verify task rounds)) = 1
 file_count (Ok (VerifyBranch task rounds branch)) = 1
 file_count (Ok (Decisions task)) = 1
+file_count (Ok (Join task rounds)) = 1
 file_count (Ok (Model task rounds)) = 1
 file_count (Ok (Proof task rounds branch)) = 1
 file_count (Ok (Trim task)) = 1
@@ -25,6 +27,7 @@ file_count asked = 0
 -- how many bytes the text may have that a job reads of the source
 abbrev pub most_read : Result Job WordsFault → ℕ
 most_read (Ok (Proof task rounds branch)) = most_proof_bytes
+most_read (Ok (Join task rounds)) = most_parts_bytes
 most_read asked = most_bytes
 
 -- how many calls failed, by the status

@@ -30,13 +30,14 @@ use Rattle.wf_rewrite.specs.Lifting.{Lifts}
 use Rattle.wf_formula.specs.Branches.{branch_text}
 use Rattle.wf_branches.specs.Branches.{ListsBranch}
 use Rattle.wf_branches.specs.Listing.{branches_text}
+use Rattle.wf_branches.specs.Joining.{Joins}
 use Rattle.wf_branches.specs.Refuting.{RefutesBranch}
 use Rattle.wf_branches.specs.Solving.{SolvesBranch}
 use Rattle.wf_branches.specs.Verifying.{VerifiesBranch}
 use Rattle.wf_args.specs.Asked.{Answers, job_asked}
 use Rattle.wf_args.specs.Slips.{slip_line}
 use Rattle.wf_args.specs.declared.Job.{Job}
-use Rattle.wf_args.specs.declared.Job.TheVariants.{Solve, SolveBranch, Verify, VerifyBranch, Views, Points, Branches, Cnf, Model, Proof, Decisions, Trim, Explain, Lift, Executions, Preset}
+use Rattle.wf_args.specs.declared.Job.TheVariants.{Solve, SolveBranch, Verify, VerifyBranch, Views, Points, Branches, Join, Cnf, Model, Proof, Decisions, Trim, Explain, Lift, Executions, Preset}
 use Rattle.wf_args.specs.declared.WordsFault.{WordsFault}
 use Rattle.wf_args.specs.declared.WordsFault.TheVariants as fault
 use Rattle.wf_program.specs.Files.{Opening, Opens, opened, refused, Filing, CanAsk, after_asking, unread}
@@ -131,6 +132,7 @@ abbrev pub DoesWithFile : Filed → DoesBoth (Result Done Refusal)
 DoesWithFile (filed.Verify rounds) task task' source source' sink sink' done = Ended verified (Verifies rounds) task task' source source' sink sink' done
 DoesWithFile (filed.VerifyBranch rounds branch) task task' source source' sink sink' done =
     Ended written (VerifiesBranch rounds branch) task task' source source' sink sink' done
+DoesWithFile (filed.Join rounds) task task' source source' sink sink' done = Ended written (Joins rounds) task task' source source' sink sink' done
 DoesWithFile (filed.Model rounds) task task' source source' sink sink' done = Ended written (Models rounds) task task' source source' sink sink' done
 DoesWithFile (filed.Proof rounds None) task task' source source' sink sink' done = Ended written (Refutes rounds) task task' source source' sink sink' done
 DoesWithFile (filed.Proof rounds (Some branch)) task task' source source' sink sink' done =
@@ -179,6 +181,8 @@ Does opens (Points rounds) folder folder' source source' sink sink' done =
     ListsOf undecided_points rounds folder folder' source source' sink sink' done
 Does opens (Branches rounds) folder folder' source source' sink sink' done =
     ListsOf branches_text rounds folder folder' source source' sink sink' done
+Does opens (Join task rounds) folder folder' source source' sink sink' done =
+    WithFile (opens (string_bytes task)) (DoesWithFile (filed.Join rounds)) folder folder' source source' sink sink' done
 Does opens (Cnf rounds branch) folder folder' source source' sink sink' done =
     (result : Result (Unit {0}) RunFault) × ListsQuestion branch rounds source source' sink sink' result
     × (folder' ≡ folder) × (done ≡ written result)

@@ -11,7 +11,7 @@ use crate::refusal::Refusal;
 use std::alloc::Global;
 use std::io::{Read, Write};
 use std::thread::Threads;
-use wf_branches::{run_proof_branch, run_verify_branch};
+use wf_branches::{run_join, run_proof_branch, run_verify_branch};
 use wf_engine::{RunFault, run_decisions, run_model, run_proof, run_verify};
 use wf_io::{Sink, Source};
 use wf_rewrite::{run_explain, run_lift, run_trim};
@@ -23,6 +23,8 @@ pub(crate) enum Filed {
     Verify(Option<u32>),
     /// Check a part about the branch of this number, for so many rounds.
     VerifyBranch { rounds: u32, branch: u32 },
+    /// Put the parts of an answer for so many rounds together.
+    Join(u32),
     /// Report the map of a solver's model for so many rounds.
     Model(u32),
     /// Check a solver's proof that there is no map after so many rounds, or none in the branch of this number.
@@ -82,6 +84,7 @@ impl Filed {
             Filed::VerifyBranch { rounds, branch } => {
                 after_writing(run_verify_branch(rt, alloc, task, source, sink, rounds, branch))
             }
+            Filed::Join(rounds) => after_writing(run_join(rt, alloc, task, source, sink, rounds)),
             Filed::Model(rounds) => {
                 after_writing(run_model(rt, alloc, task, source, sink, rounds))
             }

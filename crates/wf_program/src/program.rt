@@ -123,6 +123,9 @@ fn do_job<T: Threads + Sync, F: Files, G: Gate, R: Read, W: Write>(
         Job::Views { rounds } => after_writing(run_views(alloc, source, sink, *rounds)),
         Job::Points { rounds } => after_writing(run_points(alloc, source, sink, *rounds)),
         Job::Branches { rounds } => after_writing(run_branches(alloc, source, sink, *rounds)),
+        Job::Join { task, rounds } => {
+            Filed::Join(*rounds).with_file(rt, alloc, folder, task, source, sink)
+        }
         Job::Cnf { rounds, branch } => {
             after_writing(ask_source(alloc, source, sink, *rounds, *branch))
         }

@@ -11,8 +11,17 @@ use wf_rewrite::run_explain;
 const NONE: &str =
     "wfcheck report 1\nprocesses 2\nrounds 1\npoints 4\nexecutions 5\nanswer none\np 0 0 1\np 1 1 0\np 3 1 1\np 4 0 0\np 2 1 0\np 2 0 1\nz 2\nend\n";
 
-const ARGUMENT: &str =
-    "No decision map after 1 round: 5 steps over 5 of 5 executions.\n\nPoints\n  v0 is p0 saw {p0=0}\n  v1 is p1 saw {p1=1}\n  v2 is p0 saw {p0=0, p1=1}\n  v3 is p1 saw {p0=0, p1=1}\nArgument\n  1. v0 is not 1: in execution 0, {p0}, no tuple at (v0) has it. So v0 is 0.\n  2. v1 is not 0: in execution 1, {p1}, no tuple at (v1) has it. So v1 is 1.\n  3. v3 is not 1: in execution 3, {p0}{p1}, (v0, v3) would be (1, 1), but v0 is not 1 [1]. So v3 is 0.\n  4. v2 is not 0: in execution 4, {p1}{p0}, (v2, v1) would be (0, 0), but v1 is not 0 [2]. So v2 is 1.\n  5. v2 is not 1: in execution 2, {p0 p1}, (v2, v3) would be (1, 1), but v3 is not 1 [3].\n  v2 has no value left.\n";
+const ARGUMENT: &str = concat!(
+    "No decision map after 1 round: 5 steps over 5 of 5 executions.\n\nPoints\n",
+    "  v0 is p0 saw {p0=0}\n  v1 is p1 saw {p1=1}\n  v2 is p0 saw {p0=0, p1=1}\n",
+    "  v3 is p1 saw {p0=0, p1=1}\nArgument\n",
+    "  1. v0 is not 1: in execution 0, {p0}, no tuple at (v0) has it. So v0 is 0.\n",
+    "  2. v1 is not 0: in execution 1, {p1}, no tuple at (v1) has it. So v1 is 1.\n",
+    "  3. v3 is not 1: in execution 3, {p0}{p1}, (v0, v3) would be (1, 1), but v0 is not 1 [1]. So v3 is 0.\n",
+    "  4. v2 is not 0: in execution 4, {p1}{p0}, (v2, v1) would be (0, 0), but v1 is not 0 [2]. So v2 is 1.\n",
+    "  5. v2 is not 1: in execution 2, {p0 p1}, (v2, v3) would be (1, 1), but v3 is not 1 [3].\n",
+    "  v2 has no value left.\n",
+);
 
 const MAP: &str =
     "wfcheck report 1\nprocesses 2\nrounds 1\npoints 4\nexecutions 5\nanswer map\nm 0\nm 2\nm 1\nm 0\nend\n";
