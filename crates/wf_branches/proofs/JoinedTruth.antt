@@ -18,7 +18,7 @@ use Rattle.wf_model.proofs.WellFormed.{task_well_formed}
 use Rattle.wf_formula.specs.Branches.{branches}
 use Rattle.wf_io.specs.Seen.{Reading}
 use Rattle.wf_io.specs.Texts as io
-use Rattle.wf_io.specs.Texts.{ReadsText, Took}
+use Rattle.wf_io.specs.Texts.{Took}
 use Rattle.wf_io.specs.declared.source.ReadFault.{ReadFault}
 use Rattle.wf_io.specs.declared.source.ReadFault.TheVariants as read
 use Rattle.wf_report.specs.Grammar.{IsInGrammar, IsBodyWithin, IsLineWithin, IsStepWithin}

@@ -1,10 +1,8 @@
 //! Putting the parts of all branches together to the report of the whole question.
 
 ghost use Rattle.std.specs.Prelude.{◌≡◌, ◌++◌, ◌∷◌, [], IfOk, Ok, OnOk};
-ghost use Rattle.wf_model.specs.Problem.{problem_of};
 ghost use Rattle.wf_io.specs.Ends.{CanRead};
 ghost use Rattle.wf_complex.specs.Protocol.{Builds, IsProtocol};
-ghost use Rattle.wf_check.specs.Within.{IsCheckerOf};
 ghost use Rattle.wf_report.specs.Reports.{body_length, body_of};
 ghost use Rattle.wf_engine.specs.Run.{answered};
 ghost use Rattle.wf_engine.specs.Sources.{AsksBoth, AsksWithin};

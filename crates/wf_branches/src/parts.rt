@@ -1,10 +1,9 @@
 //! The parts of a text, one behind another.
 
-ghost use Rattle.std.specs.Prelude.{◌≡◌, ◌<◌, ◌≤◌, IfOk, length};
+ghost use Rattle.std.specs.Prelude.{◌≡◌, ◌<◌, ◌≤◌, length};
 ghost use Rattle.wf_model.specs.Outline.{boxes_left_out};
 ghost use Rattle.wf_complex.specs.Protocol.{IsProtocol};
 ghost use Rattle.wf_check.specs.Within.{IsCheckerOf};
-ghost use Rattle.wf_report.specs.Reports.{AreNumbered, body_length};
 ghost use Rattle.wf_branches.specs.Branches.{IsCoverOf};
 ghost use Rattle.wf_branches.specs.Joining.{IsBodyIn, TakesPart, body_seen, ends_here, in_part, next_part, part_length};
 
