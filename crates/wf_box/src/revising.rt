@@ -1,6 +1,6 @@
 //! What the rules of executions support.
 
-ghost use Rattle.std.specs.Prelude.{◌≡◌, ◌<◌, ◌≤◌, ◌∷◌, [], ℕ, All, length, slice_index, IfSome};
+ghost use Rattle.std.specs.Prelude.{◌≡◌, ◌<◌, ◌∷◌, [], ℕ, All, length, slice_index, IfSome};
 ghost use Rattle.std.specs.Bool.{OnTrue};
 ghost use Rattle.wf_lane.specs.Table.{HasSupported};
 ghost use Rattle.wf_box.specs.Problems.{IsNetwork, constraints_in, rule_in};
