@@ -1,6 +1,6 @@
 //! Closing.
 
-ghost use Rattle.std.specs.Prelude.{◌≡◌, ◌<◌, ◌≤◌, ◌*◌, None, length, map, IfOk, IfSome, OnOk, OnErr, IfNone, []};
+ghost use Rattle.std.specs.Prelude.{◌≡◌, ◌<◌, ◌≤◌, ◌*◌, None, length, IfOk, IfSome, OnOk, OnErr, IfNone};
 ghost use Rattle.wf_model.specs.Box.{count, first_empty};
 ghost use Rattle.wf_model.specs.Closing.{closing, sweep, sweep_from};
 ghost use Rattle.std.specs.Bool.{OnTrue};
