@@ -24,7 +24,7 @@ struct Watch<'a, G> {
 }
 
 impl<'a, G: Gate> Stop for Watch<'a, G> {
-    ghost keeps = { λ old new. (new.branch ≡ old.branch) × HasLooked old.seat new.seat };
+    ghost asked = { λ n old new. (new.branch ≡ old.branch) × HasLooked old.seat new.seat };
 
     ghost is_stopped = { λ w. w.seat.seen < w.branch };
 
@@ -38,11 +38,11 @@ impl<'a, G: Gate> Stop for Watch<'a, G> {
 
     ghost use Rattle.std.specs.Prelude.{refl};
 
-    ghost reflexive = { λ w. (refl, looked_itself w.seat) };
+    ghost unasked = { λ w. (refl, looked_itself w.seat) };
 
     ghost use Rattle.std.proofs.Common.{◌∙◌};
 
-    ghost transitive = { λ u v w first next.
+    ghost asked_on = { λ m n u v w first next.
         (next.0 ∙ first.0, looked_on u.seat v.seat w.seat first.1 next.1) };
 }
 
@@ -56,7 +56,7 @@ pub(crate) struct Told<'a, G> {
 impl<'a, G: Gate> Stop for Told<'a, G> {
     ghost use Rattle.std.proofs.Common.{◌≡◌, refl, ◌∙◌};
 
-    ghost keeps = { λ s t. s.branch ≡ t.branch };
+    ghost asked = { λ n s t. s.branch ≡ t.branch };
 
     ghost is_stopped = { λ s. ⊥ };
 
@@ -65,9 +65,9 @@ impl<'a, G: Gate> Stop for Told<'a, G> {
         false
     }
 
-    ghost reflexive = { λ s. refl };
+    ghost unasked = { λ s. refl };
 
-    ghost transitive = { λ s t u first second. first ∙ second };
+    ghost asked_on = { λ m n s t u first second. first ∙ second };
 }
 
 /// Settles a branch that the worker has taken. Its search goes by what closing found out in the worker's earlier branches,

@@ -4,3 +4,5 @@ pub mod Cover
 -- What only this crate's own code and proofs use.
 pub mod Pending
 pub mod Outline
+-- Worked examples: what the definitions give, by computation.
+pub mod Examples

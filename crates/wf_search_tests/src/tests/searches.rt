@@ -1,6 +1,5 @@
 //! The search and the split, with rows worked out by hand.
 
-ghost use Rattle.std.proofs.Common.{rules};
 ghost use Rattle.std.specs.Prelude.{◌≡◌, ◌<◌, ◌≤◌, length};
 ghost use Rattle.wf_model.specs.Outline.{boxes_left_out, outline};
 
@@ -16,7 +15,7 @@ use wf_examples::{
 use wf_lines::{Line, Lines};
 use wf_search::{Cover, Found, Never, Stop, search, search_with, split};
 
-/// It counts its questions, and answers yes to those past so many.
+/// It counts its questions as far as a number goes, and answers yes to those past so many.
 #[derive(Drop)]
 struct Limit {
     asked: u32,
@@ -24,13 +23,19 @@ struct Limit {
 }
 
 impl Stop for Limit {
-    ghost keeps = { λ s t. s.asked ≤ t.asked };
+    ghost use Rattle.std.proofs.Common.{◌+◌, ◌-◌, ◌^◌, arith};
+
+    // the count is that of the questions where it is not the greatest number
+    ghost asked = { λ n s t.
+        (s.asked ≤ t.asked) × (t.asked < 2 ^ 32 - 1 → t.asked ≡ s.asked + n) };
 
     ghost is_stopped = { λ s. s.most < s.asked };
 
-    ghost reflexive = { Prim.search rules };
+    ghost unasked = { λ s. (Prim.omega arith, λ less. Prim.omega arith) };
 
-    ghost transitive = { Prim.search rules };
+    ghost asked_on = { λ m n s t u first second. (
+        Prim.omega (arith, first.0, second.0),
+        λ less. Prim.omega (arith, first.1 (Prim.omega (arith, less, second.0)), second.1 less)) };
 
     fn stop(&mut self) -> bool {
         self.asked = self.asked.saturating_add(1);

@@ -1,0 +1,84 @@
+-- How many turns write the lines of closing a box, and those of the turn that it is in.
+use Rattle.std.proofs.Common.{◌≡◌, ℕ, zero, suc, ◌+◌, List, [], ◌∷◌, ◌++◌, map, Option, Some, None, Result, Ok, Err, refl, ap, ◌∙◌, arith}
+use Rattle.std.proofs.lemmas.List.{map-append}
+use Rattle.wf_model.specs.Problem.{Constraint, Problem}
+use Rattle.wf_model.specs.Box.{Box, candidates, count, first_empty, without}
+use Rattle.wf_model.specs.Refutation as refutation
+use Rattle.wf_model.specs.Closing.{Loss, Step, closing, closing_at, continued, lost, sweep, sweep_from, sweeps, take_out, take_out_each, taken_out, unless_none}
+use Rattle.wf_lines.specs.Lines.{line_of}
+use Rattle.wf_lines.specs.declared.line.Line.{Line}
+use Rattle.wf_search.specs.declared.searching.Found.{Found}
+use Rattle.wf_search.specs.declared.searching.Found.TheVariants.{Map, Refuted, Stopped}
+use Rattle.wf_search.specs.Found.{HasAsked, turns}
+
+pub turns_append : (ls ms : List refutation.Line) → turns (ls ++ ms) ≡ turns ls + turns ms
+turns_append [] ms = omega arith
+turns_append (refutation.remove e c a ∷ ls) ms = turns_append ls ms
+turns_append (refutation.empty v ∷ ls) ms = omega (arith, turns_append ls ms)
+turns_append (refutation.branch v ∷ ls) ms = omega (arith, turns_append ls ms)
+turns_append (refutation.found ∷ ls) ms = omega (arith, turns_append ls ms)
+
+-- ---- what closing writes ends a turn only where a point was emptied
+
+abbrev ended : Option Box → ℕ
+ended None = 1
+ended (Some box) = 0
+
+abbrev EndsTurn : Step → Type 0
+EndsTurn s = turns s.lines ≡ ended s.left
+
+continued_ends : (ls : List refutation.Line) (left : Option Box) (next : Box → Step) → turns ls ≡ ended left → ((box : Box) → EndsTurn (next box)) → EndsTurn (continued ls left next)
+continued_ends ls None next is step = is
+continued_ends ls (Some box) next is step = omega (arith, turns_append ls (next box).lines, is, step box)
+
+taken_out_ends : (e : ℕ) (x : Loss) (box : Box) (set : List ℕ) → EndsTurn (taken_out e x box set)
+taken_out_ends e x box [] = refl
+taken_out_ends e x box (a ∷ set) = refl
+
+take_out_each_ends : (e : ℕ) (xs : List Loss) (box : Box) → EndsTurn (take_out_each e xs box)
+take_out_each_ends e [] box = refl
+take_out_each_ends e (x ∷ xs) box =
+    continued_ends (take_out e x box).lines (take_out e x box).left (take_out_each e xs) (taken_out_ends e x (without box x.point x.value) (candidates (without box x.point x.value) x.point)) (take_out_each_ends e xs)
+
+sweep_from_ends : (e : ℕ) (ks : List Constraint) (box : Box) → EndsTurn (sweep_from e ks box)
+sweep_from_ends e [] box = refl
+sweep_from_ends e (k ∷ ks) box = continued_ends (take_out_each e (lost box k) box).lines (take_out_each e (lost box k) box).left (sweep_from (suc e) ks) (take_out_each_ends e (lost box k) box) (sweep_from_ends (suc e) ks)
+
+unless_none_ends : (ls : List refutation.Line) (s : Step) (next : Box → Step) → EndsTurn s → ((box : Box) → EndsTurn (next box)) → EndsTurn (unless_none ls s next)
+unless_none_ends [] s next is step = is
+unless_none_ends (l ∷ ls) s next is step = continued_ends s.lines s.left next is step
+
+sweeps_end : (n : ℕ) (p : Problem) (box : Box) → EndsTurn (sweeps n p box)
+sweeps_end zero p box = refl
+sweeps_end (suc n) p box = unless_none_ends (sweep p box).lines (sweep p box) (sweeps n p) (sweep_from_ends 0 p.constraints box) (sweeps_end n p)
+
+closing_at_ends : (empty : Option ℕ) (p : Problem) (box : Box) → EndsTurn (closing_at empty p box)
+closing_at_ends None p box = sweeps_end (suc (count box)) p box
+closing_at_ends (Some v) p box = refl
+
+-- ---- the lines of a turn
+
+module _ (p : Problem) (box : Box) (old closed : List Line) (grown : map line_of closed ≡ map line_of old ++ (closing p box).lines) where
+  closed_turns : (left : Option Box) → (closing p box).left ≡ left → turns (map line_of closed) ≡ turns (map line_of old) + ended left
+  closed_turns left is =
+      ap turns grown ∙ turns_append (map line_of old) (closing p box).lines
+      ∙ ap (λ n. turns (map line_of old) + n) (closing_at_ends (first_empty box) p box ∙ ap ended is)
+
+  -- it empties a point
+  pub emptied_turns : (closing p box).left ≡ None → turns (map line_of closed) ≡ turns (map line_of old) + 1
+  emptied_turns is = closed_turns None is
+
+  -- a line that takes nothing out comes after those of closing
+  pub opened_turns : (left : Box) (new : List Line) (line : Line) → (closing p box).left ≡ Some left → new ≡ closed ++ line ∷ [] → turns (line_of line ∷ []) ≡ 1
+      → turns (map line_of new) ≡ turns (map line_of old) + 1
+  opened_turns left new line is last one =
+      let whole : turns (map line_of new) ≡ turns (map line_of closed) + turns (line_of line ∷ []) =
+      ap (λ ls. turns (map line_of ls)) last ∙ ap turns (map-append line_of closed (line ∷ [])) ∙ turns_append (map line_of closed) (line_of line ∷ []) in
+      omega (arith, whole, one, closed_turns (Some left) is)
+
+-- however a search ends, it has asked
+pub asked_at_all : {E : Type 0} (Asked : ℕ → Type 0) (result : Result Found E) → HasAsked Asked result → (n : ℕ) × Asked n
+asked_at_all Asked (Ok (Map values lines)) has = (turns (map line_of lines.items), has)
+asked_at_all Asked (Ok (Refuted lines)) has = (turns (map line_of lines.items), has)
+asked_at_all Asked (Ok Stopped) has = (has.0, has.2)
+asked_at_all Asked (Err e) has = (has.0, has.2)
