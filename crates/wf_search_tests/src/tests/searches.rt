@@ -34,8 +34,9 @@ impl Stop for Limit {
     ghost unasked = { λ s. (Prim.omega arith, λ less. Prim.omega arith) };
 
     ghost asked_on = { λ m n s t u first second. (
-        Prim.omega (arith, first.0, second.0),
-        λ less. Prim.omega (arith, first.1 (Prim.omega (arith, less, second.0)), second.1 less)) };
+      Prim.omega (arith, first.0, second.0),
+      λ less. Prim.omega (arith, first.1 (Prim.omega (arith, less, second.0)), second.1 less),
+    ) };
 
     fn stop(&mut self) -> bool {
         self.asked = self.asked.saturating_add(1);
