@@ -1,5 +1,6 @@
 -- How many turns write the lines of closing a box, and those of the turn that it is in.
-use Rattle.std.proofs.Common.{◌≡◌, ℕ, zero, suc, ◌+◌, List, [], ◌∷◌, ◌++◌, map, Option, Some, None, Result, Ok, Err, refl, ap, ◌∙◌, arith}
+use Rattle.std.proofs.Common.{◌≡◌, ℕ, zero, suc, ◌+◌, List, [], ◌∷◌, ◌++◌, map, Option, Some, None, Result, Ok, Err, IsErr, refl, ap, ◌∙◌, arith}
+use Rattle.std.proofs.lemmas.Bool.{false≢true}
 use Rattle.std.proofs.lemmas.List.{map-append}
 use Rattle.wf_model.specs.Problem.{Constraint, Problem}
 use Rattle.wf_model.specs.Box.{Box, candidates, count, first_empty, without}
@@ -9,7 +10,7 @@ use Rattle.wf_lines.specs.Lines.{line_of}
 use Rattle.wf_lines.specs.declared.line.Line.{Line}
 use Rattle.wf_search.specs.declared.searching.Found.{Found}
 use Rattle.wf_search.specs.declared.searching.Found.TheVariants.{Map, Refuted, Stopped}
-use Rattle.wf_search.specs.Found.{HasAsked, turns}
+use Rattle.wf_search.specs.Found.{AskedAtAll, HasAsked, turns}
 
 pub turns_append : (ls ms : List refutation.Line) → turns (ls ++ ms) ≡ turns ls + turns ms
 turns_append [] ms = omega arith
@@ -82,3 +83,8 @@ asked_at_all Asked (Ok (Map values lines)) has = (turns (map line_of lines.items
 asked_at_all Asked (Ok (Refuted lines)) has = (turns (map line_of lines.items), has)
 asked_at_all Asked (Ok Stopped) has = (has.0, has.2)
 asked_at_all Asked (Err e) has = (has.0, has.2)
+
+-- where memory ran out, it had asked
+pub failed : {E : Type 0} (Asked : ℕ → Type 0) (result : Result Found E) → IsErr result → AskedAtAll Asked → HasAsked Asked result
+failed Asked (Ok found) is asked = absurd (false≢true is)
+failed Asked (Err e) is asked = asked
