@@ -73,6 +73,8 @@ fn words_are_a_job_or_a_fault(rt: HostRuntime) -> Result<(), Fail> {
             "wfcheck model --task a/b.json --rounds 2",
             "model a/b.json 2",
         ),
+        ("wfcheck join --task a/b.json --rounds 2", "join a/b.json 2"),
+        ("wfcheck join --rounds 2", "clap MissingRequiredArgument"),
         ("wfcheck model --task a", "clap MissingRequiredArgument"),
         ("wfcheck model --rounds 2", "clap MissingRequiredArgument"),
         (
@@ -264,6 +266,7 @@ fn judged(alloc: Global, line: &str) -> Result<String, AllocError> {
             None => format!(in alloc; "cnf {rounds}"),
             Some(branch) => format!(in alloc; "cnf {rounds} in {branch}"),
         },
+        Ok(Job::Join { task, rounds }) => format!(in alloc; "join {task} {rounds}"),
         Ok(Job::Model { task, rounds }) => format!(in alloc; "model {task} {rounds}"),
         Ok(
             Job::Proof {
