@@ -1,7 +1,8 @@
 -- Which words of a command line make which job.
 --
--- How words are read is said by definitions of the crate that reads them: `fault_of` has the kinds of error that the words may get,
--- which is none where they are taken; `subcommand_of` has the subcommand that they name, with a row for each of its options.
+-- How words are read is said by definitions of the crate that reads them: `fault_of` has the kinds
+-- of error that the words may get, which is none where they are taken; `subcommand_of` has the
+-- subcommand that they name, with a row for each of its options.
 use Rattle.std.specs.Prelude.{◌≡◌, ◌≢◌, ℕ, Bool, true, false, List, [], ◌∷◌, Option, Some, None, Result, Ok, Err, String, codes, find, option_and_then, string_bytes, nat_le, nat_lt, ◌==◌, ◌&&◌, if◌then◌else◌}
 use Rattle.std.specs.List.{list_any}
 use Rattle.std.specs.Option.{option_map_or}
@@ -30,8 +31,9 @@ use Rattle.wf_args.specs.declared.slip.Slip.TheVariants as slip
 abbrev pub Path : Type 0
 Path = String Global
 
--- What words ask for: a job, or one about the task in the file of this path; or none, by this slip. Or they are refused, or
--- answered with help or the version, by an error of one of these kinds; and whether one of them is a negative number.
+-- What words ask for: a job, or one about the task in the file of this path; or none, by this slip.
+-- Or they are refused, or answered with help or the version, by an error of one of these kinds; and
+-- whether one of them is a negative number.
 pub data Asked : Type 0 where
   this_job : Job → Asked
   this_job_on : Text → (Path → Job) → Asked
@@ -234,14 +236,15 @@ IsJob (this_job_on path asked) j = (task : Path) × (string_bytes task ≡ path)
 IsJob (no_job slip) j = ⊥
 IsJob (refused kinds negative) j = ⊥
 
--- `clap` refuses words by an error that may come, and it is told whether one of them is a negative number
+-- `clap` refuses words by an error that may come, and it is told whether one
+-- of them is a negative number
 abbrev pub IsRefusal : Kinds → Bool → WordsFault → Type 0
 IsRefusal kinds negative fault.OutOfMemory = Unit {0}
 IsRefusal kinds negative (fault.Words s) = ⊥
 IsRefusal kinds negative (fault.Clap e n) = IsAmong (kind_of e) kinds × (kind_of e ≢ kind.OutOfMemory) × (n ≡ negative)
 
--- A fault is the one of these words: the slip by which there is no job, or the error has a kind that may come. Memory may run
--- out at any words, and is no error of words.
+-- A fault is the one of these words: the slip by which there is no job, or the error has a kind
+-- that may come. Memory may run out at any words, and is no error of words.
 abbrev pub IsFault : Asked → WordsFault → Type 0
 IsFault asked fault.OutOfMemory = Unit {0}
 IsFault (no_job slip) (fault.Words s) = s ≡ slip

@@ -115,7 +115,8 @@ fn missing(what: Piece) -> WordsFault
     WordsFault::Words(Slip::Missing(what))
 }
 
-/// The job of `solve`. There is none with both `--verdict` and `--least`, nor with both `--branch` and `--account`.
+/// The job of `solve`. There is none with both `--verdict` and `--least`, nor
+/// with both `--branch` and `--account`.
 fn solve_job(found: &ArgMatches<'_>) -> Result<Job, Slip>
     ensures asked { this_or_slip result ≡ solve_asked (rows_of (found_of found.now)) }
     ensures can_be_done { IfOk result CanBeDone }

@@ -84,14 +84,16 @@ pub enum Job {
         /// How many rounds.
         rounds: u32,
     },
-    /// Put the parts of an answer together, one of each branch of a task's question, and report the answer of the whole.
+    /// Put the parts of an answer together, one of each branch of a task's
+    /// question, and report the answer of the whole.
     Join {
         /// The file that has the task.
         task: String,
         /// How many rounds.
         rounds: u32,
     },
-    /// Write the question whether a task has a decision map after some rounds as a formula for SAT solvers.
+    /// Write the question whether a task has a decision map after some rounds
+    /// as a formula for SAT solvers.
     Cnf {
         /// How many rounds.
         rounds: u32,
@@ -105,13 +107,15 @@ pub enum Job {
         /// How many rounds.
         rounds: u32,
     },
-    /// Check a solver's clausal proof that such a formula has no model, so that the task has no decision map.
+    /// Check a solver's clausal proof that such a formula has no model, so
+    /// that the task has no decision map.
     Proof {
         /// The file that has the task.
         task: String,
         /// How many rounds.
         rounds: u32,
-        /// The branch of the question that the proof is about alone, by its number, where one is named.
+        /// The branch of the question that the proof is about alone, by its
+        /// number, where one is named.
         branch: Option<u32>,
     },
     /// Tell the points with what the map of a report decides there.
@@ -124,7 +128,8 @@ pub enum Job {
         /// The file that has the task.
         task: String,
     },
-    /// Tell in words why there is no decision map, or what the map decides, by a report that is read and accepted.
+    /// Tell in words why there is no decision map, or what the map decides,
+    /// by a report that is read and accepted.
     Explain {
         /// The file that has the task.
         task: String,

@@ -46,7 +46,8 @@ pub reasons_in_words : reasons_text None (reason 4 0 (Some 3) ∷ reason 4 2 Non
 unfolding digits
 reasons_in_words = refl
 
--- a tuple falls with the first of its values that is gone; a reason is told once, and reasons are told by point
+-- a tuple falls with the first of its values that is gone; a reason is told
+-- once, and reasons are told by point
 abbrev three_points : Constraint
 three_points = record { scope = (0, 5) ∷ (1, 3) ∷ (2, 3) ∷ []; tuples = (0 ∷ 1 ∷ 1 ∷ []) ∷ (0 ∷ 1 ∷ 2 ∷ []) ∷ (0 ∷ 2 ∷ 2 ∷ []) ∷ (1 ∷ 2 ∷ 2 ∷ []) ∷ [] }
 
@@ -63,7 +64,8 @@ each_reason_once = refl
 pub gone_once : taken 9 1 ([] ∷ (lost 0 (Some 2) ∷ []) ∷ []) 0 ≡ [] ∷ (lost 0 (Some 2) ∷ []) ∷ []
 gone_once = refl
 
--- one point at both places of an execution: what a step takes first is a reason of what it takes then
+-- one point at both places of an execution: what a step takes first is a
+-- reason of what it takes then
 abbrev one_point_twice : Constraint
 one_point_twice = record { scope = (0, 0) ∷ (1, 0) ∷ []; tuples = (1 ∷ 0 ∷ []) ∷ [] }
 
@@ -85,12 +87,14 @@ pub path_argument_without_rounds : argument_text (path 3) 0 (remove 0 0 1 ∷ re
 unfolding digits
 path_argument_without_rounds = refl
 
--- only the points of which the lines speak are told; a line that names no participant of an execution is left out
+-- only the points of which the lines speak are told; a line that names no
+-- participant of an execution is left out
 pub a_line_that_names_nobody : argument_text consensus 0 (remove 0 1 1 ∷ remove 0 0 1 ∷ empty 1 ∷ []) ≡ codes "No decision map after 0 rounds: 2 steps over 1 of 3 executions.\n\nPoints\n  v0 is p0=0\n  v1 is p1=1\nArgument\n  1. v0 is not 1: in execution 0, {p0}, no tuple at (v0) has it. So v0 is 0.\n  v1 has no value left.\n"
 unfolding digits
 a_line_that_names_nobody = refl
 
--- the executions of consensus after one round, and those of a symmetric task, in which one point stands at two places
+-- the executions of consensus after one round, and those of a symmetric task,
+-- in which one point stands at two places
 pub executions_of_consensus : executions_text consensus 1 ≡ codes "0 {p0} : 0\n1 {p1} : 1\n2 {p0 p1} : 2 3\n3 {p0}{p1} : 0 3\n4 {p1}{p0} : 2 1\n"
 unfolding digits
 executions_of_consensus = refl

@@ -1,4 +1,5 @@
--- The parts of a refutation: its lines, where those that follow each other and take values from one process in one execution are one part.
+-- The parts of a refutation: its lines, where those that follow each other and take values from one
+-- process in one execution are one part.
 use Rattle.std.specs.Prelude.{ℕ, ◌==◌, ◌&&◌, List, [], ◌∷◌, if◌then◌else◌}
 use Rattle.wf_model.specs.Refutation.{Line, remove, empty, branch, found}
 

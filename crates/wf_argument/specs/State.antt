@@ -1,5 +1,6 @@
--- What is gone after some parts of an argument, by which steps, and what each step rests on. A loss is a value and the step that took it, and none
--- where a case supposes another value; a reason is a point with a loss.
+-- What is gone after some parts of an argument, by which steps, and what each
+-- step rests on. A loss is a value and the step that took it, and none where
+-- a case supposes another value; a reason is a point with a loss.
 use Rattle.std.specs.Prelude.{ℕ, suc, ◌==◌, Bool, not, List, [], ◌∷◌, ◌++◌, map, filter, fold, replicate, min, Option, Some, None, if◌then◌else◌}
 use Rattle.std.specs.List.{list_any, slice_index_or, slice_set}
 use Rattle.std.specs.Ordering.{nat_cmp, ordering_then}
@@ -82,7 +83,8 @@ needed tuples place a = filter (λ tuple. has_at tuple place a) tuples
 abbrev pub with_reasons : Gone → List ℕ → List Reason → List Tuple → List Reason
 with_reasons gone points reasons tuples = fold (λ found tuple. with_reason found (first_gone gone points tuple)) reasons tuples
 
--- step n takes these values in turn from the point at a place of an execution: what is gone then, and the reasons
+-- step n takes these values in turn from the point at a place of an
+-- execution: what is gone then, and the reasons
 pub record Taking : Type 0 where
   pub gone : Gone
   pub reasons : List Reason
@@ -113,7 +115,8 @@ pub record Case : Type 0 where
   pub depth : ℕ
   pub gone : Gone
 
--- the number of the next step, how many suppositions it is under, what is gone, and the cases that are still to come
+-- the number of the next step, how many suppositions it is under, what is
+-- gone, and the cases that are still to come
 pub record State : Type 0 where
   pub number : ℕ
   pub depth : ℕ

@@ -44,7 +44,8 @@ members_in m = take m.count m.processes
 
 -- ---- an execution that was looked up
 
--- its place is one of those among the lists of words for its rounds, and each word is one of its participants
+-- its place is one of those among the lists of words for its rounds, and each
+-- word is one of its participants
 pub record IsWhole (f : Found) : Type 0 where
   pub count : f.count ≡ length (lists_of f.words.now f.rounds)
   pub place : f.place < f.count

@@ -1,4 +1,5 @@
--- An argument in words that a task has no decision map after some rounds: the text of a refutation's lines, for people.
+-- An argument in words that a task has no decision map after some rounds: the text of a
+-- refutation's lines, for people.
 use Rattle.std.specs.Prelude.{ℕ, zero, suc, ◌==◌, Bool, false, List, [], ◌∷◌, ◌++◌, map, filter, flat_map, length, zip, count_by, nat_le, true, Option, Some, None, slice_get, codes, decimal, if◌then◌else◌}
 use Rattle.std.specs.List.{enumerate_from, list_any}
 use Rattle.wf_model.specs.Lists.{below, has}
@@ -18,7 +19,8 @@ use Rattle.wf_argument.specs.State.{Case, State, start, left_at, needed, points_
 
 -- ---- words
 
--- the texts of a list's elements, with a text between each two, and another one between the last two
+-- the texts of a list's elements, with a text between each two, and another
+-- one between the last two
 abbrev pub others_text : {X : Type 0} → (X → List ℕ) → List ℕ → List ℕ → List X → List ℕ
 others_text text between last [] = []
 others_text text between last (x ∷ []) = last ++ text x

@@ -1,4 +1,5 @@
--- How far an argument is, by what the program keeps: what is gone now, and the way back to the cases that are still to come.
+-- How far an argument is, by what the program keeps: what is gone now, and the way back to the
+-- cases that are still to come.
 use Rattle.std.specs.Prelude.{ℕ, List, [], ◌∷◌, ◌++◌, map, reverse, take, vec_items, Option, Some, None}
 use Rattle.std.specs.List.{slice_set}
 use Rattle.wf_set.specs.Sets.{values_in}
@@ -10,8 +11,8 @@ use Rattle.wf_argument.specs.declared.state.Entry.{Entry}
 use Rattle.wf_argument.specs.declared.state.Entry.TheVariants.{Lost, Later}
 use Rattle.wf_argument.specs.declared.state.State.{State}
 
--- The last entry comes first: a point has its first losses alone again, or cases are to come, each a value of a point
--- where this is gone.
+-- The last entry comes first: a point has its first losses alone again, or cases are to come, each
+-- a value of a point where this is gone.
 abbrev pub later_from : List ℕ → List Entry → Gone → List state.Case
 later_from values [] gone = []
 later_from values (Lost v n ∷ below) gone = later_from values below (slice_set gone v (take n (losses gone v)))

@@ -29,8 +29,9 @@ pub(crate) struct Span {
     count: u32,
 }
 
-/// A table by which the executions of a task after some rounds are told: where those on each input simplex begin, and the words
-/// of each number of participants. An execution is told with a look-up for each round.
+/// A table by which the executions of a task after some rounds are told:
+/// where those on each input simplex begin, and the words of each number of
+/// participants. An execution is told with a look-up for each round.
 ///
 /// A clause sees it as a `Table`; `table_of` is that of a task after some rounds.
 #[derive(Drop)]
@@ -60,8 +61,8 @@ impl Executions {
         Ok(Executions { spans, words })
     }
 
-    /// Adds an execution in words: the blocks of each round in order, as `{p1}{p0 p2} ; {p0 p1 p2}`, and before the first round
-    /// those who take part.
+    /// Adds an execution in words: the blocks of each round in order, as
+    /// `{p1}{p0 p2} ; {p0 p1 p2}`, and before the first round those who take part.
     pub fn put(
         &self,
         text: &mut String,
@@ -103,8 +104,8 @@ impl Executions {
     }
 }
 
-/// An execution that was looked up: its input simplex, the words of as many participants, and its place among the `count` lists of
-/// words for so many rounds.
+/// An execution that was looked up: its input simplex, the words of as many participants, and its
+/// place among the `count` lists of words for so many rounds.
 #[derive(Clone, Copy)]
 pub(crate) struct Found<'a> {
     pub(crate) simplex: Simplex,

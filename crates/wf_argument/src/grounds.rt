@@ -31,8 +31,8 @@ impl Grounds {
         }
     }
 
-    /// The next step takes these values in turn at a place of an execution with these tuples and points, and what it rests
-    /// on is noted.
+    /// The next step takes these values in turn at a place of an execution with these tuples and
+    /// points, and what it rests on is noted.
     pub(crate) fn take_each(
         &mut self,
         tuples: &[Row],

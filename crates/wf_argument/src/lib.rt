@@ -1,11 +1,13 @@
-//! An argument that a person can read, that a task has no decision map after some rounds: the lines of a refutation in words.
+//! An argument that a person can read, that a task has no decision map after some rounds: the lines
+//! of a refutation in words.
 //!
 //! - [`write_argument`]: the whole argument, in one pass over the lines for its parts.
 //! - [`Executions`]: the executions of a task in words.
 //! - [`write_executions`]: all of them, with their points.
 //!
-//! `specs/` says what it is: `Parts`, which lines go together; `State`, what is gone after some of them and why; and `Text`, the
-//! words. `Trail` is what the program keeps of a state, and `Table` what executions are told by.
+//! `specs/` says what it is: `Parts`, which lines go together; `State`, what is gone after some of
+//! them and why; and `Text`, the words. `Trail` is what the program keeps of a state, and `Table`
+//! what executions are told by.
 #![tactic(auto)]
 
 mod argument;

@@ -18,10 +18,12 @@ use wf_io::{Page, Sink, WriteFault};
 use wf_simplex::{Simplex, Word};
 use wf_task::Task;
 
-/// Writes a line for each execution: its number, the execution in words and its points by ascending process, as
-/// `20 {p1}{p0 p2} ; {p0 p1 p2} : 3 1 11`. After a refusal a beginning of the text was written, and nothing else.
+/// Writes a line for each execution: its number, the execution in words and its points by ascending
+/// process, as `20 {p1}{p0 p2} ; {p0 p1 p2} : 3 1 11`. After a refusal a beginning of the text was
+/// written, and nothing else.
 ///
-/// The lines are passed on by an empty page, so that the text may be longer than memory; nothing here takes any.
+/// The lines are passed on by an empty page, so that the text may be longer
+/// than memory; nothing here takes any.
 pub fn write_executions<W: Write>(
     page: Page,
     sink: &mut Sink<W>,

@@ -81,7 +81,8 @@ fn put_parts(
     Ok(())
 }
 
-/// Adds the part that these lines begin with, and goes on behind it. Answers how many lines it has, or none where all is said.
+/// Adds the part that these lines begin with, and goes on behind it. Answers how many lines it has,
+/// or none where all is said.
 fn put_part(
     text: &mut String,
     subject: &Subject,
@@ -132,7 +133,8 @@ fn one_if(is_going: bool) -> Option<usize>
     if is_going { Some(1) } else { None }
 }
 
-/// Sets the values that the first lines take, which are of one process in one execution. Answers how many lines they are.
+/// Sets the values that the first lines take, which are of one process in one execution. Answers
+/// how many lines they are.
 fn set_values(
     values: &mut Vec<u8>,
     execution: u32,

@@ -1,7 +1,8 @@
 //! How far an argument is: what is gone, and the cases that are still to come.
 //!
-//! What is gone is kept once. A trail has what the open cases took, and for each split the values whose cases are still to
-//! come. So the memory that an argument can ask for grows with its lines and with the points, and not with their product.
+//! What is gone is kept once. A trail has what the open cases took, and for each split the values
+//! whose cases are still to come. So the memory that an argument can ask for grows with its lines
+//! and with the points, and not with their product.
 
 ghost use Rattle.std.specs.Prelude.{◌≡◌, ◌==◌, ◌<◌, ◌∷◌, ◌++◌, [], filter, length, map, min, not, replicate, take, vec_items, IfOk, OnOk};
 ghost use Rattle.std.specs.List.{slice_set};
@@ -105,7 +106,8 @@ impl State {
         Ok(())
     }
 
-    /// A point splits into a case for each value that it has left, and the first begins. Answers which, if there is one.
+    /// A point splits into a case for each value that it has left, and the
+    /// first begins. Answers which, if there is one.
     pub(crate) fn split(&mut self, point: u32) -> Result<Option<Case>, AllocError>
         ensures case { let s = state_of self.old in
             let cases = cases_at (values_of self.old) s point ++ s.later in

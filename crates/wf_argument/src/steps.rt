@@ -29,7 +29,8 @@ struct Step<'a> {
     points: &'a [u32],
 }
 
-/// Adds a step that takes values from a process in an execution, and takes them. Where it takes no part there, nothing is said.
+/// Adds a step that takes values from a process in an execution, and takes them. Where it takes no
+/// part there, nothing is said.
 pub(crate) fn put_taking(
     text: &mut String,
     subject: &Subject,

@@ -1,4 +1,5 @@
-//! Texts of arguments, made by `gallery/argument.py`: a script of the words, which shares nothing with the program.
+//! Texts of arguments, made by `gallery/argument.py`: a script of the words,
+//! which shares nothing with the program.
 
 /// Consensus of two after a round.
 pub(crate) const CONSENSUS_2_ARGUMENT: &str = concat!(

@@ -17,7 +17,8 @@ fn own_pairs(alloc: Global, mask: u32) -> Result<String, AllocError> {
     Ok(pairs)
 }
 
-/// A task in which each process has its own number: the input simplices are those of the masks up to the last.
+/// A task in which each process has its own number: the input simplices are
+/// those of the masks up to the last.
 fn own_task(alloc: Global, processes: u8, last: u32) -> Result<Task, Fail> {
     let mut delta = String::new(alloc);
     for mask in 1..=last {

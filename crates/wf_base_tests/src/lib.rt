@@ -1,8 +1,9 @@
 //! Tests of the public calls of the crates that the engines stand on, a module for each crate.
 //!
-//! They stand in a crate of their own since a crate with tests is proved twice, with them and without; here the tests
-//! alone are proved, over the contracts of the crates below. What they add to these contracts: that a call gets its
-//! memory and succeeds, that the definitions say what is meant, by values from outside, and what is printed.
+//! They stand in a crate of their own since a crate with tests is proved twice, with them and
+//! without; here the tests alone are proved, over the contracts of the crates below. What they add
+//! to these contracts: that a call gets its memory and succeeds, that the definitions say what is
+//! meant, by values from outside, and what is printed.
 #![tactic(auto)]
 
 #[cfg(test)]

@@ -1,4 +1,5 @@
-//! Rows, tasks, and how refusals are printed. Which texts are refused: checks/texts has the program read them.
+//! Rows, tasks, and how refusals are printed. Which texts are refused:
+//! checks/texts has the program read them.
 
 use std::test::Fail;
 use wf_examples::PATH_3;

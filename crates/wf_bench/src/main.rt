@@ -1,9 +1,11 @@
 //! Times `TupleTable::revise`, or the stages of a search.
 //!
-//! - `wf_bench ROWS CALLS` makes so many calls on a table of so many rows of four values, and prints a checksum of what was
-//!   found, and the nanoseconds of processor time that the calls took.
-//! - `wf_bench stages ROUNDS [REPEATS [LAST]]` reads a task from standard input, and prints the nanoseconds of processor
-//!   time that reading it took, and then the stages of its search up to the last, which is `join`, `close` or `search`.
+//! - `wf_bench ROWS CALLS` makes so many calls on a table of so many rows of
+//!   four values, and prints a checksum of what was found, and the
+//!   nanoseconds of processor time that the calls took.
+//! - `wf_bench stages ROUNDS [REPEATS [LAST]]` reads a task from standard input, and prints the
+//!   nanoseconds of processor time that reading it took, and then the stages of its search up to
+//!   the last, which is `join`, `close` or `search`.
 //! - With no arguments it prints two checksums, and no time.
 #![tactic(auto)]
 
@@ -46,7 +48,8 @@ fn table_of(alloc: Global, size: u32) -> Result<TupleTable, AllocError> {
     TupleTable::build(alloc, &rows, 4)
 }
 
-// A checksum of what so many calls find, the sets of the first two places another ones at each call.
+// A checksum of what so many calls find, the sets of the first two places
+// another ones at each call.
 fn repeat(table: &TupleTable, calls: u32) -> u64 {
     let mut total: u64 = 0;
     for k in 0..calls {

@@ -84,7 +84,8 @@ impl<'a, R: CpuClock> Watch<'a, R> {
     }
 }
 
-/// Runs the stages of a task's search over and over, and prints the mean of the time that each took.
+/// Runs the stages of a task's search over and over, and prints the mean of
+/// the time that each took.
 pub(crate) fn time_stages(
     rt: &(impl Print + CpuClock + AllocGlobal),
     text: &str,

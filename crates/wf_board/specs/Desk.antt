@@ -13,7 +13,8 @@ pub record Place : Type 0 where
 abbrev pub place : TableId → ℕ → ℕ → Place
 place table branches workers = record { table = table; branches = branches; workers = workers }
 
--- the numbers of branches and workers that a board may have: at least one worker, and all that its words count fits in u32
+-- the numbers of branches and workers that a board may have: at least one
+-- worker, and all that its words count fits in u32
 abbrev pub MayHave : ℕ → ℕ → Type 0
 MayHave branches workers = (0 < workers) × (branches * workers < 2 ^ 32)
 
@@ -21,7 +22,8 @@ MayHave branches workers = (0 < workers) × (branches * workers < 2 ^ 32)
 abbrev pub HasSize : ℕ → ℕ → Place → Type 0
 HasSize branches workers p = (p.branches ≡ branches) × (p.workers ≡ workers)
 
--- a seat: of which board, the number that it has seen, and the branches that it has posted, refuted and cut
+-- a seat: of which board, the number that it has seen, and the branches that
+-- it has posted, refuted and cut
 pub record Desk : Type 0 where
   pub table : TableId
   pub branches : ℕ

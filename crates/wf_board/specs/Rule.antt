@@ -1,4 +1,5 @@
--- The rule of the board: what its three words and what the seats know say together, between any two steps.
+-- The rule of the board: what its three words and what the seats know say
+-- together, between any two steps.
 use Rattle.std.specs.Prelude.{◌≡◌, ℕ, ◌+◌, ◌*◌, ◌<◌, ◌≤◌, ◌⊎◌, min, List, [], ◌∷◌, length, replicate, All, Contains}
 use mathlib.Core.Option.{some}
 use lib.ListN.{get_elem?}
@@ -23,9 +24,10 @@ AtMost seen x = (y : ℕ) × Contains seen y × (y ≤ x)
 abbrev pub Below : List ℕ → ℕ → Type 0
 Below seen x = (y : ℕ) × Contains seen y × (y < x)
 
--- What a seat knows, where the least word is l: it has settled at most b branches for each number seen. No posted
--- number is below l. A number that it has seen is not below l, and is b or was posted. It has seen a number that is
--- at most each of its posts, and one that is below each of its cuts.
+-- What a seat knows, where the least word is l: it has settled at most b
+-- branches for each number seen. No posted number is below l. A number that
+-- it has seen is not below l, and is b or was posted. It has seen a number
+-- that is at most each of its posts, and one that is below each of its cuts.
 pub record Fits (b l : ℕ) (views : List View) (v : View) : Type 0 where
   pub room : length v.posted + (length v.refuted + length v.cut) ≤ b * length v.seen
   pub posts : All (λ x. l ≤ x) v.posted
@@ -33,8 +35,8 @@ pub record Fits (b l : ℕ) (views : List View) (v : View) : Type 0 where
   pub after_posts : All (AtMost v.seen) v.posted
   pub above_cuts : All (Below v.seen) v.cut
 
--- The words are the least posted number, or the number of branches, and the numbers of refuted and of cut branches.
--- The seats have seen as many numbers as there are workers.
+-- The words are the least posted number, or the number of branches, and the numbers of refuted and
+-- of cut branches. The seats have seen as many numbers as there are workers.
 pub record Shown (ledger : Ledger) (s : State (Unit {0}) View) : Type 0 where
   pub least : ℕ
   pub refuted : ℕ
@@ -57,8 +59,8 @@ Seated = Me (Unit {0}) View
 abbrev pub PlayOf : Type 1
 PlayOf = Step (Unit {0}) → Seated → ℕ → Seated → Type 0
 
--- Each step of a worker's seat leaves the seat as the call of its name says. A number that the step sees is at most
--- what the seat had seen and each of its posts.
+-- Each step of a worker's seat leaves the seat as the call of its name says. A number that the step
+-- sees is at most what the seat had seen and each of its posts.
 
 abbrev pub looks : PlayOf
 looks step me found after =
@@ -74,7 +76,8 @@ refutes branch step me found after = (d : Desk) → me.0 ≡ known d → after �
 abbrev pub cuts : ℕ → PlayOf
 cuts branch step me found after = (d : Desk) → me.0 ≡ known d → after ≡ (known (is_cut d branch), me.1)
 
--- A worker's seat: it has seen one number, its posts are counted, and no branch stands twice in what it has settled
+-- A worker's seat: it has seen one number, its posts are counted, and no
+-- branch stands twice in what it has settled
 pub record Sits (seen posts branches : ℕ) (me : Seated) : Type 0 where
   pub is : me ≡ (knows (seen ∷ []) me.0.posted me.0.refuted me.0.cut, [])
   pub counted : posts ≡ length me.0.posted

@@ -1,5 +1,5 @@
--- The table of the board shows a state of the pool, each call's step is one event of the pool, and what `finish`
--- answers is the account of the state that is shown.
+-- The table of the board shows a state of the pool, each call's step is one event of the pool, and
+-- what `finish` answers is the account of the state that is shown.
 use Rattle.std.specs.Prelude.{◌≡◌, ℕ, ◌+◌, ◌%◌, ◌^◌, ◌<◌, ◌≤◌, min, List, [], ◌∷◌, length, map, replicate, slice_index}
 use Rattle.std.specs.List.Sorted.{IsPermutation}
 use mathlib.Core.Option.{some}
@@ -27,8 +27,8 @@ pub record Agree (f : View → List ℕ) (views : List View) (c : Core) (status 
   pub stands : (i : ℕ) → Is c i status → Stands f views i
   pub once : (i : ℕ) → times_in f i views ≤ 1
 
--- The least word is the least number, the seat of a worker's number has seen what the worker has, and the lists hold
--- the branches that were settled, each once
+-- The least word is the least number, the seat of a worker's number has seen what the worker has,
+-- and the lists hold the branches that were settled, each once
 pub record Shows (s : Table) (c : Core) : Type 0 where
   pub least : slice_index s.words 0 ≡ c.least
   pub seen : (w : ℕ) (v : View) → get_elem? s.views w ≡ some v → (n : ℕ) × (v.seen ≡ n ∷ []) × Saw c w n
@@ -85,8 +85,8 @@ EndIsShown = (s : Table) (c d : Core) (w : ℕ) → Shows s c → Step c (End w)
 abbrev pub ledger_of : Place → Ledger
 ledger_of p = record { branches = p.branches; workers = p.workers }
 
--- These are all seats, in any order, of a table that the rule allows and that shows the state c of a pool with as
--- many branches as the board
+-- These are all seats, in any order, of a table that the rule allows and that shows the state c of
+-- a pool with as many branches as the board
 pub record AreSeatsAt (p : Place) (s : Table) (c : Core) (ds : List Desk) : Type 0 where
   pub rule : Shown (ledger_of p) s
   pub shows : Shows s c

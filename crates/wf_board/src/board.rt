@@ -36,8 +36,8 @@ impl Model for Board {
 
 /// A worker's seat at a board.
 ///
-/// Contracts see which board it is of, the number that it has seen, and the branches that it has posted, refuted and
-/// cut.
+/// Contracts see which board it is of, the number that it has seen, and the branches that it has
+/// posted, refuted and cut.
 #[derive(Drop)]
 pub struct BoardSeat {
     seat: Seat<(), View>,
@@ -71,8 +71,8 @@ struct Words {
 }
 
 impl BoardSeat {
-    /// The number that this seat has seen: the least posted branch as of its last look or post, or the number of
-    /// branches.
+    /// The number that this seat has seen: the least posted branch as of its
+    /// last look or post, or the number of branches.
     pub fn seen(&self) -> u32
         ensures { result ≡ self.now.seen }
     {
@@ -133,7 +133,8 @@ impl Board {
         self.add_refuted::<Brand>(seat, branch);
     }
 
-    /// Counts a branch that needs no search, since the seat has seen a lower one posted. One atomic addition.
+    /// Counts a branch that needs no search, since the seat has seen a lower
+    /// one posted. One atomic addition.
     pub fn cut(&self, seat: &mut BoardSeat, branch: u32)
         requires board { IsSeatOf self.now seat.old }
         requires branch { MaySettle self.now seat.old branch }

@@ -8,8 +8,8 @@ use atomic_table::{Join, Play, Split, TableRule};
 use std::collections::LinkedList;
 use std::marker::{Brand, PhantomData};
 
-// What a seat knows: the number that each of its workers has seen, and the branches that it has settled. It stands
-// in proofs alone: no value of it is made.
+// What a seat knows: the number that each of its workers has seen, and the branches that it has
+// settled. It stands in proofs alone: no value of it is made.
 pub struct View {
     pub seen: LinkedList<u32>,
     pub posted: LinkedList<u32>,

@@ -79,7 +79,8 @@ grown p old new before after emptied is =
 
 -- ---- the sweeps that are left
 
--- these are enough for what is left: the steps so far and they come to all, and the sweeps so far and they to one more than all
+-- these are enough for what is left: the steps so far and they come to all, and the sweeps so far
+-- and they to one more than all
 pub record SweepsLeft (p : Problem) (lines : List Line) (words : List (List ℕ)) (all : Step) (begun total : ℕ) : Type 0 where
   pub number : ℕ
   pub enough : count (box_of words) < number

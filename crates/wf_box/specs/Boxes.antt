@@ -1,4 +1,5 @@
--- What a clause sees of the program's boxes: the candidates of each point, the changes that made them so, and what is known.
+-- What a clause sees of the program's boxes: the candidates of each point, the changes that made
+-- them so, and what is known.
 use Rattle.std.specs.Prelude.{◌≡◌, ◌≤◌, ℕ, List, [], ◌∷◌, ◌++◌, Option, Some, None, length, drop, map, IfSome, if◌then◌else◌, Bool}
 use Rattle.std.specs.List.{slice_set}
 use Rattle.wf_model.specs.Problem.{Problem}
@@ -22,7 +23,8 @@ pub record Was : Type 0 where
   pub point : ℕ
   pub set : List ℕ
 
--- the candidates of each point, the changes since the box was made, after how many of them it was closed last, and the kernel's answers that it keeps
+-- the candidates of each point, the changes since the box was made, after how many of them it was
+-- closed last, and the kernel's answers that it keeps
 pub record Tracked : Type 0 where
   pub sets : Box
   pub trail : List Was

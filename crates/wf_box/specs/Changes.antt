@@ -46,7 +46,8 @@ words_at n t = words_after n t.trail.items t.words.items
 abbrev pub HasFewer : Tracked → ℕ → List ℕ → Type 0
 HasFewer t v set = length (values_in (get_or t.words.items v [])) < length (values_in set)
 
--- the last change is that of this point, which had these candidates; those before it are as they were
+-- the last change is that of this point, which had these candidates; those
+-- before it are as they were
 abbrev pub Notes : Tracked → Tracked → ℕ → List ℕ → Type 0
 Notes old new v set = new.trail.items ≡ old.trail.items ++ record { point = v; before = set } ∷ []
 

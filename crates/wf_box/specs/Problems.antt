@@ -55,7 +55,8 @@ constraints_seen rules es = map (constraint_seen rules) es
 abbrev pub problem_seen : Inside → Problem
 problem_seen p = record { points = p.network.points; values = values_in p.values; constraints = map (constraint_seen p.network.rules.items) p.network.executions.items }
 
--- an execution with a rule that is there and four points that are there, of which those past its size are not used
+-- an execution with a rule that is there and four points that are there, of
+-- which those past its size are not used
 pub record IsWithin (rules points : ℕ) (e : Execution) : Type 0 where
   pub rule : e.rule < rules
   pub long : length e.points ≡ 4

@@ -13,7 +13,8 @@ use Rattle.wf_box.specs.declared.problem.Network.{Network}
 use Rattle.wf_box.specs.declared.tracked.Tracked.{Tracked}
 use Rattle.wf_box.specs.declared.workspace.Workspace.{Workspace}
 
--- candidates of so many points and marks for so many executions, room for each change and each line that can come, and right answers alone
+-- candidates of so many points and marks for so many executions, room for each change and each line
+-- that can come, and right answers alone
 pub record IsWorking {A : Type 0} (points executions : ℕ) (ks : List Constraint) (lines : Vec Line A) (w : Workspace) : Type 0 where
   pub kept : KeepsTrack w.tracked
   pub long : length w.tracked.words.items ≡ points
@@ -27,7 +28,8 @@ IsWorkingOn n lines w = IsWorking n.points (length n.executions.items) (constrai
 abbrev pub IsWorkingFor : {A : Type 0} → Problem → Vec Line A → Workspace → Type 0
 IsWorkingFor p lines w = IsWorking p.points (length p.constraints) p.constraints lines w
 
--- a point that was emptied ends it; where none was, there is room for what can come, and each new line has a candidate less beside it
+-- a point that was emptied ends it; where none was, there is room for what can come, and each new
+-- line has a candidate less beside it
 abbrev pub Ends : {A : Type 0} → Vec Line A → Tracked → Vec Line A → Tracked → Option ℕ → Type 0
 Ends lines old more new None = HasRoom more new.words.items × IsPaid lines old more new
 Ends lines old more new (Some v) = EndsAt more.items (sets_in new) v

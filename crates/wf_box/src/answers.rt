@@ -10,8 +10,8 @@ use std::alloc::Global;
 use std::marker::Model;
 use std::mem;
 
-/// What closing has found out about a problem: a box keeps it, and may leave it to the next box of the same problem. No
-/// result rests on it, and it saves time alone.
+/// What closing has found out about a problem: a box keeps it, and may leave it to the next box of
+/// the same problem. No result rests on it, and it saves time alone.
 ///
 /// A clause sees it as the list of the answers.
 #[derive(Drop)]

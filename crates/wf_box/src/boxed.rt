@@ -21,11 +21,12 @@ use std::alloc::{AllocError, Global};
 use std::marker::Model;
 use wf_set::{Mask, first};
 
-/// A box: a set of values, its candidates, for each point. It keeps a trail of its changes, so that it can be given an
-/// earlier state again: [`Box0::mark`] and [`Box0::undo`].
+/// A box: a set of values, its candidates, for each point. It keeps a trail of its changes, so that
+/// it can be given an earlier state again: [`Box0::mark`] and [`Box0::undo`].
 ///
-/// A clause sees it as the list of the points' candidates, each ascending, with the changes since it was made, the last
-/// one last, after how many of these it was closed last, and the answers of the kernel that it keeps.
+/// A clause sees it as the list of the points' candidates, each ascending, with the changes since
+/// it was made, the last one last, after how many of these it was closed last, and the answers of
+/// the kernel that it keeps.
 #[derive(Drop)]
 pub struct Box0 {
     pub(crate) workspace: Workspace,
@@ -43,7 +44,8 @@ impl Model for Box0 {
     ghost invariant = { IsKeptBox };
 }
 
-/// A state of a box, which [`Box0::undo`] gives it again as long as no earlier one was given it in between.
+/// A state of a box, which [`Box0::undo`] gives it again as long as no
+/// earlier one was given it in between.
 #[derive(Clone, Copy, Debug)]
 pub struct Mark {
     /// How many changes the box had.
@@ -93,7 +95,8 @@ impl Box0 {
         })
     }
 
-    /// Its candidates as they are now, in no more memory than they need. Refused for want of memory alone.
+    /// Its candidates as they are now, in no more memory than they need.
+    /// Refused for want of memory alone.
     pub fn keep(&self, alloc: Global) -> Result<Snapshot, AllocError>
         ensures sets { IfOk result (λ kept. kept.sets ≡ self.now.sets) }
         ensures fresh { IfOk result (λ kept. kept.trail ≡ []) }
@@ -179,7 +182,8 @@ impl Box0 {
         self.workspace.tracked.words.len() as u32
     }
 
-    /// The first point with two candidates or more; none where each point has one at most. It takes no memory.
+    /// The first point with two candidates or more; none where each point has
+    /// one at most. It takes no memory.
     pub fn first_open(&self) -> Option<u32>
         ensures { result ≡ first_open self.now.sets }
     {
@@ -194,8 +198,8 @@ impl Box0 {
         self.workspace.tracked.find_open()
     }
 
-    /// The least candidate of each point, which has to have one: in a decided box its only one. Refused for want of
-    /// memory alone.
+    /// The least candidate of each point, which has to have one: in a decided box its only one.
+    /// Refused for want of memory alone.
     pub fn least_values(&self, alloc: Global) -> Result<Vec<u8>, AllocError>
         requires filled { first_empty self.now.sets ≡ None }
         ensures values { IfOk result (λ values. values.items ≡ least_values self.now.sets) }

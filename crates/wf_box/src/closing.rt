@@ -38,13 +38,14 @@ pub enum Closed {
     },
 }
 
-/// Takes out what is not supported, sweep by sweep, until a sweep changes nothing or a point is emptied, and adds a
-/// line for each value that is taken out, and one for the point that is emptied.
+/// Takes out what is not supported, sweep by sweep, until a sweep changes
+/// nothing or a point is emptied, and adds a line for each value that is
+/// taken out, and one for the point that is emptied.
 ///
-/// In a sweep the executions come in order, and each is judged by the candidates as they stand before it. Where a point
-/// has no candidate at the start, the line of the first such point is all. The box after is the one before without the
-/// values that the new lines name, also where a point is emptied. Refused for want of memory alone, and box and lines
-/// are then as before.
+/// In a sweep the executions come in order, and each is judged by the candidates as they stand
+/// before it. Where a point has no candidate at the start, the line of the first such point is all.
+/// The box after is the one before without the values that the new lines name, also where a point
+/// is emptied. Refused for want of memory alone, and box and lines are then as before.
 pub fn close(
     alloc: Global,
     problem: &Problem,
@@ -79,7 +80,8 @@ pub fn close(
     Ok(closed)
 }
 
-/// Closes a box, where there is room for the lines. It was closed last after so many changes, or never was.
+/// Closes a box, where there is room for the lines. It was closed last after
+/// so many changes, or never was.
 fn close_tracked(
     problem: &Problem,
     closed: Option<u32>,
@@ -103,7 +105,8 @@ fn close_tracked(
     sweeps(problem, workspace, lines)
 }
 
-/// Marks the executions in which something may be lost, and answers the first point without a candidate.
+/// Marks the executions in which something may be lost, and answers the first
+/// point without a candidate.
 fn prepare(
     problem: &Problem,
     closed: Option<u32>,
@@ -124,7 +127,8 @@ fn prepare(
     empty_point(&tracked.words)
 }
 
-/// Marks the executions in which something may be lost, and says whether no point is empty for sure.
+/// Marks the executions in which something may be lost, and says whether no
+/// point is empty for sure.
 fn mark_problem(
     problem: &Problem,
     closed: Option<u32>,
@@ -148,8 +152,8 @@ fn mark_problem(
     }
 }
 
-/// Marks the executions of each point that changed past so many changes, and says whether each of these points has a
-/// candidate.
+/// Marks the executions of each point that changed past so many changes, and says whether each of
+/// these points has a candidate.
 fn mark_changed(network: &Network, changes: usize, tracked: &Tracked, marks: &mut Marks) -> bool
     requires network { IsNetwork network.now }
     requires kept { KeepsTrack tracked.now }
@@ -206,8 +210,8 @@ fn sweeps(problem: &Problem, workspace: &mut Workspace, lines: &mut Lines) -> Cl
     }
 }
 
-/// Takes out of each execution in turn what is not supported there: of those that are marked, since the others have
-/// lost nothing. The point that this empties, if there is one.
+/// Takes out of each execution in turn what is not supported there: of those that are marked, since
+/// the others have lost nothing. The point that this empties, if there is one.
 fn sweep(problem: &Problem, workspace: &mut Workspace, lines: &mut Lines) -> Option<u32>
     requires working { IsWorkingFor problem.now lines.old workspace.old }
     requires marked { AreMarked problem.now.constraints workspace.old }
@@ -221,8 +225,8 @@ fn sweep(problem: &Problem, workspace: &mut Workspace, lines: &mut Lines) -> Opt
     sweep_marked(&problem.network, workspace, lines)
 }
 
-/// Takes out of each execution in turn that is marked what is not supported there. The point that this empties, if
-/// there is one.
+/// Takes out of each execution in turn that is marked what is not supported there. The point that
+/// this empties, if there is one.
 fn sweep_marked(network: &Network, workspace: &mut Workspace, lines: &mut Lines) -> Option<u32>
     requires network { IsNetwork network.now }
     requires working { IsWorkingOn network.now lines.old workspace.old }
@@ -247,8 +251,9 @@ fn sweep_marked(network: &Network, workspace: &mut Workspace, lines: &mut Lines)
     None
 }
 
-/// Takes out what is not supported in an execution, judged by its points' candidates as they stood before, and marks
-/// the executions of the points that lose something. The point that this empties, if there is one.
+/// Takes out what is not supported in an execution, judged by its points'
+/// candidates as they stood before, and marks the executions of the points
+/// that lose something. The point that this empties, if there is one.
 fn revise(
     number: u32,
     network: &Network,
@@ -292,8 +297,9 @@ fn revise(
     None
 }
 
-/// Takes those of the values out that are still there, ascending, with their lines, and marks the executions of the
-/// point where there are any. Where this empties the point, that ends it, and the answer is true.
+/// Takes those of the values out that are still there, ascending, with their
+/// lines, and marks the executions of the point where there are any. Where
+/// this empties the point, that ends it, and the answer is true.
 fn take_place(
     lost: Mask,
     place: Place,

@@ -1,11 +1,13 @@
-//! Boxes of candidates, and closing: what no process can decide is taken out, with a line for each value.
+//! Boxes of candidates, and closing: what no process can decide is taken out,
+//! with a line for each value.
 //!
-//! - [`Problem`]: the constraint problem of a task and its protocol complex. Each input simplex has one table of
-//!   tuples, which its executions share.
+//! - [`Problem`]: the constraint problem of a task and its protocol complex. Each input simplex has
+//!   one table of tuples, which its executions share.
 //! - [`Box0`]: the candidates of each point.
 //! - [`Snapshot`]: a box that waits.
 //! - [`Answers`]: what closing found out, for the next box of the same problem.
-//! - [`close`]: sweeps through the executions until each candidate is supported wherever its point stands.
+//! - [`close`]: sweeps through the executions until each candidate is
+//!   supported wherever its point stands.
 #![tactic(auto)]
 
 mod answers;

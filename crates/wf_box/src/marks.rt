@@ -29,7 +29,8 @@ impl Marks {
         }
     }
 
-    /// Makes room for the marks of so many executions. Where there was too little, none is marked then.
+    /// Makes room for the marks of so many executions. Where there was too
+    /// little, none is marked then.
     pub(crate) fn reserve(&mut self, alloc: Global, executions: u32) -> Result<(), AllocError>
         requires { executions ≤ most_executions }
         ensures { OnOk result (executions ≤ 64 * length self.new.words.items) }

@@ -30,8 +30,8 @@ pub(crate) struct Revised {
     pub(crate) supported: [Mask; 4],
 }
 
-/// The same for candidates below 64, in a quarter of the memory. Past the places of the rule what is supported is said
-/// to be the candidates, so that both are the same where nothing is lost.
+/// The same for candidates below 64, in a quarter of the memory. Past the places of the rule what
+/// is supported is said to be the candidates, so that both are the same where nothing is lost.
 #[derive(Clone, Copy, Debug)]
 pub(crate) struct RevisedParts {
     pub(crate) execution: usize,
@@ -39,7 +39,8 @@ pub(crate) struct RevisedParts {
     pub(crate) supported: [Part; 4],
 }
 
-/// Answers of the kernel. Each has its place by its rule and its candidates, and stays there until another one comes.
+/// Answers of the kernel. Each has its place by its rule and its candidates,
+/// and stays there until another one comes.
 #[derive(Drop)]
 pub(crate) struct Memo {
     // for candidates below 64
@@ -64,8 +65,9 @@ impl Memo {
         }
     }
 
-    /// Makes more places where too many answers were not there. Those for candidates below 64 are kept, and the others
-    /// are forgotten. Where memory for that is refused it stays as it was: an answer that is not there costs time alone.
+    /// Makes more places where too many answers were not there. Those for candidates below 64 are
+    /// kept, and the others are forgotten. Where memory for that is refused it stays as it was: an
+    /// answer that is not there costs time alone.
     pub(crate) fn grow(&mut self, alloc: Global, network: &Network)
         requires { IsNetwork network.now }
         ensures { (ks : List Constraint) → AreKnown ks (answers_in self.old)
@@ -108,7 +110,8 @@ impl Memo {
         }
     }
 
-    /// Keeps an answer for candidates below 64 at this place, where there is one, and forgets the one that was there.
+    /// Keeps an answer for candidates below 64 at this place, where there is
+    /// one, and forgets the one that was there.
     pub(crate) fn keep_narrow(&mut self, place: usize, answer: RevisedParts)
         ensures { (ks : List Constraint) → IsKnownParts ks (Some answer)
             → AreKnown ks (answers_in self.old) → AreKnown ks (answers_in self.new) }
@@ -165,8 +168,8 @@ fn places_wanted(places: usize, misses: u32, most: usize) -> usize {
     }
 }
 
-/// Where among so many places, a power of two, the answer for a rule and these candidates is, by those of them that are
-/// below 64. With none at all it is 0.
+/// Where among so many places, a power of two, the answer for a rule and these candidates is, by
+/// those of them that are below 64. With none at all it is 0.
 ///
 /// Any place would be right.
 pub(crate) fn slot_of(rule: u32, candidates: [Part; 4], places: usize) -> usize {

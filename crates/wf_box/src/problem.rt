@@ -54,16 +54,16 @@ impl Rule {
     }
 }
 
-/// An execution: the number of its input simplex, and the points of its processes. The points past their number are
-/// that of the first process, and are not used.
+/// An execution: the number of its input simplex, and the points of its processes. The points past
+/// their number are that of the first process, and are not used.
 #[derive(Clone, Copy, Debug)]
 pub(crate) struct Execution {
     pub(crate) rule: u32,
     pub(crate) points: [u32; 4],
 }
 
-/// The constraints of a problem as they are kept: a rule for each input simplex, the executions, and the executions of
-/// each point.
+/// The constraints of a problem as they are kept: a rule for each input simplex, the executions,
+/// and the executions of each point.
 #[derive(Drop)]
 pub(crate) struct Network {
     pub(crate) points: u32,
@@ -94,10 +94,11 @@ impl Network {
     }
 }
 
-/// The constraint problem of a task after some rounds: a decision map gives each point a value, so that in each
-/// execution the values at its points are a tuple that the task allows.
+/// The constraint problem of a task after some rounds: a decision map gives each point a value, so
+/// that in each execution the values at its points are a tuple that the task allows.
 ///
-/// Points and executions have the numbers of the protocol complex. The tuples of an input simplex are kept once.
+/// Points and executions have the numbers of the protocol complex. The tuples
+/// of an input simplex are kept once.
 #[derive(Drop)]
 pub struct Problem {
     // those that occur in the outputs
@@ -168,7 +169,8 @@ fn rules(alloc: Global, task: &Task) -> Result<Vec<Rule>, AllocError>
     Ok(rules)
 }
 
-/// The number of a rule with this table, where one of the last few has it, and else the number of the next one.
+/// The number of a rule with this table, where one of the last few has it,
+/// and else the number of the next one.
 fn like_of(task: &Task, rules: &[Rule], simplex: Simplex, tuples: &[Row]) -> u32
     requires rules { map rule_seen rules.now ≡ take (length rules.now) task.now.delta }
     requires wide { All IsWide rules.now }

@@ -11,9 +11,9 @@ use crate::problem::{Execution, Network};
 use wf_set::Mask;
 use wf_set::part::Part;
 
-/// The values that the rule of an execution supports at each place for the candidates of its points; none where those
-/// are all that the candidates have. Answers are kept, since many executions of a simplex have the same candidates, and
-/// have them again.
+/// The values that the rule of an execution supports at each place for the candidates of its
+/// points; none where those are all that the candidates have. Answers are kept, since many
+/// executions of a simplex have the same candidates, and have them again.
 pub(crate) fn supported_at(
     number: u32,
     sets: &[Mask],
@@ -169,7 +169,8 @@ fn is_low(set: Mask) -> bool
     (b == 0) & (c == 0) & (d == 0)
 }
 
-/// The values that the rule of an execution supports at each place for some candidates, of which one is 64 or more.
+/// The values that the rule of an execution supports at each place for some
+/// candidates, of which one is 64 or more.
 fn supported_sets(
     number: u32,
     candidates: [Mask; 4],

@@ -12,8 +12,8 @@ use crate::workspace::Workspace;
 use std::alloc::{AllocError, Global};
 use std::marker::Model;
 
-/// The candidates of a box at one moment, which change no more. It takes less memory than the box, and the box can be
-/// made of it again: [`Box0::keep`] and [`Snapshot::to_box`].
+/// The candidates of a box at one moment, which change no more. It takes less memory than the box,
+/// and the box can be made of it again: [`Box0::keep`] and [`Snapshot::to_box`].
 ///
 /// A clause sees it as a box without a change to take back.
 #[derive(Drop)]
@@ -35,7 +35,8 @@ impl Model for Snapshot {
 }
 
 impl Snapshot {
-    /// The box with these candidates, with no change to take back. Refused for want of memory alone.
+    /// The box with these candidates, with no change to take back. Refused
+    /// for want of memory alone.
     pub fn to_box(&self, alloc: Global) -> Result<Box0, AllocError>
         ensures { IfOk result (λ boxed. boxed ≡ self.now) }
     {
@@ -50,7 +51,8 @@ impl Snapshot {
         })
     }
 
-    /// The first point with two candidates or more; none where each point has one at most. It takes no memory.
+    /// The first point with two candidates or more; none where each point has
+    /// one at most. It takes no memory.
     pub fn first_open(&self) -> Option<u32>
         ensures { result ≡ first_open self.now.sets }
     {

@@ -20,8 +20,8 @@ pub(crate) struct Place {
     pub(crate) point: u32,
 }
 
-/// Takes those of the values out that are still there, ascending, with their lines. Where this empties the point, that
-/// ends it, and the answer is true.
+/// Takes those of the values out that are still there, ascending, with their lines. Where this
+/// empties the point, that ends it, and the answer is true.
 pub(crate) fn take_each(values: Mask, place: Place, sets: &mut [Mask], lines: &mut Lines) -> bool
     requires point { place.point < length sets.old }
     requires room { HasRoom lines.old sets.old }
@@ -46,8 +46,8 @@ pub(crate) fn take_each(values: Mask, place: Place, sets: &mut [Mask], lines: &m
     false
 }
 
-/// Takes a candidate out, and adds its line. Where this empties the point, the line for that follows, and the answer
-/// is true.
+/// Takes a candidate out, and adds its line. Where this empties the point, the line for that
+/// follows, and the answer is true.
 fn take_out(value: u8, place: Place, sets: &mut [Mask], lines: &mut Lines) -> bool
     requires point { place.point < length sets.old }
     requires present { has (candidates (box_of sets.old) place.point) value ≡ true }

@@ -4,7 +4,8 @@ use crate::marks::Marks;
 use crate::memo::Memo;
 use crate::tracked::Tracked;
 
-/// The candidates of each point, marks on the executions in which something may be lost, and answers of the kernel.
+/// The candidates of each point, marks on the executions in which something
+/// may be lost, and answers of the kernel.
 #[derive(Drop)]
 pub(crate) struct Workspace {
     pub(crate) tracked: Tracked,

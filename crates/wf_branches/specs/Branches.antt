@@ -12,7 +12,8 @@ use Rattle.wf_engine.specs.declared.fault.RunFault.{RunFault}
 use Rattle.wf_engine.specs.declared.fault.RunFault.TheVariants.{NoBranch, OutOfMemory}
 use Rattle.wf_branches.specs.declared.branch.FoundBranch.{FoundBranch}
 
--- what is written while the root is cut, with the branches of the task's question in the place of their lines
+-- what is written while the root is cut, with the branches of the task's
+-- question in the place of their lines
 pub record IsCoverOf (t : Task) (r : ℕ) (cover : List Item) : Type 0 where
   pub outline_is : cover ≡ outline (problem_of t r)
   pub branches_are : boxes_left_out cover ≡ branches t r
@@ -54,7 +55,8 @@ IsRefusedBranch t r i e = IsBeyondLimits t r e
 abbrev pub BranchAnswers : Type 0 → Type 1
 BranchAnswers X = Task → ℕ → ℕ → X → List ℕ → Type 0
 
--- the answer about branch i of a task after r rounds with its text, where is_text says which text an answer has
+-- the answer about branch i of a task after r rounds with its text, where
+-- is_text says which text an answer has
 abbrev pub AnswersBranch : {X : Type 0} → BranchAnswers X → Task → ℕ → ℕ → Result (X × List ℕ) RunFault → Type 0
 AnswersBranch is_text t r i (Ok answer) = HasComplex t r × HasBranch t r i × is_text t r i answer.0 answer.1
 AnswersBranch is_text t r i (Err e) = IsRefusedBranch t r i e

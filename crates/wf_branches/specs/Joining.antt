@@ -1,5 +1,5 @@
--- A run over two sources: a task, and the parts of the branches of its question one behind another, which are put together to the
--- report of the whole question.
+-- A run over two sources: a task, and the parts of the branches of its question one behind another,
+-- which are put together to the report of the whole question.
 use Rattle.std.specs.Prelude.{◌≡◌, ◌≢◌, ◌<◌, ◌≤◌, ◌-◌, ◌+◌, ◌^◌, ℕ, zero, suc, Bool, List, [], ◌∷◌, ◌++◌, length, take, drop, codes, Result, Ok, Err, if◌then◌else◌}
 use Rattle.wf_model.specs.Task.{Task}
 use Rattle.wf_model.specs.Problem.{problem_of}
@@ -41,7 +41,8 @@ end_mark = 10 ∷ line (codes "end") []
 abbrev pub ends_here : List ℕ → Bool
 ends_here text = same_text (take 5 text) end_mark
 
--- how many bytes a text has up to its first line `end`, and with it; all of them, where there is none
+-- how many bytes a text has up to its first line `end`, and with it; all of
+-- them, where there is none
 abbrev pub part_length : List ℕ → ℕ
 part_length [] = 0
 part_length (b ∷ bs) = if ends_here (b ∷ bs) then 5 else suc (part_length bs)
@@ -77,8 +78,8 @@ TakesPart i t r text result = (alone : Result Body RunFault) × IsBodyIn i t r t
 
 -- ---- all parts
 
--- What the parts come to: the lines of each branch where none has a map; or the map of the first branch that has one, in the
--- least form with the lines of the branches up to it.
+-- What the parts come to: the lines of each branch where none has a map; or the map of the first
+-- branch that has one, in the least form with the lines of the branches up to it.
 pub data Gathered : Type 0 where
   without_map : List (List Line) → Gathered
   with_map : List ℕ → Gathered
@@ -91,13 +92,15 @@ EndsAll n lists text (Err (TooManyParts k)) = (text ≢ []) × (k ≡ n)
 EndsAll n lists text (Err OutOfMemory) = Unit {0}
 EndsAll n lists text (Err e) = ⊥
 
--- a map ends the going through the branches; lines of a refutation are kept, and the next branch is to come
+-- a map ends the going through the branches; lines of a refutation are kept,
+-- and the next branch is to come
 abbrev pub GoesOn : (List (List Line) → Result Gathered RunFault → Type 0) → List (List Line) → Body → Result Gathered RunFault → Type 0
 GoesOn next lists (a_map m) result = result ≡ Ok (with_map m)
 GoesOn next lists (none ls) result = next (lists ++ ls ∷ []) result
 GoesOn next lists (least m ls) result = result ≡ Ok (with_least m (lists ++ ls ∷ []))
 
--- what the parts of a text come to, where so many branches are left, from branch i on, and these are the lines of those before
+-- what the parts of a text come to, where so many branches are left, from branch i on, and these
+-- are the lines of those before
 abbrev pub Gathers : Task → ℕ → ℕ → ℕ → List (List Line) → List ℕ → Result Gathered RunFault → Type 0
 Gathers t r zero i lists text result = EndsAll i lists text result
 Gathers t r (suc left) i lists text result =
@@ -110,8 +113,8 @@ GathersAll t r text result = Gathers t r (length (branches t r)) 0 [] text resul
 
 -- ---- the whole question
 
--- what they say of the whole question: the lines with which the root is cut into branches, with those of the branches in their
--- places
+-- what they say of the whole question: the lines with which the root is cut into branches, with
+-- those of the branches in their places
 abbrev pub joined_body : List Item → Gathered → Body
 joined_body cover (without_map lists) = none (filled cover lists)
 joined_body cover (with_map m) = a_map m
@@ -123,8 +126,8 @@ lines_in (a_map m) = length m
 lines_in (none ls) = length ls
 lines_in (least m ls) = length m + length ls
 
--- The report with this answer is about the whole question. The checker finds no fault in it, and the text is its own; or it has
--- one, or more lines than can be numbered.
+-- The report with this answer is about the whole question. The checker finds no fault in it, and
+-- the text is its own; or it has one, or more lines than can be numbered.
 abbrev pub AcceptsJoined : Task → ℕ → Body → Result (Unit {0} × List ℕ) RunFault → Type 0
 AcceptsJoined t r body (Ok answer) = AreNumbered (lines_in body) × IsFaultless t (report_about t r body) × (answer.1 ≡ text_of_report t r body)
 AcceptsJoined t r body (Err (Cert cert.OutOfMemory)) = ⊥
@@ -143,9 +146,9 @@ abbrev pub ReadsParts : Task → ℕ → Reading → Reading → Result (Unit {0
 ReadsParts t r old new result =
     (text : Result (List ℕ) ReadFault) × ReadsText most_parts_bytes old new text × Judged (JoinsText t r) text result
 
--- The parts of a source about the branches of the question of another source's task after r rounds, in the order of the branches,
--- were put together, and the report of the whole question was written. The task and its limits are judged before the parts are
--- read.
+-- The parts of a source about the branches of the question of another source's task after r rounds,
+-- in the order of the branches, were put together, and the report of the whole question was
+-- written. The task and its limits are judged before the parts are read.
 abbrev pub Joins : ℕ → Reading → Reading → Reading → Reading → Writing → Writing → Result (Unit {0}) RunFault → Type 0
 Joins r task task' parts parts' sink sink' result = Ran (AsksBoth ReadsParts r task task' parts parts') sink sink' result
 

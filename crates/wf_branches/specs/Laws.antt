@@ -23,8 +23,9 @@ use Rattle.wf_branches.specs.Solving.{IsSolvedIn, SolvesBranch}
 use Rattle.wf_branches.specs.Verifying.{HoldsIn, VerifiesBranch}
 use Rattle.wf_branches.specs.Joining.{Joins, most_parts_bytes}
 
--- where branch i was searched, the source gave the bytes of a task, the branch is there, and the sink took what its search
--- answers: the part of the least decision map there, or that none lies there
+-- where branch i was searched, the source gave the bytes of a task, the
+-- branch is there, and the sink took what its search answers: the part of the
+-- least decision map there, or that none lies there
 abbrev pub BranchAnswersAreTrue : Type 0
 BranchAnswersAreTrue =
     (rounds branch : ℕ) (form : Form) (source source' : Reading) (sink sink' : Writing) (found : Outcome)
@@ -36,8 +37,8 @@ BranchAnswersAreTrue =
 abbrev pub BranchesCoverAllMaps : Type 0
 BranchesCoverAllMaps = (t : Task) (r : ℕ) → IsTask t → ((i : ℕ) → HasBranch t r i → HasNoMapIn t r i) → HasNoDecisionMap t r
 
--- where a proof is accepted about a branch, the source of the task gave its bytes, the branch is there, no decision map lies in it,
--- and the sink took the line that says so
+-- where a proof is accepted about a branch, the source of the task gave its bytes, the branch is
+-- there, no decision map lies in it, and the sink took the line that says so
 abbrev pub BranchRefutationsAreTrue : Type 0
 BranchRefutationsAreTrue =
     (rounds branch : ℕ) (task task' proof proof' : Reading) (sink sink' : Writing)
@@ -55,8 +56,8 @@ BranchSolvingIsCounted =
     (rounds branch : ℕ) (form : Form) (source source' : Reading) (sink sink' : Writing) (result : Result Outcome RunFault)
     → SolvesBranch rounds branch form source source' sink sink' result → IsCounted source source' sink sink' result
 
--- where a part is accepted about a branch, the source of the task gave its bytes, the branch is there, what the part says of it is
--- true, and the sink took the line that says so
+-- where a part is accepted about a branch, the source of the task gave its bytes, the branch is
+-- there, what the part says of it is true, and the sink took the line that says so
 abbrev pub PartAcceptancesAreTrue : Type 0
 PartAcceptancesAreTrue =
     (rounds branch : ℕ) (task task' part part' : Reading) (sink sink' : Writing)
@@ -76,16 +77,17 @@ BranchProvingIsCounted =
     → RefutesBranch rounds branch task task' proof proof' sink sink' result
     → IsChecked most_proof_bytes task task' proof proof' sink sink' result
 
--- where parts were joined, the source gave the bytes of a task, and the sink took the text of a report; what that says of the whole
--- question is true: a map is a decision map, the least one where lines say so, and where there is none, no function on the views is one
+-- where parts were joined, the source gave the bytes of a task, and the sink took the text of a
+-- report; what that says of the whole question is true: a map is a decision map, the least one
+-- where lines say so, and where there is none, no function on the views is one
 abbrev pub JoinsAreTrue : Type 0
 JoinsAreTrue =
     (rounds : ℕ) (task task' parts parts' : Reading) (sink sink' : Writing)
     → Joins rounds task task' parts parts' sink sink' (Ok tt)
     → (t : Task) × (body : Body) × GaveTask task task' t × HoldsOf t rounds body × Took sink sink' (text_of_report t rounds body) 0
 
--- of the report that was written a check that asks for these rounds says that it is accepted, where its text has at most as many
--- bytes as a text may have
+-- of the report that was written a check that asks for these rounds says that it is accepted, where
+-- its text has at most as many bytes as a text may have
 abbrev pub JoinsAreAccepted : Type 0
 JoinsAreAccepted =
     (rounds : ℕ) (task task' parts parts' : Reading) (sink sink' : Writing)

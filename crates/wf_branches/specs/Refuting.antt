@@ -1,4 +1,5 @@
--- A run over two sources: a task, and the clausal proof by which a SAT solver shows that the question of one branch has no model.
+-- A run over two sources: a task, and the clausal proof by which a SAT solver shows that the
+-- question of one branch has no model.
 use Rattle.std.specs.Prelude.{◌≡◌, ℕ, List, ◌++◌, length, codes, decimal, Result, Ok, Err, Some}
 use Rattle.wf_model.specs.Task.{Task}
 use Rattle.wf_model.specs.View.{View}
@@ -29,7 +30,8 @@ accepted_text i n r = accepted_in (codes "accepted none") i n r
 abbrev pub IsAcceptedBranch : ℕ → Task → ℕ → Unit {0} × List ℕ → Type 0
 IsAcceptedBranch i t r answer = HasNoMapIn t r i × (answer.1 ≡ accepted_text i (length (branches t r)) r)
 
--- a source's bytes as a proof that no decision map lies in branch i: that the question of the branch has no model
+-- a source's bytes as a proof that no decision map lies in branch i: that the
+-- question of the branch has no model
 abbrev pub ReadsBranchProof : ℕ → Task → ℕ → Reading → Reading → Result (Unit {0} × List ℕ) RunFault → Type 0
 ReadsBranchProof i t r old new result = ReadsProofOf (branch_question t r i) (IsAcceptedBranch i t r) old new result
 
@@ -47,7 +49,8 @@ ReadsIn reads i t r old new result =
 abbrev pub ReadsProofIn : ℕ → ReadsAbout
 ReadsProofIn i = ReadsIn ReadsBranchProof i
 
--- The proof of a source was checked about branch i of the question of another source's task after r rounds, and that no decision
--- map is accepted there was written. The task, its limits and the branch are judged before the proof is read.
+-- The proof of a source was checked about branch i of the question of another source's task after r
+-- rounds, and that no decision map is accepted there was written. The task, its limits and the
+-- branch are judged before the proof is read.
 abbrev pub RefutesBranch : ℕ → ℕ → Reading → Reading → Reading → Reading → Writing → Writing → Result (Unit {0}) RunFault → Type 0
 RefutesBranch r i task task' proof proof' sink sink' result = Ran (AsksBoth (ReadsProofIn i) r task task' proof proof') sink sink' result

@@ -1,4 +1,5 @@
--- A run that searches one branch of a task's question: what the branch has, and the part of the answer that says so.
+-- A run that searches one branch of a task's question: what the branch has,
+-- and the part of the answer that says so.
 use Rattle.std.specs.Prelude.{◌≡◌, ◌++◌, ℕ, List, [], ◌∷◌, codes, length, Result}
 use Rattle.wf_model.specs.Lists.{IsBelowOrSame}
 use Rattle.wf_model.specs.Task.{Task}
@@ -27,12 +28,14 @@ pub record IsLeastInBranch (t : Task) (r i : ℕ) (m : View → ℕ) : Type 0 wh
   pub lies : LiesIn (listed t r m) (branch_at t r i)
   pub least : (other : View → ℕ) → IsDecisionMap t r other → LiesIn (listed t r other) (branch_at t r i) → IsBelowOrSame (listed t r m) (listed t r other)
 
--- The lines of the canonical search of branch i up to its map. They are those of a tree that leads to the map.
+-- The lines of the canonical search of branch i up to its map. They are those
+-- of a tree that leads to the map.
 pub record LeadsToMapIn (t : Task) (r i : ℕ) (m : List ℕ) (ls : List Line) : Type 0 where
   pub canonical_lines : ls ≡ (canonical (problem_of t r) (branch_at t r i)).lines
   pub leads : (tree : Tree) × (lines tree ≡ ls) × IsLeastTree (problem_of t r) m tree (branch_at t r i)
 
--- The lines of the canonical search of branch i. They are those of a tree that refutes it, and so no decision map lies there.
+-- The lines of the canonical search of branch i. They are those of a tree that refutes it, and so
+-- no decision map lies there.
 pub record IsRefutationIn (t : Task) (r i : ℕ) (ls : List Line) : Type 0 where
   pub canonical_lines : ls ≡ (canonical (problem_of t r) (branch_at t r i)).lines
   pub refutes : (tree : Tree) × (lines tree ≡ ls) × Refutes (problem_of t r) tree (branch_at t r i)
@@ -42,11 +45,13 @@ pub record IsRefutationIn (t : Task) (r i : ℕ) (ls : List Line) : Type 0 where
 abbrev pub part_head : ℕ → ℕ → List ℕ
 part_head i n = line (codes "wfcheck part 1") [] ++ (line (codes "branch") (i ∷ []) ++ line (codes "branches") (n ∷ []))
 
--- the part with this answer about branch i: its head, and then a report whose answer is about that branch alone
+-- the part with this answer about branch i: its head, and then a report whose
+-- answer is about that branch alone
 abbrev pub part_text : Task → ℕ → ℕ → Body → List ℕ
 part_text t r i body = part_head i (length (branches t r)) ++ text_of_report t r body
 
--- what a search of branch i answers and writes: the least decision map there, or none by a refutation of the branch
+-- what a search of branch i answers and writes: the least decision map there, or none by a
+-- refutation of the branch
 abbrev pub IsSolvedIn : Form → Task → ℕ → ℕ → Outcome → List ℕ → Type 0
 IsSolvedIn form t r i outcome.Map text =
     (m : View → ℕ) × (ls : List Line) × IsLeastInBranch t r i m × LeadsToMapIn t r i (listed t r m) ls

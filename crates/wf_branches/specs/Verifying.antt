@@ -1,4 +1,5 @@
--- A run over two sources: a task, and the part of an answer that says what one branch of its question has.
+-- A run over two sources: a task, and the part of an answer that says what
+-- one branch of its question has.
 use Rattle.std.specs.Prelude.{◌≡◌, ◌++◌, ℕ, Bool, true, false, not, List, length, None, Result, Ok, Err}
 use Rattle.std.specs.Cmp.Lexicographic.{pointwise}
 use Rattle.wf_model.specs.Lists.{has}
@@ -27,8 +28,8 @@ IsPartOf i n text (Err OtherPart) = (rest : List ℕ) → text ≡ part_head i n
 IsPartOf i n text (Err OutOfMemory) = Unit {0}
 IsPartOf i n text (Err e) = (rest : List ℕ) × (text ≡ part_head i n ++ rest) × IsReportOf rest (Err e)
 
--- What a part says of branch i. A map lists a decision map over the points that lies there, and with lines the least one there.
--- Where there is none, no decision map lies there.
+-- What a part says of branch i. A map lists a decision map over the points that lies there, and
+-- with lines the least one there. Where there is none, no decision map lies there.
 abbrev pub HoldsIn : Task → ℕ → ℕ → Body → Type 0
 HoldsIn t r i (a_map m) = (f : View → ℕ) × IsDecisionMap t r f × (listed t r f ≡ m) × LiesIn m (branch_at t r i)
 HoldsIn t r i (none ls) = HasNoMapIn t r i
@@ -44,7 +45,8 @@ is_outside (a_map m) box = not (lies_in m box)
 is_outside (none ls) box = false
 is_outside (least m ls) box = false
 
--- the checker finds no fault in the report as one about branch i; so what it says of that branch is true
+-- the checker finds no fault in the report as one about branch i; so what it
+-- says of that branch is true
 pub record IsFaultlessIn (t : Task) (r i : ℕ) (report : Report) : Type 0 where
   pub faultless : report_fault_within t r (branch_at t r i) report ≡ None
   pub holds : HoldsIn t r i report.body
@@ -71,7 +73,8 @@ JudgesPart i t r text result = (report : Result Report RunFault) × IsPartOf i (
 abbrev pub ReadsPart : ℕ → ReadsAbout
 ReadsPart i t r old new result = Reads (JudgesPart i t r) old new result
 
--- The part of a source was checked about branch i of the question of another source's task after r rounds, and what is accepted
--- was written. The task, its limits and the branch are judged before the part is read.
+-- The part of a source was checked about branch i of the question of another
+-- source's task after r rounds, and what is accepted was written. The task,
+-- its limits and the branch are judged before the part is read.
 abbrev pub VerifiesBranch : ℕ → ℕ → Reading → Reading → Reading → Reading → Writing → Writing → Result (Unit {0}) RunFault → Type 0
 VerifiesBranch r i task task' part part' sink sink' result = Ran (AsksBoth (ReadsIn ReadsPart i) r task task' part part') sink sink' result

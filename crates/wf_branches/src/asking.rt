@@ -14,11 +14,13 @@ use wf_engine::{RunFault, read_task};
 use wf_io::{Sink, Source};
 use wf_task::Task;
 
-/// Reads a task to the reader's end and writes the question whether one branch has a decision map after some rounds, as a formula
-/// in conjunctive normal form in the DIMACS format: it has a model exactly where a decision map lies in the branch. Branches are
-/// numbered from 0; where there are not so many it is refused with how many there are.
+/// Reads a task to the reader's end and writes the question whether one branch has a decision map
+/// after some rounds, as a formula in conjunctive normal form in the DIMACS format: it has a model
+/// exactly where a decision map lies in the branch. Branches are numbered from 0; where there are
+/// not so many it is refused with how many there are.
 ///
-/// The text may be longer than memory: it is passed on in pieces. Nothing is written before all memory is had.
+/// The text may be longer than memory: it is passed on in pieces. Nothing is
+/// written before all memory is had.
 pub fn run_cnf_branch<R: Read, W: Write>(
     alloc: Global,
     source: &mut Source<R>,

@@ -82,7 +82,8 @@ impl Place {
     }
 }
 
-/// The branch of this number. Refused with how many there are where it is not one of them, and where memory runs out.
+/// The branch of this number. Refused with how many there are where it is not
+/// one of them, and where memory runs out.
 pub(crate) fn branch_of(
     alloc: Global,
     task: &Task,
@@ -119,7 +120,8 @@ pub(crate) fn branch_in(
     })
 }
 
-/// The branches of a task's question. The problem takes more memory than they do, and is given back.
+/// The branches of a task's question. The problem takes more memory than they
+/// do, and is given back.
 pub(crate) fn cover_of(alloc: Global, task: &Task, protocol: &Protocol) -> Result<Cover, AllocError>
     requires { IsProtocol task.now protocol.now.rounds protocol.now }
     ensures { IfOk result (IsCoverOf task.now protocol.now.rounds) }

@@ -30,13 +30,15 @@ const MOST_PARTS_BYTES: usize = u32::MAX as usize;
 /// A report has fewer values and lines than this.
 const MOST_LINES: usize = 1 << 31;
 
-/// Reads a task to its reader's end, and then the parts of the branches of its question after these rounds to their own reader's
-/// end, one part behind another in the order of the branches; checks each of them without a search, up to the first that has a
-/// map; and writes the report of the whole question, which is checked as well before it is written.
+/// Reads a task to its reader's end, and then the parts of the branches of its question after these
+/// rounds to their own reader's end, one part behind another in the order of the branches; checks
+/// each of them without a search, up to the first that has a map; and writes the report of the
+/// whole question, which is checked as well before it is written.
 ///
-/// A part goes up to its line `end`. Where what comes next is no part about the branch that is to come, that is told, `47 NoPart`;
-/// a part that is not accepted is, `48 InPart`; and where the text goes on behind the parts of all branches, that is, `49
-/// TooManyParts`. What comes behind the first part that has a map is not looked at.
+/// A part goes up to its line `end`. Where what comes next is no part about the branch that is to
+/// come, that is told, `47 NoPart`; a part that is not accepted is, `48 InPart`; and where the text
+/// goes on behind the parts of all branches, that is, `49 TooManyParts`. What comes behind the
+/// first part that has a map is not looked at.
 pub fn run_join<T: Threads + Sync, R: Read, C: Read, W: Write>(
     rt: &T,
     alloc: Global,

@@ -1,67 +1,76 @@
-//! Laws of runs over branches: that what they say is true, what all of them together come to, and what holds after each.
+//! Laws of runs over branches: that what they say is true, what all of them
+//! together come to, and what holds after each.
 
 ghost use Rattle.wf_branches.specs.Laws.{BranchAnswersAreTrue, BranchesCoverAllMaps, BranchProvingIsCounted, BranchRefutationsAreTrue, BranchSolvingIsCounted, JoiningIsCounted, JoinsAreAccepted, JoinsAreTrue, ListingBranchesIsCounted, PartAcceptancesAreTrue, PartCheckingIsCounted};
 
-/// Where no decision map lies in any branch of a task's question, no function on the views is a decision map.
+/// Where no decision map lies in any branch of a task's question, no function
+/// on the views is a decision map.
 pub fn branches_cover_all_maps()
     ensures { BranchesCoverAllMaps }
 {}
 
-/// What a search of a branch answers is true: the source of the task gave its bytes, the branch is there, and the sink took the
-/// part of the least decision map in it, or of a refutation of it, and then no decision map lies in it.
+/// What a search of a branch answers is true: the source of the task gave its bytes, the branch is
+/// there, and the sink took the part of the least decision map in it, or of a refutation of it, and
+/// then no decision map lies in it.
 pub fn branch_answers_are_true()
     ensures { BranchAnswersAreTrue }
 {}
 
-/// What is accepted for a SAT solver's proof about a branch is true: the source of the task gave its bytes, the branch is there,
-/// no decision map lies in it, and the sink took the line that says so, whatever the proof's bytes are.
+/// What is accepted for a SAT solver's proof about a branch is true: the source of the task gave
+/// its bytes, the branch is there, no decision map lies in it, and the sink took the line that says
+/// so, whatever the proof's bytes are.
 pub fn branch_refutations_are_true()
     ensures { BranchRefutationsAreTrue }
 {}
 
-/// The writing of a branch's question takes at most one byte more than a text may have, tells each failed call, and writes
-/// nothing where it is refused for anything but a failed write.
+/// The writing of a branch's question takes at most one byte more than a text may have, tells each
+/// failed call, and writes nothing where it is refused for anything but a failed write.
 pub fn listing_branches_is_counted()
     ensures { ListingBranchesIsCounted }
 {}
 
-/// The search of a branch takes at most one byte more than a text may have, tells each failed call, and writes nothing where
-/// it is refused for anything but a failed write.
+/// The search of a branch takes at most one byte more than a text may have, tells each failed call,
+/// and writes nothing where it is refused for anything but a failed write.
 pub fn branch_solving_is_counted()
     ensures { BranchSolvingIsCounted }
 {}
 
-/// What is accepted of a part is true: the source of the task gave its bytes, the branch is there, and what the part says of it
-/// holds, whatever the part's bytes are: its map is a decision map that lies there, with lines the least one, or none lies there.
+/// What is accepted of a part is true: the source of the task gave its bytes, the branch is there,
+/// and what the part says of it holds, whatever the part's bytes are: its map is a decision map
+/// that lies there, with lines the least one, or none lies there.
 pub fn part_acceptances_are_true()
     ensures { PartAcceptancesAreTrue }
 {}
 
-/// A check of a part takes at most one byte more than a text may have of each source, tells each failed call, and writes nothing
-/// where it is refused for anything but a failed write.
+/// A check of a part takes at most one byte more than a text may have of each source, tells each
+/// failed call, and writes nothing where it is refused for anything but a failed write.
 pub fn part_checking_is_counted()
     ensures { PartCheckingIsCounted }
 {}
 
-/// A check of a proof about a branch takes at most one byte more than a text may have of the task's source, and one more than a
-/// proof may have of the proof's, tells each failed call, and writes nothing where it is refused for anything but a failed write.
+/// A check of a proof about a branch takes at most one byte more than a text may have of the task's
+/// source, and one more than a proof may have of the proof's, tells each failed call, and writes
+/// nothing where it is refused for anything but a failed write.
 pub fn branch_proving_is_counted()
     ensures { BranchProvingIsCounted }
 {}
 
-/// What is written for the parts of all branches is true: the source of the task gave its bytes, and the sink took the report of
-/// the whole question, whatever the parts' bytes are. Its map is a decision map, with lines the least one, or there is none.
+/// What is written for the parts of all branches is true: the source of the task gave its bytes,
+/// and the sink took the report of the whole question, whatever the parts' bytes are. Its map is a
+/// decision map, with lines the least one, or there is none.
 pub fn joins_are_true()
     ensures { JoinsAreTrue }
 {}
 
-/// The report that is written for the parts of all branches is accepted, where it has at most as many bytes as a text may have.
+/// The report that is written for the parts of all branches is accepted, where it has at most as
+/// many bytes as a text may have.
 pub fn joins_are_accepted()
     ensures { JoinsAreAccepted }
 {}
 
-/// The joining of parts takes at most one byte more than a text may have of the task's source, and one more than all parts may
-/// have of theirs, tells each failed call, and writes nothing where it is refused for anything but a failed write.
+/// The joining of parts takes at most one byte more than a text may have of the task's source, and
+/// one more than all parts may have of theirs, tells each failed call, and writes nothing where it
+/// is refused for anything but a failed write.
 pub fn joining_is_counted()
     ensures { JoiningIsCounted }
 {}

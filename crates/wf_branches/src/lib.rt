@@ -1,15 +1,20 @@
-//! A task's question branch by branch: a run over one branch is a job of its own, and the branches together decide the question.
+//! A task's question branch by branch: a run over one branch is a job of its own, and the branches
+//! together decide the question.
 //!
 //! - [`run_branches`]: a task's text in, and the list of the branches of its question out.
 //! - [`run_cnf_branch`]: a task's text in, and the question of one branch, as a formula, out.
-//! - [`run_solve_branch`]: a task's text in, and the least decision map of one branch, or a refutation of it, out.
-//! - [`run_verify_branch`]: a task's text and the text that `run_solve_branch` wrote in, and what is accepted of the branch out.
-//! - [`run_proof_branch`]: a task's text and a SAT solver's clausal proof in, and that no decision map of one branch is accepted
-//!   out.
-//! - [`run_join`]: a task's text and the parts of its branches in, and the report of the whole question out.
+//! - [`run_solve_branch`]: a task's text in, and the least decision map of one branch, or a
+//!   refutation of it, out.
+//! - [`run_verify_branch`]: a task's text and the text that `run_solve_branch` wrote in, and what
+//!   is accepted of the branch out.
+//! - [`run_proof_branch`]: a task's text and a SAT solver's clausal proof in, and that no decision
+//!   map of one branch is accepted out.
+//! - [`run_join`]: a task's text and the parts of its branches in, and the
+//!   report of the whole question out.
 //!
-//! What the branches are, `wf_model` says: the boxes into which [`wf_search::split`] cuts the root. The laws say what runs over
-//! all of them come to: where none of them has a decision map there is none ([`branches_cover_all_maps`]).
+//! What the branches are, `wf_model` says: the boxes into which [`wf_search::split`] cuts the root.
+//! The laws say what runs over all of them come to: where none of them has a decision map there is
+//! none ([`branches_cover_all_maps`]).
 #![tactic(auto)]
 
 mod asking;

@@ -25,9 +25,9 @@ use wf_search::Cover;
 use wf_set::count;
 use wf_task::Task;
 
-/// Reads a task to the reader's end and writes the list of the branches into which its question after some rounds is cut: a
-/// line for each, with its number, how many points have two candidates or more in it, and how many candidates are left at all
-/// points together.
+/// Reads a task to the reader's end and writes the list of the branches into which its question
+/// after some rounds is cut: a line for each, with its number, how many points have two candidates
+/// or more in it, and how many candidates are left at all points together.
 pub fn run_branches<R: Read, W: Write>(
     alloc: Global,
     source: &mut Source<R>,

@@ -29,7 +29,8 @@ pub(crate) fn next_part(text: &[u8]) -> (&[u8], &[u8])
     text.split_at(part_length(text))
 }
 
-/// How many bytes a text has up to its first line `end`, and with it; all of them, where there is none.
+/// How many bytes a text has up to its first line `end`, and with it; all of
+/// them, where there is none.
 fn part_length(text: &[u8]) -> usize
     ensures length { result ≡ part_length text.now }
     ensures within { result ≤ length text.now }

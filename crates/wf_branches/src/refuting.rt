@@ -17,12 +17,14 @@ use wf_engine::{RunFault, hand_out, read_proof_from, read_task};
 use wf_io::{Sink, Source};
 use wf_task::Task;
 
-/// Reads a task to its reader's end, and then a SAT solver's clausal proof to its own reader's end; checks each lemma by unit
-/// propagation over the formula of one branch of the task's question after these rounds, which is made here; and writes that no
-/// decision map is accepted in that branch. Where that is written, no decision map lies in the branch, whatever the proof's bytes
-/// are.
+/// Reads a task to its reader's end, and then a SAT solver's clausal proof to
+/// its own reader's end; checks each lemma by unit propagation over the formula
+/// of one branch of the task's question after these rounds, which is made here;
+/// and writes that no decision map is accepted in that branch. Where that is
+/// written, no decision map lies in the branch, whatever the proof's bytes are.
 ///
-/// A branch that is not there is refused before the proof is read, with how many branches there are.
+/// A branch that is not there is refused before the proof is read, with how
+/// many branches there are.
 pub fn run_proof_branch<R: Read, C: Read, W: Write>(
     alloc: Global,
     task_source: &mut Source<R>,
@@ -39,7 +41,8 @@ pub fn run_proof_branch<R: Read, C: Read, W: Write>(
     hand_out(sink, answer)
 }
 
-/// The line that no decision map is accepted in a branch, where a source's proof shows it about another source's task.
+/// The line that no decision map is accepted in a branch, where a source's
+/// proof shows it about another source's task.
 fn refute_sources<R: Read, C: Read>(
     alloc: Global,
     task_source: &mut Source<R>,
@@ -56,7 +59,8 @@ fn refute_sources<R: Read, C: Read>(
     refute_source(alloc, &task, proof_source, rounds, number)
 }
 
-/// The line that no decision map is accepted in a branch, where a source's proof shows it about a task.
+/// The line that no decision map is accepted in a branch, where a source's
+/// proof shows it about a task.
 fn refute_source<C: Read>(
     alloc: Global,
     task: &Task,
@@ -89,7 +93,8 @@ fn refute_in<C: Read>(
     refute(alloc, task, protocol, &branch, source)
 }
 
-/// The line that no decision map is accepted in a branch, where a source's proof shows it on a task's protocol complex.
+/// The line that no decision map is accepted in a branch, where a source's proof shows it on a
+/// task's protocol complex.
 fn refute<C: Read>(
     alloc: Global,
     task: &Task,

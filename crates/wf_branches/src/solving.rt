@@ -23,12 +23,14 @@ use wf_pool::{Answer, BranchAnswer, Gate, Open, solve_branch};
 use wf_report::{Body, Header};
 use wf_task::Task;
 
-/// Reads a task to the reader's end and searches one branch of its question after some rounds: the least decision map there,
-/// or none, and then no decision map lies in the branch. It writes a part of the answer: which branch it is and how many
-/// there are, and a report whose answer is about that branch alone, in the form that is asked for.
+/// Reads a task to the reader's end and searches one branch of its question after some rounds: the
+/// least decision map there, or none, and then no decision map lies in the branch. It writes a part
+/// of the answer: which branch it is and how many there are, and a report whose answer is about
+/// that branch alone, in the form that is asked for.
 ///
-/// Branches are numbered from 0; where there are not so many it is refused with how many there are. The part is made whole
-/// before anything is written. The search is in this thread, and the call always returns.
+/// Branches are numbered from 0; where there are not so many it is refused
+/// with how many there are. The part is made whole before anything is
+/// written. The search is in this thread, and the call always returns.
 pub fn run_solve_branch<R: Read, W: Write>(
     alloc: Global,
     source: &mut Source<R>,
@@ -43,7 +45,8 @@ pub fn run_solve_branch<R: Read, W: Write>(
     run_solve_branch_watched(alloc, source, sink, rounds, branch, form, &Open)
 }
 
-/// The same as [`run_solve_branch`], and the gate is told of the complex and of the search, as that of the only branch.
+/// The same as [`run_solve_branch`], and the gate is told of the complex and
+/// of the search, as that of the only branch.
 pub fn run_solve_branch_watched<G: Gate, R: Read, W: Write>(
     alloc: Global,
     source: &mut Source<R>,
@@ -112,7 +115,8 @@ fn with_part(
 ) -> Result<(Outcome, Vec<u8>), AllocError>
     requires header { IsHead task.now rounds header }
     requires count { place.count ≡ length (branches task.now rounds) }
-    requires answer { IsAnswerAt (problem_of task.now rounds) (lines_kept form) place.number answer }
+    requires answer { IsAnswerAt (problem_of task.now rounds) (lines_kept form) place.number
+        answer }
     ensures { IfOk result (λ r. IsSolvedIn form task.now rounds place.number r.0 r.1.items) }
 {
     match answer {

@@ -25,13 +25,15 @@ use wf_report::{Body, Report, read_report};
 use wf_set::{Mask, holds};
 use wf_task::{LONGEST, Task};
 
-/// Reads a task to its reader's end, and then the part of an answer about one branch of its question after these rounds to its
-/// own reader's end; checks the part without a search; and writes what is accepted. A map that is accepted is a decision map
-/// that lies in the branch, and with its lines the least one there; where none is accepted, no decision map lies in the branch.
+/// Reads a task to its reader's end, and then the part of an answer about one branch of its
+/// question after these rounds to its own reader's end; checks the part without a search; and
+/// writes what is accepted. A map that is accepted is a decision map that lies in the branch, and
+/// with its lines the least one there; where none is accepted, no decision map lies in the branch.
 ///
-/// A branch that is not there is refused before the part is read, with how many branches there are. The part of another branch
-/// is refused, `45 OtherPart`, and so is a decision map that lies in another one, `46 NotInBranch`. The lines of other refusals
-/// are counted from that on with which the report begins.
+/// A branch that is not there is refused before the part is read, with how many
+/// branches there are. The part of another branch is refused, `45 OtherPart`, and
+/// so is a decision map that lies in another one, `46 NotInBranch`. The lines of
+/// other refusals are counted from that on with which the report begins.
 pub fn run_verify_branch<T: Threads + Sync, R: Read, C: Read, W: Write>(
     rt: &T,
     alloc: Global,

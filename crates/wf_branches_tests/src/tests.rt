@@ -74,7 +74,8 @@ fn question(
     }
 }
 
-/// What a search of a branch comes to: its outcome and its part, or why there is none, where nothing was written.
+/// What a search of a branch comes to: its outcome and its part, or why there
+/// is none, where nothing was written.
 fn part(
     alloc: Global,
     task: &str,

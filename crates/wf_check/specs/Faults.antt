@@ -44,7 +44,8 @@ IsFault (NotFirst k) v = v ≡ fault (not_first k)
 IsFault (NotTheMap k) v = v ≡ fault (not_the_map k)
 IsFault OutOfMemory v = Unit {0}
 
--- a line's verdict is this fault, or the boxes that are left by what is answered; nothing is said where memory ran out
+-- a line's verdict is this fault, or the boxes that are left by what is
+-- answered; nothing is said where memory ran out
 abbrev pub Steps : {X : Type 0} → Result X CertFault → Verdict → (X → List Box) → Type 0
 Steps (Ok x) v boxes = v ≡ left (boxes x)
 Steps (Err e) v boxes = IsFault e v

@@ -1,8 +1,8 @@
 //! The box that the lines are about, and the way back to the boxes that are still to come.
 //!
-//! There is one box, a set of candidates for each point. A trail has what the open blocks took out of it, and for each
-//! open block the values whose blocks are still to come. So the memory that a certificate can ask for grows with its
-//! lines and with the points, and not with their product.
+//! There is one box, a set of candidates for each point. A trail has what the open blocks took out
+//! of it, and for each open block the values whose blocks are still to come. So the memory that a
+//! certificate can ask for grows with its lines and with the points, and not with their product.
 
 ghost use Rattle.std.specs.Prelude.{◌≡◌, ◌==◌, ◌<◌, ◌++◌, ◌∷◌, [], true, nat_lt, length, map, IfOk, OnOk};
 ghost use Rattle.std.specs.List.{slice_set};
@@ -80,8 +80,8 @@ impl Blocks {
         Ok(())
     }
 
-    /// Opens a block for each value of a point, and goes into that of the least one. Answers false where the point has
-    /// fewer than two values.
+    /// Opens a block for each value of a point, and goes into that of the least one. Answers false
+    /// where the point has fewer than two values.
     pub(crate) fn open(&mut self, point: u32) -> Result<bool, AllocError>
         requires { point < length self.old.sets.items }
         ensures opened { IfOk result (λ opened.
@@ -99,8 +99,8 @@ impl Blocks {
         Ok(true)
     }
 
-    /// Goes back to where the last block that isn't done yet was opened, and into the block of the next value. Answers
-    /// false where all blocks are done.
+    /// Goes back to where the last block that isn't done yet was opened, and into the block of the
+    /// next value. Answers false where all blocks are done.
     pub(crate) fn next(&mut self) -> Result<bool, AllocError>
         ensures boxes { IfOk result (λ going. boxes_left going self.new ≡ boxes_later self.old) }
         ensures points { HasSamePoints self.old self.new }

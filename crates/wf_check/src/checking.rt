@@ -22,14 +22,16 @@ use wf_set::Mask;
 use wf_support::Support;
 use wf_task::Task;
 
-/// Accepts a report about a task and its protocol complex, or answers the first reason why it is refused.
+/// Accepts a report about a task and its protocol complex, or answers the
+/// first reason why it is refused.
 ///
-/// The protocol has to be that of the task. The header is judged first. A map is accepted where it is a decision map,
-/// and lines where they are those of a refutation of the box with all values at all points; so where lines are accepted
-/// there is no decision map. A map with lines is accepted where it is a decision map, and the lines are those of a
-/// search of that box that refutes all smaller candidates and ends at the map; so no decision map is smaller. A map is
-/// looked at in several threads; lines are read one after another. Refused for out of memory only where a growth was
-/// refused.
+/// The protocol has to be that of the task. The header is judged first. A map is
+/// accepted where it is a decision map, and lines where they are those of a refutation
+/// of the box with all values at all points; so where lines are accepted there is no
+/// decision map. A map with lines is accepted where it is a decision map, and the lines
+/// are those of a search of that box that refutes all smaller candidates and ends at the
+/// map; so no decision map is smaller. A map is looked at in several threads; lines are
+/// read one after another. Refused for out of memory only where a growth was refused.
 pub fn check<R: Threads + Sync>(
     rt: &R,
     alloc: Global,
@@ -73,11 +75,12 @@ impl Checker {
         Ok(Checker { supports })
     }
 
-    /// Accepts a report whose answer is about one box alone, that with these values at each point, or answers the first reason
-    /// why it is refused. The header is judged first, and the rest as [`check`] does, but for where the lines begin.
+    /// Accepts a report whose answer is about one box alone, that with these values at each point,
+    /// or answers the first reason why it is refused. The header is judged first, and the rest as
+    /// [`check`] does, but for where the lines begin.
     ///
-    /// Where lines are accepted there is no decision map in the box, and where a map with lines is, it is the least one there. A
-    /// map without lines may lie outside.
+    /// Where lines are accepted there is no decision map in the box, and where a map with lines is,
+    /// it is the least one there. A map without lines may lie outside.
     pub fn check_within<R: Threads + Sync>(
         &self,
         rt: &R,
@@ -98,7 +101,8 @@ impl Checker {
         self.judge(rt, alloc, task, protocol, sets, &report.body)
     }
 
-    /// Judges the map, the lines over the box with these values at each point, or the map and then the lines.
+    /// Judges the map, the lines over the box with these values at each
+    /// point, or the map and then the lines.
     fn judge<R: Threads + Sync>(
         &self,
         rt: &R,
@@ -168,7 +172,8 @@ fn judge_header(task: &Task, protocol: &Protocol, report: &Report) -> Result<(),
     Ok(())
 }
 
-/// Judges the map, the lines over the box with all values at all points, or the map and then the lines.
+/// Judges the map, the lines over the box with all values at all points, or
+/// the map and then the lines.
 fn judge_body<R: Threads + Sync>(
     rt: &R,
     alloc: Global,
@@ -198,8 +203,8 @@ fn all_alike(alloc: Global, values: Mask, points: u32) -> Result<Vec<Mask>, Allo
     Ok(sets)
 }
 
-/// Judges the map, the lines over the box with these values at each point, or the map and then the lines. A map alone takes no
-/// memory.
+/// Judges the map, the lines over the box with these values at each point, or the map and then the
+/// lines. A map alone takes no memory.
 fn judge_within<R: Threads + Sync>(
     rt: &R,
     alloc: Global,

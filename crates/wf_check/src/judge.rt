@@ -53,7 +53,8 @@ enum Progress {
     Found,
 }
 
-/// Judges the lines over the box with these values at each point, in order, from this line on. The first fault is answered.
+/// Judges the lines over the box with these values at each point, in order, from this line on. The
+/// first fault is answered.
 pub(crate) fn judge_lines(
     alloc: Global,
     task: &Task,
@@ -158,7 +159,8 @@ fn judge_line(
     }
 }
 
-/// Closes the block of now, if the point has no candidate there. Answers whether a box is left to refute.
+/// Closes the block of now, if the point has no candidate there. Answers
+/// whether a box is left to refute.
 fn judge_empty(
     protocol: &Protocol,
     point: u32,
@@ -208,7 +210,8 @@ fn judge_branch(
     Ok(())
 }
 
-/// Whether the claim lets the lines branch at the point: where a map is to be the least, at the first open point alone.
+/// Whether the claim lets the lines branch at the point: where a map is to be
+/// the least, at the first open point alone.
 fn is_branch_of(claim: Claim, point: u32, blocks: &mut Blocks) -> bool
     ensures asked { result ≡ is_branch_of claim.entry point (box_now blocks.old) }
     ensures sets { blocks.new.sets ≡ blocks.old.sets }

@@ -13,8 +13,8 @@ use std::thread::Threads;
 use wf_complex::Protocol;
 use wf_task::{Row, Task};
 
-/// The least execution in which the values at the points are no tuple that the task allows there. The executions are
-/// looked at in several threads.
+/// The least execution in which the values at the points are no tuple that the task allows there.
+/// The executions are looked at in several threads.
 pub(crate) fn first_violated<R: Threads + Sync>(
     rt: &R,
     task: &Task,

@@ -23,7 +23,8 @@ pub(crate) fn support_all(alloc: Global, task: &Task) -> Result<Vec<Support>, Al
     Ok(supports)
 }
 
-/// Whether one of the tuples has the value at this place, and all its values among the candidates of these points.
+/// Whether one of the tuples has the value at this place, and all its values
+/// among the candidates of these points.
 pub(crate) fn is_supported(
     support: &Support,
     points: &[u32],
@@ -55,7 +56,8 @@ fn sets_at(points: &[u32], sets: &[Mask]) -> [Mask; 4]
     there
 }
 
-/// Whether the value is in the set of this place. Otherwise no tuple supports it, and none needs to be looked at.
+/// Whether the value is in the set of this place. Otherwise no tuple supports
+/// it, and none needs to be looked at.
 fn is_candidate(sets: &[Mask], place: usize, value: u8) -> bool
     ensures { result ≡ has (candidates (map values_in sets.now) place) value }
 {

@@ -1,7 +1,8 @@
 //! Tests of reports and of their checker.
 //!
-//! Reports are answered as worked by hand, and beside them a plain reader and a plain checker, which go by
-//! the definitions step by step over lists, answer every report that differs from a full one in one place.
+//! Reports are answered as worked by hand, and beside them a plain reader and
+//! a plain checker, which go by the definitions step by step over lists,
+//! answer every report that differs from a full one in one place.
 #![tactic(auto)]
 
 #[cfg(test)]

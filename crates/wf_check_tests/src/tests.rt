@@ -89,7 +89,8 @@ fn plain_answer(
     checking::check(alloc, processes, rounds, problem, &report)
 }
 
-/// Whether a text is answered, on the complex of a full report, as by the plain reader and the plain checker.
+/// Whether a text is answered, on the complex of a full report, as by the
+/// plain reader and the plain checker.
 fn is_answered_alike<R: Threads + Sync>(
     rt: &R,
     alloc: Global,
@@ -104,7 +105,8 @@ fn is_answered_alike<R: Threads + Sync>(
     Ok(found == plain_answer(alloc, processes, full.rounds, &problem, text))
 }
 
-/// The first change of a line of a full report that is answered otherwise than by the plain checker.
+/// The first change of a line of a full report that is answered otherwise
+/// than by the plain checker.
 fn difference<R: Threads + Sync>(
     rt: &R,
     alloc: Global,

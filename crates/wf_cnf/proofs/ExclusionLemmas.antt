@@ -29,7 +29,8 @@ next_clause f v left rest is = ap (λ vs. flat_map clause_text (map f vs)) is
 
 -- ---- one clause after another is told
 
--- nothing that was known before is lost, and all of the clauses are kept once those that are left are
+-- nothing that was known before is lost, and all of the clauses are kept once
+-- those that are left are
 pub record KeepsBut (all left : List Clause) (old now : Known) : Type 0 where
   pub still : KnowsStill old now
   pub later : (new : Known) → KnowsStill now new → KeepsEach left new → KeepsEach all new

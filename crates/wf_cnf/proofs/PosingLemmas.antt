@@ -85,7 +85,8 @@ kept_more some more next added old now new is same so_far all = record {
   each = subst (λ cs. KeepsEach cs new) (sym is) (All-append (λ c. IsKept c new) some next (each_on some now new all.still so_far.each) (subst (λ cs. KeepsEach cs new) same all.each));
 }
 
--- what is known follows from a formula, and its clauses were added where as many variables were known
+-- what is known follows from a formula, and its clauses were added where as
+-- many variables were known
 pub posed_of : (f : Formula) (old known : Known) → FollowsFrom f known → old.variables ≡ f.variables → KeepsAll f.clauses old known → IsPosed f known
 posed_of f old known follows variables all = record {
   models = record { follows = follows; complete = λ a model. (models-kept f.clauses old known all.still all.each a model).1 };

@@ -1,5 +1,5 @@
--- The clauses of the executions of a protocol complex, by what the program keeps: the minimal forbidden patterns of each input
--- simplex.
+-- The clauses of the executions of a protocol complex, by what the program keeps: the minimal
+-- forbidden patterns of each input simplex.
 use Rattle.std.specs.Prelude.{◌<◌, ℕ, List, [], map, flat_map, length, slice_index, All}
 use Rattle.std.specs.List.{slice_index_or}
 use Rattle.wf_model.specs.Limits.{most_points}

@@ -9,7 +9,8 @@ use Rattle.wf_formula.specs.SolverText as text
 use Rattle.wf_cnf.specs.declared.solver.ModelFault.{ModelFault}
 use Rattle.wf_cnf.specs.declared.solver.ModelFault.TheVariants.{OutOfMemory, NoModel, NotALiteral, NoSuchVariable}
 
--- An assignment as a list: whether each variable is true, by its number from 0 on. What is past the list is false.
+-- An assignment as a list: whether each variable is true, by its number from
+-- 0 on. What is past the list is false.
 abbrev pub assigned : List Bool → Assignment
 assigned truths n = slice_index_or truths n false
 
@@ -18,7 +19,8 @@ abbrev pub map_seen : {A : Type 0} → Result (Vec ℕ A) ModelFault → Result 
 map_seen (Ok found) = Ok found.items
 map_seen (Err fault) = Err fault
 
--- The values are those that the model of the text gives, or this is why it has none; where memory ran out, nothing is said.
+-- The values are those that the model of the text gives, or this is why it has none; where memory
+-- ran out, nothing is said.
 abbrev pub IsMapOfModel : Task → ℕ → List ℕ → Result (List ℕ) ModelFault → Type 0
 IsMapOfModel t r said (Ok m) =
     (ls : List Literal) × (text.model_of (question t r).variables said ≡ Ok ls) × (m ≡ map_in (problem_of t r) (text.stated ls))

@@ -8,7 +8,8 @@ use Rattle.wf_rup.specs.Seen.{IsModelOf, Known}
 abbrev pub FollowsFrom : Formula → Known → Type 0
 FollowsFrom f known = (a : Assignment) → IsModel a f → IsModelOf a known
 
--- each model of what was known before that satisfies all of the clauses is a model of what is known after
+-- each model of what was known before that satisfies all of the clauses is a
+-- model of what is known after
 abbrev pub KeepsModelsOfAll : List Clause → Known → Known → Type 0
 KeepsModelsOfAll clauses old new = (a : Assignment) → IsModelOf a old → SatisfiesAll a clauses → IsModelOf a new
 
@@ -26,7 +27,8 @@ pub record HasModelsOf (f : Formula) (known : Known) : Type 0 where
   pub follows : FollowsFrom f known
   pub complete : (a : Assignment) → IsModelOf a known → IsModel a f
 
--- what is known is the formula: its models and no others, as many variables, and each of its clauses is kept
+-- what is known is the formula: its models and no others, as many variables,
+-- and each of its clauses is kept
 pub record IsPosed (f : Formula) (known : Known) : Type 0 where
   pub models : HasModelsOf f known
   pub variables : known.variables ≡ f.variables

@@ -21,7 +21,8 @@ question_seen q =
     text_after (string_bytes q.head) (values_in q.variables.values) (map patterns_seen q.patterns.items) q.protocol.now
     (map values_in (sets_in q.branch))
 
--- the variables are numbered, each execution has patterns, a branch has few points, and the page is empty
+-- the variables are numbered, each execution has patterns, a branch has few
+-- points, and the page is empty
 pub record IsReady (q : Inside) : Type 0 where
   pub numbered : IsNumbered q.variables
   pub covered : AreCovered (map patterns_seen q.patterns.items) q.protocol.now

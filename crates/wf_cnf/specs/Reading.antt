@@ -98,7 +98,8 @@ pub record IsStated (l : formula.Literal) (old new : Stated) : Type 0 where
 abbrev pub numbered : ℕ → List (List ℕ) → List (ℕ × List ℕ)
 numbered number ws = map (λ word. (number, word)) ws
 
--- after words of this line: the model has ended there, or goes on with the later ones, or can't be had
+-- after words of this line: the model has ended there, or goes on with the
+-- later ones, or can't be had
 abbrev pub GoesOn : ℕ → ℕ → List (ℕ × List ℕ) → Stated → Result Bool ModelFault → Result Assignment SolverFault → Type 0
 GoesOn number last later new (Ok true) answer = answer ≡ ended_on number new
 GoesOn number last later new (Ok false) answer = answer ≡ stated_on last new later

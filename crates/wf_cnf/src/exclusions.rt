@@ -1,4 +1,5 @@
-//! The clauses that rule out what a branch has not: as text, and told to a checker of clausal proofs.
+//! The clauses that rule out what a branch has not: as text, and told to a
+//! checker of clausal proofs.
 
 ghost use Rattle.std.specs.Prelude.{◌≡◌, ◌<◌, ◌≤◌, ◌+◌, IfOk, IfSome, flat_map, length, map};
 ghost use Rattle.wf_model.specs.Limits.{most_points};
@@ -23,7 +24,8 @@ use wf_rup::Checker;
 use wf_set::{Mask, count, difference, split_first};
 use wf_task::Task;
 
-/// A part of a question: a branch, by its number from 0, of so many, and the values that it has at each point.
+/// A part of a question: a branch, by its number from 0, of so many, and the
+/// values that it has at each point.
 #[derive(Clone, Copy)]
 pub struct Branch<'a> {
     /// The number of the branch, from 0.
@@ -53,8 +55,8 @@ fn missing_in(values: Mask, sets: &[Mask], point: usize) -> Mask
     difference(values, set)
 }
 
-/// So many clauses, and those that rule out what these sets have not at the points; none where a `u64` can't count
-/// them.
+/// So many clauses, and those that rule out what these sets have not at the
+/// points; none where a `u64` can't count them.
 pub(crate) fn count_exclusions(clauses: u64, values: Mask, sets: &[Mask]) -> Option<u64>
     ensures { IfSome result (λ n. n ≡ clauses
         + length (exclusions_on (values_in values) (map values_in sets.now))) }
@@ -129,8 +131,9 @@ fn put_ruled_out<W: Write>(
     page.put(sink, b"0\n")
 }
 
-/// A checker of clausal proofs that knows the question of a branch, the whole of it and nothing else: a proof that
-/// refutes it shows that no map with values from these sets, one for each point, is a decision map of the task there.
+/// A checker of clausal proofs that knows the question of a branch, the whole of it and nothing
+/// else: a proof that refutes it shows that no map with values from these sets, one for each point,
+/// is a decision map of the task there.
 ///
 /// Its memory grows with the number of clauses and their literals. Refused where memory runs out.
 pub fn pose_branch(

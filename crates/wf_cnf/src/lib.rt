@@ -1,9 +1,10 @@
 //! The question of a task and its rounds for a SAT solver, and a solver's model as a map.
 //!
-//! - [`Question`]: the question as a formula in conjunctive normal form, written in the format that solvers read. It has a model
-//!   exactly where the task has a decision map: `wf_formula` has that law. That of a [`Branch`] asks for a map in it.
-//! - [`pose`]: gives a checker of clausal proofs the same clauses, with no text between; [`pose_branch`] those of a
-//!   branch.
+//! - [`Question`]: the question as a formula in conjunctive normal form, written in the format that
+//!   solvers read. It has a model exactly where the task has a decision map: `wf_formula` has that
+//!   law. That of a [`Branch`] asks for a map in it.
+//! - [`pose`]: gives a checker of clausal proofs the same clauses, with no text between;
+//!   [`pose_branch`] those of a branch.
 //! - [`Patterns`]: what the tuples of a rule forbid, found once for each rule.
 //! - [`map_of_model`]: the values that a model gives at the points.
 //! - [`read_map`]: the same of the text in which a solver says its model.

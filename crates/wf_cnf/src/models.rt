@@ -16,8 +16,9 @@ use wf_complex::Protocol;
 use wf_set::split_first;
 use wf_task::Task;
 
-/// The values of the map that a model of the task's formula gives: at each point the least value whose variable is true, and 0
-/// where there is none. Of the variables of this list, by their numbers from 0 on, those past its end are false.
+/// The values of the map that a model of the task's formula gives: at each point the least value
+/// whose variable is true, and 0 where there is none. Of the variables of this list, by their
+/// numbers from 0 on, those past its end are false.
 pub fn map_of_model(
     alloc: Global,
     task: &Task,
@@ -32,7 +33,8 @@ pub fn map_of_model(
     least_values(alloc, &variables, truths, protocol.points())
 }
 
-/// At each point the least value whose variable is true, and 0 where there is none. Variables past the list are false.
+/// At each point the least value whose variable is true, and 0 where there is
+/// none. Variables past the list are false.
 pub(crate) fn least_values(
     alloc: Global,
     variables: &Variables,

@@ -22,8 +22,8 @@ use wf_rup::{Checker, Literal};
 use wf_set::split_first;
 use wf_task::Task;
 
-/// A checker of clausal proofs that knows the question of a task on its protocol complex, the whole of it and nothing else: a
-/// proof that refutes it shows that the task has no decision map there.
+/// A checker of clausal proofs that knows the question of a task on its protocol complex, the whole
+/// of it and nothing else: a proof that refutes it shows that the task has no decision map there.
 ///
 /// Its memory grows with the number of clauses and their literals. Refused where memory runs out.
 pub fn pose(alloc: Global, task: &Task, protocol: &Protocol) -> Result<Checker, AllocError>
@@ -124,8 +124,9 @@ impl Posing {
         requires few { AreFew points.now }
         ensures sound { KeepsModelsOfAll (map (denied_at (values_in variables.now.values)
             points.now) (patterns_seen patterns.now)) self.old self.new }
-        ensures whole { IfOk result (λ done. KeepsAll (map (denied_at (values_in variables.now.values)
-            points.now) (patterns_seen patterns.now)) self.old self.new) }
+        ensures whole { IfOk result (λ done. KeepsAll (map
+            (denied_at (values_in variables.now.values) points.now)
+            (patterns_seen patterns.now)) self.old self.new) }
     {
         if patterns.nothing_is_allowed {
             return self.checker.add(alloc, &[]);
@@ -146,8 +147,9 @@ impl Posing {
         requires few { AreFew points.now }
         ensures sound { KeepsModelsOfAll (map (denied_at (values_in variables.now.values)
             points.now) (map pattern_seen patterns.now)) self.old self.new }
-        ensures whole { IfOk result (λ done. KeepsAll (map (denied_at (values_in variables.now.values)
-            points.now) (map pattern_seen patterns.now)) self.old self.new) }
+        ensures whole { IfOk result (λ done. KeepsAll (map
+            (denied_at (values_in variables.now.values) points.now)
+            (map pattern_seen patterns.now)) self.old self.new) }
     {
         for pattern in patterns {
             put_denied(&mut self.clause, variables, pattern, points)?;

@@ -23,8 +23,9 @@ use wf_complex::Protocol;
 use wf_io::{Page, Sink, WriteFault};
 use wf_task::Task;
 
-/// The question whether a task has a decision map over its protocol complex, as a formula in conjunctive normal form
-/// that is ready to be written; or whether it has one in a branch. Clauses see its text.
+/// The question whether a task has a decision map over its protocol complex,
+/// as a formula in conjunctive normal form that is ready to be written; or
+/// whether it has one in a branch. Clauses see its text.
 #[derive(Drop)]
 pub struct Question<'a> {
     protocol: &'a Protocol,
@@ -49,8 +50,9 @@ impl<'a> Model for Question<'a> {
 }
 
 impl<'a> Question<'a> {
-    /// The question of a task on its protocol complex. All memory that it needs is taken here, and doesn't grow with the number
-    /// of clauses. Refused where memory runs out, and where there are more clauses than a `u64` counts.
+    /// The question of a task on its protocol complex. All memory that it needs is taken here, and
+    /// doesn't grow with the number of clauses. Refused where memory runs out, and where there are
+    /// more clauses than a `u64` counts.
     pub fn of(
         alloc: Global,
         task: &Task,
@@ -62,8 +64,8 @@ impl<'a> Question<'a> {
         Question::on(alloc, task, protocol, None)
     }
 
-    /// The question of a task on its protocol complex for the maps in a branch alone. Memory and refusals are as for
-    /// `of`.
+    /// The question of a task on its protocol complex for the maps in a branch alone. Memory and
+    /// refusals are as for `of`.
     pub fn of_branch(
         alloc: Global,
         task: &Task,
@@ -117,7 +119,8 @@ impl<'a> Question<'a> {
         })
     }
 
-    /// Writes the text and flushes. After a refusal a beginning of it was written, and nothing else.
+    /// Writes the text and flushes. After a refusal a beginning of it was
+    /// written, and nothing else.
     pub fn write<W: Write>(self, sink: &mut Sink<W>) -> Result<(), WriteFault>
         requires { CanWrite sink.old }
         ensures { WritesText sink.old sink.new self.entry result }

@@ -21,8 +21,8 @@ use wf_task::Task;
 pub enum ModelFault {
     /// Memory ran out.
     OutOfMemory,
-    /// On this line the model ends, by the word 0 or with the text, and it has no literal: so does the text of a solver that
-    /// found none.
+    /// On this line the model ends, by the word 0 or with the text, and it has no literal: so does
+    /// the text of a solver that found none.
     NoModel { line: u32 },
     /// This line has a word that isn't a literal.
     NotALiteral { line: u32 },
@@ -38,12 +38,13 @@ impl From<AllocError> for ModelFault {
     }
 }
 
-/// The values of the map that a solver's text says, for a task and the rounds of its protocol complex: at each point the least
-/// value whose variable the model states, and 0 where there is none. Whether that is a decision map is not looked at.
+/// The values of the map that a solver's text says, for a task and the rounds of its protocol
+/// complex: at each point the least value whose variable the model states, and 0 where there is
+/// none. Whether that is a decision map is not looked at.
 ///
-/// The text is one that solvers write after they have read the task's question: lines of literals after the word `v` or alone,
-/// up to the word 0 or to the end. Comments and lines on the status are passed over. It takes time linear in the text, and
-/// a byte for each variable beside the map.
+/// The text is one that solvers write after they have read the task's question: lines of literals
+/// after the word `v` or alone, up to the word 0 or to the end. Comments and lines on the status
+/// are passed over. It takes time linear in the text, and a byte for each variable beside the map.
 pub fn read_map(
     alloc: Global,
     task: &Task,
@@ -219,7 +220,8 @@ fn literal_on(
 
 /// The number of these digits, if it is at most this.
 fn number_upto(digits: &[u8], most: u32) -> Option<u32>
-    ensures { result ≡ (if nat_le (number_of digits.now) most then Some (number_of digits.now) else None) }
+    ensures { result
+        ≡ (if nat_le (number_of digits.now) most then Some (number_of digits.now) else None) }
 {
     let mut number: u64 = 0;
     for digit in digits {
@@ -297,7 +299,8 @@ fn cut(text: &[u8]) -> Option<(&[u8], &[u8])>
 
 /// The first word, and what stands behind it; `None` where there is none.
 fn next_word(text: &[u8]) -> Option<(&[u8], &[u8])>
-    ensures { MatchOption result (words text.now ≡ []) (λ parts. IsFirstWord parts.0.now parts.1.now text.now) }
+    ensures { MatchOption result (words text.now ≡ [])
+        (λ parts. IsFirstWord parts.0.now parts.1.now text.now) }
 {
     let mut left = text;
     'blanks: while !left.is_empty() {

@@ -1,4 +1,5 @@
-//! Tests of the map that a solver's text says: path 3 after a round has 4 points and the values 0 to 3, and so 16 variables.
+//! Tests of the map that a solver's text says: path 3 after a round has 4 points and the values 0
+//! to 3, and so 16 variables.
 
 use std::alloc::Global;
 use std::test::Fail;

@@ -1,4 +1,5 @@
-//! Texts of formulas, made by `gallery/formula.py`: a script of the definitions, which shares nothing with the program.
+//! Texts of formulas, made by `gallery/formula.py`: a script of the definitions, which shares
+//! nothing with the program.
 
 /// Path 3 after a round.
 pub(crate) const PATH_3_FORMULA: &str = concat!(

@@ -1,4 +1,5 @@
--- Numbers of a table without doubles: different numbers are different views, and first places are first views.
+-- Numbers of a table without doubles: different numbers are different views,
+-- and first places are first views.
 use Rattle.std.proofs.Common.{◌≡◌, ◌<◌, ◌≤◌, ℕ, zero, suc, ◌+◌, ◌==◌, Bool, true, not, cond, List, [], ◌∷◌, map, filter, length, slice_index, All, sym, refl, ap, ◌∙◌, subst, arith, eqb-true, eq-eqb}
 use Rattle.std.specs.List.{AllByRecursion, range_with_len}
 use Rattle.std.specs.Cmp.{both_ways}

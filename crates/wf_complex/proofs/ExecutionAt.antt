@@ -1,5 +1,5 @@
--- What is read of an execution: its rule, its points, and whether values are right there, by what a clause sees of a
--- protocol complex.
+-- What is read of an execution: its rule, its points, and whether values are right there, by what a
+-- clause sees of a protocol complex.
 use Rattle.std.proofs.Common.{◌≡◌, ℕ, ◌<◌, ◌≤◌, ◌==◌, List, [], ◌∷◌, map, zip, length, get_or, All, Option, Some, None, option_map, unwrap_or, slice_get, slice_index, refl, sym, ap, ◌∙◌, subst, arith}
 use Rattle.std.specs.List.{slice_index_or, list_any}
 use Rattle.std.specs.Cmp.Lexicographic.{pointwise}

@@ -12,6 +12,7 @@ class_by symmetric v = if symmetric then normal v else v
 abbrev pub classes_at : Bool → List View → List ℕ → List View
 classes_at symmetric table ids = map (class_by symmetric) (views_at table ids)
 
--- how many views are inside a last view at most: of each round one of each process, and those of the inputs
+-- how many views are inside a last view at most: of each round one of each
+-- process, and those of the inputs
 abbrev pub most_within : ℕ
 most_within = most_processes + most_rounds * most_processes

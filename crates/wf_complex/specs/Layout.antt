@@ -4,7 +4,8 @@ use Rattle.wf_model.specs.Simplex.{Simplex}
 use Rattle.wf_model.specs.Word.{words}
 use Rattle.wf_complex.specs.declared.layout.Execution.{Execution}
 
--- how many lists of words there are for n participants, each with a first block of m at least or of all
+-- how many lists of words there are for n participants, each with a first
+-- block of m at least or of all
 abbrev pub turns : ℕ → ℕ → ℕ → ℕ
 turns m n zero = 1
 turns m n (suc rounds) = length (words m n) * turns m n rounds

@@ -15,7 +15,8 @@ first_places ids n = distinct (same_at ids) (below n)
 abbrev pub stands : List ℕ → ℕ → ℕ → Bool
 stands ids n id = list_any (λ j. slice_index ids j == id) (below n)
 
--- what is known of a number after n places: that it was not met, or its place among the different ones
+-- what is known of a number after n places: that it was not met, or its place
+-- among the different ones
 abbrev pub Knows : List ℕ → ℕ → List ℕ → ℕ → Option ℕ → Type 0
 Knows ids n firsts id None = stands ids n id ≡ false
 Knows ids n firsts id (Some k) = (stands ids n id ≡ true) × (k < length firsts) × (slice_index ids (slice_index firsts k) ≡ id)

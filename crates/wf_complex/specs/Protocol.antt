@@ -34,7 +34,8 @@ pub record IsProtocol (t : Task) (r : ℕ) (b : Built) : Type 0 where
   pub simplices_are : b.simplices ≡ simplices_of t r
   pub scopes_are : b.scopes ≡ map (λ k. k.scope) (problem_of t r).constraints
 
--- what building answers: too many rounds first, then too many executions, and else the complex, unless memory ran out
+-- what building answers: too many rounds first, then too many executions, and
+-- else the complex, unless memory ran out
 abbrev pub Builds : Task → ℕ → Result Built BuildFault → Type 0
 Builds t r (Ok b) = (r ≤ most_rounds) × (length (executions t r) ≤ most_executions) × IsProtocol t r b
 Builds t r (Err Rounds) = most_rounds < r

@@ -43,7 +43,8 @@ built_seen p = record {
   scopes = scopes_seen p.places.items p.numbers.items p.executions.items;
 }
 
--- each place has a point, each execution lies among the places, and each point has a view and a first place
+-- each place has a point, each execution lies among the places, and each
+-- point has a view and a first place
 pub record IsKept (p : Inside) : Type 0 where
   pub pointed : length p.places.items ≡ length p.numbers.items
   pub within : All (EndsBy (length p.numbers.items)) p.executions.items

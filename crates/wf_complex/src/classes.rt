@@ -19,8 +19,8 @@ pub(crate) struct Classes {
     pub view_count: u32,
 }
 
-/// The classes of the last views: in a symmetric task what they are with the names of their processes forgotten, and
-/// else the views themselves.
+/// The classes of the last views: in a symmetric task what they are with the names of their
+/// processes forgotten, and else the views themselves.
 pub(crate) fn classes_of(
     alloc: Global,
     views: &mut Views,

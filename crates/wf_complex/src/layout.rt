@@ -10,8 +10,8 @@ use wf_simplex::{Simplex, allowed_count};
 /// The most executions that a protocol complex may have.
 pub const MOST_EXECUTIONS: u32 = 500_000;
 
-/// An execution, in eight bytes: the place of its first process in the list of places, the number of its input simplex,
-/// and how many processes take part.
+/// An execution, in eight bytes: the place of its first process in the list of places, the number
+/// of its input simplex, and how many processes take part.
 #[derive(Clone, Copy, Debug)]
 pub(crate) struct Execution {
     pub place: u32,
@@ -19,8 +19,8 @@ pub(crate) struct Execution {
     pub size: u8,
 }
 
-/// How many executions a simplex of this size has whose first blocks have at least `first_block` participants, or all
-/// where they are fewer: counted up to one more than the most.
+/// How many executions a simplex of this size has whose first blocks have at least `first_block`
+/// participants, or all where they are fewer: counted up to one more than the most.
 fn executions_on(size: u8, first_block: u8, rounds: u32) -> u32
     requires some { 1 ≤ size }
     requires few { size ≤ most_processes }
@@ -36,8 +36,8 @@ fn executions_on(size: u8, first_block: u8, rounds: u32) -> u32
     count
 }
 
-/// How many executions there are on these simplices whose first blocks have at least `first_block` participants, or all
-/// where they are fewer: counted up to one more than the most.
+/// How many executions there are on these simplices whose first blocks have at least `first_block`
+/// participants, or all where they are fewer: counted up to one more than the most.
 pub(crate) fn execution_count(inputs: &[Simplex], first_block: u8, rounds: u32) -> u32
     requires one { 1 ≤ first_block }
     requires most { first_block ≤ most_processes }

@@ -34,7 +34,8 @@ pub(crate) fn number_all(alloc: Global, ids: &[u32], bound: usize) -> Result<Num
     Ok(Numbered { places, firsts })
 }
 
-/// The place of one number. Where it is met for the first time it gets the next place, and stands at i.
+/// The place of one number. Where it is met for the first time it gets the
+/// next place, and stands at i.
 fn number_one(
     numbers: &mut Vec<Option<u32>>,
     firsts: &mut Vec<u32>,

@@ -23,11 +23,13 @@ use wf_view::Views;
 /// The most rounds.
 const MOST_ROUNDS: u32 = 8;
 
-/// The protocol complex of a task after some rounds of iterated immediate snapshot (Borowsky and Gafni 1997): its
-/// executions, and its points, which are the views after the last round, or in a symmetric task their classes.
+/// The protocol complex of a task after some rounds of iterated immediate snapshot (Borowsky and
+/// Gafni 1997): its executions, and its points, which are the views after the last round, or in a
+/// symmetric task their classes.
 ///
-/// Executions are numbered simplex by simplex, and on one simplex by the words of the first round, then the second and
-/// so on; points are numbered by first appearance, execution by execution and by ascending process.
+/// Executions are numbered simplex by simplex, and on one simplex by the
+/// words of the first round, then the second and so on; points are numbered
+/// by first appearance, execution by execution and by ascending process.
 #[derive(Drop)]
 pub struct Protocol {
     rounds: u32,
@@ -61,8 +63,8 @@ impl Model for Protocol {
 impl Protocol {
     /// The complex of a task after these rounds.
     ///
-    /// Refused where there are more than 8 rounds, then where there are more than 500,000 executions, which are counted
-    /// before anything is built, and then where memory runs out.
+    /// Refused where there are more than 8 rounds, then where there are more than 500,000
+    /// executions, which are counted before anything is built, and then where memory runs out.
     pub fn build(alloc: Global, task: &Task, rounds: u32) -> Result<Protocol, BuildFault>
         ensures { Builds task.now rounds result }
     {
@@ -129,7 +131,8 @@ impl Protocol {
         &self.numbers[first..first + at.size as usize]
     }
 
-    /// The number of a point's view, or in a symmetric task that of its class, in the table of views.
+    /// The number of a point's view, or in a symmetric task that of its
+    /// class, in the table of views.
     pub fn view_of(&self, point: u32) -> u32
         requires { point < length self.now.points }
         ensures { slice_get self.now.table result ≡ slice_get self.now.points point }
@@ -161,8 +164,8 @@ impl Protocol {
     }
 }
 
-/// The complex of these input simplices, with words whose first block has at least `first_block` participants, or all
-/// where they are fewer.
+/// The complex of these input simplices, with words whose first block has at least `first_block`
+/// participants, or all where they are fewer.
 fn complex_from(
     alloc: Global,
     inputs: &[Simplex],

@@ -70,7 +70,8 @@ fn first_views(views: &mut Views, simplex: &Simplex) -> Result<[u32; 4], AllocEr
     Ok(ids)
 }
 
-/// The numbers of the views after one more round, by ascending process. Views that are new get the next numbers.
+/// The numbers of the views after one more round, by ascending process. Views
+/// that are new get the next numbers.
 ///
 /// Refused where memory runs out; the views so far keep their numbers.
 fn next_views(views: &mut Views, current: &[u32], word: &Word) -> Result<[u32; 4], AllocError>
@@ -92,8 +93,8 @@ fn next_views(views: &mut Views, current: &[u32], word: &Word) -> Result<[u32; 4
     Ok(next)
 }
 
-/// Adds the views after all rounds, execution by execution, to the last views of those before. The first block of each
-/// word has at least `first_block` participants, or all where they are fewer.
+/// Adds the views after all rounds, execution by execution, to the last views of those before. The
+/// first block of each word has at least `first_block` participants, or all where they are fewer.
 ///
 /// Refused where memory runs out; the views so far keep their numbers.
 fn walk(
@@ -109,9 +110,11 @@ fn walk(
     requires few { length current.now ≤ most_processes }
     requires views { AreViews views.old current.now }
     requires lasts { All (λ k. k < length views.old) lasts.old.items }
-    requires room { length views.old + cost first_block (length current.now) rounds + 4 ≤ most_number }
+    requires room { length views.old + cost first_block (length current.now) rounds + 4
+        ≤ most_number }
     ensures extends { Extends views.old views.new }
-    ensures added { length views.new ≤ length views.old + cost first_block (length current.now) rounds }
+    ensures added { length views.new
+        ≤ length views.old + cost first_block (length current.now) rounds }
     ensures within { OnOk result (All (λ k. k < length views.new) lasts.new.items) }
     ensures made { OnOk result (views_at views.new lasts.new.items
         ≡ views_at views.old lasts.old.items
@@ -132,9 +135,9 @@ fn walk(
     Ok(())
 }
 
-/// The last views of all executions on these simplices whose first blocks have at least `first_block` participants, or
-/// all where they are fewer, one after another: simplex by simplex, execution by execution, and by ascending process.
-/// Room is made for `room` of them at once.
+/// The last views of all executions on these simplices whose first blocks have at least
+/// `first_block` participants, or all where they are fewer, one after another: simplex by simplex,
+/// execution by execution, and by ascending process. Room is made for `room` of them at once.
 pub(crate) fn last_views(
     alloc: Global,
     views: &mut Views,
@@ -145,7 +148,8 @@ pub(crate) fn last_views(
 ) -> Result<Vec<u32>, AllocError>
     requires one { 1 ≤ first_block }
     requires most { first_block ≤ most_processes }
-    requires room { length views.old + cost_of_each first_block rounds simplices.now + 4 ≤ most_number }
+    requires room { length views.old + cost_of_each first_block rounds simplices.now + 4
+        ≤ most_number }
     ensures extends { Extends views.old views.new }
     ensures added { OnOk result
         (length views.new ≤ length views.old + cost_of_each first_block rounds simplices.now) }

@@ -19,7 +19,8 @@ held_same v w e = cc
 held_else : (bs : List Status) (w i j : ℕ) (now : Status) → j ≢ i → slice_get bs i ≡ Some (status.Held w) → slice_get (set bs j now) i ≡ Some (status.Held w)
 held_else bs w i j now ne h = set_else bs j i now (λ e. ne (sym e)) ∙ h
 
--- and so does it where the worker that settles a branch is not the one that holds it, or the branch is another
+-- and so does it where the worker that settles a branch is not the one that
+-- holds it, or the branch is another
 held_past : (bs : List Status) (v w i j : ℕ) (now : Status) → slice_get bs j ≡ Some (status.Held v) → slice_get bs i ≡ Some (status.Held w) → ¬ ((v ≡ w) × (j ≡ i))
     → slice_get (set bs j now) i ≡ Some (status.Held w)
 held_past bs v w i j now there here apart =

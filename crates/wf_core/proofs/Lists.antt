@@ -60,7 +60,8 @@ module _ {A : Type 0} where
   put_at (x ∷ xs) zero a b e = refl
   put_at (x ∷ xs) (suc i) a b e = put_at xs i a b e
 
-  -- a loop pops the list xs from its end, and has done the rest: what it pops stands in the whole list
+  -- a loop pops the list xs from its end, and has done the rest: what it pops
+  -- stands in the whole list
   pub popped_has : (P : A → Type 0) (whole xs ys done : List A) (x : A) → whole ≡ xs ++ done → xs ≡ ys ++ x ∷ [] → All P whole → P x
   popped_has P whole xs ys done x e f all = All-contains P whole x all
       (subst (λ (l : List A). Contains l x) (sym (e ∙ ap (λ (l : List A). l ++ done) f)) (Contains-append_left (ys ++ x ∷ []) done x (Contains-push ys x)))

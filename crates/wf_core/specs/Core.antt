@@ -1,8 +1,9 @@
 -- The pool as a machine: its states, its events, and which state an event leaves.
 --
--- B branches are numbered from 0, and so are the workers. A worker takes a free branch, and then settles it: it
--- posts the branch where it found a map, or finds that it has none, or gives it up because it has seen that a lower
--- branch has a map. The least posted number is shared; a worker knows it as of its last look or post.
+-- B branches are numbered from 0, and so are the workers. A worker takes a free branch, and then
+-- settles it: it posts the branch where it found a map, or finds that it has none, or gives it up
+-- because it has seen that a lower branch has a map. The least posted number is shared; a worker
+-- knows it as of its last look or post.
 use Rattle.std.specs.Prelude.{◌≡◌, ℕ, ◌<◌, Bool, true, false, not, List, [], ◌∷◌, length, min, replicate, take, slice_get, slice_set, nat_lt, nat_eq, Option, Some, None}
 use Rattle.std.specs.List.{list_any}
 use Rattle.std.specs.Option.{option_map_or}
@@ -15,8 +16,8 @@ use Rattle.wf_core.specs.declared.event.CoreFault.{CoreFault}
 use Rattle.wf_core.specs.declared.event.CoreFault.TheVariants.{Illegal as IllegalAt, OutOfMemory}
 use Rattle.wf_core.specs.declared.event.Illegal.TheVariants.{NoWorker, NoBranch, Ended, Busy, NotFree, NotHeld, NotBelow}
 
--- The status of each branch, the least posted number (or the number of branches, where none is posted), and for
--- each worker the number that it has seen and whether it has ended
+-- The status of each branch, the least posted number (or the number of branches, where none is
+-- posted), and for each worker the number that it has seen and whether it has ended
 pub record State : Type 0 where
   pub branches : List Status
   pub least : ℕ
@@ -70,7 +71,8 @@ after s (End w) = record s { ended = slice_set s.ended w true }
 abbrev pub Step : State → Event → State → Type 0
 Step s e t = Needs s e × (t ≡ after s e)
 
--- Why an event is refused: tests, each with the reason that it gives where it fails. The first that fails counts.
+-- Why an event is refused: tests, each with the reason that it gives where it
+-- fails. The first that fails counts.
 
 abbrev pub has_worker : State → ℕ → Bool
 has_worker s w = nat_lt w (length s.ended)
@@ -135,7 +137,8 @@ abbrev pub Run : State → List Event → State → Type 0
 Run s [] t = t ≡ s
 Run s (e ∷ es) t = (m : State) × Step s e m × Run m es t
 
--- The event at this place of the list is refused for this reason, and those before it were steps from the state s
+-- The event at this place of the list is refused for this reason, and those
+-- before it were steps from the state s
 abbrev pub IsFirstIllegal : State → List Event → ℕ → Illegal → Type 0
 IsFirstIllegal s events at why =
     (at < length events) × ((t : State) × (e : Event) × Run s (take at events) t × (slice_get events at ≡ Some e) × (refusal t e ≡ Some why))

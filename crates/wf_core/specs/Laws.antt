@@ -86,7 +86,8 @@ pub record IsFirstTrue (maps : List Bool) (b i : ℕ) : Type 0 where
   pub before : (j : ℕ) → j < i → has_map maps j ≡ false
   pub here : i < b → has_map maps i ≡ true
 
--- Posts and refutals tell the truth, and every branch is settled. Cut branches may have a map or not.
+-- Posts and refutals tell the truth, and every branch is settled. Cut
+-- branches may have a map or not.
 abbrev pub FirstTruePlace : Type 0
 FirstTruePlace = (branches workers : ℕ) (events : List Event) (s : State) (maps : List Bool)
     → Run (start branches workers) events s

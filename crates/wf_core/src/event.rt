@@ -83,8 +83,9 @@ impl From<AllocError> for CoreFault {
     }
 }
 
-/// What a finished pool did: its number of branches, the least posted one (or the number of branches, where none
-/// was posted), how many were searched, with or without a map, and how many were cut.
+/// What a finished pool did: its number of branches, the least posted one (or
+/// the number of branches, where none was posted), how many were searched,
+/// with or without a map, and how many were cut.
 #[derive(Clone, Copy, Debug, PartialEq, Eq)]
 pub struct Account {
     pub branches: u32,

@@ -9,8 +9,8 @@ use crate::event::{CoreFault, Event, Illegal, Status};
 use std::alloc::{AllocError, Global};
 use std::marker::Model;
 
-/// The state of a pool: each branch's status, the least posted number, and what each worker has seen. Contracts see
-/// it as a `State` of `specs/Core.antt`.
+/// The state of a pool: each branch's status, the least posted number, and what each worker has
+/// seen. Contracts see it as a `State` of `specs/Core.antt`.
 #[derive(Drop)]
 pub struct Core {
     branches: Vec<Status>,
@@ -57,7 +57,8 @@ impl Core {
         })
     }
 
-    /// The state after these events, from the opening state; or the first place at which one is illegal, and why.
+    /// The state after these events, from the opening state; or the first
+    /// place at which one is illegal, and why.
     pub fn run(
         alloc: Global,
         branches: u32,
@@ -77,7 +78,8 @@ impl Core {
         Ok(core)
     }
 
-    /// Makes one step, or refuses the event and changes nothing. It costs a few look-ups and no memory.
+    /// Makes one step, or refuses the event and changes nothing. It costs a
+    /// few look-ups and no memory.
     pub fn step(&mut self, event: Event) -> Result<(), Illegal>
         ensures ok { OnOk result (Step self.old event self.new) }
         ensures legal { OnOk result (refusal self.old event ≡ None) }
@@ -105,8 +107,8 @@ impl Core {
         self.branches[branch as usize]
     }
 
-    /// The number that a worker has seen: the least posted one as of its last look or post, or the number of
-    /// branches.
+    /// The number that a worker has seen: the least posted one as of its last
+    /// look or post, or the number of branches.
     pub fn seen(&self, worker: u32) -> u32
         requires { worker < length self.now.seen }
         ensures { Saw self.now worker result }

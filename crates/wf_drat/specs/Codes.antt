@@ -4,7 +4,8 @@ use Rattle.std.proofs.Common.{◌≡◌, ◌<◌, zero, suc, refl, arith}
 use Rattle.std.specs.List.{list_all, list_any}
 use Rattle.wf_clauses.specs.Formula.{Assignment, Literal, pos, neg}
 
--- the largest number that a variable may have: so the codes of its literals are below the largest number of 32 bits
+-- the largest number that a variable may have: so the codes of its literals
+-- are below the largest number of 32 bits
 abbrev pub most_variables : ℕ
 most_variables = 2147483646
 

@@ -6,7 +6,8 @@ use Rattle.wf_drat.specs.declared.digits.Digits.{Digits}
 use Rattle.wf_drat.specs.declared.reader.Reading.TheVariants.{Number}
 use Rattle.wf_drat.specs.declared.reader.Turn.TheVariants.{GoesOn}
 
--- the bytes from one place on, read in this state, say what those from another one on say, read in another state
+-- the bytes from one place on, read in this state, say what those from
+-- another one on say, read in another state
 abbrev pub LeadsTo : List ℕ → State → ℕ → State → ℕ → Type 0
 LeadsTo bytes state from next to = text_of state (drop from bytes) ≡ text_of next (drop to bytes)
 

@@ -16,8 +16,9 @@ pub data Step : Type 0 where
   lemma : (line : ℕ) → Clause → Step
   deletion : Clause → Step
 
--- where a text is read: it is on the variables from 1 to this number; the next byte stands in the line of this
--- number; what the bytes before it are; whether the step at hand is a deletion; and its literals so far
+-- where a text is read: it is on the variables from 1 to this number; the
+-- next byte stands in the line of this number; what the bytes before it are;
+-- whether the step at hand is a deletion; and its literals so far
 pub record State : Type 0 where
   pub variables : ℕ
   pub line : ℕ
@@ -64,7 +65,8 @@ number_turn s is_negative value =
 abbrev pub is_between_steps : State → Bool
 is_between_steps s = not s.is_deletion && length s.clause == 0
 
--- between two steps c begins a comment and d a deletion; a is the mark of a lemma in the binary form
+-- between two steps c begins a comment and d a deletion; a is the mark of a
+-- lemma in the binary form
 abbrev pub mark_turn : ℕ → Turn
 mark_turn byte =
     if byte == 99 then GoesOn Comment

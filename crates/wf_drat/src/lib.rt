@@ -1,7 +1,8 @@
 //! The text of clausal proofs with deletions (DRAT), byte by byte.
 //!
-//! It knows nothing of what follows from what. The promise: each byte comes to what the definition of such texts says
-//! (`specs/Text`), which also says which steps a text has, and where it is none of a proof.
+//! It knows nothing of what follows from what. The promise: each byte comes
+//! to what the definition of such texts says (`specs/Text`), which also says
+//! which steps a text has, and where it is none of a proof.
 //!
 //! - [`Literal`]: a variable or its negation, and the number that stands for it.
 //! - [`Reader`]: where a text is read, and what the next byte comes to, a [`Turn`].

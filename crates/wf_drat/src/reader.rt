@@ -223,8 +223,9 @@ impl Reader {
         self.pass(byte);
     }
 
-    /// Takes the literal that stands in a piece from this place on, where the reader is behind a blank and the literal
-    /// stands there whole with the space behind it; and says where the next byte stands. Otherwise nothing changes.
+    /// Takes the literal that stands in a piece from this place on, where the reader is behind a
+    /// blank and the literal stands there whole with the space behind it; and says where the next
+    /// byte stands. Otherwise nothing changes.
     ///
     /// It comes to the same as to read its bytes one by one.
     #[inline(always)]

@@ -9,7 +9,8 @@ use Rattle.wf_engine.specs.Faults.{of_proof}
 use Rattle.wf_engine.specs.Proofs.{IsRefusedProof, text_of_proof}
 use Rattle.wf_engine.proofs.Pieces.{fault_on, fault_still, no_fault, not_all, read_on}
 
--- the contradiction was found in these bytes, or all their steps were taken, and the next one is read in this state
+-- the contradiction was found in these bytes, or all their steps were taken,
+-- and the next one is read in this state
 abbrev pub IsFed : Known → List ℕ → State → Known → Type 0
 IsFed posed given state known = (known.is_refuted ≡ true) ⊎ IsReadTo (text_of (at_start posed.variables) given) state posed known
 

@@ -32,7 +32,8 @@ pub record IsGiven (old new : Reading) (given : List ℕ) (count : ℕ) : Type 0
   pub gave : Gave old new given 0
   pub counted : length given ≡ count
 
--- what was read of a proof, by the number of its bytes; what a checker knows before and after it; and where its text is read
+-- what was read of a proof, by the number of its bytes; what a checker knows before and after it;
+-- and where its text is read
 pub record IsRead (old new : Reading) (known left : Known) (state : State) (count : ℕ) : Type 0 where
   pub given : List ℕ
   pub source : IsGiven old new given count

@@ -1,4 +1,5 @@
--- The report of a search in the full or the least form is in the grammar: its numbers are those that a line may hold.
+-- The report of a search in the full or the least form is in the grammar: its
+-- numbers are those that a line may hold.
 use Rattle.std.proofs.Common.{◌≡◌, ℕ, zero, suc, ◌+◌, ◌*◌, ◌<◌, ◌≤◌, ◌==◌, true, not, nat_lt, List, [], ◌∷◌, ◌++◌, map, filter, flat_map, length, slice_set, Option, Some, None, sym, ap, ◌∙◌, subst, arith, length-append, length-set}
 use Rattle.std.specs.List.{AllByRecursion}
 use Rattle.std.proofs.lemmas.List.{length-map}
@@ -150,7 +151,8 @@ search_small p (suc n) box h =
 
 -- ---- the numbers of executions, processes and points
 
--- the numbers of an execution, a process and a point are those that a line may hold; no map was found
+-- the numbers of an execution, a process and a point are those that a line
+-- may hold; no map was found
 abbrev IsPlaced : Line → Type 0
 IsPlaced (remove e c a) = (e ≤ most_number) × (c ≤ last_process)
 IsPlaced (empty v) = v ≤ most_number

@@ -26,14 +26,16 @@ GaveTask old new t = (bytes : List ℕ) × Gave old new bytes 0 × (text_of byte
 
 -- ---- what a search says
 
--- The text is the report of the least decision map, in the least form with lines; or a report that there is none, in the
--- verdict form without lines, and then no function on the views is a decision map.
+-- The text is the report of the least decision map, in the least form with
+-- lines; or a report that there is none, in the verdict form without lines,
+-- and then no function on the views is a decision map.
 abbrev pub Says : Form → Task → ℕ → Outcome → List ℕ → Type 0
 Says form t r Map text =
     (m : View → ℕ) × IsLeast t r m × ((ls : List Line) × (text ≡ text_of_report t r (map_body form (listed t r m) ls)))
 Says form t r Nothing text = HasNoDecisionMap t r × ((ls : List Line) × (text ≡ text_of_report t r (none_body form ls)))
 
--- where a search ends well, the source gave the bytes of a task, and the sink took, whole, a text that is true of it
+-- where a search ends well, the source gave the bytes of a task, and the sink
+-- took, whole, a text that is true of it
 abbrev pub AnswersAreTrue : Type 0
 AnswersAreTrue =
     (rounds : ℕ) (form : Form) (source source' : Reading) (sink sink' : Writing) (found : Outcome) (account : Account)
@@ -42,8 +44,9 @@ AnswersAreTrue =
 
 -- ---- what a check accepts
 
--- The sources gave the bytes of a task, and the text of a report about it and these rounds with this answer, which is true: a
--- map is a decision map, the least one where lines say so, and where there is none, no function on the views is one.
+-- The sources gave the bytes of a task, and the text of a report about it and these rounds with
+-- this answer, which is true: a map is a decision map, the least one where lines say so, and where
+-- there is none, no function on the views is one.
 pub record GaveTruth (task task' cert cert' : Reading) (t : Task) (r : ℕ) (body : Body) : Type 0 where
   pub task_given : GaveTask task task' t
   pub report_given : Gave cert cert' (text_of_report t r body) 0
@@ -54,8 +57,8 @@ abbrev pub AreAsked : Option ℕ → ℕ → Type 0
 AreAsked None r = Unit {0}
 AreAsked (Some rounds) r = r ≡ rounds
 
--- where a check accepts, it was given such a report about the rounds that were asked for, and the sink took the line that says
--- what is accepted of it
+-- where a check accepts, it was given such a report about the rounds that were asked for, and the
+-- sink took the line that says what is accepted of it
 abbrev pub AcceptancesAreTrue : Type 0
 AcceptancesAreTrue =
     (rounds : Option ℕ) (task task' cert cert' : Reading) (sink sink' : Writing) (accepted : Accepted)
@@ -63,7 +66,8 @@ AcceptancesAreTrue =
     → (t : Task) × (r : ℕ) × (body : Body) × GaveTruth task task' cert cert' t r body
     × AreAsked rounds r × (accepted ≡ accepted_of body) × Took sink sink' (accepted_text rounds body) 0
 
--- where decisions are told, such a report was given too, and the sink took the points with the values of its map
+-- where decisions are told, such a report was given too, and the sink took
+-- the points with the values of its map
 abbrev pub DecisionsAreTrue : Type 0
 DecisionsAreTrue =
     (task task' cert cert' : Reading) (sink sink' : Writing)
@@ -73,7 +77,8 @@ DecisionsAreTrue =
 
 -- ---- what is reported of a solver's model
 
--- where it is reported, the source of the task gave its bytes, and the sink took the report of a decision map
+-- where it is reported, the source of the task gave its bytes, and the sink
+-- took the report of a decision map
 abbrev pub ModelsAreTrue : Type 0
 ModelsAreTrue =
     (rounds : ℕ) (task task' output output' : Reading) (sink sink' : Writing)
@@ -83,8 +88,8 @@ ModelsAreTrue =
 
 -- ---- what a solver's proof shows
 
--- where it is accepted, the source of the task gave its bytes, no function on the views is a decision map, and the sink took the
--- line that says so for these rounds
+-- where it is accepted, the source of the task gave its bytes, no function on the views is a
+-- decision map, and the sink took the line that says so for these rounds
 abbrev pub RefutationsAreTrue : Type 0
 RefutationsAreTrue =
     (rounds : ℕ) (task task' proof proof' : Reading) (sink sink' : Writing)

@@ -22,8 +22,8 @@ use Rattle.wf_engine.specs.Models.{Models}
 use Rattle.wf_engine.specs.Proofs.{Refutes, most_proof_bytes}
 use Rattle.wf_engine.specs.Headline.{GaveTask}
 
--- At most one byte more than a text may have is taken. A failed read is told by 30 and nothing else is, and a failed
--- write by 31. After any other refusal the sink is as it was.
+-- At most one byte more than a text may have is taken. A failed read is told by 30 and nothing else
+-- is, and a failed write by 31. After any other refusal the sink is as it was.
 pub record IsCounted {X : Type 0} (source source' : Reading) (sink sink' : Writing) (result : Result X RunFault) : Type 0 where
   pub taken : source'.taken ≤ source.taken + (most_bytes + 1)
   pub reads : source'.failures ≡ source.failures + by_result failed_reads result
@@ -40,7 +40,8 @@ ListingIsCounted =
     (text_of : Task → ℕ → List ℕ) (rounds : ℕ) (source source' : Reading) (sink sink' : Writing) (result : Result (Unit {0}) RunFault)
     → Lists text_of rounds source source' sink sink' result → IsCounted source source' sink sink' result
 
--- A failed write is told by 31, and no failed read is told. After any other refusal the sink is as it was.
+-- A failed write is told by 31, and no failed read is told. After any other
+-- refusal the sink is as it was.
 pub record IsWritten {X : Type 0} (sink sink' : Writing) (result : Result X RunFault) : Type 0 where
   pub reads : by_result failed_reads result ≡ 0
   pub writes : sink'.failures ≡ sink.failures + by_result failed_writes result
@@ -59,7 +60,8 @@ pub record AreCounted (task task' cert cert' : Reading) (failed : ℕ) : Type 0 
   pub cert_failures : cert'.failures ≡ cert.failures + of_cert
   pub all : of_task + of_cert ≡ failed
 
--- The same over two sources, a task's and another one, whose text may have `most` bytes: a failed read of either is told by 30.
+-- The same over two sources, a task's and another one, whose text may have `most` bytes: a failed
+-- read of either is told by 30.
 pub record IsChecked {X : Type 0} (most : ℕ) (task task' cert cert' : Reading) (sink sink' : Writing) (result : Result X RunFault) : Type 0 where
   pub task_taken : task'.taken ≤ task.taken + (most_bytes + 1)
   pub cert_taken : cert'.taken ≤ cert.taken + (most + 1)
@@ -100,15 +102,16 @@ accepted_as form.Verdict outcome.Map = accepted.Map
 accepted_as form.Least outcome.Map = accepted.Least
 accepted_as f outcome.Nothing = accepted.Nothing
 
--- The report of a search in the full or the least form, of at most as many bytes as a text may have, is accepted.
+-- The report of a search in the full or the least form, of at most as many
+-- bytes as a text may have, is accepted.
 abbrev pub SolvedReportsAreAccepted : Type 0
 SolvedReportsAreAccepted =
     (t : Task) (r : ℕ) (asked : Form) (found : Outcome × Account) (text : List ℕ) (answer : Result (Accepted × List ℕ) RunFault)
     → IsTask t → HasComplex t r → asked ≢ form.Verdict → IsSolved asked t r found text → length text ≤ most_bytes
     → ChecksText None t text answer → Accepts (accepted_as asked found.0) answer
 
--- What is written of a solver's model is the text of a report, of which a check that asks for these rounds says that it is
--- accepted, where it has at most as many bytes as a text may have.
+-- What is written of a solver's model is the text of a report, of which a check that asks for these
+-- rounds says that it is accepted, where it has at most as many bytes as a text may have.
 abbrev pub ModelsAreAccepted : Type 0
 ModelsAreAccepted =
     (rounds : ℕ) (task task' output output' : Reading) (sink sink' : Writing)

@@ -39,8 +39,8 @@ AsksMap r t old new result = AsksWithin ReadsMap r t old new result
 abbrev pub AsksModel : ℕ → Reading → Reading → Reading → Reading → Result (Unit {0} × List ℕ) RunFault → Type 0
 AsksModel r task task' output output' result = AsksBoth ReadsMap r task task' output output' result
 
--- The map of the model that a solver's output says was checked about the task of another source and r rounds, and its report
--- was written.
+-- The map of the model that a solver's output says was checked about the task of another source and
+-- r rounds, and its report was written.
 abbrev pub Models : ℕ → Reading → Reading → Reading → Reading → Writing → Writing → Result (Unit {0}) RunFault → Type 0
 Models r task task' output output' sink sink' result = Ran (AsksModel r task task' output output') sink sink' result
 

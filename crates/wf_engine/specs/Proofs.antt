@@ -1,4 +1,5 @@
--- A run over two sources: a task, and the clausal proof by which a SAT solver shows that its question has no model.
+-- A run over two sources: a task, and the clausal proof by which a SAT solver
+-- shows that its question has no model.
 use Rattle.std.specs.Prelude.{◌≡◌, ◌≤◌, ◌+◌, ◌^◌, ℕ, List, [], ◌∷◌, ◌++◌, length, Option, Some, Result, Ok, Err}
 use Rattle.std.specs.Io.KnownBytes.{IsAtEnd}
 use Rattle.wf_model.specs.Task.{Task}
@@ -27,11 +28,13 @@ most_proof_bytes = 2 ^ 62
 
 -- ---- why a proof is refused
 
--- what the bytes of a proof say, of clauses on the variables from 1 to this number: a line feed ends its last line
+-- what the bytes of a proof say, of clauses on the variables from 1 to this
+-- number: a line feed ends its last line
 abbrev pub text_of_proof : ℕ → List ℕ → Text
 text_of_proof variables given = text_of (at_start variables) (given ++ 10 ∷ [])
 
--- the bytes leave off in this line, all steps of the proof are taken, and the contradiction does not follow by unit propagation
+-- the bytes leave off in this line, all steps of the proof are taken, and the contradiction does
+-- not follow by unit propagation
 pub record EndsUnrefuted (posed : Known) (given : List ℕ) (line : ℕ) (known : Known) : Type 0 where
   pub last : State
   pub end : (text_of (at_start posed.variables) given).end ≡ open_in last
@@ -40,8 +43,9 @@ pub record EndsUnrefuted (posed : Known) (given : List ℕ) (line : ℕ) (known 
   pub read : IsReadTo (text_of_proof posed.variables given) next posed known
   pub refused : DoesNotFollow known []
 
--- A proof of these bytes is refused for this fault, where this was known before its first step, and that behind the steps that
--- were taken: it ends too early; or it has a flaw, or a lemma that does not follow, in the line that is named.
+-- A proof of these bytes is refused for this fault, where this was known before its first step, and
+-- that behind the steps that were taken: it ends too early; or it has a flaw, or a lemma that does
+-- not follow, in the line that is named.
 abbrev pub IsFaultOfProof : Known → List ℕ → Known → ProofFault → Type 0
 IsFaultOfProof posed given known (proof.NoContradiction line) = EndsUnrefuted posed given line known
 IsFaultOfProof posed given known proof.OutOfMemory = ⊥
@@ -57,8 +61,9 @@ IsRefusedProof posed given e = ⊥
 
 -- ---- what is made of a proof
 
--- What is made of the bytes that a source gave as a proof. Where it is accepted, this holds of what is answered, and the source
--- is at its end. There are too many bytes where there is one more than a proof may have.
+-- What is made of the bytes that a source gave as a proof. Where it is
+-- accepted, this holds of what is answered, and the source is at its end.
+-- There are too many bytes where there is one more than a proof may have.
 abbrev pub IsOfProof : {X : Type 0} → Known → (X → Type 0) → List ℕ → Option (List ℕ) → Result X RunFault → Type 0
 IsOfProof posed holds given left (Ok x) = holds x × IsAtEnd left × (length given ≤ most_proof_bytes)
 IsOfProof posed holds given left (Err TooLong) = length given ≡ most_proof_bytes + 1
@@ -69,11 +74,13 @@ abbrev pub ReadsAsProof : {X : Type 0} → Known → (X → Type 0) → Reading 
 ReadsAsProof posed holds old new result =
     (given : List ℕ) × Gave old new given (by_result failed_reads result) × IsOfProof posed holds given new.left result
 
--- the same of a formula: what was known is this formula, with its variables and each of its clauses kept
+-- the same of a formula: what was known is this formula, with its variables
+-- and each of its clauses kept
 abbrev pub ReadsProofOf : Formula → (Unit {0} × List ℕ → Type 0) → Reading → Reading → Result (Unit {0} × List ℕ) RunFault → Type 0
 ReadsProofOf f holds old new result = (posed : Known) × IsPosed f posed × ReadsAsProof posed holds old new result
 
--- there is no decision map, and the text is the line that says that this is accepted for these rounds
+-- there is no decision map, and the text is the line that says that this is
+-- accepted for these rounds
 abbrev pub IsAcceptedNone : Task → ℕ → Unit {0} × List ℕ → Type 0
 IsAcceptedNone t r answer = HasNoDecisionMap t r × (answer.1 ≡ accepted_text (Some r) (none []))
 
@@ -89,7 +96,7 @@ AsksProof r t old new result = AsksWithin ReadsProof r t old new result
 abbrev pub AsksRefutation : ℕ → Reading → Reading → Reading → Reading → Result (Unit {0} × List ℕ) RunFault → Type 0
 AsksRefutation r task task' proof proof' result = AsksBoth ReadsProof r task task' proof proof' result
 
--- The proof of a source was checked about the task of another source and r rounds, and that no decision map is accepted was
--- written.
+-- The proof of a source was checked about the task of another source and r rounds, and that no
+-- decision map is accepted was written.
 abbrev pub Refutes : ℕ → Reading → Reading → Reading → Reading → Writing → Writing → Result (Unit {0}) RunFault → Type 0
 Refutes r task task' proof proof' sink sink' result = Ran (AsksRefutation r task task' proof proof') sink sink' result

@@ -1,4 +1,5 @@
--- A run, step by step. A step refuses, and then the run is refused so; or it hands on what the next step needs.
+-- A run, step by step. A step refuses, and then the run is refused so; or it
+-- hands on what the next step needs.
 use Rattle.std.specs.Prelude.{◌≡◌, ℕ, List, Result, Ok, Err, Vec}
 use Rattle.wf_model.specs.Limits.{most_bytes}
 use Rattle.wf_model.specs.Task.{Task}
@@ -73,8 +74,8 @@ Asks is_text r old new result =
 
 -- ---- from an answer to a sink
 
--- An answer's text was written whole; or a call of the writer failed, and a beginning of the text was written; or
--- there is none, and the sink is as it was.
+-- An answer's text was written whole; or a call of the writer failed, and a beginning of the text
+-- was written; or there is none, and the sink is as it was.
 abbrev pub Hands : {X : Type 0} → Writing → Writing → Result (X × List ℕ) RunFault → Result X RunFault → Type 0
 Hands old new (Ok answer) (Ok x) = (x ≡ answer.0) × Took old new answer.1 0
 Hands old new (Ok answer) (Err e) = (e ≡ Write) × TookBeginning old new answer.1

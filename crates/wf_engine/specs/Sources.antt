@@ -1,4 +1,5 @@
--- A run over two sources, a task's and another one, which is read about the task after so many rounds.
+-- A run over two sources, a task's and another one, which is read about the
+-- task after so many rounds.
 use Rattle.std.specs.Prelude.{◌≡◌, ℕ, List, Result, Ok, Err}
 use Rattle.wf_model.specs.Task.{Task}
 use Rattle.wf_io.specs.Seen.{Reading}

@@ -28,20 +28,21 @@ use Rattle.wf_report.specs.declared.form.Form.TheVariants as form
 unfoldable pub text_of_report : Task → ℕ → Body → List ℕ
 text_of_report t r body = report_text (report_about t r body)
 
--- The lines of the canonical search of the root. They are those of a tree that refutes it, and so no function on the
--- views is a decision map.
+-- The lines of the canonical search of the root. They are those of a tree that refutes it, and so
+-- no function on the views is a decision map.
 pub record IsRefutation (t : Task) (r : ℕ) (ls : List Line) : Type 0 where
   pub canonical_lines : ls ≡ (canonical (problem_of t r) (root (problem_of t r))).lines
   pub refutes : (tree : Tree) × (lines tree ≡ ls) × Refutes (problem_of t r) tree (root (problem_of t r))
   pub no_map : HasNoDecisionMap t r
 
--- The lines of the canonical search of the root up to its map. They are those of a tree that leads to the map.
+-- The lines of the canonical search of the root up to its map. They are those
+-- of a tree that leads to the map.
 pub record LeadsToMap (t : Task) (r : ℕ) (m : List ℕ) (ls : List Line) : Type 0 where
   pub canonical_lines : ls ≡ (canonical (problem_of t r) (root (problem_of t r))).lines
   pub leads : (tree : Tree) × (lines tree ≡ ls) × IsLeastTree (problem_of t r) m tree (root (problem_of t r))
 
--- the search keeps the lines that the form shows: in the verdict form none, and those that lead to a map in the least form
--- alone
+-- the search keeps the lines that the form shows: in the verdict form none, and those that lead to
+-- a map in the least form alone
 abbrev pub lines_kept : Form → KeptLines
 lines_kept form.Full = keep.Refuting
 lines_kept form.Verdict = keep.Neither
@@ -59,8 +60,8 @@ map_body form.Full m ls = a_map m
 map_body form.Verdict m ls = a_map m
 map_body form.Least m ls = least m ls
 
--- What a search of a task answers and writes: the least decision map over the points, or none by a refutation; and
--- the account of the branches.
+-- What a search of a task answers and writes: the least decision map over the points, or none by a
+-- refutation; and the account of the branches.
 abbrev pub IsSolved : Form → Task → ℕ → Outcome × Account → List ℕ → Type 0
 IsSolved form t r (outcome.Map, a) text =
     (m : View → ℕ) × (ls : List Line) × IsLeast t r m × LeadsToMap t r (listed t r m) ls
@@ -93,6 +94,7 @@ undecided_points t r = points_text t r []
 abbrev pub IsTextOf : (Task → ℕ → List ℕ) → Task → ℕ → Unit {0} → List ℕ → Type 0
 IsTextOf text_of t r answer text = text ≡ text_of t r
 
--- the points of the protocol complex of the source's task after r rounds were listed, by such a text
+-- the points of the protocol complex of the source's task after r rounds were
+-- listed, by such a text
 abbrev pub Lists : (Task → ℕ → List ℕ) → ℕ → Reading → Reading → Writing → Writing → Result (Unit {0}) RunFault → Type 0
 Lists text_of r source source' sink sink' result = Ran (Asks (IsTextOf text_of) r source source') sink sink' result

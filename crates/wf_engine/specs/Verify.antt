@@ -62,8 +62,9 @@ values_of (least m ls) = m
 abbrev pub AreDecisions : Task → Report → Unit {0} → List ℕ → Type 0
 AreDecisions t r answer text = text ≡ points_text t r.rounds (values_of r.body)
 
--- The report's rounds are within the limits and the checker finds no fault. So it is true: a map is a decision map, a
--- map with a certificate is the least one, and where there is none, no function on the views is a decision map.
+-- The report's rounds are within the limits and the checker finds no fault. So it is true: a map is
+-- a decision map, a map with a certificate is the least one, and where there is none, no function
+-- on the views is a decision map.
 pub record IsFaultless (t : Task) (r : Report) : Type 0 where
   pub within : HasComplex t r.rounds
   pub faultless : report_fault t r.rounds r ≡ None
@@ -91,7 +92,8 @@ IsVerifiedFor None is_text t r result = IsVerified is_text t r result
 IsVerifiedFor (Some rounds) is_text t r result =
     ((r.rounds ≡ rounds) × IsVerified is_text t r result) ⊎ ((r.rounds ≢ rounds) × (result ≡ Err OtherRounds))
 
--- the text is read as a report, and that is checked about the task, and for the rounds that are asked for, if any are
+-- the text is read as a report, and that is checked about the task, and for
+-- the rounds that are asked for, if any are
 abbrev pub ChecksText : Option ℕ → Task → List ℕ → Result (Accepted × List ℕ) RunFault → Type 0
 ChecksText rounds t text result = (r : Result Report RunFault) × IsReportOf text r × Next (IsVerifiedFor rounds (IsAccepted rounds) t) r result
 
@@ -105,8 +107,8 @@ abbrev pub Checks : {X : Type 0} → Option ℕ → (Task → Report → X → L
 Checks rounds is_text task task' cert cert' result =
     (t : Result Task RunFault) × Reads IsTaskOf task task' t × ChecksFor rounds is_text cert cert' t result
 
--- The report of a source was checked against the task of another one, and what is accepted was written. Where rounds are
--- asked for, the report has to be for these.
+-- The report of a source was checked against the task of another one, and what is accepted was
+-- written. Where rounds are asked for, the report has to be for these.
 abbrev pub Verifies : Option ℕ → Reading → Reading → Reading → Reading → Writing → Writing → Result Accepted RunFault → Type 0
 Verifies rounds task task' cert cert' sink sink' result = Ran (Checks rounds (IsAccepted rounds) task task' cert cert') sink sink' result
 

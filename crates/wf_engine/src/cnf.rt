@@ -14,10 +14,12 @@ use wf_complex::Protocol;
 use wf_io::{Sink, Source};
 use wf_task::Task;
 
-/// Reads a task to the reader's end and writes the question whether it has a decision map after some rounds, as a formula in
-/// conjunctive normal form in the DIMACS format: it has a model exactly where there is such a map.
+/// Reads a task to the reader's end and writes the question whether it has a decision map after
+/// some rounds, as a formula in conjunctive normal form in the DIMACS format: it has a model
+/// exactly where there is such a map.
 ///
-/// The text may be longer than memory: it is passed on in pieces. Nothing is written before all memory is had.
+/// The text may be longer than memory: it is passed on in pieces. Nothing is
+/// written before all memory is had.
 pub fn run_cnf<R: Read, W: Write>(
     alloc: Global,
     source: &mut Source<R>,

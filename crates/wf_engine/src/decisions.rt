@@ -17,9 +17,10 @@ use wf_io::{Sink, Source};
 use wf_report::{Body, Report};
 use wf_task::Task;
 
-/// Reads a task and a report about it, and checks the report, as [`run_verify`](crate::run_verify) does; then it tells
-/// the points of the protocol complex for the report's rounds in words, each with the value that the report's map has
-/// there. Where the report says that there is no map, the points are told without values.
+/// Reads a task and a report about it, and checks the report, as [`run_verify`](crate::run_verify)
+/// does; then it tells the points of the protocol complex for the report's rounds in words, each
+/// with the value that the report's map has there. Where the report says that there is no map, the
+/// points are told without values.
 pub fn run_decisions<T: Threads + Sync, R: Read, C: Read, W: Write>(
     rt: &T,
     alloc: Global,
@@ -44,8 +45,8 @@ fn decide_sources<T: Threads + Sync, R: Read, C: Read>(
 ) -> Result<((), Vec<u8>), RunFault>
     requires task { CanRead task_source.old }
     requires cert { CanRead cert_source.old }
-    ensures { Checks None AreDecisions task_source.old task_source.new cert_source.old cert_source.new
-        (answered result) }
+    ensures { Checks None AreDecisions task_source.old task_source.new cert_source.old
+        cert_source.new (answered result) }
 {
     let task = read_task(alloc, task_source)?;
     let report = read_report_from(alloc, cert_source)?;

@@ -32,7 +32,8 @@ pub enum RunFault {
     OtherRounds,
     /// 43: the report is accepted, and has no map to be lifted.
     NoMap,
-    /// 44: the task's question has so many branches, numbered from 0, and not the one that was asked for.
+    /// 44: the task's question has so many branches, numbered from 0, and not
+    /// the one that was asked for.
     NoBranch {
         /// How many branches there are.
         branches: u32,

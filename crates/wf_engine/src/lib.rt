@@ -1,24 +1,31 @@
 //! The engines: from the bytes of a reader to the bytes of a writer.
 //!
-//! - [`run_solve_one`], [`run_solve`]: a task's text in, and the report of its least decision map or of none out, by one
-//!   worker or by up to [`MAX_WORKERS`]. [`run_solve_watched`] is `run_solve` with a gate, which is told of the workers.
+//! - [`run_solve_one`], [`run_solve`]: a task's text in, and the report of its least decision map
+//!   or of none out, by one worker or by up to [`MAX_WORKERS`]. [`run_solve_watched`] is
+//!   `run_solve` with a gate, which is told of the workers.
 //! - [`run_views`]: a task's text in, and the list of the points of its protocol complex out.
 //! - [`run_points`]: a task's text in, and its points in words out.
-//! - [`run_cnf`]: a task's text in, and the question whether it has a decision map, as a formula, out.
+//! - [`run_cnf`]: a task's text in, and the question whether it has a
+//!   decision map, as a formula, out.
 //! - [`run_verify`]: a task's text and a report's in, and what is accepted out.
 //! - [`run_decisions`]: the same, and what the report's map decides at each point out.
-//! - [`run_model`]: a task's text and a SAT solver's output in, and the report of the map that the solver's model gives out.
-//! - [`run_proof`]: a task's text and a SAT solver's clausal proof in, and that no decision map is accepted out.
+//! - [`run_model`]: a task's text and a SAT solver's output in, and the report of the map that the
+//!   solver's model gives out.
+//! - [`run_proof`]: a task's text and a SAT solver's clausal proof in, and
+//!   that no decision map is accepted out.
 //! - [`run_preset`]: the canonical text of a [`Preset`] out.
-//! - [`read_task`], [`read_report_from`], [`read_proof_from`], [`check_report`], [`write_points`], [`pose_problem`],
-//!   [`lines_kept`], [`map_body`], [`report_text`], [`accepted_words`], [`hand_out`]: steps that runs share, for those of other crates too.
-//! - [`RunFault`]: why a run is refused, with its number and its name; [`PartFault`]: why one part among others is.
+//! - [`read_task`], [`read_report_from`], [`read_proof_from`], [`check_report`], [`write_points`],
+//!   [`pose_problem`], [`lines_kept`], [`map_body`], [`report_text`], [`accepted_words`],
+//!   [`hand_out`]: steps that runs share, for those of other crates too.
+//! - [`RunFault`]: why a run is refused, with its number and its name;
+//!   [`PartFault`]: why one part among others is.
 //!
-//! Each engine has one condition, that source and sink can count what it asks of them, and one relation that says what
-//! it read, answered and wrote (`specs/Texts.antt`, step by step in `specs/Run.antt`). The laws say what follows from
-//! the relation alone: first of all that what is answered, accepted and told is true ([`answers_are_true`],
-//! [`acceptances_are_true`], [`decisions_are_true`], [`models_are_true`], [`refutations_are_true`], stated alone in
-//! `specs/Headline.antt`).
+//! Each engine has one condition, that source and sink can count what it asks of them,
+//! and one relation that says what it read, answered and wrote (`specs/Texts.antt`, step
+//! by step in `specs/Run.antt`). The laws say what follows from the relation alone:
+//! first of all that what is answered, accepted and told is true ([`answers_are_true`],
+//! [`acceptances_are_true`], [`decisions_are_true`], [`models_are_true`],
+//! [`refutations_are_true`], stated alone in `specs/Headline.antt`).
 #![tactic(auto)]
 
 mod cnf;

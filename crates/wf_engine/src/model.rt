@@ -21,12 +21,13 @@ use wf_io::{Sink, Source, read_all};
 use wf_report::{Body, Header, Report, write_report};
 use wf_task::{LONGEST, Task};
 
-/// Reads a task to its reader's end, and then a SAT solver's output to its own reader's end; takes from the model in it
-/// at each point of the protocol complex after some rounds the least value whose variable is true; checks that map as
-/// [`run_verify`](crate::run_verify) checks that of a report; and writes the report of the map.
+/// Reads a task to its reader's end, and then a SAT solver's output to its own reader's end; takes
+/// from the model in it at each point of the protocol complex after some rounds the least value
+/// whose variable is true; checks that map as [`run_verify`](crate::run_verify) checks that of a
+/// report; and writes the report of the map.
 ///
-/// Too many rounds or executions are refused before the output is read. Nothing rests on the solver: what is written is
-/// accepted by the checker.
+/// Too many rounds or executions are refused before the output is read. Nothing rests on the
+/// solver: what is written is accepted by the checker.
 pub fn run_model<T: Threads + Sync, R: Read, C: Read, W: Write>(
     rt: &T,
     alloc: Global,
@@ -101,7 +102,8 @@ fn map_of(alloc: Global, task: &Task, protocol: &Protocol, text: &[u8]) -> Resul
     Ok(read_map(alloc, task, protocol, text)?)
 }
 
-/// The text of the report of a map about a task and its protocol complex, where the checker finds no fault in it.
+/// The text of the report of a map about a task and its protocol complex,
+/// where the checker finds no fault in it.
 fn report_map<T: Threads + Sync>(
     rt: &T,
     alloc: Global,

@@ -18,8 +18,8 @@ use wf_io::{Sink, Source};
 use wf_task::Task;
 use wf_view::Views;
 
-/// Reads a task to the reader's end and tells the points of its protocol complex after some rounds in words, a line for
-/// each: who saw what, down to the inputs.
+/// Reads a task to the reader's end and tells the points of its protocol complex after some rounds
+/// in words, a line for each: who saw what, down to the inputs.
 pub fn run_points<R: Read, W: Write>(
     alloc: Global,
     source: &mut Source<R>,
@@ -55,7 +55,8 @@ fn tell_task(alloc: Global, task: &Task, rounds: u32) -> Result<((), Vec<u8>), R
     Ok(((), write_points(alloc, task, &protocol, &[])?))
 }
 
-/// The text that tells the points of a protocol complex, each with the value that a map has there, if any.
+/// The text that tells the points of a protocol complex, each with the value
+/// that a map has there, if any.
 pub fn write_points(
     alloc: Global,
     task: &Task,

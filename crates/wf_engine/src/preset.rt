@@ -14,8 +14,8 @@ use wf_io::Sink;
 use wf_preset::Preset;
 use wf_task::Task;
 
-/// Writes the canonical text of a preset's task and a line feed, or refuses the preset as [`Preset::task`] does. It
-/// reads nothing.
+/// Writes the canonical text of a preset's task and a line feed, or refuses the preset as
+/// [`Preset::task`] does. It reads nothing.
 pub fn run_preset<W: Write>(
     alloc: Global,
     sink: &mut Sink<W>,

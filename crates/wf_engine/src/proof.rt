@@ -26,12 +26,13 @@ pub const MOST_PROOF_BYTES: u64 = 1 << 62;
 // how many bytes of a proof are asked for at once
 const PIECE: usize = 65_536;
 
-/// Reads a task to its reader's end, and then a SAT solver's clausal proof to its own reader's end; checks each lemma by unit
-/// propagation over the formula of the task and these rounds, which is made here; and writes that no decision map is accepted.
-/// Where that is written, no function on the views is a decision map, whatever the proof's bytes are.
+/// Reads a task to its reader's end, and then a SAT solver's clausal proof to its own reader's end;
+/// checks each lemma by unit propagation over the formula of the task and these rounds, which is
+/// made here; and writes that no decision map is accepted. Where that is written, no function on
+/// the views is a decision map, whatever the proof's bytes are.
 ///
-/// The proof is read in pieces and may be longer than memory. Too many rounds or executions are refused before it is read, and
-/// more than [`MOST_PROOF_BYTES`] once that many were.
+/// The proof is read in pieces and may be longer than memory. Too many rounds or executions are
+/// refused before it is read, and more than [`MOST_PROOF_BYTES`] once that many were.
 pub fn run_proof<R: Read, C: Read, W: Write>(
     alloc: Global,
     task_source: &mut Source<R>,
@@ -47,7 +48,8 @@ pub fn run_proof<R: Read, C: Read, W: Write>(
     hand_out(sink, answer)
 }
 
-/// The line that no decision map is accepted, where a source's proof shows that another source's task has none.
+/// The line that no decision map is accepted, where a source's proof shows
+/// that another source's task has none.
 fn refute_sources<R: Read, C: Read>(
     alloc: Global,
     task_source: &mut Source<R>,
@@ -77,7 +79,8 @@ fn refute_source<C: Read>(
     refute(alloc, task, &protocol, source)
 }
 
-/// The line that no decision map is accepted, where a source's proof shows that there is none on a task's protocol complex.
+/// The line that no decision map is accepted, where a source's proof shows that there is none on a
+/// task's protocol complex.
 fn refute<C: Read>(
     alloc: Global,
     task: &Task,
@@ -98,8 +101,9 @@ fn refute<C: Read>(
     Ok(((), text.into_bytes()))
 }
 
-/// Reads a source to its end as a proof that what a checker knows has no model, as the last step of a run over a proof. It is
-/// refused where its bytes are no such proof, with its first fault: `38 NotALiteral` to `42 Binary`; and `1 TooLong`, `30 Read`.
+/// Reads a source to its end as a proof that what a checker knows has no model, as the last step of
+/// a run over a proof. It is refused where its bytes are no such proof, with its first fault:
+/// `38 NotALiteral` to `42 Binary`; and `1 TooLong`, `30 Read`.
 pub fn read_proof_from<C: Read>(
     alloc: Global,
     source: &mut Source<C>,

@@ -31,13 +31,13 @@ use wf_task::Task;
 /// How branches are handed to workers.
 type Branches = Stealing;
 
-/// Reads a task to the reader's end and writes the report about it for some rounds of iterated immediate snapshot: its
-/// least decision map; or that it has none, with the lines of a refutation, and then no function on the views is a
-/// decision map. In the verdict form the lines are left out, and in the least form a map comes with the lines of a
-/// certificate that none is smaller.
+/// Reads a task to the reader's end and writes the report about it for some rounds of iterated
+/// immediate snapshot: its least decision map; or that it has none, with the lines of a refutation,
+/// and then no function on the views is a decision map. In the verdict form the lines are left out,
+/// and in the least form a map comes with the lines of a certificate that none is smaller.
 ///
-/// The report is made whole before anything is written. The branches are searched in order, in this thread, and the
-/// call always returns.
+/// The report is made whole before anything is written. The branches are searched in order, in this
+/// thread, and the call always returns.
 pub fn run_solve_one<R: Read, W: Write>(
     alloc: Global,
     source: &mut Source<R>,
@@ -69,8 +69,9 @@ fn run_solve_one_watched<G: Gate, R: Read, W: Write>(
     hand_out(sink, answer)
 }
 
-/// The same as [`run_solve_one`], with the branches shared out among workers, which are threads where there are
-/// several. What is answered and written is the same for any number of them; which branches were searched is not.
+/// The same as [`run_solve_one`], with the branches shared out among workers, which are threads
+/// where there are several. What is answered and written is the same for any number of them; which
+/// branches were searched is not.
 pub fn run_solve<T: Threads + Sync, R: Read, W: Write>(
     rt: &T,
     alloc: Global,
@@ -88,8 +89,8 @@ pub fn run_solve<T: Threads + Sync, R: Read, W: Write>(
     run_solve_watched(rt, alloc, source, sink, rounds, workers, form, &Open)
 }
 
-/// The same as [`run_solve`], and the gate is told how large the complex is, how many branches there are, and each worker's
-/// moments.
+/// The same as [`run_solve`], and the gate is told how large the complex is, how many branches
+/// there are, and each worker's moments.
 pub fn run_solve_watched<T: Threads + Sync, G: Gate, R: Read, W: Write>(
     rt: &T,
     alloc: Global,
@@ -181,8 +182,8 @@ fn solve_task<T: Threads + Sync, G: Gate>(
     Ok(with_text(alloc, task, rounds, header, answer, account, form)?)
 }
 
-/// The header of the report about a task, and the problem to solve for it. The complex, of which the gate is told, takes more
-/// memory than either, and is given back before the search begins.
+/// The header of the report about a task, and the problem to solve for it. The complex, of which
+/// the gate is told, takes more memory than either, and is given back before the search begins.
 pub fn pose_problem<G: Gate>(
     alloc: Global,
     task: &Task,
@@ -208,8 +209,8 @@ pub fn lines_kept(form: Form) -> KeptLines
     }
 }
 
-/// What a search answers, with the text of the report about it. Where there is no map the report has the lines that the
-/// search kept: in the verdict form none.
+/// What a search answers, with the text of the report about it. Where there is no map the report
+/// has the lines that the search kept: in the verdict form none.
 fn with_text(
     alloc: Global,
     task: &Task,

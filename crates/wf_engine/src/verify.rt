@@ -18,12 +18,13 @@ use wf_io::{Sink, Source, read_all};
 use wf_report::{Body, Report, read_report};
 use wf_task::{LONGEST, Task};
 
-/// Reads a task to its reader's end, then a report about it to its own reader's end, checks the report on the protocol
-/// complex for the report's rounds, and writes what is accepted. Where rounds are asked for, a report for others is refused
-/// before the complex is built, and what is written tells the rounds.
+/// Reads a task to its reader's end, then a report about it to its own reader's end, checks the
+/// report on the protocol complex for the report's rounds, and writes what is accepted. Where
+/// rounds are asked for, a report for others is refused before the complex is built, and what is
+/// written tells the rounds.
 ///
-/// The relation names the search nowhere: where a map is accepted, it is a decision map, and the least one where its
-/// lines are accepted too; and where none is, no function on the views is one.
+/// The relation names the search nowhere: where a map is accepted, it is a decision map, and the
+/// least one where its lines are accepted too; and where none is, no function on the views is one.
 pub fn run_verify<T: Threads + Sync, R: Read, C: Read, W: Write>(
     rt: &T,
     alloc: Global,
@@ -58,8 +59,8 @@ fn verify_sources<T: Threads + Sync, R: Read, C: Read>(
     verify(rt, alloc, &task, &report, rounds)
 }
 
-/// Reads a report to its reader's end, as the first step of a run over a report. It is refused where its text is none: `1
-/// TooLong`, `20 Syntax`, `30 Read`.
+/// Reads a report to its reader's end, as the first step of a run over a report. It is refused
+/// where its text is none: `1 TooLong`, `20 Syntax`, `30 Read`.
 pub fn read_report_from<C: Read>(alloc: Global, source: &mut Source<C>) -> Result<Report, RunFault>
     requires { CanRead source.old }
     ensures read { Reads IsReportOf source.old source.new (seen result) }
@@ -77,7 +78,8 @@ fn report_of(alloc: Global, text: &[u8]) -> Result<Report, RunFault>
     Ok(read_report(alloc, text)?)
 }
 
-/// What is accepted of a report about a task, with its text. Where rounds are asked for, a report for others is refused.
+/// What is accepted of a report about a task, with its text. Where rounds are
+/// asked for, a report for others is refused.
 fn verify<T: Threads + Sync>(
     rt: &T,
     alloc: Global,
@@ -95,7 +97,8 @@ fn verify<T: Threads + Sync>(
     }
 }
 
-/// What is accepted of a report about a task, with its text, which tells the rounds where they were asked for.
+/// What is accepted of a report about a task, with its text, which tells the
+/// rounds where they were asked for.
 fn accept<T: Threads + Sync>(
     rt: &T,
     alloc: Global,
@@ -111,8 +114,9 @@ fn accept<T: Threads + Sync>(
     Ok((accepted_of(&report.body), text.into_bytes()))
 }
 
-/// The protocol complex for the rounds of a report about a task, where the checker finds no fault in it: so the report is true.
-/// The refusals are those of [`run_verify`] that come after both texts were read.
+/// The protocol complex for the rounds of a report about a task, where the
+/// checker finds no fault in it: so the report is true. The refusals are
+/// those of [`run_verify`] that come after both texts were read.
 pub fn check_report<T: Threads + Sync>(
     rt: &T,
     alloc: Global,
@@ -149,7 +153,8 @@ pub fn accepted_words(body: &Body) -> &'static str
     }
 }
 
-/// The line that tells that a report with this answer is accepted, and for how many rounds, where these were asked for.
+/// The line that tells that a report with this answer is accepted, and for
+/// how many rounds, where these were asked for.
 pub(crate) fn accepted_text(
     alloc: Global,
     body: &Body,

@@ -21,8 +21,8 @@ use wf_io::{Sink, Source};
 use wf_lines::{put_number, put_words};
 use wf_task::Task;
 
-/// Reads a task to the reader's end and writes the list of the points of its protocol complex after some rounds, each
-/// with the execution and the process in which it appears first.
+/// Reads a task to the reader's end and writes the list of the points of its protocol complex after
+/// some rounds, each with the execution and the process in which it appears first.
 pub fn run_views<R: Read, W: Write>(
     alloc: Global,
     source: &mut Source<R>,

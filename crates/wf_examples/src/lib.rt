@@ -1,7 +1,8 @@
 //! Texts of small tasks, for tests.
 #![tactic(auto)]
 
-/// The path of length 3: process 0 alone decides 0, process 1 alone 3, both values that differ by at most 1.
+/// The path of length 3: process 0 alone decides 0, process 1 alone 3, both
+/// values that differ by at most 1.
 pub const PATH_3: &str =
     r#"{"version":1,"processes":2,"symmetric":false,"inputs":[[[0,0],[1,0]]],"outputs":[[[0,0],[1,0]],[[0,0],[1,1]],[[0,1],[1,0]],[[0,1],[1,1]],[[0,1],[1,2]],[[0,2],[1,1]],[[0,2],[1,2]],[[0,2],[1,3]],[[0,3],[1,2]],[[0,3],[1,3]]],"delta":[{"in":[[0,0]],"out":[[0]]},{"in":[[1,0]],"out":[[3]]},{"in":[[0,0],[1,0]],"out":[[0,0],[0,1],[1,0],[1,1],[1,2],[2,1],[2,2],[2,3],[3,2],[3,3]]}]}"#;
 
@@ -148,7 +149,8 @@ pub const SYMMETRIC_4: &str = concat!(
     r#""out":[]}]}"#,
 );
 
-/// Three processes told apart by rank, which all have the same input and decide 000 or 201; two decide the same value.
+/// Three processes told apart by rank, which all have the same input and
+/// decide 000 or 201; two decide the same value.
 pub const SYMMETRIC_201: &str = concat!(
     r#"{"version":1,"processes":3,"symmetric":true,"inputs":[[[0,0],[1,0],[2,0]]],"#,
     r#""outputs":[[[0,0],[1,0],[2,0]],[[0,2],[1,0],[2,1]],[[0,1],[1,1]],[[0,2],[1,2]],"#,

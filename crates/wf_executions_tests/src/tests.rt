@@ -1,4 +1,5 @@
-//! Tests of listing executions. The texts are what `gallery/independent.py` writes, which shares nothing with the program.
+//! Tests of listing executions. The texts are what `gallery/independent.py` writes, which shares
+//! nothing with the program.
 
 use std::alloc::Global;
 use std::io::{self, Write};
@@ -32,7 +33,8 @@ const CONSENSUS_2_ONE: &str =
 const PATH_3_TWO: &str =
     "0 {p0} ; {p0} : 0\n1 {p1} ; {p1} : 1\n2 {p0 p1} ; {p0 p1} : 2 3\n3 {p0 p1} ; {p0}{p1} : 4 3\n4 {p0 p1} ; {p1}{p0} : 2 5\n5 {p0}{p1} ; {p0 p1} : 6 7\n6 {p0}{p1} ; {p0}{p1} : 0 7\n7 {p0}{p1} ; {p1}{p0} : 6 5\n8 {p1}{p0} ; {p0 p1} : 8 9\n9 {p1}{p0} ; {p0}{p1} : 4 9\n10 {p1}{p0} ; {p1}{p0} : 8 1\n";
 
-/// Renaming of two with two names after two rounds: some points stand at both places of an execution, or at places of both processes.
+/// Renaming of two with two names after two rounds: some points stand at both places of an
+/// execution, or at places of both processes.
 const RENAMING_2_2_TWO: &str =
     "0 {p0} ; {p0} : 0\n1 {p1} ; {p1} : 0\n2 {p0 p1} ; {p0 p1} : 1 2\n3 {p0 p1} ; {p0}{p1} : 3 2\n4 {p0 p1} ; {p1}{p0} : 1 4\n5 {p0}{p1} ; {p0 p1} : 5 6\n6 {p0}{p1} ; {p0}{p1} : 0 6\n7 {p0}{p1} ; {p1}{p0} : 5 4\n8 {p1}{p0} ; {p0 p1} : 7 8\n9 {p1}{p0} ; {p0}{p1} : 3 8\n10 {p1}{p0} ; {p1}{p0} : 7 0\n";
 

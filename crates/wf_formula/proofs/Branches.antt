@@ -1,4 +1,5 @@
--- The formula in a box has a model exactly where a solution lies there, and what the branches of a task say together.
+-- The formula in a box has a model exactly where a solution lies there, and
+-- what the branches of a task say together.
 use Rattle.std.proofs.Common.{◌≡◌, ◌↔◌, ℕ, zero, suc, ◌+◌, ◌<◌, ◌⊎◌, Bool, true, false, not, List, [], ◌∷◌, map, length, slice_index, replicate, Option, Some, None, All, inl, inr, refl, sym, ap, ◌∙◌, subst, arith}
 use Rattle.std.specs.List.{AllByRecursion}
 use Rattle.std.proofs.lemmas.Bool.{cases_Bool, cases_order, or_cases, or_left, both_ways, not-true, not_from_false, false≢true}

@@ -1,4 +1,5 @@
--- A model of a problem's formula gives a solution: at each point the least value whose variable is true.
+-- A model of a problem's formula gives a solution: at each point the least
+-- value whose variable is true.
 use Rattle.std.proofs.Common.{◌≡◌, ℕ, zero, suc, ◌+◌, ◌<◌, ◌==◌, Bool, true, false, not, List, [], ◌∷◌, map, filter, flat_map, zip, length, get_or, drop, slice_index, All, Contains, inl, inr, refl, sym, ap, ◌∙◌, subst, arith, eqb-true, eq-eqb}
 use Rattle.std.specs.List.{AllByRecursion, list_any, range_with_len}
 use Rattle.std.proofs.lemmas.Bool.{cases_Bool, or_cases, and_parts, or_left, or_right, both_ways, not_from_true, not_from_false, false≢true}
@@ -156,7 +157,8 @@ module _ (p : Problem) (a : Assignment) (well : IsWellFormed p) (full : HasFullT
       each_both [] h k = tt
       each_both (q ∷ ps) h k = ((h.0, k.0), each_both ps h.1 k.1)
 
-  -- in each execution the values are a tuple: else a minimal pattern of them is forbidden, and its clause fails
+  -- in each execution the values are a tuple: else a minimal pattern of them
+  -- is forbidden, and its clause fails
   module _ (k : Constraint) (there : In k p.constraints) (inside : All (λ at. at.1 < p.points) k.scope) (long : All (λ tuple. length tuple ≡ length k.scope) k.tuples) where
     at_hand : List ℕ
     at_hand = values_at (map_in p a) k.scope

@@ -41,7 +41,8 @@ abbrev pub FormulaInABoxHasAModelExactlyWhereASolutionLiesThere : Type 0
 FormulaInABoxHasAModelExactlyWhereASolutionLiesThere = (p : Problem) (box : Box)
     → IsWellFormed p → HasFullTuples p → length box ≡ p.points → HasModel (formula_in p box) ↔ HasSolutionIn p box
 
--- the questions of all branches are unsatisfiable exactly where no function on the views is a decision map
+-- the questions of all branches are unsatisfiable exactly where no function
+-- on the views is a decision map
 abbrev pub BranchesAreUnsatisfiableExactlyWhereThereIsNoDecisionMap : Type 0
 BranchesAreUnsatisfiableExactlyWhereThereIsNoDecisionMap = (t : Task) (r : ℕ)
     → IsTask t → All (λ i. IsUnsatisfiable (branch_question t r i)) (below (length (branches t r))) ↔ HasNoDecisionMap t r

@@ -1,4 +1,5 @@
--- The formula of a problem for the maps in a box alone, and the questions of the branches that a problem is cut into.
+-- The formula of a problem for the maps in a box alone, and the questions of
+-- the branches that a problem is cut into.
 use Rattle.std.specs.Prelude.{ℕ, ◌++◌, List, [], ◌∷◌, map, flat_map, filter, not, length, codes, decimal}
 use Rattle.std.specs.List.{slice_index_or}
 use Rattle.wf_model.specs.Lists.{below, has}

@@ -25,7 +25,8 @@ is_blank b = b == 32 || (b == 9 || b == 13)
 abbrev pub words : List ℕ → List (List ℕ)
 words line = filter (λ word. nat_lt 0 (length word)) (slice_split is_blank line)
 
--- lines that begin with one of these words say nothing of the model: comments, and whether there is one
+-- lines that begin with one of these words say nothing of the model:
+-- comments, and whether there is one
 abbrev pub passed_over : List (List ℕ)
 passed_over = codes "c" ∷ codes "s" ∷ codes "SAT" ∷ codes "UNSAT" ∷ codes "INDET" ∷ []
 
@@ -80,8 +81,8 @@ abbrev pub then_literal : {Y : Type 0} → Result Literal SolverFault → (Liter
 then_literal (Ok l) next = next l
 then_literal (Err fault) next = Err fault
 
--- The literals found so far, and those of these words up to the word 0, or to the end. That is on the last line: the one behind
--- the last line feed, which may be empty.
+-- The literals found so far, and those of these words up to the word 0, or to the end. That is on
+-- the last line: the one behind the last line feed, which may be empty.
 abbrev pub model_from : ℕ → ℕ → List Literal → List (ℕ × List ℕ) → Result (List Literal) SolverFault
 model_from variables last found [] = ended last found
 model_from variables last found (at ∷ rest) =

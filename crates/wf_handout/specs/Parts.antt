@@ -36,7 +36,8 @@ dealt_to branches workers k x = cond (nat_lt x branches) (cond (nat_eq (x % work
 abbrev pub IsDealt : ℕ → ℕ → ℕ → List ℕ → Type 0
 IsDealt branches workers k dealt = (x : ℕ) → times x dealt ≡ dealt_to branches workers k x
 
--- what was taken at the two ends of a deque, and what was left in it and joined the list, is what was dealt to it
+-- what was taken at the two ends of a deque, and what was left in it and
+-- joined the list, is what was dealt to it
 abbrev pub IsSettled : Part → Part → List ℕ → List ℕ → Type 0
 IsSettled own raid before after = (x : ℕ) → times x own.taken + times x raid.taken + times x after ≡ times x before + times x own.dealt
 

@@ -1,4 +1,5 @@
--- The rule of one deque: what is in it and what its passes know say together, between any two steps.
+-- The rule of one deque: what is in it and what its passes know say together,
+-- between any two steps.
 use Rattle.std.specs.Prelude.{◌≡◌, ℕ, ◌+◌, ◌<◌, ◌≤◌, List, [], ◌∷◌, ◌++◌, Option, MatchOption}
 use mathlib.Core.Option.{some}
 use lib.ListN.{get_elem?}

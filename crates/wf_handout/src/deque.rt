@@ -1,5 +1,5 @@
-//! One worker's deque of branches. Its owner pops at the front, and one other worker, its raider, steals there. What
-//! was popped, stolen and left is what was dealt, each once.
+//! One worker's deque of branches. Its owner pops at the front, and one other worker, its raider,
+//! steals there. What was popped, stolen and left is what was dealt, each once.
 
 ghost use Rattle.std.specs.Prelude.{◌≡◌, ◌+◌, ◌<◌, ◌≤◌, [], ◌++◌, None, IfOk, OnOk, OnErr};
 ghost use Rattle.crossbeam_deque.specs.Handles.{view as pass_view, worker_deque, stealer_deque, worker_view, worker_flavor, worker_index, worker_capacity, stealer_flavor};
@@ -12,8 +12,8 @@ use std::alloc::{AllocError, Global};
 use std::collections::LinkedList;
 use std::marker::Model;
 
-// What a pass of the deque knows: how many of the two parts it has, what was dealt, and what it has taken. It stands
-// in proofs alone: no value of it is made.
+// What a pass of the deque knows: how many of the two parts it has, what was dealt, and what it has
+// taken. It stands in proofs alone: no value of it is made.
 pub struct Pile {
     pub parts: u8,
     pub dealt: LinkedList<u32>,

@@ -1,8 +1,10 @@
 //! Who searches what: each branch is handed to one worker.
 //!
-//! - [`Handout`]: the promise. A worker takes branches with its share, and what no share took is given back at the end.
+//! - [`Handout`]: the promise. A worker takes branches with its share, and what no share took is
+//!   given back at the end.
 //! - [`Counter`]: one word that counts up. Whoever asks first gets the next branch.
-//! - [`Stealing`]: a deque for each worker, which steals from the next one's where its own is empty.
+//! - [`Stealing`]: a deque for each worker, which steals from the next one's
+//!   where its own is empty.
 #![tactic(auto)]
 
 mod counter;

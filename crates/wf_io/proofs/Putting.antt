@@ -27,8 +27,8 @@ pub beginning-longer : (a b : Writing) (xs ys : List ℕ) → TookBeginning a b 
 beginning-longer a b xs ys (n, within, took) =
     (n, omega (arith, within, length-append xs ys), subst (λ bs. Took a b bs 1) (sym (take-append-le n xs ys within)) took)
 
--- of a text, all but the rest was put: what the sink took and what the page holds, and then the rest, are what the page held
--- at first and the text
+-- of a text, all but the rest was put: what the sink took and what the page holds, and then the
+-- rest, are what the page held at first and the text
 pub record IsPut (old : Writing) (page : List ℕ) (new : Writing) (page' : List ℕ) (text rest : List ℕ) : Type 0 where
   pub taken : List ℕ
   pub took : Took old new taken 0

@@ -27,8 +27,8 @@ abbrev pub failed_reads : Result (List ℕ) ReadFault → ℕ
 failed_reads (Err Read) = 1
 failed_reads result = 0
 
--- What is made of the bytes that a source gave, where a text may have `most` bytes: all of them are the text where
--- the source is at its end, and they are too many where there is one more.
+-- What is made of the bytes that a source gave, where a text may have `most` bytes: all of them are
+-- the text where the source is at its end, and they are too many where there is one more.
 abbrev pub IsText : ℕ → List ℕ → Option (List ℕ) → Result (List ℕ) ReadFault → Type 0
 IsText most given left (Ok text) = (text ≡ given) × (length given ≤ most) × IsAtEnd left
 IsText most given left (Err TooLong) = length given ≡ most + 1
@@ -49,8 +49,9 @@ abbrev pub WritesText : Writing → Writing → List ℕ → Result (Unit {0}) W
 WritesText old new text (Ok done) = Took old new text 0
 WritesText old new text (Err fault) = TookBeginning old new text
 
--- A text was put on a page that is passed on to the sink. What the sink took and what the page holds now are, together, what
--- the page held before and the text; or a call of the sink failed, and it took a beginning of these.
+-- A text was put on a page that is passed on to the sink. What the sink took and what the page
+-- holds now are, together, what the page held before and the text; or a call of the sink failed,
+-- and it took a beginning of these.
 abbrev pub PutsText : Writing → List ℕ → Writing → List ℕ → List ℕ → Result (Unit {0}) WriteFault → Type 0
 PutsText old page new page' text (Ok done) = (taken : List ℕ) × Took old new taken 0 × (taken ++ page' ≡ page ++ text)
 PutsText old page new page' text (Err fault) = TookBeginning old new (page ++ text)

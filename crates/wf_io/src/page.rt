@@ -13,10 +13,11 @@ use std::marker::Model;
 // how many bytes a page has room for
 const ROOM: usize = 65_536;
 
-/// A page of memory for a text that is written in pieces, and may be longer than memory. What is put on it is passed on
-/// to a sink whenever the page is full.
+/// A page of memory for a text that is written in pieces, and may be longer than memory. What is
+/// put on it is passed on to a sink whenever the page is full.
 ///
-/// All room is made at once: no call but [`Page::new`] takes memory. Clauses see the bytes that the page holds.
+/// All room is made at once: no call but [`Page::new`] takes memory. Clauses
+/// see the bytes that the page holds.
 #[derive(Drop)]
 pub struct Page {
     room: Vec<u8>,
@@ -56,8 +57,8 @@ impl Page {
         Ok(())
     }
 
-    /// Passes the bytes of the page on, and puts more on it, or passes these on as well where they are more than it has
-    /// room for.
+    /// Passes the bytes of the page on, and puts more on it, or passes these on as well where they
+    /// are more than it has room for.
     fn put_past<W: Write>(&mut self, sink: &mut Sink<W>, piece: &[u8]) -> Result<(), WriteFault>
         requires { CanWrite sink.old }
         ensures { PutsText sink.old self.old sink.new self.new piece.now result }

@@ -11,7 +11,8 @@ use std::io;
 use std::io::Write;
 use std::marker::Model;
 
-/// A writer, and how many of its calls failed: they answered an error, or took no byte of a piece that had one.
+/// A writer, and how many of its calls failed: they answered an error, or
+/// took no byte of a piece that had one.
 ///
 /// Clauses see what the writer holds, where that is known, and the count.
 #[derive(Drop)]
@@ -65,8 +66,8 @@ impl<W: Write> Sink<W> {
         answer
     }
 
-    /// Writes a value's text, and takes no memory for it. A failure counts once, and then it isn't known how much was
-    /// written.
+    /// Writes a value's text, and takes no memory for it. A failure counts once, and then it isn't
+    /// known how much was written.
     pub fn put<D: Display + Drop>(&mut self, text: D)
         requires { CanWrite self.old }
         ensures { Tells self.old self.new (D.output text) }
@@ -95,7 +96,8 @@ impl<W: Write> Sink<W> {
 #[derive(Clone, Copy, Debug, PartialEq, Eq)]
 pub struct WriteFault;
 
-/// Writes the text and flushes. After a refusal a beginning of the text was written, and nothing else.
+/// Writes the text and flushes. After a refusal a beginning of the text was
+/// written, and nothing else.
 pub fn write_whole<W: Write>(sink: &mut Sink<W>, text: &[u8]) -> Result<(), WriteFault>
     requires { CanWrite sink.old }
     ensures { WritesText sink.old sink.new text.now result }

@@ -52,7 +52,8 @@ impl<R: Read> Source<R> {
         self.failures
     }
 
-    /// One call of the reader: how many bytes it put at the front of the piece, 0 at the end, or its error.
+    /// One call of the reader: how many bytes it put at the front of the
+    /// piece, 0 at the end, or its error.
     pub fn read(&mut self, piece: &mut [u8]) -> io::Result<usize>
         requires failures { self.old.failures < 2 ^ 64 - 1 }
         requires taken { self.old.taken + length piece.old < 2 ^ 64 }

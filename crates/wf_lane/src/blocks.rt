@@ -45,7 +45,8 @@ fn without_met(set: Part, value: u8, is_met: bool) -> Part
 }
 
 impl Column {
-    // The rows of a block that have a value. The block's rows are those of eight words from start on.
+    // The rows of a block that have a value. The block's rows are those of
+    // eight words from start on.
     fn rows_with(&self, value: u8, start: usize) -> u64x8
         requires cut { IsCut self.now }
         requires value { has (part_values self.now.values) value ≡ true }

@@ -1,4 +1,5 @@
-//! The values of a table's rows at one place: a word a row, and of a large table also the set of rows of each value.
+//! The values of a table's rows at one place: a word a row, and of a large
+//! table also the set of rows of each value.
 
 ghost use Rattle.std.specs.Prelude.{◌≡◌, ◌<◌, ◌≤◌, ◌+◌, ◌*◌, ◌++◌, [], cond, IfOk, OnOk};
 ghost use Rattle.std.specs.List.{All};
@@ -15,8 +16,9 @@ pub(crate) const BLOCK_WORDS: usize = 8;
 
 /// The values of rows at one place.
 ///
-/// Where the rows are cut into blocks, each value that occurs has the set of the rows that have it: bit i of its word k
-/// stands for row 64 * k + i. A set has the words of all blocks, and no row past the last one.
+/// Where the rows are cut into blocks, each value that occurs has the set of
+/// the rows that have it: bit i of its word k stands for row 64 * k + i. A
+/// set has the words of all blocks, and no row past the last one.
 #[derive(Drop)]
 pub(crate) struct Column {
     /// Each row's value as a word of one bit.

@@ -81,8 +81,8 @@ fn count_values(rows: &[Row], place: u8) -> usize
     values.count_ones() as usize
 }
 
-// In how many blocks so many rows are cut, with so many values in all places together: none where going through the
-// rows is faster.
+// In how many blocks so many rows are cut, with so many values in all places together: none where
+// going through the rows is faster.
 fn blocks_of(rows: usize, values: usize) -> usize
     requires rows { rows < 2 ^ 32 }
     requires values { values ≤ 256 }
@@ -252,8 +252,9 @@ impl TupleTable {
         Ok(TupleTable { width, kind })
     }
 
-    /// The values that some row supports at each place, of the rows whose values all lie in the candidates, a set for
-    /// each place, and how many such rows there are. Candidates past the width are ignored.
+    /// The values that some row supports at each place, of the rows whose
+    /// values all lie in the candidates, a set for each place, and how many
+    /// such rows there are. Candidates past the width are ignored.
     pub fn revise(&self, candidates: [Mask; 4]) -> Support
         ensures supported { HasSupported result.masks self.now candidates }
         ensures rest { (place : ℕ) → self.now.width ≤ place

@@ -1,4 +1,5 @@
-//! Tables with some value of 64 or more: rows that are kept as they are, and gone through one by one.
+//! Tables with some value of 64 or more: rows that are kept as they are, and
+//! gone through one by one.
 
 ghost use Rattle.std.specs.Prelude.{◌≡◌, ℕ, ◌<◌, ◌≤◌, ◌^◌, ◌&&◌, ◌||◌, All, length, count_by};
 ghost use Rattle.std.specs.List.{list_all};

@@ -19,7 +19,8 @@ use Rattle.wf_lift.proofs.Turns.{turns_add, divided}
 
 -- ---- the words of the rounds before
 
--- a list of words for r + k rounds, with the words of the first r and their place among the lists for r rounds
+-- a list of words for r + k rounds, with the words of the first r and their
+-- place among the lists for r rounds
 pub record Parted (m n r k o : ℕ) (ws : List Word) : Type 0 where
   pub first : List Word
   pub last : List Word
@@ -101,7 +102,8 @@ stretch_at m r k (a ∷ rules) (suc number) before after rule h =
     stretch_at m r k rules number (before + turns m (length a.input) r) (after + turns m (length a.input) (r + k)) rule h
     ∙ (λ i. Some (record { before = b i; after = c i; each = turns m (length rule.input) k }))
 
--- an execution after r + k rounds, its stretch, and the execution after r rounds that it goes on from
+-- an execution after r + k rounds, its stretch, and the execution after r
+-- rounds that it goes on from
 pub record StandsBefore (t : Task) (r k e s : ℕ) (x : Execution) : Type 0 where
   pub rule : Rule
   pub first : List Word

@@ -102,7 +102,8 @@ point_at_place f (v ∷ vs) (suc i) w ascends h =
 
 -- ---- a point, and the one that it goes on from
 
--- a point goes on from another, at which any map has the value that it has at the point when it is lifted
+-- a point goes on from another, at which any map has the value that it has at
+-- the point when it is lifted
 pub record GoesOnWithValue (t : Task) (r k : ℕ) (b a : Built) (v : ℕ) (point : View) : Type 0 where
   pub on : GoesOn b a (stretches (first_block t) r k 0 0 (inputs t)) v
   pub value : (m : View → ℕ) → lifted_by t k m point ≡ slice_index (listed t r m) on.earlier_point

@@ -26,7 +26,8 @@ abbrev pub DecisionMapsLiftByRounds : Type 0
 DecisionMapsLiftByRounds = (t : Task) (r k : ℕ) (m : View → ℕ)
     → IsTask t → IsDecisionMap t r m → IsDecisionMap t (r + k) (lifted_by t k m)
 
--- a map that is the same on a view and its class, as any is where the task is not symmetric, needs no ranks anew
+-- a map that is the same on a view and its class, as any is where the task is
+-- not symmetric, needs no ranks anew
 abbrev pub MapsOfClassesLiftAsTheyAre : Type 0
 MapsOfClassesLiftAsTheyAre = (t : Task) (r : ℕ) (m : View → ℕ)
     → IsTask t → ((v : View) → m (class t v) ≡ m v) → IsDecisionMap t r m → IsDecisionMap t (suc r) (λ v. m (own_before v))

@@ -16,7 +16,8 @@ abbrev pub own_before : View → View
 own_before (base p x) = base p x
 own_before (seen p vs) = own_among p vs
 
--- the point of the own view of the round before: in a symmetric task it has its ranks anew, as fewer processes may occur in it
+-- the point of the own view of the round before: in a symmetric task it has its ranks anew, as
+-- fewer processes may occur in it
 abbrev pub point_before : Task → View → View
 point_before t v = class t (own_before v)
 
@@ -29,7 +30,8 @@ abbrev pub lifted_by : Task → ℕ → (View → ℕ) → View → ℕ
 lifted_by t zero m = m
 lifted_by t (suc k) m = lifted_by t k (lifted t m)
 
--- whatever map has the one list of values over the points after r rounds, the lifted map has the other over those after more
+-- whatever map has the one list of values over the points after r rounds, the lifted map has the
+-- other over those after more
 abbrev pub AreLifted : Task → ℕ → ℕ → List ℕ → List ℕ → Type 0
 AreLifted t r more values after =
     (m : View → ℕ) → listed t r m ≡ values → listed t more (lifted_by t (more - r) m) ≡ after

@@ -7,8 +7,8 @@ use Rattle.wf_complex.specs.Layout.{turns}
 use Rattle.wf_complex.specs.Protocol.{Built, point_in}
 use Rattle.wf_lift.specs.declared.stretch.Stretch.{Stretch}
 
--- the stretch of each of these simplices, of which the first one's executions begin at these places, in a complex after r rounds
--- and in one after k more
+-- the stretch of each of these simplices, of which the first one's executions begin at these
+-- places, in a complex after r rounds and in one after k more
 abbrev pub stretches : ℕ → ℕ → ℕ → ℕ → ℕ → List Simplex → List Stretch
 stretches m r k before after [] = []
 stretches m r k before after (s ∷ ss) =
@@ -19,7 +19,8 @@ stretches m r k before after (s ∷ ss) =
 abbrev pub earlier : Stretch → ℕ → ℕ
 earlier s e = s.before + (e - s.after) / s.each
 
--- where a point of the complex after appears first, and the point that its process has in the execution before
+-- where a point of the complex after appears first, and the point that its
+-- process has in the execution before
 pub record GoesOn (b a : Built) (list : List Stretch) (v : ℕ) : Type 0 where
   pub execution : ℕ
   pub process : ℕ

@@ -1,11 +1,12 @@
-//! A decision map after some rounds gives one after more rounds: each process decides what it would decide at its own view of
-//! the rounds before.
+//! A decision map after some rounds gives one after more rounds: each process decides what it would
+//! decide at its own view of the rounds before.
 //!
-//! - [`lift_values`]: the values of the lifted map at the points, from those of the map; with a look-up for each point, as no view
-//!   is built.
+//! - [`lift_values`]: the values of the lifted map at the points, from those of the map; with a
+//!   look-up for each point, as no view is built.
 //!
-//! The definitions stand in `specs/Lift`: the own view of the round before, and the map that it gives. The other functions are
-//! laws: a body is empty, and the clauses are what is proved. Each clause is one name, which `specs/Laws` defines.
+//! The definitions stand in `specs/Lift`: the own view of the round before, and the map that it
+//! gives. The other functions are laws: a body is empty, and the clauses are what is proved. Each
+//! clause is one name, which `specs/Laws` defines.
 #![tactic(auto)]
 
 mod laws;

@@ -8,8 +8,8 @@ ghost use Rattle.wf_lift.specs.Stretches.{earlier, stretches};
 use std::alloc::{AllocError, Global};
 use wf_simplex::{Simplex, allowed_count};
 
-/// Where the executions on an input simplex begin, in a complex and in one after more rounds, and how many of the later one go on
-/// from each of the earlier one: those stand one after another.
+/// Where the executions on an input simplex begin, in a complex and in one after more rounds, and
+/// how many of the later one go on from each of the earlier one: those stand one after another.
 #[derive(Clone, Copy, Debug)]
 pub(crate) struct Stretch {
     before: u32,
@@ -62,8 +62,8 @@ pub(crate) fn stretches_of(
     Ok(list)
 }
 
-/// How many lists of words for so many rounds there are for a number of participants, each with a first block of at least
-/// `first_block` of them, or all where they are fewer.
+/// How many lists of words for so many rounds there are for a number of participants, each with a
+/// first block of at least `first_block` of them, or all where they are fewer.
 fn turn_count(size: u8, first_block: u8, rounds: u32) -> u32
     requires some { 1 ≤ size }
     requires few { size ≤ most_processes }

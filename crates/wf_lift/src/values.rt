@@ -10,11 +10,12 @@ use std::alloc::{AllocError, Global};
 use wf_complex::Protocol;
 use wf_task::Task;
 
-/// The values of the lifted map at the points of the complex `after`, in their order, from the values of a map at the points of
-/// the complex `before`, which has as many rounds or fewer.
+/// The values of the lifted map at the points of the complex `after`, in their order, from the
+/// values of a map at the points of the complex `before`, which has as many rounds or fewer.
 ///
-/// A point after more rounds appears first in some execution. This goes on from an execution of the fewer rounds, in which the
-/// process has the point of its own view then: there the map is looked up.
+/// A point after more rounds appears first in some execution. This goes on
+/// from an execution of the fewer rounds, in which the process has the point
+/// of its own view then: there the map is looked up.
 pub fn lift_values(
     alloc: Global,
     task: &Task,

@@ -12,12 +12,14 @@ use wf_report::CertFault;
 use wf_rewrite::run_lift;
 use wf_task::{Task, TaskFault};
 
-/// A map of the path of length 3 after one round: alone the processes decide 0 and 3, and where they saw both, 2 and 1.
+/// A map of the path of length 3 after one round: alone the processes decide
+/// 0 and 3, and where they saw both, 2 and 1.
 const PATH: &str =
     "wfcheck report 1\nprocesses 2\nrounds 1\npoints 4\nexecutions 5\nanswer map\nm 0\nm 3\nm 2\nm 1\nend\n";
 
-/// The same map a round later. The points are those of the executions on both processes by the words of the first round 00, 01
-/// and 10: process 0 that saw itself alone in the second round decides what it decides after the first, and so on.
+/// The same map a round later. The points are those of the executions on both processes by the
+/// words of the first round 00, 01 and 10: process 0 that saw itself alone in the second round
+/// decides what it decides after the first, and so on.
 const PATH_LATER: &str =
     "wfcheck report 1\nprocesses 2\nrounds 2\npoints 10\nexecutions 11\nanswer map\nm 0\nm 3\nm 2\nm 1\nm 2\nm 1\nm 0\nm 1\nm 2\nm 3\nend\n";
 

@@ -1,11 +1,11 @@
 //! The lines of a certificate.
 
-/// One line of a certificate: why a box of candidates, one set for each point, holds no decision map, or none that is
-/// smaller than a map.
+/// One line of a certificate: why a box of candidates, one set for each point, holds no decision
+/// map, or none that is smaller than a map.
 #[derive(Clone, Copy, Debug, PartialEq, Eq)]
 pub enum Line {
-    /// `p`: the process can't decide the value in the execution: no tuple that is allowed there has it among the
-    /// candidates. The value is taken out at the process's point.
+    /// `p`: the process can't decide the value in the execution: no tuple that is allowed there has
+    /// it among the candidates. The value is taken out at the process's point.
     Remove {
         // in this order a line takes eight bytes
         /// The process.
@@ -25,7 +25,8 @@ pub enum Line {
         /// The number of the point.
         point: u32,
     },
-    /// `f`: each point has one candidate left: together they are the least decision map. Nothing follows.
+    /// `f`: each point has one candidate left: together they are the least
+    /// decision map. Nothing follows.
     Found,
 }
 

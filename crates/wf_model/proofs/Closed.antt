@@ -94,7 +94,8 @@ supported_where_nothing_lost box k none i c v a at candidate =
     subst (λ n. is_supported_in k box n a ≡ true) z
     (not-false _ (each_with_value (λ b. not (is_supported_in k box (0 + i) b) ≡ false) (candidates box v) a (none_pass (λ b. not (is_supported_in k box (0 + i) b)) (candidates box v) kept) candidate))
 
--- where a sweep loses nothing, each candidate is supported in each execution at each place of its point
+-- where a sweep loses nothing, each candidate is supported in each execution
+-- at each place of its point
 pub closed_supports : (p : Problem) (box : Box) → (sweep p box).lines ≡ [] → (e i c v a : ℕ) (k : Constraint) → slice_get p.constraints e ≡ Some k → slice_get k.scope i ≡ Some (c, v) → has (candidates box v) a ≡ true → is_supported_in k box i a ≡ true
 closed_supports p box stable e i c v a k there at candidate =
     supported_where_nothing_lost box k (each_at (λ q. lost box q ≡ []) p.constraints e k (sweep_nothing box 0 p.constraints stable) there) i c v a at candidate

@@ -95,7 +95,8 @@ lies_with (x ∷ m) (s ∷ box) zero a lies = (has_filtered (λ b. not (b == a))
 lies_with [] (s ∷ box) (suc v) a lies = absurd lies
 lies_with (x ∷ m) (s ∷ box) (suc v) a lies = (lies.0, lies_with m box v a lies.1)
 
--- a box with a candidate at each point, as long as the first, ascending like it, and with no further maps
+-- a box with a candidate at each point, as long as the first, ascending like
+-- it, and with no further maps
 pub record IsInside (box b : Box) : Type 0 where
   pub long : length b ≡ length box
   pub ascending : Ascending box → Ascending b

@@ -1,4 +1,5 @@
--- Lines that a checker of least reports finds no fault in are those of a tree that leads to the map.
+-- Lines that a checker of least reports finds no fault in are those of a tree
+-- that leads to the map.
 use Rattle.std.proofs.Common.{◌≡◌, ℕ, suc, ◌<◌, ◌==◌, ◌⊎◌, true, false, List, [], ◌∷◌, ◌++◌, map, length, Option, Some, None, refl, sym, ap, ◌∙◌, subst, inl, inr, append_assoc, append-nil, eqb-true, eq-eqb, length-set}
 use Rattle.std.specs.List.{AllByRecursion}
 use Rattle.std.specs.Cmp.Lexicographic.{pointwise}
@@ -100,7 +101,8 @@ module _ (p : Problem) (m : List ℕ) where
   abbrev Led : List Box → List Line → Type 0
   Led boxes ls = (ts : Trees) × (lines_each ts ≡ ls) × LedBy ts boxes
 
-  -- the trees of a point's branches and of other boxes: the map is among the branches, or they are all refuted
+  -- the trees of a point's branches and of other boxes: the map is among the
+  -- branches, or they are all refuted
   abbrev Split : ℕ → Box → List ℕ → List Box → Trees → Type 0
   Split v box values boxes ts =
       LeastAmong p m v ts box values

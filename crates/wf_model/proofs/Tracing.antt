@@ -1,4 +1,5 @@
--- Outlines as searches: with the canonical searches of its boxes in their places, an outline is that of the root.
+-- Outlines as searches: with the canonical searches of its boxes in their
+-- places, an outline is that of the root.
 use Rattle.std.proofs.Common.{◌≡◌, ℕ, zero, suc, ◌&&◌, Bool, true, false, List, [], ◌∷◌, ◌++◌, map, flat_map, length, nat_lt, Option, Some, None, sym, refl, ap, ◌∙◌, subst, append-nil}
 use Rattle.std.specs.List.{AllByRecursion, AllZip, list_any}
 use Rattle.std.proofs.lemmas.List.{append_assoc}

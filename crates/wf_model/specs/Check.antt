@@ -26,7 +26,8 @@ abbrev pub place_of : ℕ → ℕ → List Participant → Option (ℕ × ℕ)
 place_of n c [] = None
 place_of n c (at ∷ more) = if at.0 == c then Some (n, at.1) else place_of (suc n) c more
 
--- what a line says of the first box of those that are left to refute: a fault, or the boxes that are left then
+-- what a line says of the first box of those that are left to refute: a
+-- fault, or the boxes that are left then
 pub data Verdict : Type 0 where
   fault : Refusal → Verdict
   left : List Box → Verdict

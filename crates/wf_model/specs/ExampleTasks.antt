@@ -22,7 +22,8 @@ pair_edge (x ∷ []) = []
 pair_edge (x ∷ y ∷ []) = edge x y
 pair_edge (x ∷ y ∷ z ∷ more) = []
 
--- path k: process 0 alone decides 0, process 1 alone decides k, and both decide values up to k that differ by at most 1
+-- path k: process 0 alone decides 0, process 1 alone decides k, and both
+-- decide values up to k that differ by at most 1
 abbrev pub path : ℕ → Task
 path k = record {
   processes = 2;

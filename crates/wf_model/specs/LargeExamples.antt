@@ -52,7 +52,8 @@ sixty_three_boxes_are_cut_on = refl
 pub sixty_four_boxes_are_enough : length (split (free_and_bit 64)) ≡ 64
 sixty_four_boxes_are_enough = refl
 
--- each of n points has 0 or 1, and no later one has more: a level decides one box, and leaves one open
+-- each of n points has 0 or 1, and no later one has more: a level decides one
+-- box, and leaves one open
 abbrev falling : ℕ → Problem
 falling n = record { points = n + 1; values = 0 ∷ 1 ∷ []; constraints = map (λ v. record { scope = (0, v) ∷ (1, v + 1) ∷ []; tuples = (0 ∷ 0 ∷ []) ∷ (1 ∷ 0 ∷ []) ∷ (1 ∷ 1 ∷ []) ∷ [] }) (below n) }
 

@@ -1,5 +1,5 @@
--- What the laws say of boxes: the least solution in a box, the branches of a box, and maps in a list of boxes; of lines
--- that refute a box; and of reports. The laws themselves, by subject.
+-- What the laws say of boxes: the least solution in a box, the branches of a box, and maps in a
+-- list of boxes; of lines that refute a box; and of reports. The laws themselves, by subject.
 use Rattle.std.specs.Prelude.{◌≡◌, ◌<◌, ℕ, List, [], ◌∷◌, length, None, Some}
 use Rattle.std.specs.List.{slice_index_or, AllZip}
 use Rattle.wf_model.specs.Lists.{IsBelowOrSame}
@@ -51,7 +51,8 @@ IsRefutedBy p box ls = (t : Tree) × (lines t ≡ ls) × Refutes p t box
 abbrev pub HasCanonicalLines : Problem → Box → List Line → Type 0
 HasCanonicalLines p box ls = canonical p box ≡ record { lines = ls; map = None }
 
--- one list of lines for each branch of the problem: it refutes that branch; or it is the canonical one
+-- one list of lines for each branch of the problem: it refutes that branch;
+-- or it is the canonical one
 abbrev pub RefuteBranches : Problem → List (List Line) → Type 0
 RefuteBranches p lists = AllZip (IsRefutedBy p) (split p) lists
 
@@ -62,8 +63,8 @@ AreCanonicalForBranches p lists = AllZip (HasCanonicalLines p) (split p) lists
 abbrev pub HasCanonicalMap : Problem → List ℕ → Box → List Line → Type 0
 HasCanonicalMap p m box ls = canonical p box ≡ record { lines = ls; map = Some m }
 
--- one list of lines for each of the first boxes: those of a canonical search that finds no map, and of the last one the
--- lines with which it finds this map
+-- one list of lines for each of the first boxes: those of a canonical search that finds no map, and
+-- of the last one the lines with which it finds this map
 abbrev pub LeadToMap : Problem → List ℕ → List Box → List (List Line) → Type 0
 LeadToMap p m [] lists = ⊥
 LeadToMap p m (box ∷ boxes) [] = ⊥

@@ -1,4 +1,5 @@
--- What is written while the root is cut into branches, with the branches in the place of their lines.
+-- What is written while the root is cut into branches, with the branches in
+-- the place of their lines.
 use Rattle.std.specs.Prelude.{ℕ, zero, suc, nat_lt, ◌&&◌, Bool, true, false, List, [], ◌∷◌, ◌++◌, map, length, flat_map, Option, Some, None}
 use Rattle.std.specs.List.{list_any}
 use Rattle.wf_model.specs.Limits.{enough_boxes, most_levels}

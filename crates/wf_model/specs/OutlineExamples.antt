@@ -5,7 +5,8 @@ use Rattle.wf_model.specs.Problem.{problem_of}
 use Rattle.wf_model.specs.Refutation.{remove, empty, branch, found}
 use Rattle.wf_model.specs.Outline.{written, left_out, outline, filled, filled_up_to}
 
--- the root is closed; point 2 has the candidates 1 and 2; with 1, point 3 has 0 and 1 still; with 2, it has 1 alone
+-- the root is closed; point 2 has the candidates 1 and 2; with 1, point 3 has
+-- 0 and 1 still; with 2, it has 1 alone
 pub path_2_outline : outline (problem_of (path 2) 1)
     ≡ written (remove 0 0 1) ∷ written (remove 0 0 2) ∷ written (remove 1 1 0) ∷ written (remove 1 1 1) ∷ written (remove 3 1 2) ∷ written (remove 4 0 0)
     ∷ written (branch 2)

@@ -1,4 +1,5 @@
--- A constraint problem: the points have numbers, and each execution allows some tuples at its points.
+-- A constraint problem: the points have numbers, and each execution allows
+-- some tuples at its points.
 use Rattle.std.specs.Prelude.{◌≡◌, ◌<◌, ℕ, suc, true, List, [], ◌∷◌, map, length, All, Contains, slice_index, if◌then◌else◌}
 use Rattle.std.specs.List.{slice_index_or}
 use Rattle.wf_model.specs.Lists.{IsBelowOrSame}
@@ -12,7 +13,8 @@ use Rattle.wf_model.specs.Points.{points, class}
 abbrev pub Participant : Type 0
 Participant = ℕ × ℕ
 
--- an execution: its participants by ascending process, and the tuples that are allowed at their points
+-- an execution: its participants by ascending process, and the tuples that
+-- are allowed at their points
 pub record Constraint : Type 0 where
   pub scope : List Participant
   pub tuples : List Tuple
@@ -67,7 +69,8 @@ pub record IsLeastSolution (p : Problem) (m : List ℕ) : Type 0 where
 abbrev pub InRange : Problem → Type 0
 InRange p = All (λ k. All (λ at. at.1 < p.points) k.scope) p.constraints
 
--- what the problem of a task has: ascending values, and executions with a place at least, whose processes ascend and whose points are the problem's
+-- what the problem of a task has: ascending values, and executions with a place at least, whose
+-- processes ascend and whose points are the problem's
 pub record IsWellFormed (p : Problem) : Type 0 where
   pub in_range : InRange p
   pub has_places : All (λ k. 0 < length k.scope) p.constraints

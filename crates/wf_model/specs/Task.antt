@@ -56,7 +56,8 @@ pub record IsRule (outputs : List Simplex) (rule : Rule) : Type 0 where
   pub long : All (λ tuple. length tuple ≡ length rule.input) rule.tuples
   pub listed : All (λ tuple. Contains outputs (zip (processes_of rule.input) tuple)) rule.tuples
 
--- I and O are complexes on the processes, and Delta takes each simplex of I to simplices of O on its processes
+-- I and O are complexes on the processes, and Delta takes each simplex of I
+-- to simplices of O on its processes
 pub record IsDecisionTask (t : Task) : Type 0 where
   pub some_process : 0 < t.processes
   pub input_complex : IsComplexOn t.processes (inputs t)

@@ -1,4 +1,5 @@
-//! Laws of refutations: that they are sound, and that a checker finds no fault exactly in their lines.
+//! Laws of refutations: that they are sound, and that a checker finds no
+//! fault exactly in their lines.
 
 ghost use Rattle.wf_model.specs.Laws.Refutations.{NoTreeRefutesASolution, RefutationLeavesNoMap};
 ghost use Rattle.wf_model.specs.Laws.Refutations.{AcceptedLinesRefute, RefutingLinesAreAccepted};

@@ -107,7 +107,8 @@ take_next xs i h = let e : i + 1 ≡ suc i = omega arith in ap (λ n. take n xs)
 
 -- ---- the state
 
--- the first points have values that are right in all executions that end there, the next one goes on from a value, and what comes before was tried
+-- the first points have values that are right in all executions that end there, the next one goes
+-- on from a value, and what comes before was tried
 pub record IsState (p : Problem) (ends : List (List ℕ)) (xs : List ℕ) (point from : ℕ) : Type 0 where
   pub few : point ≤ p.points
   pub long : length xs ≡ p.points

@@ -54,7 +54,8 @@ below_longer (d ∷ ds) es [] h = absurd h
 below_longer (d ∷ ds) es (x ∷ m) (inl less) = inl less
 below_longer (d ∷ ds) es (x ∷ m) (inr same) = inr (same.0, below_longer ds es m same.1)
 
--- a longer list of values below a bound that begins with a list, is below the list that goes on with the bound
+-- a longer list of values below a bound that begins with a list, is below the
+-- list that goes on with the bound
 pub begins_below : (ds m : List ℕ) (bound : ℕ) → Begins ds m → length ds < length m → AllByRecursion (λ x. x < bound) m → IsBelow m (ds ++ bound ∷ [])
 begins_below [] [] bound h long low = absurd (let none : ⊥ = omega (arith, long) in none)
 begins_below [] (x ∷ m) bound h long low = inl low.0
@@ -70,7 +71,8 @@ below_zero (d ∷ ds) [] h = h
 below_zero (d ∷ ds) (x ∷ m) (inl less) = inl less
 below_zero (d ∷ ds) (x ∷ m) (inr same) = inr (same.0, below_zero ds m same.1)
 
--- of two lists of one length, the first is below the second, or they are equal, or the second is below the first
+-- of two lists of one length, the first is below the second, or they are
+-- equal, or the second is below the first
 pub not_below : (ds m : List ℕ) → length m ≡ length ds → (IsBelow m ds → ⊥) → (ds ≡ m) ⊎ IsBelow ds m
 not_below [] [] long h = inl refl
 not_below [] (x ∷ m) long h = absurd (let none : ⊥ = omega (arith, long) in none)

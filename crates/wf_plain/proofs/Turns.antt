@@ -11,7 +11,8 @@ abbrev before : ℕ → ℕ
 before zero = zero
 before (suc n) = n
 
--- how many turns are left at most where n points are to get a value: these have theirs, and the next tries values from here on
+-- how many turns are left at most where n points are to get a value: these have theirs, and the
+-- next tries values from here on
 abbrev pub turns_left : ℕ → List ℕ → ℕ → ℕ
 turns_left n [] from = (257 - from) * lists_upto n
 turns_left n (a ∷ values) from = (256 - a) * lists_upto n + turns_left (before n) values from

@@ -50,6 +50,7 @@ AreEndsIn b ends = AreEnds b.scopes (length b.points) (length b.scopes) ends
 abbrev pub IsTried : Problem → List ℕ → Type 0
 IsTried p values = (m : List ℕ) → IsSolution p m → IsBelow m values → ⊥
 
--- where no solution comes before these values up to a point with one value there, none does with another one there
+-- where no solution comes before these values up to a point with one value
+-- there, none does with another one there
 abbrev pub IsTriedOn : Problem → List ℕ → ℕ → ℕ → ℕ → Type 0
 IsTriedOn p values point from next = IsTried p (take point values ++ from ∷ []) → IsTried p (take point values ++ next ∷ [])

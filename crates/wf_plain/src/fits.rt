@@ -10,7 +10,8 @@ ghost use Rattle.wf_plain.specs.Plain.{LiesBelow, is_tuple_at, problem_on, satis
 use wf_complex::Protocol;
 use wf_task::{Row, Task};
 
-/// Whether in each of these executions the values at its points are a tuple that the task allows there.
+/// Whether in each of these executions the values at its points are a tuple
+/// that the task allows there.
 pub(crate) fn fits(task: &Task, protocol: &Protocol, executions: &[u32], values: &[u8]) -> bool
     requires built { IsProtocol task.now protocol.now.rounds protocol.now }
     requires valued { All (LiesBelow protocol.now.scopes (length values.now)) executions.now }

@@ -16,11 +16,11 @@ use wf_task::Task;
 /// How many values there are at most.
 const VALUES: u16 = 256;
 
-/// The least decision map of a task on its protocol complex, as the list of its values over the points; or `None`
-/// where there is none.
+/// The least decision map of a task on its protocol complex, as the list of its values over the
+/// points; or `None` where there is none.
 ///
-/// The protocol has to be that of the task. Refused where memory runs out, and for nothing else. There is no bound on the turns that it
-/// takes but the number of all lists of values.
+/// The protocol has to be that of the task. Refused where memory runs out, and for nothing else.
+/// There is no bound on the turns that it takes but the number of all lists of values.
 pub fn least_map(
     alloc: Global,
     task: &Task,
@@ -38,8 +38,8 @@ pub fn least_map(
     }
 }
 
-/// Writes the least decision map, where each list of executions ends at the point of its place. Answers false where
-/// there is none.
+/// Writes the least decision map, where each list of executions ends at the point of its place.
+/// Answers false where there is none.
 fn search(task: &Task, protocol: &Protocol, ends: &[Vec<u32>], values: &mut [u8]) -> bool
     requires built { IsProtocol task.now protocol.now.rounds protocol.now }
     requires ends { AreEndsIn protocol.now (map vec_items ends.now) }
@@ -64,8 +64,8 @@ fn search(task: &Task, protocol: &Protocol, ends: &[Vec<u32>], values: &mut [u8]
     true
 }
 
-/// Gives the point the least value from this one on with which these executions, which end there, are right. Answers
-/// false where there is none.
+/// Gives the point the least value from this one on with which these executions, which end there,
+/// are right. Answers false where there is none.
 fn give_value(
     task: &Task,
     protocol: &Protocol,

@@ -15,15 +15,16 @@ use Rattle.wf_pool.specs.declared.answer.BranchAnswer.TheVariants as at
 pub use Rattle.wf_pool.specs.Branches.{map_lines, refuting_lines}
 use Rattle.wf_pool.specs.Branches.{IsMapAt, AreLinesAt, branch_of}
 
--- The answer of the canonical search of the root: its map, or none, and its lines, as far as such lines are kept
+-- The answer of the canonical search of the root: its map, or none, and its
+-- lines, as far as such lines are kept
 abbrev pub IsAnswer : Problem → KeptLines → Answer → Type 0
 IsAnswer p kept (answer.Map m ls) =
     ((canonical p (root p)).map ≡ Some m.items) × (map line_of ls.items ≡ map_lines kept (canonical p (root p)).lines)
 IsAnswer p kept (answer.Nothing ls) =
     ((canonical p (root p)).map ≡ None) × (map line_of ls.items ≡ refuting_lines kept (canonical p (root p)).lines)
 
--- The least is the branch whose box holds the map, and whose canonical search ends with it; every branch up to it was
--- searched, and each other one was searched or cut
+-- The least is the branch whose box holds the map, and whose canonical search ends with it; every
+-- branch up to it was searched, and each other one was searched or cut
 pub record HasAccountOfMap (p : Problem) (m : List ℕ) (a : Account) : Type 0 where
   pub branches : a.branches ≡ length (split p)
   pub holds : LiesAt m (split p) a.least

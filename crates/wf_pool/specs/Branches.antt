@@ -39,7 +39,8 @@ IsMapOf p box m = (canonical p box).map ≡ Some m
 abbrev pub LeadInBox : Problem → KeptLines → Box → List Line → Type 0
 LeadInBox p kept box ls = map line_of ls ≡ map_lines kept (canonical p box).lines
 
--- the canonical search of the box ends with no map, and these are its lines, as far as those that refute are kept
+-- the canonical search of the box ends with no map, and these are its lines,
+-- as far as those that refute are kept
 abbrev pub AreLinesOf : Problem → KeptLines → Box → List Line → Type 0
 AreLinesOf p kept box ls = ((canonical p box).map ≡ None) × (map line_of ls ≡ refuting_lines kept (canonical p box).lines)
 
@@ -54,8 +55,8 @@ branch_count p = length (split p)
 unfoldable pub has_map : Problem → ℕ → Bool
 has_map p i = is_some (canonical p (branch_of p i)).map
 
--- m is what the canonical search of branch i ends with, and these are its lines if they are kept; or there is no map, and
--- these are its lines if they are kept
+-- m is what the canonical search of branch i ends with, and these are its lines if they are kept;
+-- or there is no map, and these are its lines if they are kept
 unfoldable pub IsMapAt : Problem → KeptLines → ℕ → List ℕ → List Line → Type 0
 IsMapAt p kept i m ls = (i < branch_count p) × IsMapOf p (branch_of p i) m × LeadInBox p kept (branch_of p i) ls
 
@@ -70,12 +71,14 @@ HasLines p kept lists i = AreLinesAt p kept i (lines_at lists i)
 abbrev pub HasEachLines : {A : Type 0} → Problem → KeptLines → ℕ → List (Vec Line A) → Type 0
 HasEachLines p kept n lists = (i : ℕ) → i < n → HasLines p kept (map (λ l. l.items) lists) i
 
--- the lines that were in their places still are, and so are those of these branches, as far as there are places
+-- the lines that were in their places still are, and so are those of these
+-- branches, as far as there are places
 abbrev pub Places : {A : Type 0} → Problem → KeptLines → (ℕ → Type 0) → List (Vec Line A) → List (Vec Line A) → Type 0
 Places p kept branches old new =
     (i : ℕ) → i < length old → HasLines p kept (map (λ l. l.items) old) i ⊎ branches i → HasLines p kept (map (λ l. l.items) new) i
 
--- where branch n has this map, to which its own lines lead, the root has it, to which these lines lead
+-- where branch n has this map, to which its own lines lead, the root has it,
+-- to which these lines lead
 abbrev pub LeadInRoot : Problem → ℕ → List Line → List Line → Type 0
 LeadInRoot p n own ls = (m : List ℕ) → IsMapAt p keep.All n m own → HasCanonicalMap p m (root p) (map line_of ls)
 

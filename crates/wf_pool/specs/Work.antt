@@ -34,9 +34,9 @@ pub record AreFinds (p : Problem) (kept : KeptLines) (f : Finds) : Type 0 where
   pub map : IsMapFound p kept f.map
   pub lines : AreLinesFound p kept f.lines
 
--- What a worker has settled is so, and what it found is kept as long as it may be asked for: the map of a branch that
--- it posted, unless it has seen a lower branch posted; what is kept of the lines of a branch that it refuted, unless it
--- has seen that branch or a lower one posted.
+-- What a worker has settled is so, and what it found is kept as long as it may be asked for: the
+-- map of a branch that it posted, unless it has seen a lower branch posted; what is kept of the
+-- lines of a branch that it refuted, unless it has seen that branch or a lower one posted.
 pub record IsHonest (p : Problem) (kept : KeptLines) (d : Desk) (f : Finds) : Type 0 where
   pub posted : All (λ i. has_map p i ≡ true) d.posted
   pub refuted : All (λ i. has_map p i ≡ false) d.refuted
@@ -54,7 +54,8 @@ pub record HasLooked (d e : Desk) : Type 0 where
   pub same : e ≡ looked d e.seen
   pub down : e.seen ≤ d.seen
 
--- a worker of the board that tells the truth about the problem, and keeps answers of the kernel that are right for it
+-- a worker of the board that tells the truth about the problem, and keeps
+-- answers of the kernel that are right for it
 abbrev pub IsWorker : Problem → KeptLines → Place → Worker → Type 0
 IsWorker p kept b w = IsSeat b w.seat × IsHonest p kept w.seat w.finds × ServeFor p w.answers
 
@@ -117,8 +118,8 @@ HasSettledEach left old new = (x : ℕ) → times x (settled new.seat) ≡ times
 abbrev pub HasSettled : ℕ → Worker → Worker → Type 0
 HasSettled i old new = HasSettledEach (i ∷ []) old new
 
--- a worker that told the truth about a problem still does, whatever lines are kept; and so it does where this holds of the
--- problem
+-- a worker that told the truth about a problem still does, whatever lines are kept; and so it does
+-- where this holds of the problem
 abbrev pub StaysHonest : Worker → Worker → Type 0
 StaysHonest old new = (p : Problem) (kept : KeptLines) → IsHonest p kept old.seat old.finds → IsHonest p kept new.seat new.finds
 

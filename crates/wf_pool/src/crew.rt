@@ -86,8 +86,8 @@ fn put_back<H: Handout, G>(
     (workers, shares)
 }
 
-/// The last worker works in a thread of its own, or after the others where none can be had; the first one works in
-/// this thread. Each worker and share comes back to its place.
+/// The last worker works in a thread of its own, or after the others where none can be had; the
+/// first one works in this thread. Each worker and share comes back to its place.
 pub(crate) fn crew<R: Threads + Sync, H: Handout, G: Gate>(
     rt: &R,
     alloc: Global,

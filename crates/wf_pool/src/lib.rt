@@ -1,26 +1,30 @@
 //! Workers that search the branches of a problem, and the answer that they find together.
 //!
-//! [`solve_one`] searches the branches in order, in this thread. [`solve`] has workers share them out; each worker has
-//! a seat at the board, where it sees the least branch that has a map so far, and a share of the handout. Both answer
-//! what the canonical search of the whole problem finds: its least map, or none; and its lines, if such lines are kept.
-//! [`solve_branch`] searches one branch alone.
+//! [`solve_one`] searches the branches in order, in this thread. [`solve`] has
+//! workers share them out; each worker has a seat at the board, where it sees the
+//! least branch that has a map so far, and a share of the handout. Both answer what
+//! the canonical search of the whole problem finds: its least map, or none; and its
+//! lines, if such lines are kept. [`solve_branch`] searches one branch alone.
 //!
 //! - `gate`: what a caller may watch and hold of the workers.
-//! - `worker`: a seat, what the worker keeps of what it found, and what closing found out on the way.
+//! - `worker`: a seat, what the worker keeps of what it found, and what
+//!   closing found out on the way.
 //! - `site`: what all workers share.
 //! - `watch`: a worker at a branch; it looks at the board before each turn of its search.
 //! - `crew`: all workers, each in a thread of its own where one can be had.
 //! - `answer`: what the workers kept, brought together by branch.
 //! - `solving`: from a problem to its answer and the account of the work.
 //!
-//! A worker keeps one map at most, that of the least branch that it posted, and the lines of the branches that it refuted,
-//! as long as it has seen no lower branch posted. Lines that aren't kept for the answer are given back as soon as their
-//! branch is searched. In the end the others are moved to their places in a list of the branches, or of those up to the
-//! first with a map, and none is copied but into the lines of the root: this takes one list for each branch, and a step
-//! for each list of lines.
+//! A worker keeps one map at most, that of the least branch that it posted, and the
+//! lines of the branches that it refuted, as long as it has seen no lower branch posted.
+//! Lines that aren't kept for the answer are given back as soon as their branch is
+//! searched. In the end the others are moved to their places in a list of the branches,
+//! or of those up to the first with a map, and none is copied but into the lines of the
+//! root: this takes one list for each branch, and a step for each list of lines.
 //!
-//! Each worker, the only one too, begins a branch with what closing found out in its earlier ones. Workers share none of
-//! it, and it is moved with its worker and never copied. It saves time alone: whatever it holds, the answer is the same.
+//! Each worker, the only one too, begins a branch with what closing found out in its earlier ones.
+//! Workers share none of it, and it is moved with its worker and never copied. It saves time alone:
+//! whatever it holds, the answer is the same.
 #![tactic(auto)]
 
 mod answer;

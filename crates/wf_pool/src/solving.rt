@@ -31,16 +31,18 @@ use wf_search::{Cover, Found, search_with, split};
 /// The most workers that [`solve`] takes.
 pub const MAX_WORKERS: u32 = 64;
 
-/// The answer about a problem that several workers find together, and the account of their work. It is the answer of
-/// [`solve_one`], in any schedule: the same map, or none, with the same lines, as far as they are kept. The lines of a
-/// branch that aren't kept are given back as soon as it is searched.
+/// The answer about a problem that several workers find together, and the
+/// account of their work. It is the answer of [`solve_one`], in any schedule:
+/// the same map, or none, with the same lines, as far as they are kept. The
+/// lines of a branch that aren't kept are given back as soon as it is searched.
 ///
-/// No more workers are used than there are branches, and this thread is always the first of them. Each other one has a
-/// thread of its own, unless the gate forbids it or none can be had: then this thread does that worker's work after its
-/// own. The handout `H` says who searches which branch, and what it leaves is searched by this thread at the end.
+/// No more workers are used than there are branches, and this thread is always the first of them.
+/// Each other one has a thread of its own, unless the gate forbids it or none can be had: then this
+/// thread does that worker's work after its own. The handout `H` says who searches which branch,
+/// and what it leaves is searched by this thread at the end.
 ///
-/// Refused out of memory alone. A worker that is refused memory stops, and the others go on; the refusal comes once all
-/// are joined.
+/// Refused out of memory alone. A worker that is refused memory stops, and the others go on; the
+/// refusal comes once all are joined.
 pub fn solve<R: Threads + Sync, H: Handout, G: Gate>(
     rt: &R,
     alloc: Global,
@@ -64,10 +66,10 @@ pub fn solve<R: Threads + Sync, H: Handout, G: Gate>(
     Ok((answer, account))
 }
 
-/// The answer about a problem, and the account of the search: the branches in order, up to the first with a map, whose
-/// map is the least of all. The lines that are kept are those of these branches in their places among the lines of the
-/// root, and the others are given back as soon as their branch is searched. It starts no thread, and returns. Refused out
-/// of memory alone.
+/// The answer about a problem, and the account of the search: the branches in order, up to the
+/// first with a map, whose map is the least of all. The lines that are kept are those of these
+/// branches in their places among the lines of the root, and the others are given back as soon as
+/// their branch is searched. It starts no thread, and returns. Refused out of memory alone.
 pub fn solve_one(
     alloc: Global,
     problem: &Problem,
@@ -121,11 +123,11 @@ pub fn solve_one_watched<G: Gate>(
     Ok((Answer::Nothing(lines), account))
 }
 
-/// What the branch of this number has, from 0: the least of its decision maps, or none. No other branch is searched, so a
-/// map in an earlier one may be smaller. It starts no thread, and returns.
+/// What the branch of this number has, from 0: the least of its decision maps, or none. No other
+/// branch is searched, so a map in an earlier one may be smaller. It starts no thread, and returns.
 ///
-/// The gate is told that there is one branch to search, and then of its search, which is that of worker 0. Refused out of
-/// memory alone.
+/// The gate is told that there is one branch to search, and then of its search, which is that of
+/// worker 0. Refused out of memory alone.
 pub fn solve_branch<G: Gate>(
     alloc: Global,
     problem: &Problem,
@@ -154,8 +156,9 @@ fn branches_of(alloc: Global, problem: &Problem) -> Result<Cover, AllocError>
     split(alloc, problem)
 }
 
-/// What a branch has, by a search that a gate is told of. Of its lines those that aren't kept are dropped as soon as it is
-/// searched. It goes by what closing found out in earlier branches, and leaves what is known then.
+/// What a branch has, by a search that a gate is told of. Of its lines those that aren't kept are
+/// dropped as soon as it is searched. It goes by what closing found out in earlier branches, and
+/// leaves what is known then.
 fn search_whole<G: Gate>(
     alloc: Global,
     problem: &Problem,
@@ -182,8 +185,8 @@ fn search_whole<G: Gate>(
     }
 }
 
-/// The lines that lead to the map of a branch, if they are kept: those of the branches below it, in order, and its own,
-/// in their places among the lines of the root.
+/// The lines that lead to the map of a branch, if they are kept: those of the branches below it, in
+/// order, and its own, in their places among the lines of the root.
 fn lines_to_map(
     alloc: Global,
     problem: &Problem,
@@ -204,7 +207,8 @@ fn lines_to_map(
     }
 }
 
-/// The lines of the branches below one that has a map, in order, and its own, in their places among those of the root.
+/// The lines of the branches below one that has a map, in order, and its own,
+/// in their places among those of the root.
 fn fill_to_map(
     alloc: Global,
     problem: &Problem,
@@ -223,8 +227,8 @@ fn fill_to_map(
     cover.fill_least(alloc, lists)
 }
 
-/// The lines that refute the root, if they are kept: those of all branches, in order, in their places among those of the
-/// root.
+/// The lines that refute the root, if they are kept: those of all branches, in order, in their
+/// places among those of the root.
 fn lines_of_none(
     alloc: Global,
     problem: &Problem,
@@ -361,8 +365,8 @@ fn finish(
     Ok((board.finish(seats), finds))
 }
 
-/// The map of the least branch that has one, and the lines that lead to it if they are kept; or none, and the lines that
-/// refute the root if they are kept.
+/// The map of the least branch that has one, and the lines that lead to it if they are kept; or
+/// none, and the lines that refute the root if they are kept.
 fn answer_of(
     alloc: Global,
     problem: &Problem,

@@ -12,7 +12,8 @@ use std::alloc::{AllocError, Global};
 use wf_board::{Board, BoardSeat};
 use wf_search::{Stop, search_with};
 
-/// The seat of a worker while it searches a branch. It looks before each turn, and stops where a lower branch is posted.
+/// The seat of a worker while it searches a branch. It looks before each
+/// turn, and stops where a lower branch is posted.
 #[derive(Drop)]
 struct Watch<'a, G> {
     board: &'a Board,
@@ -70,8 +71,8 @@ impl<'a, G: Gate> Stop for Told<'a, G> {
     ghost asked_on = { λ m n s t u first second. first ∙ second };
 }
 
-/// Settles a branch that the worker has taken. Its search goes by what closing found out in the worker's earlier branches,
-/// and leaves the worker what is known then.
+/// Settles a branch that the worker has taken. Its search goes by what closing found out in the
+/// worker's earlier branches, and leaves the worker what is known then.
 pub(crate) fn settle<G: Gate>(
     alloc: Global,
     site: &Site<G>,

@@ -1,4 +1,5 @@
-//! A worker: its seat at the board, what it keeps of what it found, and what closing found out on the way.
+//! A worker: its seat at the board, what it keeps of what it found, and what
+//! closing found out on the way.
 
 ghost use Rattle.std.specs.Prelude.{◌≡◌, ◌<◌, IfOk, OnOk, filter, nat_lt};
 ghost use Rattle.wf_pool.specs.Branches.{IsMapAt, AreLinesAt};
@@ -27,14 +28,16 @@ pub(crate) struct LinesAt {
     pub(crate) lines: Lines,
 }
 
-/// What a worker keeps: the map of the least branch that it posted, and the branches that it refuted, with their lines.
+/// What a worker keeps: the map of the least branch that it posted, and the branches that it
+/// refuted, with their lines.
 #[derive(Drop)]
 pub(crate) struct Finds {
     pub(crate) map: Option<MapAt>,
     pub(crate) lines: Vec<LinesAt>,
 }
 
-/// A worker: its seat, its finds, and what closing found out in its branches so far, with which it begins the next one.
+/// A worker: its seat, its finds, and what closing found out in its branches
+/// so far, with which it begins the next one.
 #[derive(Drop)]
 pub(crate) struct Worker {
     pub(crate) seat: BoardSeat,
@@ -58,7 +61,8 @@ impl Worker {
         }
     }
 
-    // Drops the lines that nobody will ask for: those of branches that are not below the least posted one.
+    // Drops the lines that nobody will ask for: those of branches that are
+    // not below the least posted one.
     fn forget(&mut self)
         ensures seat { self.new.seat ≡ self.old.seat }
         ensures honest { StaysHonest self.old self.new }
@@ -102,7 +106,8 @@ impl Worker {
         board.cut(&mut self.seat, branch);
     }
 
-    // Settles a branch by what a search of it found. Of its lines those that aren't kept are dropped first.
+    // Settles a branch by what a search of it found. Of its lines those that
+    // aren't kept are dropped first.
     pub(crate) fn settle(
         self,
         alloc: Global,

@@ -1,5 +1,5 @@
-//! Tests of the pool and of what it stands on, through their public calls: the machine, the board and the handouts, in
-//! one thread, in a known order, and in several threads, in whatever order.
+//! Tests of the pool and of what it stands on, through their public calls: the machine, the board
+//! and the handouts, in one thread, in a known order, and in several threads, in whatever order.
 #![tactic(auto)]
 
 #[cfg(test)]

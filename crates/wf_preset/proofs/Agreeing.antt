@@ -1,4 +1,5 @@
--- The outputs of set agreement: the decisions of all participants, and what they decide in any part of them.
+-- The outputs of set agreement: the decisions of all participants, and what
+-- they decide in any part of them.
 use Rattle.std.proofs.Common.{◌≡◌, ℕ, zero, suc, ◌*◌, ◌^◌, ◌<◌, ◌≤◌, ◌==◌, true, nat_le, List, [], ◌∷◌, length, map, filter, flat_map, zip, count_by, inl, inr, refl, sym, ap, ◌∙◌, subst, arith, le-leb, leb-true, eqb-true}
 use Rattle.std.specs.List.{AllByRecursion}
 use Rattle.std.specs.List.Sorted.{IsStrictlySortedBy}

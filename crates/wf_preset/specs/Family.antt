@@ -54,7 +54,8 @@ all_on s values = map (zip (processes_of s)) (lists_of values (length s))
 abbrev pub images_of : Family → List Simplex → List Simplex
 images_of family inputs = flat_map (λ s. map (zip (processes_of s)) (tuples_for family s)) inputs
 
--- the task of a family with these inputs: its outputs are the tuples of the inputs, with their faces
+-- the task of a family with these inputs: its outputs are the tuples of the
+-- inputs, with their faces
 abbrev pub task_for : ℕ → Bool → Family → List Simplex → Task
 task_for n symmetric family inputs = record {
   processes = n;

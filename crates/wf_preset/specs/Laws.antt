@@ -10,15 +10,15 @@ use Rattle.wf_preset.specs.Preset.{set_agreement_of, renaming_of}
 abbrev pub HasAtMost : ℕ → List ℕ → Type 0
 HasAtMost k xs = (ys : List ℕ) × (length ys ≤ k) × All (Contains ys) xs
 
--- Each participant decides, each decided value is the input of a participant, and at most k different values are
--- decided (Chaudhuri 1993).
+-- Each participant decides, each decided value is the input of a participant, and at most k
+-- different values are decided (Chaudhuri 1993).
 pub record IsAgreement (k : ℕ) (participants : Simplex) (decided : Tuple) : Type 0 where
   pub each : length decided ≡ length participants
   pub valid : All (Contains (values_of participants)) decided
   pub few : HasAtMost k decided
 
--- Each participant decides a name below the bound, and no two names are equal (Attiya, Bar-Noy, Dolev, Peleg and
--- Reischuk 1990).
+-- Each participant decides a name below the bound, and no two names are equal (Attiya, Bar-Noy,
+-- Dolev, Peleg and Reischuk 1990).
 pub record IsRenaming (bound : ℕ) (participants : Simplex) (names : Tuple) : Type 0 where
   pub each : length names ≡ length participants
   pub small : All (λ name. name < bound) names

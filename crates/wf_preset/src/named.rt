@@ -10,8 +10,8 @@ use wf_task::{Task, TaskFault};
 /// A task that has a name, by its numbers.
 #[derive(Clone, Copy, Debug, PartialEq, Eq)]
 pub enum Preset {
-    /// Set agreement (Chaudhuri 1993): each process decides the input of some participant, and at most `k` different
-    /// values are decided.
+    /// Set agreement (Chaudhuri 1993): each process decides the input of some participant, and at
+    /// most `k` different values are decided.
     SetAgreement {
         /// How many processes, from 1 to 4.
         processes: u32,
@@ -20,8 +20,8 @@ pub enum Preset {
         /// What the processes may have as input.
         inputs: Inputs,
     },
-    /// Renaming (Attiya, Bar-Noy, Dolev, Peleg and Reischuk 1990): the processes decide different names, by rank and
-    /// not by process.
+    /// Renaming (Attiya, Bar-Noy, Dolev, Peleg and Reischuk 1990): the processes decide different
+    /// names, by rank and not by process.
     Renaming {
         /// How many processes, from 1 to 4.
         processes: u32,

@@ -1,6 +1,7 @@
 //! Set agreement and renaming, the two families of tasks that have a name.
 //!
-//! Limits are judged by counting: no tuple is kept before it is known that the task is within all limits.
+//! Limits are judged by counting: no tuple is kept before it is known that
+//! the task is within all limits.
 
 ghost use Rattle.std.specs.Prelude.{◌≡◌, ◌==◌, ◌≤◌, ◌++◌, true, All, IfOk, OnOk, map, length, zip, count_by, vec_items};
 ghost use Rattle.wf_model.specs.Lists.{below};
@@ -100,9 +101,10 @@ fn has_values(values: u32) -> bool
     (1..=64).contains(&values)
 }
 
-/// The set agreement task (Chaudhuri 1993): each process decides the input of some participant, and at most `k`
-/// different values are decided. Refused where `processes` is not 1 to 4 ([`TaskFault::Processes`]), where `k` is 0
-/// or the inputs have not 1 to 64 values ([`TaskFault::Value`]), and where its canonical text would break a limit
+/// The set agreement task (Chaudhuri 1993): each process decides the input of some participant, and
+/// at most `k` different values are decided. Refused where `processes` is not 1 to 4
+/// ([`TaskFault::Processes`]), where `k` is 0 or the inputs have not 1 to 64 values
+/// ([`TaskFault::Value`]), and where its canonical text would break a limit
 /// ([`TaskFault::TooMany`]).
 pub fn set_agreement(
     alloc: Global,
@@ -127,9 +129,10 @@ pub fn set_agreement(
     Ok(task_for(alloc, processes, false, family, complex)?)
 }
 
-/// The renaming task: the processes, which all have the same input, decide different names below a bound.
-/// Refused where `processes` is not 1 to 4 ([`TaskFault::Processes`]), where there are not 1 to 64 names
-/// ([`TaskFault::Value`]), and where its canonical text would break a limit ([`TaskFault::TooMany`]).
+/// The renaming task: the processes, which all have the same input, decide different names below a
+/// bound. Refused where `processes` is not 1 to 4 ([`TaskFault::Processes`]), where there are not 1
+/// to 64 names ([`TaskFault::Value`]), and where its canonical text would break a limit
+/// ([`TaskFault::TooMany`]).
 pub fn renaming(alloc: Global, processes: u32, names: u32) -> Result<Task, TaskFault>
     ensures { Gives (λ t. t) result (renaming_of processes names) }
 {
@@ -152,7 +155,8 @@ pub fn renaming(alloc: Global, processes: u32, names: u32) -> Result<Task, TaskF
     Ok(task_for(alloc, processes, true, family, complex)?)
 }
 
-/// The input complex of set agreement, or the limit that it breaks. Where it has too many facets it is not made.
+/// The input complex of set agreement, or the limit that it breaks. Where it
+/// has too many facets it is not made.
 fn input_complex(alloc: Global, processes: u8, inputs: Inputs) -> Result<Complex, TaskFault>
     requires some { 1 ≤ processes }
     requires few { processes ≤ 4 }

@@ -11,8 +11,8 @@ pub data Opening : Type 0 where
 abbrev pub Opens : Type 1
 Opens = List ℕ → Opening → Type 0
 
--- the files; how many were asked for; how many of these could not be opened; and the source of the last, as it was left,
--- where it was opened
+-- the files; how many were asked for; how many of these could not be opened; and the source of the
+-- last, as it was left, where it was opened
 pub record Filing (F : Type 0) : Type 0 where
   pub files : F
   pub asked : ℕ
@@ -27,7 +27,8 @@ CanAsk folder = (folder.asked < 2 ^ 64 - 1) × (folder.failures < 2 ^ 64 - 1)
 abbrev pub unread : Option (List ℕ) → Reading
 unread left = record { left = left; failures = 0; taken = 0 }
 
--- one more file was asked for, and so many that could not be opened; this is its source as it was left, where it was opened
+-- one more file was asked for, and so many that could not be opened; this is its source as it was
+-- left, where it was opened
 abbrev pub after_asking : {F : Type 0} → Filing F → ℕ → Option Reading → Filing F
 after_asking folder failed kept = record { files = folder.files; asked = folder.asked + 1; failures = folder.failures + failed; kept = kept }
 

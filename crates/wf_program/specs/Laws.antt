@@ -43,16 +43,17 @@ abbrev pub kept_taken : Option Reading → ℕ
 kept_taken (Some file) = file.taken
 kept_taken None = 0
 
--- So many files were asked for as the job names, and of what was opened and kept then at most one byte more than a text may
--- have was taken. So many calls failed: a file that can't be opened, or reads of the one that is kept.
+-- So many files were asked for as the job names, and of what was opened and kept then at most one
+-- byte more than a text may have was taken. So many calls failed: a file that can't be opened, or
+-- reads of the one that is kept.
 pub record IsFiled {F : Type 0} (asked : Result Job WordsFault) (folder folder' : Filing F) (failed : ℕ) : Type 0 where
   pub opens : folder'.asked ≡ folder.asked + file_count asked
   pub taken : file_count asked * kept_taken folder'.kept ≤ most_bytes + 1
   pub failures : folder'.failures + file_count asked * kept_failures folder'.kept ≡ folder.failures + failed
 
--- The status is at most 4, and 4 exactly where one call of the source, the sink, the folder or the file that it opened
--- failed. At most one byte more is taken than the text may have that the job reads. At 0 and 1 nothing is told but an account,
--- and nothing is written at 2 and 3.
+-- The status is at most 4, and 4 exactly where one call of the source, the sink, the folder or the
+-- file that it opened failed. At most one byte more is taken than the text may have that the job
+-- reads. At 0 and 1 nothing is told but an account, and nothing is written at 2 and 3.
 pub record IsServed {F : Type 0} (asked : Result Job WordsFault) (folder folder' : Filing F) (source source' : Reading) (sink sink' errors errors' : Writing) (status : ℕ) : Type 0 where
   pub most : status ≤ 4
   pub files : (failed : ℕ) × IsFiled asked folder folder' failed

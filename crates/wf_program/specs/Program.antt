@@ -79,7 +79,8 @@ refusal_text (Clap e negative) = None
 abbrev pub GivenWords : Type 0
 GivenWords = Result (Vec (String Global) Global) WordsFault
 
--- the job that the words ask for, or why there is none; where the words could not be had, that is why
+-- the job that the words ask for, or why there is none; where the words could
+-- not be had, that is why
 abbrev pub IsAsked : GivenWords → Result Job WordsFault → Type 0
 IsAsked (Ok words) asked = Answers (job_asked (map string_bytes words.items)) asked
 IsAsked (Err e) asked = asked ≡ Err e
@@ -142,15 +143,17 @@ DoesWithFile filed.Trim task task' source source' sink sink' done = Ended writte
 DoesWithFile filed.Explain task task' source source' sink sink' done = Ended written Explains task task' source source' sink sink' done
 DoesWithFile (filed.Lift rounds) task task' source source' sink sink' done = Ended written (Lifts rounds) task task' source source' sink sink' done
 
--- One file was asked for and opened, this was done with its task and the source's text, and the file's source is kept as
--- it was left. Or it can't be opened, which is a failed read, and nothing was read or written.
+-- One file was asked for and opened, this was done with its task and the
+-- source's text, and the file's source is kept as it was left. Or it can't be
+-- opened, which is a failed read, and nothing was read or written.
 abbrev pub WithFile : {F : Type 0} → (Opening → Type 0) → DoesBoth (Result Done Refusal) → Filing F → Filing F → Reading → Reading → Writing → Writing → Result Done Refusal → Type 0
 WithFile comes does folder folder' source source' sink sink' done =
     ((left : Option (List ℕ)) × (file' : Reading) × comes (opened left) × (folder' ≡ after_asking folder 0 (Some file'))
     × does (unread left) file' source source' sink sink' done)
     ⊎ (comes refused × (folder' ≡ after_asking folder 1 None) × (done ≡ Err (Run run.Read)) × (source' ≡ source) × (sink' ≡ sink))
 
--- the question of the source's task after so many rounds was written, or that of one of its branches
+-- the question of the source's task after so many rounds was written, or that
+-- of one of its branches
 abbrev pub ListsQuestion : Option ℕ → ℕ → Reading → Reading → Writing → Writing → Result (Unit {0}) RunFault → Type 0
 ListsQuestion None rounds source source' sink sink' result = Lists question_text rounds source source' sink sink' result
 ListsQuestion (Some branch) rounds source source' sink sink' result = ListsBranch branch_text rounds branch source source' sink sink' result
@@ -161,7 +164,8 @@ ListsOf text_of rounds folder folder' source source' sink sink' done =
     (result : Result (Unit {0}) RunFault) × Lists text_of rounds source source' sink sink' result
     × (folder' ≡ folder) × (done ≡ written result)
 
--- what a job asks for was done, its file among those that may be opened under its path; without one no file was asked for
+-- what a job asks for was done, its file among those that may be opened under
+-- its path; without one no file was asked for
 abbrev pub Does : {F : Type 0} → Opens → Job → Filing F → Filing F → Reading → Reading → Writing → Writing → Result Done Refusal → Type 0
 Does opens (Solve rounds workers form account progress) folder folder' source source' sink sink' done =
     (result : Result (Outcome × Account) RunFault) × Solves rounds form source source' sink sink' result

@@ -27,7 +27,8 @@ pub(crate) enum Filed {
     Join(u32),
     /// Report the map of a solver's model for so many rounds.
     Model(u32),
-    /// Check a solver's proof that there is no map after so many rounds, or none in the branch of this number.
+    /// Check a solver's proof that there is no map after so many rounds, or
+    /// none in the branch of this number.
     Proof(u32, Option<u32>),
     /// Tell what a report's map decides.
     Decisions,
@@ -40,7 +41,8 @@ pub(crate) enum Filed {
 }
 
 impl Filed {
-    /// Does it with the task in the file under a path, whose source is kept. A file that can't be opened is a failed read.
+    /// Does it with the task in the file under a path, whose source is kept. A file that can't be
+    /// opened is a failed read.
     pub(crate) fn with_file<T: Threads + Sync, F: Files, R: Read, W: Write>(
         self,
         rt: &T,
@@ -52,7 +54,8 @@ impl Filed {
     ) -> Result<Done, Refusal>
         requires files { CanAsk folder.old }
         requires ends { CanCount source.old sink.old }
-        ensures { WithFile (F.opens folder.old.files path.now) (DoesWithFile self) folder.old folder.new
+        ensures { WithFile (F.opens folder.old.files path.now) (DoesWithFile self) folder.old
+            folder.new
             source.old source.new sink.old sink.new result }
     {
         match folder.open(path) {
@@ -75,7 +78,8 @@ impl Filed {
         sink: &mut Sink<W>,
     ) -> Result<Done, Refusal>
         requires { CanVerify task.old source.old sink.old }
-        ensures { DoesWithFile self task.old task.new source.old source.new sink.old sink.new result }
+        ensures { DoesWithFile self task.old task.new source.old source.new sink.old sink.new
+            result }
     {
         match self {
             Filed::Verify(rounds) => {

@@ -23,10 +23,11 @@ pub trait Files {
         ensures none { IfErr result (λ _. opens self.now path.now refused) };
 }
 
-/// What opens files, how many it was asked for, how many of these could not be opened, and the source of the last, where it
-/// was opened, as a run left it.
+/// What opens files, how many it was asked for, how many of these could not be opened, and the
+/// source of the last, where it was opened, as a run left it.
 ///
-/// Only a folder opens files, so none is opened uncounted, and what was read of one can be seen after the run.
+/// Only a folder opens files, so none is opened uncounted, and what was read
+/// of one can be seen after the run.
 #[derive(Drop)]
 pub struct Folder<F: Files> {
     files: F,
@@ -73,14 +74,16 @@ impl<F: Files> Folder<F> {
         self.failures
     }
 
-    /// The source of the file that was asked for last, as it was left. There is none where that could not be opened.
+    /// The source of the file that was asked for last, as it was left. There
+    /// is none where that could not be opened.
     pub fn kept(&self) -> Option<&Source<F::File>>
         ensures { option_copied result ≡ self.now.kept }
     {
         self.kept.as_ref()
     }
 
-    /// The source of the file under a path, before any call of it. There is none where the file can't be opened.
+    /// The source of the file under a path, before any call of it. There is
+    /// none where the file can't be opened.
     pub(crate) fn open(&mut self, path: &str) -> Option<Source<F::File>>
         requires { CanAsk self.old }
         ensures { AsksFor (F.opens self.old.files path.now) self.old self.new result }

@@ -1,8 +1,10 @@
-//! The whole program, over any reader and any two writers, so that each row of its command line is a row of a test.
+//! The whole program, over any reader and any two writers, so that each row
+//! of its command line is a row of a test.
 //!
-//! [`run_program`] has one condition, that all three ends and the folder can count what a run asks of them, and one relation
-//! (`specs/Program.antt`): the words were judged, what they ask for was done, no file was opened but the one that they name,
-//! and no more was told than a refusal, or the account of a search where the words ask for it.
+//! [`run_program`] has one condition, that all three ends and the folder can count what a run asks
+//! of them, and one relation (`specs/Program.antt`): the words were judged, what they ask for was
+//! done, no file was opened but the one that they name, and no more was told than a refusal, or the
+//! account of a search where the words ask for it.
 #![tactic(auto)]
 
 mod done;

@@ -31,17 +31,17 @@ use wf_io::{Sink, Source};
 use wf_pool::Gate;
 use wf_rewrite::run_executions;
 
-/// Runs what the words ask for, the first of which is the program's own name, and answers the exit status. Where the
-/// words could not be had, that is the refusal.
+/// Runs what the words ask for, the first of which is the program's own name, and answers the exit
+/// status. Where the words could not be had, that is the refusal.
 ///
-/// 0: a map was found, a report or a proof is accepted, or the text was written. 1: there is no map. 2: the task, the
-/// rounds, the report, the proof or the words are refused. 3: memory ran out. 4: a read or a write failed, or a file could
-/// not be opened. A refusal is one line on `errors`, with a second one where words
-/// are read that make no job, and so is the account of a search that was not refused, where the
-/// words ask for it.
+/// 0: a map was found, a report or a proof is accepted, or the text was written. 1: there is no
+/// map. 2: the task, the rounds, the report, the proof or the words are refused. 3: memory ran out.
+/// 4: a read or a write failed, or a file could not be opened. A refusal is one line on `errors`,
+/// with a second one where words are read that make no job, and so is the account of a search that
+/// was not refused, where the words ask for it.
 ///
-/// Where the words ask for progress, the gate is told of a search while it goes on. What a gate does
-/// with that is the caller's: what it writes is no part of `errors`.
+/// Where the words ask for progress, the gate is told of a search while it goes on. What a gate
+/// does with that is the caller's: what it writes is no part of `errors`.
 pub fn run_program<T: Threads + Sync, F: Files, G: Gate, R: Read, W: Write, E: Write>(
     rt: &T,
     alloc: Global,
@@ -174,7 +174,8 @@ fn solve_source<T: Threads + Sync, G: Gate, R: Read, W: Write>(
     }
 }
 
-/// Searches one branch of the question of the source's task. If there is a gate, it is told of the search.
+/// Searches one branch of the question of the source's task. If there is a
+/// gate, it is told of the search.
 fn search_source<G: Gate, R: Read, W: Write>(
     alloc: Global,
     gate: Option<&G>,
@@ -238,7 +239,8 @@ fn show<W: Write, T: Display>(alloc: Global, sink: &mut Sink<W>, text: &T) -> Re
     after_writing(hand_out(sink, answer))
 }
 
-/// The exit status; an account is told, or a refusal. Nothing more can be done where that fails too.
+/// The exit status; an account is told, or a refusal. Nothing more can be
+/// done where that fails too.
 fn end<E: Write>(alloc: Global, errors: &mut Sink<E>, done: Result<Done, Refusal>) -> u8
     requires { CanWrite errors.old }
     ensures { Ends errors.old errors.new done result }
@@ -258,7 +260,8 @@ fn end<E: Write>(alloc: Global, errors: &mut Sink<E>, done: Result<Done, Refusal
     }
 }
 
-/// Writes a text to the error stream, by one call of its writer where there is memory to make the text first.
+/// Writes a text to the error stream, by one call of its writer where there
+/// is memory to make the text first.
 fn tell<E: Write, D: Display + Drop>(alloc: Global, errors: &mut Sink<E>, text: D)
     requires { CanWrite errors.old }
     ensures { Tells errors.old errors.new (D.output text) }

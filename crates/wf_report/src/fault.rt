@@ -32,7 +32,8 @@ pub enum CertFault {
     Unfinished,
     /// 29: this line comes after the last block was closed, or after the map was found.
     Trailing(u32),
-    /// 34: in a report of a least map this line branches at a point that isn't the first with two candidates or more.
+    /// 34: in a report of a least map this line branches at a point that
+    /// isn't the first with two candidates or more.
     NotFirst(u32),
     /// 35: at this line the candidates that are left are not the map alone.
     NotTheMap(u32),

@@ -1,11 +1,13 @@
 //! Reports: what is written about a task and a number of rounds, as a text and read back from it.
 //!
-//! - [`Report`]: a [`Header`], which says what it is about, and a [`Body`], which says what is answered.
+//! - [`Report`]: a [`Header`], which says what it is about, and a [`Body`],
+//!   which says what is answered.
 //! - [`write_report`], [`read_report`]: from a report to its text, and from a text to its report.
 //! - [`Form`]: how much of an answer a report has.
 //! - [`CertFault`]: why a text is no report, or why a report is not accepted.
 //!
-//! The laws say that the text of a report is read as that report, and that what is read as a report is its text.
+//! The laws say that the text of a report is read as that report, and that
+//! what is read as a report is its text.
 #![tactic(auto)]
 
 mod bytes;

@@ -16,7 +16,8 @@ use std::alloc::{AllocError, Global};
 use wf_lines::{Line, Lines};
 use wf_task::LONGEST;
 
-/// The number of the first line of a body, behind the header and the line that says which answer it is.
+/// The number of the first line of a body, behind the header and the line
+/// that says which answer it is.
 pub const FIRST_LINE: u32 = 7;
 
 /// The largest value.
@@ -36,8 +37,8 @@ enum Part {
     Search,
 }
 
-/// The report of a text, or the first line that is not as it should be. A text of more than 16,777,216 bytes is
-/// refused before it is looked at.
+/// The report of a text, or the first line that is not as it should be. A text of more than
+/// 16,777,216 bytes is refused before it is looked at.
 pub fn read_report(alloc: Global, text: &[u8]) -> Result<Report, CertFault>
     ensures read { IsRead result text.now }
     ensures few { IfOk result (λ report. AreNumbered (body_length report.body)) }

@@ -27,8 +27,8 @@ pub enum Body {
     Map(Vec<u8>),
     /// None, by the lines of a refutation. In the verdict form the lines are left out.
     Nothing(Lines),
-    /// The least decision map, and the lines that lead to it: those of a search of the root up to the map, in which all
-    /// smaller candidates are refuted.
+    /// The least decision map, and the lines that lead to it: those of a search of the root up to
+    /// the map, in which all smaller candidates are refuted.
     Least(Vec<u8>, Lines),
 }
 

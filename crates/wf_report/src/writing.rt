@@ -10,9 +10,9 @@ use std::alloc::{AllocError, Global};
 use std::fmt::Write;
 use wf_lines::{Line, put_number, put_words};
 
-/// The text of a report: a header, the values of a map, or the lines of a refutation, or the values of the least map
-/// and the lines that lead to it, and `end`. Every line ends in one line feed, and numbers are decimal. Refused where
-/// memory runs out, and for nothing else.
+/// The text of a report: a header, the values of a map, or the lines of a refutation, or the values
+/// of the least map and the lines that lead to it, and `end`. Every line ends in one line feed, and
+/// numbers are decimal. Refused where memory runs out, and for nothing else.
 pub fn write_report(alloc: Global, report: &Report) -> Result<Vec<u8>, AllocError>
     ensures text { IfOk result (λ text. text.items ≡ report_text (report_seen report.now)) }
 {

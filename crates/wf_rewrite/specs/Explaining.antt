@@ -15,7 +15,8 @@ use Rattle.wf_engine.specs.Laws.{IsChecked}
 use Rattle.wf_engine.specs.declared.fault.RunFault.{RunFault}
 use Rattle.wf_rewrite.specs.Trimming.{AreMade, IsShorter}
 
--- an answer in words: the points, each with the value of the map, or the argument that there is none
+-- an answer in words: the points, each with the value of the map, or the
+-- argument that there is none
 abbrev pub body_explained : Task → ℕ → Body → List ℕ
 body_explained t r (a_map m) = points_text t r m
 body_explained t r (none ls) = argument_text t r ls
@@ -29,8 +30,9 @@ AreExplained = AreMade (λ t r. body_explained t r.rounds r.body)
 abbrev pub Explains : Reading → Reading → Reading → Reading → Writing → Writing → Result (Unit {0}) RunFault → Type 0
 Explains task task' cert cert' sink sink' result = Ran (Checks None AreExplained task task' cert cert') sink sink' result
 
--- Where an explanation ends well, it was given a report that is true, and the sink took the words for the same answer with some
--- of the lines, which is true as well: where it is that there is no map, no function on the views is a decision map.
+-- Where an explanation ends well, it was given a report that is true, and the sink took the words
+-- for the same answer with some of the lines, which is true as well: where it is that there is no
+-- map, no function on the views is a decision map.
 abbrev pub ExplanationsAreTrue : Type 0
 ExplanationsAreTrue =
     (task task' cert cert' : Reading) (sink sink' : Writing)

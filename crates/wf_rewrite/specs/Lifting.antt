@@ -23,7 +23,8 @@ abbrev pub rounds_asked : Option ℕ → ℕ → ℕ
 rounds_asked None r = r + 1
 rounds_asked (Some rounds) r = rounds
 
--- the report of the decision map with these values after r rounds, lifted to more rounds; or these are beyond the limits
+-- the report of the decision map with these values after r rounds, lifted to
+-- more rounds; or these are beyond the limits
 abbrev pub LiftsMap : Task → ℕ → ℕ → List ℕ → Made → Type 0
 LiftsMap t r more values (Ok answer) =
     HasComplex t more × (m : View → ℕ) × IsDecisionMap t r m × (listed t r m ≡ values)
@@ -57,7 +58,7 @@ abbrev pub AsksLift : Option ℕ → Reading → Reading → Reading → Reading
 AsksLift rounds task task' cert cert' made =
     (t : Result Task RunFault) × Reads IsTaskOf task task' t × NextReads (ReadsToLift rounds) cert cert' t made
 
--- The map of a source's report about another source's task was lifted to the rounds that are asked for, or to one more, and the
--- report of the lifted map was written.
+-- The map of a source's report about another source's task was lifted to the rounds that are asked
+-- for, or to one more, and the report of the lifted map was written.
 abbrev pub Lifts : Option ℕ → Reading → Reading → Reading → Reading → Writing → Writing → Result (Unit {0}) RunFault → Type 0
 Lifts rounds task task' cert cert' sink sink' result = Ran (AsksLift rounds task task' cert cert') sink sink' result

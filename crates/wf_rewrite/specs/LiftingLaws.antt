@@ -17,8 +17,9 @@ use Rattle.wf_engine.specs.declared.outcome.Accepted.{Accepted}
 use Rattle.wf_engine.specs.declared.outcome.Accepted.TheVariants as accepted
 use Rattle.wf_rewrite.specs.Lifting.{Lifts, rounds_asked}
 
--- The sources gave the bytes of a task and a true report about it and its r rounds, with the values of a decision map; lifted, the
--- map is a decision map for the other rounds, and the sink took the report of that, whole.
+-- The sources gave the bytes of a task and a true report about it and its r
+-- rounds, with the values of a decision map; lifted, the map is a decision
+-- map for the other rounds, and the sink took the report of that, whole.
 pub record TookLifted (task task' cert cert' : Reading) (sink sink' : Writing) (t : Task) (r rounds : ℕ) : Type 0 where
   pub body : Body
   pub given : GaveTruth task task' cert cert' t r body
@@ -36,8 +37,8 @@ LiftsAreTrue =
     → Lifts rounds task task' cert cert' sink sink' (Ok tt)
     → (t : Task) × (r : ℕ) × TookLifted task task' cert cert' sink sink' t r (rounds_asked rounds r)
 
--- What is written is the text of a report, of which a check that asks for these rounds says that it is accepted, where it has at
--- most as many bytes as a text may have.
+-- What is written is the text of a report, of which a check that asks for these rounds says that it
+-- is accepted, where it has at most as many bytes as a text may have.
 abbrev pub LiftsAreAccepted : Type 0
 LiftsAreAccepted =
     (rounds : Option ℕ) (task task' cert cert' : Reading) (sink sink' : Writing)
@@ -46,7 +47,8 @@ LiftsAreAccepted =
     × (length text ≤ most_bytes → (answer : Result (Accepted × List ℕ) RunFault)
     → ChecksText (Some (rounds_asked rounds r)) t text answer → Accepts accepted.Map answer)
 
--- at most one byte more than a text may have is taken of each source, failed calls are told, and nothing is written at a refusal
+-- at most one byte more than a text may have is taken of each source, failed calls are told, and
+-- nothing is written at a refusal
 abbrev pub LiftingIsCounted : Type 0
 LiftingIsCounted =
     (rounds : Option ℕ) (task task' cert cert' : Reading) (sink sink' : Writing) (result : Result (Unit {0}) RunFault)

@@ -14,13 +14,14 @@ use Rattle.wf_engine.specs.Headline.{AreAsked, GaveTruth}
 use Rattle.wf_engine.specs.Laws.{Accepts, IsChecked}
 use Rattle.wf_rewrite.specs.Trimming.{IsShorter, Trims}
 
--- what a check answers about a text, for the rounds that are asked for, if any are: that this answer is accepted, or memory ran out
+-- what a check answers about a text, for the rounds that are asked for, if any are: that this
+-- answer is accepted, or memory ran out
 abbrev pub IsAcceptedText : Task → ℕ → Body → List ℕ → Type 0
 IsAcceptedText t r body text =
     (rounds : Option ℕ) (answer : Result (Accepted × List ℕ) RunFault) → AreAsked rounds r → ChecksText rounds t text answer → Accepts (accepted_of body) answer
 
--- The text of the report with this answer about a task and its r rounds: it is true, has at most as many bytes as a text may
--- have, is read as that report, and a check of it accepts it.
+-- The text of the report with this answer about a task and its r rounds: it is true, has at most as
+-- many bytes as a text may have, is read as that report, and a check of it accepts it.
 pub record IsGoodText (t : Task) (r : ℕ) (body : Body) (text : List ℕ) : Type 0 where
   pub text_is : text ≡ text_of_report t r body
   pub holds : HoldsOf t r body
@@ -28,8 +29,8 @@ pub record IsGoodText (t : Task) (r : ℕ) (body : Body) (text : List ℕ) : Typ
   pub read : report_of 2 text ≡ Ok (report_about t r body)
   pub accepted : IsAcceptedText t r body text
 
--- Where a trimming ends well, it was given a report that is true, and the sink took such a text about the same task and
--- rounds, with the same answer and some of the lines.
+-- Where a trimming ends well, it was given a report that is true, and the sink took such a text
+-- about the same task and rounds, with the same answer and some of the lines.
 abbrev pub TrimmedReportsAreAccepted : Type 0
 TrimmedReportsAreAccepted =
     (task task' cert cert' : Reading) (sink sink' : Writing)

@@ -33,8 +33,8 @@ report_with r ls = with_body r (with_lines r.body ls)
 abbrev pub IsShorter : Body → Body → Type 0
 IsShorter body shorter = (ls : List Line) × AreAmong ls (lines_of body) × (shorter ≡ with_lines body ls)
 
--- A report with the same numbers and the same answer and some of the lines of another one, in which the checker finds no
--- fault. So it is true.
+-- A report with the same numbers and the same answer and some of the lines of another one, in which
+-- the checker finds no fault. So it is true.
 pub record IsShortened (t : Task) (r new : Report) : Type 0 where
   pub numbers : new ≡ with_body r new.body
   pub shorter : IsShorter r.body new.body
@@ -48,6 +48,7 @@ AreMade made t r answer text = (shorter : Report) × IsShortened t r shorter × 
 abbrev pub AreTrimmed : Task → Report → Unit {0} → List ℕ → Type 0
 AreTrimmed = AreMade (λ t r. report_text r)
 
--- The report of a source was checked against the task of another one, and such a report was written.
+-- The report of a source was checked against the task of another one, and
+-- such a report was written.
 abbrev pub Trims : Reading → Reading → Reading → Reading → Writing → Writing → Result (Unit {0}) RunFault → Type 0
 Trims task task' cert cert' sink sink' result = Ran (Checks None AreTrimmed task task' cert cert') sink sink' result

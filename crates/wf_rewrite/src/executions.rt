@@ -13,10 +13,11 @@ use wf_engine::{RunFault, read_task};
 use wf_io::{Page, Sink, Source};
 use wf_task::Task;
 
-/// Reads a task to the reader's end and writes a line for each of its executions after some rounds: the execution's number, the
-/// execution in words, and its points by ascending process.
+/// Reads a task to the reader's end and writes a line for each of its executions after some rounds:
+/// the execution's number, the execution in words, and its points by ascending process.
 ///
-/// The text may be longer than memory: it is passed on in pieces. Nothing is written before all memory is had.
+/// The text may be longer than memory: it is passed on in pieces. Nothing is
+/// written before all memory is had.
 pub fn run_executions<R: Read, W: Write>(
     alloc: Global,
     source: &mut Source<R>,

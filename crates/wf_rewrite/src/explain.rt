@@ -19,9 +19,10 @@ use wf_io::{Sink, Source};
 use wf_report::{Body, Report};
 use wf_task::Task;
 
-/// Reads a task and a report about it, and checks the report, as [`run_verify`](wf_engine::run_verify) does; then it writes in
-/// words, where the report has a map, the points of the protocol complex with what the map decides at each, and where it says
-/// that there is none, the argument that its lines make, without those that are not needed.
+/// Reads a task and a report about it, and checks the report, as
+/// [`run_verify`](wf_engine::run_verify) does; then it writes in words, where the report has a map,
+/// the points of the protocol complex with what the map decides at each, and where it says that
+/// there is none, the argument that its lines make, without those that are not needed.
 pub fn run_explain<T: Threads + Sync, R: Read, C: Read, W: Write>(
     rt: &T,
     alloc: Global,

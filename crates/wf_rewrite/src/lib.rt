@@ -1,7 +1,7 @@
 //! Engines that write another text that follows from a report about a task, or from a task.
 //!
-//! Those that read a report check it exactly as `verify` does, with the same refusals in the same order, before they make anything
-//! of it.
+//! Those that read a report check it exactly as `verify` does, with the same refusals in the same
+//! order, before they make anything of it.
 //!
 //! - [`run_trim`]: the report with the lines that are needed out.
 //! - [`run_explain`]: the report in words out.

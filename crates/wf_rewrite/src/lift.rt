@@ -21,13 +21,15 @@ use wf_lift::lift_values;
 use wf_report::{Body, Header, Report, write_report};
 use wf_task::Task;
 
-/// Reads a task and a report about it, and checks the report, as [`run_verify`](wf_engine::run_verify) does; then it writes the
-/// report of the report's map lifted to the rounds that are asked for, or to one round more: each point decides what its own view
-/// of the rounds before decides.
+/// Reads a task and a report about it, and checks the report, as
+/// [`run_verify`](wf_engine::run_verify) does; then it writes the report of the report's map lifted
+/// to the rounds that are asked for, or to one round more: each point decides what its own view of
+/// the rounds before decides.
 ///
-/// A report for more rounds than are asked for is refused before it is checked (`36 OtherRounds`); one that says that there is no
-/// map, after it was accepted (`43 NoMap`); and then the limits are judged for the rounds that are asked for (16, 17), before
-/// anything is lifted. The lines of a least map are left out: lifted, it need not be the least.
+/// A report for more rounds than are asked for is refused before it is checked (`36 OtherRounds`);
+/// one that says that there is no map, after it was accepted (`43 NoMap`); and then the limits are
+/// judged for the rounds that are asked for (16, 17), before anything is lifted. The lines of a
+/// least map are left out: lifted, it need not be the least.
 pub fn run_lift<T: Threads + Sync, R: Read, C: Read, W: Write>(
     rt: &T,
     alloc: Global,

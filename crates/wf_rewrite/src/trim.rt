@@ -21,9 +21,10 @@ use wf_report::{Body, CertFault, Report, write_report};
 use wf_task::Task;
 use wf_trim::trim;
 
-/// Reads a task and a report about it, and checks the report, as [`run_verify`](wf_engine::run_verify) does; then it writes
-/// a report about the same task and rounds with the same answer and some of the lines, which is accepted too: of a map
-/// the report that was read.
+/// Reads a task and a report about it, and checks the report, as
+/// [`run_verify`](wf_engine::run_verify) does; then it writes a report about
+/// the same task and rounds with the same answer and some of the lines, which
+/// is accepted too: of a map the report that was read.
 pub fn run_trim<T: Threads + Sync, R: Read, C: Read, W: Write>(
     rt: &T,
     alloc: Global,
@@ -71,11 +72,11 @@ fn trim_report<T: Threads + Sync>(
     Ok(((), write_report(alloc, &shorter)?))
 }
 
-/// A report without a fault that has the same answer and some of the lines of one that has no fault either. Refused where
-/// memory runs out, and for nothing else.
+/// A report without a fault that has the same answer and some of the lines of one that has no fault
+/// either. Refused where memory runs out, and for nothing else.
 ///
-/// The lines that are needed are checked in place of all, unless none was left out; where the checker finds a fault in them,
-/// all are put back.
+/// The lines that are needed are checked in place of all, unless none was left out; where the
+/// checker finds a fault in them, all are put back.
 pub(crate) fn shortened<T: Threads + Sync>(
     rt: &T,
     alloc: Global,
@@ -116,8 +117,8 @@ fn lines_of(body: &Body) -> &[Line]
     }
 }
 
-/// The report with these lines in place of its own, and its own lines, which put back give the report again. A map has none,
-/// and stays as it is.
+/// The report with these lines in place of its own, and its own lines, which put back give the
+/// report again. A map has none, and stays as it is.
 fn exchange_lines(report: Report, lines: Lines) -> (Report, Lines)
     ensures report { let new = map line_of lines.items in
         report_seen result.0 ≡ report_with (report_seen report) new }

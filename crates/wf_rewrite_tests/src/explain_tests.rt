@@ -1,4 +1,5 @@
-//! Tests of telling a report in words. The argument is that of the worked example of its definition.
+//! Tests of telling a report in words. The argument is that of the worked
+//! example of its definition.
 
 use std::test::Fail;
 use wf_engine::RunFault;

@@ -1,4 +1,5 @@
-//! Tests of writing a shorter report. What is written of a report of none is what `gallery/trim.py` writes of it.
+//! Tests of writing a shorter report. What is written of a report of none is
+//! what `gallery/trim.py` writes of it.
 
 use std::io;
 use std::io::Write;
@@ -9,8 +10,8 @@ use wf_io::{Sink, Source};
 use wf_report::CertFault;
 use wf_rewrite::run_trim;
 
-/// Consensus of two can't be decided after a round: point 2 can't have 0 beside point 1, nor 1 beside point 3, which can't have
-/// it beside point 0. No other line needs `p 2 1 0`.
+/// Consensus of two can't be decided after a round: point 2 can't have 0 beside point 1, nor 1
+/// beside point 3, which can't have it beside point 0. No other line needs `p 2 1 0`.
 const NONE: &str =
     "wfcheck report 1\nprocesses 2\nrounds 1\npoints 4\nexecutions 5\nanswer none\np 0 0 1\np 1 1 0\np 3 1 1\np 4 0 0\np 2 1 0\np 2 0 1\nz 2\nend\n";
 
@@ -24,8 +25,8 @@ const BRANCHED: &str =
 const UNBRANCHED: &str =
     "wfcheck report 1\nprocesses 2\nrounds 1\npoints 4\nexecutions 5\nanswer none\np 0 0 1\np 1 1 0\np 4 0 0\np 3 1 1\np 2 0 1\nz 2\nend\n";
 
-/// The path of length 2: point 2 can't have 0 beside point 1, and has 1 in the least map, where point 3 has 0. Its block for 0
-/// doesn't need `p 3 1 2`.
+/// The path of length 2: point 2 can't have 0 beside point 1, and has 1 in the least map, where
+/// point 3 has 0. Its block for 0 doesn't need `p 3 1 2`.
 const LEAST: &str =
     "wfcheck report 1\nprocesses 2\nrounds 1\npoints 4\nexecutions 5\nanswer least\nm 0\nm 2\nm 1\nm 0\np 0 0 1\np 0 0 2\np 1 1 0\np 1 1 1\nb 2\np 3 1 2\np 4 0 0\nz 2\nb 3\nf\nend\n";
 

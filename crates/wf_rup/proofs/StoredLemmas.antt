@@ -123,7 +123,8 @@ kept-on clause old new still (inl refuted) = inl (still.refuted refuted)
 kept-on clause old new still (inr (inl there)) = inr (inl (contains-front old.clauses new.clauses clause still.clauses there))
 kept-on clause old new still (inr (inr (l, inside, there))) = inr (inr (l, inside, contains-front old.literals new.literals l still.literals there))
 
--- where nothing is lost each model is one of what was known, and where clauses are kept it satisfies them
+-- where nothing is lost each model is one of what was known, and where
+-- clauses are kept it satisfies them
 pub models-kept : (clauses : List Clause) (old new : Known) → KnowsStill old new → All (λ clause. IsKept clause new) clauses → (a : Assignment) → IsModelOf a new
     → IsModelOf a old × SatisfiesAll a clauses
 models-kept clauses old new still kept a model =

@@ -4,7 +4,8 @@ use Rattle.wf_clauses.specs.Formula.{Assignment, Clause, Literal, SatisfiesAll, 
 use Rattle.wf_drat.specs.Codes.{literal_of}
 use Rattle.wf_rup.specs.Stored.{Stored}
 
--- what a checker knows: the largest number of a variable, literals, clauses, and whether they were refuted
+-- what a checker knows: the largest number of a variable, literals, clauses,
+-- and whether they were refuted
 pub record Known : Type 0 where
   pub variables : ℕ
   pub literals : List Literal

@@ -77,7 +77,8 @@ head_word = 4294967295
 abbrev pub HasNoHead : List ℕ → Type 0
 HasNoHead words = (place : ℕ) → get_or words place 0 ≡ head_word → ⊥
 
--- where the literals lie of a clause that begins here: behind four words, of which the second says where they end
+-- where the literals lie of a clause that begins here: behind four words, of
+-- which the second says where they end
 abbrev pub span_at : List ℕ → ℕ → Span
 span_at arena place = record { start = place + 4; «end» = get_or arena (place + 1) 0 }
 
@@ -87,7 +88,8 @@ pub record IsWithin (size : ℕ) (span : Span) : Type 0 where
   pub ordered : span.start ≤ span.«end»
   pub bounded : span.«end» ≤ size
 
--- the spans lie within the list, and each before the four words of the next ones; a clause begins where the list says so
+-- the spans lie within the list, and each before the four words of the next
+-- ones; a clause begins where the list says so
 pub record AreLaid (arena : List ℕ) (spans : List Span) : Type 0 where
   pub within : All (IsWithin (length arena)) spans
   pub apart : AllPairs (λ s t. s.«end» + 4 ≤ t.start) spans

@@ -3,7 +3,8 @@ use Rattle.std.specs.Prelude.{◌≡◌, ◌⊎◌, ◌++◌, true, List, Contai
 use Rattle.wf_clauses.specs.Formula.{Clause, Literal, negation}
 use Rattle.wf_rup.specs.Seen.{Known}
 
--- a literal is forced that is assumed, or that is the only one of a clause whose negation isn't forced
+-- a literal is forced that is assumed, or that is the only one of a clause
+-- whose negation isn't forced
 pub data IsForcedBy (clauses : List Clause) (assumed : List Literal) : Literal → Type 0 where
   given : (l : Literal) → Contains assumed l → IsForcedBy clauses assumed l
   last : (clause : Clause) (l : Literal) → Contains clauses clause → Contains clause l

@@ -21,7 +21,8 @@ struct Found {
 
 /// The clauses that are kept, and the number of each under the hash of its literals.
 ///
-/// A clause of a contract sees them as a formula. In the place of one that is no longer kept it sees no literal.
+/// A clause of a contract sees them as a formula. In the place of one that is
+/// no longer kept it sees no literal.
 #[derive(Drop)]
 pub(crate) struct Catalogue {
     clauses: Clauses,
@@ -108,8 +109,8 @@ impl Catalogue {
         self.clauses.watch_at(place, first, second);
     }
 
-    /// Stores a clause that watches these two literals. Refused for want of memory alone, which there is for fewer than
-    /// 2^32 literals.
+    /// Stores a clause that watches these two literals. Refused for want of memory alone, which
+    /// there is for fewer than 2^32 literals.
     pub(crate) fn push(
         &mut self,
         alloc: Global,
@@ -157,7 +158,8 @@ impl Catalogue {
     }
 }
 
-/// The first of these entries that has the hash and is of a kept clause with these literals, if there is one.
+/// The first of these entries that has the hash and is of a kept clause with
+/// these literals, if there is one.
 fn find(
     entries: &[Entry],
     clauses: &Clauses,

@@ -14,8 +14,8 @@ use wf_drat::{Code, Literal};
 
 /// Clauses that are kept, and the literals that they force by unit propagation.
 ///
-/// Contracts see what is known: the literals, the clauses, and whether they were refuted. What is said of a call holds
-/// where memory ran out too.
+/// Contracts see what is known: the literals, the clauses, and whether they were refuted. What is
+/// said of a call holds where memory ran out too.
 #[derive(Drop)]
 pub struct Checker {
     variables: u32,
@@ -33,8 +33,8 @@ impl Model for Checker {
 }
 
 impl Checker {
-    /// A checker that knows nothing, over the variables from 1 to this number. A larger variable is taken too where it
-    /// comes, at the cost of memory for all those before it.
+    /// A checker that knows nothing, over the variables from 1 to this number. A larger variable is
+    /// taken too where it comes, at the cost of memory for all those before it.
     pub fn new(alloc: Global, variables: u32) -> Result<Checker, AllocError>
         ensures nothing { IfOk result KnowsNothing }
         ensures variables { IfOk result (λ checker. checker.variables ≡ variables) }
@@ -53,8 +53,8 @@ impl Checker {
         self.variables
     }
 
-    /// Whether the empty clause was derived, or propagation found a conflict with no assumption: then what was added
-    /// has no model.
+    /// Whether the empty clause was derived, or propagation found a conflict with no assumption:
+    /// then what was added has no model.
     pub fn is_refuted(&self) -> bool
         ensures sound { IsTrue result → HasNoModel self.now }
         ensures exact { result ≡ self.now.is_refuted }
@@ -62,8 +62,8 @@ impl Checker {
         self.database.is_refuted()
     }
 
-    /// Adds a clause, and all that it forces. It is kept, or one of its literals holds from now on, or all is refuted; and
-    /// nothing that was known is lost.
+    /// Adds a clause, and all that it forces. It is kept, or one of its literals holds from now on,
+    /// or all is refuted; and nothing that was known is lost.
     pub fn add(&mut self, alloc: Global, clause: &[Literal]) -> Result<(), AllocError>
         ensures sound { KeepsModelsOf clause.now self.old self.new }
         ensures kept { IfOk result (λ done. IsKept clause.now self.new) }
@@ -73,8 +73,8 @@ impl Checker {
         self.database.add(alloc, &self.codes)
     }
 
-    /// Whether the lemma follows by unit propagation from what is kept and the negated lemma. If so it is added.
-    /// Otherwise nothing changes.
+    /// Whether the lemma follows by unit propagation from what is kept and the negated lemma. If so
+    /// it is added. Otherwise nothing changes.
     pub fn derive(&mut self, alloc: Global, lemma: &[Literal]) -> Result<bool, AllocError>
         ensures follows { IfOk result (λ follows. IsTrue follows → Entails self.old lemma.now) }
         ensures refused { IfOk result (λ follows. follows ≡ false
@@ -88,9 +88,9 @@ impl Checker {
         self.database.derive(alloc, &self.codes)
     }
 
-    /// A clause with these literals is no longer kept, whatever their order is and how often each stands there. Where there
-    /// is none nothing changes: so of a clause that was never kept, as all its literals but one were false when it came.
-    /// A literal that a clause forced stays true.
+    /// A clause with these literals is no longer kept, whatever their order is and how often each
+    /// stands there. Where there is none nothing changes: so of a clause that was never kept, as
+    /// all its literals but one were false when it came. A literal that a clause forced stays true.
     pub fn delete(&mut self, clause: &[Literal]) -> Result<(), AllocError>
         ensures exact { Deletes clause.now self.old self.new }
         ensures found { IfOk result (λ done. HasAlike clause.now self.old

@@ -10,24 +10,26 @@ use wf_drat::Code;
 /// Where this word stands a clause begins: no literal has so large a number.
 const HEAD: Code = u32::MAX;
 
-/// How many words stand before the literals of a clause: that it begins here, where its literals end, and the two that
-/// are watched.
+/// How many words stand before the literals of a clause: that it begins here, where its literals
+/// end, and the two that are watched.
 const HEAD_WORDS: usize = 4;
 
 /// The most words that there are.
 const MOST_WORDS: usize = u32::MAX as usize - 1;
 
-/// Where a clause's literals lie, right behind its other words. Of a clause that is no longer kept there are none.
+/// Where a clause's literals lie, right behind its other words. Of a clause
+/// that is no longer kept there are none.
 #[derive(Clone, Copy, Drop)]
 struct Span {
     start: u32,
     end: u32,
 }
 
-/// The clauses that were stored, one after the other in one list. Where a clause begins, it can be read from that list
-/// alone.
+/// The clauses that were stored, one after the other in one list. Where a clause begins, it can be
+/// read from that list alone.
 ///
-/// A clause of a contract sees them as a formula. In the place of one that is no longer kept it sees no literal.
+/// A clause of a contract sees them as a formula. In the place of one that is
+/// no longer kept it sees no literal.
 #[derive(Drop)]
 pub(crate) struct Clauses {
     arena: Vec<Code>,
@@ -137,8 +139,8 @@ impl Clauses {
         self.spans[number] = Span { start, end: start };
     }
 
-    /// Stores a clause that watches these two literals. Refused for want of memory alone, which there is for fewer than
-    /// 2^32 - 1 words.
+    /// Stores a clause that watches these two literals. Refused for want of memory alone, which
+    /// there is for fewer than 2^32 - 1 words.
     pub(crate) fn push(
         &mut self,
         literals: &[Code],

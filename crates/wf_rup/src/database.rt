@@ -22,7 +22,8 @@ const FEW: usize = 4096;
 
 /// Clauses that are kept, and the literals that they force by unit propagation.
 ///
-/// A clause of a contract sees what is known: the literals, the clauses, and whether they were refuted.
+/// A clause of a contract sees what is known: the literals, the clauses, and
+/// whether they were refuted.
 #[derive(Drop)]
 pub(crate) struct Database {
     trail: Trail,
@@ -60,8 +61,8 @@ impl Database {
         })
     }
 
-    /// Whether the empty clause was derived, or propagation found a conflict with no assumption: then what was added
-    /// has no model.
+    /// Whether the empty clause was derived, or propagation found a conflict with no assumption:
+    /// then what was added has no model.
     pub(crate) fn is_refuted(&self) -> bool
         ensures sound { IsTrue result → HasNoStoredModel self.now }
         ensures exact { result ≡ self.now.is_refuted }
@@ -154,9 +155,11 @@ impl Database {
         Ok(())
     }
 
-    /// Whether the lemma follows by unit propagation from what is kept and the negated lemma. If so it is kept.
+    /// Whether the lemma follows by unit propagation from what is kept and
+    /// the negated lemma. If so it is kept.
     pub(crate) fn derive(&mut self, alloc: Global, lemma: &[Code]) -> Result<bool, AllocError>
-        ensures follows { IfOk result (λ follows. IsTrue follows → StoredEntails self.old lemma.now) }
+        ensures follows { IfOk result
+            (λ follows. IsTrue follows → StoredEntails self.old lemma.now) }
         ensures refused { IfOk result (λ follows. follows ≡ false → Refuses self.old lemma.now) }
         ensures unchanged { IfOk result (λ follows. follows ≡ false → self.new ≡ self.old) }
         ensures stored { IfOk result (λ follows. IsTrue follows → IsStored lemma.now self.new) }
@@ -184,8 +187,8 @@ impl Database {
         }
     }
 
-    /// A clause with these literals is no longer kept. Where there is none nothing changes. What a clause forced stays
-    /// true.
+    /// A clause with these literals is no longer kept. Where there is none nothing changes. What a
+    /// clause forced stays true.
     pub(crate) fn delete(&mut self, clause: &[Code]) -> Result<(), AllocError>
         ensures exact { DeletesStored clause.now self.old self.new }
         ensures found { IfOk result (λ done. HasAlikeStored clause.now self.old

@@ -8,8 +8,8 @@ use crate::trail::Trail;
 use std::alloc::AllocError;
 use wf_drat::Code;
 
-/// A hash of the clause's literals, whatever their order is and how often each stands there. What was seen before is
-/// written over.
+/// A hash of the clause's literals, whatever their order is and how often each stands there. What
+/// was seen before is written over.
 pub(crate) fn hash_of(seen: &mut Trail, clause: &[Code]) -> Result<u32, AllocError>
     ensures { IfOk result (IsHashOf clause.now) }
 {

@@ -1,12 +1,15 @@
-//! A checker of clausal proofs: each lemma follows from the clauses kept by reverse unit propagation (RUP).
+//! A checker of clausal proofs: each lemma follows from the clauses kept by
+//! reverse unit propagation (RUP).
 //!
-//! It knows propositional logic alone, and nothing of who wrote the proof. The promise: where [`Checker::is_refuted`]
-//! answers true, and so where [`Proof::finish`] accepts, the clauses that were added have no common model, whatever the
-//! proof's bytes are. [`check_proof`] says the same of a formula and a proof that are there as a whole.
+//! It knows propositional logic alone, and nothing of who wrote the proof. The promise: where
+//! [`Checker::is_refuted`] answers true, and so where [`Proof::finish`] accepts, the clauses that
+//! were added have no common model, whatever the proof's bytes are. [`check_proof`] says the same
+//! of a formula and a proof that are there as a whole.
 //!
 //! - [`Checker`]: takes the clauses one by one, and the steps of a proof.
-//! - [`Proof`]: reads a proof's text in pieces, and gives a checker each step. What becomes of the steps that the text has
-//!   by its definition, and which fault is of which bytes, is exact (`specs/Fed`).
+//! - [`Proof`]: reads a proof's text in pieces, and gives a checker each
+//!   step. What becomes of the steps that the text has by its definition, and
+//!   which fault is of which bytes, is exact (`specs/Fed`).
 #![tactic(auto)]
 
 mod alike;

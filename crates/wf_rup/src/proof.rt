@@ -1,7 +1,8 @@
 //! The text form of clausal proofs with deletions (DRAT).
 //!
-//! A proof is a list of lemmas and deletions: the literals of a clause in DIMACS, ended by 0, with `d` before those of a
-//! clause that is deleted. A clause may span lines. Lines that begin with `c` between two steps are passed over.
+//! A proof is a list of lemmas and deletions: the literals of a clause in DIMACS, ended by 0, with
+//! `d` before those of a clause that is deleted. A clause may span lines. Lines that begin with `c`
+//! between two steps are passed over.
 
 ghost use Rattle.std.specs.Prelude.{◌≡◌, IfErr, IfOk};
 ghost use Rattle.wf_rup.specs.Fed.{IsFaultAtEnd, IsFaultIn, IsFaultOfStep, IsFaultOfTurn, IsReadIn, IsTurned, TakesStep, fault_at};
@@ -27,8 +28,8 @@ pub enum ProofFault {
         /// The number of the line.
         line: u64,
     },
-    /// The lemma that ends in this line does not follow by unit propagation. Steps that rest on resolution asymmetric
-    /// tautologies (RAT) alone are refused so.
+    /// The lemma that ends in this line does not follow by unit propagation. Steps that rest on
+    /// resolution asymmetric tautologies (RAT) alone are refused so.
     NotImplied {
         /// The number of the line.
         line: u64,
@@ -52,8 +53,8 @@ impl From<AllocError> for ProofFault {
 
 /// A proof that is read piece by piece, and checked step by step.
 ///
-/// Nothing is believed of it: whatever its bytes are, a checker that it refutes had no model before the first piece.
-/// Contracts see where its text is read.
+/// Nothing is believed of it: whatever its bytes are, a checker that it refutes had no model before
+/// the first piece. Contracts see where its text is read.
 #[derive(Drop)]
 pub struct Proof {
     reader: Reader,
@@ -77,12 +78,12 @@ impl Proof {
         }
     }
 
-    /// Reads the next piece: the checker takes its steps one by one. What comes behind the contradiction is passed
-    /// over.
+    /// Reads the next piece: the checker takes its steps one by one. What comes behind the
+    /// contradiction is passed over.
     ///
-    /// A fault is the first one: the steps before it are taken, and none behind it. Either the text has a flaw there, or
-    /// the next step is a lemma that does not follow by unit propagation from what is known then. Behind a fault nothing
-    /// is said of where the text is read.
+    /// A fault is the first one: the steps before it are taken, and none behind it. Either the text
+    /// has a flaw there, or the next step is a lemma that does not follow by unit propagation from
+    /// what is known then. Behind a fault nothing is said of where the text is read.
     pub fn feed(
         &mut self,
         alloc: Global,
@@ -113,8 +114,8 @@ impl Proof {
         Ok(())
     }
 
-    /// Ends the proof, and with it its last line. It is accepted where the contradiction was found, or follows by unit
-    /// propagation.
+    /// Ends the proof, and with it its last line. It is accepted where the contradiction was found,
+    /// or follows by unit propagation.
     pub fn finish(mut self, alloc: Global, checker: &mut Checker) -> Result<(), ProofFault>
         ensures accepted { IfOk result (λ accepted. HasNoModel checker.old) }
         ensures refused { IfErr result (IsFaultAtEnd self checker.old checker.new) }

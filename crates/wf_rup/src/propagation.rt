@@ -23,7 +23,8 @@ enum Outcome {
     Fails,
 }
 
-/// Makes true what the clauses force, given the literals from this place on; whether a clause is false then.
+/// Makes true what the clauses force, given the literals from this place on;
+/// whether a clause is false then.
 pub(crate) fn propagate(
     alloc: Global,
     from: usize,

@@ -31,7 +31,8 @@ pub(crate) fn open_literal(clause: &[Code], trail: &Trail) -> Option<Code>
     None
 }
 
-/// A literal of the clause that is not false, another one than this. Where there is none this one is forced.
+/// A literal of the clause that is not false, another one than this. Where
+/// there is none this one is forced.
 #[inline]
 pub(crate) fn other_open_literal(clause: &[Code], trail: &Trail, known: Code) -> Option<Code>
     ensures none { IfNone result (LeavesAlone trail.now clause.now known) }

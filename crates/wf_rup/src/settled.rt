@@ -1,6 +1,7 @@
 //! Unit propagation that looks at each clause, without what the clauses watch.
 //!
-//! It is asked once what is watched leads no further, before a lemma is refused. So a refusal rests on no watch list.
+//! It is asked once what is watched leads no further, before a lemma is
+//! refused. So a refusal rests on no watch list.
 
 ghost use Rattle.std.specs.Prelude.{◌≡◌, false, IfOk, IsTrue};
 ghost use Rattle.wf_rup.specs.Propagation.{Conflicts, Extends};
@@ -23,7 +24,8 @@ pub(crate) enum Standing {
     Fails,
 }
 
-/// Makes true what the clauses force; whether they are in conflict with the literals that are true then.
+/// Makes true what the clauses force; whether they are in conflict with the
+/// literals that are true then.
 pub(crate) fn settle(clauses: &Catalogue, trail: &mut Trail) -> Result<bool, AllocError>
     ensures trail { Extends (kept_of clauses.now) trail.old trail.new }
     ensures conflict { IfOk result (λ found. IsTrue found

@@ -100,7 +100,8 @@ impl Trail {
     pub(crate) fn put(&mut self, literal: Code) -> Result<(), AllocError>
         ensures front { take (length self.old) self.new ≡ self.old }
         ensures kept { AddsLiteral literal self.old self.new }
-        ensures exact { self.new ≡ (if is_ok result then with_literal self.old literal else self.old) }
+        ensures exact { self.new
+            ≡ (if is_ok result then with_literal self.old literal else self.old) }
     {
         if self.is_true(literal) {
             return Ok(());

@@ -1,14 +1,14 @@
 //! For each literal the clauses that watch it.
 //!
-//! No proof rests on what these lists hold: whatever stands in them is looked up before it is used, and before a lemma is
-//! refused each clause is looked at.
+//! No proof rests on what these lists hold: whatever stands in them is looked up before it is used,
+//! and before a lemma is refused each clause is looked at.
 
 use std::alloc::{AllocError, Global};
 use std::mem;
 use wf_drat::Code;
 
-/// Where a clause begins that watches a literal, and another literal of the clause. Where that one is true the clause need not be
-/// looked at.
+/// Where a clause begins that watches a literal, and another literal of the clause. Where that one
+/// is true the clause need not be looked at.
 #[derive(Clone, Copy, Drop)]
 pub(crate) struct Watch {
     pub(crate) place: u32,

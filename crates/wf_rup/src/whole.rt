@@ -11,7 +11,8 @@ use wf_drat::Literal;
 
 /// Checks a proof that these clauses, on the variables from 1 to this number, have no model.
 ///
-/// Nothing is believed of the proof: whatever its bytes are, a formula of which it is accepted has no model.
+/// Nothing is believed of the proof: whatever its bytes are, a formula of
+/// which it is accepted has no model.
 pub fn check_proof(
     alloc: Global,
     variables: u32,

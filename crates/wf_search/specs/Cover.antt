@@ -47,15 +47,18 @@ IsFilled cover lists lines = map line_of lines.items ≡ filled cover (each_seen
 abbrev pub RefutesRoot : {A B : Type 0} → List Item → List (Vec Line A) → Vec Line B → Type 0
 RefutesRoot cover lists lines = (p : Problem) → cover ≡ outline p → RefuteBranches p (each_seen lists) → IsRefutedBy p (root p) (map line_of lines.items)
 
--- where each list has the canonical lines of its branch, the lines are the canonical ones of the root
+-- where each list has the canonical lines of its branch, the lines are the
+-- canonical ones of the root
 abbrev pub IsCanonicalInRoot : {A B : Type 0} → List Item → List (Vec Line A) → Vec Line B → Type 0
 IsCanonicalInRoot cover lists lines = (p : Problem) → cover ≡ outline p → AreCanonicalForBranches p (each_seen lists) → HasCanonicalLines p (root p) (map line_of lines.items)
 
--- the lines are the cover's up to the last list, with those of the lists in the places of the first branches
+-- the lines are the cover's up to the last list, with those of the lists in
+-- the places of the first branches
 abbrev pub IsFilledUpTo : {A B : Type 0} → List Item → List (Vec Line A) → Vec Line B → Type 0
 IsFilledUpTo cover lists lines = map line_of lines.items ≡ filled_up_to cover (each_seen lists)
 
--- where the lists lead to a map in the first branches, the lines are the canonical ones of the root that lead to it
+-- where the lists lead to a map in the first branches, the lines are the
+-- canonical ones of the root that lead to it
 abbrev pub LeadsToMapInRoot : {A B : Type 0} → List Item → List (Vec Line A) → Vec Line B → Type 0
 LeadsToMapInRoot cover lists lines =
     (p : Problem) (m : List ℕ) → cover ≡ outline p → LeadToMap p m (split p) (each_seen lists) → HasCanonicalMap p m (root p) (map line_of lines.items)

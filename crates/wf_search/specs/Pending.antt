@@ -47,7 +47,8 @@ all_left b (f ∷ fs) = all_left b fs ++ branches_left b f
 abbrev pub pending_seen : Inside → Boxes
 pending_seen p = record { problem = p.problem.now; boxes = p.current.sets ∷ all_left p.current p.frames.items }
 
--- the box can be given the state that it had, some values are left, and they were candidates of the point
+-- the box can be given the state that it had, some values are left, and they
+-- were candidates of the point
 pub record IsFrame (p : Problem) (b : Tracked) (f : Frame) : Type 0 where
   pub within : f.mark.changes ≤ length b.trail
   pub closed : OnTrue f.mark.is_closed (WasClosed p b f.mark.changes)

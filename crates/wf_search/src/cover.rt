@@ -15,14 +15,17 @@ use wf_lines::Lines;
 /// How often each box is branched at most.
 const MOST_LEVELS: u32 = 8;
 
-/// The branches of a problem's root, numbered from 0, and the lines that were written while the root was cut into them.
+/// The branches of a problem's root, numbered from 0, and the lines that were
+/// written while the root was cut into them.
 ///
-/// Each branch is a closed box with a candidate at every point. Each decision map in the root lies in one branch, and
-/// maps in earlier branches are below those in later ones: so the first branch that has a map has the least of all.
-/// Where none has a map, [`Cover::fill`] makes one refutation of the root from those of the branches, and where one has,
-/// [`Cover::fill_least`] makes the lines that lead to the least map.
+/// Each branch is a closed box with a candidate at every point. Each decision map in the root lies
+/// in one branch, and maps in earlier branches are below those in later ones: so the first branch
+/// that has a map has the least of all. Where none has a map, [`Cover::fill`] makes one refutation
+/// of the root from those of the branches, and where one has, [`Cover::fill_least`] makes the lines
+/// that lead to the least map.
 ///
-/// A clause sees it as those lines, with each branch in the place of the lines that would refute it.
+/// A clause sees it as those lines, with each branch in the place of the
+/// lines that would refute it.
 #[derive(Drop)]
 pub struct Cover {
     outline: Outline,
@@ -59,11 +62,13 @@ impl Cover {
         self.outline.copy_box(alloc, number as usize)
     }
 
-    /// The lines of the root, with those of a list for each branch, in order, in the places of the branches.
+    /// The lines of the root, with those of a list for each branch, in order,
+    /// in the places of the branches.
     ///
-    /// Where each list refutes its branch, the lines refute the root, and where each is the one that [`search`] finds,
-    /// they are those of a search of the root. Each list is given back as soon as its lines are copied. Refused out of
-    /// memory alone, and the lists are then given back too.
+    /// Where each list refutes its branch, the lines refute the root, and
+    /// where each is the one that [`search`] finds, they are those of a search
+    /// of the root. Each list is given back as soon as its lines are copied.
+    /// Refused out of memory alone, and the lists are then given back too.
     ///
     /// [`search`]: crate::search
     pub fn fill(&self, alloc: Global, lists: Vec<Lines>) -> Result<Lines, AllocError>
@@ -75,11 +80,12 @@ impl Cover {
         self.outline.fill(alloc, lists)
     }
 
-    /// The lines of the root up to the last of some lists, one for each of the first branches, in order, with those of the
-    /// lists in the places of these branches.
+    /// The lines of the root up to the last of some lists, one for each of the first branches, in
+    /// order, with those of the lists in the places of these branches.
     ///
-    /// Where each list is the one that [`search`] finds for its branch, and the last alone is that of a map, the lines
-    /// are those of a search of the root, which lead to that map. Each list is given back as soon as its lines are
+    /// Where each list is the one that [`search`] finds for its branch, and the
+    /// last alone is that of a map, the lines are those of a search of the root,
+    /// which lead to that map. Each list is given back as soon as its lines are
     /// copied. Refused out of memory alone, and the lists are then given back too.
     ///
     /// [`search`]: crate::search
@@ -93,9 +99,9 @@ impl Cover {
     }
 }
 
-/// The branches of a problem: its root is closed, and then each box with an open point gives way to its closed branches
-/// at the first such point, level by level, until there are 64 boxes, none is open, or this was done 8 times. Refused
-/// out of memory alone.
+/// The branches of a problem: its root is closed, and then each box with an open point gives way to
+/// its closed branches at the first such point, level by level, until there are 64 boxes, none is
+/// open, or this was done 8 times. Refused out of memory alone.
 pub fn split(alloc: Global, problem: &Problem) -> Result<Cover, AllocError>
     ensures outline { IfOk result (λ cover. cover ≡ outline problem.now) }
     ensures branches { IfOk result (λ cover. boxes_left_out cover ≡ split problem.now) }

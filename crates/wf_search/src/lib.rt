@@ -1,12 +1,15 @@
 //! The canonical search of one box, and the split of a problem's root into branches.
 //!
-//! - [`search`]: the least decision map in a box and the lines that lead to it, or the lines of a refutation. A [`Stop`]
-//!   can end it. [`search_with`]: the same, for several boxes of one problem in turn.
-//! - [`split`]: the branches of a problem, in order, as a [`Cover`], which makes one refutation of the root from those
-//!   of its branches, or the lines that lead to its least map from those of the branches up to the map's.
+//! - [`search`]: the least decision map in a box and the lines that lead to
+//!   it, or the lines of a refutation. A [`Stop`] can end it.
+//!   [`search_with`]: the same, for several boxes of one problem in turn.
+//! - [`split`]: the branches of a problem, in order, as a [`Cover`], which makes one refutation of
+//!   the root from those of its branches, or the lines that lead to its least map from those of the
+//!   branches up to the map's.
 //!
-//! A turn of the search closes a box, and goes on at the first point that has two candidates or more. Memory is taken
-//! only where the search goes deeper than before, one box a level, and for lines.
+//! A turn of the search closes a box, and goes on at the first point that has
+//! two candidates or more. Memory is taken only where the search goes deeper
+//! than before, one box a level, and for lines.
 #![tactic(auto)]
 
 mod cover;

@@ -115,7 +115,8 @@ impl Outline {
         Ok(lines)
     }
 
-    /// The lines up to the last of the lists, with those of the lists in the places of the first boxes.
+    /// The lines up to the last of the lists, with those of the lists in the
+    /// places of the first boxes.
     pub(crate) fn fill_up_to(&self, alloc: Global, lists: Vec<Lines>) -> Result<Lines, AllocError>
         requires some { 0 < length lists.items }
         requires few { length lists.items ≤ length (boxes_left_out self.now) }
@@ -198,8 +199,8 @@ impl Outline {
         Ok(boxed)
     }
 
-    /// Writes the branching of a closed box and the lines of closing its branches; where it has no open point, the lines
-    /// that refute it are left out.
+    /// Writes the branching of a closed box and the lines of closing its branches; where it has no
+    /// open point, the lines that refute it are left out.
     fn open(
         &mut self,
         alloc: Global,
@@ -257,8 +258,8 @@ fn has_open(slots: &[Slot]) -> bool
     slots.iter().any(|slot| slot.boxed.first_open().is_some())
 }
 
-/// The lines before each box and those of its list, for as many boxes as there are lists. Each list is given back as soon
-/// as its lines are copied.
+/// The lines before each box and those of its list, for as many boxes as there are lists. Each list
+/// is given back as soon as its lines are copied.
 fn fill_slots(alloc: Global, slots: &[Slot], lists: Vec<Lines>) -> Result<Lines, AllocError>
     ensures { IfOk result (AreSlotsFilled slots.now lists.items) }
 {

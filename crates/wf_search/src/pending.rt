@@ -16,8 +16,8 @@ use wf_box::{Answers, Box0, Closed, Mark, Problem, close};
 use wf_lines::Lines;
 use wf_set::{Mask, is_empty, split_first};
 
-/// A point at which the box branched: the state of the box then, and the point's values whose branches are still to
-/// come.
+/// A point at which the box branched: the state of the box then, and the point's values whose
+/// branches are still to come.
 #[derive(Clone, Copy, Debug)]
 struct Frame {
     mark: Mark,
@@ -27,8 +27,8 @@ struct Frame {
 
 /// The boxes of a problem that are still to be searched, in order, of which there is one at least.
 ///
-/// The first one is at hand. The others are branches of earlier states of the same box, and it is made each of them in
-/// turn. Nothing outside this file knows how the boxes are kept.
+/// The first one is at hand. The others are branches of earlier states of the same box, and it is
+/// made each of them in turn. Nothing outside this file knows how the boxes are kept.
 #[derive(Drop)]
 pub(crate) struct Pending<'a> {
     problem: &'a Problem,

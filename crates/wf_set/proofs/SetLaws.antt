@@ -133,7 +133,8 @@ word_there v h = omega (arith, h)
 bit_there : (v : ℕ) → v % 64 < 64
 bit_there v = omega arith
 
--- the words that two sets have at a place, and there the values that the first has and the other keeps by its word
+-- the words that two sets have at a place, and there the values that the
+-- first has and the other keeps by its word
 abbrev pub IsKeptBy : (ℕ → ℕ → Bool) → List ℕ → List ℕ → List ℕ → ℕ → Type 0
 IsKeptBy keeps set other kept k = part_values (part_of kept k) ≡ filter (keeps (part_of other k)) (part_values (part_of set k))
 

@@ -1,7 +1,8 @@
 //! Sets of values below 256: four machine words, the value v in the word v / 64 at the bit v % 64.
 //!
-//! A clause sees a set as the ascending list of its values, `values_in`, and each call is exact. Whoever goes through
-//! these calls alone knows nothing of words and bits. [`part`] has the same for a single word.
+//! A clause sees a set as the ascending list of its values, `values_in`, and
+//! each call is exact. Whoever goes through these calls alone knows nothing
+//! of words and bits. [`part`] has the same for a single word.
 //!
 //! No call takes memory.
 #![tactic(auto)]

@@ -1,6 +1,7 @@
 //! Parts of a set: 64 values in a machine word, where bit v stands for value v.
 //!
-//! A clause sees a part as the ascending list of its values, `part_values`, and each call is exact. No call takes memory.
+//! A clause sees a part as the ascending list of its values, `part_values`,
+//! and each call is exact. No call takes memory.
 
 ghost use Rattle.std.specs.Prelude.{◌≡◌, ◌<◌, ◌≤◌, ◌==◌, ◌∷◌, [], true, not, filter, length, slice_index, IfSome, MatchOption};
 ghost use Rattle.wf_model.specs.Lists.{has};

@@ -15,7 +15,8 @@ allows m n index = is_allowed m (word_at n index)
 places : ℕ → ℕ → List ℕ
 places m n = filter (allows m n) (range_with_len (start_of n) (end_of n - start_of n))
 
--- the first of these places among the next places from here on; where there is none, the end of them
+-- the first of these places among the next places from here on; where there
+-- is none, the end of them
 pub seek : ℕ → ℕ → ℕ → ℕ → ℕ
 seek m n index zero = index
 seek m n index (suc left) = if allows m n index then index else seek m n (index + 1) left

@@ -30,7 +30,8 @@ impl Model for Complex {
 }
 
 impl Complex {
-    /// The faces of these simplices. It takes n log n steps, and memory for twice the different faces.
+    /// The faces of these simplices. It takes n log n steps, and memory for
+    /// twice the different faces.
     pub fn from_facets(alloc: Global, facets: &[Simplex]) -> Result<Complex, AllocError>
         requires { length facets.now ≤ most_facets }
         ensures { IfOk result (λ c. c ≡ complex_of facets.now) }

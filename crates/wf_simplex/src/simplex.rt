@@ -39,8 +39,8 @@ impl fmt::Display for SimplexFault {
 
 /// A simplex: some of the processes 0 to 3, at least one, each with a value of at most 255.
 ///
-/// A clause sees it as the list of its vertices, the pairs of a process and its value, by ascending process.
-/// Simplices are ordered by size, and then as these lists.
+/// A clause sees it as the list of its vertices, the pairs of a process and its value, by ascending
+/// process. Simplices are ordered by size, and then as these lists.
 #[derive(Clone, Copy, Debug)]
 pub struct Simplex {
     // the value of each process that takes part
@@ -66,7 +66,8 @@ impl Model for Simplex {
 }
 
 impl Simplex {
-    /// The simplex of these pairs of a process and its value, or the first reason why they are none.
+    /// The simplex of these pairs of a process and its value, or the first
+    /// reason why they are none.
     pub fn read(pairs: &[(u8, u8)]) -> Result<Simplex, SimplexFault>
         ensures { MatchResult result
             (λ s. (read_fault pairs.now ≡ None) × (s ≡ pairs.now))
@@ -203,8 +204,8 @@ fn is_within(entry: Option<u8>, other: Option<u8>) -> bool
     }
 }
 
-/// How two entries of one process order their simplices: of two simplices of one size the one in which
-/// the process takes part comes first, since the other's next process is a later one.
+/// How two entries of one process order their simplices: of two simplices of one size the one in
+/// which the process takes part comes first, since the other's next process is a later one.
 fn entry_cmp(entry: Option<u8>, other: Option<u8>) -> Ordering
     ensures { result ≡ entry_cmp entry other }
 {

@@ -7,7 +7,8 @@ ghost use Rattle.wf_simplex.specs.WordTable.{start_of, end_of};
 
 use std::marker::Model;
 
-/// The words of one participant, then of two, of three and of four, each time in order; filled up by zeros.
+/// The words of one participant, then of two, of three and of four, each time
+/// in order; filled up by zeros.
 static WORDS: [[u8; 4]; 92] = [
     [0, 0, 0, 0],
     [0, 0, 0, 0],
@@ -105,9 +106,9 @@ static WORDS: [[u8; 4]; 92] = [
 
 /// One immediate snapshot of one to four participants, as an ordered partition of them.
 ///
-/// A clause sees it as the list of the numbers of their blocks, by ascending process. With a block each
-/// smaller number is one too. A participant sees those whose block is its own or an earlier one.
-/// The words of a size are ordered as these lists.
+/// A clause sees it as the list of the numbers of their blocks, by ascending process. With a block
+/// each smaller number is one too. A participant sees those whose block is its own or an earlier
+/// one. The words of a size are ordered as these lists.
 #[derive(Clone, Copy, Debug)]
 pub struct Word {
     size: u8,
@@ -143,8 +144,8 @@ impl Word {
         Word::first_allowed(size, 1)
     }
 
-    /// The first word of a size whose first block has at least m participants, or all where they are fewer: all in one
-    /// block.
+    /// The first word of a size whose first block has at least m participants, or all where they
+    /// are fewer: all in one block.
     pub fn first_allowed(size: u8, m: u8) -> Word
         requires some { 1 ≤ size }
         requires few { size ≤ 4 }
@@ -170,8 +171,8 @@ impl Word {
         self.next_allowed(1)
     }
 
-    /// Goes on to the next word of the size whose first block has at least m participants, or all where they are fewer.
-    /// At the last of them it stays and answers false.
+    /// Goes on to the next word of the size whose first block has at least m participants, or all
+    /// where they are fewer. At the last of them it stays and answers false.
     pub fn next_allowed(&mut self, m: u8) -> bool
         requires one { 1 ≤ m }
         requires most { m ≤ 4 }
@@ -232,7 +233,8 @@ impl Word {
         WORDS[self.index as usize][i as usize]
     }
 
-    /// Whether participant i sees participant j: whether the block of j is that of i or an earlier one.
+    /// Whether participant i sees participant j: whether the block of j is
+    /// that of i or an earlier one.
     pub fn sees(&self, i: u8, j: u8) -> bool
         requires i { i < length self.now }
         requires j { j < length self.now }
@@ -251,7 +253,8 @@ pub fn word_count(size: u8) -> u32
     allowed_count(size, 1)
 }
 
-/// How many words of a size have a first block of at least m participants, or of all where they are fewer.
+/// How many words of a size have a first block of at least m participants, or
+/// of all where they are fewer.
 pub fn allowed_count(size: u8, m: u8) -> u32
     requires some { 1 ≤ size }
     requires few { size ≤ 4 }

@@ -1,4 +1,5 @@
-//! Blocks of at most 64 rows: for each value and place, the set of the rows that have the value there.
+//! Blocks of at most 64 rows: for each value and place, the set of the rows
+//! that have the value there.
 
 ghost use Rattle.std.specs.Prelude.{◌≡◌, ◌==◌, ◌<◌, ◌≤◌, ◌+◌, ◌*◌, ◌/◌, ◌%◌, ◌&&◌, ◌||◌, ℕ, List, All, IfOk, filter, get_or, length, map, nat_lt};
 ghost use Rattle.wf_model.specs.Lists.{has};
@@ -53,7 +54,8 @@ fn join(rows: Part, others: Part) -> Part
     rows | others
 }
 
-/// Whether one of the rows of the block has the value at this place, and all its values in the sets of their places.
+/// Whether one of the rows of the block has the value at this place, and all
+/// its values in the sets of their places.
 pub(crate) fn has_support(words: &[Part], sets: &[Mask], place: usize, value: u8) -> bool
     requires place { place < 4 }
     requires few { length sets.now ≤ 4 }

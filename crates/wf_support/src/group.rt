@@ -21,7 +21,8 @@ const BLOCK_ROWS: usize = 64;
 /// Fewer rows than this are looked at one after the other.
 const BLOCKS_FROM: usize = 32;
 
-/// Rows, and the blocks that they are cut into: none where they are few, of different sizes, or have large values.
+/// Rows, and the blocks that they are cut into: none where they are few, of
+/// different sizes, or have large values.
 #[derive(Drop)]
 pub(crate) struct Group {
     size: usize,
@@ -56,7 +57,8 @@ impl Group {
         Ok(Group { size, rows, blocks })
     }
 
-    /// Whether one of the rows has the value at this place, and all its values in the sets of their places.
+    /// Whether one of the rows has the value at this place, and all its
+    /// values in the sets of their places.
     pub(crate) fn supports(&self, sets: &[Mask], place: usize, value: u8) -> bool
         ensures { result ≡ is_supported self.now (map values_in sets.now) place value }
     {

@@ -7,7 +7,8 @@ ghost use Rattle.wf_set.specs.Sets.{values_in};
 use wf_set::{Mask, holds};
 use wf_task::Row;
 
-/// Whether one of the rows has the value at this place, and all its values in the sets of their places.
+/// Whether one of the rows has the value at this place, and all its values in
+/// the sets of their places.
 pub(crate) fn have_support(rows: &[Row], sets: &[Mask], place: usize, value: u8) -> bool
     ensures { result ≡ is_supported rows.now (map values_in sets.now) place value }
 {

@@ -51,7 +51,8 @@ impl Support {
         Ok(Support { tuples, groups })
     }
 
-    /// Whether one of the tuples has the value at this place, and all its values in the sets of their places.
+    /// Whether one of the tuples has the value at this place, and all its
+    /// values in the sets of their places.
     pub fn supports(&self, sets: &[Mask], place: usize, value: u8) -> bool
         ensures { result ≡ is_supported self.now (map values_in sets.now) place value }
     {

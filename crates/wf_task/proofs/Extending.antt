@@ -1,4 +1,5 @@
--- Values for some of the processes, extended to all of them; and simplices on the same processes in order.
+-- Values for some of the processes, extended to all of them; and simplices on
+-- the same processes in order.
 use Rattle.std.proofs.Common.{◌≡◌, ℕ, suc, ◌+◌, ◌<◌, ◌≤◌, List, [], ◌∷◌, ◌++◌, length, map, zip, inl, inr, ◌⊎◌, refl, sym, ap, ◌∙◌, subst, arith, length-append}
 use Rattle.std.specs.List.{AllByRecursion}
 use Rattle.std.specs.List.Sorted.{IsStrictlySortedBy}

@@ -74,7 +74,8 @@ has-any p (x ∷ xs) h =
       | inr later ↦ (let r = has-any p xs later in (r.0, inr r.1, r.2))
     ]
 
--- each simplex of the complex is a part of a whole one, and the whole ones are the simplices of the largest size
+-- each simplex of the complex is a part of a whole one, and the whole ones
+-- are the simplices of the largest size
 pub record IsPure (n : ℕ) (wholes complex : List Simplex) : Type 0 where
   pub sorted : IsStrictlySortedBy simplex_cmp complex
   pub sorted_wholes : IsStrictlySortedBy simplex_cmp wholes

@@ -38,7 +38,8 @@ abbrev pub placed : {A : Type 0} → Key → Result A ℕ → Result A TaskFault
 placed key (Ok x) = Ok x
 placed key (Err i) = Err (fault.Shape key i)
 
--- a list under a key, or the place of its first item of the wrong shape; place 0 where it is missing or no list
+-- a list under a key, or the place of its first item of the wrong shape;
+-- place 0 where it is missing or no list
 abbrev pub list_at : {A : Type 0} → Key → (Data → Option A) → Option Data → Result (List A) TaskFault
 list_at key f found = or_fault (fault.Shape key 0) (option_and_then as_array found) >>= λ items. placed key (each f items)
 
@@ -61,7 +62,8 @@ pub record Listed : Type 0 where
   pub outputs : List Simplex
   pub delta : List Rule
 
--- the keys in the order in which they are judged; a further key last, so with more members than these
+-- the keys in the order in which they are judged; a further key last, so with
+-- more members than these
 unfoldable pub draft_of : Data → Result Listed TaskFault
 draft_of d = do
   members ← or_fault (fault.Shape Whole 0) (as_object d)

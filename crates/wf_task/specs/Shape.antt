@@ -54,7 +54,8 @@ tuples_of d = list_of (list_of whole_of) d
 abbrev pub rule_of : Simplex → List Tuple → Rule
 rule_of s ts = record { input = s; tuples = ts }
 
--- an entry: an object with exactly the keys `in`, a simplex, and `out`, a list of value lists; so with two members
+-- an entry: an object with exactly the keys `in`, a simplex, and `out`, a
+-- list of value lists; so with two members
 abbrev pub entry_of : Data → Option Rule
 entry_of d =
     option_and_then (λ ms. option_and_then (λ s. option_and_then (λ ts. if members_len ms == 2 then Some (rule_of s ts) else None)

@@ -40,8 +40,8 @@ use wf_simplex::{Complex, Simplex};
 
 // ---- facets
 
-/// The simplices of a complex that are no proper face of another one. It takes n log n steps, and memory for four
-/// times the simplices.
+/// The simplices of a complex that are no proper face of another one. It takes n log n steps, and
+/// memory for four times the simplices.
 pub(crate) fn facets(alloc: Global, complex: &Complex) -> Result<Vec<Simplex>, AllocError>
     requires { HasFewFacets complex.now }
     ensures facets { IfOk result (λ found. found.items ≡ facets complex.now) }

@@ -75,8 +75,8 @@ fn truth_under(key: Key, value: Option<&Value>) -> Result<bool, TaskFault>
     }
 }
 
-/// A list under a key, or the key with the place of the first item that has another shape. A list of a text has
-/// fewer items than the text has bytes, so the place is a number of 32 bits.
+/// A list under a key, or the key with the place of the first item that has another shape. A list
+/// of a text has fewer items than the text has bytes, so the place is a number of 32 bits.
 fn list_under<T: Shape + Drop>(
     alloc: Global,
     key: Key,

@@ -88,8 +88,8 @@ pub enum TaskFault {
     TooLong,
     /// 2: no UTF-8, or no JSON.
     NotJson,
-    /// 3: a key that is missing or has a value of the wrong shape, and the place of the first item of the
-    /// wrong shape in its list, from 0; 0 where it has no list.
+    /// 3: a key that is missing or has a value of the wrong shape, and the place of the first item
+    /// of the wrong shape in its list, from 0; 0 where it has no list.
     Shape(Key, u32),
     /// 4: the version is neither 1 nor 2.
     Version,
@@ -97,7 +97,8 @@ pub enum TaskFault {
     Processes,
     /// 6: some value is above 63 in version 1, or above 255 in version 2.
     Value,
-    /// 7: in some simplex the processes do not strictly ascend, or one is not below the number of processes.
+    /// 7: in some simplex the processes do not strictly ascend, or one is not
+    /// below the number of processes.
     Colours,
     /// 8: more of something than a task may have.
     TooMany(Limit),
@@ -107,7 +108,8 @@ pub enum TaskFault {
     DeltaTwice(u32),
     /// 11: this entry, by its place, is for no input simplex.
     DeltaStray(u32),
-    /// 12: at this input simplex, this value list has not as many values as the simplex has processes.
+    /// 12: at this input simplex, this value list has not as many values as
+    /// the simplex has processes.
     OutLength(u32, u32),
     /// 13: at this input simplex, this value list is no output simplex.
     OutStray(u32, u32),
@@ -115,7 +117,8 @@ pub enum TaskFault {
     NoInput,
     /// 15: memory ran out.
     OutOfMemory,
-    /// 18: the first block would have at least a number of participants that is not 1 to 4; asked after 14.
+    /// 18: the first block would have at least a number of participants that
+    /// is not 1 to 4; asked after 14.
     FirstBlock,
 }
 

@@ -1,11 +1,12 @@
 //! Decision tasks, and the texts that they are read from.
 //!
-//! - [`Task`]: input and output simplices, and for each input simplex the tuples that its processes may decide.
-//!   [`Task::read_text`] reads one, or says what is wrong with the text.
+//! - [`Task`]: input and output simplices, and for each input simplex the tuples that its processes
+//!   may decide. [`Task::read_text`] reads one, or says what is wrong with the text.
 //! - [`TaskFault`]: why a text is no task, with the [`Key`] or the [`Limit`] that it is about.
-//! - [`LONGEST`]: how many bytes a text may have. [`MOST_VERTICES`], [`MOST_INPUTS`], [`MOST_OUTPUTS`], [`MOST_TUPLES`]: the
-//!   other limits.
-//! - [`Row`]: the output values of a tuple, one for each process of an input simplex. Copied, five bytes, no memory.
+//! - [`LONGEST`]: how many bytes a text may have. [`MOST_VERTICES`], [`MOST_INPUTS`],
+//!   [`MOST_OUTPUTS`], [`MOST_TUPLES`]: the other limits.
+//! - [`Row`]: the output values of a tuple, one for each process of an input
+//!   simplex. Copied, five bytes, no memory.
 #![tactic(auto)]
 
 mod canonical;

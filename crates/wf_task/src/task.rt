@@ -32,8 +32,8 @@ use wf_simplex::Complex;
 /// The most bytes that a text may have, a task's or a report's: 16 MiB.
 pub const LONGEST: usize = 16_777_216;
 
-/// A decision task (Herlihy and Shavit 1999): input simplices, output simplices, and for each input simplex
-/// the output tuples on its processes.
+/// A decision task (Herlihy and Shavit 1999): input simplices, output simplices, and for each input
+/// simplex the output tuples on its processes.
 #[derive(Drop)]
 pub struct Task {
     processes: u8,
@@ -44,7 +44,8 @@ pub struct Task {
     tuples: Vec<Vec<Row>>,
     // those that occur in the outputs
     values: Mask,
-    // how many participants the first block of a word has at least; none where all words are allowed
+    // how many participants the first block of a word has at least; none
+    // where all words are allowed
     restriction: Option<u8>,
 }
 
@@ -101,9 +102,9 @@ impl Task {
         }
     }
 
-    /// The canonical text: compact JSON with its keys in alphabetical order, the facets of the input and the output
-    /// complex in order, and an entry for each input simplex in order, its tuples ascending. Reading it gives the same
-    /// task.
+    /// The canonical text: compact JSON with its keys in alphabetical order, the facets of the
+    /// input and the output complex in order, and an entry for each input simplex in order, its
+    /// tuples ascending. Reading it gives the same task.
     #[tactic(auto, unfolding(crate::specs::Canonical::canonical_text), using(crate::proofs::Written::task_has_no_float))]
     pub fn write_text(&self, alloc: Global) -> Result<Vec<u8>, AllocError>
         ensures text { IfOk result (λ text. text.items ≡ canonical_text self.now) }
@@ -142,14 +143,16 @@ impl Task {
         self.processes
     }
 
-    /// Whether processes are told apart by their rank among those that they know of, and not by name.
+    /// Whether processes are told apart by their rank among those that they
+    /// know of, and not by name.
     pub fn symmetric(&self) -> bool
         ensures { result ≡ self.now.symmetric }
     {
         self.symmetric
     }
 
-    /// How many participants the first block of a word has at least, or all where they are fewer: 1 allows all words.
+    /// How many participants the first block of a word has at least, or all
+    /// where they are fewer: 1 allows all words.
     pub fn first_block(&self) -> u8
         ensures first_block { result ≡ first_block self.now }
         ensures some { 1 ≤ result }

@@ -55,7 +55,8 @@ fn on_processes(simplex: &Simplex, values: &[u64]) -> Simplex
     simplex_of(&pairs[..size as usize])
 }
 
-/// The place of the first value list that is no output simplex on the processes of the input simplex.
+/// The place of the first value list that is no output simplex on the
+/// processes of the input simplex.
 fn no_output(outputs: &Complex, simplex: &Simplex, lists: &[Vec<u64>]) -> Option<usize>
     requires { All (IsTupleOf (length simplex.now)) (map (λ t. t.items) lists.now) }
     ensures { result ≡ position_from (λ tuple. not (is_image_in outputs.now simplex.now tuple)) 0
@@ -70,7 +71,8 @@ fn no_output(outputs: &Complex, simplex: &Simplex, lists: &[Vec<u64>]) -> Option
     None
 }
 
-/// The first input simplex, by its number, that has a value list of a wrong length, and the place of that list.
+/// The first input simplex, by its number, that has a value list of a wrong
+/// length, and the place of that list.
 fn first_wrong_length(draft: &Draft, inputs: &[Simplex], slots: &[Slot]) -> Option<(usize, usize)>
     requires { AreOnly slots.now (map entry_seen draft.now.delta.items) inputs.now }
     ensures { result ≡ first_answer (wrong_length (draft_seen draft.now)) 0 inputs.now }
@@ -85,8 +87,8 @@ fn first_wrong_length(draft: &Draft, inputs: &[Simplex], slots: &[Slot]) -> Opti
     None
 }
 
-/// The first input simplex, by its number, that has a value list which is no output simplex, and the place of that
-/// list.
+/// The first input simplex, by its number, that has a value list which is no
+/// output simplex, and the place of that list.
 fn first_no_output(
     draft: &Draft,
     inputs: &[Simplex],

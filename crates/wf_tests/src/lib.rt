@@ -1,8 +1,9 @@
-//! Tests that cross crates: the protocol complex and the search beside the slow program of the definitions.
+//! Tests that cross crates: the protocol complex and the search beside the
+//! slow program of the definitions.
 //!
-//! A task is read from its text, and the slow program is run on the same task. The complex has to have the same
-//! executions with the same points, and the search the same least decision map, as the slow program finds by trying
-//! every list of values.
+//! A task is read from its text, and the slow program is run on the same task. The complex has to
+//! have the same executions with the same points, and the search the same least decision map, as
+//! the slow program finds by trying every list of values.
 #![tactic(auto)]
 
 #[cfg(test)]

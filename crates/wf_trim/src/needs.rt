@@ -85,7 +85,8 @@ impl Needs {
         self.needs[last] = Need::Dropped { from };
     }
 
-    /// Drops the need before this number, and answers its own number; where others were dropped there, that of the first.
+    /// Drops the need before this number, and answers its own number; where others were dropped
+    /// there, that of the first.
     fn forget_before(&mut self, at: usize) -> usize
         requires some { 0 < at }
         requires within { at ≤ length self.old.needs.items }

@@ -15,7 +15,8 @@ pub(crate) struct Step {
     pub(crate) value: u8,
     /// The number of the line that took it out, or of the branch that took another value.
     pub(crate) line: usize,
-    // the number of the step by which a value went at this point before, from 1 on; 0 where there is none
+    // the number of the step by which a value went at this point before, from
+    // 1 on; 0 where there is none
     pub(crate) before: usize,
 }
 
@@ -62,7 +63,8 @@ impl Path {
         Some(self.steps[number - 1])
     }
 
-    /// The number of the step by which the value went at the point, from 1 on, and its line; none where it is there.
+    /// The number of the step by which the value went at the point, from 1
+    /// on, and its line; none where it is there.
     pub(crate) fn find(&self, point: u32, value: u8) -> Option<(usize, usize)> {
         let mut number = self.latest_at(point);
         for _ in 0..VALUES {

@@ -34,7 +34,8 @@ pub(crate) struct Known {
 pub(crate) struct Options {
     /// How many there are.
     pub(crate) count: usize,
-    /// The line by which such a value went, where there is a place and none of them is needed already.
+    /// The line by which such a value went, where there is a place and none
+    /// of them is needed already.
     pub(crate) line: Option<usize>,
 }
 

@@ -16,16 +16,20 @@ use wf_task::Task;
 /// The most places of a tuple beside one.
 const OTHER_PLACES: usize = 3;
 
-/// Some of the lines of a refutation, or of the way to a least map: those that are needed, as far as one pass shows.
+/// Some of the lines of a refutation, or of the way to a least map: those
+/// that are needed, as far as one pass shows.
 ///
-/// The lines of a refutation are blocks, a block being lines that take values out and then one with a point that has none
-/// left, or a branch and a block for each candidate. A block is gone through from its end: the line with a point that has none
-/// left needs each line that took a value out there; and a line that is needed itself needs, for each tuple that has its
-/// value at its place, one line by which another value of the tuple was gone then. A branch whose block refutes without what
-/// the branch took out is left out for that block. In the way to a least map each line in front of the map is needed, and where
-/// a branch stays, so is each that took out a value at a point before its own.
+/// The lines of a refutation are blocks, a block being lines that take values out and then
+/// one with a point that has none left, or a branch and a block for each candidate. A
+/// block is gone through from its end: the line with a point that has none left needs each
+/// line that took a value out there; and a line that is needed itself needs, for each
+/// tuple that has its value at its place, one line by which another value of the tuple was
+/// gone then. A branch whose block refutes without what the branch took out is left out
+/// for that block. In the way to a least map each line in front of the map is needed, and
+/// where a branch stays, so is each that took out a value at a point before its own.
 ///
-/// Nothing is promised of lines that the checker refuses, nor that what is left is accepted: that is to be checked.
+/// Nothing is promised of lines that the checker refuses, nor that what is
+/// left is accepted: that is to be checked.
 pub fn trim(
     alloc: Global,
     task: &Task,
@@ -188,7 +192,8 @@ impl Trimmer {
         Ok(())
     }
 
-    /// Goes into the next block of a branch, whose first line has this number. Answers false where there is none.
+    /// Goes into the next block of a branch, whose first line has this
+    /// number. Answers false where there is none.
     fn enter(&mut self, branch: Branch, line: usize) -> Result<bool, AllocError> {
         let mut branch = branch;
         let before = branch.left;
@@ -274,8 +279,8 @@ impl Trimmer {
         Ok(())
     }
 
-    /// Goes through the lines of the block of now that take values out, from the last one to the first: those that are
-    /// needed are kept.
+    /// Goes through the lines of the block of now that take values out, from the last one to the
+    /// first: those that are needed are kept.
     fn end_block(
         &mut self,
         task: &Task,
@@ -313,8 +318,8 @@ impl Trimmer {
         }
     }
 
-    /// Each tuple that has the value of a claim needs a line by which another of its values is gone: first where there is but
-    /// one.
+    /// Each tuple that has the value of a claim needs a line by which another of its values is
+    /// gone: first where there is but one.
     fn need_reasons(&mut self, claim: Claim, bound: u32) -> Result<(), AllocError> {
         for count in 1..=OTHER_PLACES {
             self.need_reasons_among(claim, bound, count)?;
@@ -344,8 +349,8 @@ impl Trimmer {
         Ok(())
     }
 
-    /// Notes whether the block of now, which ends before this line, refutes without what the branch took out, and goes
-    /// back to the branch.
+    /// Notes whether the block of now, which ends before this line, refutes without what the branch
+    /// took out, and goes back to the branch.
     fn end_child(&mut self, branch: Branch, bound: u32, end: usize) -> Branch {
         let mut branch = branch;
         let uses = branch.point < bound || self.needs.count(branch.line) > branch.count;
@@ -362,8 +367,8 @@ impl Trimmer {
         branch
     }
 
-    /// Ends the block of now by a branch whose blocks are all read, the last one up to this line. Answers below which point
-    /// whatever takes out a value is needed.
+    /// Ends the block of now by a branch whose blocks are all read, the last one up to this line.
+    /// Answers below which point whatever takes out a value is needed.
     fn end_branch(&mut self, branch: &Branch, end: usize) -> Result<u32, AllocError> {
         self.block = branch.block;
         if let Some(alone) = branch.alone {

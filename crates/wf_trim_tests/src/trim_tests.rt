@@ -1,5 +1,6 @@
-//! Tests of trimming. After one round two processes have four points: 0 and 1 where process 0 or 1 is alone, and 2 and 3
-//! where it sees both. Execution 0 has point 0 alone, 1 has point 1, 2 has 2 and 3, 3 has 0 and 3, and 4 has 2 and 1.
+//! Tests of trimming. After one round two processes have four points: 0 and 1 where process 0 or 1
+//! is alone, and 2 and 3 where it sees both. Execution 0 has point 0 alone, 1 has point 1, 2 has 2
+//! and 3, 3 has 0 and 3, and 4 has 2 and 1.
 
 use std::alloc::Global;
 use std::test::Fail;
@@ -133,7 +134,8 @@ fn lines_that_are_all_needed_stay(rt: HostRuntime) -> Result<(), Fail> {
     Ok(())
 }
 
-// the path's ends are 0 and 2: point 2 can't have 0 beside point 1, and has 1 in the least map, where point 3 has 0
+// the path's ends are 0 and 2: point 2 can't have 0 beside point 1, and has 1
+// in the least map, where point 3 has 0
 #[test]
 fn all_that_leads_to_a_least_map_is_kept(rt: HostRuntime) -> Result<(), Fail> {
     let lines = [

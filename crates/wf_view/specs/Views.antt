@@ -1,4 +1,5 @@
--- What contracts say of a table of views. A table is seen as the list of its views in the order of their numbers.
+-- What contracts say of a table of views. A table is seen as the list of its
+-- views in the order of their numbers.
 use Rattle.std.specs.Prelude.{◌≡◌, ◌≤◌, ℕ, ◌^◌, Bool, List, [], ◌∷◌, ◌++◌, map, length, get_or, bit_or, Option, Some, None, if◌then◌else◌}
 use Rattle.std.specs.List.{list_any}
 use Rattle.wf_model.specs.Lists.{distinct}

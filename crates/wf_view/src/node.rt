@@ -6,8 +6,8 @@ ghost use Rattle.wf_model.specs.Simplex.{is_ascending};
 ghost use Rattle.wf_view.specs.Table.{base_node, seen_node};
 ghost use Rattle.wf_view.specs.Renaming.{HaveNewNumbers, number_beside, renumbered_node};
 
-/// A view, with the views inside it by their numbers. An input has the count 0, and its value in the first place.
-/// Places past the last are 0, so that equal views are equal entries.
+/// A view, with the views inside it by their numbers. An input has the count 0, and its value in
+/// the first place. Places past the last are 0, so that equal views are equal entries.
 #[derive(Clone, Copy, PartialEq, Eq, Hash)]
 pub struct Node {
     pub process: u8,
@@ -46,8 +46,8 @@ pub fn snapshot(process: u8, ids: &[u32]) -> Node
     }
 }
 
-/// The entry with this process, and with the new number of each view in it. The new numbers stand beside the old ones,
-/// which ascend.
+/// The entry with this process, and with the new number of each view in it. The new numbers stand
+/// beside the old ones, which ascend.
 pub fn renumber(node: Node, process: u8, old: &[u32], new: &[u32]) -> Node
     requires count { node.count ≤ 4 }
     requires ascending { is_ascending old.now ≡ true }

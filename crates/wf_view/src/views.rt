@@ -72,7 +72,8 @@ impl Views {
 
     /// The number of the view of a process before the first round, when it knows its input alone.
     ///
-    /// Where the view is new it gets the next number. Refused where memory runs out, which leaves the table as it was.
+    /// Where the view is new it gets the next number. Refused where memory
+    /// runs out, which leaves the table as it was.
     pub fn base(&mut self, colour: u8, value: u8) -> Result<u32, AllocError>
         requires colour { colour ≤ 3 }
         requires room { length self.old < most_number }
@@ -83,10 +84,11 @@ impl Views {
         self.number(input(colour, value), 1 << colour)
     }
 
-    /// The number of the view of a process that saw these views, named by their numbers in the order of their
-    /// processes, its own among them.
+    /// The number of the view of a process that saw these views, named by their numbers in the
+    /// order of their processes, its own among them.
     ///
-    /// Where the view is new it gets the next number. Refused where memory runs out, which leaves the table as it was.
+    /// Where the view is new it gets the next number. Refused where memory
+    /// runs out, which leaves the table as it was.
     pub fn seen(&mut self, colour: u8, parts: &[u32]) -> Result<u32, AllocError>
         requires colour { colour ≤ 3 }
         requires numbers { All (λ k. k < length self.old) parts.now }
@@ -133,7 +135,8 @@ impl Views {
         self.colours[id as usize]
     }
 
-    /// The numbers of the views that a view saw, in the order of their processes. An input saw none.
+    /// The numbers of the views that a view saw, in the order of their
+    /// processes. An input saw none.
     pub fn parts(&self, id: u32) -> &[u32]
         requires { id < length self.now }
         ensures views { map (view_at self.now) result.now ≡ inner_views (view_at self.now id) }
@@ -143,10 +146,12 @@ impl Views {
         &node.ids[..node.count as usize]
     }
 
-    /// The number of a view with each process replaced by its rank among those that occur in it, at every depth.
+    /// The number of a view with each process replaced by its rank among
+    /// those that occur in it, at every depth.
     ///
-    /// The views inside it, renamed alike, get numbers too: at most one new view for each different view inside.
-    /// Refused where memory runs out, which leaves each number with its view; some of the new views may stand then.
+    /// The views inside it, renamed alike, get numbers too: at most one new view for each different
+    /// view inside. Refused where memory runs out, which leaves each number with its view; some of
+    /// the new views may stand then.
     pub fn normal(&mut self, id: u32) -> Result<u32, AllocError>
         requires id { id < length self.old }
         requires room { length self.old + count_within (view_at self.old id) ≤ most_number }
@@ -182,8 +187,8 @@ impl Views {
         Ok(inside)
     }
 
-    /// The number of a view with its processes replaced by their ranks in a set. The new numbers of the views in it
-    /// stand beside their old ones.
+    /// The number of a view with its processes replaced by their ranks in a set. The new numbers of
+    /// the views in it stand beside their old ones.
     fn put_renamed(
         &mut self,
         id: u32,

@@ -1,7 +1,7 @@
 //! `wfcheck`: can a task be decided wait-free in r rounds of iterated immediate snapshot?
 //!
-//! The program is `wf_program`; here it is given its words, standard input, standard output and standard error, and a gate
-//! that tells how many branches are settled.
+//! The program is `wf_program`; here it is given its words, standard input, standard output and
+//! standard error, and a gate that tells how many branches are settled.
 #![tactic(auto)]
 
 use std::alloc::Global;
@@ -30,9 +30,9 @@ impl<R: rt::Files> Files for Disk<'_, R> {
 /// So many turns in which no branch was settled are worth a line, and then twice as many each time.
 const MANY_TURNS: u64 = 65_536;
 
-/// Tells on standard error how a search goes on: how large the complex is, how many branches there are, a line for each settled
-/// branch, and, where none was settled for long, how many turns were taken since. Where that can't be written nothing more can
-/// be done.
+/// Tells on standard error how a search goes on: how large the complex is, how many branches there
+/// are, a line for each settled branch, and, where none was settled for long, how many turns were
+/// taken since. Where that can't be written nothing more can be done.
 #[derive(Drop)]
 struct Progress<'a, R> {
     rt: &'a R,
@@ -89,9 +89,10 @@ fn arguments(rt: &(impl Env + Alloc<A = Global>)) -> Result<Vec<String>, WordsFa
     Ok(words.collect(rt.alloc())?)
 }
 
-/// Takes the descriptors of those standard streams that are closed, until what it gives is dropped: a file that is opened gets
-/// the lowest free one, so a task's file would else be read as the standard input. A directory can be neither read nor
-/// written, so a closed stream stays one that fails.
+/// Takes the descriptors of those standard streams that are closed, until
+/// what it gives is dropped: a file that is opened gets the lowest free one,
+/// so a task's file would else be read as the standard input. A directory can
+/// be neither read nor written, so a closed stream stays one that fails.
 fn hold_closed_streams<R: rt::Files>(rt: &R) -> [io::Result<R::File>; 3] {
     [fs::open(rt, "/"), fs::open(rt, "/"), fs::open(rt, "/")]
 }

@@ -1,5 +1,5 @@
-//! Checking a report step by step as it is defined: a box is a list of candidates for each point, each box that is left
-//! is copied, and each tuple is tried for each value.
+//! Checking a report step by step as it is defined: a box is a list of candidates for each point,
+//! each box that is left is copied, and each tuple is tried for each value.
 
 use super::reading::{Answer, Report, Step, put};
 use std::alloc::{AllocError, Global};
@@ -9,7 +9,8 @@ use wf_report::CertFault;
 /// The candidates of each point, ascending.
 type Sets = Vec<Vec<usize>>;
 
-/// Judges a report about a problem, which belongs to a task of so many processes after so many rounds.
+/// Judges a report about a problem, which belongs to a task of so many
+/// processes after so many rounds.
 pub(crate) fn check(
     alloc: Global,
     processes: u32,
@@ -117,7 +118,8 @@ fn check_map(alloc: Global, problem: &Problem, steps: &[Step]) -> Result<(), Cer
     Ok(())
 }
 
-/// Judges the lines of a refutation of the root box. The boxes that are left stand with the first one last.
+/// Judges the lines of a refutation of the root box. The boxes that are left
+/// stand with the first one last.
 fn check_lines(alloc: Global, problem: &Problem, steps: &[Step]) -> Result<(), CertFault> {
     let mut boxes: Vec<Sets> = Vec::new(alloc);
     put(&mut boxes, root(alloc, problem)?)?;

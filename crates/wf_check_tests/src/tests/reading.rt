@@ -1,5 +1,5 @@
-//! Reading a report line by line, as its grammar is written down: a line is cut at its spaces, and a word is a number if
-//! the number that it spells is written so.
+//! Reading a report line by line, as its grammar is written down: a line is cut at its spaces, and
+//! a word is a number if the number that it spells is written so.
 
 use std::alloc::{AllocError, Global};
 use wf_report::CertFault;

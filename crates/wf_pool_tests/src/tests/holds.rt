@@ -90,7 +90,8 @@ impl Hold {
         self.asked.load(SeqCst)
     }
 
-    // How often it was told how many branches there are, before any was taken, and how many there are.
+    // How often it was told how many branches there are, before any was
+    // taken, and how many there are.
     pub(crate) fn branches_told(&self) -> (u64, u64) {
         (self.tellings.load(SeqCst), self.branches.load(SeqCst))
     }

@@ -157,7 +157,8 @@ const RUNS: [(u32, KeptLines); 6] = [
     (8, KeptLines::Refuting),
 ];
 
-// The same answers in each of these runs: these lines, and nothing is cut; and the least map of another problem.
+// The same answers in each of these runs: these lines, and nothing is cut;
+// and the least map of another problem.
 fn refutes<R: Threads + Sync + Abort, H: Handout>(
     rt: &R,
     alloc: Global,
@@ -203,7 +204,8 @@ fn account_under<R: Threads + Sync + Abort, H: Handout>(
     Ok(account)
 }
 
-// One worker cuts what lies above the first map. A worker goes on while another one is held at its first branch.
+// One worker cuts what lies above the first map. A worker goes on while
+// another one is held at its first branch.
 fn goes_on_beside_one_that_is_held<R: Threads + Sync + Abort, H: Handout>(
     rt: &R,
     alloc: Global,
@@ -241,7 +243,8 @@ fn is_none_without_lines(answer: &Answer) -> bool {
     }
 }
 
-// Where no lines are kept the answers and the accounts are the same: the least map of a problem, and none of another one.
+// Where no lines are kept the answers and the accounts are the same: the least map of a problem,
+// and none of another one.
 fn answers_without_lines<R: Threads + Sync + Abort, H: Handout>(
     rt: &R,
     alloc: Global,
@@ -297,7 +300,8 @@ fn a_worker_looks_before_its_first_turn(rt: HostRuntime) -> Result<(), Fail> {
     cuts_without_a_turn::<_, Stealing>(&rt, rt.alloc())
 }
 
-// Both workers are at a turn before either goes on, so each searches a branch, and the third is cut.
+// Both workers are at a turn before either goes on, so each searches a
+// branch, and the third is cut.
 fn searches_two_at_once<R: Threads + Sync + Abort, H: Handout>(
     rt: &R,
     alloc: Global,
@@ -321,8 +325,8 @@ fn two_workers_search_at_once(rt: HostRuntime) -> Result<(), Fail> {
     searches_two_at_once::<_, Stealing>(&rt, rt.alloc())
 }
 
-// The main thread does the work of each worker that may not start. No more workers are used than there are branches, and
-// the main thread is one of them.
+// The main thread does the work of each worker that may not start. No more workers are used than
+// there are branches, and the main thread is one of them.
 fn needs_no_thread<R: Threads + Sync + Abort, H: Handout>(
     rt: &R,
     alloc: Global,
@@ -342,7 +346,8 @@ fn workers_that_may_not_start(rt: HostRuntime) -> Result<(), Fail> {
     needs_no_thread::<_, Stealing>(&rt, rt.alloc())
 }
 
-// Of three workers one or two may not start (the first works in the main thread), and the answers are those of one worker: the least map, and these lines.
+// Of three workers one or two may not start (the first works in the main thread), and the answers
+// are those of one worker: the least map, and these lines.
 fn needs_no_worker<R: Threads + Sync + Abort, H: Handout>(
     rt: &R,
     alloc: Global,

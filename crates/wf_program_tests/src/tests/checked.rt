@@ -1,4 +1,5 @@
-//! The commands over a task and a report: each row writes, tells and answers what it is to, byte for byte.
+//! The commands over a task and a report: each row writes, tells and answers
+//! what it is to, byte for byte.
 
 use super::ends::{Drip, Narrow, Shelf};
 use super::words::split;
@@ -118,7 +119,8 @@ fn reports_are_checked(rt: HostRuntime) -> Result<(), Fail> {
 
 #[test]
 fn failed_calls_of_a_check_are_told(rt: HostRuntime) -> Result<(), Fail> {
-    // the file that is there, and the calls of it, of the report's reader and of the writer that fail
+    // the file that is there, and the calls of it, of the report's reader and
+    // of the writer that fail
     let rows = [
         ("other.json", 0, 0, 0, "wfcheck: 30 Read\n"),
         ("task.json", 1, 0, 0, "wfcheck: 30 Read\n"),

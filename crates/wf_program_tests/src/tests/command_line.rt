@@ -1,4 +1,5 @@
-//! The program over streams of its own: each command writes, tells and answers what it is to, byte for byte.
+//! The program over streams of its own: each command writes, tells and
+//! answers what it is to, byte for byte.
 
 use super::ends::{Drip, EMPTY, Full, Narrow};
 use super::rows::{BEGINNINGS, DONE, Row};

@@ -40,7 +40,8 @@ impl Read for Drip<'_> {
     }
 }
 
-/// Takes one byte a write. One call, counted from 1, answers an error; writes and flushes count alike.
+/// Takes one byte a write. One call, counted from 1, answers an error; writes
+/// and flushes count alike.
 #[derive(Drop)]
 pub struct Narrow<'a> {
     taken: &'a mut Vec<u8>,

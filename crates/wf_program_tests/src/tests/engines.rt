@@ -41,8 +41,8 @@ const QUESTION: &str =
 const MAP: &str =
     "wfcheck report 1\nprocesses 2\nrounds 1\npoints 4\nexecutions 5\nanswer map\nm 0\nm 2\nm 1\nm 0\nend\n";
 
-/// The least report about the path of length 2 after one round: points 2 and 3 have two candidates each once the root is
-/// closed, and the lower ones are the map's.
+/// The least report about the path of length 2 after one round: points 2 and 3 have two candidates
+/// each once the root is closed, and the lower ones are the map's.
 const LEAST: &str =
     "wfcheck report 1\nprocesses 2\nrounds 1\npoints 4\nexecutions 5\nanswer least\nm 0\nm 2\nm 1\nm 0\np 0 0 1\np 0 0 2\np 1 1 0\np 1 1 1\np 3 1 2\np 4 0 0\nb 2\nb 3\nf\nend\n";
 
@@ -65,7 +65,8 @@ pub enum Engine {
 }
 
 impl Engine {
-    /// Runs it for some rounds: a search by one worker, one by three, one of the two listings, or the question as a formula.
+    /// Runs it for some rounds: a search by one worker, one by three, one of the two listings, or
+    /// the question as a formula.
     pub(crate) fn run<T: Threads + Sync, R: Read, W: Write>(
         self,
         rt: &T,
@@ -274,7 +275,8 @@ fn refute(alloc: Global, proof: &str, written: &mut Vec<u8>, rounds: u32) -> Res
 
 #[test]
 fn a_proof_is_accepted(rt: HostRuntime) -> Result<(), Fail> {
-    // the formula has 3 points with 2 values; with one of them given, propagation finds the contradiction
+    // the formula has 3 points with 2 values; with one of them given,
+    // propagation finds the contradiction
     let mut written = Vec::new(rt.alloc());
     let found = refute(rt.alloc(), PROOF, &mut written, 1);
     assert_eq!(rt; found, Ok(()));

@@ -1,4 +1,5 @@
-//! Each read, each write and the flush fails in turn of the engines over a task and a report, and of what writes presets.
+//! Each read, each write and the flush fails in turn of the engines over a
+//! task and a report, and of what writes presets.
 
 ghost use Rattle.wf_engine.specs.Verify.{CanVerify};
 

@@ -10,8 +10,8 @@ use wf_io::{Sink, Source};
 use wf_pool::{Gate, Moment};
 use wf_program::{Folder, run_program};
 
-/// Notes how many branches there are and which workers are started beside the first, and counts the branches that are
-/// settled.
+/// Notes how many branches there are and which workers are started beside the first, and counts the
+/// branches that are settled.
 #[derive(Drop)]
 struct Tally {
     branches: AtomicU64,
@@ -83,7 +83,8 @@ fn a_gate_is_told_where_progress_is_asked_for(rt: HostRuntime) -> Result<(), Fai
     Ok(())
 }
 
-// Three branches, so there is work for three workers: the first in this thread, and each other one that is started.
+// Three branches, so there is work for three workers: the first in this
+// thread, and each other one that is started.
 #[test]
 fn as_many_workers_are_started_as_are_asked_for(rt: HostRuntime) -> Result<(), Fail> {
     let rows = [

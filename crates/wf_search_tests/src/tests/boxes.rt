@@ -52,8 +52,9 @@ fn roots_that_stay_open(rt: HostRuntime) -> Result<(), Fail> {
     ];
     assert_eq!(rt; lines.as_slice(), wanted.as_slice());
     assert_eq!(rt; left.as_slice(), [1, 4, 6, 3].as_slice());
-    // In the execution of all three, which has number 6, process 0 can't have 1, process 1 neither 1 nor 2 and process
-    // 2 not 2. Their one point stands there three times, and each value is named once.
+    // In the execution of all three, which has number 6, process 0 can't have
+    // 1, process 1 neither 1 nor 2 and process 2 not 2. Their one point
+    // stands there three times, and each value is named once.
     let (closed, lines, left) = close_root(rt.alloc(), SYMMETRIC_201, 0)?;
     assert_eq!(rt; closed, Closed::Open { sweeps: 2 });
     assert_eq!(rt; lines.as_slice(), [lost(6, 0, 1), lost(6, 1, 2)].as_slice());
@@ -99,8 +100,9 @@ fn each_value_of_a_point_is_tried_in_a_copy(rt: HostRuntime) -> Result<(), Fail>
     Ok(())
 }
 
-/// Gives point 2 the value in a copy and closes that: how many sweeps it takes, the candidates of point 3 then, and how
-/// many lines are added. None where the value is no candidate, or a point is emptied.
+/// Gives point 2 the value in a copy and closes that: how many sweeps it
+/// takes, the candidates of point 3 then, and how many lines are added. None
+/// where the value is no candidate, or a point is emptied.
 fn try_value(
     alloc: Global,
     problem: &Problem,
@@ -144,8 +146,8 @@ fn a_box_is_given_an_earlier_state(rt: HostRuntime) -> Result<(), Fail> {
     Ok(())
 }
 
-/// Gives point 2 the value, closes the box, and takes that back: how many sweeps it took, and the lines. No sweep where
-/// the value is no candidate, or a point is emptied.
+/// Gives point 2 the value, closes the box, and takes that back: how many sweeps it took, and the
+/// lines. No sweep where the value is no candidate, or a point is emptied.
 fn try_in_place(
     alloc: Global,
     problem: &Problem,

@@ -1,4 +1,5 @@
-//! The kernels, with rows worked out by hand, and at each place of tables and boxes of each length up to 17.
+//! The kernels, with rows worked out by hand, and at each place of tables and
+//! boxes of each length up to 17.
 
 ghost use Rattle.std.specs.Prelude.{◌≡◌, ◌≤◌, length};
 
@@ -122,7 +123,8 @@ fn value_but(value: u8, is_other: bool) -> u8
     if is_other { 9 } else { value }
 }
 
-// What is found of the values 63, 5, 0 and 32 in a table whose row at one place has them. Each other row lacks one.
+// What is found of the values 63, 5, 0 and 32 in a table whose row at one
+// place has them. Each other row lacks one.
 fn found_in(alloc: Global, width: u8, length: u8, place: u8) -> Result<Support, AllocError>
     requires some { 1 ≤ width }
     requires narrow { width ≤ 4 }

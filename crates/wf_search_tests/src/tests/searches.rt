@@ -136,7 +136,8 @@ fn lines_of_two_names() -> [Line; 9] {
     ]
 }
 
-/// What two searches of the root of a problem find, the second one by the answers that the first one left.
+/// What two searches of the root of a problem find, the second one by the
+/// answers that the first one left.
 fn search_twice(alloc: Global, problem: &Problem) -> Result<(Found, Found), AllocError> {
     let _points = problem.points();
     let mut answers = Answers::new(alloc);
@@ -222,8 +223,8 @@ fn lines_that_lead_to_a_map(rt: HostRuntime) -> Result<(), Fail> {
     Ok(())
 }
 
-/// How many questions a search of the root of a task's problem after one round asks, and whether it is stopped, where
-/// so many are answered no.
+/// How many questions a search of the root of a task's problem after one round asks, and whether it
+/// is stopped, where so many are answered no.
 fn search_until(alloc: Global, text: &str, most: u32) -> Result<(u32, bool), Fail> {
     let problem = problem_of(alloc, text, 1)?;
     let root = Box0::root(alloc, &problem)?;
@@ -232,7 +233,8 @@ fn search_until(alloc: Global, text: &str, most: u32) -> Result<(u32, bool), Fai
     Ok((limit.asked, matches!(&found, Found::Stopped)))
 }
 
-// The two names take three turns: the root's and those of its two branches. The path is stopped at once.
+// The two names take three turns: the root's and those of its two branches.
+// The path is stopped at once.
 #[test]
 fn a_question_before_each_turn(rt: HostRuntime) -> Result<(), Fail> {
     let rows = [
@@ -262,7 +264,8 @@ fn search_branch(
     search(alloc, problem, cover.branch(alloc, number)?, &mut Never)
 }
 
-/// How many branches a task's problem has after some rounds, and the values of their maps, one after the other.
+/// How many branches a task's problem has after some rounds, and the values
+/// of their maps, one after the other.
 fn maps_of_branches(alloc: Global, text: &str, rounds: u32) -> Result<(u32, Vec<u8>), Fail> {
     let problem = problem_of(alloc, text, rounds)?;
     let cover = split(alloc, &problem)?;
@@ -291,7 +294,8 @@ fn the_branches_of_a_path(rt: HostRuntime) -> Result<(), Fail> {
     Ok(())
 }
 
-/// The lines of the root of a task's problem after one round, where it has no branches; no lines where it has some.
+/// The lines of the root of a task's problem after one round, where it has no
+/// branches; no lines where it has some.
 fn fill_root(alloc: Global, text: &str) -> Result<Lines, Fail> {
     let problem = problem_of(alloc, text, 1)?;
     let cover = split(alloc, &problem)?;
@@ -308,8 +312,8 @@ fn a_root_without_branches_is_filled(rt: HostRuntime) -> Result<(), Fail> {
     Ok(())
 }
 
-/// The lines of the root of a task's problem after one round, with one line in the place of each of the first branches,
-/// up to the last of these; no lines where there are fewer branches.
+/// The lines of the root of a task's problem after one round, with one line in the place of each of
+/// the first branches, up to the last of these; no lines where there are fewer branches.
 fn fill_first(alloc: Global, text: &str, places: &[Line]) -> Result<Lines, Fail> {
     let problem = problem_of(alloc, text, 1)?;
     let cover = split(alloc, &problem)?;

@@ -25,7 +25,8 @@ fn moved(value: u8) -> u8
     if value == 7 { 63 } else { value }
 }
 
-// The first rows of four values below 8 that differ, of which there are 8 * 7 * 6 * 5. A last value 7 is moved to 63.
+// The first rows of four values below 8 that differ, of which there are 8 * 7 * 6 * 5. A last
+// value 7 is moved to 63.
 fn arrangements(alloc: Global, most: usize) -> Result<Vec<Row>, AllocError>
     ensures long { IfOk result (λ rows. All (λ row. length row ≡ 4) rows.items) }
     ensures few { IfOk result (λ rows. length rows.items ≤ 4096) }

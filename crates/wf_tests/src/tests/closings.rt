@@ -1,5 +1,5 @@
-//! Closing beside the plain closing: the root of a task, and then the box in which a point has one candidate, for each
-//! candidate of each point in turn.
+//! Closing beside the plain closing: the root of a task, and then the box in which a point has one
+//! candidate, for each candidate of each point in turn.
 
 ghost use Rattle.std.specs.Prelude.{◌≡◌, ◌<◌, ◌≤◌, length, IfOk, IfSome, OnOk};
 ghost use Rattle.wf_model.specs.Problem as model;
@@ -76,7 +76,8 @@ fn tried_points(points: u32, plain: &PlainProblem) -> u32
     }
 }
 
-/// Whether both boxes close alike after each candidate of a point is set, and taken back before the next.
+/// Whether both boxes close alike after each candidate of a point is set, and
+/// taken back before the next.
 fn is_same_after(
     alloc: Global,
     problem: &Problem,
@@ -144,8 +145,8 @@ pub(crate) fn with_value(
     Ok(Some(tried))
 }
 
-/// Closes both boxes. How that ends, and whether it ends alike, adds the same lines, and leaves the same candidates
-/// where it empties no point.
+/// Closes both boxes. How that ends, and whether it ends alike, adds the same lines, and leaves the
+/// same candidates where it empties no point.
 fn close_both(
     alloc: Global,
     problem: &Problem,

@@ -21,7 +21,8 @@ pub(crate) const ZERO: Inputs = Some([0; 4]);
 /// Each process begins with its own number.
 pub(crate) const OWN: Inputs = Some([0, 1, 2, 3]);
 
-/// What differs first between the protocol complexes of a task and those of the slow program, up to this many rounds.
+/// What differs first between the protocol complexes of a task and those of
+/// the slow program, up to this many rounds.
 pub(crate) fn first_difference(
     alloc: Global,
     text: &str,
@@ -36,7 +37,8 @@ pub(crate) fn first_difference(
     Ok(None)
 }
 
-/// What differs between the protocol complex of a task and that of the slow program, if anything does.
+/// What differs between the protocol complex of a task and that of the slow
+/// program, if anything does.
 fn difference(
     alloc: Global,
     text: &str,
@@ -48,7 +50,8 @@ fn difference(
     Ok(difference_from(alloc, &protocol, &plain, inputs)?)
 }
 
-/// What differs between a protocol complex and that of the slow program for this task, if anything does.
+/// What differs between a protocol complex and that of the slow program for
+/// this task, if anything does.
 fn difference_from(
     alloc: Global,
     protocol: &Protocol,
@@ -70,7 +73,8 @@ fn difference_from(
     Ok(None)
 }
 
-/// Whether there are as many executions and points, and each execution has the same processes with the same points.
+/// Whether there are as many executions and points, and each execution has
+/// the same processes with the same points.
 fn has_problem(alloc: Global, protocol: &Protocol, plain: &PlainTask) -> Result<bool, AllocError> {
     let problem = problem_of(alloc, plain, protocol.rounds() as usize)?;
     let same = protocol.executions() as usize == problem.constraints.len()

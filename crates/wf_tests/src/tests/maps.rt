@@ -8,8 +8,8 @@ use wf_oracle::{Task as PlainTask, decision_maps};
 use wf_plain::least_map;
 use wf_task::Task;
 
-/// The first number of rounds, up to this many, at which the search does not answer the first of all decision maps, or
-/// none where there is none.
+/// The first number of rounds, up to this many, at which the search does not answer the first of
+/// all decision maps, or none where there is none.
 pub(crate) fn first_difference(alloc: Global, text: &str, most: u32) -> Result<Option<u32>, Fail> {
     for rounds in 0..=most {
         if !has_first_map(alloc, text, rounds)? {

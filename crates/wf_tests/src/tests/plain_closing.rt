@@ -1,4 +1,5 @@
-//! Closing, step by step as it is defined: candidates are lists, and each tuple is tried for each of them.
+//! Closing, step by step as it is defined: candidates are lists, and each
+//! tuple is tried for each of them.
 
 use std::alloc::{AllocError, Global};
 use std::test::Fail;
@@ -69,7 +70,8 @@ pub(crate) fn close(
     Err(Fail::new("sweeps without end"))
 }
 
-/// Takes out of each execution in turn what it has lost. The point that this empties, if there is one.
+/// Takes out of each execution in turn what it has lost. The point that this
+/// empties, if there is one.
 fn sweep(
     alloc: Global,
     problem: &Problem,
@@ -137,7 +139,8 @@ fn candidates(sets: &[Vec<usize>], point: usize) -> &[usize] {
     }
 }
 
-/// Takes the losses of an execution out, with their lines. The point that this empties, if there is one.
+/// Takes the losses of an execution out, with their lines. The point that
+/// this empties, if there is one.
 fn take_out_each(
     execution: u32,
     losses: &[Loss],

@@ -117,8 +117,8 @@ fn has_branches(alloc: Global, cover: &Cover, plain: &PlainProblem) -> Result<bo
     Ok(wanted.len() == cover.branches() as usize)
 }
 
-/// The first map of a branch, with the lines of the root up to it; or all lines of the root, filled with those of the
-/// branches.
+/// The first map of a branch, with the lines of the root up to it; or all lines of the root, filled
+/// with those of the branches.
 fn search_cover(alloc: Global, problem: &Problem, cover: &Cover) -> Result<Option<Found>, Fail>
     requires cover { cover.now ≡ outline problem.now }
 {

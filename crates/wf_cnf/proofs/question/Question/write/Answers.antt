@@ -16,7 +16,8 @@ headed a b empty page head piece rest none is put =
     let text = head ++ rest in
     went_on a a b [] empty page text piece text rest (subst (λ p. IsPut a p a empty text text) none (begun a empty text)) put (ap (λ bs. bs ++ rest) (sym is))
 
--- what is left to put after the head, after the clauses of the points, and after those of the executions
+-- what is left to put after the head, after the clauses of the points, and
+-- after those of the executions
 third : Inside → List ℕ
 third q = exclusions_text (values_in q.variables.values) (map values_in (sets_in q.branch))
 
