@@ -46,7 +46,7 @@ module _ (text_of : Task → ℕ → ℕ → List ℕ) (t : Task) (r i : ℕ) (o
   broken text fault (Err found) has there same begun is = (Ok (tt, text), (has, there, same), (is.1, begun))
 
   pub written : (text : List ℕ) → HasComplex t r → HasBranch t r i → text ≡ text_of t r i → WritesText old new text (Ok tt) → Ran (AnswersBranch (IsBranchTextOf text_of) t r i) old new (Ok tt)
-  written text has there same took = (Ok (tt, text), (has, there, same), (refl, took))
+  written text has there same wrote = (Ok (tt, text), (has, there, same), (refl, wrote))
 
 -- ---- the branch that is found
 

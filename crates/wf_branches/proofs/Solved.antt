@@ -23,7 +23,7 @@ use Rattle.wf_lines.specs.declared.line.Line as code
 use Rattle.wf_pool.specs.Branches.{AreLinesAt, IsMapAt, branch_count}
 use Rattle.wf_report.specs.declared.form.Form.{Form}
 use Rattle.wf_io.specs.Seen.{Reading, Writing}
-use Rattle.wf_io.specs.Texts.{Took}
+use Rattle.wf_io.specs.Texts.{Wrote}
 use Rattle.wf_engine.specs.Headline.{GaveTask}
 use Rattle.wf_engine.specs.Run.{Hands, IsTaskOf, Next, Reads}
 use Rattle.wf_engine.specs.Texts.{lines_kept, map_body}
@@ -91,17 +91,17 @@ none_part t r i form ls text task (there, (nothing, kept)) is =
 module _ (rounds branch : ℕ) (form : Form) (source source' : Reading) (sink sink' : Writing) where
   abbrev Right : Outcome → Type 0
   Right found =
-      (t : Task) × (text : List ℕ) × GaveTask source source' t × HasBranch t rounds branch × IsSolvedIn form t rounds branch found text × Took sink sink' text 0
+      (t : Task) × (text : List ℕ) × GaveTask source source' t × HasBranch t rounds branch × IsSolvedIn form t rounds branch found text × Wrote sink sink' text
 
   of_task : (found : Outcome) (text : List ℕ) (task : Result Task RunFault) → Reads IsTaskOf source source' task
-      → Next (λ t. AnswersBranch (IsSolvedIn form) t rounds branch) task (Ok (found, text)) → Took sink sink' text 0 → Right found
-  of_task found text (Ok t) (read, reads, judged) next took = (t, text, task_read source source' read t reads judged, next.1, next.2, took)
-  of_task found text (Err e) reads next took = absurd (let bad : ⊥ = cc in bad)
+      → Next (λ t. AnswersBranch (IsSolvedIn form) t rounds branch) task (Ok (found, text)) → Wrote sink sink' text → Right found
+  of_task found text (Ok t) (read, reads, judged) next wrote = (t, text, task_read source source' read t reads judged, next.1, next.2, wrote)
+  of_task found text (Err e) reads next wrote = absurd (let bad : ⊥ = cc in bad)
 
   of_answer : (found : Outcome) (answer : Result (Outcome × List ℕ) RunFault)
       → AsksBranch (IsSolvedIn form) rounds branch source source' answer → Hands sink sink' answer (Ok found) → Right found
-  of_answer found (Ok (x, text)) (task, reads, next) (same, took) =
-      of_task found text task reads (subst (λ y. Next (λ t. AnswersBranch (IsSolvedIn form) t rounds branch) task (Ok (y, text))) (sym same) next) took
+  of_answer found (Ok (x, text)) (task, reads, next) (same, wrote) =
+      of_task found text task reads (subst (λ y. Next (λ t. AnswersBranch (IsSolvedIn form) t rounds branch) task (Ok (y, text))) (sym same) next) wrote
   of_answer found (Err e) asks hands = absurd (let bad : ⊥ = cc in bad)
 
 pub branch_answers_true : BranchAnswersAreTrue

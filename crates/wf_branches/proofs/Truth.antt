@@ -12,7 +12,7 @@ use Rattle.wf_formula.specs.Branches.{branch_at, branch_question, branches, form
 use Rattle.wf_formula.specs.Encoding.{stating}
 use Rattle.wf_formula.proofs.Branches.{is_model_in}
 use Rattle.wf_io.specs.Seen.{Reading}
-use Rattle.wf_io.specs.Texts.{Took}
+use Rattle.wf_io.specs.Texts.{Wrote}
 use Rattle.wf_rup.specs.Seen.{HasNoModel, Known}
 use Rattle.wf_cnf.specs.Posing.{FollowsFrom, IsPosed}
 use Rattle.wf_engine.specs.Proofs.{ReadsAsProof}
@@ -59,7 +59,7 @@ pub branch_refutations_true : BranchRefutationsAreTrue
 branch_refutations_true r i task task' proof proof' sink sink' ran =
     let end = done (ReadsProofIn i) r task task' proof proof' sink sink' ran in
     let (has, none, same) = was_found i end.t r proof proof' end.text end.read.0 end.read.1 end.read.2 in
-    (end.t, end.given, has, none, subst (λ text. Took sink sink' text 0) same end.took)
+    (end.t, end.given, has, none, subst (λ text. Wrote sink sink' text) same end.wrote)
 
 -- ---- whether there is such a branch
 

@@ -22,7 +22,7 @@ use Rattle.wf_model.proofs.WellFormed.{task_well_formed}
 use Rattle.wf_formula.specs.Branches.{branch_at, branches}
 use Rattle.wf_io.specs.Seen.{Reading, Writing}
 use Rattle.wf_io.specs.Texts as io
-use Rattle.wf_io.specs.Texts.{Took}
+use Rattle.wf_io.specs.Texts.{Wrote}
 use Rattle.wf_io.specs.declared.source.ReadFault.{ReadFault}
 use Rattle.wf_io.specs.declared.source.ReadFault.TheVariants as read
 use Rattle.wf_check.specs.Within.{fault_within, report_fault_within}
@@ -114,7 +114,7 @@ pub part_acceptances_true : PartAcceptancesAreTrue
 part_acceptances_true r i task task' part part' sink sink' ran =
     let end = done (ReadsIn ReadsPart i) r task task' part part' sink sink' ran in
     let (has, (report, holds, same)) = of_branch i end.t r part part' end.text end.read.0 end.read.1 end.read.2 in
-    (end.t, report.body, end.given, has, holds, subst (λ text. Took sink sink' text 0) same end.took)
+    (end.t, report.body, end.given, has, holds, subst (λ text. Wrote sink sink' text) same end.wrote)
 
 -- ---- counts
 

@@ -6,7 +6,7 @@ use Rattle.wf_model.specs.Task.{Task, IsTask}
 use Rattle.wf_model.specs.DecisionMap.{HasNoDecisionMap}
 use Rattle.wf_formula.specs.Branches.{branches}
 use Rattle.wf_io.specs.Seen.{Reading, Writing}
-use Rattle.wf_io.specs.Texts.{Took}
+use Rattle.wf_io.specs.Texts.{Wrote}
 use Rattle.wf_engine.specs.Headline.{GaveTask}
 use Rattle.wf_check.specs.Truth.{HoldsOf}
 use Rattle.wf_engine.specs.Laws.{Accepts, IsChecked, IsCounted}
@@ -31,7 +31,7 @@ BranchAnswersAreTrue =
     (rounds branch : ℕ) (form : Form) (source source' : Reading) (sink sink' : Writing) (found : Outcome)
     → SolvesBranch rounds branch form source source' sink sink' (Ok found)
     → (t : Task) × (text : List ℕ) × GaveTask source source' t × HasBranch t rounds branch
-    × IsSolvedIn form t rounds branch found text × Took sink sink' text 0
+    × IsSolvedIn form t rounds branch found text × Wrote sink sink' text
 
 -- where no decision map lies in any branch, no function on the views is a decision map
 abbrev pub BranchesCoverAllMaps : Type 0
@@ -44,7 +44,7 @@ BranchRefutationsAreTrue =
     (rounds branch : ℕ) (task task' proof proof' : Reading) (sink sink' : Writing)
     → RefutesBranch rounds branch task task' proof proof' sink sink' (Ok tt)
     → (t : Task) × GaveTask task task' t × HasBranch t rounds branch × HasNoMapIn t rounds branch
-    × Took sink sink' (accepted_text branch (length (branches t rounds)) rounds) 0
+    × Wrote sink sink' (accepted_text branch (length (branches t rounds)) rounds)
 
 abbrev pub ListingBranchesIsCounted : Type 0
 ListingBranchesIsCounted =
@@ -63,7 +63,7 @@ PartAcceptancesAreTrue =
     (rounds branch : ℕ) (task task' part part' : Reading) (sink sink' : Writing)
     → VerifiesBranch rounds branch task task' part part' sink sink' (Ok tt)
     → (t : Task) × (body : Body) × GaveTask task task' t × HasBranch t rounds branch × HoldsIn t rounds branch body
-    × Took sink sink' (accepted_in (accepted_words body) branch (length (branches t rounds)) rounds) 0
+    × Wrote sink sink' (accepted_in (accepted_words body) branch (length (branches t rounds)) rounds)
 
 abbrev pub PartCheckingIsCounted : Type 0
 PartCheckingIsCounted =

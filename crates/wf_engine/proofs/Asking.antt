@@ -47,4 +47,4 @@ module _ (text_of : Task → ℕ → List ℕ) (t : Task) (r : ℕ) (old new : W
   broken text fault (Err found) has same begun is = (Ok (tt, text), (has, same), (is.1, begun))
 
   pub written : (text : List ℕ) → HasComplex t r → text ≡ text_of t r → WritesText old new text (Ok tt) → Ran (Answers (IsTextOf text_of) t r) old new (Ok tt)
-  written text has same took = (Ok (tt, text), (has, same), (refl, took))
+  written text has same wrote = (Ok (tt, text), (has, same), (refl, wrote))

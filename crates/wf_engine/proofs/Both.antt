@@ -2,7 +2,7 @@
 use Rattle.std.proofs.Common.{◌≡◌, ℕ, ◌+◌, ◌≤◌, List, Result, Ok, Err, sym, ap, subst, ◌∙◌, arith}
 use Rattle.wf_model.specs.Task.{Task}
 use Rattle.wf_io.specs.Seen.{Reading, Writing}
-use Rattle.wf_io.specs.Texts.{Took}
+use Rattle.wf_io.specs.Texts.{Wrote}
 use Rattle.wf_complex.specs.Protocol.{Built}
 use Rattle.wf_engine.specs.declared.fault.RunFault.{RunFault}
 use Rattle.wf_engine.specs.Run.{Hands, IsTaskOf, Ran, Reads, failed_reads, failed_writes, by_result}
@@ -21,21 +21,21 @@ pub record IsDone (reads : ReadsAbout) (r : ℕ) (task task' other other' : Read
   pub text : List ℕ
   pub given : GaveTask task task' t
   pub read : reads t r other other' (Ok (tt, text))
-  pub took : Took sink sink' text 0
+  pub wrote : Wrote sink sink' text
 
 module _ (reads : ReadsAbout) (r : ℕ) (task task' other other' : Reading) (sink sink' : Writing) where
-  of_complex : (text : List ℕ) (t : Task) (b : Result Built RunFault) → GaveTask task task' t → NextReads (λ b. reads t r) other other' b (Ok (tt, text)) → Took sink sink' text 0
+  of_complex : (text : List ℕ) (t : Task) (b : Result Built RunFault) → GaveTask task task' t → NextReads (λ b. reads t r) other other' b (Ok (tt, text)) → Wrote sink sink' text
       → IsDone reads r task task' other other' sink sink'
-  of_complex text t (Ok b) gave read took = record { t = t; text = text; given = gave; read = read; took = took }
-  of_complex text t (Err e) gave read took = absurd (let bad : ⊥ = cc in bad)
+  of_complex text t (Ok b) gave read wrote = record { t = t; text = text; given = gave; read = read; wrote = wrote }
+  of_complex text t (Err e) gave read wrote = absurd (let bad : ⊥ = cc in bad)
 
-  of_task : (text : List ℕ) (t : Result Task RunFault) → Reads IsTaskOf task task' t → NextReads (AsksWithin reads r) other other' t (Ok (tt, text)) → Took sink sink' text 0
+  of_task : (text : List ℕ) (t : Result Task RunFault) → Reads IsTaskOf task task' t → NextReads (AsksWithin reads r) other other' t (Ok (tt, text)) → Wrote sink sink' text
       → IsDone reads r task task' other other' sink sink'
-  of_task text (Ok t) (said, given, judged) (b, complex, next) took = of_complex text t b (task_read task task' said t given judged) next took
-  of_task text (Err e) given next took = absurd (let bad : ⊥ = cc in bad)
+  of_task text (Ok t) (said, given, judged) (b, complex, next) wrote = of_complex text t b (task_read task task' said t given judged) next wrote
+  of_task text (Err e) given next wrote = absurd (let bad : ⊥ = cc in bad)
 
   of_answer : (answer : Result (Unit {0} × List ℕ) RunFault) → AsksBoth reads r task task' other other' answer → Hands sink sink' answer (Ok tt) → IsDone reads r task task' other other' sink sink'
-  of_answer (Ok (x, text)) (t, given, next) (same, took) = of_task text t given (subst (λ y. NextReads (AsksWithin reads r) other other' t (Ok (y, text))) (sym same) next) took
+  of_answer (Ok (x, text)) (t, given, next) (same, wrote) = of_task text t given (subst (λ y. NextReads (AsksWithin reads r) other other' t (Ok (y, text))) (sym same) next) wrote
   of_answer (Err e) asks hands = absurd (let bad : ⊥ = cc in bad)
 
   pub done : Ran (AsksBoth reads r task task' other other') sink sink' (Ok tt) → IsDone reads r task task' other other' sink sink'

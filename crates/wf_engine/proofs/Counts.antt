@@ -62,7 +62,7 @@ unwritten old new (Err e) same = λ other. same
 
 pub handed : {X : Type 0} (old new : Writing) (answer : Result (X × List ℕ) RunFault) (result : Result X RunFault) → Hands old new answer result → by_result failed_writes answer ≡ 0
     → Told old new answer result
-handed old new (Ok a) (Ok x) h w = record { reads = refl; writes = h.1.failures; unwritten = tt }
+handed old new (Ok a) (Ok x) h w = record { reads = refl; writes = h.1.took.failures; unwritten = tt }
 handed old new (Ok a) (Err e) (is, begun) w =
     let (n, short, took) = begun in
     record {

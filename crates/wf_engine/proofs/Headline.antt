@@ -6,7 +6,7 @@ use Rattle.wf_model.specs.Report.{Report, report_about, report_of, report_text}
 use Rattle.wf_model.proofs.WholeReports.{numbers}
 use Rattle.wf_core.specs.declared.Account.{Account}
 use Rattle.wf_io.specs.Seen.{Reading, Writing}
-use Rattle.wf_io.specs.Texts.{Gave, ReadsText, Took}
+use Rattle.wf_io.specs.Texts.{Gave, ReadsText, Wrote}
 use Rattle.wf_io.specs.declared.source.ReadFault.{ReadFault}
 use Rattle.wf_task.specs.Judge.{text_of}
 use Rattle.wf_report.specs.declared.form.Form.{Form}
@@ -49,17 +49,17 @@ says form t r outcome.Nothing a text (ls, refutation, account, is) = (refutation
 
 module _ (rounds : ℕ) (form : Form) (source source' : Reading) (sink sink' : Writing) where
   abbrev Right : Outcome → Type 0
-  Right found = (t : Task) × (text : List ℕ) × GaveTask source source' t × Says form t rounds found text × Took sink sink' text 0
+  Right found = (t : Task) × (text : List ℕ) × GaveTask source source' t × Says form t rounds found text × Wrote sink sink' text
 
   of_task : (found : Outcome) (account : Account) (text : List ℕ) (task : Result Task RunFault) → Reads IsTaskOf source source' task
-      → Next (λ t. Answers (IsSolved form) t rounds) task (Ok ((found, account), text)) → Took sink sink' text 0 → Right found
-  of_task found account text (Ok t) (read, reads, judged) next took = (t, text, task_read source source' read t reads judged, says form t rounds found account text next.1, took)
-  of_task found account text (Err e) reads next took = absurd (let bad : ⊥ = cc in bad)
+      → Next (λ t. Answers (IsSolved form) t rounds) task (Ok ((found, account), text)) → Wrote sink sink' text → Right found
+  of_task found account text (Ok t) (read, reads, judged) next wrote = (t, text, task_read source source' read t reads judged, says form t rounds found account text next.1, wrote)
+  of_task found account text (Err e) reads next wrote = absurd (let bad : ⊥ = cc in bad)
 
   of_answer : (found : Outcome) (account : Account) (answer : Result ((Outcome × Account) × List ℕ) RunFault)
       → Asks (IsSolved form) rounds source source' answer → Hands sink sink' answer (Ok (found, account)) → Right found
-  of_answer found account (Ok (x, text)) (task, reads, next) (same, took) =
-      of_task found account text task reads (subst (λ y. Next (λ t. Answers (IsSolved form) t rounds) task (Ok (y, text))) (sym same) next) took
+  of_answer found account (Ok (x, text)) (task, reads, next) (same, wrote) =
+      of_task found account text task reads (subst (λ y. Next (λ t. Answers (IsSolved form) t rounds) task (Ok (y, text))) (sym same) next) wrote
   of_answer found account (Err e) asks hands = absurd (let bad : ⊥ = cc in bad)
 
 pub answers_true : AnswersAreTrue
@@ -75,47 +75,47 @@ record IsTold {X : Type 0} (rounds : Option ℕ) (is_text : Task → Report → 
   pub truth : GaveTruth task task' cert cert' t r.rounds r.body
   pub asked : AreAsked rounds r.rounds
   pub is : is_text t r x text
-  pub took : Took sink sink' text 0
+  pub wrote : Wrote sink sink' text
 
 module _ {X : Type 0} (rounds : Option ℕ) (is_text : Task → Report → X → List ℕ → Type 0) (task task' cert cert' : Reading) (sink sink' : Writing) (x : X) where
   of_verified : (text : List ℕ) (t : Task) (r : Report) → GaveTask task task' t → Reads IsReportOf cert cert' (Ok r)
-      → AreAsked rounds r.rounds → IsVerified is_text t r (Ok (x, text)) → Took sink sink' text 0 → IsTold rounds is_text task task' cert cert' sink sink' x
-  of_verified text t r gave (read, reads, judged) asked next took = record {
+      → AreAsked rounds r.rounds → IsVerified is_text t r (Ok (x, text)) → Wrote sink sink' text → IsTold rounds is_text task task' cert cert' sink sink' x
+  of_verified text t r gave (read, reads, judged) asked next wrote = record {
     t = t;
     r = r;
     text = text;
     truth = record { task_given = gave; report_given = report_read cert cert' read t r reads judged next.0; holds = next.0.holds };
     asked = asked;
     is = next.1;
-    took = took;
+    wrote = wrote;
   }
 
   of_rounds : (k : Option ℕ) (same : k ≡ rounds) (text : List ℕ) (t : Task) (r : Report) → GaveTask task task' t → Reads IsReportOf cert cert' (Ok r)
-      → IsVerifiedFor k is_text t r (Ok (x, text)) → Took sink sink' text 0 → IsTold rounds is_text task task' cert cert' sink sink' x
-  of_rounds None same text t r gave reads next took = of_verified text t r gave reads (subst (λ o. AreAsked o r.rounds) same tt) next took
-  of_rounds (Some n) same text t r gave reads (inl (asked, next)) took = of_verified text t r gave reads (subst (λ o. AreAsked o r.rounds) same asked) next took
-  of_rounds (Some n) same text t r gave reads (inr (other, refused)) took = absurd (let bad : ⊥ = cc in bad)
+      → IsVerifiedFor k is_text t r (Ok (x, text)) → Wrote sink sink' text → IsTold rounds is_text task task' cert cert' sink sink' x
+  of_rounds None same text t r gave reads next wrote = of_verified text t r gave reads (subst (λ o. AreAsked o r.rounds) same tt) next wrote
+  of_rounds (Some n) same text t r gave reads (inl (asked, next)) wrote = of_verified text t r gave reads (subst (λ o. AreAsked o r.rounds) same asked) next wrote
+  of_rounds (Some n) same text t r gave reads (inr (other, refused)) wrote = absurd (let bad : ⊥ = cc in bad)
 
   of_report : (text : List ℕ) (t : Task) (r : Result Report RunFault) → GaveTask task task' t → Reads IsReportOf cert cert' r
-      → Next (IsVerifiedFor rounds is_text t) r (Ok (x, text)) → Took sink sink' text 0 → IsTold rounds is_text task task' cert cert' sink sink' x
-  of_report text t (Ok r) gave reads next took = of_rounds rounds refl text t r gave reads next took
-  of_report text t (Err e) gave reads next took = absurd (let bad : ⊥ = cc in bad)
+      → Next (IsVerifiedFor rounds is_text t) r (Ok (x, text)) → Wrote sink sink' text → IsTold rounds is_text task task' cert cert' sink sink' x
+  of_report text t (Ok r) gave reads next wrote = of_rounds rounds refl text t r gave reads next wrote
+  of_report text t (Err e) gave reads next wrote = absurd (let bad : ⊥ = cc in bad)
 
-  of_both : (text : List ℕ) (t : Result Task RunFault) → Reads IsTaskOf task task' t → ChecksFor rounds is_text cert cert' t (Ok (x, text)) → Took sink sink' text 0
+  of_both : (text : List ℕ) (t : Result Task RunFault) → Reads IsTaskOf task task' t → ChecksFor rounds is_text cert cert' t (Ok (x, text)) → Wrote sink sink' text
       → IsTold rounds is_text task task' cert cert' sink sink' x
-  of_both text (Ok t) (read, reads, judged) (r, report, next) took = of_report text t r (task_read task task' read t reads judged) report next took
-  of_both text (Err e) reads checks took = absurd (let bad : ⊥ = cc in bad)
+  of_both text (Ok t) (read, reads, judged) (r, report, next) wrote = of_report text t r (task_read task task' read t reads judged) report next wrote
+  of_both text (Err e) reads checks wrote = absurd (let bad : ⊥ = cc in bad)
 
   of_check : (answer : Result (X × List ℕ) RunFault) → Checks rounds is_text task task' cert cert' answer → Hands sink sink' answer (Ok x) → IsTold rounds is_text task task' cert cert' sink sink' x
-  of_check (Ok (y, text)) (t, reads, checks) (same, took) = of_both text t reads (subst (λ z. ChecksFor rounds is_text cert cert' t (Ok (z, text))) (sym same) checks) took
+  of_check (Ok (y, text)) (t, reads, checks) (same, wrote) = of_both text t reads (subst (λ z. ChecksFor rounds is_text cert cert' t (Ok (z, text))) (sym same) checks) wrote
   of_check (Err e) checks hands = absurd (let bad : ⊥ = cc in bad)
 
 pub acceptances_true : AcceptancesAreTrue
 acceptances_true rounds task task' cert cert' sink sink' accepted (answer, checks, hands) =
     let told = of_check rounds (IsAccepted rounds) task task' cert cert' sink sink' accepted answer checks hands in
-    (told.t, told.r.rounds, told.r.body, told.truth, told.asked, told.is.0, subst (λ text. Took sink sink' text 0) told.is.1 told.took)
+    (told.t, told.r.rounds, told.r.body, told.truth, told.asked, told.is.0, subst (λ text. Wrote sink sink' text) told.is.1 told.wrote)
 
 pub decisions_true : DecisionsAreTrue
 decisions_true task task' cert cert' sink sink' (answer, checks, hands) =
     let told = of_check None AreDecisions task task' cert cert' sink sink' tt answer checks hands in
-    (told.t, told.r.rounds, told.r.body, told.truth, subst (λ text. Took sink sink' text 0) told.is told.took)
+    (told.t, told.r.rounds, told.r.body, told.truth, subst (λ text. Wrote sink sink' text) told.is told.wrote)

@@ -8,7 +8,7 @@ use Rattle.wf_model.specs.Report.{Body, a_map, none}
 use Rattle.wf_model.specs.PointsText.{points_text}
 use Rattle.wf_core.specs.declared.Account.{Account}
 use Rattle.wf_io.specs.Seen.{Reading, Writing}
-use Rattle.wf_io.specs.Texts.{Gave, Took}
+use Rattle.wf_io.specs.Texts.{Gave, Wrote}
 use Rattle.wf_task.specs.Judge.{text_of}
 use Rattle.wf_report.specs.declared.form.Form.{Form}
 use Rattle.wf_check.specs.Truth.{HoldsOf}
@@ -40,7 +40,7 @@ abbrev pub AnswersAreTrue : Type 0
 AnswersAreTrue =
     (rounds : ℕ) (form : Form) (source source' : Reading) (sink sink' : Writing) (found : Outcome) (account : Account)
     → Solves rounds form source source' sink sink' (Ok (found, account))
-    → (t : Task) × (text : List ℕ) × GaveTask source source' t × Says form t rounds found text × Took sink sink' text 0
+    → (t : Task) × (text : List ℕ) × GaveTask source source' t × Says form t rounds found text × Wrote sink sink' text
 
 -- ---- what a check accepts
 
@@ -64,7 +64,7 @@ AcceptancesAreTrue =
     (rounds : Option ℕ) (task task' cert cert' : Reading) (sink sink' : Writing) (accepted : Accepted)
     → Verifies rounds task task' cert cert' sink sink' (Ok accepted)
     → (t : Task) × (r : ℕ) × (body : Body) × GaveTruth task task' cert cert' t r body
-    × AreAsked rounds r × (accepted ≡ accepted_of body) × Took sink sink' (accepted_text rounds body) 0
+    × AreAsked rounds r × (accepted ≡ accepted_of body) × Wrote sink sink' (accepted_text rounds body)
 
 -- where decisions are told, such a report was given too, and the sink took
 -- the points with the values of its map
@@ -73,7 +73,7 @@ DecisionsAreTrue =
     (task task' cert cert' : Reading) (sink sink' : Writing)
     → Decides task task' cert cert' sink sink' (Ok tt)
     → (t : Task) × (r : ℕ) × (body : Body) × GaveTruth task task' cert cert' t r body
-    × Took sink sink' (points_text t r (values_of body)) 0
+    × Wrote sink sink' (points_text t r (values_of body))
 
 -- ---- what is reported of a solver's model
 
@@ -84,7 +84,7 @@ ModelsAreTrue =
     (rounds : ℕ) (task task' output output' : Reading) (sink sink' : Writing)
     → Models rounds task task' output output' sink sink' (Ok tt)
     → (t : Task) × (m : View → ℕ) × GaveTask task task' t × IsDecisionMap t rounds m
-    × Took sink sink' (text_of_report t rounds (a_map (listed t rounds m))) 0
+    × Wrote sink sink' (text_of_report t rounds (a_map (listed t rounds m)))
 
 -- ---- what a solver's proof shows
 
@@ -94,4 +94,4 @@ abbrev pub RefutationsAreTrue : Type 0
 RefutationsAreTrue =
     (rounds : ℕ) (task task' proof proof' : Reading) (sink sink' : Writing)
     → Refutes rounds task task' proof proof' sink sink' (Ok tt)
-    → (t : Task) × GaveTask task task' t × HasNoDecisionMap t rounds × Took sink sink' (accepted_text (Some rounds) (none [])) 0
+    → (t : Task) × GaveTask task task' t × HasNoDecisionMap t rounds × Wrote sink sink' (accepted_text (Some rounds) (none []))

@@ -4,7 +4,7 @@ use Rattle.wf_model.specs.Limits.{most_bytes}
 use Rattle.wf_model.specs.Task.{Task, IsTask}
 use Rattle.wf_core.specs.declared.Account.{Account}
 use Rattle.wf_io.specs.Seen.{Reading, Writing}
-use Rattle.wf_io.specs.Texts.{Took}
+use Rattle.wf_io.specs.Texts.{Wrote}
 use Rattle.wf_engine.specs.declared.outcome.Outcome.{Outcome}
 use Rattle.wf_engine.specs.declared.outcome.Outcome.TheVariants as outcome
 use Rattle.wf_engine.specs.declared.outcome.Accepted.{Accepted}
@@ -116,5 +116,5 @@ abbrev pub ModelsAreAccepted : Type 0
 ModelsAreAccepted =
     (rounds : ℕ) (task task' output output' : Reading) (sink sink' : Writing)
     → Models rounds task task' output output' sink sink' (Ok tt)
-    → (t : Task) × (text : List ℕ) × GaveTask task task' t × Took sink sink' text 0
+    → (t : Task) × (text : List ℕ) × GaveTask task task' t × Wrote sink sink' text
     × (length text ≤ most_bytes → (answer : Result (Accepted × List ℕ) RunFault) → ChecksText (Some rounds) t text answer → Accepts accepted.Map answer)

@@ -4,7 +4,7 @@ use Rattle.std.specs.Prelude.{◌≡◌, ℕ, List, Result, Ok, Err, Vec}
 use Rattle.wf_model.specs.Limits.{most_bytes}
 use Rattle.wf_model.specs.Task.{Task}
 use Rattle.wf_io.specs.Seen.{Reading, Writing}
-use Rattle.wf_io.specs.Texts.{ReadsText, Took, TookBeginning}
+use Rattle.wf_io.specs.Texts.{ReadsText, Wrote, TookBeginning}
 use Rattle.wf_io.specs.declared.source.ReadFault.{ReadFault}
 use Rattle.wf_task.specs.Judge.{text_of}
 use Rattle.wf_task.specs.declared.fault.TaskFault.{TaskFault}
@@ -77,7 +77,7 @@ Asks is_text r old new result =
 -- An answer's text was written whole; or a call of the writer failed, and a beginning of the text
 -- was written; or there is none, and the sink is as it was.
 abbrev pub Hands : {X : Type 0} → Writing → Writing → Result (X × List ℕ) RunFault → Result X RunFault → Type 0
-Hands old new (Ok answer) (Ok x) = (x ≡ answer.0) × Took old new answer.1 0
+Hands old new (Ok answer) (Ok x) = (x ≡ answer.0) × Wrote old new answer.1
 Hands old new (Ok answer) (Err e) = (e ≡ Write) × TookBeginning old new answer.1
 Hands old new (Err e) result = (result ≡ Err e) × (new ≡ old)
 

@@ -6,7 +6,7 @@ use Rattle.std.proofs.lemmas.Bool.{false≢true}
 use Rattle.std.proofs.KnownBytes.{Appends-nil, Appends-trans}
 use Rattle.wf_io.specs.Seen.{Writing}
 use Rattle.wf_io.specs.Ends.{CanWrite}
-use Rattle.wf_io.specs.Texts.{Took, TookBeginning, WritesText, PutsText}
+use Rattle.wf_io.specs.Texts.{Took, TookBeginning, SendsText, WritesText, PutsText}
 use Rattle.wf_io.specs.declared.sink.WriteFault.{WriteFault}
 
 -- bytes that a sink took, and then more, with its failures
@@ -78,9 +78,9 @@ last_put a b c page page' page'' text piece rest (Err fault) before put last =
 -- what the page holds at the end is passed on, or a beginning of it
 pub passed_on : (a b c : Writing) (page text rest : List ℕ) (result : Result (Unit {0}) WriteFault) → IsPut a [] b page text rest → rest ≡ []
     → WritesText b c page result → WritesText a c text result
-passed_on a b c page text rest (Ok tt) before none took =
+passed_on a b c page text rest (Ok done) before none wrote =
     let whole = ap (λ bs. before.taken ++ bs) (sym (append-nil page) ∙ ap (λ bs. page ++ bs) (sym none)) ∙ before.together in
-    subst (λ bs. Took a c bs 0) whole (Took-then a b c before.taken page 0 before.took took)
+    record { took = subst (λ bs. Took a c bs 0) whole (Took-then a b c before.taken page 0 before.took wrote.took); flushed = wrote.flushed }
 passed_on a b c page text rest (Err fault) before none beginning =
     let whole = ap (λ bs. before.taken ++ bs) (sym (append-nil page) ∙ ap (λ bs. page ++ bs) (sym none)) ∙ before.together in
     subst (TookBeginning a c) whole (beginning-then a b c before.taken page before.took beginning)
@@ -95,6 +95,6 @@ pub can_go_on : (a b : Writing) (page page' text rest : List ℕ) → CanWrite a
 can_go_on a b page page' text rest room before = omega (arith, room, before.took.failures)
 
 -- the page was passed on, and then a text that it has no room for, or a beginning of it
-pub sent_after : (a b c : Writing) (page text : List ℕ) (result : Result (Unit {0}) WriteFault) → Took a b page 0 → WritesText b c text result → PutsText a page c [] text result
+pub sent_after : (a b c : Writing) (page text : List ℕ) (result : Result (Unit {0}) WriteFault) → Took a b page 0 → SendsText b c text result → PutsText a page c [] text result
 sent_after a b c page text (Ok tt) first second = (page ++ text, Took-then a b c page text 0 first second, append-nil (page ++ text))
 sent_after a b c page text (Err fault) first second = beginning-then a b c page text first second

@@ -1,5 +1,5 @@
 -- Whole texts, read from a source and written to a sink.
-use Rattle.std.specs.Prelude.{ℕ, ◌≡◌, ◌+◌, ◌≤◌, ◌⊎◌, List, ◌++◌, length, take, Option, Some, None, Result, Ok, Err}
+use Rattle.std.specs.Prelude.{ℕ, true, ◌≡◌, ◌+◌, ◌≤◌, ◌⊎◌, List, ◌++◌, length, take, Option, Some, None, Result, Ok, Err}
 use Rattle.std.specs.Io.KnownBytes.{Appends, Consumes, IsAtEnd}
 use Rattle.std.specs.declared.vec.Vec.{Vec}
 use Rattle.wf_io.specs.Seen.{Reading, Writing}
@@ -17,6 +17,11 @@ pub record Gave (old new : Reading) (bytes : List ℕ) (failed : ℕ) : Type 0 w
 pub record Took (old new : Writing) (bytes : List ℕ) (failed : ℕ) : Type 0 where
   pub bytes_are : Appends old.held new.held bytes
   pub failures : new.failures ≡ old.failures + failed
+
+-- the sink took the whole text, no call of it failed, and it was flushed after the last byte
+pub record Wrote (old new : Writing) (text : List ℕ) : Type 0 where
+  pub took : Took old new text 0
+  pub flushed : new.flushed ≡ true
 
 abbrev pub bytes_of : {A E : Type 0} → Result (Vec ℕ A) E → Result (List ℕ) E
 bytes_of (Ok text) = Ok text.items
@@ -45,8 +50,13 @@ abbrev pub TookBeginning : Writing → Writing → List ℕ → Type 0
 TookBeginning old new text = (n : ℕ) × (n ≤ length text) × Took old new (take n text) 1
 
 -- the sink took the text, or a beginning of it
+abbrev pub SendsText : Writing → Writing → List ℕ → Result (Unit {0}) WriteFault → Type 0
+SendsText old new text (Ok done) = Took old new text 0
+SendsText old new text (Err fault) = TookBeginning old new text
+
+-- the sink took the text and was flushed, or it took a beginning of the text
 abbrev pub WritesText : Writing → Writing → List ℕ → Result (Unit {0}) WriteFault → Type 0
-WritesText old new text (Ok done) = Took old new text 0
+WritesText old new text (Ok done) = Wrote old new text
 WritesText old new text (Err fault) = TookBeginning old new text
 
 -- A text was put on a page that is passed on to the sink. What the sink took and what the page

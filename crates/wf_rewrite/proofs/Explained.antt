@@ -1,6 +1,6 @@
 -- What an explanation writes is true.
 use Rattle.std.proofs.Common.{◌≡◌, subst}
-use Rattle.wf_io.specs.Texts.{Gave, Took}
+use Rattle.wf_io.specs.Texts.{Gave, Wrote}
 use Rattle.wf_check.specs.Truth.{HoldsOf}
 use Rattle.wf_engine.specs.Texts.{text_of_report}
 use Rattle.wf_rewrite.specs.Explaining.{ExplanationsAreTrue, body_explained}
@@ -18,5 +18,5 @@ explained_true task task' cert cert' sink sink' (answer, checks, hands) =
       record { task_given = x.given; report_given = given; holds = x.faultless.holds },
       x.shortened.shorter,
       subst (λ n. HoldsOf x.t n x.shorter.body) same x.shortened.faultless.holds,
-      subst (λ n. Took sink sink' (body_explained x.t n x.shorter.body) 0) same x.took,
+      subst (λ n. Wrote sink sink' (body_explained x.t n x.shorter.body)) same x.wrote,
     )

@@ -5,7 +5,7 @@ use Rattle.wf_model.specs.View.{View}
 use Rattle.wf_model.specs.DecisionMap.{IsDecisionMap, listed}
 use Rattle.wf_model.specs.Report.{Report, Body, a_map, none, least}
 use Rattle.wf_io.specs.Seen.{Reading, Writing}
-use Rattle.wf_io.specs.Texts.{Took}
+use Rattle.wf_io.specs.Texts.{Wrote}
 use Rattle.wf_complex.specs.Protocol.{Built}
 use Rattle.wf_lift.specs.Lift.{lifted_by}
 use Rattle.wf_lift.proofs.Lifts.{lifts_by}
@@ -30,9 +30,9 @@ record IsDone (task task' cert cert' : Reading) (sink sink' : Writing) (t : Task
   decides : IsDecisionMap t r m
   listed_is : listed t r m ≡ values_of body
   no_fewer : r ≤ rounds
-  took : Took sink sink' (text_of_report t rounds (a_map (listed t rounds (lifted_by t (rounds - r) m)))) 0
+  wrote : Wrote sink sink' (text_of_report t rounds (a_map (listed t rounds (lifted_by t (rounds - r) m))))
 
-module _ (rounds : Option ℕ) (task task' cert cert' : Reading) (sink sink' : Writing) (text : List ℕ) (took : Took sink sink' text 0) where
+module _ (rounds : Option ℕ) (task task' cert cert' : Reading) (sink sink' : Writing) (text : List ℕ) (wrote : Wrote sink sink' text) where
   abbrev Done : Task → ℕ → Type 0
   Done t r = IsDone task task' cert cert' sink sink' t r (rounds_asked rounds r)
 
@@ -46,7 +46,7 @@ module _ (rounds : Option ℕ) (task task' cert cert' : Reading) (sink sink' : W
     decides = decides;
     listed_is = same;
     no_fewer = no_fewer;
-    took = subst (λ text. Took sink sink' text 0) is took;
+    wrote = subst (λ text. Wrote sink sink' text) is wrote;
   }
 
   of_body : (t : Task) (r : ℕ) (body : Body) → GaveTruth task task' cert cert' t r body → r ≤ rounds_asked rounds r
@@ -79,8 +79,8 @@ done rounds task task' cert cert' sink sink' (answer, asks, hands) = of_answer a
   where
     of_answer : (answer : Result (Unit {0} × List ℕ) RunFault) → AsksLift rounds task task' cert cert' answer → Hands sink sink' answer (Ok tt)
         → (t : Task) × (r : ℕ) × IsDone task task' cert cert' sink sink' t r (rounds_asked rounds r)
-    of_answer (Ok (x, text)) (t, reads, next) (same, took) =
-        of_task rounds task task' cert cert' sink sink' text took t reads (subst (λ y. NextReads (ReadsToLift rounds) cert cert' t (Ok (y, text))) (sym same) next)
+    of_answer (Ok (x, text)) (t, reads, next) (same, wrote) =
+        of_task rounds task task' cert cert' sink sink' text wrote t reads (subst (λ y. NextReads (ReadsToLift rounds) cert cert' t (Ok (y, text))) (sym same) next)
     of_answer (Err e) asks hands = absurd (let bad : ⊥ = cc in bad)
 
 -- the lifted map is a decision map
@@ -102,7 +102,7 @@ lifts_true rounds task task' cert cert' sink sink' ran =
         decides = end.decides;
         no_fewer = end.no_fewer;
         lifted_decides = lifted_decides t r (rounds_asked rounds r) end.m end.within end.no_fewer end.decides;
-        took = end.took;
+        wrote = end.wrote;
       },
     )
 
@@ -116,6 +116,6 @@ lifts_accepted rounds task task' cert cert' sink sink' ran =
       end.body,
       text_of_report t asked (a_map (listed t asked f)),
       end.given,
-      end.took,
+      end.wrote,
       λ short answer checks. map_text_accepted t asked (Some asked) f _ answer refl end.within.1.2.task end.within (lifted_decides t r asked end.m end.within end.no_fewer end.decides) refl short checks,
     )

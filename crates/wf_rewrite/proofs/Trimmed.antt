@@ -4,7 +4,7 @@ use Rattle.wf_model.specs.Limits.{most_bytes}
 use Rattle.wf_model.specs.Task.{Task}
 use Rattle.wf_model.specs.Report.{Report, report_about, report_text}
 use Rattle.wf_io.specs.Seen.{Reading, Writing}
-use Rattle.wf_io.specs.Texts.{Gave, ReadsText, Took}
+use Rattle.wf_io.specs.Texts.{Gave, ReadsText, Wrote}
 use Rattle.wf_io.specs.declared.source.ReadFault.{ReadFault}
 use Rattle.wf_report.specs.Grammar.{IsTextOf}
 use Rattle.wf_report.proofs.Lemmas.{read_written, written_read}
@@ -40,12 +40,12 @@ pub record IsTold (made : Task → Report → List ℕ) (task task' cert cert' :
   pub grammar : IsTextOf r (report_text r)
   pub faultless : IsFaultless t r
   pub shortened : IsShortened t r shorter
-  pub took : Took sink sink' (made t shorter) 0
+  pub wrote : Wrote sink sink' (made t shorter)
 
 module _ (made : Task → Report → List ℕ) (task task' cert cert' : Reading) (sink sink' : Writing) where
   of_text : (text : Result (List ℕ) ReadFault) (t : Task) (r shorter : Report) → GaveTask task task' t → ReadsText most_bytes cert cert' text → Judged IsReportOf text (Ok r)
-      → IsFaultless t r → IsShortened t r shorter → Took sink sink' (made t shorter) 0 → IsTold made task task' cert cert' sink sink'
-  of_text (Ok text) t r shorter gave (given, gives, is) judged faultless shortened took =
+      → IsFaultless t r → IsShortened t r shorter → Wrote sink sink' (made t shorter) → IsTold made task task' cert cert' sink sink'
+  of_text (Ok text) t r shorter gave (given, gives, is) judged faultless shortened wrote =
       let known : IsTextOf r text = read_written text r judged in
       let same : given ≡ report_text r = sym is.0 ∙ known.0 in
       record {
@@ -58,23 +58,23 @@ module _ (made : Task → Report → List ℕ) (task task' cert cert' : Reading)
         grammar = (refl, known.1);
         faultless = faultless;
         shortened = shortened;
-        took = took;
+        wrote = wrote;
       }
-  of_text (Err e) t r shorter gave reads judged faultless shortened took = absurd (let bad : ⊥ = cc in bad)
+  of_text (Err e) t r shorter gave reads judged faultless shortened wrote = absurd (let bad : ⊥ = cc in bad)
 
   of_report : (text : List ℕ) (t : Task) (r : Result Report RunFault) → GaveTask task task' t → Reads IsReportOf cert cert' r
-      → Next (IsVerifiedFor None (AreMade made) t) r (Ok (tt, text)) → Took sink sink' text 0 → IsTold made task task' cert cert' sink sink'
-  of_report text t (Ok r) gave (read, reads, judged) (faultless, (shorter, shortened, is)) took =
-      of_text read t r shorter gave reads judged faultless shortened (subst (λ x. Took sink sink' x 0) is took)
-  of_report text t (Err e) gave reads next took = absurd (let bad : ⊥ = cc in bad)
+      → Next (IsVerifiedFor None (AreMade made) t) r (Ok (tt, text)) → Wrote sink sink' text → IsTold made task task' cert cert' sink sink'
+  of_report text t (Ok r) gave (read, reads, judged) (faultless, (shorter, shortened, is)) wrote =
+      of_text read t r shorter gave reads judged faultless shortened (subst (λ x. Wrote sink sink' x) is wrote)
+  of_report text t (Err e) gave reads next wrote = absurd (let bad : ⊥ = cc in bad)
 
-  of_task : (text : List ℕ) (t : Result Task RunFault) → Reads IsTaskOf task task' t → ChecksFor None (AreMade made) cert cert' t (Ok (tt, text)) → Took sink sink' text 0
+  of_task : (text : List ℕ) (t : Result Task RunFault) → Reads IsTaskOf task task' t → ChecksFor None (AreMade made) cert cert' t (Ok (tt, text)) → Wrote sink sink' text
       → IsTold made task task' cert cert' sink sink'
-  of_task text (Ok t) (read, reads, judged) (r, report, next) took = of_report text t r (task_read task task' read t reads judged) report next took
-  of_task text (Err e) reads checks took = absurd (let bad : ⊥ = cc in bad)
+  of_task text (Ok t) (read, reads, judged) (r, report, next) wrote = of_report text t r (task_read task task' read t reads judged) report next wrote
+  of_task text (Err e) reads checks wrote = absurd (let bad : ⊥ = cc in bad)
 
   pub told : (answer : Result (Unit {0} × List ℕ) RunFault) → Checks None (AreMade made) task task' cert cert' answer → Hands sink sink' answer (Ok tt) → IsTold made task task' cert cert' sink sink'
-  told (Ok (x, text)) (t, reads, checks) (same, took) = of_task text t reads (subst (λ z. ChecksFor None (AreMade made) cert cert' t (Ok (z, text))) (sym same) checks) took
+  told (Ok (x, text)) (t, reads, checks) (same, wrote) = of_task text t reads (subst (λ z. ChecksFor None (AreMade made) cert cert' t (Ok (z, text))) (sym same) checks) wrote
   told (Err e) checks hands = absurd (let bad : ⊥ = cc in bad)
 
 -- ---- what follows
@@ -114,5 +114,5 @@ trimmed_accepted task task' cert cert' sink sink' (answer, checks, hands) =
       record { task_given = x.given; report_given = given; holds = x.faultless.holds },
       x.shortened.shorter,
       good x.t x.r x.shorter x.few x.grammar x.shortened,
-      x.took,
+      x.wrote,
     )

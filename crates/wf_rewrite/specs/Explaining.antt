@@ -5,7 +5,7 @@ use Rattle.wf_model.specs.Task.{Task}
 use Rattle.wf_model.specs.Report.{Body, Report, a_map, none, least}
 use Rattle.wf_model.specs.PointsText.{points_text}
 use Rattle.wf_io.specs.Seen.{Reading, Writing}
-use Rattle.wf_io.specs.Texts.{Took}
+use Rattle.wf_io.specs.Texts.{Wrote}
 use Rattle.wf_check.specs.Truth.{HoldsOf}
 use Rattle.wf_argument.specs.Text.{argument_text}
 use Rattle.wf_engine.specs.Run.{Ran}
@@ -38,7 +38,7 @@ ExplanationsAreTrue =
     (task task' cert cert' : Reading) (sink sink' : Writing)
     → Explains task task' cert cert' sink sink' (Ok tt)
     → (t : Task) × (r : ℕ) × (body shorter : Body) × GaveTruth task task' cert cert' t r body
-    × IsShorter body shorter × HoldsOf t r shorter × Took sink sink' (body_explained t r shorter) 0
+    × IsShorter body shorter × HoldsOf t r shorter × Wrote sink sink' (body_explained t r shorter)
 
 abbrev pub ExplainingIsCounted : Type 0
 ExplainingIsCounted =

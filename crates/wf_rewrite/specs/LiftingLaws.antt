@@ -6,7 +6,7 @@ use Rattle.wf_model.specs.View.{View}
 use Rattle.wf_model.specs.DecisionMap.{IsDecisionMap, listed}
 use Rattle.wf_model.specs.Report.{Body, a_map}
 use Rattle.wf_io.specs.Seen.{Reading, Writing}
-use Rattle.wf_io.specs.Texts.{Took}
+use Rattle.wf_io.specs.Texts.{Wrote}
 use Rattle.wf_lift.specs.Lift.{lifted_by}
 use Rattle.wf_engine.specs.Headline.{GaveTruth}
 use Rattle.wf_engine.specs.Laws.{Accepts, IsChecked}
@@ -28,7 +28,7 @@ pub record TookLifted (task task' cert cert' : Reading) (sink sink' : Writing) (
   pub decides : IsDecisionMap t r m
   pub no_fewer : r ≤ rounds
   pub lifted_decides : IsDecisionMap t rounds (lifted_by t (rounds - r) m)
-  pub took : Took sink sink' (text_of_report t rounds (a_map (listed t rounds (lifted_by t (rounds - r) m)))) 0
+  pub wrote : Wrote sink sink' (text_of_report t rounds (a_map (listed t rounds (lifted_by t (rounds - r) m))))
 
 -- so it is where a lifting ends well, for the rounds that are asked for, or one more
 abbrev pub LiftsAreTrue : Type 0
@@ -43,7 +43,7 @@ abbrev pub LiftsAreAccepted : Type 0
 LiftsAreAccepted =
     (rounds : Option ℕ) (task task' cert cert' : Reading) (sink sink' : Writing)
     → Lifts rounds task task' cert cert' sink sink' (Ok tt)
-    → (t : Task) × (r : ℕ) × (body : Body) × (text : List ℕ) × GaveTruth task task' cert cert' t r body × Took sink sink' text 0
+    → (t : Task) × (r : ℕ) × (body : Body) × (text : List ℕ) × GaveTruth task task' cert cert' t r body × Wrote sink sink' text
     × (length text ≤ most_bytes → (answer : Result (Accepted × List ℕ) RunFault)
     → ChecksText (Some (rounds_asked rounds r)) t text answer → Accepts accepted.Map answer)
 

@@ -4,7 +4,7 @@ use Rattle.wf_model.specs.Limits.{most_bytes}
 use Rattle.wf_model.specs.Task.{Task}
 use Rattle.wf_model.specs.Report.{Body, report_about, report_of}
 use Rattle.wf_io.specs.Seen.{Reading, Writing}
-use Rattle.wf_io.specs.Texts.{Took}
+use Rattle.wf_io.specs.Texts.{Wrote}
 use Rattle.wf_check.specs.Truth.{HoldsOf}
 use Rattle.wf_engine.specs.declared.outcome.Accepted.{Accepted}
 use Rattle.wf_engine.specs.declared.fault.RunFault.{RunFault}
@@ -36,7 +36,7 @@ TrimmedReportsAreAccepted =
     (task task' cert cert' : Reading) (sink sink' : Writing)
     → Trims task task' cert cert' sink sink' (Ok tt)
     → (t : Task) × (r : ℕ) × (body shorter : Body) × (text : List ℕ) × GaveTruth task task' cert cert' t r body
-    × IsShorter body shorter × IsGoodText t r shorter text × Took sink sink' text 0
+    × IsShorter body shorter × IsGoodText t r shorter text × Wrote sink sink' text
 
 abbrev pub TrimmingIsCounted : Type 0
 TrimmingIsCounted =
