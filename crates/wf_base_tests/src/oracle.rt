@@ -49,7 +49,7 @@ fn pair(
     Ok(Task {
         processes: 2,
         symmetric: false,
-        restriction: None,
+        least_block: None,
         delta: rules,
         outputs: owned(alloc, outputs)?,
     })
@@ -194,7 +194,7 @@ fn consensus_of_two(rt: HostRuntime) -> Result<(), Fail> {
     assert!(rt; has_maps(alloc, &task, 0, &[])?);
     assert_eq!(rt; sizes(alloc, &task, 1)?, (4, 5));
     assert!(rt; has_maps(alloc, &task, 1, &[])?);
-    task.restriction = Some(2);
+    task.least_block = Some(2);
     assert_eq!(rt; sizes(alloc, &task, 1)?, (4, 3));
     let maps = decision_maps(alloc, &task, 1)?;
     assert_eq!(rt;

@@ -32,7 +32,7 @@ fn value(x: u32) -> u8
     ((x >> 16) % 6) as u8
 }
 
-// A table of so many rows, whose values are from 0 to 5.
+/// A table of so many rows, whose values are from 0 to 5.
 fn table_of(alloc: Global, size: u32) -> Result<TupleTable, AllocError> {
     let mut rows = Vec::new(alloc);
     let mut x = 1;
@@ -48,8 +48,8 @@ fn table_of(alloc: Global, size: u32) -> Result<TupleTable, AllocError> {
     TupleTable::build(alloc, &rows, 4)
 }
 
-// A checksum of what so many calls find, the sets of the first two places
-// another ones at each call.
+/// A checksum of what so many calls find, the sets of the first two places
+/// another ones at each call.
 fn repeat(table: &TupleTable, calls: u32) -> u64 {
     let mut total: u64 = 0;
     for k in 0..calls {
@@ -81,7 +81,7 @@ fn last_stage(word: Option<String>) -> Last {
     }
 }
 
-// The checksums of two tables.
+/// The checksums of two tables.
 fn print_sums(rt: &HostRuntime) -> Result<()> {
     let large = table_of(rt.alloc(), 300)?;
     let small = table_of(rt.alloc(), 24)?;

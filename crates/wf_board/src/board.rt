@@ -55,14 +55,14 @@ impl Model for BoardSeat {
     ghost invariant = { λ s. Sits s.seen s.posts s.branches s.seat.me };
 }
 
-// A seat with the numbers of the workers that have no seat yet.
+/// A seat with the numbers of the workers that have no seat yet.
 #[derive(Drop)]
 struct Rest {
     seat: Seat<(), View>,
     left: u32,
 }
 
-// The three words of a board that is closed.
+/// The three words of a board that is closed.
 #[derive(Clone, Copy)]
 struct Words {
     least: u32,
@@ -205,7 +205,7 @@ impl Board {
         Ok(seats)
     }
 
-    // One worker's number goes to a seat.
+    /// One worker's number goes to a seat.
     fn hand(&self, rest: &mut Rest) -> BoardSeat
         requires some { 1 < rest.old.left }
         requires rest { IsLeft self.now rest.old.seat.table_id rest.old.seat.me rest.old.left }
@@ -251,7 +251,7 @@ impl Board {
         self.table.shared.fetch_add::<Cut<J>>(&mut seat.seat, 2, 1);
     }
 
-    // The first seat takes in what the others know. The number is that of the posts.
+    /// The first seat takes in what the others know. The number is that of the posts.
     fn gather(&self, first: BoardSeat, seats: Vec<BoardSeat>) -> (Seat<(), View>, u32)
         requires seats { AreSeats self.now (seats.items ++ first ∷ []) }
         requires room { length (seats.items ++ first ∷ []) * self.now.branches < 2 ^ 32 }
@@ -279,7 +279,7 @@ impl Board {
         (all, posts)
     }
 
-    // The words at the end, where the seat has every worker's number.
+    /// The words at the end, where the seat has every worker's number.
     fn close(self, all: Seat<(), View>) -> Words
         requires { (all.table_id ≡ self.table) × (length all.me.0.seen ≡ self.workers) }
         ensures { Ends self.branches self.workers all.me.0 result.least result.refuted result.cut }

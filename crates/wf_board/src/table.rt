@@ -8,8 +8,8 @@ use atomic_table::{Join, Play, Split, TableRule};
 use std::collections::LinkedList;
 use std::marker::{Brand, PhantomData};
 
-// What a seat knows: the number that each of its workers has seen, and the branches that it has
-// settled. It stands in proofs alone: no value of it is made.
+/// What a seat knows: the number that each of its workers has seen, and the branches that it has
+/// settled. It stands in proofs alone: no value of it is made.
 pub struct View {
     pub seen: LinkedList<u32>,
     pub posted: LinkedList<u32>,
@@ -17,7 +17,7 @@ pub struct View {
     pub cut: LinkedList<u32>,
 }
 
-// What the rule reads of the board.
+/// What the rule reads of the board.
 #[derive(Drop)]
 pub struct Ledger {
     pub branches: u32,
@@ -32,7 +32,7 @@ impl TableRule<(), View, Ledger> for Ruled {
     ghost first = { opening_view };
 }
 
-// The branch that a step speaks of, which its operand does not tell. A call at `Brand` picks it.
+/// The branch that a step speaks of, which its operand does not tell. A call at `Brand` picks it.
 pub trait About {
     ghost branch: { ℕ };
 }
@@ -41,21 +41,21 @@ impl About for Brand {
     ghost branch = { 0 };
 }
 
-// The least number is seen.
+/// The least number is seen.
 pub struct Look;
 
 impl Play<(), View> for Look {
     ghost then = { looks };
 }
 
-// The branch is posted, and the smaller of it and the least number is seen.
+/// The branch is posted, and the smaller of it and the least number is seen.
 pub struct Post;
 
 impl Play<(), View> for Post {
     ghost then = { posts };
 }
 
-// The branch is refuted, and counted.
+/// The branch is refuted, and counted.
 pub struct Refute<J> {
     of: PhantomData<J>,
 }
@@ -64,7 +64,7 @@ impl<J: About> Play<(), View> for Refute<J> {
     ghost then = { refutes J.branch };
 }
 
-// The branch is cut, and counted.
+/// The branch is cut, and counted.
 pub struct Cut<J> {
     of: PhantomData<J>,
 }
@@ -73,7 +73,7 @@ impl<J: About> Play<(), View> for Cut<J> {
     ghost then = { cuts J.branch };
 }
 
-// One worker's number goes to a new seat.
+/// One worker's number goes to a new seat.
 pub struct Hand;
 
 impl Split<View> for Hand {
@@ -82,7 +82,7 @@ impl Split<View> for Hand {
     ghost right = { λ v. knows (take 1 v.seen) [] [] [] };
 }
 
-// A seat takes in what another knows.
+/// A seat takes in what another knows.
 pub struct Gather;
 
 impl Join<View> for Gather {

@@ -16,10 +16,10 @@ use Rattle.wf_check.specs.Faults.{Fails}
 use Rattle.wf_check.specs.Truth.{HoldsOf}
 use Rattle.wf_report.specs.Reports.{AreNumbered, body_length, body_of}
 use Rattle.wf_report.specs.declared.fault.CertFault.{CertFault}
-use Rattle.wf_report.specs.declared.fault.CertFault.TheVariants as cert
+use Rattle.wf_report.specs.declared.fault.CertFault.TheVariants as amiss
 use Rattle.wf_report.specs.declared.report.Body as found
 use Rattle.wf_report.specs.declared.report.Body.TheVariants.{Map, Nothing, Least}
-use Rattle.wf_engine.specs.Faults.{of_cert}
+use Rattle.wf_engine.specs.Faults.{of_report_fault}
 use Rattle.wf_engine.specs.Run.{Next, answered}
 use Rattle.wf_engine.specs.Texts.{text_of_report}
 use Rattle.wf_engine.specs.declared.fault.RunFault.{RunFault}
@@ -175,14 +175,14 @@ module _ (t : Task) (r : ℕ) (body : Body) where
       (few, record { within = (b, built); faultless = ap (report_fault t r) (sym same) ∙ clear; holds = holds }, is ∙ ap report_text same)
 
   -- one with a fault
-  wrong : (e : CertFault) → AreNumbered (lines_in body) → Fails e (report_fault t r (report_about t r body)) → AcceptsJoined t r body (Err (of_cert e))
-  wrong cert.TooLong few fails = absurd fails
-  wrong (cert.Syntax k) few fails = absurd fails
-  wrong cert.OutOfMemory few fails = tt
+  wrong : (e : CertFault) → AreNumbered (lines_in body) → Fails e (report_fault t r (report_about t r body)) → AcceptsJoined t r body (Err (of_report_fault e))
+  wrong amiss.TooLong few fails = absurd fails
+  wrong (amiss.Syntax k) few fails = absurd fails
+  wrong amiss.OutOfMemory few fails = tt
   wrong e few fails = (few, fails)
 
   pub faulty : {A : Type 0} (report : Report) (e : CertFault) (result : Result (Unit {0} × Vec ℕ A) RunFault) → AreNumbered (lines_in body) → report ≡ report_about t r body → Fails e (report_fault t r report)
-      → IsRefusal (of_cert e) result → AcceptsJoined t r body (answered result)
+      → IsRefusal (of_report_fault e) result → AcceptsJoined t r body (answered result)
   faulty report e (Ok x) few same fails is = absurd (let ended = is.0 in let bad : ⊥ = cc in bad)
   faulty report e (Err found) few same fails is =
       subst (λ f. AcceptsJoined t r body (Err f)) (sym is.1) (wrong e few (subst (λ x. Fails e (report_fault t r x)) same fails))

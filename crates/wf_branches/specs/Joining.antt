@@ -15,7 +15,7 @@ use Rattle.wf_check.specs.Faults.{Fails}
 use Rattle.wf_search.specs.Cover.{each_seen}
 use Rattle.wf_report.specs.Reports.{AreNumbered, body_of}
 use Rattle.wf_report.specs.declared.report.Body as code
-use Rattle.wf_report.specs.declared.fault.CertFault.TheVariants as cert
+use Rattle.wf_report.specs.declared.fault.CertFault.TheVariants as amiss
 use Rattle.wf_engine.specs.Run.{Judged, Next, Ran}
 use Rattle.wf_engine.specs.Sources.{AsksBoth}
 use Rattle.wf_engine.specs.Texts.{text_of_report}
@@ -63,7 +63,7 @@ IsBodyIn i t r text result = (report : Result Report RunFault) × IsPartOf i (le
 -- a refusal of the part about branch i, where it is one among others
 abbrev pub in_part : ℕ → RunFault → RunFault
 in_part i OtherPart = NoPart i
-in_part i TooLong = InPart i (part.Report cert.TooLong)
+in_part i TooLong = InPart i (part.Report amiss.TooLong)
 in_part i (Cert e) = InPart i (part.Report e)
 in_part i NotInBranch = InPart i part.NotInBranch
 in_part i e = e
@@ -130,7 +130,7 @@ lines_in (least m ls) = length m + length ls
 -- the text is its own; or it has one, or more lines than can be numbered.
 abbrev pub AcceptsJoined : Task → ℕ → Body → Result (Unit {0} × List ℕ) RunFault → Type 0
 AcceptsJoined t r body (Ok answer) = AreNumbered (lines_in body) × IsFaultless t (report_about t r body) × (answer.1 ≡ text_of_report t r body)
-AcceptsJoined t r body (Err (Cert cert.OutOfMemory)) = ⊥
+AcceptsJoined t r body (Err (Cert amiss.OutOfMemory)) = ⊥
 AcceptsJoined t r body (Err (Cert e)) = AreNumbered (lines_in body) × Fails e (report_fault t r (report_about t r body))
 AcceptsJoined t r body (Err TooLong) = AreNumbered (lines_in body) → ⊥
 AcceptsJoined t r body (Err OutOfMemory) = Unit {0}

@@ -12,7 +12,7 @@ use Rattle.wf_formula.specs.Branches.{branch_at, branches}
 use Rattle.wf_io.specs.Seen.{Reading, Writing}
 use Rattle.wf_check.specs.Faults.{Fails}
 use Rattle.wf_check.specs.Within.{report_fault_within}
-use Rattle.wf_report.specs.declared.fault.CertFault.TheVariants as cert
+use Rattle.wf_report.specs.declared.fault.CertFault.TheVariants as amiss
 use Rattle.wf_engine.specs.Run.{Next, Ran, Reads}
 use Rattle.wf_engine.specs.Sources.{AsksBoth, ReadsAbout}
 use Rattle.wf_engine.specs.Verify.{IsReportOf, accepted_words}
@@ -54,7 +54,7 @@ pub record IsFaultlessIn (t : Task) (r i : ℕ) (report : Report) : Type 0 where
 -- the report is accepted as one about branch i; or it has a fault, or its map lies elsewhere
 abbrev pub ChecksIn : ℕ → Task → ℕ → Report → Result (Unit {0}) RunFault → Type 0
 ChecksIn i t r report (Ok done) = IsFaultlessIn t r i report
-ChecksIn i t r report (Err (Cert cert.OutOfMemory)) = ⊥
+ChecksIn i t r report (Err (Cert amiss.OutOfMemory)) = ⊥
 ChecksIn i t r report (Err (Cert e)) = Fails e (report_fault_within t r (branch_at t r i) report)
 ChecksIn i t r report (Err NotInBranch) = (report_fault_within t r (branch_at t r i) report ≡ None) × (is_outside report.body (branch_at t r i) ≡ true)
 ChecksIn i t r report (Err OutOfMemory) = Unit {0}

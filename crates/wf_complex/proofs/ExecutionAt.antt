@@ -47,8 +47,8 @@ size_of : (t : Task) (n : ℕ) (rule : task.Rule) → IsTask t → slice_get t.d
 size_of t n rule is there =
     let low : n < length (inputs t) = omega (arith, slice_get_within t.delta n rule there, length-map t.delta (λ (r : task.Rule). r.input)) in
     let input : get_or (inputs t) n rule.input ≡ rule.input = get_or-map (λ (r : task.Rule). r.input) t.delta n rule rule.input (slice_get_within t.delta n rule there) ∙ ap (λ (r : task.Rule). r.input) (got t.delta n rule rule there) in
-    let within : IsSimplexWithin t.processes (largest_value t.restriction) rule.input = subst (IsSimplexWithin t.processes (largest_value t.restriction)) input (inputs_within t is n rule.input low) in
-    omega (arith, length-within t.processes (largest_value t.restriction) rule.input within, is.limits.processes)
+    let within : IsSimplexWithin t.processes (largest_value t.least_block) rule.input = subst (IsSimplexWithin t.processes (largest_value t.least_block)) input (inputs_within t is n rule.input low) in
+    omega (arith, length-within t.processes (largest_value t.least_block) rule.input within, is.limits.processes)
 
 some_zipped : (xs ys : List ℕ) → 0 < length (zip xs ys) → 0 < length ys
 some_zipped [] ys h = absurd (let bad : ⊥ = omega (arith, h) in bad)

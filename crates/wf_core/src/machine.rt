@@ -18,7 +18,7 @@ pub struct Core {
     least: u32,
 }
 
-// The branch that a worker holds is also written here, so that no step looks through the branches.
+/// The branch that a worker holds is also written here, so that no step looks through the branches.
 #[derive(Clone, Copy)]
 struct Worker {
     seen: u32,
@@ -116,7 +116,7 @@ impl Core {
         self.workers[worker as usize].seen
     }
 
-    // Whether the event is legal: asks its needs in the order of the reasons.
+    /// Whether the event is legal: asks its needs in the order of the reasons.
     fn check(&self, event: Event) -> Result<(), Illegal>
         ensures needs { OnOk result (Needs self.now event) }
         ensures why { IfErr result (λ why. refusal self.now event ≡ Some why) }
@@ -156,7 +156,7 @@ impl Core {
         }
     }
 
-    // The worker, where there is one and it has not ended.
+    /// The worker, where there is one and it has not ended.
     fn active(&self, w: u32) -> Result<Worker, Illegal>
         ensures ok { IfOk result (λ k. IsWorker self.now w k × IsActive self.now w) }
         ensures why { IfErr result (λ why. refusal self.now (Event.Look w) ≡ Some why) }
@@ -170,7 +170,7 @@ impl Core {
         Ok(*worker)
     }
 
-    // The worker and the branch's status, where there are both and the worker has not ended.
+    /// The worker and the branch's status, where there are both and the worker has not ended.
     fn active_at(&self, w: u32, i: u32) -> Result<(Worker, Status), Illegal>
         ensures ok { IfOk result
             (λ k. IsWorker self.now w k.0 × IsActive self.now w × Is self.now i k.1) }
@@ -188,7 +188,7 @@ impl Core {
         Ok((*worker, *status))
     }
 
-    // The worker, where it may settle the branch.
+    /// The worker, where it may settle the branch.
     fn holder(&self, w: u32, i: u32) -> Result<Worker, Illegal>
         ensures ok { IfOk result
             (λ k. IsWorker self.now w k × IsActive self.now w × Is self.now i (Held w)) }
@@ -201,7 +201,7 @@ impl Core {
         Ok(worker)
     }
 
-    // Does what a legal event does.
+    /// Does what a legal event does.
     fn apply(&mut self, event: Event)
         requires { Needs self.old event }
         ensures { self.new ≡ after self.old event }
@@ -229,7 +229,7 @@ impl Core {
         worker.holds = Some(i);
     }
 
-    // The branch is held no more.
+    /// The branch is held no more.
     fn settle(&mut self, w: u32, i: u32, status: Status)
         requires { Is self.old i (Held w) × ((v : ℕ) → ¬ (status ≡ Held v)) }
         ensures { self.new ≡ record self.old { branches = slice_set self.old.branches i status } }

@@ -17,7 +17,7 @@ use Rattle.wf_complex.specs.declared.fault.BuildFault.TheVariants as build
 use Rattle.wf_report.specs.Grammar.{IsInGrammar}
 use Rattle.wf_check.specs.Faults.{Fails}
 use Rattle.wf_report.specs.declared.fault.CertFault.{CertFault}
-use Rattle.wf_report.specs.declared.fault.CertFault.TheVariants as cert
+use Rattle.wf_report.specs.declared.fault.CertFault.TheVariants as amiss
 use Rattle.wf_report.proofs.Lemmas.{written_read}
 use Rattle.wf_engine.specs.declared.outcome.Outcome.{Outcome}
 use Rattle.wf_engine.specs.declared.outcome.Outcome.TheVariants as outcome
@@ -38,28 +38,28 @@ use Rattle.wf_engine.proofs.Written.{map_within, none_within, least_within}
 unnamed : {P : Type 0} (found : Option Refusal) (f : Refusal) → found ≡ None → found ≡ Some f → P
 unnamed found f clear is = absurd (let bad : ⊥ = cc in bad)
 
-unrefused : {P : Type 0} (e : CertFault) (found : Option Refusal) → found ≡ None → (e ≡ cert.OutOfMemory → ⊥) → Fails e found → P
-unrefused cert.TooLong found clear other fails = absurd fails
-unrefused (cert.Syntax k) found clear other fails = absurd fails
-unrefused (cert.Header k) found clear other fails = unnamed found _ clear fails
-unrefused cert.MapLength found clear other fails = unnamed found _ clear fails
-unrefused (cert.Violates k) found clear other fails = unnamed found _ clear fails
-unrefused (cert.NoSuch k) found clear other fails = unnamed found _ clear fails
-unrefused (cert.Unsound k) found clear other fails = unnamed found _ clear fails
-unrefused (cert.NotEmpty k) found clear other fails = unnamed found _ clear fails
-unrefused (cert.NotOpen k) found clear other fails = unnamed found _ clear fails
-unrefused cert.Unfinished found clear other fails = unnamed found _ clear fails
-unrefused (cert.Trailing k) found clear other fails = unnamed found _ clear fails
-unrefused (cert.NotFirst k) found clear other fails = unnamed found _ clear fails
-unrefused (cert.NotTheMap k) found clear other fails = unnamed found _ clear fails
-unrefused cert.OutOfMemory found clear other fails = absurd (other refl)
+unrefused : {P : Type 0} (e : CertFault) (found : Option Refusal) → found ≡ None → (e ≡ amiss.OutOfMemory → ⊥) → Fails e found → P
+unrefused amiss.TooLong found clear other fails = absurd fails
+unrefused (amiss.Syntax k) found clear other fails = absurd fails
+unrefused (amiss.Header k) found clear other fails = unnamed found _ clear fails
+unrefused amiss.MapLength found clear other fails = unnamed found _ clear fails
+unrefused (amiss.Violates k) found clear other fails = unnamed found _ clear fails
+unrefused (amiss.NoSuch k) found clear other fails = unnamed found _ clear fails
+unrefused (amiss.Unsound k) found clear other fails = unnamed found _ clear fails
+unrefused (amiss.NotEmpty k) found clear other fails = unnamed found _ clear fails
+unrefused (amiss.NotOpen k) found clear other fails = unnamed found _ clear fails
+unrefused amiss.Unfinished found clear other fails = unnamed found _ clear fails
+unrefused (amiss.Trailing k) found clear other fails = unnamed found _ clear fails
+unrefused (amiss.NotFirst k) found clear other fails = unnamed found _ clear fails
+unrefused (amiss.NotTheMap k) found clear other fails = unnamed found _ clear fails
+unrefused amiss.OutOfMemory found clear other fails = absurd (other refl)
 
 -- the answer about a report without a fault
 faultless : (rounds : Option ℕ) (t : Task) (report : Report) (answer : Result (Accepted × List ℕ) RunFault) → HasComplex t report.rounds → report_fault t report.rounds report ≡ None
     → IsVerified (IsAccepted rounds) t report answer → Accepts (accepted_of report.body) answer
 faultless rounds t report (Ok answer) within clear is = is.1.0
 faultless rounds t report (Err run.OutOfMemory) within clear is = tt
-faultless rounds t report (Err (run.Cert cert.OutOfMemory)) within clear is = absurd is
+faultless rounds t report (Err (run.Cert amiss.OutOfMemory)) within clear is = absurd is
 faultless rounds t report (Err (run.Cert e)) within clear is = unrefused e (report_fault t report.rounds report) clear (λ same. let bad : ⊥ = cc in bad) is.1
 faultless rounds t report (Err (run.Build build.Rounds)) (b, built) clear is = absurd (omega (arith, built.0, is))
 faultless rounds t report (Err (run.Build build.TooManyExecutions)) (b, built) clear is = absurd (omega (arith, built.1, is.1))
@@ -80,7 +80,7 @@ text_accepted rounds t report answer asked grammar short within clear (Ok read, 
     let known : report_of 2 (report_text report) ≡ Ok report = written_read report grammar in
     let same : read ≡ report = cc in
     faultless_for rounds t report answer asked within clear (subst (λ r. IsVerifiedFor rounds (IsAccepted rounds) t r answer) same next)
-text_accepted rounds t report answer asked grammar short within clear (Err (run.Cert (cert.Syntax k)), is, next) =
+text_accepted rounds t report answer asked grammar short within clear (Err (run.Cert (amiss.Syntax k)), is, next) =
     let known : report_of 2 (report_text report) ≡ Ok report = written_read report grammar in
     absurd (let bad : ⊥ = cc in bad)
 text_accepted rounds t report answer asked grammar short within clear (Err run.TooLong, is, next) = absurd (omega (arith, short, is))

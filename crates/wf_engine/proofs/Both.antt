@@ -10,7 +10,7 @@ use Rattle.wf_engine.specs.Sources.{AsksBoth, AsksWithin, IsComplexOf, NextReads
 use Rattle.wf_engine.specs.Headline.{GaveTask}
 use Rattle.wf_engine.specs.Laws.{IsChecked}
 use Rattle.wf_engine.proofs.Counts.{beyond}
-use Rattle.wf_engine.proofs.CheckCounts.{IsCertCounted, both_counted, left_alone}
+use Rattle.wf_engine.proofs.CheckCounts.{IsReportCounted, both_counted, left_alone}
 use Rattle.wf_engine.proofs.Headline.{task_read}
 
 -- ---- where it ends well
@@ -61,7 +61,7 @@ module _ (most : ℕ) (reads : ReadsAbout) (r : ℕ)
       record { taken = omega (arith, takes); failures = omega (arith, fails, none); writes = ap (by_result failed_writes) refused ∙ (beyond t r e is).1 }
 
   task_counted : (other other' : Reading) (t : Result Task RunFault) (answer : Result (Unit {0} × List ℕ) RunFault) → NextReads (AsksWithin reads r) other other' t answer → by_result failed_writes t ≡ 0
-      → IsCertCounted most other other' t answer
+      → IsReportCounted most other other' t answer
   task_counted other other' (Ok t) answer (b, complex, next) w =
       let c = complex_counted t other other' b answer complex next in
       record { taken = c.taken; failed = by_result failed_reads answer; failures = c.failures; reads = omega arith; writes = c.writes }

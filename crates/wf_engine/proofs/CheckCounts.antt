@@ -38,18 +38,18 @@ verified (Some rounds) is_text t (Ok r) answer (inr (other, is)) w = (sym (ap (b
 verified rounds is_text t (Err e) answer n w = (sym (ap (by_result failed_reads) n), ap (by_result failed_writes) n ∙ w)
 
 -- what a run counts of a source that is read after a step that gave something or was refused
-pub record IsCertCounted {X Y : Type 0} (most : ℕ) (cert cert' : Reading) (before : Result Y RunFault) (answer : Result (X × List ℕ) RunFault) : Type 0 where
-  pub taken : cert'.taken ≤ cert.taken + (most + 1)
+pub record IsReportCounted {X Y : Type 0} (most : ℕ) (reports reports' : Reading) (before : Result Y RunFault) (answer : Result (X × List ℕ) RunFault) : Type 0 where
+  pub taken : reports'.taken ≤ reports.taken + (most + 1)
   pub failed : ℕ
-  pub failures : cert'.failures ≡ cert.failures + failed
+  pub failures : reports'.failures ≡ reports.failures + failed
   pub reads : by_result failed_reads before + failed ≡ by_result failed_reads answer
   pub writes : by_result failed_writes answer ≡ 0
 
 -- it was left alone after a refusal
-pub left_alone : {X Y : Type 0} (most : ℕ) (cert cert' : Reading) (e : RunFault) (answer : Result (X × List ℕ) RunFault) → answer ≡ Err e → cert' ≡ cert → failed_writes e ≡ 0 → IsCertCounted {Y = Y} most cert cert' (Err e) answer
-left_alone most cert cert' e answer is same w =
-    let takes : cert'.taken ≡ cert.taken = ap (λ s. s.taken) same in
-    let fails : cert'.failures ≡ cert.failures = ap (λ s. s.failures) same in
+pub left_alone : {X Y : Type 0} (most : ℕ) (reports reports' : Reading) (e : RunFault) (answer : Result (X × List ℕ) RunFault) → answer ≡ Err e → reports' ≡ reports → failed_writes e ≡ 0 → IsReportCounted {Y = Y} most reports reports' (Err e) answer
+left_alone most reports reports' e answer is same w =
+    let takes : reports'.taken ≡ reports.taken = ap (λ s. s.taken) same in
+    let fails : reports'.failures ≡ reports.failures = ap (λ s. s.failures) same in
     let reads : by_result failed_reads answer ≡ failed_reads e = ap (by_result failed_reads) is in
     record {
       taken = omega (arith, takes);
@@ -59,12 +59,12 @@ left_alone most cert cert' e answer is same w =
       writes = ap (by_result failed_writes) is ∙ w;
     }
 
-cert_counted : {X : Type 0} (rounds : Option ℕ) (is_text : Task → Report → X → List ℕ → Type 0) (cert cert' : Reading) (t : Result Task RunFault) (answer : Result (X × List ℕ) RunFault) → ChecksFor rounds is_text cert cert' t answer → by_result failed_writes t ≡ 0
-    → IsCertCounted most_bytes cert cert' t answer
-cert_counted rounds is_text cert cert' (Ok t) answer (r, (text, (given, gave, is), j), n) w =
+report_counted : {X : Type 0} (rounds : Option ℕ) (is_text : Task → Report → X → List ℕ → Type 0) (reports reports' : Reading) (t : Result Task RunFault) (answer : Result (X × List ℕ) RunFault) → ChecksFor rounds is_text reports reports' t answer → by_result failed_writes t ≡ 0
+    → IsReportCounted most_bytes reports reports' t answer
+report_counted rounds is_text reports reports' (Ok t) answer (r, (text, (given, gave, is), j), n) w =
     let a = judged_report text r j in
     let b = verified rounds is_text t r answer n a.1 in
-    let bound = few most_bytes given cert'.left text is in
+    let bound = few most_bytes given reports'.left text is in
     record {
       taken = omega (arith, gave.taken, bound);
       failed = io.failed_reads text;
@@ -72,26 +72,26 @@ cert_counted rounds is_text cert cert' (Ok t) answer (r, (text, (given, gave, is
       reads = omega (arith, a.0, b.0);
       writes = b.1;
     }
-cert_counted rounds is_text cert cert' (Err e) answer (is, same) w = left_alone most_bytes cert cert' e answer is same w
+report_counted rounds is_text reports reports' (Err e) answer (is, same) w = left_alone most_bytes reports reports' e answer is same w
 
 -- a run over a task and another source, whatever it answers
-pub both_counted : {X : Type 0} (most : ℕ) (task task' cert cert' : Reading) (sink sink' : Writing) (t : Result Task RunFault) (answer : Result (X × List ℕ) RunFault) (result : Result X RunFault)
-    → Reads IsTaskOf task task' t → (by_result failed_writes t ≡ 0 → IsCertCounted most cert cert' t answer) → Hands sink sink' answer result → IsChecked most task task' cert cert' sink sink' result
-both_counted most task task' cert cert' sink sink' t answer result (text, (given, gave, is), j) counted h =
+pub both_counted : {X : Type 0} (most : ℕ) (task task' reports reports' : Reading) (sink sink' : Writing) (t : Result Task RunFault) (answer : Result (X × List ℕ) RunFault) (result : Result X RunFault)
+    → Reads IsTaskOf task task' t → (by_result failed_writes t ≡ 0 → IsReportCounted most reports reports' t answer) → Hands sink sink' answer result → IsChecked most task task' reports reports' sink sink' result
+both_counted most task task' reports reports' sink sink' t answer result (text, (given, gave, is), j) counted h =
     let a = judged text t j in
     let b = counted a.1 in
     let c = handed sink sink' answer result h b.writes in
     let bound = few most_bytes given task'.left text is in
     record {
       task_taken = omega (arith, gave.taken, bound);
-      cert_taken = b.taken;
-      reads = record { of_task = io.failed_reads text; of_cert = b.failed; task_failures = gave.failures; cert_failures = b.failures; all = omega (arith, a.0, b.reads, c.reads) };
+      report_taken = b.taken;
+      reads = record { of_task = io.failed_reads text; of_reports = b.failed; task_failures = gave.failures; report_failures = b.failures; all = omega (arith, a.0, b.reads, c.reads) };
       writes = c.writes;
       unwritten = c.unwritten;
     }
 
 -- a run over a task and a report
-pub checked : {X : Type 0} (rounds : Option ℕ) (is_text : Task → Report → X → List ℕ → Type 0) (task task' cert cert' : Reading) (sink sink' : Writing) (result : Result X RunFault)
-    → Ran (Checks rounds is_text task task' cert cert') sink sink' result → IsChecked most_bytes task task' cert cert' sink sink' result
-checked rounds is_text task task' cert cert' sink sink' result (answer, (t, reads, checks), h) =
-    both_counted most_bytes task task' cert cert' sink sink' t answer result reads (cert_counted rounds is_text cert cert' t answer checks) h
+pub checked : {X : Type 0} (rounds : Option ℕ) (is_text : Task → Report → X → List ℕ → Type 0) (task task' reports reports' : Reading) (sink sink' : Writing) (result : Result X RunFault)
+    → Ran (Checks rounds is_text task task' reports reports') sink sink' result → IsChecked most_bytes task task' reports reports' sink sink' result
+checked rounds is_text task task' reports reports' sink sink' result (answer, (t, reads, checks), h) =
+    both_counted most_bytes task task' reports reports' sink sink' t answer result reads (report_counted rounds is_text reports reports' t answer checks) h

@@ -68,54 +68,54 @@ answers_true rounds form source source' sink sink' found account (answer, asks, 
 -- ---- what a check accepts
 
 -- a report that is accepted, with what is answered and written of it
-record IsTold {X : Type 0} (rounds : Option ℕ) (is_text : Task → Report → X → List ℕ → Type 0) (task task' cert cert' : Reading) (sink sink' : Writing) (x : X) : Type 0 where
+record IsTold {X : Type 0} (rounds : Option ℕ) (is_text : Task → Report → X → List ℕ → Type 0) (task task' reports reports' : Reading) (sink sink' : Writing) (x : X) : Type 0 where
   pub t : Task
   pub r : Report
   pub text : List ℕ
-  pub truth : GaveTruth task task' cert cert' t r.rounds r.body
+  pub truth : GaveTruth task task' reports reports' t r.rounds r.body
   pub asked : AreAsked rounds r.rounds
   pub is : is_text t r x text
   pub wrote : Wrote sink sink' text
 
-module _ {X : Type 0} (rounds : Option ℕ) (is_text : Task → Report → X → List ℕ → Type 0) (task task' cert cert' : Reading) (sink sink' : Writing) (x : X) where
-  of_verified : (text : List ℕ) (t : Task) (r : Report) → GaveTask task task' t → Reads IsReportOf cert cert' (Ok r)
-      → AreAsked rounds r.rounds → IsVerified is_text t r (Ok (x, text)) → Wrote sink sink' text → IsTold rounds is_text task task' cert cert' sink sink' x
+module _ {X : Type 0} (rounds : Option ℕ) (is_text : Task → Report → X → List ℕ → Type 0) (task task' reports reports' : Reading) (sink sink' : Writing) (x : X) where
+  of_verified : (text : List ℕ) (t : Task) (r : Report) → GaveTask task task' t → Reads IsReportOf reports reports' (Ok r)
+      → AreAsked rounds r.rounds → IsVerified is_text t r (Ok (x, text)) → Wrote sink sink' text → IsTold rounds is_text task task' reports reports' sink sink' x
   of_verified text t r gave (read, reads, judged) asked next wrote = record {
     t = t;
     r = r;
     text = text;
-    truth = record { task_given = gave; report_given = report_read cert cert' read t r reads judged next.0; holds = next.0.holds };
+    truth = record { task_given = gave; report_given = report_read reports reports' read t r reads judged next.0; holds = next.0.holds };
     asked = asked;
     is = next.1;
     wrote = wrote;
   }
 
-  of_rounds : (k : Option ℕ) (same : k ≡ rounds) (text : List ℕ) (t : Task) (r : Report) → GaveTask task task' t → Reads IsReportOf cert cert' (Ok r)
-      → IsVerifiedFor k is_text t r (Ok (x, text)) → Wrote sink sink' text → IsTold rounds is_text task task' cert cert' sink sink' x
+  of_rounds : (k : Option ℕ) (same : k ≡ rounds) (text : List ℕ) (t : Task) (r : Report) → GaveTask task task' t → Reads IsReportOf reports reports' (Ok r)
+      → IsVerifiedFor k is_text t r (Ok (x, text)) → Wrote sink sink' text → IsTold rounds is_text task task' reports reports' sink sink' x
   of_rounds None same text t r gave reads next wrote = of_verified text t r gave reads (subst (λ o. AreAsked o r.rounds) same tt) next wrote
   of_rounds (Some n) same text t r gave reads (inl (asked, next)) wrote = of_verified text t r gave reads (subst (λ o. AreAsked o r.rounds) same asked) next wrote
   of_rounds (Some n) same text t r gave reads (inr (other, refused)) wrote = absurd (let bad : ⊥ = cc in bad)
 
-  of_report : (text : List ℕ) (t : Task) (r : Result Report RunFault) → GaveTask task task' t → Reads IsReportOf cert cert' r
-      → Next (IsVerifiedFor rounds is_text t) r (Ok (x, text)) → Wrote sink sink' text → IsTold rounds is_text task task' cert cert' sink sink' x
+  of_report : (text : List ℕ) (t : Task) (r : Result Report RunFault) → GaveTask task task' t → Reads IsReportOf reports reports' r
+      → Next (IsVerifiedFor rounds is_text t) r (Ok (x, text)) → Wrote sink sink' text → IsTold rounds is_text task task' reports reports' sink sink' x
   of_report text t (Ok r) gave reads next wrote = of_rounds rounds refl text t r gave reads next wrote
   of_report text t (Err e) gave reads next wrote = absurd (let bad : ⊥ = cc in bad)
 
-  of_both : (text : List ℕ) (t : Result Task RunFault) → Reads IsTaskOf task task' t → ChecksFor rounds is_text cert cert' t (Ok (x, text)) → Wrote sink sink' text
-      → IsTold rounds is_text task task' cert cert' sink sink' x
+  of_both : (text : List ℕ) (t : Result Task RunFault) → Reads IsTaskOf task task' t → ChecksFor rounds is_text reports reports' t (Ok (x, text)) → Wrote sink sink' text
+      → IsTold rounds is_text task task' reports reports' sink sink' x
   of_both text (Ok t) (read, reads, judged) (r, report, next) wrote = of_report text t r (task_read task task' read t reads judged) report next wrote
   of_both text (Err e) reads checks wrote = absurd (let bad : ⊥ = cc in bad)
 
-  of_check : (answer : Result (X × List ℕ) RunFault) → Checks rounds is_text task task' cert cert' answer → Hands sink sink' answer (Ok x) → IsTold rounds is_text task task' cert cert' sink sink' x
-  of_check (Ok (y, text)) (t, reads, checks) (same, wrote) = of_both text t reads (subst (λ z. ChecksFor rounds is_text cert cert' t (Ok (z, text))) (sym same) checks) wrote
+  of_check : (answer : Result (X × List ℕ) RunFault) → Checks rounds is_text task task' reports reports' answer → Hands sink sink' answer (Ok x) → IsTold rounds is_text task task' reports reports' sink sink' x
+  of_check (Ok (y, text)) (t, reads, checks) (same, wrote) = of_both text t reads (subst (λ z. ChecksFor rounds is_text reports reports' t (Ok (z, text))) (sym same) checks) wrote
   of_check (Err e) checks hands = absurd (let bad : ⊥ = cc in bad)
 
 pub acceptances_true : AcceptancesAreTrue
-acceptances_true rounds task task' cert cert' sink sink' accepted (answer, checks, hands) =
-    let told = of_check rounds (IsAccepted rounds) task task' cert cert' sink sink' accepted answer checks hands in
+acceptances_true rounds task task' reports reports' sink sink' accepted (answer, checks, hands) =
+    let told = of_check rounds (IsAccepted rounds) task task' reports reports' sink sink' accepted answer checks hands in
     (told.t, told.r.rounds, told.r.body, told.truth, told.asked, told.is.0, subst (λ text. Wrote sink sink' text) told.is.1 told.wrote)
 
 pub decisions_true : DecisionsAreTrue
-decisions_true task task' cert cert' sink sink' (answer, checks, hands) =
-    let told = of_check None AreDecisions task task' cert cert' sink sink' tt answer checks hands in
+decisions_true task task' reports reports' sink sink' (answer, checks, hands) =
+    let told = of_check None AreDecisions task task' reports reports' sink sink' tt answer checks hands in
     (told.t, told.r.rounds, told.r.body, told.truth, subst (λ text. Wrote sink sink' text) told.is told.wrote)

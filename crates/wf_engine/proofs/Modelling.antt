@@ -14,9 +14,9 @@ use Rattle.wf_io.specs.Seen.{Reading}
 use Rattle.wf_complex.specs.Protocol.{Built, Builds}
 use Rattle.wf_report.specs.Reports.{AreNumbered}
 use Rattle.wf_report.specs.declared.fault.CertFault.{CertFault}
-use Rattle.wf_report.specs.declared.fault.CertFault.TheVariants as cert
+use Rattle.wf_report.specs.declared.fault.CertFault.TheVariants as amiss
 use Rattle.wf_check.specs.Faults.{Fails}
-use Rattle.wf_engine.specs.Faults.{of_cert}
+use Rattle.wf_engine.specs.Faults.{of_report_fault}
 use Rattle.wf_engine.specs.declared.fault.RunFault.{RunFault}
 use Rattle.wf_engine.specs.Models.{AsksMap, IsMapOf, ReadsMap, ReportsMap}
 use Rattle.wf_engine.specs.Run.{HasComplex, Next, Reads, answered}
@@ -46,13 +46,13 @@ module _ (t : Task) (r : ℕ) (b : Built) (built : Builds t r (Ok b)) where
   mapped old new m result reads next = asked ReadsMap t r b built old new result (m, reads, next)
 
 module _ (t : Task) (r : ℕ) (m : List ℕ) where
-  fault_of : (e : CertFault) → HasComplex t r → Fails e (report_fault t r (report_about t r (a_map m))) → IsFaultOf t (report_about t r (a_map m)) (of_cert e)
-  fault_of cert.TooLong has fails = absurd fails
-  fault_of cert.OutOfMemory has fails = tt
+  fault_of : (e : CertFault) → HasComplex t r → Fails e (report_fault t r (report_about t r (a_map m))) → IsFaultOf t (report_about t r (a_map m)) (of_report_fault e)
+  fault_of amiss.TooLong has fails = absurd fails
+  fault_of amiss.OutOfMemory has fails = tt
   fault_of e has fails = (has, fails)
 
   -- the map is refused
-  pub map_refused : {A : Type 0} (e : CertFault) (result : Result (Unit {0} × Vec ℕ A) RunFault) → HasComplex t r → Fails e (report_fault t r (report_about t r (a_map m))) → IsRefusal (of_cert e) result
+  pub map_refused : {A : Type 0} (e : CertFault) (result : Result (Unit {0} × Vec ℕ A) RunFault) → HasComplex t r → Fails e (report_fault t r (report_about t r (a_map m))) → IsRefusal (of_report_fault e) result
       → ReportsMap t r m (answered result)
   map_refused e (Ok x) has fails is = absurd (let ended = is.0 in let bad : ⊥ = cc in bad)
   map_refused e (Err found) has fails is = subst (IsFaultOf t (report_about t r (a_map m))) (sym is.1) (fault_of e has fails)

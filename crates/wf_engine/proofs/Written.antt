@@ -275,7 +275,7 @@ flat_few n f (x ∷ xs) h =
 
 module _ (t : Task) (r : ℕ) (task : IsTask t) where
   IsInput : Simplex → Type 0
-  IsInput s = IsSimplexWithin t.processes (largest_value t.restriction) s
+  IsInput s = IsSimplexWithin t.processes (largest_value t.least_block) s
 
   processes_within : (s : Simplex) → IsInput s → AllByRecursion (λ x. x ≤ last_process) (processes_of s)
   unfolding IsInput
@@ -284,7 +284,7 @@ module _ (t : Task) (r : ℕ) (task : IsTask t) where
 
   inputs_few : (s : Simplex) → IsInput s → length s ≤ 4
   unfolding IsInput
-  inputs_few s h = omega (arith, length-within t.processes (largest_value t.restriction) s h, task.limits.processes)
+  inputs_few s h = omega (arith, length-within t.processes (largest_value t.least_block) s h, task.limits.processes)
 
   rules_have : AllByRecursion (λ rule. IsInput rule.input) t.delta
   unfolding IsInput
@@ -328,8 +328,8 @@ module _ (t : Task) (r : ℕ) (task : IsTask t) where
   unfolding IsSmall
   outputs_small =
       each_flat IsSmall values_of t.outputs
-      (weaker (IsSimplexWithin t.processes (largest_value t.restriction)) (λ s. AllByRecursion IsSmall (values_of s))
-      (λ s h. weaker (λ x. x ≤ largest_value t.restriction) IsSmall (λ x k. omega (arith, k, largest_is t.restriction)) (values_of s) (recursion_from_All _ (values_of s) h.values))
+      (weaker (IsSimplexWithin t.processes (largest_value t.least_block)) (λ s. AllByRecursion IsSmall (values_of s))
+      (λ s h. weaker (λ x. x ≤ largest_value t.least_block) IsSmall (λ x k. omega (arith, k, largest_is t.least_block)) (values_of s) (recursion_from_All _ (values_of s) h.values))
       t.outputs (recursion_from_All _ t.outputs (outputs_within t task)))
 
   values_small : AllByRecursion IsSmall (values t)

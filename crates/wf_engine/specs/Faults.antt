@@ -9,8 +9,8 @@ use Rattle.wf_complex.specs.declared.fault.BuildFault.{BuildFault}
 use Rattle.wf_complex.specs.declared.fault.BuildFault.TheVariants as build
 use Rattle.wf_complex.specs.Faults as build_text
 use Rattle.wf_report.specs.declared.fault.CertFault.{CertFault}
-use Rattle.wf_report.specs.declared.fault.CertFault.TheVariants as cert
-use Rattle.wf_report.specs.Faults as cert_text
+use Rattle.wf_report.specs.declared.fault.CertFault.TheVariants as amiss
+use Rattle.wf_report.specs.Faults as report_faults
 use Rattle.wf_cnf.specs.declared.solver.ModelFault.{ModelFault}
 use Rattle.wf_cnf.specs.declared.solver.ModelFault.TheVariants as model
 use Rattle.wf_rup.specs.declared.proof.ProofFault.{ProofFault}
@@ -35,10 +35,10 @@ abbrev pub of_build : BuildFault → RunFault
 of_build build.OutOfMemory = OutOfMemory
 of_build e = Build e
 
-abbrev pub of_cert : CertFault → RunFault
-of_cert cert.TooLong = TooLong
-of_cert cert.OutOfMemory = OutOfMemory
-of_cert e = Cert e
+abbrev pub of_report_fault : CertFault → RunFault
+of_report_fault amiss.TooLong = TooLong
+of_report_fault amiss.OutOfMemory = OutOfMemory
+of_report_fault e = Cert e
 
 abbrev pub of_model : ModelFault → RunFault
 of_model model.OutOfMemory = OutOfMemory
@@ -66,7 +66,7 @@ proof_text proof.OutOfMemory = task_text.fault_text task.OutOfMemory
 
 -- what is printed of a part about a branch that is not accepted
 abbrev pub part_fault_text : PartFault → List ℕ
-part_fault_text (part.Report e) = cert_text.fault_text e
+part_fault_text (part.Report e) = report_faults.fault_text e
 part_fault_text part.NotInBranch = codes "46 NotInBranch"
 
 -- each part owns the numbers and the names of its own refusals
@@ -75,7 +75,7 @@ fault_text TooLong = task_text.fault_text task.TooLong
 fault_text (Task e) = task_text.fault_text e
 fault_text OutOfMemory = task_text.fault_text task.OutOfMemory
 fault_text (Build e) = build_text.fault_text e
-fault_text (Cert e) = cert_text.fault_text e
+fault_text (Cert e) = report_faults.fault_text e
 fault_text (Model e) = model_text e
 fault_text (Proof e) = proof_text e
 fault_text OtherRounds = codes "36 OtherRounds"

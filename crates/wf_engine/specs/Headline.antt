@@ -47,9 +47,9 @@ AnswersAreTrue =
 -- The sources gave the bytes of a task, and the text of a report about it and these rounds with
 -- this answer, which is true: a map is a decision map, the least one where lines say so, and where
 -- there is none, no function on the views is one.
-pub record GaveTruth (task task' cert cert' : Reading) (t : Task) (r : ℕ) (body : Body) : Type 0 where
+pub record GaveTruth (task task' reports reports' : Reading) (t : Task) (r : ℕ) (body : Body) : Type 0 where
   pub task_given : GaveTask task task' t
-  pub report_given : Gave cert cert' (text_of_report t r body) 0
+  pub report_given : Gave reports reports' (text_of_report t r body) 0
   pub holds : HoldsOf t r body
 
 -- these are the rounds that are asked for, if any are
@@ -61,18 +61,18 @@ AreAsked (Some rounds) r = r ≡ rounds
 -- sink took the line that says what is accepted of it
 abbrev pub AcceptancesAreTrue : Type 0
 AcceptancesAreTrue =
-    (rounds : Option ℕ) (task task' cert cert' : Reading) (sink sink' : Writing) (accepted : Accepted)
-    → Verifies rounds task task' cert cert' sink sink' (Ok accepted)
-    → (t : Task) × (r : ℕ) × (body : Body) × GaveTruth task task' cert cert' t r body
+    (rounds : Option ℕ) (task task' reports reports' : Reading) (sink sink' : Writing) (accepted : Accepted)
+    → Verifies rounds task task' reports reports' sink sink' (Ok accepted)
+    → (t : Task) × (r : ℕ) × (body : Body) × GaveTruth task task' reports reports' t r body
     × AreAsked rounds r × (accepted ≡ accepted_of body) × Wrote sink sink' (accepted_text rounds body)
 
 -- where decisions are told, such a report was given too, and the sink took
 -- the points with the values of its map
 abbrev pub DecisionsAreTrue : Type 0
 DecisionsAreTrue =
-    (task task' cert cert' : Reading) (sink sink' : Writing)
-    → Decides task task' cert cert' sink sink' (Ok tt)
-    → (t : Task) × (r : ℕ) × (body : Body) × GaveTruth task task' cert cert' t r body
+    (task task' reports reports' : Reading) (sink sink' : Writing)
+    → Decides task task' reports reports' sink sink' (Ok tt)
+    → (t : Task) × (r : ℕ) × (body : Body) × GaveTruth task task' reports reports' t r body
     × Wrote sink sink' (points_text t r (values_of body))
 
 -- ---- what is reported of a solver's model

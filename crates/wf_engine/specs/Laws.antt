@@ -53,31 +53,31 @@ PresetsAreCounted =
     → WritesPreset preset sink sink' result → IsWritten sink sink' result
 
 -- so many reads of a task's source and of another one failed, which is told
-pub record AreCounted (task task' cert cert' : Reading) (failed : ℕ) : Type 0 where
+pub record AreCounted (task task' reports reports' : Reading) (failed : ℕ) : Type 0 where
   pub of_task : ℕ
-  pub of_cert : ℕ
+  pub of_reports : ℕ
   pub task_failures : task'.failures ≡ task.failures + of_task
-  pub cert_failures : cert'.failures ≡ cert.failures + of_cert
-  pub all : of_task + of_cert ≡ failed
+  pub report_failures : reports'.failures ≡ reports.failures + of_reports
+  pub all : of_task + of_reports ≡ failed
 
 -- The same over two sources, a task's and another one, whose text may have `most` bytes: a failed
 -- read of either is told by 30.
-pub record IsChecked {X : Type 0} (most : ℕ) (task task' cert cert' : Reading) (sink sink' : Writing) (result : Result X RunFault) : Type 0 where
+pub record IsChecked {X : Type 0} (most : ℕ) (task task' reports reports' : Reading) (sink sink' : Writing) (result : Result X RunFault) : Type 0 where
   pub task_taken : task'.taken ≤ task.taken + (most_bytes + 1)
-  pub cert_taken : cert'.taken ≤ cert.taken + (most + 1)
-  pub reads : AreCounted task task' cert cert' (by_result failed_reads result)
+  pub report_taken : reports'.taken ≤ reports.taken + (most + 1)
+  pub reads : AreCounted task task' reports reports' (by_result failed_reads result)
   pub writes : sink'.failures ≡ sink.failures + by_result failed_writes result
   pub unwritten : IfErr result (λ e. e ≢ Write → sink' ≡ sink)
 
 abbrev pub VerifyingIsCounted : Type 0
 VerifyingIsCounted =
-    (rounds : Option ℕ) (task task' cert cert' : Reading) (sink sink' : Writing) (result : Result Accepted RunFault)
-    → Verifies rounds task task' cert cert' sink sink' result → IsChecked most_bytes task task' cert cert' sink sink' result
+    (rounds : Option ℕ) (task task' reports reports' : Reading) (sink sink' : Writing) (result : Result Accepted RunFault)
+    → Verifies rounds task task' reports reports' sink sink' result → IsChecked most_bytes task task' reports reports' sink sink' result
 
 abbrev pub DecidingIsCounted : Type 0
 DecidingIsCounted =
-    (task task' cert cert' : Reading) (sink sink' : Writing) (result : Result (Unit {0}) RunFault)
-    → Decides task task' cert cert' sink sink' result → IsChecked most_bytes task task' cert cert' sink sink' result
+    (task task' reports reports' : Reading) (sink sink' : Writing) (result : Result (Unit {0}) RunFault)
+    → Decides task task' reports reports' sink sink' result → IsChecked most_bytes task task' reports reports' sink sink' result
 
 abbrev pub ModellingIsCounted : Type 0
 ModellingIsCounted =

@@ -12,7 +12,7 @@ use Rattle.wf_report.specs.declared.report.Report as code
 use Rattle.wf_report.specs.Reports.{report_seen}
 use Rattle.wf_check.specs.Faults.{Fails}
 use Rattle.wf_check.specs.Truth.{HoldsOf}
-use Rattle.wf_report.specs.declared.fault.CertFault.TheVariants as cert
+use Rattle.wf_report.specs.declared.fault.CertFault.TheVariants as amiss
 use Rattle.wf_engine.specs.Run.{Next, Ran, Reads, IsTaskOf, HasComplex, IsBeyondLimits}
 use Rattle.wf_engine.specs.declared.outcome.Accepted.{Accepted}
 use Rattle.wf_engine.specs.declared.outcome.Accepted.TheVariants.{Map, Nothing, Least}
@@ -22,7 +22,7 @@ use Rattle.wf_engine.specs.declared.fault.RunFault.TheVariants.{Cert, OtherRound
 -- the report of a text, or the number of its first bad line
 abbrev pub IsReportOf : List ℕ → Result Report RunFault → Type 0
 IsReportOf text (Ok r) = report_of 2 text ≡ Ok r
-IsReportOf text (Err (Cert (cert.Syntax k))) = report_of 2 text ≡ Err k
+IsReportOf text (Err (Cert (amiss.Syntax k))) = report_of 2 text ≡ Err k
 IsReportOf text (Err TooLong) = most_bytes < length text
 IsReportOf text (Err OutOfMemory) = Unit {0}
 IsReportOf text (Err e) = ⊥
@@ -72,7 +72,7 @@ pub record IsFaultless (t : Task) (r : Report) : Type 0 where
 
 -- a report's first fault, or why there is no protocol complex for its rounds
 abbrev pub IsFaultOf : Task → Report → RunFault → Type 0
-IsFaultOf t r (Cert cert.OutOfMemory) = ⊥
+IsFaultOf t r (Cert amiss.OutOfMemory) = ⊥
 IsFaultOf t r (Cert e) = HasComplex t r.rounds × Fails e (report_fault t r.rounds r)
 IsFaultOf t r e = IsBeyondLimits t r.rounds e
 
@@ -99,26 +99,26 @@ ChecksText rounds t text result = (r : Result Report RunFault) × IsReportOf tex
 
 -- the report is read where there is a task, and is else left alone
 abbrev pub ChecksFor : {X : Type 0} → Option ℕ → (Task → Report → X → List ℕ → Type 0) → Reading → Reading → Result Task RunFault → Result (X × List ℕ) RunFault → Type 0
-ChecksFor rounds is_text cert cert' (Ok t) result =
-    (r : Result Report RunFault) × Reads IsReportOf cert cert' r × Next (IsVerifiedFor rounds is_text t) r result
-ChecksFor rounds is_text cert cert' (Err e) result = (result ≡ Err e) × (cert' ≡ cert)
+ChecksFor rounds is_text reports reports' (Ok t) result =
+    (r : Result Report RunFault) × Reads IsReportOf reports reports' r × Next (IsVerifiedFor rounds is_text t) r result
+ChecksFor rounds is_text reports reports' (Err e) result = (result ≡ Err e) × (reports' ≡ reports)
 
 abbrev pub Checks : {X : Type 0} → Option ℕ → (Task → Report → X → List ℕ → Type 0) → Reading → Reading → Reading → Reading → Result (X × List ℕ) RunFault → Type 0
-Checks rounds is_text task task' cert cert' result =
-    (t : Result Task RunFault) × Reads IsTaskOf task task' t × ChecksFor rounds is_text cert cert' t result
+Checks rounds is_text task task' reports reports' result =
+    (t : Result Task RunFault) × Reads IsTaskOf task task' t × ChecksFor rounds is_text reports reports' t result
 
 -- The report of a source was checked against the task of another one, and what is accepted was
 -- written. Where rounds are asked for, the report has to be for these.
 abbrev pub Verifies : Option ℕ → Reading → Reading → Reading → Reading → Writing → Writing → Result Accepted RunFault → Type 0
-Verifies rounds task task' cert cert' sink sink' result = Ran (Checks rounds (IsAccepted rounds) task task' cert cert') sink sink' result
+Verifies rounds task task' reports reports' sink sink' result = Ran (Checks rounds (IsAccepted rounds) task task' reports reports') sink sink' result
 
 -- the same for any rounds, and what the report's map decides at each point was written
 abbrev pub Decides : Reading → Reading → Reading → Reading → Writing → Writing → Result (Unit {0}) RunFault → Type 0
-Decides task task' cert cert' sink sink' result = Ran (Checks None AreDecisions task task' cert cert') sink sink' result
+Decides task task' reports reports' sink sink' result = Ran (Checks None AreDecisions task task' reports reports') sink sink' result
 
 -- all three ends can count what a run asks of them
 abbrev pub CanVerify : Reading → Reading → Writing → Type 0
-CanVerify task cert sink = CanRead task × CanCount cert sink
+CanVerify task reports sink = CanRead task × CanCount reports sink
 
 -- a report of the code, and what clauses see of it
 abbrev pub seen : Result code.Report RunFault → Result Report RunFault

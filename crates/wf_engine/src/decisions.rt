@@ -25,14 +25,14 @@ pub fn run_decisions<T: Threads + Sync, R: Read, C: Read, W: Write>(
     rt: &T,
     alloc: Global,
     task_source: &mut Source<R>,
-    cert_source: &mut Source<C>,
+    report_source: &mut Source<C>,
     sink: &mut Sink<W>,
 ) -> Result<(), RunFault>
-    requires { CanVerify task_source.old cert_source.old sink.old }
-    ensures { Decides task_source.old task_source.new cert_source.old cert_source.new
+    requires { CanVerify task_source.old report_source.old sink.old }
+    ensures { Decides task_source.old task_source.new report_source.old report_source.new
         sink.old sink.new result }
 {
-    let answer = decide_sources(rt, alloc, task_source, cert_source);
+    let answer = decide_sources(rt, alloc, task_source, report_source);
     hand_out(sink, answer)
 }
 
@@ -41,15 +41,15 @@ fn decide_sources<T: Threads + Sync, R: Read, C: Read>(
     rt: &T,
     alloc: Global,
     task_source: &mut Source<R>,
-    cert_source: &mut Source<C>,
+    report_source: &mut Source<C>,
 ) -> Result<((), Vec<u8>), RunFault>
     requires task { CanRead task_source.old }
-    requires cert { CanRead cert_source.old }
-    ensures { Checks None AreDecisions task_source.old task_source.new cert_source.old
-        cert_source.new (answered result) }
+    requires report { CanRead report_source.old }
+    ensures { Checks None AreDecisions task_source.old task_source.new report_source.old
+        report_source.new (answered result) }
 {
     let task = read_task(alloc, task_source)?;
-    let report = read_report_from(alloc, cert_source)?;
+    let report = read_report_from(alloc, report_source)?;
     decide(rt, alloc, &task, &report)
 }
 

@@ -1,7 +1,7 @@
 //! Why a run is refused.
 
 ghost use Rattle.std.specs.Prelude.{◌≡◌, Some};
-ghost use Rattle.wf_engine.specs.Faults.{of_read, of_task, of_build, of_cert, of_model, of_proof, fault_text, part_fault_text};
+ghost use Rattle.wf_engine.specs.Faults.{of_read, of_task, of_build, of_report_fault, of_model, of_proof, fault_text, part_fault_text};
 ghost use Rattle.wf_engine.specs.declared.fault.RunFault.TheVariants.{OutOfMemory, Write};
 
 use std::alloc::AllocError;
@@ -171,7 +171,7 @@ impl From<BuildFault> for RunFault {
 }
 
 impl From<CertFault> for RunFault {
-    ghost from_gives = { λ x e. e ≡ of_cert x };
+    ghost from_gives = { λ x e. e ≡ of_report_fault x };
 
     fn from(fault: CertFault) -> RunFault {
         match fault {

@@ -29,15 +29,15 @@ pub fn run_verify<T: Threads + Sync, R: Read, C: Read, W: Write>(
     rt: &T,
     alloc: Global,
     task_source: &mut Source<R>,
-    cert_source: &mut Source<C>,
+    report_source: &mut Source<C>,
     sink: &mut Sink<W>,
     rounds: Option<u32>,
 ) -> Result<Accepted, RunFault>
-    requires { CanVerify task_source.old cert_source.old sink.old }
-    ensures { Verifies rounds task_source.old task_source.new cert_source.old cert_source.new
+    requires { CanVerify task_source.old report_source.old sink.old }
+    ensures { Verifies rounds task_source.old task_source.new report_source.old report_source.new
         sink.old sink.new result }
 {
-    let answer = verify_sources(rt, alloc, task_source, cert_source, rounds);
+    let answer = verify_sources(rt, alloc, task_source, report_source, rounds);
     hand_out(sink, answer)
 }
 
@@ -46,16 +46,16 @@ fn verify_sources<T: Threads + Sync, R: Read, C: Read>(
     rt: &T,
     alloc: Global,
     task_source: &mut Source<R>,
-    cert_source: &mut Source<C>,
+    report_source: &mut Source<C>,
     rounds: Option<u32>,
 ) -> Result<(Accepted, Vec<u8>), RunFault>
     requires task { CanRead task_source.old }
-    requires cert { CanRead cert_source.old }
+    requires report { CanRead report_source.old }
     ensures { Checks rounds (IsAccepted rounds) task_source.old task_source.new
-        cert_source.old cert_source.new (answered result) }
+        report_source.old report_source.new (answered result) }
 {
     let task = read_task(alloc, task_source)?;
-    let report = read_report_from(alloc, cert_source)?;
+    let report = read_report_from(alloc, report_source)?;
     verify(rt, alloc, &task, &report, rounds)
 }
 

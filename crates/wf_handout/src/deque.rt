@@ -12,15 +12,15 @@ use std::alloc::{AllocError, Global};
 use std::collections::LinkedList;
 use std::marker::Model;
 
-// What a pass of the deque knows: how many of the two parts it has, what was dealt, and what it has
-// taken. It stands in proofs alone: no value of it is made.
+/// What a pass of the deque knows: how many of the two parts it has, what was dealt, and what it
+/// has taken. It stands in proofs alone: no value of it is made.
 pub struct Pile {
     pub parts: u8,
     pub dealt: LinkedList<u32>,
     pub taken: LinkedList<u32>,
 }
 
-// The rule: what was dealt is what was taken and what is left, each once.
+/// The rule: what was dealt is what was taken and what is left, each once.
 pub struct Balanced;
 
 impl Protocol<u32, Pile> for Balanced {
@@ -31,7 +31,7 @@ impl Protocol<u32, Pile> for Balanced {
     ghost guest = { pile 0 [] [] };
 }
 
-// The owner has one part, and the raider the other.
+/// The owner has one part, and the raider the other.
 struct Roles;
 
 impl Split<Pile> for Roles {
@@ -131,7 +131,7 @@ pub fn deal(
     Ok((Owner { deque }, Door { stealer }, Raider { pass }))
 }
 
-// It is made with room for all of its branches.
+/// It is made with room for all of its branches.
 fn deal_to(alloc: Global, branches: u32, workers: u32, worker: u32) -> Result<Deque, AllocError>
     requires { worker < workers }
     ensures dealt { IfOk result (λ d. IsDealt branches workers worker (worker_view d).dealt) }

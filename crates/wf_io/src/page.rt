@@ -10,7 +10,7 @@ use std::alloc::{AllocError, Global};
 use std::io::Write;
 use std::marker::Model;
 
-// how many bytes a page has room for
+/// how many bytes a page has room for
 const ROOM: usize = 65_536;
 
 /// A page of memory for a text that is written in pieces, and may be longer than memory. What is

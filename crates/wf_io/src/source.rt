@@ -72,7 +72,7 @@ impl<R: Read> Source<R> {
     }
 }
 
-// how many bytes are asked for at once
+/// how many bytes are asked for at once
 const PIECE: usize = 4096;
 
 /// Why a text was not read.

@@ -13,14 +13,14 @@ use crate::lanes::PartSupport;
 use std::simd::prelude::*;
 use wf_set::part::{Part, difference, meet, split_first, without};
 
-// Whether some lane is not 0.
+/// Whether some lane is not 0.
 fn has_some(rows: u64x8) -> bool
     ensures { result ≡ not (ors rows == 0) }
 {
     rows.reduce_or() != 0
 }
 
-// How many rows there are in a block's set.
+/// How many rows there are in a block's set.
 fn count_rows(rows: u64x8) -> u32
     ensures { result ≡ sum_by count_ones rows }
 {
@@ -35,7 +35,7 @@ fn count_rows(rows: u64x8) -> u32
         + h.count_ones()
 }
 
-// The set, without the value where it was met.
+/// The set, without the value where it was met.
 fn without_met(set: Part, value: u8, is_met: bool) -> Part
     requires { value < part_limit }
     ensures { part_values result
@@ -45,8 +45,8 @@ fn without_met(set: Part, value: u8, is_met: bool) -> Part
 }
 
 impl Column {
-    // The rows of a block that have a value. The block's rows are those of
-    // eight words from start on.
+    /// The rows of a block that have a value. The block's rows are those of
+    /// eight words from start on.
     fn rows_with(&self, value: u8, start: usize) -> u64x8
         requires cut { IsCut self.now }
         requires value { has (part_values self.now.values) value ≡ true }
@@ -57,7 +57,7 @@ impl Column {
         u64x8::from_slice(&self.sets[self.starts[value as usize] + start..])
     }
 
-    // The rows of a block that have one of these values.
+    /// The rows of a block that have one of these values.
     fn rows_among(&self, values: Part, start: usize) -> u64x8
         requires cut { IsCut self.now }
         requires values { OccurIn self.now values }
@@ -73,7 +73,7 @@ impl Column {
         joined
     }
 
-    // The values that none of these rows of a block has.
+    /// The values that none of these rows of a block has.
     fn unmet(&self, values: Part, live: u64x8, start: usize) -> Part
         requires cut { IsCut self.now }
         requires values { OccurIn self.now values }
@@ -90,7 +90,7 @@ impl Column {
         unmet
     }
 
-    // The candidates that occur.
+    /// The candidates that occur.
     fn wanted(&self, candidates: Part) -> Part
         ensures wanted { part_values result
             ≡ filter (has (part_values self.now.values)) (part_values candidates) }
@@ -101,7 +101,7 @@ impl Column {
 }
 
 impl Columns {
-    // The rows of a block whose values are all wanted.
+    /// The rows of a block whose values are all wanted.
     fn live_rows(&self, wanted: [Part; 4], start: usize) -> u64x8
         requires cut { AreCut self.now }
         requires wanted { OccurInAll self.now wanted }
@@ -114,7 +114,7 @@ impl Columns {
             & self.fourth.rows_among(wanted[3], start)
     }
 
-    // The values of each place that none of these rows of a block has there.
+    /// The values of each place that none of these rows of a block has there.
     fn unmet(&self, values: [Part; 4], live: u64x8, start: usize) -> [Part; 4]
         requires cut { AreCut self.now }
         requires values { OccurInAll self.now values }

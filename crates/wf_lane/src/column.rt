@@ -42,7 +42,7 @@ pub(crate) struct Columns {
     pub(crate) fourth: Column,
 }
 
-// All words joined.
+/// All words joined.
 fn join_all(words: &[u64]) -> u64
     ensures { result ≡ ors words.now }
 {
@@ -53,7 +53,7 @@ fn join_all(words: &[u64]) -> u64
     joined
 }
 
-// The rows from start on that have a value, of the next 64 at most.
+/// The rows from start on that have a value, of the next 64 at most.
 fn row_set(words: &[u64], value: u8, start: usize) -> u64
     requires value { value < part_limit }
     requires one_hot { All IsOneHot words.now }
@@ -69,7 +69,7 @@ fn row_set(words: &[u64], value: u8, start: usize) -> u64
     set
 }
 
-// Adds the words of the rows that have a value.
+/// Adds the words of the rows that have a value.
 fn push_rows(words: &[u64], value: u8, blocks: usize, sets: &mut Vec<u64>) -> Result<(), AllocError>
     requires value { value < part_limit }
     requires one_hot { All IsOneHot words.now }
@@ -83,7 +83,7 @@ fn push_rows(words: &[u64], value: u8, blocks: usize, sets: &mut Vec<u64>) -> Re
     Ok(())
 }
 
-// The same where the value occurs, and else nothing.
+/// The same where the value occurs, and else nothing.
 fn push_value(
     words: &[u64],
     occurs: bool,

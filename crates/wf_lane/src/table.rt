@@ -16,7 +16,7 @@ use wf_set::part::Part;
 use wf_set::{Mask, first_part, of_part};
 use wf_task::Row;
 
-// A block takes for each value of each place about as long as so many rows take eight a step.
+/// A block takes for each value of each place about as long as so many rows take eight a step.
 const ROWS_OF_A_VALUE: usize = 2;
 
 /// What is left of the candidates at each place, and how many rows are alive.
@@ -28,7 +28,7 @@ pub struct Support {
     pub alive: u32,
 }
 
-// What a table keeps of its rows.
+/// What a table keeps of its rows.
 #[derive(Drop)]
 enum Kind {
     // Each value is below 64. Past the width all rows have the value 0.
@@ -57,7 +57,7 @@ impl Model for TupleTable {
     ghost invariant = { λ t. IsKind t.width t.kind };
 }
 
-// The word of the row's value at the place; that of 0 past its end.
+/// The word of the row's value at the place; that of 0 past its end.
 fn word_at(row: &Row, place: u8) -> u64
     requires { All (λ x. x < part_limit) row.now }
     ensures { result ≡ word_at place row.now }
@@ -69,7 +69,7 @@ fn word_at(row: &Row, place: u8) -> u64
     }
 }
 
-// How many values occur at the place.
+/// How many values occur at the place.
 fn count_values(rows: &[Row], place: u8) -> usize
     requires { AreNarrow rows.now }
     ensures { result ≤ 64 }
@@ -81,8 +81,8 @@ fn count_values(rows: &[Row], place: u8) -> usize
     values.count_ones() as usize
 }
 
-// In how many blocks so many rows are cut, with so many values in all places together: none where
-// going through the rows is faster.
+/// In how many blocks so many rows are cut, with so many values in all places together: none where
+/// going through the rows is faster.
 fn blocks_of(rows: usize, values: usize) -> usize
     requires rows { rows < 2 ^ 32 }
     requires values { values ≤ 256 }
@@ -97,7 +97,7 @@ fn blocks_of(rows: usize, values: usize) -> usize
     }
 }
 
-// The words of the rows at the place.
+/// The words of the rows at the place.
 fn words_at(alloc: Global, rows: &[Row], place: u8) -> Result<Vec<u64>, AllocError>
     requires { AreNarrow rows.now }
     ensures words { IfOk result (λ words. words.items ≡ map (word_at place) rows.now) }
@@ -110,7 +110,7 @@ fn words_at(alloc: Global, rows: &[Row], place: u8) -> Result<Vec<u64>, AllocErr
     Ok(words)
 }
 
-// The rows at the place, cut into so many blocks.
+/// The rows at the place, cut into so many blocks.
 fn column(alloc: Global, rows: &[Row], place: u8, blocks: usize) -> Result<Column, AllocError>
     requires few { blocks ≤ block_limit }
     requires narrow { AreNarrow rows.now }
@@ -125,7 +125,7 @@ fn column(alloc: Global, rows: &[Row], place: u8, blocks: usize) -> Result<Colum
     Column::cut(alloc, words, blocks)
 }
 
-// The values below 64 of each set. No row has another one.
+/// The values below 64 of each set. No row has another one.
 fn first_parts(sets: [Mask; 4]) -> [Part; 4]
     ensures { AreFirstParts result sets }
 {
@@ -137,7 +137,7 @@ fn first_parts(sets: [Mask; 4]) -> [Part; 4]
     ]
 }
 
-// The sets of the values of each part.
+/// The sets of the values of each part.
 fn of_parts(parts: [Part; 4]) -> [Mask; 4]
     ensures { (place : ℕ) → values_in (slice_index_or result place [])
         ≡ part_values (slice_index parts place) }
@@ -150,7 +150,7 @@ fn of_parts(parts: [Part; 4]) -> [Mask; 4]
     ]
 }
 
-// The sets below the width, and past it the set of all values.
+/// The sets below the width, and past it the set of all values.
 fn open_past(width: u8, sets: [Part; 4]) -> [Part; 4]
     ensures { result ≡ opened width sets }
 {
@@ -162,7 +162,7 @@ fn open_past(width: u8, sets: [Part; 4]) -> [Part; 4]
     ]
 }
 
-// The masks below the width, and past it 0.
+/// The masks below the width, and past it 0.
 fn clear_past(width: u8, masks: [Part; 4]) -> [Part; 4]
     ensures { result ≡ closed width masks }
 {
@@ -174,7 +174,7 @@ fn clear_past(width: u8, masks: [Part; 4]) -> [Part; 4]
     ]
 }
 
-// The words of all rows that are alive, joined by column, and how many rows these are.
+/// The words of all rows that are alive, joined by column, and how many rows these are.
 fn support_in(columns: &Columns, sets: [Part; 4]) -> PartSupport
     requires cut { AreCut columns.now }
     requires all { 0 < columns.now.first.blocks
@@ -195,7 +195,7 @@ fn support_in(columns: &Columns, sets: [Part; 4]) -> PartSupport
     )
 }
 
-// The columns of these rows.
+/// The columns of these rows.
 fn columns_of(alloc: Global, rows: &[Row]) -> Result<Columns, AllocError>
     requires few { length rows.now < 2 ^ 32 }
     requires narrow { AreNarrow rows.now }
@@ -218,7 +218,7 @@ fn columns_of(alloc: Global, rows: &[Row]) -> Result<Columns, AllocError>
     })
 }
 
-// What the columns support of these candidates, and how many of their rows are alive.
+/// What the columns support of these candidates, and how many of their rows are alive.
 fn support_of(columns: &Columns, width: u8, candidates: [Mask; 4]) -> Support
     requires { IsStored width columns.now }
     ensures supported { HasSupported result.masks (table_in width columns.now) candidates }

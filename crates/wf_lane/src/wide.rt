@@ -13,10 +13,10 @@ use crate::table::Support;
 use wf_set::{Mask, holds, nothing, with};
 use wf_task::Row;
 
-// The values of a part are below this.
+/// The values of a part are below this.
 const PART_LIMIT: u8 = 64;
 
-// Whether each value of the row is below 64.
+/// Whether each value of the row is below 64.
 fn is_row_narrow(row: &Row) -> bool
     ensures { result ≡ list_all is_below row.now }
 {
@@ -40,14 +40,14 @@ pub(crate) fn is_narrow(rows: &[Row]) -> bool
     true
 }
 
-// Whether the row has no value at the place, or one of the set.
+/// Whether the row has no value at the place, or one of the set.
 fn is_met_at(row: &Row, place: u8, set: Mask) -> bool
     ensures { result ≡ is_met_at row.now place (values_in set) }
 {
     place >= row.size() || holds(set, row.value(place))
 }
 
-// Whether each value of the row is in the set of its place.
+/// Whether each value of the row is in the set of its place.
 fn is_row_alive(row: &Row, sets: [Mask; 4]) -> bool
     requires { length row.now ≤ 4 }
     ensures { result ≡ is_alive (sets_of (length row.now) sets) row.now }
@@ -58,7 +58,7 @@ fn is_row_alive(row: &Row, sets: [Mask; 4]) -> bool
         && is_met_at(row, 3, sets[3])
 }
 
-// The set with the value that a live row has at the place.
+/// The set with the value that a live row has at the place.
 fn with_value(set: Mask, row: &Row, place: u8, is_alive: bool) -> Mask
     ensures { (v : ℕ) → has (values_in result) v
         ≡ (has (values_in set) v || has_at row.now place v && is_alive) }
@@ -69,7 +69,7 @@ fn with_value(set: Mask, row: &Row, place: u8, is_alive: bool) -> Mask
     set
 }
 
-// The sets with the values of a live row, each at its place.
+/// The sets with the values of a live row, each at its place.
 fn with_row(sets: [Mask; 4], row: &Row, is_alive: bool) -> [Mask; 4]
     requires { length row.now ≤ 4 }
     ensures { HaveMore sets row.now is_alive result }

@@ -149,9 +149,9 @@ goes_on_from : (t : Task) (r k : ℕ) (b a : Built) → IsProtocol t r b → IsP
 goes_on_from t r k b a before after few v at x s on there h =
     let ps = points t r in
     let old : Execution = record { rule = h.rule; words = h.first } in
-    let within : IsSimplexWithin t.processes (largest_value t.restriction) h.rule.input =
-    each_at (λ (rule : Rule). IsSimplexWithin t.processes (largest_value t.restriction) rule.input) t.delta s h.rule
-    (each_of_map (IsSimplexWithin t.processes (largest_value t.restriction)) (λ rule. rule.input) t.delta (recursion_from_All _ (inputs t) (inputs_within t before.task))) h.rule_there in
+    let within : IsSimplexWithin t.processes (largest_value t.least_block) h.rule.input =
+    each_at (λ (rule : Rule). IsSimplexWithin t.processes (largest_value t.least_block) rule.input) t.delta s h.rule
+    (each_of_map (IsSimplexWithin t.processes (largest_value t.least_block)) (λ rule. rule.input) t.delta (recursion_from_All _ (inputs t) (inputs_within t before.task))) h.rule_there in
     let w : EarlierView t k h.rule h.first x.place x.view =
     view_before t k h.rule h.first h.last x.place x.view within.is_simplex h.last_many h.first_long h.last_long (subst (λ (e : Execution). slice_get (last_views e) x.place ≡ Some x.view) h.is x.view_there) in
     let e = earlier h.stretch at.execution in

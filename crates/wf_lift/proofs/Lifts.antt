@@ -69,7 +69,7 @@ each_round_more : (t : Task) (r : ℕ) (Before After : Rule → List View → Ty
     IsTask t → AllByRecursion (λ e. Before e.rule (last_views e)) (executions t r) → AllByRecursion (λ e. After e.rule (last_views e)) (executions t (suc r))
 each_round_more t r Before After step task h =
     each_flat (λ e. After e.rule (last_views e)) (executions_on (first_block t) (suc r)) t.delta
-    (both (λ (rule : Rule). IsSimplexWithin t.processes (largest_value t.restriction) rule.input) (λ rule. AllByRecursion (λ e. Before e.rule (last_views e)) (executions_on (first_block t) r rule))
+    (both (λ (rule : Rule). IsSimplexWithin t.processes (largest_value t.least_block) rule.input) (λ rule. AllByRecursion (λ e. Before e.rule (last_views e)) (executions_on (first_block t) r rule))
     (λ rule. AllByRecursion (λ e. After e.rule (last_views e)) (executions_on (first_block t) (suc r) rule))
     (λ rule simplex had.
     let n = length rule.input in
@@ -77,7 +77,7 @@ each_round_more t r Before After step task h =
     (each_word_more t (Before rule) (After rule) (step rule) n (words (first_block t) n) r (base_views rule.input) (words_long (first_block t) n) (stands_at_first rule.input simplex.is_simplex)
     (each_of_map (λ e. Before e.rule (last_views e)) (λ ws. record { rule = rule; words = ws }) (lists_of (words (first_block t) n) r) had)))
     t.delta
-    (each_of_map (IsSimplexWithin t.processes (largest_value t.restriction)) (λ rule. rule.input) t.delta (recursion_from_All _ (inputs t) (inputs_within t task)))
+    (each_of_map (IsSimplexWithin t.processes (largest_value t.least_block)) (λ rule. rule.input) t.delta (recursion_from_All _ (inputs t) (inputs_within t task)))
     (each_of_flat (λ e. Before e.rule (last_views e)) (executions_on (first_block t) r) t.delta h))
 
 -- ---- the laws

@@ -7,13 +7,13 @@ simplices_within : (n largest : ℕ) (ss : List Simplex) → All (IsSimplexOn n)
 simplices_within n largest ss on small = λ i d low.
     record { is_simplex = (on i d low).is_simplex; processes = (on i d low).processes; values = small i d low }
 
-pub inputs_within : (t : Task) → IsTask t → All (IsSimplexWithin t.processes (largest_value t.restriction)) (inputs t)
-inputs_within t task = simplices_within t.processes (largest_value t.restriction) (inputs t) task.decision.input_complex.on task.limits.input_values
+pub inputs_within : (t : Task) → IsTask t → All (IsSimplexWithin t.processes (largest_value t.least_block)) (inputs t)
+inputs_within t task = simplices_within t.processes (largest_value t.least_block) (inputs t) task.decision.input_complex.on task.limits.input_values
 
-pub outputs_within : (t : Task) → IsTask t → All (IsSimplexWithin t.processes (largest_value t.restriction)) t.outputs
-outputs_within t task = simplices_within t.processes (largest_value t.restriction) t.outputs task.decision.output_complex.on task.limits.output_values
+pub outputs_within : (t : Task) → IsTask t → All (IsSimplexWithin t.processes (largest_value t.least_block)) t.outputs
+outputs_within t task = simplices_within t.processes (largest_value t.least_block) t.outputs task.decision.output_complex.on task.limits.output_values
 
-pub inputs_are : (t : Task) → IsTask t → IsComplexWithin t.processes (largest_value t.restriction) (inputs t)
+pub inputs_are : (t : Task) → IsTask t → IsComplexWithin t.processes (largest_value t.least_block) (inputs t)
 inputs_are t task = record { is_complex = task.decision.input_complex.is_complex; within = inputs_within t task }
 
 pub on_processes : (n largest : ℕ) (ss : List Simplex) → IsComplexWithin n largest ss → IsComplexOn n ss

@@ -128,8 +128,8 @@ has_places t ps e simplex long =
 constraints_placed : (t : Task) (r : ℕ) → IsTask t → AllByRecursion HasPlaces (problem_of t r).constraints
 constraints_placed t r task =
     each_map HasPlaces (constraint_of t (points t r)) (executions t r)
-    (each_execution_with (λ e. HasPlaces (constraint_of t (points t r) e)) t r (λ rule. IsSimplexWithin t.processes (largest_value t.restriction) rule.input)
-    (each_of_map (IsSimplexWithin t.processes (largest_value t.restriction)) (λ rule. rule.input) t.delta (recursion_from_All _ (inputs t) (inputs_within t task)))
+    (each_execution_with (λ e. HasPlaces (constraint_of t (points t r) e)) t r (λ rule. IsSimplexWithin t.processes (largest_value t.least_block) rule.input)
+    (each_of_map (IsSimplexWithin t.processes (largest_value t.least_block)) (λ rule. rule.input) t.delta (recursion_from_All _ (inputs t) (inputs_within t task)))
     (λ e simplex long. has_places t (points t r) e simplex.is_simplex long))
 
 pub task_well_formed : (t : Task) (r : ℕ) → IsTask t → IsWellFormed (problem_of t r)

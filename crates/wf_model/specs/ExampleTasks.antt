@@ -28,7 +28,7 @@ abbrev pub path : ℕ → Task
 path k = record {
   processes = 2;
   symmetric = false;
-  restriction = None;
+  least_block = None;
   delta = record { input = one 0 0; tuples = (0 ∷ []) ∷ [] }
       ∷ record { input = one 1 0; tuples = (k ∷ []) ∷ [] }
       ∷ record { input = edge 0 0; tuples = filter near (lists_of (below (suc k)) 2) } ∷ [];
@@ -40,7 +40,7 @@ abbrev pub consensus : Task
 consensus = record {
   processes = 2;
   symmetric = false;
-  restriction = None;
+  least_block = None;
   delta = record { input = one 0 0; tuples = (0 ∷ []) ∷ [] }
       ∷ record { input = one 1 1; tuples = (1 ∷ []) ∷ [] }
       ∷ record { input = edge 0 1; tuples = (0 ∷ 0 ∷ []) ∷ (1 ∷ 1 ∷ []) ∷ [] } ∷ [];
@@ -52,7 +52,7 @@ abbrev pub renaming_2_2 : Task
 renaming_2_2 = record {
   processes = 2;
   symmetric = true;
-  restriction = None;
+  least_block = None;
   delta = record { input = one 0 0; tuples = (0 ∷ []) ∷ (1 ∷ []) ∷ [] }
       ∷ record { input = one 1 0; tuples = (0 ∷ []) ∷ (1 ∷ []) ∷ [] }
       ∷ record { input = edge 0 0; tuples = (0 ∷ 1 ∷ []) ∷ (1 ∷ 0 ∷ []) ∷ [] } ∷ [];
@@ -63,7 +63,7 @@ abbrev pub renaming_2_3 : Task
 renaming_2_3 = record {
   processes = 2;
   symmetric = true;
-  restriction = None;
+  least_block = None;
   delta = record { input = one 0 0; tuples = (0 ∷ []) ∷ (1 ∷ []) ∷ (2 ∷ []) ∷ [] }
       ∷ record { input = one 1 0; tuples = (0 ∷ []) ∷ (1 ∷ []) ∷ (2 ∷ []) ∷ [] }
       ∷ record { input = edge 0 0; tuples = (0 ∷ 1 ∷ []) ∷ (0 ∷ 2 ∷ []) ∷ (1 ∷ 0 ∷ []) ∷ (1 ∷ 2 ∷ []) ∷ (2 ∷ 0 ∷ []) ∷ (2 ∷ 1 ∷ []) ∷ [] } ∷ [];
@@ -75,7 +75,7 @@ abbrev pub alone : List Tuple → List Simplex → Task
 alone tuples facets = record {
   processes = 1;
   symmetric = false;
-  restriction = None;
+  least_block = None;
   delta = record { input = one 0 0; tuples = tuples } ∷ [];
   outputs = complex_of facets;
 }

@@ -89,18 +89,18 @@ a_candidate_has_one_line = refl
 pub a_point_is_empty_at_the_start : (closing (problem_of consensus 0) ((0 ∷ []) ∷ [] ∷ [])).lines ≡ empty 1 ∷ []
 a_point_is_empty_at_the_start = refl
 
-abbrev restricted_consensus : Task
-restricted_consensus = record consensus { restriction = Some 2 }
+abbrev consensus_of_blocks : Task
+consensus_of_blocks = record consensus { least_block = Some 2 }
 
-pub restricted_sizes : sizes restricted_consensus 1 ≡ (4, 3)
-restricted_sizes = refl
+pub sizes_by_blocks : sizes consensus_of_blocks 1 ≡ (4, 3)
+sizes_by_blocks = refl
 
-pub restricted_consensus_map : (answer restricted_consensus 1).1 ≡ Some (0 ∷ 1 ∷ 0 ∷ 0 ∷ [])
-restricted_consensus_map = refl
+pub consensus_of_blocks_map : (answer consensus_of_blocks 1).1 ≡ Some (0 ∷ 1 ∷ 0 ∷ 0 ∷ [])
+consensus_of_blocks_map = refl
 
 -- words whose first block has two participants at least
-pub restricted_words : map (λ n. length (words 2 n)) (1 ∷ 2 ∷ 3 ∷ 4 ∷ []) ≡ 1 ∷ 1 ∷ 4 ∷ 23 ∷ []
-restricted_words = refl
+pub words_by_blocks : map (λ n. length (words 2 n)) (1 ∷ 2 ∷ 3 ∷ 4 ∷ []) ≡ 1 ∷ 1 ∷ 4 ∷ 23 ∷ []
+words_by_blocks = refl
 
 -- by trying each list of values
 pub path_3_has_one_solution : all_solutions (problem_of (path 3) 1) ≡ (0 ∷ 3 ∷ 2 ∷ 1 ∷ []) ∷ []

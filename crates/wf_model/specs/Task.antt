@@ -20,7 +20,7 @@ pub record Rule : Type 0 where
 pub record Task : Type 0 where
   pub processes : ℕ
   pub symmetric : Bool
-  pub restriction : Option ℕ  -- how many the first block of a word has at least; none where all words are allowed
+  pub least_block : Option ℕ  -- how many the first block of a word has at least; none where all words are allowed
   pub delta : List Rule
   pub outputs : List Simplex
 
@@ -28,7 +28,7 @@ abbrev pub inputs : Task → List Simplex
 inputs t = map (λ rule. rule.input) t.delta
 
 abbrev pub first_block : Task → ℕ
-first_block t = unwrap_or t.restriction 1
+first_block t = unwrap_or t.least_block 1
 
 -- the values that occur in O, ascending
 abbrev pub values : Task → List ℕ
@@ -79,9 +79,9 @@ HasValuesUpTo largest s = All (λ x. x ≤ largest) (values_of s)
 -- what a text of a task may ask for
 pub record IsWithinTextLimits (t : Task) : Type 0 where
   pub processes : t.processes ≤ most_processes
-  pub first_block : IsFirstBlock t.restriction
-  pub input_values : All (HasValuesUpTo (largest_value t.restriction)) (inputs t)
-  pub output_values : All (HasValuesUpTo (largest_value t.restriction)) t.outputs
+  pub first_block : IsFirstBlock t.least_block
+  pub input_values : All (HasValuesUpTo (largest_value t.least_block)) (inputs t)
+  pub output_values : All (HasValuesUpTo (largest_value t.least_block)) t.outputs
   pub some_input : 0 < length t.delta
   pub vertices : count_by (λ s. length s == 1) (inputs t) ≤ most_vertices
   pub inputs : length t.delta ≤ most_inputs

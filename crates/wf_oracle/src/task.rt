@@ -28,7 +28,7 @@ pub struct Task {
     /// Whether views are one point where they differ by the names of the processes alone.
     pub symmetric: bool,
     /// How many the first block of a word has at least; none where all words are allowed.
-    pub restriction: Option<usize>,
+    pub least_block: Option<usize>,
     /// Delta, by the simplices of the input complex in order.
     pub delta: Vec<Rule>,
     /// The simplices of the output complex in order, each as processes with their values.
@@ -44,7 +44,7 @@ impl Model for Task {
     ghost view = { λ t. record {
       processes = t.processes;
       symmetric = t.symmetric;
-      restriction = t.restriction;
+      least_block = t.least_block;
       delta = t.delta.items;
       outputs = map vec_items t.outputs.items;
     } };
@@ -58,6 +58,6 @@ impl Task {
     pub fn first_block(&self) -> usize
         ensures { result ≡ first_block self.now }
     {
-        self.restriction.unwrap_or(1)
+        self.least_block.unwrap_or(1)
     }
 }

@@ -262,9 +262,9 @@ has_small (y ∷ ys) x h is = elim (or_cases (y == x) (has ys x) is) [
 -- the values of a solution of a task are below 256
 pub small_solutions : (t : Task) (r : ℕ) → IsTask t → (m : List ℕ) → IsSolution (problem_of t r) m → AllByRecursion (λ x. x < 256) m
 small_solutions t r task m solves =
-    let each : AllByRecursion (IsSimplexWithin t.processes (largest_value t.restriction)) t.outputs =
-    recursion_from_All (IsSimplexWithin t.processes (largest_value t.restriction)) t.outputs (outputs_within t task) in
-    each_value (λ x. x < 256) t r m task solves (λ x h. has_small (values t) x (small_in_order (flat_map values_of t.outputs) (small_outputs t.processes t.restriction t.outputs each)) h)
+    let each : AllByRecursion (IsSimplexWithin t.processes (largest_value t.least_block)) t.outputs =
+    recursion_from_All (IsSimplexWithin t.processes (largest_value t.least_block)) t.outputs (outputs_within t task) in
+    each_value (λ x. x < 256) t r m task solves (λ x h. has_small (values t) x (small_in_order (flat_map values_of t.outputs) (small_outputs t.processes t.least_block t.outputs each)) h)
 
 -- ---- the problem of a protocol complex
 

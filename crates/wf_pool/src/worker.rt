@@ -46,7 +46,7 @@ pub(crate) struct Worker {
 }
 
 impl Worker {
-    // Posts a branch that has a map, and keeps the map and its lines if no lower branch is posted.
+    /// Posts a branch that has a map, and keeps the map and its lines if no lower branch is posted.
     pub(crate) fn post(&mut self, board: &Board, branch: u32, map: Vec<u8>, lines: Lines)
         requires seat { IsSeat board.now self.old.seat }
         requires branch { IsToSettle board.now self.old.seat branch }
@@ -61,8 +61,8 @@ impl Worker {
         }
     }
 
-    // Drops the lines that nobody will ask for: those of branches that are
-    // not below the least posted one.
+    /// Drops the lines that nobody will ask for: those of branches that are
+    /// not below the least posted one.
     fn forget(&mut self)
         ensures seat { self.new.seat ≡ self.old.seat }
         ensures honest { StaysHonest self.old self.new }
@@ -71,7 +71,7 @@ impl Worker {
         keep_below(&mut self.finds.lines, self.seat.seen());
     }
 
-    // Counts a branch that has no map, and keeps its lines if no lower branch is posted.
+    /// Counts a branch that has no map, and keeps its lines if no lower branch is posted.
     pub(crate) fn refute(
         &mut self,
         board: &Board,
@@ -93,7 +93,7 @@ impl Worker {
         Ok(())
     }
 
-    // Counts a branch that needs no search: a lower one is posted.
+    /// Counts a branch that needs no search: a lower one is posted.
     pub(crate) fn cut(&mut self, board: &Board, branch: u32)
         requires seat { IsSeat board.now self.old.seat }
         requires branch { IsToSettle board.now self.old.seat branch }
@@ -106,8 +106,8 @@ impl Worker {
         board.cut(&mut self.seat, branch);
     }
 
-    // Settles a branch by what a search of it found. Of its lines those that
-    // aren't kept are dropped first.
+    /// Settles a branch by what a search of it found. Of its lines those that
+    /// aren't kept are dropped first.
     pub(crate) fn settle(
         self,
         alloc: Global,
@@ -145,7 +145,7 @@ impl Worker {
     }
 }
 
-// Keeps the lines of the branches below this one.
+/// Keeps the lines of the branches below this one.
 fn keep_below(lines: &mut Vec<LinesAt>, branch: u32)
     ensures { lines.new.items ≡ filter (λ l. nat_lt l.branch branch) lines.old.items }
 {

@@ -155,7 +155,7 @@ pub parts-task : (n : ℕ) (symmetric : Bool) (family : Family) (inputs images o
 parts-task n symmetric family inputs images outputs tuples rows all complex =
     let rules = ap (rules_seen inputs) rows ∙ seen_by (tuples_for family) inputs in
     let faces = complex ∙ ap complex_of all in
-    λ j. record { processes = n; symmetric = symmetric; restriction = None; delta = rules j; outputs = faces j }
+    λ j. record { processes = n; symmetric = symmetric; least_block = None; delta = rules j; outputs = faces j }
 
 pub rows-long : (family : Family) (s : Simplex) → All (λ t. length t ≡ length s) (tuples_for family s)
 rows-long family s = all_of_has (λ t. length t ≡ length s) (tuples_for family s)

@@ -102,7 +102,7 @@ agreement_inputs n choice = complex_of (input_facets n choice)
 
 pub agreement-task : (n k : ℕ) (choice : model.Inputs) → 1 ≤ n → task_for n false (Agreement k) (agreement_inputs n choice) ≡ model.set_agreement n k choice
 agreement-task n k choice some =
-    ap (λ outputs. record { processes = n; symmetric = false; restriction = None; delta = map (rule_of_family (Agreement k)) (agreement_inputs n choice); outputs = outputs }) (agreement-outputs n k choice some)
+    ap (λ outputs. record { processes = n; symmetric = false; least_block = None; delta = map (rule_of_family (Agreement k)) (agreement_inputs n choice); outputs = outputs }) (agreement-outputs n k choice some)
 
 ascending-below : (n : ℕ) → n ≤ 4 → is_ascending (below n) ≡ true
 ascending-below zero h = refl
@@ -203,7 +203,7 @@ renaming_inputs n = complex_of (start n ∷ [])
 
 pub renaming-task : (n names : ℕ) → task_for n true (Naming names) (renaming_inputs n) ≡ model.renaming n names
 renaming-task n names =
-    ap (λ outputs. record { processes = n; symmetric = true; restriction = None; delta = map (rule_of_family (Naming names)) (renaming_inputs n); outputs = outputs }) (renaming-outputs n names)
+    ap (λ outputs. record { processes = n; symmetric = true; least_block = None; delta = map (rule_of_family (Naming names)) (renaming_inputs n); outputs = outputs }) (renaming-outputs n names)
 
 few-renaming_inputs : (n : ℕ) → n ≤ 4 → (vertex_count (renaming_inputs n) ≤ 64) × (length (renaming_inputs n) ≤ 4096)
 few-renaming_inputs zero h = (lit≤ tt, lit≤ tt)

@@ -60,7 +60,7 @@ abbrev pub task_for : ℕ → Bool → Family → List Simplex → Task
 task_for n symmetric family inputs = record {
   processes = n;
   symmetric = symmetric;
-  restriction = None;
+  least_block = None;
   delta = map (λ s. record { input = s; tuples = tuples_for family s }) inputs;
   outputs = complex_of (images_of family inputs);
 }

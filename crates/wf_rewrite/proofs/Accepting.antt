@@ -7,7 +7,7 @@ use Rattle.wf_model.specs.Limits.{most_bytes}
 use Rattle.wf_complex.specs.declared.fault.BuildFault.TheVariants as build
 use Rattle.wf_report.specs.Grammar.{IsInGrammar}
 use Rattle.wf_report.specs.declared.fault.CertFault.{CertFault}
-use Rattle.wf_report.specs.declared.fault.CertFault.TheVariants as cert
+use Rattle.wf_report.specs.declared.fault.CertFault.TheVariants as amiss
 use Rattle.wf_report.proofs.Lemmas.{written_read}
 use Rattle.wf_check.specs.Faults.{Fails}
 use Rattle.wf_engine.specs.declared.outcome.Accepted.{Accepted}
@@ -21,28 +21,28 @@ use Rattle.wf_engine.specs.Laws.{Accepts}
 unnamed : {P : Type 0} (found : Option Refusal) (f : Refusal) → found ≡ None → found ≡ Some f → P
 unnamed found f clear is = absurd (let bad : ⊥ = cc in bad)
 
-unrefused : {P : Type 0} (e : CertFault) (found : Option Refusal) → found ≡ None → (e ≡ cert.OutOfMemory → ⊥) → Fails e found → P
-unrefused cert.TooLong found clear other fails = absurd fails
-unrefused (cert.Syntax k) found clear other fails = absurd fails
-unrefused (cert.Header k) found clear other fails = unnamed found _ clear fails
-unrefused cert.MapLength found clear other fails = unnamed found _ clear fails
-unrefused (cert.Violates k) found clear other fails = unnamed found _ clear fails
-unrefused (cert.NoSuch k) found clear other fails = unnamed found _ clear fails
-unrefused (cert.Unsound k) found clear other fails = unnamed found _ clear fails
-unrefused (cert.NotEmpty k) found clear other fails = unnamed found _ clear fails
-unrefused (cert.NotOpen k) found clear other fails = unnamed found _ clear fails
-unrefused cert.Unfinished found clear other fails = unnamed found _ clear fails
-unrefused (cert.Trailing k) found clear other fails = unnamed found _ clear fails
-unrefused (cert.NotFirst k) found clear other fails = unnamed found _ clear fails
-unrefused (cert.NotTheMap k) found clear other fails = unnamed found _ clear fails
-unrefused cert.OutOfMemory found clear other fails = absurd (other refl)
+unrefused : {P : Type 0} (e : CertFault) (found : Option Refusal) → found ≡ None → (e ≡ amiss.OutOfMemory → ⊥) → Fails e found → P
+unrefused amiss.TooLong found clear other fails = absurd fails
+unrefused (amiss.Syntax k) found clear other fails = absurd fails
+unrefused (amiss.Header k) found clear other fails = unnamed found _ clear fails
+unrefused amiss.MapLength found clear other fails = unnamed found _ clear fails
+unrefused (amiss.Violates k) found clear other fails = unnamed found _ clear fails
+unrefused (amiss.NoSuch k) found clear other fails = unnamed found _ clear fails
+unrefused (amiss.Unsound k) found clear other fails = unnamed found _ clear fails
+unrefused (amiss.NotEmpty k) found clear other fails = unnamed found _ clear fails
+unrefused (amiss.NotOpen k) found clear other fails = unnamed found _ clear fails
+unrefused amiss.Unfinished found clear other fails = unnamed found _ clear fails
+unrefused (amiss.Trailing k) found clear other fails = unnamed found _ clear fails
+unrefused (amiss.NotFirst k) found clear other fails = unnamed found _ clear fails
+unrefused (amiss.NotTheMap k) found clear other fails = unnamed found _ clear fails
+unrefused amiss.OutOfMemory found clear other fails = absurd (other refl)
 
 module _ (t : Task) (r : Report) (faultless : IsFaultless t r) where
   -- the answer about a report without a fault
   accepts : (rounds : Option ℕ) (answer : Result (Accepted × List ℕ) RunFault) → IsVerified (IsAccepted rounds) t r answer → Accepts (accepted_of r.body) answer
   accepts rounds (Ok answer) is = is.1.0
   accepts rounds (Err run.OutOfMemory) is = tt
-  accepts rounds (Err (run.Cert cert.OutOfMemory)) is = absurd is
+  accepts rounds (Err (run.Cert amiss.OutOfMemory)) is = absurd is
   accepts rounds (Err (run.Cert e)) is = unrefused e (report_fault t r.rounds r) faultless.faultless (λ same. let bad : ⊥ = cc in bad) is.1
   accepts rounds (Err (run.Build build.Rounds)) is = absurd (omega (arith, faultless.within.1.0, is))
   accepts rounds (Err (run.Build build.TooManyExecutions)) is = absurd (omega (arith, faultless.within.1.1, is.1))
@@ -62,7 +62,7 @@ module _ (t : Task) (r : Report) (faultless : IsFaultless t r) where
       let known : report_of 2 (report_text r) ≡ Ok r = written_read r grammar in
       let same : read ≡ r = cc in
       accepts_for rounds answer asked (subst (λ x. IsVerifiedFor rounds (IsAccepted rounds) t x answer) same next)
-  accepts_text rounds answer asked grammar few (Err (run.Cert (cert.Syntax k)), is, next) =
+  accepts_text rounds answer asked grammar few (Err (run.Cert (amiss.Syntax k)), is, next) =
       let known : report_of 2 (report_text r) ≡ Ok r = written_read r grammar in
       absurd (let bad : ⊥ = cc in bad)
   accepts_text rounds answer asked grammar few (Err run.TooLong, is, next) = absurd (omega (arith, few, is))

@@ -7,9 +7,9 @@ use Rattle.wf_rewrite.specs.Explaining.{ExplanationsAreTrue, body_explained}
 use Rattle.wf_rewrite.proofs.Trimmed.{same_rounds, text_about, told}
 
 pub explained_true : ExplanationsAreTrue
-explained_true task task' cert cert' sink sink' (answer, checks, hands) =
-    let x = told (λ t r. body_explained t r.rounds r.body) task task' cert cert' sink sink' answer checks hands in
-    let given : Gave cert cert' (text_of_report x.t x.r.rounds x.r.body) 0 = subst (λ y. Gave cert cert' y 0) (text_about x.t x.r x.faultless) x.read in
+explained_true task task' reports reports' sink sink' (answer, checks, hands) =
+    let x = told (λ t r. body_explained t r.rounds r.body) task task' reports reports' sink sink' answer checks hands in
+    let given : Gave reports reports' (text_of_report x.t x.r.rounds x.r.body) 0 = subst (λ y. Gave reports reports' y 0) (text_about x.t x.r x.faultless) x.read in
     let same : x.shorter.rounds ≡ x.r.rounds = same_rounds x.t x.r x.shorter x.few x.grammar x.shortened in (
       x.t,
       x.r.rounds,

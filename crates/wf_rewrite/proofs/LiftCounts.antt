@@ -12,7 +12,7 @@ use Rattle.wf_engine.specs.Verify.{IsFaultOf, Judges}
 use Rattle.wf_engine.specs.declared.fault.RunFault.{RunFault}
 use Rattle.wf_engine.specs.declared.fault.RunFault.TheVariants as run
 use Rattle.wf_engine.proofs.Counts.{beyond, few}
-use Rattle.wf_engine.proofs.CheckCounts.{IsCertCounted, both_counted, left_alone}
+use Rattle.wf_engine.proofs.CheckCounts.{IsReportCounted, both_counted, left_alone}
 use Rattle.wf_rewrite.proofs.WasRead.{judged_report}
 use Rattle.wf_rewrite.specs.Lifting.{LiftsBody, LiftsFor, LiftsMap, Made, ReadsToLift, rounds_asked}
 use Rattle.wf_rewrite.specs.LiftingLaws.{LiftingIsCounted}
@@ -49,12 +49,12 @@ report_alone rounds t (Ok r) made (inl (no_fewer, (built, judges, next))) w =
 report_alone rounds t (Ok r) made (inr (fewer, is)) w = (sym (ap (by_result failed_reads) is), ap (by_result failed_writes) is)
 report_alone rounds t (Err e) made n w = (sym (ap (by_result failed_reads) n), ap (by_result failed_writes) n ∙ w)
 
-cert_counted : (rounds : Option ℕ) (cert cert' : Reading) (t : Result Task RunFault) (made : Made) → NextReads (ReadsToLift rounds) cert cert' t made → by_result failed_writes t ≡ 0
-    → IsCertCounted most_bytes cert cert' t made
-cert_counted rounds cert cert' (Ok t) made (r, (text, (given, gave, is), j), n) w =
+report_counted : (rounds : Option ℕ) (reports reports' : Reading) (t : Result Task RunFault) (made : Made) → NextReads (ReadsToLift rounds) reports reports' t made → by_result failed_writes t ≡ 0
+    → IsReportCounted most_bytes reports reports' t made
+report_counted rounds reports reports' (Ok t) made (r, (text, (given, gave, is), j), n) w =
     let a = judged_report text r j in
     let b = report_alone rounds t r made n a.1 in
-    let bound = few most_bytes given cert'.left text is in
+    let bound = few most_bytes given reports'.left text is in
     record {
       taken = omega (arith, gave.taken, bound);
       failed = io.failed_reads text;
@@ -62,8 +62,8 @@ cert_counted rounds cert cert' (Ok t) made (r, (text, (given, gave, is), j), n) 
       reads = omega (arith, a.0, b.0);
       writes = b.1;
     }
-cert_counted rounds cert cert' (Err e) made (is, same) w = left_alone most_bytes cert cert' e made is same w
+report_counted rounds reports reports' (Err e) made (is, same) w = left_alone most_bytes reports reports' e made is same w
 
 pub lifting_counted : LiftingIsCounted
-lifting_counted rounds task task' cert cert' sink sink' result (made, (t, reads, next), hands) =
-    both_counted most_bytes task task' cert cert' sink sink' t made result reads (cert_counted rounds cert cert' t made next) hands
+lifting_counted rounds task task' reports reports' sink sink' result (made, (t, reads, next), hands) =
+    both_counted most_bytes task task' reports reports' sink sink' t made result reads (report_counted rounds reports reports' t made next) hands

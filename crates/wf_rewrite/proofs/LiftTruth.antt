@@ -22,9 +22,9 @@ use Rattle.wf_rewrite.specs.Lifting.{AsksLift, Lifts, LiftsBody, LiftsFor, Lifts
 use Rattle.wf_rewrite.specs.LiftingLaws.{LiftsAreAccepted, LiftsAreTrue}
 
 -- a true report with its map, whose lifted map's report was written
-record IsDone (task task' cert cert' : Reading) (sink sink' : Writing) (t : Task) (r rounds : ℕ) : Type 0 where
+record IsDone (task task' reports reports' : Reading) (sink sink' : Writing) (t : Task) (r rounds : ℕ) : Type 0 where
   body : Body
-  given : GaveTruth task task' cert cert' t r body
+  given : GaveTruth task task' reports reports' t r body
   within : HasComplex t rounds
   m : View → ℕ
   decides : IsDecisionMap t r m
@@ -32,11 +32,11 @@ record IsDone (task task' cert cert' : Reading) (sink sink' : Writing) (t : Task
   no_fewer : r ≤ rounds
   wrote : Wrote sink sink' (text_of_report t rounds (a_map (listed t rounds (lifted_by t (rounds - r) m))))
 
-module _ (rounds : Option ℕ) (task task' cert cert' : Reading) (sink sink' : Writing) (text : List ℕ) (wrote : Wrote sink sink' text) where
+module _ (rounds : Option ℕ) (task task' reports reports' : Reading) (sink sink' : Writing) (text : List ℕ) (wrote : Wrote sink sink' text) where
   abbrev Done : Task → ℕ → Type 0
-  Done t r = IsDone task task' cert cert' sink sink' t r (rounds_asked rounds r)
+  Done t r = IsDone task task' reports reports' sink sink' t r (rounds_asked rounds r)
 
-  of_map : (t : Task) (r : ℕ) (body : Body) → GaveTruth task task' cert cert' t r body → r ≤ rounds_asked rounds r
+  of_map : (t : Task) (r : ℕ) (body : Body) → GaveTruth task task' reports reports' t r body → r ≤ rounds_asked rounds r
       → LiftsMap t r (rounds_asked rounds r) (values_of body) (Ok (tt, text)) → Done t r
   of_map t r body given no_fewer (within, m, decides, same, is) = record {
     body = body;
@@ -49,38 +49,38 @@ module _ (rounds : Option ℕ) (task task' cert cert' : Reading) (sink sink' : W
     wrote = subst (λ text. Wrote sink sink' text) is wrote;
   }
 
-  of_body : (t : Task) (r : ℕ) (body : Body) → GaveTruth task task' cert cert' t r body → r ≤ rounds_asked rounds r
+  of_body : (t : Task) (r : ℕ) (body : Body) → GaveTruth task task' reports reports' t r body → r ≤ rounds_asked rounds r
       → LiftsBody t r (rounds_asked rounds r) body (Ok (tt, text)) → Done t r
   of_body t r (a_map m) given no_fewer lifts = of_map t r (a_map m) given no_fewer lifts
   of_body t r (least m ls) given no_fewer lifts = of_map t r (least m ls) given no_fewer lifts
   of_body t r (none ls) given no_fewer lifts = absurd (let bad : ⊥ = cc in bad)
 
-  of_checked : (t : Task) (r : Report) → GaveTask task task' t → Reads IsReportOf cert cert' (Ok r) → r.rounds ≤ rounds_asked rounds r.rounds
+  of_checked : (t : Task) (r : Report) → GaveTask task task' t → Reads IsReportOf reports reports' (Ok r) → r.rounds ≤ rounds_asked rounds r.rounds
       → (built : Result Built RunFault) → Judges t r built → Next (λ b. LiftsBody t r.rounds (rounds_asked rounds r.rounds) r.body) built (Ok (tt, text)) → Done t r.rounds
   of_checked t r gave reads no_fewer (Ok b) judges next =
-      of_body t r.rounds r.body (record { task_given = gave; report_given = gave_report cert cert' t r reads judges.0; holds = judges.0.holds }) no_fewer next
+      of_body t r.rounds r.body (record { task_given = gave; report_given = gave_report reports reports' t r reads judges.0; holds = judges.0.holds }) no_fewer next
   of_checked t r gave reads no_fewer (Err e) judges next = absurd (let bad : ⊥ = cc in bad)
 
-  of_report : (t : Task) (r : Result Report RunFault) → GaveTask task task' t → Reads IsReportOf cert cert' r → Next (LiftsFor rounds t) r (Ok (tt, text))
+  of_report : (t : Task) (r : Result Report RunFault) → GaveTask task task' t → Reads IsReportOf reports reports' r → Next (LiftsFor rounds t) r (Ok (tt, text))
       → (r : ℕ) × Done t r
   of_report t (Ok r) gave reads (inl (no_fewer, (built, judges, next))) = (r.rounds, of_checked t r gave reads no_fewer built judges next)
   of_report t (Ok r) gave reads (inr (fewer, refused)) = absurd (let bad : ⊥ = cc in bad)
   of_report t (Err e) gave reads next = absurd (let bad : ⊥ = cc in bad)
 
-  of_task : (t : Result Task RunFault) → Reads IsTaskOf task task' t → NextReads (ReadsToLift rounds) cert cert' t (Ok (tt, text)) → (t : Task) × (r : ℕ) × Done t r
+  of_task : (t : Result Task RunFault) → Reads IsTaskOf task task' t → NextReads (ReadsToLift rounds) reports reports' t (Ok (tt, text)) → (t : Task) × (r : ℕ) × Done t r
   of_task (Ok t) (read, reads, judged) (r, report, next) =
       let done = of_report t r (task_read task task' read t reads judged) report next in
       (t, done.0, done.1)
   of_task (Err e) reads next = absurd (let bad : ⊥ = cc in bad)
 
-done : (rounds : Option ℕ) (task task' cert cert' : Reading) (sink sink' : Writing) → Lifts rounds task task' cert cert' sink sink' (Ok tt)
-    → (t : Task) × (r : ℕ) × IsDone task task' cert cert' sink sink' t r (rounds_asked rounds r)
-done rounds task task' cert cert' sink sink' (answer, asks, hands) = of_answer answer asks hands
+done : (rounds : Option ℕ) (task task' reports reports' : Reading) (sink sink' : Writing) → Lifts rounds task task' reports reports' sink sink' (Ok tt)
+    → (t : Task) × (r : ℕ) × IsDone task task' reports reports' sink sink' t r (rounds_asked rounds r)
+done rounds task task' reports reports' sink sink' (answer, asks, hands) = of_answer answer asks hands
   where
-    of_answer : (answer : Result (Unit {0} × List ℕ) RunFault) → AsksLift rounds task task' cert cert' answer → Hands sink sink' answer (Ok tt)
-        → (t : Task) × (r : ℕ) × IsDone task task' cert cert' sink sink' t r (rounds_asked rounds r)
+    of_answer : (answer : Result (Unit {0} × List ℕ) RunFault) → AsksLift rounds task task' reports reports' answer → Hands sink sink' answer (Ok tt)
+        → (t : Task) × (r : ℕ) × IsDone task task' reports reports' sink sink' t r (rounds_asked rounds r)
     of_answer (Ok (x, text)) (t, reads, next) (same, wrote) =
-        of_task rounds task task' cert cert' sink sink' text wrote t reads (subst (λ y. NextReads (ReadsToLift rounds) cert cert' t (Ok (y, text))) (sym same) next)
+        of_task rounds task task' reports reports' sink sink' text wrote t reads (subst (λ y. NextReads (ReadsToLift rounds) reports reports' t (Ok (y, text))) (sym same) next)
     of_answer (Err e) asks hands = absurd (let bad : ⊥ = cc in bad)
 
 -- the lifted map is a decision map
@@ -90,8 +90,8 @@ lifted_decides t r rounds m within no_fewer decides =
     subst (λ n. IsDecisionMap t n (lifted_by t (rounds - r) m)) all (lifts_by t r (rounds - r) m within.1.2.task decides)
 
 pub lifts_true : LiftsAreTrue
-lifts_true rounds task task' cert cert' sink sink' ran =
-    let (t, r, end) = done rounds task task' cert cert' sink sink' ran in (
+lifts_true rounds task task' reports reports' sink sink' ran =
+    let (t, r, end) = done rounds task task' reports reports' sink sink' ran in (
       t,
       r,
       record {
@@ -107,8 +107,8 @@ lifts_true rounds task task' cert cert' sink sink' ran =
     )
 
 pub lifts_accepted : LiftsAreAccepted
-lifts_accepted rounds task task' cert cert' sink sink' ran =
-    let (t, r, end) = done rounds task task' cert cert' sink sink' ran in
+lifts_accepted rounds task task' reports reports' sink sink' ran =
+    let (t, r, end) = done rounds task task' reports reports' sink sink' ran in
     let asked = rounds_asked rounds r in
     let f : View → ℕ = lifted_by t (asked - r) end.m in (
       t,

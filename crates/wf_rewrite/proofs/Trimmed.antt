@@ -30,21 +30,21 @@ text_about t r faultless = ap report_text (about t r faultless)
 -- ---- what was read and written
 
 -- a report that was read and has no fault, and a shorter one that was written
-pub record IsTold (made : Task → Report → List ℕ) (task task' cert cert' : Reading) (sink sink' : Writing) : Type 0 where
+pub record IsTold (made : Task → Report → List ℕ) (task task' reports reports' : Reading) (sink sink' : Writing) : Type 0 where
   pub t : Task
   pub r : Report
   pub shorter : Report
   pub given : GaveTask task task' t
-  pub read : Gave cert cert' (report_text r) 0
+  pub read : Gave reports reports' (report_text r) 0
   pub few : length (report_text r) ≤ most_bytes
   pub grammar : IsTextOf r (report_text r)
   pub faultless : IsFaultless t r
   pub shortened : IsShortened t r shorter
   pub wrote : Wrote sink sink' (made t shorter)
 
-module _ (made : Task → Report → List ℕ) (task task' cert cert' : Reading) (sink sink' : Writing) where
-  of_text : (text : Result (List ℕ) ReadFault) (t : Task) (r shorter : Report) → GaveTask task task' t → ReadsText most_bytes cert cert' text → Judged IsReportOf text (Ok r)
-      → IsFaultless t r → IsShortened t r shorter → Wrote sink sink' (made t shorter) → IsTold made task task' cert cert' sink sink'
+module _ (made : Task → Report → List ℕ) (task task' reports reports' : Reading) (sink sink' : Writing) where
+  of_text : (text : Result (List ℕ) ReadFault) (t : Task) (r shorter : Report) → GaveTask task task' t → ReadsText most_bytes reports reports' text → Judged IsReportOf text (Ok r)
+      → IsFaultless t r → IsShortened t r shorter → Wrote sink sink' (made t shorter) → IsTold made task task' reports reports' sink sink'
   of_text (Ok text) t r shorter gave (given, gives, is) judged faultless shortened wrote =
       let known : IsTextOf r text = read_written text r judged in
       let same : given ≡ report_text r = sym is.0 ∙ known.0 in
@@ -53,7 +53,7 @@ module _ (made : Task → Report → List ℕ) (task task' cert cert' : Reading)
         r = r;
         shorter = shorter;
         given = gave;
-        read = subst (λ x. Gave cert cert' x 0) same gives;
+        read = subst (λ x. Gave reports reports' x 0) same gives;
         few = subst (λ x. length x ≤ most_bytes) same is.1;
         grammar = (refl, known.1);
         faultless = faultless;
@@ -62,19 +62,19 @@ module _ (made : Task → Report → List ℕ) (task task' cert cert' : Reading)
       }
   of_text (Err e) t r shorter gave reads judged faultless shortened wrote = absurd (let bad : ⊥ = cc in bad)
 
-  of_report : (text : List ℕ) (t : Task) (r : Result Report RunFault) → GaveTask task task' t → Reads IsReportOf cert cert' r
-      → Next (IsVerifiedFor None (AreMade made) t) r (Ok (tt, text)) → Wrote sink sink' text → IsTold made task task' cert cert' sink sink'
+  of_report : (text : List ℕ) (t : Task) (r : Result Report RunFault) → GaveTask task task' t → Reads IsReportOf reports reports' r
+      → Next (IsVerifiedFor None (AreMade made) t) r (Ok (tt, text)) → Wrote sink sink' text → IsTold made task task' reports reports' sink sink'
   of_report text t (Ok r) gave (read, reads, judged) (faultless, (shorter, shortened, is)) wrote =
       of_text read t r shorter gave reads judged faultless shortened (subst (λ x. Wrote sink sink' x) is wrote)
   of_report text t (Err e) gave reads next wrote = absurd (let bad : ⊥ = cc in bad)
 
-  of_task : (text : List ℕ) (t : Result Task RunFault) → Reads IsTaskOf task task' t → ChecksFor None (AreMade made) cert cert' t (Ok (tt, text)) → Wrote sink sink' text
-      → IsTold made task task' cert cert' sink sink'
+  of_task : (text : List ℕ) (t : Result Task RunFault) → Reads IsTaskOf task task' t → ChecksFor None (AreMade made) reports reports' t (Ok (tt, text)) → Wrote sink sink' text
+      → IsTold made task task' reports reports' sink sink'
   of_task text (Ok t) (read, reads, judged) (r, report, next) wrote = of_report text t r (task_read task task' read t reads judged) report next wrote
   of_task text (Err e) reads checks wrote = absurd (let bad : ⊥ = cc in bad)
 
-  pub told : (answer : Result (Unit {0} × List ℕ) RunFault) → Checks None (AreMade made) task task' cert cert' answer → Hands sink sink' answer (Ok tt) → IsTold made task task' cert cert' sink sink'
-  told (Ok (x, text)) (t, reads, checks) (same, wrote) = of_task text t reads (subst (λ z. ChecksFor None (AreMade made) cert cert' t (Ok (z, text))) (sym same) checks) wrote
+  pub told : (answer : Result (Unit {0} × List ℕ) RunFault) → Checks None (AreMade made) task task' reports reports' answer → Hands sink sink' answer (Ok tt) → IsTold made task task' reports reports' sink sink'
+  told (Ok (x, text)) (t, reads, checks) (same, wrote) = of_task text t reads (subst (λ z. ChecksFor None (AreMade made) reports reports' t (Ok (z, text))) (sym same) checks) wrote
   told (Err e) checks hands = absurd (let bad : ⊥ = cc in bad)
 
 -- ---- what follows
@@ -103,9 +103,9 @@ module _ (t : Task) (r shorter : Report) (few : length (report_text r) ≤ most_
   }
 
 pub trimmed_accepted : TrimmedReportsAreAccepted
-trimmed_accepted task task' cert cert' sink sink' (answer, checks, hands) =
-    let x = told (λ t r. report_text r) task task' cert cert' sink sink' answer checks hands in
-    let given : Gave cert cert' (text_of_report x.t x.r.rounds x.r.body) 0 = subst (λ y. Gave cert cert' y 0) (text_about x.t x.r x.faultless) x.read in (
+trimmed_accepted task task' reports reports' sink sink' (answer, checks, hands) =
+    let x = told (λ t r. report_text r) task task' reports reports' sink sink' answer checks hands in
+    let given : Gave reports reports' (text_of_report x.t x.r.rounds x.r.body) 0 = subst (λ y. Gave reports reports' y 0) (text_about x.t x.r x.faultless) x.read in (
       x.t,
       x.r.rounds,
       x.r.body,

@@ -28,19 +28,19 @@ AreExplained = AreMade (λ t r. body_explained t r.rounds r.body)
 
 -- The report of a source was checked against the task of another one, and it was explained.
 abbrev pub Explains : Reading → Reading → Reading → Reading → Writing → Writing → Result (Unit {0}) RunFault → Type 0
-Explains task task' cert cert' sink sink' result = Ran (Checks None AreExplained task task' cert cert') sink sink' result
+Explains task task' reports reports' sink sink' result = Ran (Checks None AreExplained task task' reports reports') sink sink' result
 
 -- Where an explanation ends well, it was given a report that is true, and the sink took the words
 -- for the same answer with some of the lines, which is true as well: where it is that there is no
 -- map, no function on the views is a decision map.
 abbrev pub ExplanationsAreTrue : Type 0
 ExplanationsAreTrue =
-    (task task' cert cert' : Reading) (sink sink' : Writing)
-    → Explains task task' cert cert' sink sink' (Ok tt)
-    → (t : Task) × (r : ℕ) × (body shorter : Body) × GaveTruth task task' cert cert' t r body
+    (task task' reports reports' : Reading) (sink sink' : Writing)
+    → Explains task task' reports reports' sink sink' (Ok tt)
+    → (t : Task) × (r : ℕ) × (body shorter : Body) × GaveTruth task task' reports reports' t r body
     × IsShorter body shorter × HoldsOf t r shorter × Wrote sink sink' (body_explained t r shorter)
 
 abbrev pub ExplainingIsCounted : Type 0
 ExplainingIsCounted =
-    (task task' cert cert' : Reading) (sink sink' : Writing) (result : Result (Unit {0}) RunFault)
-    → Explains task task' cert cert' sink sink' result → IsChecked most_bytes task task' cert cert' sink sink' result
+    (task task' reports reports' : Reading) (sink sink' : Writing) (result : Result (Unit {0}) RunFault)
+    → Explains task task' reports reports' sink sink' result → IsChecked most_bytes task task' reports reports' sink sink' result

@@ -55,10 +55,10 @@ ReadsToLift rounds t old new made =
 
 -- the task is read before that
 abbrev pub AsksLift : Option ℕ → Reading → Reading → Reading → Reading → Made → Type 0
-AsksLift rounds task task' cert cert' made =
-    (t : Result Task RunFault) × Reads IsTaskOf task task' t × NextReads (ReadsToLift rounds) cert cert' t made
+AsksLift rounds task task' reports reports' made =
+    (t : Result Task RunFault) × Reads IsTaskOf task task' t × NextReads (ReadsToLift rounds) reports reports' t made
 
 -- The map of a source's report about another source's task was lifted to the rounds that are asked
 -- for, or to one more, and the report of the lifted map was written.
 abbrev pub Lifts : Option ℕ → Reading → Reading → Reading → Reading → Writing → Writing → Result (Unit {0}) RunFault → Type 0
-Lifts rounds task task' cert cert' sink sink' result = Ran (AsksLift rounds task task' cert cert') sink sink' result
+Lifts rounds task task' reports reports' sink sink' result = Ran (AsksLift rounds task task' reports reports') sink sink' result

@@ -20,9 +20,9 @@ use Rattle.wf_rewrite.specs.Lifting.{Lifts, rounds_asked}
 -- The sources gave the bytes of a task and a true report about it and its r
 -- rounds, with the values of a decision map; lifted, the map is a decision
 -- map for the other rounds, and the sink took the report of that, whole.
-pub record TookLifted (task task' cert cert' : Reading) (sink sink' : Writing) (t : Task) (r rounds : ℕ) : Type 0 where
+pub record TookLifted (task task' reports reports' : Reading) (sink sink' : Writing) (t : Task) (r rounds : ℕ) : Type 0 where
   pub body : Body
-  pub given : GaveTruth task task' cert cert' t r body
+  pub given : GaveTruth task task' reports reports' t r body
   pub m : View → ℕ
   pub listed_there : listed t r m ≡ values_of body
   pub decides : IsDecisionMap t r m
@@ -33,17 +33,17 @@ pub record TookLifted (task task' cert cert' : Reading) (sink sink' : Writing) (
 -- so it is where a lifting ends well, for the rounds that are asked for, or one more
 abbrev pub LiftsAreTrue : Type 0
 LiftsAreTrue =
-    (rounds : Option ℕ) (task task' cert cert' : Reading) (sink sink' : Writing)
-    → Lifts rounds task task' cert cert' sink sink' (Ok tt)
-    → (t : Task) × (r : ℕ) × TookLifted task task' cert cert' sink sink' t r (rounds_asked rounds r)
+    (rounds : Option ℕ) (task task' reports reports' : Reading) (sink sink' : Writing)
+    → Lifts rounds task task' reports reports' sink sink' (Ok tt)
+    → (t : Task) × (r : ℕ) × TookLifted task task' reports reports' sink sink' t r (rounds_asked rounds r)
 
 -- What is written is the text of a report, of which a check that asks for these rounds says that it
 -- is accepted, where it has at most as many bytes as a text may have.
 abbrev pub LiftsAreAccepted : Type 0
 LiftsAreAccepted =
-    (rounds : Option ℕ) (task task' cert cert' : Reading) (sink sink' : Writing)
-    → Lifts rounds task task' cert cert' sink sink' (Ok tt)
-    → (t : Task) × (r : ℕ) × (body : Body) × (text : List ℕ) × GaveTruth task task' cert cert' t r body × Wrote sink sink' text
+    (rounds : Option ℕ) (task task' reports reports' : Reading) (sink sink' : Writing)
+    → Lifts rounds task task' reports reports' sink sink' (Ok tt)
+    → (t : Task) × (r : ℕ) × (body : Body) × (text : List ℕ) × GaveTruth task task' reports reports' t r body × Wrote sink sink' text
     × (length text ≤ most_bytes → (answer : Result (Accepted × List ℕ) RunFault)
     → ChecksText (Some (rounds_asked rounds r)) t text answer → Accepts accepted.Map answer)
 
@@ -51,5 +51,5 @@ LiftsAreAccepted =
 -- nothing is written at a refusal
 abbrev pub LiftingIsCounted : Type 0
 LiftingIsCounted =
-    (rounds : Option ℕ) (task task' cert cert' : Reading) (sink sink' : Writing) (result : Result (Unit {0}) RunFault)
-    → Lifts rounds task task' cert cert' sink sink' result → IsChecked most_bytes task task' cert cert' sink sink' result
+    (rounds : Option ℕ) (task task' reports reports' : Reading) (sink sink' : Writing) (result : Result (Unit {0}) RunFault)
+    → Lifts rounds task task' reports reports' sink sink' result → IsChecked most_bytes task task' reports reports' sink sink' result

@@ -33,12 +33,12 @@ pub record IsGoodText (t : Task) (r : ℕ) (body : Body) (text : List ℕ) : Typ
 -- about the same task and rounds, with the same answer and some of the lines.
 abbrev pub TrimmedReportsAreAccepted : Type 0
 TrimmedReportsAreAccepted =
-    (task task' cert cert' : Reading) (sink sink' : Writing)
-    → Trims task task' cert cert' sink sink' (Ok tt)
-    → (t : Task) × (r : ℕ) × (body shorter : Body) × (text : List ℕ) × GaveTruth task task' cert cert' t r body
+    (task task' reports reports' : Reading) (sink sink' : Writing)
+    → Trims task task' reports reports' sink sink' (Ok tt)
+    → (t : Task) × (r : ℕ) × (body shorter : Body) × (text : List ℕ) × GaveTruth task task' reports reports' t r body
     × IsShorter body shorter × IsGoodText t r shorter text × Wrote sink sink' text
 
 abbrev pub TrimmingIsCounted : Type 0
 TrimmingIsCounted =
-    (task task' cert cert' : Reading) (sink sink' : Writing) (result : Result (Unit {0}) RunFault)
-    → Trims task task' cert cert' sink sink' result → IsChecked most_bytes task task' cert cert' sink sink' result
+    (task task' reports reports' : Reading) (sink sink' : Writing) (result : Result (Unit {0}) RunFault)
+    → Trims task task' reports reports' sink sink' result → IsChecked most_bytes task task' reports reports' sink sink' result

@@ -51,4 +51,4 @@ AreTrimmed = AreMade (λ t r. report_text r)
 -- The report of a source was checked against the task of another one, and
 -- such a report was written.
 abbrev pub Trims : Reading → Reading → Reading → Reading → Writing → Writing → Result (Unit {0}) RunFault → Type 0
-Trims task task' cert cert' sink sink' result = Ran (Checks None AreTrimmed task task' cert cert') sink sink' result
+Trims task task' reports reports' sink sink' result = Ran (Checks None AreTrimmed task task' reports reports') sink sink' result

@@ -50,14 +50,14 @@ fn reports_are_told_in_words(rt: HostRuntime) -> Result<(), Fail> {
     ];
     for (task, report, answer, words) in rows {
         let mut task_source = Source::new(task.as_bytes());
-        let mut cert_source = Source::new(report.as_bytes());
+        let mut report_source = Source::new(report.as_bytes());
         let mut written = Vec::new(rt.alloc());
         let mut sink = Sink::new(&mut written);
         let found = run_explain(
             &rt,
             rt.alloc(),
             &mut task_source,
-            &mut cert_source,
+            &mut report_source,
             &mut sink,
         );
         assert_eq!(rt; found, answer, "{report}");

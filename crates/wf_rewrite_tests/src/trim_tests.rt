@@ -70,14 +70,14 @@ fn a_shorter_report_is_written(rt: HostRuntime) -> Result<(), Fail> {
     ];
     for (task, report, shorter) in rows {
         let mut task_source = Source::new(task.as_bytes());
-        let mut cert_source = Source::new(report.as_bytes());
+        let mut report_source = Source::new(report.as_bytes());
         let mut written = Vec::new(rt.alloc());
         let mut sink = Sink::new(&mut written);
         let found = run_trim(
             &rt,
             rt.alloc(),
             &mut task_source,
-            &mut cert_source,
+            &mut report_source,
             &mut sink,
         );
         assert_eq!(rt; found, Ok(()), "{report}");
@@ -97,14 +97,14 @@ fn reports_that_are_not_accepted_are_refused(rt: HostRuntime) -> Result<(), Fail
     ];
     for (report, fault) in rows {
         let mut task_source = Source::new(CONSENSUS_2.as_bytes());
-        let mut cert_source = Source::new(report.as_bytes());
+        let mut report_source = Source::new(report.as_bytes());
         let mut written = Vec::new(rt.alloc());
         let mut sink = Sink::new(&mut written);
         let found = run_trim(
             &rt,
             rt.alloc(),
             &mut task_source,
-            &mut cert_source,
+            &mut report_source,
             &mut sink,
         );
         assert_eq!(rt; found, Err(fault), "{report}");
@@ -117,13 +117,13 @@ fn reports_that_are_not_accepted_are_refused(rt: HostRuntime) -> Result<(), Fail
 #[test]
 fn a_write_that_takes_no_byte_is_told(rt: HostRuntime) -> Result<(), Fail> {
     let mut task_source = Source::new(CONSENSUS_2.as_bytes());
-    let mut cert_source = Source::new(NONE.as_bytes());
+    let mut report_source = Source::new(NONE.as_bytes());
     let mut sink = Sink::new(Full);
     let found = run_trim(
         &rt,
         rt.alloc(),
         &mut task_source,
-        &mut cert_source,
+        &mut report_source,
         &mut sink,
     );
     assert_eq!(rt; found, Err(RunFault::Write));

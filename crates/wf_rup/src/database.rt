@@ -17,7 +17,7 @@ use std::alloc::{AllocError, Global};
 use std::marker::Model;
 use wf_drat::Code;
 
-// so many clauses that are no longer kept are borne with
+/// so many clauses that are no longer kept are borne with
 const FEW: usize = 4096;
 
 /// Clauses that are kept, and the literals that they force by unit propagation.

@@ -7,7 +7,7 @@ ghost use Rattle.wf_rup.specs.declared.index.Entry.{Entry};
 use std::alloc::{AllocError, Global};
 use std::marker::Model;
 
-// so many entries in each bucket are borne with
+/// so many entries in each bucket are borne with
 const FEW: usize = 4;
 
 /// The number of a clause, under the hash of its literals.

@@ -1,5 +1,5 @@
 pub mod Tables
-pub mod Colours
+pub mod Ascent
 pub mod Reading
 pub mod Words
 pub mod Allowed

@@ -5,9 +5,9 @@ use Rattle.std.specs.List.{list_all}
 use Rattle.wf_model.specs.Simplex.{Vertex, Simplex, processes_of, values_of, is_ascending, is_nonempty}
 use Rattle.wf_model.specs.Task.{IsSimplexWithin}
 use Rattle.wf_simplex.specs.Entries.{vertices_from, ascends_from}
-use Rattle.wf_simplex.specs.Reading.{has_colours, read_fault}
+use Rattle.wf_simplex.specs.Reading.{names_processes, read_fault}
 use Rattle.wf_simplex.specs.declared.simplex.SimplexFault.TheVariants.{Colour}
-use Rattle.wf_simplex.proofs.Colours.{ascends_below, colours_below, low_processes}
+use Rattle.wf_simplex.proofs.Ascent.{ascends_below, ascent_below, low_processes}
 
 -- ---- one entry after another
 
@@ -59,8 +59,8 @@ below_four : (m : ℕ) (s : Simplex) → ascends_from m s ≡ ascends_below 4 m 
 below_four m [] = refl
 below_four m (v ∷ s) = ap (λ rest. nat_le m v.0 && nat_lt v.0 4 && rest) (below_four (v.0 + 1) s)
 
-pub colours_are : (s : Simplex) → ascends_from 0 s ≡ has_colours s
-colours_are s = below_four 0 s ∙ colours_below 4 s
+pub ascent_names_processes : (s : Simplex) → ascends_from 0 s ≡ names_processes s
+ascent_names_processes s = below_four 0 s ∙ ascent_below 4 s
 
 -- ---- the faults
 
@@ -95,23 +95,23 @@ stopped m v s (inr high) = rw (above_ltb v.0 high) (and_false (nat_le m v.0) (as
     and_false false c = refl
 
 -- what the loop finds at a pair that is out of place
-pub colour_fault : (s : Simplex) (m i : ℕ) → is_nonempty s ≡ true → i < length s → ascends_from m (drop i s) ≡ ascends_from 0 s
+pub process_fault : (s : Simplex) (m i : ℕ) → is_nonempty s ≡ true → i < length s → ascends_from m (drop i s) ≡ ascends_from 0 s
     → ((slice_index_or s i (0, 0)).0 < m) ⊎ (3 < (slice_index_or s i (0, 0)).0) → read_fault s ≡ Some Colour
-colour_fault s m i some h same out =
-    let bad : has_colours s ≡ false = sym (colours_are s) ∙ sym same ∙ ap (ascends_from m) (at_pair s i h) ∙ stopped m (slice_index_or s i (0, 0)) (drop (i + 1) s) out in
+process_fault s m i some h same out =
+    let bad : names_processes s ≡ false = sym (ascent_names_processes s) ∙ sym same ∙ ap (ascends_from m) (at_pair s i h) ∙ stopped m (slice_index_or s i (0, 0)) (drop (i + 1) s) out in
     rw some (rw bad refl)
 
-pub no_fault : (s : Simplex) → is_nonempty s ≡ true → has_colours s ≡ true → read_fault s ≡ None
-no_fault s some colours = rw some (rw colours refl)
+pub no_fault : (s : Simplex) → is_nonempty s ≡ true → names_processes s ≡ true → read_fault s ≡ None
+no_fault s some named = rw some (rw named refl)
 
 -- pairs without a fault are a simplex
-pub simplex_within : (s : Simplex) → is_nonempty s ≡ true → has_colours s ≡ true → All (λ x. x ≤ 255) (values_of s) → IsSimplexWithin 4 255 s
-simplex_within s some colours small = record {
-  is_simplex = and_from (is_nonempty s) (is_ascending (processes_of s)) some (and_parts (is_ascending (processes_of s)) (list_all (λ p. nat_lt p 4) (processes_of s)) colours).0;
-  processes = low_processes 4 (processes_of s) (and_parts (is_ascending (processes_of s)) (list_all (λ p. nat_lt p 4) (processes_of s)) colours).1;
+pub simplex_within : (s : Simplex) → is_nonempty s ≡ true → names_processes s ≡ true → All (λ x. x ≤ 255) (values_of s) → IsSimplexWithin 4 255 s
+simplex_within s some named small = record {
+  is_simplex = and_from (is_nonempty s) (is_ascending (processes_of s)) some (and_parts (is_ascending (processes_of s)) (list_all (λ p. nat_lt p 4) (processes_of s)) named).0;
+  processes = low_processes 4 (processes_of s) (and_parts (is_ascending (processes_of s)) (list_all (λ p. nat_lt p 4) (processes_of s)) named).1;
   values = small;
 }
 
 -- once the loop went through all pairs
-pub colours_at_end : (s : Simplex) (m i : ℕ) → length s ≤ i → ascends_from m (drop i s) ≡ ascends_from 0 s → has_colours s ≡ true
-colours_at_end s m i h same = sym (colours_are s) ∙ sym same ∙ ap (ascends_from m) (drop_of_length-le s h)
+pub names_processes_at_end : (s : Simplex) (m i : ℕ) → length s ≤ i → ascends_from m (drop i s) ≡ ascends_from 0 s → names_processes s ≡ true
+names_processes_at_end s m i h same = sym (ascent_names_processes s) ∙ sym same ∙ ap (ascends_from m) (drop_of_length-le s h)

@@ -6,11 +6,11 @@ use Rattle.wf_simplex.specs.declared.simplex.SimplexFault.TheVariants.{Empty, Co
 use Rattle.wf_model.specs.Simplex.{Simplex, processes_of, is_nonempty, is_ascending}
 
 -- processes strictly ascending, and at most 3
-abbrev pub has_colours : Simplex → Bool
-has_colours pairs = is_ascending (processes_of pairs) && list_all (λ p. nat_lt p 4) (processes_of pairs)
+abbrev pub names_processes : Simplex → Bool
+names_processes pairs = is_ascending (processes_of pairs) && list_all (λ p. nat_lt p 4) (processes_of pairs)
 
 -- why these pairs are no simplex, the first reason in this order; none where they are one
 abbrev pub read_fault : Simplex → Option SimplexFault
 read_fault pairs =
     if not (is_nonempty pairs) then Some Empty else
-    (if not (has_colours pairs) then Some Colour else None)
+    (if not (names_processes pairs) then Some Colour else None)

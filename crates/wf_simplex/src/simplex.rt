@@ -116,11 +116,11 @@ impl Simplex {
     }
 
     /// The value of a process, if it takes part.
-    pub fn value(&self, colour: u8) -> Option<u8>
-        ensures { result ≡ value_at self.now colour }
+    pub fn value(&self, process: u8) -> Option<u8>
+        ensures { result ≡ value_at self.now process }
     {
-        if colour < 4 {
-            self.values[colour as usize]
+        if process < 4 {
+            self.values[process as usize]
         } else {
             None
         }

@@ -26,7 +26,7 @@ use Rattle.wf_task.specs.declared.fault.TaskFault.{TaskFault}
 use Rattle.wf_task.specs.Shape.{each, whole_of, pair_of, simplex_of, tuples_of, rule_of, entry_of, list_of}
 use Rattle.wf_task.specs.Draft.{Listed, ◌>>=◌, draft_of}
 use Rattle.wf_task.specs.Slots.{entries_in}
-use Rattle.wf_task.specs.Judge.{is_first_block, is_large, has_large, rule_has_large, some_large, has_colours, all_colours, is_among, tuples_for, wrong_length, no_output, first_answer, numbers_judged, sizes_judged, entries_judged, tuples_judged, rule_for, drafted, judged, task_of, text_of}
+use Rattle.wf_task.specs.Judge.{is_first_block, is_large, has_large, rule_has_large, some_large, names_processes, all_processes_named, is_among, tuples_for, wrong_length, no_output, first_answer, numbers_judged, sizes_judged, entries_judged, tuples_judged, rule_for, drafted, judged, task_of, text_of}
 use Rattle.wf_task.specs.declared.task.TheConstants.{LONGEST}
 use Rattle.wf_task.proofs.Texts.{json_of-some}
 use Rattle.wf_task.specs.Canonical.{is_inner, facets, IsListable, version_of, listed_of, number_data, list_data, vertex_data, simplex_data, tuple_data, rule_data, task_data}
@@ -64,10 +64,10 @@ entry-read rule h = rw (tuples-read rule.tuples) (rw (simplex-read rule.input h)
 draft-read : (t : Task) → ((s : Simplex) → Has s (facets (inputs t)) → is_nonempty s ≡ true) → ((s : Simplex) → Has s (facets t.outputs) → is_nonempty s ≡ true) → ((rule : Rule) → Has rule t.delta → is_nonempty rule.input ≡ true)
     → t.processes < 2 ^ 64 → draft_of (task_data t) ≡ Ok (listed_of t)
 unfolding draft_of
-draft-read t some_inputs some_outputs some_rules low = by t.restriction
+draft-read t some_inputs some_outputs some_rules low = by t.least_block
   where
     with : Option ℕ → Task
-    with o = record { processes = t.processes; symmetric = t.symmetric; restriction = o; delta = t.delta; outputs = t.outputs }
+    with o = record { processes = t.processes; symmetric = t.symmetric; least_block = o; delta = t.delta; outputs = t.outputs }
 
     by : (o : Option ℕ) → draft_of (task_data (with o)) ≡ Ok (listed_of (with o))
     by None =
@@ -108,8 +108,8 @@ small-list m xs h = any_false (is_large m) xs (λ x k. le-ltb m x (has_of_all (�
 simplex-small : (n m : ℕ) (s : Simplex) → IsSimplexWithin n m s → has_large m s ≡ false
 simplex-small n m s h = small-list m (values_of s) h.values
 
-simplex-colours : (n m : ℕ) (s : Simplex) → IsSimplexWithin n m s → has_colours n s ≡ true
-simplex-colours n m s h =
+simplex-processes : (n m : ℕ) (s : Simplex) → IsSimplexWithin n m s → names_processes n s ≡ true
+simplex-processes n m s h =
     and_from (is_ascending (processes_of s)) (list_all (λ p. nat_lt p n) (processes_of s)) (and_parts (is_nonempty s) (is_ascending (processes_of s)) h.is_simplex).1
     (all_true (λ p. nat_lt p n) (processes_of s) (λ p k. lt-ltb p n (has_of_all (λ p. p < n) p (processes_of s) h.processes k)))
 
@@ -156,10 +156,10 @@ one-entry (r ∷ rules) rule h (inr here) = by (same_simplex r.input rule.input)
 
 module _ (t : Task) (h : IsListable t) where
   abbrev largest : ℕ
-  largest = largest_value t.restriction
+  largest = largest_value t.least_block
 
   within-four : (s : Simplex) → IsSimplexWithin t.processes largest s → IsSimplexWithin 4 255 s
-  within-four s k = within_more t.processes largest 4 255 s h.task.limits.processes (limit-few t.restriction) k
+  within-four s k = within_more t.processes largest 4 255 s h.task.limits.processes (limit-few t.least_block) k
 
   complex-is : (complex : List Simplex) → IsComplexWithin t.processes largest complex → length complex < 2 ^ 32 → IsComplex complex
   complex-is complex c few = record {
@@ -227,18 +227,18 @@ module _ (t : Task) (h : IsListable t) where
       (any_false (has_large largest) (facets t.outputs) (λ s k. simplex-small t.processes largest s (output-is s (facet-of t.outputs s k)))))
       (any_false (rule_has_large largest) t.delta rule-small)
 
-  all-coloured : all_colours (listed_of t) ≡ true
-  all-coloured =
-      and_from (list_all (has_colours t.processes) (facets (inputs t)) && list_all (has_colours t.processes) (facets t.outputs)) (list_all (λ rule. has_colours t.processes rule.input) t.delta)
-      (and_from (list_all (has_colours t.processes) (facets (inputs t))) (list_all (has_colours t.processes) (facets t.outputs))
-      (all_true (has_colours t.processes) (facets (inputs t)) (λ s k. simplex-colours t.processes largest s (input-is s (facet-of (inputs t) s k))))
-      (all_true (has_colours t.processes) (facets t.outputs) (λ s k. simplex-colours t.processes largest s (output-is s (facet-of t.outputs s k)))))
-      (all_true (λ (rule : Rule). has_colours t.processes rule.input) t.delta (λ rule k. simplex-colours t.processes largest rule.input (input-is rule.input (rule-input rule k))))
+  all-named : all_processes_named (listed_of t) ≡ true
+  all-named =
+      and_from (list_all (names_processes t.processes) (facets (inputs t)) && list_all (names_processes t.processes) (facets t.outputs)) (list_all (λ rule. names_processes t.processes rule.input) t.delta)
+      (and_from (list_all (names_processes t.processes) (facets (inputs t))) (list_all (names_processes t.processes) (facets t.outputs))
+      (all_true (names_processes t.processes) (facets (inputs t)) (λ s k. simplex-processes t.processes largest s (input-is s (facet-of (inputs t) s k))))
+      (all_true (names_processes t.processes) (facets t.outputs) (λ s k. simplex-processes t.processes largest s (output-is s (facet-of t.outputs s k)))))
+      (all_true (λ (rule : Rule). names_processes t.processes rule.input) t.delta (λ rule k. simplex-processes t.processes largest rule.input (input-is rule.input (rule-input rule k))))
 
   numbers-pass : numbers_judged (listed_of t) ≡ Ok tt
   unfolding numbers_judged
   numbers-pass =
-      rw (version-passes t.restriction) (rw (le-leb 1 t.processes h.task.decision.some_process) (rw (le-leb t.processes 4 h.task.limits.processes) (rw none-large (rw all-coloured refl))))
+      rw (version-passes t.least_block) (rw (le-leb 1 t.processes h.task.decision.some_process) (rw (le-leb t.processes 4 h.task.limits.processes) (rw none-large (rw all-named refl))))
 
   sizes-pass : sizes_judged (listed_of t) (inputs t) ≡ Ok tt
   unfolding sizes_judged
@@ -300,7 +300,7 @@ module _ (t : Task) (h : IsListable t) where
   drafted-back : drafted (listed_of t) ≡ t
   drafted-back =
       let rules = ap (map (rule_for (listed_of t))) inputs-back ∙ rules-back t.delta (λ rule k. k) in
-      λ j. record { processes = t.processes; symmetric = t.symmetric; restriction = t.restriction; delta = rules j; outputs = outputs-back j }
+      λ j. record { processes = t.processes; symmetric = t.symmetric; least_block = t.least_block; delta = rules j; outputs = outputs-back j }
 
   judged-back : judged (listed_of t) ≡ Ok t
   unfolding judged
@@ -309,7 +309,7 @@ module _ (t : Task) (h : IsListable t) where
       (rw (ap (sizes_judged (listed_of t)) inputs-back ∙ sizes-pass)
       (rw (ap (entries_judged (listed_of t)) inputs-back ∙ entries-pass)
       (rw (ap (tuples_judged (listed_of t)) inputs-back ∙ tuples-pass)
-      (rw some-input (rw (first_block-passes t.restriction h.task.limits.first_block) (ap Ok drafted-back))))))
+      (rw some-input (rw (first_block-passes t.least_block h.task.limits.first_block) (ap Ok drafted-back))))))
 
   vertex-some : (s : Simplex) → IsSimplexWithin t.processes largest s → is_nonempty s ≡ true
   vertex-some s k = (and_parts (is_nonempty s) (is_ascending (processes_of s)) k.is_simplex).0
@@ -325,7 +325,7 @@ module _ (t : Task) (h : IsListable t) where
   -- ---- the length of the canonical text
 
   small : (x : ℕ) → x ≤ largest → x ≤ 255
-  small x low = omega (arith, low, limit-few t.restriction)
+  small x low = omega (arith, low, limit-few t.least_block)
 
   simplex-short : (s : Simplex) → IsSimplexWithin t.processes largest s → length (compact_text (simplex_data s)) ≤ 46
   simplex-short s k =
@@ -343,7 +343,7 @@ module _ (t : Task) (h : IsListable t) where
   short-parts : HasShortParts t
   short-parts = record {
     processes = omega (arith, h.task.limits.processes);
-    restriction = h.task.limits.first_block;
+    least_block = h.task.limits.first_block;
     input_count = omega (arith, length_filter (λ s. not (is_inner (inputs t) s)) (inputs t), input_count);
     output_count = h.few;
     rule_count = h.task.limits.inputs;

@@ -14,7 +14,7 @@ use Rattle.wf_simplex.proofs.Lemmas.{Has, has_at_place, face_within, length-with
 use Rattle.wf_task.specs.Borders.{borders_if, borders_of, place_before}
 use Rattle.wf_task.specs.Canonical.{is_inner, facets, HasFewFacets, list_data, simplex_data, rule_data, keyed, task_data}
 use Rattle.wf_task.specs.Shape.{rule_of}
-use Rattle.wf_task.specs.TaskSeen.{rules_seen, restricted_task}
+use Rattle.wf_task.specs.TaskSeen.{rules_seen, task_with_block}
 use Rattle.wf_model.proofs.Fuel.{length_filter}
 use Rattle.wf_task.proofs.OneMore.{filter-passes, filter-fails}
 use Rattle.wf_task.proofs.Faceted.{inner-border, border-inner, length-complex, within-complex, removed-part}
@@ -106,12 +106,12 @@ mapped_more f g xs ys more x y so_far here is =
 
 -- ---- the whole value
 
-pub value_is : (restriction : Option ℕ) (n : ℕ) (symmetric : Bool) (ss : List Simplex) (ts : List (List Tuple)) (os : List Simplex) (a b c : Data) → length ts ≡ length ss
+pub value_is : (least_block : Option ℕ) (n : ℕ) (symmetric : Bool) (ss : List Simplex) (ts : List (List Tuple)) (os : List Simplex) (a b c : Data) → length ts ≡ length ss
     → a ≡ list_data simplex_data (facets ss) → b ≡ list_data simplex_data (facets os) → c ≡ list_data rule_data (rules_seen ss ts)
-    → keyed restriction n symmetric a b c ≡ task_data (restricted_task restriction n symmetric ss ts os)
-value_is restriction n symmetric ss ts os a b c each is_a is_b is_c =
+    → keyed least_block n symmetric a b c ≡ task_data (task_with_block least_block n symmetric ss ts os)
+value_is least_block n symmetric ss ts os a b c each is_a is_b is_c =
     let first = is_a ∙ ap (λ us. list_data simplex_data (facets us)) (sym (inputs-rules_seen ss ts each)) in
-    λ j. keyed restriction n symmetric (first j) (is_b j) (is_c j)
+    λ j. keyed least_block n symmetric (first j) (is_b j) (is_c j)
 
 -- ---- one facet more
 

@@ -23,7 +23,7 @@ use Rattle.wf_task.specs.declared.fault.TaskFault.TheVariants as fault
 use Rattle.wf_task.specs.Shape.{rule_of}
 use Rattle.wf_task.specs.Draft.{Listed, ◌>>=◌}
 use Rattle.wf_task.specs.Slots.{entries_in, Means, AreOf, IsOnly, AreOnly}
-use Rattle.wf_task.specs.Judge.{is_first_block, has_large, rule_has_large, has_colours, is_among, tuples_for, wrong_length, no_output, first_answer, refused_at, entries_judged, sizes_judged, tuples_judged, numbers_judged, rule_for, drafted}
+use Rattle.wf_task.specs.Judge.{is_first_block, has_large, rule_has_large, names_processes, is_among, tuples_for, wrong_length, no_output, first_answer, refused_at, entries_judged, sizes_judged, tuples_judged, numbers_judged, rule_for, drafted}
 use Rattle.wf_task.specs.Faultless.{ListsVertices, IsFaultless}
 use Rattle.wf_task.specs.Tuples.{IsTupleOf, AreTuples, IsRow, NamesRows, rows_at}
 use Rattle.wf_task.specs.TaskSeen.{rules_seen}
@@ -43,26 +43,26 @@ within_more n k m l s more larger h = record {
 
 pub all_within_four : (listed : Listed) (ss : List Simplex) → AreJudged listed → All (IsSimplexWithin listed.processes (limit_of listed)) ss → All (IsSimplexWithin 4 255) ss
 all_within_four listed ss h all =
-    All-weaker (IsSimplexWithin listed.processes (limit_of listed)) (IsSimplexWithin 4 255) (λ s. within_more listed.processes (limit_of listed) 4 255 s h.few (limit-few listed.restriction)) ss all
+    All-weaker (IsSimplexWithin listed.processes (limit_of listed)) (IsSimplexWithin 4 255) (λ s. within_more listed.processes (limit_of listed) 4 255 s h.few (limit-few listed.least_block)) ss all
 
-entries_from : (n m : ℕ) (rules : List Rule) → All (λ rule. is_nonempty rule.input ≡ true) rules → list_any (rule_has_large m) rules ≡ false → list_all (λ rule. has_colours n rule.input) rules ≡ true
+entries_from : (n m : ℕ) (rules : List Rule) → All (λ rule. is_nonempty rule.input ≡ true) rules → list_any (rule_has_large m) rules ≡ false → list_all (λ rule. names_processes n rule.input) rules ≡ true
     → All (λ rule. IsSimplexWithin n m rule.input) rules
-entries_from n m [] some small colours = All-nil (λ rule. IsSimplexWithin n m rule.input)
-entries_from n m (rule ∷ rules) some small colours =
+entries_from n m [] some small named = All-nil (λ rule. IsSimplexWithin n m rule.input)
+entries_from n m (rule ∷ rules) some small named =
     All-cons (λ rule. IsSimplexWithin n m rule.input) rule rules
     (within n m rule.input (All-head (λ rule. is_nonempty rule.input ≡ true) rule rules some)
     (or_parts (has_large m rule.input) _ (or_parts (rule_has_large m rule) (list_any (rule_has_large m) rules) small).0).0
-    (and_parts (has_colours n rule.input) (list_all (λ rule. has_colours n rule.input) rules) colours).0)
+    (and_parts (names_processes n rule.input) (list_all (λ rule. names_processes n rule.input) rules) named).0)
     (entries_from n m rules (All-tail (λ rule. is_nonempty rule.input ≡ true) rule rules some) (or_parts (rule_has_large m rule) (list_any (rule_has_large m) rules) small).1
-    (and_parts (has_colours n rule.input) (list_all (λ rule. has_colours n rule.input) rules) colours).1)
+    (and_parts (names_processes n rule.input) (list_all (λ rule. names_processes n rule.input) rules) named).1)
 
 pub entries_within_four : (listed : Listed) → AreJudged listed → ListsVertices listed → All (λ rule. IsSimplexWithin 4 255 rule.input) listed.delta
 entries_within_four listed h some =
     let m = limit_of listed in
-    All-weaker (λ rule. IsSimplexWithin listed.processes m rule.input) (λ rule. IsSimplexWithin 4 255 rule.input) (λ rule. within_more listed.processes m 4 255 rule.input h.few (limit-few listed.restriction)) listed.delta
+    All-weaker (λ rule. IsSimplexWithin listed.processes m rule.input) (λ rule. IsSimplexWithin 4 255 rule.input) (λ rule. within_more listed.processes m 4 255 rule.input h.few (limit-few listed.least_block)) listed.delta
     (entries_from listed.processes m listed.delta some.entries
     (or_parts (list_any (has_large m) listed.inputs || list_any (has_large m) listed.outputs) (list_any (rule_has_large m) listed.delta) h.small).1
-    (and_parts (list_all (has_colours listed.processes) listed.inputs && list_all (has_colours listed.processes) listed.outputs) (list_all (λ rule. has_colours listed.processes rule.input) listed.delta) h.colours).1)
+    (and_parts (list_all (names_processes listed.processes) listed.inputs && list_all (names_processes listed.processes) listed.outputs) (list_all (λ rule. names_processes listed.processes rule.input) listed.delta) h.named).1)
 
 -- ---- a refusal that did not come
 
@@ -310,7 +310,7 @@ drafted_is_task listed h =
       };
       limits = record {
         processes = numbers.few;
-        first_block = first_block_is listed.restriction h.first_block;
+        first_block = first_block_is listed.least_block h.first_block;
         input_values = up_to listed.processes (limit_of listed) _ inputs-are;
         output_values = up_to listed.processes (limit_of listed) _ outputs-are;
         some_input = omega (arith, some_faces listed.inputs h.vertices.inputs h.input, length-map complex (rule_for listed));
@@ -364,13 +364,13 @@ pub rules_of_faultless : (listed : Listed) (slots : List Slot) (inputs : List Si
 rules_of_faultless listed slots inputs rows h is of made =
     ap (λ ss. rules_seen ss rows) is ∙ rules_are slots listed (complex_of listed.inputs) rows (only_of listed slots h (subst (AreOf slots listed.delta) is of)) made
 
-pub task_is : (listed : Listed) (rules : List Rule) (outputs : List Simplex) (t : Task) → t ≡ record { processes = listed.processes; symmetric = listed.symmetric; restriction = listed.restriction; delta = rules; outputs = outputs }
+pub task_is : (listed : Listed) (rules : List Rule) (outputs : List Simplex) (t : Task) → t ≡ record { processes = listed.processes; symmetric = listed.symmetric; least_block = listed.least_block; delta = rules; outputs = outputs }
     → rules ≡ (drafted listed).delta → outputs ≡ complex_of listed.outputs → t ≡ drafted listed
 task_is listed rules outputs t is same complex =
-    is ∙ (λ j. record { processes = listed.processes; symmetric = listed.symmetric; restriction = listed.restriction; delta = same j; outputs = complex j })
+    is ∙ (λ j. record { processes = listed.processes; symmetric = listed.symmetric; least_block = listed.least_block; delta = same j; outputs = complex j })
 
 pub faultless : (listed : Listed) (inputs : List Simplex) (a b c d : Unit {0}) → ListsVertices listed → numbers_judged listed ≡ Ok a → inputs ≡ complex_of listed.inputs → sizes_judged listed inputs ≡ Ok b
-    → entries_judged listed inputs ≡ Ok c → tuples_judged listed inputs ≡ Ok d → (length listed.inputs == 0) ≡ false → is_first_block listed.restriction ≡ true → IsFaultless listed
+    → entries_judged listed inputs ≡ Ok c → tuples_judged listed inputs ≡ Ok d → (length listed.inputs == 0) ≡ false → is_first_block listed.least_block ≡ true → IsFaultless listed
 faultless listed inputs a b c d vertices numbers is sizes entries tuples some first = record {
   vertices = vertices;
   numbers = numbers;

@@ -127,7 +127,7 @@ bool-long false = omega arith
 -- what bounds the parts of a task's text
 pub record HasShortParts (t : Task) : Type 0 where
   pub processes : t.processes ≤ 255
-  pub restriction : IsFirstBlock t.restriction
+  pub least_block : IsFirstBlock t.least_block
   pub input_count : length (facets (inputs t)) ≤ 4096
   pub output_count : length (facets t.outputs) ≤ 65536
   pub rule_count : length t.delta ≤ 4096
@@ -137,11 +137,11 @@ pub record HasShortParts (t : Task) : Type 0 where
   pub rule_parts : (rule : Rule) → Has rule t.delta → length (compact_text (rule_data rule)) ≤ 63 + 19 * length rule.tuples
 
 -- `first_block` before the other members
-block-long : (restriction : Option ℕ) (ms : Members) → IsFirstBlock restriction → length (members_text true (with_first_block restriction ms)) ≤ 18 + length (members_text true ms)
+block-long : (least_block : Option ℕ) (ms : Members) → IsFirstBlock least_block → length (members_text true (with_first_block least_block ms)) ≤ 18 + length (members_text true ms)
 block-long None ms h = omega arith
 block-long (Some m) ms h = let all = member-long true (codes "first_block") 13 (number_data m) ms first_block-long in omega (arith, all, number-long m (omega (arith, h.1)))
 
-version-few : (restriction : Option ℕ) → version_of restriction ≤ 255
+version-few : (least_block : Option ℕ) → version_of least_block ≤ 255
 version-few None = omega arith
 version-few (Some m) = omega arith
 
@@ -153,18 +153,18 @@ task-long t h =
     let d = list_data rule_data t.delta in
     let i = list_data simplex_data (facets (inputs t)) in
     let o = list_data simplex_data (facets t.outputs) in
-    let version : Members = member (codes "version") (number_data (version_of t.restriction)) no_members in
+    let version : Members = member (codes "version") (number_data (version_of t.least_block)) no_members in
     let symmetric : Members = member (codes "symmetric") (boolean t.symmetric) version in
     let processes : Members = member (codes "processes") (number_data t.processes) symmetric in
     let outputs : Members = member (codes "outputs") o processes in
     let inputs' : Members = member (codes "inputs") i outputs in
-    let block : Members = with_first_block t.restriction inputs' in
-    let a = name-long true (codes "version") (number_data (version_of t.restriction)) no_members 3 version-long (number-long (version_of t.restriction) (version-few t.restriction)) in
+    let block : Members = with_first_block t.least_block inputs' in
+    let a = name-long true (codes "version") (number_data (version_of t.least_block)) no_members 3 version-long (number-long (version_of t.least_block) (version-few t.least_block)) in
     let b = name-long true (codes "symmetric") (boolean t.symmetric) version 5 symmetric-long (bool-long t.symmetric) in
     let c = name-long true (codes "processes") (number_data t.processes) symmetric 3 processes-long (number-long t.processes h.processes) in
     let e = name-long true (codes "outputs") o processes 3080194 outputs-long (omega (arith, outer, h.output_count)) in
     let f = name-long true (codes "inputs") i outputs 192514 inputs-long (omega (arith, inner, h.input_count)) in
-    let first = block-long t.restriction inputs' h.restriction in
+    let first = block-long t.least_block inputs' h.least_block in
     let g = name-long false (codes "delta") d block 1507330 delta-long (omega (arith, rules, h.rule_count, h.tuple_count)) in
     omega (arith, a, b, c, e, f, first, g)
 
@@ -196,7 +196,7 @@ rule-deep rule =
 member-deep : (key : List ℕ) (d : Data) (ms : Members) → depth d ≤ 5 → members_depth ms ≤ 5 → members_depth (member key d ms) ≤ 5
 member-deep key d ms value others = max-le value others
 
-block-deep : (restriction : Option ℕ) (ms : Members) → members_depth ms ≤ 5 → members_depth (with_first_block restriction ms) ≤ 5
+block-deep : (least_block : Option ℕ) (ms : Members) → members_depth ms ≤ 5 → members_depth (with_first_block least_block ms) ≤ 5
 block-deep None ms h = h
 block-deep (Some m) ms h = member-deep (codes "first_block") (number_data m) ms (omega arith) h
 
@@ -205,12 +205,12 @@ task-deep t =
     let rules = list-deep rule_data 4 t.delta rule-deep in
     let inner = simplices-deep (facets (inputs t)) in
     let outer = simplices-deep (facets t.outputs) in
-    let version : Members = member (codes "version") (number_data (version_of t.restriction)) no_members in
+    let version : Members = member (codes "version") (number_data (version_of t.least_block)) no_members in
     let symmetric : Members = member (codes "symmetric") (boolean t.symmetric) version in
     let processes : Members = member (codes "processes") (number_data t.processes) symmetric in
     let outputs : Members = member (codes "outputs") (list_data simplex_data (facets t.outputs)) processes in
     let inputs' : Members = member (codes "inputs") (list_data simplex_data (facets (inputs t))) outputs in
     let a = member-deep (codes "outputs") (list_data simplex_data (facets t.outputs)) processes (omega (arith, outer)) (omega arith) in
     let b = member-deep (codes "inputs") (list_data simplex_data (facets (inputs t))) outputs (omega (arith, inner)) a in
-    let c = member-deep (codes "delta") (list_data rule_data t.delta) (with_first_block t.restriction inputs') (omega (arith, rules)) (block-deep t.restriction inputs' b) in
+    let c = member-deep (codes "delta") (list_data rule_data t.delta) (with_first_block t.least_block inputs') (omega (arith, rules)) (block-deep t.least_block inputs' b) in
     omega (arith, c)

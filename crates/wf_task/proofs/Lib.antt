@@ -24,5 +24,5 @@ pub mod CanonicalLoops
 pub mod OneMore
 pub mod Lengths
 pub mod Back
-pub mod Restriction
+pub mod LeastBlock
 pub mod Lemmas

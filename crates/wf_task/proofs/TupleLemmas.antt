@@ -184,5 +184,5 @@ are_tuples listed inputs none small = record {
   each = λ i inside. both (length (slice_index_or inputs i [])) (tuples_for listed (slice_index_or inputs i []))
       (none_passes (λ tuple. not (length tuple == length (slice_index_or inputs i []))) 0 (tuples_for listed (slice_index_or inputs i [])) (no_answer (wrong_length listed) 0 inputs none i inside))
       (let m = limit_of listed in
-      tuples_small m listed.delta (slice_index_or inputs i []) (limit-few listed.restriction) (or_parts (list_any (has_large m) listed.inputs || list_any (has_large m) listed.outputs) (list_any (rule_has_large m) listed.delta) small).1);
+      tuples_small m listed.delta (slice_index_or inputs i []) (limit-few listed.least_block) (or_parts (list_any (has_large m) listed.inputs || list_any (has_large m) listed.outputs) (list_any (rule_has_large m) listed.delta) small).1);
 }

@@ -11,7 +11,7 @@ use Rattle.wf_task.specs.declared.fault.Key.TheVariants.{Whole, Version, Process
 use Rattle.wf_task.specs.declared.fault.TaskFault.{TaskFault}
 use Rattle.wf_task.specs.declared.fault.TaskFault.TheVariants as fault
 use Rattle.wf_task.specs.Shape.{whole_of, pair_of, list_of, nonempty, simplex_of, tuples_of, rule_of, entry_of, with_first, each}
-use Rattle.wf_task.specs.Draft.{Listed, ◌>>=◌, or_fault, value_at, restriction_at, key_count, placed, list_at, draft_of}
+use Rattle.wf_task.specs.Draft.{Listed, ◌>>=◌, or_fault, value_at, least_block_at, key_count, placed, list_at, draft_of}
 use Rattle.wf_task.specs.Faultless.{ListsVertices}
 
 -- ---- a chain that came to its end
@@ -95,14 +95,14 @@ unfolding draft_of
 vertices_listed d listed h =
     let object = chained (or_fault (fault.Shape Whole 0) (as_object d)) _ listed h in
     let version = chained (value_at Version whole_of (get (codes "version") d)) _ listed object.2 in
-    let restriction = chained (restriction_at version.0 (get (codes "first_block") d)) _ listed version.2 in
-    let processes = chained (value_at Processes whole_of (get (codes "processes") d)) _ listed restriction.2 in
+    let least_block = chained (least_block_at version.0 (get (codes "first_block") d)) _ listed version.2 in
+    let processes = chained (value_at Processes whole_of (get (codes "processes") d)) _ listed least_block.2 in
     let symmetric = chained (value_at Symmetric as_bool (get (codes "symmetric") d)) _ listed processes.2 in
     let inputs = chained (list_at Inputs simplex_of (get (codes "inputs") d)) _ listed symmetric.2 in
     let outputs = chained (list_at Outputs simplex_of (get (codes "outputs") d)) _ listed inputs.2 in
     let delta = chained (list_at Delta entry_of (get (codes "delta") d)) _ listed outputs.2 in
-    let made : Listed = record { version = version.0; restriction = restriction.0; processes = processes.0; symmetric = symmetric.0; inputs = inputs.0; outputs = outputs.0; delta = delta.0 } in
-    subst ListsVertices (ended_draft (members_len object.0 == key_count restriction.0) made listed delta.2) (record {
+    let made : Listed = record { version = version.0; least_block = least_block.0; processes = processes.0; symmetric = symmetric.0; inputs = inputs.0; outputs = outputs.0; delta = delta.0 } in
+    subst ListsVertices (ended_draft (members_len object.0 == key_count least_block.0) made listed delta.2) (record {
       inputs = list_at-all Inputs simplex_of (λ s. is_nonempty s ≡ true) simplex-vertex (get (codes "inputs") d) inputs.0 inputs.1;
       outputs = list_at-all Outputs simplex_of (λ s. is_nonempty s ≡ true) simplex-vertex (get (codes "outputs") d) outputs.0 outputs.1;
       entries = list_at-all Delta entry_of (λ rule. is_nonempty rule.input ≡ true) entry-vertex (get (codes "delta") d) delta.0 delta.1;

@@ -26,4 +26,4 @@ block_has_none (Some m) ms h = h
 pub task_has_no_float : (t : Task) → has_float (task_data t) ≡ false
 task_has_no_float t =
     rw (rules_have_none t.delta)
-    (block_has_none t.restriction _ (rw (simplices_have_none (facets (inputs t))) (rw (simplices_have_none (facets t.outputs)) refl)))
+    (block_has_none t.least_block _ (rw (simplices_have_none (facets (inputs t))) (rw (simplices_have_none (facets t.outputs)) refl)))

@@ -31,8 +31,8 @@ HasFewFacets complex = length (facets complex) ≤ most_outputs
 -- the facets of the inputs and outputs, and an entry for each input simplex
 abbrev pub listed_of : Task → Listed
 listed_of t = record {
-  version = version_of t.restriction;
-  restriction = t.restriction;
+  version = version_of t.least_block;
+  least_block = t.least_block;
   processes = t.processes;
   symmetric = t.symmetric;
   inputs = facets (inputs t);
@@ -67,19 +67,19 @@ with_first_block (Some m) ms = member (codes "first_block") (number_data m) ms
 
 -- the value of a task by the values of its parts, its keys in alphabetical order
 abbrev pub keyed : Option ℕ → ℕ → Bool → Data → Data → Data → Data
-keyed restriction n symmetric inputs outputs delta =
+keyed least_block n symmetric inputs outputs delta =
     object (member (codes "delta") delta
-    (with_first_block restriction
+    (with_first_block least_block
     (member (codes "inputs") inputs
     (member (codes "outputs") outputs
     (member (codes "processes") (number_data n)
     (member (codes "symmetric") (boolean symmetric)
-    (member (codes "version") (number_data (version_of restriction)) no_members)))))))
+    (member (codes "version") (number_data (version_of least_block)) no_members)))))))
 
 -- the value of the canonical text
 abbrev pub task_data : Task → Data
 task_data t =
-    keyed t.restriction t.processes t.symmetric (list_data simplex_data (facets (inputs t)))
+    keyed t.least_block t.processes t.symmetric (list_data simplex_data (facets (inputs t)))
     (list_data simplex_data (facets t.outputs)) (list_data rule_data t.delta)
 
 -- compact JSON: no space anywhere

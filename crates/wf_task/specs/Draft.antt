@@ -44,8 +44,8 @@ abbrev pub list_at : {A : Type 0} → Key → (Data → Option A) → Option Dat
 list_at key f found = or_fault (fault.Shape key 0) (option_and_then as_array found) >>= λ items. placed key (each f items)
 
 -- what is listed under `first_block`, a key of version 2
-abbrev pub restriction_at : ℕ → Option Data → Result (Option ℕ) TaskFault
-restriction_at version found = if version == 2 then (value_at FirstBlock whole_of found >>= λ m. Ok (Some m)) else Ok None
+abbrev pub least_block_at : ℕ → Option Data → Result (Option ℕ) TaskFault
+least_block_at version found = if version == 2 then (value_at FirstBlock whole_of found >>= λ m. Ok (Some m)) else Ok None
 
 -- how many keys a text has: with `first_block` one more
 abbrev pub key_count : Option ℕ → ℕ
@@ -55,7 +55,7 @@ key_count (Some m) = 7
 -- what a value of the right shape lists
 pub record Listed : Type 0 where
   pub version : ℕ
-  pub restriction : Option ℕ  -- under `first_block`; none where the version is not 2
+  pub least_block : Option ℕ  -- under `first_block`; none where the version is not 2
   pub processes : ℕ
   pub symmetric : Bool
   pub inputs : List Simplex
@@ -68,12 +68,12 @@ unfoldable pub draft_of : Data → Result Listed TaskFault
 draft_of d = do
   members ← or_fault (fault.Shape Whole 0) (as_object d)
   version ← value_at Version whole_of (get (codes "version") d)
-  restriction ← restriction_at version (get (codes "first_block") d)
+  least_block ← least_block_at version (get (codes "first_block") d)
   processes ← value_at Processes whole_of (get (codes "processes") d)
   symmetric ← value_at Symmetric as_bool (get (codes "symmetric") d)
   inputs ← list_at Inputs simplex_of (get (codes "inputs") d)
   outputs ← list_at Outputs simplex_of (get (codes "outputs") d)
   delta ← list_at Delta entry_of (get (codes "delta") d)
-  if members_len members == key_count restriction
-      then Ok (record { version = version; restriction = restriction; processes = processes; symmetric = symmetric; inputs = inputs; outputs = outputs; delta = delta })
+  if members_len members == key_count least_block
+      then Ok (record { version = version; least_block = least_block; processes = processes; symmetric = symmetric; inputs = inputs; outputs = outputs; delta = delta })
       else Err (fault.Shape Other 0)

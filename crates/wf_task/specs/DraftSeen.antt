@@ -17,7 +17,7 @@ entry_seen e = rule_of e.input.pairs.items (map (λ t. t.items) e.tuples.items)
 abbrev pub draft_seen : Draft → Listed
 draft_seen draft = record {
   version = draft.version;
-  restriction = draft.restriction;
+  least_block = draft.least_block;
   processes = draft.processes;
   symmetric = draft.symmetric;
   inputs = map pairs_seen draft.inputs.items;

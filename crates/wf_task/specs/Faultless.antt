@@ -25,4 +25,4 @@ pub record IsFaultless (listed : Listed) : Type 0 where
   pub entries : entries_judged listed (complex_of listed.inputs) ≡ Ok tt
   pub tuples : tuples_judged listed (complex_of listed.inputs) ≡ Ok tt
   pub input : (length listed.inputs == 0) ≡ false
-  pub first_block : is_first_block listed.restriction ≡ true
+  pub first_block : is_first_block listed.least_block ≡ true

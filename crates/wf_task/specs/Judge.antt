@@ -34,7 +34,7 @@ has_large_at largest listed = list_any (has_large largest) listed.inputs || list
     || list_any (rule_has_large largest) listed.delta
 
 abbrev pub some_large : Listed → Bool
-some_large listed = has_large_at (largest_value listed.restriction) listed
+some_large listed = has_large_at (largest_value listed.least_block) listed
 
 -- the first block has at least 1 to 4 participants
 abbrev pub is_first_block : Option ℕ → Bool
@@ -42,16 +42,16 @@ is_first_block None = true
 is_first_block (Some m) = nat_le 1 m && nat_le m 4
 
 -- the processes strictly ascend and are below n
-abbrev pub has_colours : ℕ → Simplex → Bool
-has_colours n s = is_ascending (processes_of s) && list_all (λ p. nat_lt p n) (processes_of s)
+abbrev pub names_processes : ℕ → Simplex → Bool
+names_processes n s = is_ascending (processes_of s) && list_all (λ p. nat_lt p n) (processes_of s)
 
 -- each listed simplex has processes in order, below the number of processes
-abbrev pub all_colours : Listed → Bool
-all_colours listed = list_all (has_colours listed.processes) listed.inputs && list_all (has_colours listed.processes) listed.outputs
-    && list_all (λ rule. has_colours listed.processes rule.input) listed.delta
+abbrev pub all_processes_named : Listed → Bool
+all_processes_named listed = list_all (names_processes listed.processes) listed.inputs && list_all (names_processes listed.processes) listed.outputs
+    && list_all (λ rule. names_processes listed.processes rule.input) listed.delta
 
-abbrev pub rule_has_colours : ℕ → Rule → Bool
-rule_has_colours n rule = has_colours n rule.input
+abbrev pub rule_names_processes : ℕ → Rule → Bool
+rule_names_processes n rule = names_processes n rule.input
 
 -- how many value lists the entries have together
 abbrev pub tuple_total : List Rule → ℕ
@@ -105,7 +105,7 @@ refused_at (Some at) e = Err (e at)
 
 -- 18: of the first block
 abbrev pub first_block_judged : Option ℕ → Result (Unit {0}) TaskFault
-first_block_judged restriction = refused_if (not (is_first_block restriction)) fault.FirstBlock
+first_block_judged least_block = refused_if (not (is_first_block least_block)) fault.FirstBlock
 
 -- 4 to 7: of the listed numbers alone
 unfoldable pub numbers_judged : Listed → Result (Unit {0}) TaskFault
@@ -113,7 +113,7 @@ numbers_judged listed = do
   version ← refused_if (not (listed.version == 1 || listed.version == 2)) fault.Version
   processes ← refused_if (not (nat_le 1 listed.processes && nat_le listed.processes 4)) fault.Processes
   value ← refused_if (some_large listed) fault.Value
-  refused_if (not (all_colours listed)) fault.Colours
+  refused_if (not (all_processes_named listed)) fault.Colours
 
 -- 8: of how many there are, where inputs is the input complex
 unfoldable pub sizes_judged : Listed → List Simplex → Result (Unit {0}) TaskFault
@@ -147,7 +147,7 @@ abbrev pub drafted : Listed → Task
 drafted listed = record {
   processes = listed.processes;
   symmetric = listed.symmetric;
-  restriction = listed.restriction;
+  least_block = listed.least_block;
   delta = map (rule_for listed) (complex_of listed.inputs);
   outputs = complex_of listed.outputs;
 }
@@ -159,7 +159,7 @@ judged listed = do
   entries ← entries_judged listed (complex_of listed.inputs)
   tuples ← tuples_judged listed (complex_of listed.inputs)
   input ← refused_if (length listed.inputs == 0) fault.NoInput
-  first_block ← refused_if (not (is_first_block listed.restriction)) fault.FirstBlock
+  first_block ← refused_if (not (is_first_block listed.least_block)) fault.FirstBlock
   Ok (drafted listed)
 
 -- the task of a JSON value, or the first fault

@@ -14,21 +14,21 @@ rules_seen (s ∷ ss) [] = []
 rules_seen (s ∷ ss) (t ∷ ts) = rule_of s t ∷ rules_seen ss ts
 
 -- the task of these parts
-abbrev pub restricted_task : Option ℕ → ℕ → Bool → List Simplex → List (List Tuple) → List Simplex → Task
-restricted_task restriction n symmetric inputs tuples outputs = record {
+abbrev pub task_with_block : Option ℕ → ℕ → Bool → List Simplex → List (List Tuple) → List Simplex → Task
+task_with_block least_block n symmetric inputs tuples outputs = record {
   processes = n;
   symmetric = symmetric;
-  restriction = restriction;
+  least_block = least_block;
   delta = rules_seen inputs tuples;
   outputs = outputs;
 }
 
 -- the same with all words allowed
 abbrev pub task_of_parts : ℕ → Bool → List Simplex → List (List Tuple) → List Simplex → Task
-task_of_parts n symmetric inputs tuples outputs = restricted_task None n symmetric inputs tuples outputs
+task_of_parts n symmetric inputs tuples outputs = task_with_block None n symmetric inputs tuples outputs
 
 abbrev pub task_seen : Inside → Task
-task_seen t = restricted_task t.restriction t.processes t.symmetric t.inputs (map vec_items t.tuples.items) t.outputs
+task_seen t = task_with_block t.least_block t.processes t.symmetric t.inputs (map vec_items t.tuples.items) t.outputs
 
 pub record IsKept (t : Inside) : Type 0 where
   pub task : IsTask (task_seen t)

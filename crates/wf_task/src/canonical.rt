@@ -209,7 +209,7 @@ pub(crate) fn entries(
 /// The value of a task, its keys in alphabetical order.
 pub(crate) fn task_value(
     alloc: Global,
-    restriction: Option<u8>,
+    least_block: Option<u8>,
     processes: u8,
     symmetric: bool,
     inputs: Value,
@@ -217,9 +217,9 @@ pub(crate) fn task_value(
     delta: Value,
 ) -> Result<Value, AllocError>
     ensures { IfOk result (λ v. view v ≡
-        keyed restriction processes symmetric (view inputs) (view outputs) (view delta)) }
+        keyed least_block processes symmetric (view inputs) (view outputs) (view delta)) }
 {
-    match restriction {
+    match least_block {
         None => json!(in alloc; {
             "version": 1u64,
             "processes": processes,

@@ -4,7 +4,7 @@ ghost use Rattle.std.specs.Prelude.{◌≡◌, ◌==◌, map, option_map};
 ghost use Rattle.serde_json.specs.Find.{as_bool};
 ghost use Rattle.serde_json.specs.View.{view};
 ghost use Rattle.wf_task.specs.Shape.{whole_of};
-ghost use Rattle.wf_task.specs.Draft.{Gives, value_at, restriction_at, key_count, list_at, draft_of};
+ghost use Rattle.wf_task.specs.Draft.{Gives, value_at, least_block_at, key_count, list_at, draft_of};
 ghost use Rattle.wf_task.specs.DraftSeen.{draft_seen};
 ghost use Rattle.wf_task.specs.Parts.{IsOfText, IsPart};
 
@@ -14,16 +14,16 @@ use serde_json::Value;
 use std::alloc::Global;
 
 /// The version in whose tasks all words are allowed, and the one whose texts name the first block.
-pub(crate) const UNRESTRICTED: u64 = 1;
+pub(crate) const FIRST_VERSION: u64 = 1;
 
-pub(crate) const RESTRICTED: u64 = 2;
+pub(crate) const SECOND_VERSION: u64 = 2;
 
 /// What a JSON value of the right shape lists, and nothing judged yet.
 #[derive(Drop)]
 pub(crate) struct Draft {
     pub(crate) version: u64,
     // under `first_block`, where the version is 2
-    pub(crate) restriction: Option<u64>,
+    pub(crate) least_block: Option<u64>,
     pub(crate) processes: u64,
     pub(crate) symmetric: bool,
     pub(crate) inputs: Vec<ListedSimplex>,
@@ -43,11 +43,11 @@ fn number_under(key: Key, value: Option<&Value>) -> Result<u64, TaskFault>
 }
 
 /// What is listed under `first_block`, which a text of version 2 has.
-fn restriction_under(version: u64, value: Option<&Value>) -> Result<Option<u64>, TaskFault>
+fn least_block_under(version: u64, value: Option<&Value>) -> Result<Option<u64>, TaskFault>
     ensures { Gives (λ m. m) result
-        (restriction_at version (option_map (λ v. view v.now) value.entry)) }
+        (least_block_at version (option_map (λ v. view v.now) value.entry)) }
 {
-    if version == RESTRICTED {
+    if version == SECOND_VERSION {
         Ok(Some(number_under(Key::FirstBlock, value)?))
     } else {
         Ok(None)
@@ -55,10 +55,10 @@ fn restriction_under(version: u64, value: Option<&Value>) -> Result<Option<u64>,
 }
 
 /// Whether a text has no further key where it has so many.
-fn is_key_count(keys: usize, restriction: Option<u64>) -> bool
-    ensures { result ≡ (keys == key_count restriction) }
+fn is_key_count(keys: usize, least_block: Option<u64>) -> bool
+    ensures { result ≡ (keys == key_count least_block) }
 {
-    match restriction {
+    match least_block {
         None => keys == 6,
         Some(_) => keys == 7,
     }
@@ -109,18 +109,18 @@ impl Draft {
             return Err(TaskFault::Shape(Key::Whole, 0));
         };
         let version = number_under(Key::Version, value.get("version"))?;
-        let restriction = restriction_under(version, value.get("first_block"))?;
+        let least_block = least_block_under(version, value.get("first_block"))?;
         let processes = number_under(Key::Processes, value.get("processes"))?;
         let symmetric = truth_under(Key::Symmetric, value.get("symmetric"))?;
         let inputs = list_under(alloc, Key::Inputs, value.get("inputs"))?;
         let outputs = list_under(alloc, Key::Outputs, value.get("outputs"))?;
         let delta = list_under(alloc, Key::Delta, value.get("delta"))?;
-        if !is_key_count(members.len(), restriction) {
+        if !is_key_count(members.len(), least_block) {
             return Err(TaskFault::Shape(Key::Other, 0));
         }
         Ok(Draft {
             version,
-            restriction,
+            least_block,
             processes,
             symmetric,
             inputs,

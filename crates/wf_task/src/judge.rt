@@ -5,24 +5,24 @@ ghost use Rattle.std.specs.List.{list_any, list_all};
 ghost use Rattle.wf_model.specs.Task.{largest_value};
 ghost use Rattle.wf_task.specs.Draft.{Gives};
 ghost use Rattle.wf_task.specs.DraftSeen.{draft_seen, entry_seen};
-ghost use Rattle.wf_task.specs.Judge.{is_large, has_large, rule_has_large, is_first_block, has_colours, rule_has_colours, first_block_judged, numbers_judged};
+ghost use Rattle.wf_task.specs.Judge.{is_large, has_large, rule_has_large, is_first_block, names_processes, rule_names_processes, first_block_judged, numbers_judged};
 
-use crate::draft::{Draft, RESTRICTED, UNRESTRICTED};
+use crate::draft::{Draft, SECOND_VERSION, FIRST_VERSION};
 use crate::fault::TaskFault;
 use crate::shape::{Entry, ListedSimplex};
 
 /// The largest value where all words are allowed, and where some are not.
 const LARGEST: u64 = 63;
 
-const LARGEST_RESTRICTED: u64 = 255;
+const LARGEST_IN_SECOND: u64 = 255;
 
 /// The largest value that a text may have.
-fn largest(restriction: Option<u64>) -> u64
-    ensures { result ≡ largest_value restriction }
+fn largest(least_block: Option<u64>) -> u64
+    ensures { result ≡ largest_value least_block }
 {
-    match restriction {
+    match least_block {
         None => LARGEST,
-        Some(_) => LARGEST_RESTRICTED,
+        Some(_) => LARGEST_IN_SECOND,
     }
 }
 
@@ -82,8 +82,8 @@ fn any_entry_has_large(largest: u64, delta: &[Entry]) -> bool
 }
 
 /// Whether the processes strictly ascend and are below the number of processes.
-fn has_colours(processes: u64, pairs: &[(u64, u64)]) -> bool
-    ensures { result ≡ has_colours processes pairs.now }
+fn names_processes(processes: u64, pairs: &[(u64, u64)]) -> bool
+    ensures { result ≡ names_processes processes pairs.now }
 {
     let mut least = 0;
     for (process, _) in pairs {
@@ -96,11 +96,11 @@ fn has_colours(processes: u64, pairs: &[(u64, u64)]) -> bool
 }
 
 /// Whether each simplex has such processes.
-fn all_have_colours(processes: u64, simplices: &[ListedSimplex]) -> bool
-    ensures { result ≡ list_all (has_colours processes) (map (λ s. s.pairs.items) simplices.now) }
+fn all_name_processes(processes: u64, simplices: &[ListedSimplex]) -> bool
+    ensures { result ≡ list_all (names_processes processes) (map (λ s. s.pairs.items) simplices.now) }
 {
     for simplex in simplices {
-        if !has_colours(processes, &simplex.pairs) {
+        if !names_processes(processes, &simplex.pairs) {
             return false;
         }
     }
@@ -108,11 +108,11 @@ fn all_have_colours(processes: u64, simplices: &[ListedSimplex]) -> bool
 }
 
 /// Whether the simplex of each entry has such processes.
-fn all_entries_have_colours(processes: u64, delta: &[Entry]) -> bool
-    ensures { result ≡ list_all (rule_has_colours processes) (map entry_seen delta.now) }
+fn all_entries_name_processes(processes: u64, delta: &[Entry]) -> bool
+    ensures { result ≡ list_all (rule_names_processes processes) (map entry_seen delta.now) }
 {
     for entry in delta {
-        if !has_colours(processes, &entry.input.pairs) {
+        if !names_processes(processes, &entry.input.pairs) {
             return false;
         }
     }
@@ -124,13 +124,13 @@ fn all_entries_have_colours(processes: u64, delta: &[Entry]) -> bool
 pub(crate) fn judge_numbers(draft: &Draft) -> Result<(), TaskFault>
     ensures { Gives (λ u. u) result (numbers_judged (draft_seen draft.now)) }
 {
-    if draft.version != UNRESTRICTED && draft.version != RESTRICTED {
+    if draft.version != FIRST_VERSION && draft.version != SECOND_VERSION {
         return Err(TaskFault::Version);
     }
     if !(1..=4).contains(&draft.processes) {
         return Err(TaskFault::Processes);
     }
-    let largest = largest(draft.restriction);
+    let largest = largest(draft.least_block);
     if any_has_large(largest, &draft.inputs)
         || any_has_large(largest, &draft.outputs)
         || any_entry_has_large(largest, &draft.delta)
@@ -138,9 +138,9 @@ pub(crate) fn judge_numbers(draft: &Draft) -> Result<(), TaskFault>
         return Err(TaskFault::Value);
     }
     let processes = draft.processes;
-    if !(all_have_colours(processes, &draft.inputs)
-        && all_have_colours(processes, &draft.outputs)
-        && all_entries_have_colours(processes, &draft.delta))
+    if !(all_name_processes(processes, &draft.inputs)
+        && all_name_processes(processes, &draft.outputs)
+        && all_entries_name_processes(processes, &draft.delta))
     {
         return Err(TaskFault::Colours);
     }
@@ -148,10 +148,10 @@ pub(crate) fn judge_numbers(draft: &Draft) -> Result<(), TaskFault>
 }
 
 /// Whether the first block has at least 1 to 4 participants.
-fn is_first_block(restriction: Option<u64>) -> bool
-    ensures { result ≡ is_first_block restriction }
+fn is_first_block(least_block: Option<u64>) -> bool
+    ensures { result ≡ is_first_block least_block }
 {
-    match restriction {
+    match least_block {
         None => true,
         Some(m) => 1 <= m && m <= 4,
     }
@@ -159,9 +159,9 @@ fn is_first_block(restriction: Option<u64>) -> bool
 
 /// Refusal 18.
 pub(crate) fn judge_first_block(draft: &Draft) -> Result<(), TaskFault>
-    ensures { Gives (λ u. u) result (first_block_judged draft.now.restriction) }
+    ensures { Gives (λ u. u) result (first_block_judged draft.now.least_block) }
 {
-    if !is_first_block(draft.restriction) {
+    if !is_first_block(draft.least_block) {
         return Err(TaskFault::FirstBlock);
     }
     Ok(())

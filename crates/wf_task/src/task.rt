@@ -46,7 +46,7 @@ pub struct Task {
     values: Mask,
     // how many participants the first block of a word has at least; none
     // where all words are allowed
-    restriction: Option<u8>,
+    least_block: Option<u8>,
 }
 
 impl Model for Task {
@@ -93,7 +93,7 @@ impl Task {
     {
         Task {
             values: mask(outputs.simplices()),
-            restriction: None,
+            least_block: None,
             processes,
             symmetric,
             inputs,
@@ -126,7 +126,7 @@ impl Task {
         let symmetric = self.symmetric;
         task_value(
             alloc,
-            self.restriction,
+            self.least_block,
             processes,
             symmetric,
             inputs,
@@ -158,14 +158,14 @@ impl Task {
         ensures some { 1 ≤ result }
         ensures few { result ≤ 4 }
     {
-        self.restriction.unwrap_or(1)
+        self.least_block.unwrap_or(1)
     }
 
     /// The version of its texts: 1 where all words are allowed, 2 where they name the first block.
     pub fn version(&self) -> u8
-        ensures { result ≡ version_of self.now.restriction }
+        ensures { result ≡ version_of self.now.least_block }
     {
-        match self.restriction {
+        match self.least_block {
             None => 1,
             Some(_) => 2,
         }
@@ -226,11 +226,11 @@ fn judge(alloc: Global, draft: &Draft) -> Result<Task, TaskFault>
 }
 
 /// The same number of participants in fewer bits.
-fn narrow(restriction: Option<u64>) -> Option<u8>
-    requires { is_first_block restriction ≡ true }
-    ensures { result ≡ restriction }
+fn narrow(least_block: Option<u64>) -> Option<u8>
+    requires { is_first_block least_block ≡ true }
+    ensures { result ≡ least_block }
 {
-    match restriction {
+    match least_block {
         None => None,
         Some(m) => Some(m as u8),
     }
@@ -259,6 +259,6 @@ fn task_of(
         outputs,
         tuples,
         values,
-        restriction: narrow(draft.restriction),
+        least_block: narrow(draft.least_block),
     })
 }

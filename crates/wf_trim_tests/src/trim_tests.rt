@@ -116,7 +116,7 @@ fn lines_that_are_needed_in_one_block_are_kept_there(rt: HostRuntime) -> Result<
     Ok(())
 }
 
-// its three points are one for both processes alone, and one for each of them that sees both
+/// its three points are one for both processes alone, and one for each of them that sees both
 #[test]
 fn lines_that_are_all_needed_stay(rt: HostRuntime) -> Result<(), Fail> {
     let lines = [
@@ -134,8 +134,8 @@ fn lines_that_are_all_needed_stay(rt: HostRuntime) -> Result<(), Fail> {
     Ok(())
 }
 
-// the path's ends are 0 and 2: point 2 can't have 0 beside point 1, and has 1
-// in the least map, where point 3 has 0
+/// the path's ends are 0 and 2: point 2 can't have 0 beside point 1, and has 1
+/// in the least map, where point 3 has 0
 #[test]
 fn all_that_leads_to_a_least_map_is_kept(rt: HostRuntime) -> Result<(), Fail> {
     let lines = [

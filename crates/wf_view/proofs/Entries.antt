@@ -9,8 +9,8 @@ use Rattle.wf_model.specs.Lists.{has}
 use Rattle.wf_model.specs.Simplex.{is_ascending}
 use Rattle.wf_model.specs.View.{View, base, views_of, process_of}
 use Rattle.wf_view.specs.declared.node.Node.{Node}
-use Rattle.wf_view.specs.Views.{view_at, view_seen, list_of, input_of, inner_views, colours_of, colours_of_each}
-use Rattle.wf_view.specs.Table.{base_node, seen_node, padded, node_view, shown, IsEntry, is_base, is_seen, AreEntriesFrom, colours_at}
+use Rattle.wf_view.specs.Views.{view_at, view_seen, list_of, input_of, inner_views, process_bits, process_bits_of_each}
+use Rattle.wf_view.specs.Table.{base_node, seen_node, padded, node_view, shown, IsEntry, is_base, is_seen, AreEntriesFrom, process_bits_at}
 use Rattle.wf_view.proofs.Shown.{node_view-seen, view_at-shown, entry_at, length-shown}
 
 -- ---- one entry
@@ -93,13 +93,13 @@ some_parts f (k ∷ ids) p h = omega arith
 
 -- ---- processes
 
-colours_at-views : (vs : List View) (ids : List ℕ) → AllByRecursion (λ k. k < length vs) ids → colours_at (map colours_of vs) ids ≡ colours_of_each (views_of (map (view_at vs) ids))
-colours_at-views vs [] h = refl
-colours_at-views vs (k ∷ ids) h = λ i. bit_or (get_or-map colours_of vs k (base 0 0) 0 h.0 i) (colours_at-views vs ids h.1 i)
+process_bits_at-views : (vs : List View) (ids : List ℕ) → AllByRecursion (λ k. k < length vs) ids → process_bits_at (map process_bits vs) ids ≡ process_bits_of_each (views_of (map (view_at vs) ids))
+process_bits_at-views vs [] h = refl
+process_bits_at-views vs (k ∷ ids) h = λ i. bit_or (get_or-map process_bits vs k (base 0 0) 0 h.0 i) (process_bits_at-views vs ids h.1 i)
 
 -- the processes in the view of one that saw these
-pub colours_of-seen : (vs : List View) (p : ℕ) (ids : List ℕ) → All (λ k. k < length vs) ids → 0 < length ids → length ids ≤ 4 → bit_or (2 ^ p) (colours_at (map colours_of vs) ids) ≡ colours_of (node_view vs (seen_node p ids))
-colours_of-seen vs p ids within some few = ap (bit_or (2 ^ p)) (colours_at-views vs ids (recursion_from_All _ ids within)) ∙ sym (ap colours_of (node_view-seen vs p ids some few))
+pub process_bits-seen : (vs : List View) (p : ℕ) (ids : List ℕ) → All (λ k. k < length vs) ids → 0 < length ids → length ids ≤ 4 → bit_or (2 ^ p) (process_bits_at (map process_bits vs) ids) ≡ process_bits (node_view vs (seen_node p ids))
+process_bits-seen vs p ids within some few = ap (bit_or (2 ^ p)) (process_bits_at-views vs ids (recursion_from_All _ ids within)) ∙ sym (ap process_bits (node_view-seen vs p ids some few))
 
 -- ---- an entry that was read
 
@@ -152,8 +152,8 @@ module _ (xs : List Node) (entries : AreEntriesFrom 0 xs) (vs : List View) (is :
   pub seen_entry : (node : Node) → node ≡ seen_node p ids → p ≤ 3 → IsEntry (length vs) node
   seen_entry node e low = subst (IsEntry (length vs)) (sym e) (is_seen p ids low some few within)
 
-  pub seen_colours : (node : Node) → node ≡ seen_node p ids → (colours : List ℕ) → colours ≡ map colours_of (shown xs) → bit_or (2 ^ p) (colours_at colours ids) ≡ colours_of (node_view vs node)
-  seen_colours node e colours stored =
-      ap (λ cs. bit_or (2 ^ p) (colours_at cs ids)) (stored ∙ ap (map colours_of) is)
-      ∙ colours_of-seen vs p ids within some few
-      ∙ ap (λ n. colours_of (node_view vs n)) (sym e)
+  pub seen_process_bits : (node : Node) → node ≡ seen_node p ids → (bits : List ℕ) → bits ≡ map process_bits (shown xs) → bit_or (2 ^ p) (process_bits_at bits ids) ≡ process_bits (node_view vs node)
+  seen_process_bits node e bits stored =
+      ap (λ cs. bit_or (2 ^ p) (process_bits_at cs ids)) (stored ∙ ap (map process_bits) is)
+      ∙ process_bits-seen vs p ids within some few
+      ∙ ap (λ n. process_bits (node_view vs n)) (sym e)

@@ -14,7 +14,7 @@ use Rattle.wf_model.specs.Problem.{number_of}
 use Rattle.wf_model.proofs.Bridge.{Among, same_itself, weaker}
 use Rattle.wf_model.proofs.Headline.{each_append}
 use Rattle.wf_model.proofs.Numbers.{Apart, other_way}
-use Rattle.wf_view.specs.Views.{view_at, with_view, inner_views, colours_of, colours_of_each, count_within}
+use Rattle.wf_view.specs.Views.{view_at, with_view, inner_views, process_bits, process_bits_of_each, count_within}
 use Rattle.wf_view.specs.Renaming.{rank_in, SawAmong, SawEarlier, AreInside, number_beside, AreRenamed}
 use Rattle.wf_view.proofs.Shown.{views_at_front}
 use Rattle.wf_view.proofs.Steps.{slice_get-at}
@@ -40,24 +40,24 @@ bit_of_one q p =
     ]
 
 mutual
-  occurs_by_bit : (v : View) (q : ℕ) → (bit_at (colours_of v) q == 1) ≡ occurs q v
+  occurs_by_bit : (v : View) (q : ℕ) → (bit_at (process_bits v) q == 1) ≡ occurs q v
   occurs_by_bit (base p x) q = bit_of_one q p
   occurs_by_bit (seen p vs) q =
-      ap (λ n. n == 1) (bit_at_or (2 ^ p) (colours_of_each vs) q)
-      ∙ or_bits (bit_at (2 ^ p) q) (bit_at (colours_of_each vs) q) (bit_at-lt (2 ^ p) q) (bit_at-lt (colours_of_each vs) q)
+      ap (λ n. n == 1) (bit_at_or (2 ^ p) (process_bits_of_each vs) q)
+      ∙ or_bits (bit_at (2 ^ p) q) (bit_at (process_bits_of_each vs) q) (bit_at-lt (2 ^ p) q) (bit_at-lt (process_bits_of_each vs) q)
       ∙ (λ i. bit_of_one q p i || occurs_in_by_bit vs q i)
 
-  occurs_in_by_bit : (vs : Views) (q : ℕ) → (bit_at (colours_of_each vs) q == 1) ≡ occurs_in q vs
+  occurs_in_by_bit : (vs : Views) (q : ℕ) → (bit_at (process_bits_of_each vs) q == 1) ≡ occurs_in q vs
   occurs_in_by_bit no_views q = ap (λ n. n == 1) (bit_at-zero q)
   occurs_in_by_bit (view v vs) q =
-      ap (λ n. n == 1) (bit_at_or (colours_of v) (colours_of_each vs) q)
-      ∙ or_bits (bit_at (colours_of v) q) (bit_at (colours_of_each vs) q) (bit_at-lt (colours_of v) q) (bit_at-lt (colours_of_each vs) q)
+      ap (λ n. n == 1) (bit_at_or (process_bits v) (process_bits_of_each vs) q)
+      ∙ or_bits (bit_at (process_bits v) q) (bit_at (process_bits_of_each vs) q) (bit_at-lt (process_bits v) q) (bit_at-lt (process_bits_of_each vs) q)
       ∙ (λ i. occurs_by_bit v q i || occurs_in_by_bit vs q i)
 
-ranked : (v : View) (p : ℕ) → rank_in (colours_of v) p ≡ rank v p
+ranked : (v : View) (p : ℕ) → rank_in (process_bits v) p ≡ rank v p
 ranked v p = λ i. length (filter (λ q. occurs_by_bit v q i) (below p))
 
-pub renamed-normal : (v : View) → renamed (rank_in (colours_of v)) v ≡ normal v
+pub renamed-normal : (v : View) → renamed (rank_in (process_bits v)) v ≡ normal v
 renamed-normal v = λ i. renamed (λ p. ranked v p i) v
 
 -- ---- tables in which no view stands twice
@@ -195,7 +195,7 @@ module _ (vs ws : List View) (processes id : ℕ) (inside numbers : List ℕ) (k
   itself_known all = ap (λ ks. has ks id) (take_all (length numbers) inside (omega (arith, now.long, all))) ∙ are_inside.itself
 
   -- the number of the normal view, when all are done
-  pub renaming_all : (n : ℕ) → n ≡ number_beside inside numbers id → length inside ≤ k → id < length vs → processes ≡ colours_of (view_at vs id) →
+  pub renaming_all : (n : ℕ) → n ≡ number_beside inside numbers id → length inside ≤ k → id < length vs → processes ≡ process_bits (view_at vs id) →
       (n ≡ number_of ws (normal (view_at vs id))) × (slice_get ws n ≡ Some (normal (view_at vs id)))
   renaming_all n is all within known =
       let at = renamed_known ws (rank_in processes) inside numbers id now.are (itself_known all) in

@@ -10,12 +10,12 @@ use Rattle.wf_model.specs.View.{View, seen, view, views_of, same_view, renamed, 
 use Rattle.wf_model.proofs.Bridge.{Among, same_is, weaker}
 use Rattle.wf_model.proofs.Headline.{each_map, each_of_map, both}
 use Rattle.wf_view.specs.declared.node.Node.{Node}
-use Rattle.wf_view.specs.Views.{view_at, inner_views, colours_of}
-use Rattle.wf_view.specs.Table.{seen_node, node_view, shown, IsEntry, is_base, is_seen, AreEntriesFrom, colours_at}
+use Rattle.wf_view.specs.Views.{view_at, inner_views, process_bits}
+use Rattle.wf_view.specs.Table.{seen_node, node_view, shown, IsEntry, is_base, is_seen, AreEntriesFrom, process_bits_at}
 use Rattle.wf_view.specs.Renaming.{rank_in, SawAmong, number_beside, AreRenamed, renumbered_node}
 use Rattle.wf_view.proofs.Shown.{node_view-seen}
 use Rattle.wf_view.proofs.Once.{IsOnce, apart_in_table}
-use Rattle.wf_view.proofs.Entries.{take-padded, colours_of-seen, entry_read, view_read, parts_read, earlier_read}
+use Rattle.wf_view.proofs.Entries.{take-padded, process_bits-seen, entry_read, view_read, parts_read, earlier_read}
 use Rattle.wf_view.proofs.Ranks.{rank_in-low}
 use Rattle.wf_view.proofs.Beside.{each_take}
 
@@ -54,10 +54,10 @@ module _ (vs : List View) (g f : ℕ → ℕ) (low : (p : ℕ) → g p ≤ p) wh
       ∙ ap (seen (g p)) (views_renamed ids there)
       ∙ sym (ap (renamed g) (node_view-seen vs p ids some few))
 
-pub entry_colours : (vs : List View) (node : Node) → IsEntry (length vs) node → bit_or (2 ^ node.process) (colours_at (map colours_of vs) (take node.count node.ids)) ≡ colours_of (node_view vs node)
-entry_colours vs node (is_base p x h small) = or_zero_r (2 ^ p)
-entry_colours vs node (is_seen p ids h some few earlier) =
-    ap (λ ks. bit_or (2 ^ p) (colours_at (map colours_of vs) ks)) (take-padded ids few) ∙ colours_of-seen vs p ids earlier some few
+pub entry_process_bits : (vs : List View) (node : Node) → IsEntry (length vs) node → bit_or (2 ^ node.process) (process_bits_at (map process_bits vs) (take node.count node.ids)) ≡ process_bits (node_view vs node)
+entry_process_bits vs node (is_base p x h small) = or_zero_r (2 ^ p)
+entry_process_bits vs node (is_seen p ids h some few earlier) =
+    ap (λ ks. bit_or (2 ^ p) (process_bits_at (map process_bits vs) ks)) (take-padded ids few) ∙ process_bits-seen vs p ids earlier some few
 
 -- ---- numbers by their views
 

@@ -7,7 +7,7 @@ use Rattle.wf_model.specs.View.{View, base, same_view}
 use Rattle.wf_model.specs.Problem.{number_of}
 use Rattle.wf_model.proofs.Bridge.{number_below}
 use Rattle.wf_view.specs.declared.node.Node.{Node}
-use Rattle.wf_view.specs.Views.{view_at, with_view, colours_of}
+use Rattle.wf_view.specs.Views.{view_at, with_view, process_bits}
 use Rattle.wf_view.specs.Table.{same_node, node_view, shown, IsEntry, place_in, IsTable}
 use Rattle.wf_view.proofs.Shown.{shown-push, length-shown, AreEntriesFrom-push}
 use Rattle.wf_view.proofs.Once.{found_number, new_view, number_of-push, once-push, place_in-put, view_at-number}
@@ -23,7 +23,7 @@ slice_get-at [] n v h e = absurd (let none : ⊥ = omega (arith, h) in none)
 slice_get-at (w ∷ vs) zero v h e = ap Some e
 slice_get-at (w ∷ vs) (suc n) v h e = slice_get-at vs n v (omega (arith, h)) e
 
-module _ {S : Type 0} (xs : List Node) (colours : List ℕ) (numbers : HashMap Node ℕ S) (is_table : IsTable xs colours numbers) (node : Node) where
+module _ {S : Type 0} (xs : List Node) (bits : List ℕ) (numbers : HashMap Node ℕ S) (is_table : IsTable xs bits numbers) (node : Node) where
   pub found : (n : ℕ) → get same_node numbers node ≡ Some n → IsNumbered (shown xs) (shown xs) (node_view (shown xs) node) n
   found n h =
       let v = node_view (shown xs) node in
@@ -56,14 +56,14 @@ module _ {S : Type 0} (xs : List Node) (colours : List ℕ) (numbers : HashMap N
           stands = rw more (slice_get-at (shown xs ++ v ∷ []) (length xs) v within (get_or_push (shown xs) v (base 0 0) (length xs) long));
         }
 
-    pub is_table_after : (after : HashMap Node ℕ S) → ((k : Node) → get same_node after k ≡ cond (same_node node k) (Some (length xs)) (get same_node numbers k)) → length xs < 4294967295 → IsTable (xs ++ node ∷ []) (colours ++ colours_of (node_view (shown xs) node) ∷ []) after
+    pub is_table_after : (after : HashMap Node ℕ S) → ((k : Node) → get same_node after k ≡ cond (same_node node k) (Some (length xs)) (get same_node numbers k)) → length xs < 4294967295 → IsTable (xs ++ node ∷ []) (bits ++ process_bits (node_view (shown xs) node) ∷ []) after
     is_table_after after updates room = record {
       entries = AreEntriesFrom-push 0 xs node is_table.entries (let e : 0 + length xs ≡ length xs = omega arith in subst (λ n. IsEntry n node) (sym e) here);
       once = once-push xs node is_table.once nowhere;
-      coloured =
-          ap (λ cs. cs ++ colours_of (node_view (shown xs) node) ∷ []) is_table.coloured
-          ∙ sym (map-append colours_of (shown xs) (node_view (shown xs) node ∷ []))
-          ∙ sym (ap (map colours_of) (shown-push xs node));
+      bits_shown =
+          ap (λ cs. cs ++ process_bits (node_view (shown xs) node) ∷ []) is_table.bits_shown
+          ∙ sym (map-append process_bits (shown xs) (node_view (shown xs) node ∷ []))
+          ∙ sym (ap (map process_bits) (shown-push xs node));
       numbered = λ k. updates k ∙ ap (cond (same_node node k) (Some (length xs))) (is_table.numbered k) ∙ place_in-put xs node k nowhere;
       few = omega (arith, length-append xs (node ∷ []), room);
     }

@@ -5,7 +5,7 @@ use Rattle.std.specs.HashMap.{HashMap, get}
 use Rattle.wf_model.specs.Limits.{most_value}
 use Rattle.wf_model.specs.View.{View, base}
 use Rattle.wf_view.specs.declared.node.Node.{Node}
-use Rattle.wf_view.specs.Views.{view_seen, colours_of}
+use Rattle.wf_view.specs.Views.{view_seen, process_bits}
 
 abbrev pub same_node : Node → Node → Bool
 same_node x y = (x.process == y.process) && ((x.count == y.count) && pointwise (λ a b. a == b) x.ids y.ids)
@@ -63,14 +63,14 @@ abbrev pub StandsAt : List Node → ℕ → Node → Type 0
 StandsAt nodes n node = (n < length nodes) × (get_or nodes n node ≡ node)
 
 -- what the table keeps: an entry for each number, none twice, the processes in each, and its number
-pub record IsTable {S : Type 0} (nodes : List Node) (colours : List ℕ) (numbers : HashMap Node ℕ S) : Type 0 where
+pub record IsTable {S : Type 0} (nodes : List Node) (bits : List ℕ) (numbers : HashMap Node ℕ S) : Type 0 where
   pub entries : AreEntriesFrom 0 nodes
   pub once : (n : ℕ) (node : Node) → n < length nodes → place_in nodes (get_or nodes n node) ≡ Some n
-  pub coloured : colours ≡ map colours_of (shown nodes)
+  pub bits_shown : bits ≡ map process_bits (shown nodes)
   pub numbered : (k : Node) → get same_node numbers k ≡ place_in nodes k
   pub few : length nodes < 4294967296
 
 -- the processes of these views together
-abbrev pub colours_at : List ℕ → List ℕ → ℕ
-colours_at colours [] = 0
-colours_at colours (id ∷ ids) = bit_or (get_or colours id 0) (colours_at colours ids)
+abbrev pub process_bits_at : List ℕ → List ℕ → ℕ
+process_bits_at bits [] = 0
+process_bits_at bits (id ∷ ids) = bit_or (get_or bits id 0) (process_bits_at bits ids)

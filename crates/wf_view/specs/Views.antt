@@ -45,13 +45,13 @@ inner_views (seen p vs) = list_of vs
 
 -- the processes that occur in a view, at any depth: bit p is set where process p does
 abbrev mutual
-  pub colours_of : View → ℕ
-  colours_of (base p x) = 2 ^ p
-  colours_of (seen p vs) = bit_or (2 ^ p) (colours_of_each vs)
+  pub process_bits : View → ℕ
+  process_bits (base p x) = 2 ^ p
+  process_bits (seen p vs) = bit_or (2 ^ p) (process_bits_of_each vs)
 
-  pub colours_of_each : Views → ℕ
-  colours_of_each no_views = 0
-  colours_of_each (view v vs) = bit_or (colours_of v) (colours_of_each vs)
+  pub process_bits_of_each : Views → ℕ
+  process_bits_of_each no_views = 0
+  process_bits_of_each (view v vs) = bit_or (process_bits v) (process_bits_of_each vs)
 
 -- the view itself and all views inside it, at every depth
 abbrev mutual

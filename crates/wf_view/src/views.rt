@@ -10,8 +10,8 @@ ghost use Rattle.wf_model.specs.Limits.{most_number};
 ghost use Rattle.wf_model.specs.Simplex.{is_ascending};
 ghost use Rattle.wf_model.specs.View.{base, process_of, same_view, normal};
 ghost use Rattle.wf_model.specs.Problem.{number_of};
-ghost use Rattle.wf_view.specs.Views.{view_at, view_seen, processes_at, with_view_if, input_of, inner_views, colours_of, count_within, GrowsByAtMost};
-ghost use Rattle.wf_view.specs.Table.{StandsAt, same_node, colours_at};
+ghost use Rattle.wf_view.specs.Views.{view_at, view_seen, processes_at, with_view_if, input_of, inner_views, process_bits, count_within, GrowsByAtMost};
+ghost use Rattle.wf_view.specs.Table.{StandsAt, same_node, process_bits_at};
 ghost use Rattle.wf_view.specs.Renaming.{rank_in, renamed_at, SawAmong, AreInside, AreRenamed};
 
 use crate::node::{Node, input, number_beside, renumber, snapshot};
@@ -23,7 +23,7 @@ use std::marker::Model;
 #[derive(Drop)]
 pub struct Views {
     nodes: Vec<Node>,
-    colours: Vec<u8>,
+    bits: Vec<u8>,
     numbers: HashMap<Node, u32>,
     // for some entries that were numbered lately their numbers, and else anything
     recent: [u32; RECENT],
@@ -44,7 +44,7 @@ impl Model for Views {
 
     ghost view = { λ t. shown t.nodes.items };
 
-    ghost invariant = { λ t. IsTable t.nodes.items t.colours.items t.numbers };
+    ghost invariant = { λ t. IsTable t.nodes.items t.bits.items t.numbers };
 }
 
 impl Views {
@@ -56,7 +56,7 @@ impl Views {
     {
         Views {
             nodes: Vec::new(alloc),
-            colours: Vec::new(alloc),
+            bits: Vec::new(alloc),
             numbers: HashMap::new(alloc),
             recent: [0; RECENT],
         }
@@ -74,14 +74,14 @@ impl Views {
     ///
     /// Where the view is new it gets the next number. Refused where memory
     /// runs out, which leaves the table as it was.
-    pub fn base(&mut self, colour: u8, value: u8) -> Result<u32, AllocError>
-        requires colour { colour ≤ 3 }
+    pub fn base(&mut self, process: u8, value: u8) -> Result<u32, AllocError>
+        requires process { process ≤ 3 }
         requires room { length self.old < most_number }
-        ensures table { self.new ≡ with_view_if (is_ok result) self.old (base colour value) }
-        ensures number { IfOk result (λ n. n ≡ number_of self.new (base colour value)) }
-        ensures stands { IfOk result (λ n. slice_get self.new n ≡ Some (base colour value)) }
+        ensures table { self.new ≡ with_view_if (is_ok result) self.old (base process value) }
+        ensures number { IfOk result (λ n. n ≡ number_of self.new (base process value)) }
+        ensures stands { IfOk result (λ n. slice_get self.new n ≡ Some (base process value)) }
     {
-        self.number(input(colour, value), 1 << colour)
+        self.number(input(process, value), 1 << process)
     }
 
     /// The number of the view of a process that saw these views, named by their numbers in the
@@ -89,21 +89,21 @@ impl Views {
     ///
     /// Where the view is new it gets the next number. Refused where memory
     /// runs out, which leaves the table as it was.
-    pub fn seen(&mut self, colour: u8, parts: &[u32]) -> Result<u32, AllocError>
-        requires colour { colour ≤ 3 }
+    pub fn seen(&mut self, process: u8, parts: &[u32]) -> Result<u32, AllocError>
+        requires process { process ≤ 3 }
         requires numbers { All (λ k. k < length self.old) parts.now }
         requires ascending { is_ascending (processes_at self.old parts.now) ≡ true }
-        requires own { has (processes_at self.old parts.now) colour ≡ true }
+        requires own { has (processes_at self.old parts.now) process ≡ true }
         requires room { length self.old < most_number }
         ensures table { self.new
-            ≡ with_view_if (is_ok result) self.old (view_seen self.old colour parts.now) }
+            ≡ with_view_if (is_ok result) self.old (view_seen self.old process parts.now) }
         ensures number { IfOk result
-            (λ n. n ≡ number_of self.new (view_seen self.old colour parts.now)) }
+            (λ n. n ≡ number_of self.new (view_seen self.old process parts.now)) }
         ensures stands { IfOk result
-            (λ n. slice_get self.new n ≡ Some (view_seen self.old colour parts.now)) }
+            (λ n. slice_get self.new n ≡ Some (view_seen self.old process parts.now)) }
     {
-        let colours = colours_seen(&self.colours, colour, parts);
-        self.number(snapshot(colour, parts), colours)
+        let bits = process_bits_seen(&self.bits, process, parts);
+        self.number(snapshot(process, parts), bits)
     }
 
     /// The process of a view.
@@ -130,9 +130,9 @@ impl Views {
     /// The processes that occur in a view, at any depth: bit p is set where process p does.
     pub fn colours_in(&self, id: u32) -> u8
         requires { id < length self.now }
-        ensures colours { result ≡ colours_of (view_at self.now id) }
+        ensures bits { result ≡ process_bits (view_at self.now id) }
     {
-        self.colours[id as usize]
+        self.bits[id as usize]
     }
 
     /// The numbers of the views that a view saw, in the order of their
@@ -212,19 +212,19 @@ impl Views {
     {
         let node = self.nodes[id as usize];
         let entry = renumber(node, rank(processes, node.process), old, new);
-        let colours = colours_seen(
-            &self.colours,
+        let bits = process_bits_seen(
+            &self.bits,
             entry.process,
             &entry.ids[..entry.count as usize],
         );
-        self.number(entry, colours)
+        self.number(entry, bits)
     }
 
     /// The number of an entry's view. A new view gets the next number.
-    fn number(&mut self, node: Node, colours: u8) -> Result<u32, AllocError>
+    fn number(&mut self, node: Node, bits: u8) -> Result<u32, AllocError>
         requires room { length self.old < most_number }
         requires entry { IsEntry (length self.old) node }
-        requires colours { colours ≡ colours_of (node_view self.old node) }
+        requires bits { bits ≡ process_bits (node_view self.old node) }
         ensures table { self.new ≡ with_view_if (is_ok result) self.old (node_view self.old node) }
         ensures number { IfOk result (λ n. n ≡ number_of self.new (node_view self.old node)) }
         ensures stands { IfOk result (λ n. slice_get self.new n ≡ Some (node_view self.old node)) }
@@ -239,10 +239,10 @@ impl Views {
         }
         let number = self.nodes.len() as u32;
         self.nodes.reserve(1)?;
-        self.colours.reserve(1)?;
+        self.bits.reserve(1)?;
         self.numbers.insert(node, number)?;
         self.nodes.push_reserved(node);
-        self.colours.push_reserved(colours);
+        self.bits.push_reserved(bits);
         self.recent[slot] = number;
         Ok(number)
     }
@@ -283,14 +283,14 @@ fn known_number(numbers: &HashMap<Node, u32>, node: Node) -> Option<u32>
 }
 
 /// The processes that occur in the view of one that saw these.
-fn colours_seen(colours: &[u8], process: u8, ids: &[u32]) -> u8
+fn process_bits_seen(bits: &[u8], process: u8, ids: &[u32]) -> u8
     requires process { process ≤ 3 }
-    requires numbers { All (λ k. k < length colours.now) ids.now }
-    ensures { result ≡ bit_or (2 ^ process) (colours_at colours.now ids.now) }
+    requires numbers { All (λ k. k < length bits.now) ids.now }
+    ensures { result ≡ bit_or (2 ^ process) (process_bits_at bits.now ids.now) }
 {
     let mut all = 1u8 << process;
     for id in ids {
-        all |= colours[*id as usize];
+        all |= bits[*id as usize];
     }
     all
 }

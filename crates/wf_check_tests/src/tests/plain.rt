@@ -21,7 +21,7 @@ pub(crate) fn plain_task(alloc: Global, task: &Task) -> Result<PlainTask, AllocE
     Ok(PlainTask {
         processes: usize::from(task.processes()),
         symmetric: task.symmetric(),
-        restriction: None,
+        least_block: None,
         delta: rules,
         outputs,
     })

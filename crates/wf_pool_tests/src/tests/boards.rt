@@ -14,7 +14,7 @@ use wf_core::{Account, Status};
 
 const BRANCHES: u32 = 64;
 
-// A fresh seat of the board.
+/// A fresh seat of the board.
 fn next_seat(board: &Board, seats: &mut Vec<BoardSeat>) -> BoardSeat
     requires { (0 < length seats.old.items) × All (λ d. d ≡ fresh_desk board.now) seats.old.items }
     ensures seat { result ≡ fresh_desk board.now }
@@ -24,7 +24,7 @@ fn next_seat(board: &Board, seats: &mut Vec<BoardSeat>) -> BoardSeat
     seats.pop().unwrap()
 }
 
-// What two seats did.
+/// What two seats did.
 fn account_of(
     alloc: Global,
     board: Board,
@@ -87,7 +87,7 @@ fn counts_posts_refutals_and_cuts(rt: HostRuntime) -> Result<(), Fail> {
     Ok(())
 }
 
-// What a worker does with its sixteen branches.
+/// What a worker does with its sixteen branches.
 #[derive(Clone, Copy)]
 enum Plan {
     // Posts each.
@@ -103,14 +103,14 @@ struct Job {
     plan: Plan,
 }
 
-// A seat, and what became of each branch through it.
+/// A seat, and what became of each branch through it.
 #[derive(Drop)]
 struct Worked {
     seat: BoardSeat,
     statuses: [Status; 64],
 }
 
-// Settles a branch as planned.
+/// Settles a branch as planned.
 fn settle(board: &Board, seat: &mut BoardSeat, branch: u32, plan: Plan) -> Status
     requires board { (seat.old.table ≡ board.now.table) × (seat.old.branches ≡ board.now.branches) }
     requires branch { (branch < board.now.branches) × (times branch (settled seat.old) ≡ 0) }
@@ -135,7 +135,7 @@ fn settle(board: &Board, seat: &mut BoardSeat, branch: u32, plan: Plan) -> Statu
     Status::Refuted
 }
 
-// Settles every fourth branch, in scattered order.
+/// Settles every fourth branch, in scattered order.
 fn work(board: &Board, job: Job) -> Worked
     requires { (board.now.branches ≡ BRANCHES) × (job.worker < 4)
         × (job.seat ≡ fresh_desk board.now) }
@@ -169,7 +169,7 @@ fn two<R: Threads + Sync>(rt: &R, board: &Board, first: Job, second: Job) -> (Wo
     join(rt, move || work(board, first), move || work(board, second))
 }
 
-// All four workers at once.
+/// All four workers at once.
 fn four<R: Threads + Sync>(
     rt: &R,
     board: &Board,
@@ -215,7 +215,7 @@ fn four<R: Threads + Sync>(
     )
 }
 
-// The account of all four, and what became of each branch through each of them.
+/// The account of all four, and what became of each branch through each of them.
 fn run<R: Threads + Sync>(
     rt: &R,
     alloc: Global,

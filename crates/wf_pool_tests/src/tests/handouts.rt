@@ -9,7 +9,7 @@ use std::thread;
 use std::thread::Threads;
 use wf_handout::{Counter, Handout, Stealing};
 
-// A handout with its shares.
+/// A handout with its shares.
 fn dealt<H: Handout>(
     alloc: Global,
     branches: u32,
@@ -23,7 +23,7 @@ fn dealt<H: Handout>(
     Ok((handout, shares))
 }
 
-// A take by one of several shares.
+/// A take by one of several shares.
 fn take_at<H: Handout>(handout: &H, shares: &mut Vec<H::Share>, who: usize) -> Option<u32>
     requires { (who < length shares.old.items) × AllAt (H.fits handout.now) shares.old.items }
     ensures shares { (length shares.new.items ≡ length shares.old.items)
@@ -78,7 +78,7 @@ fn the_last_share_steals_from_the_first(rt: HostRuntime) -> Result<(), Fail> {
     Ok(())
 }
 
-// A share that found the next deque empty has ended, though a third has branches.
+/// A share that found the next deque empty has ended, though a third has branches.
 #[test]
 fn a_share_ends_while_others_have_branches(rt: HostRuntime) -> Result<(), Fail> {
     let (stealing, mut shares) = dealt::<Stealing>(rt.alloc(), 6, 3)?;
@@ -127,7 +127,7 @@ fn what_the_deques_leave(rt: HostRuntime) -> Result<(), Fail> {
     Ok(())
 }
 
-// What a worker takes, one branch after the other.
+/// What a worker takes, one branch after the other.
 fn drain<H: Handout>(
     alloc: Global,
     handout: &H,
@@ -146,7 +146,7 @@ fn drain<H: Handout>(
     Ok(taken)
 }
 
-// What each worker takes, where all of them take at once.
+/// What each worker takes, where all of them take at once.
 fn drain_all<R: Threads + Sync, H: Handout>(
     rt: &R,
     alloc: Global,
@@ -165,7 +165,7 @@ fn drain_all<R: Threads + Sync, H: Handout>(
     )
 }
 
-// Whether each of a thousand branches is taken once, a hundred times over.
+/// Whether each of a thousand branches is taken once, a hundred times over.
 fn each_is_taken_once<R: Threads + Sync, H: Handout>(
     rt: &R,
     alloc: Global,

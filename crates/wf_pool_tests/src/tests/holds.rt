@@ -4,12 +4,12 @@ use std::sync::atomic::AtomicU64;
 use std::sync::atomic::Ordering::SeqCst;
 use wf_pool::{Gate, Moment};
 
-// A worker that is held gives up after so many turns.
+/// A worker that is held gives up after so many turns.
 const TURNS: u32 = 1_000_000_000;
 
 const BRANCHES: usize = 3;
 
-// Who is held, and until when.
+/// Who is held, and until when.
 #[derive(Clone, Copy, PartialEq, Eq)]
 pub enum Rule {
     // Nobody.
@@ -22,7 +22,7 @@ pub enum Rule {
     FirstTurns,
 }
 
-// Which workers may not start.
+/// Which workers may not start.
 #[derive(Clone, Copy)]
 pub enum Barred {
     Nobody,
@@ -31,7 +31,7 @@ pub enum Barred {
     All,
 }
 
-// A gate for a problem of three branches.
+/// A gate for a problem of three branches.
 #[derive(Drop)]
 pub struct Hold {
     rule: Rule,
@@ -50,7 +50,7 @@ fn zeros() -> [AtomicU64; BRANCHES] {
     [AtomicU64::new(0), AtomicU64::new(0), AtomicU64::new(0)]
 }
 
-// Adds one, where there is such a branch.
+/// Adds one, where there is such a branch.
 fn count(counts: &[AtomicU64; BRANCHES], branch: u32) {
     if let Some(n) = counts.get(branch as usize) {
         n.fetch_add(1, SeqCst);
@@ -73,35 +73,35 @@ impl Hold {
         }
     }
 
-    // A gate by which these workers may not start.
+    /// A gate by which these workers may not start.
     pub(crate) fn without(barred: Barred) -> Hold {
         let mut hold = Hold::new(Rule::Nobody);
         hold.barred = barred;
         hold
     }
 
-    // Whether a worker was held until it gave up.
+    /// Whether a worker was held until it gave up.
     pub(crate) fn has_given_up(&self) -> bool {
         self.given_up.load(SeqCst) > 0
     }
 
-    // How many workers were to be started.
+    /// How many workers were to be started.
     pub(crate) fn starts(&self) -> u64 {
         self.asked.load(SeqCst)
     }
 
-    // How often it was told how many branches there are, before any was
-    // taken, and how many there are.
+    /// How often it was told how many branches there are, before any was
+    /// taken, and how many there are.
     pub(crate) fn branches_told(&self) -> (u64, u64) {
         (self.tellings.load(SeqCst), self.branches.load(SeqCst))
     }
 
-    // How many branches were settled.
+    /// How many branches were settled.
     pub(crate) fn settled(&self) -> u64 {
         self.settled.load(SeqCst)
     }
 
-    // Whether a turn was taken at this branch.
+    /// Whether a turn was taken at this branch.
     pub(crate) fn had_turn(&self, branch: usize) -> bool {
         match self.turns.get(branch) {
             Some(n) => n.load(SeqCst) > 0,
@@ -109,7 +109,7 @@ impl Hold {
         }
     }
 
-    // Whether a worker that was held when so many branches were settled may go on.
+    /// Whether a worker that was held when so many branches were settled may go on.
     fn is_over(&self, settled: u64) -> bool {
         match self.rule {
             Rule::Nobody => true,

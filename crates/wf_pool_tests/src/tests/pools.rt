@@ -15,10 +15,10 @@ use wf_handout::{Counter, Handout, Stealing};
 use wf_lines::Line;
 use wf_pool::{Answer, KeptLines, MAX_WORKERS, Open, solve, solve_one};
 
-// The least map of `PATH_2` after one round.
+/// The least map of `PATH_2` after one round.
 const MAP: [u8; 4] = [0, 2, 1, 0];
 
-// The lines that lead to it.
+/// The lines that lead to it.
 const MAP_LINES: [Line; 9] = [
     Line::Remove {
         execution: 0,
@@ -55,7 +55,7 @@ const MAP_LINES: [Line; 9] = [
     Line::Found,
 ];
 
-// Of its three branches the first one was searched, and the others cut.
+/// Of its three branches the first one was searched, and the others cut.
 const FIRST_ALONE: Account = Account {
     branches: 3,
     least: 0,
@@ -63,7 +63,7 @@ const FIRST_ALONE: Account = Account {
     cut: 2,
 };
 
-// How many lines refute `AGREEMENT_3_2` after one round, and its branches.
+/// How many lines refute `AGREEMENT_3_2` after one round, and its branches.
 const AGREEMENT_LINES: usize = 714;
 
 const AGREEMENT_ACCOUNT: Account = Account {
@@ -73,7 +73,7 @@ const AGREEMENT_ACCOUNT: Account = Account {
     cut: 0,
 };
 
-// Whether the answer is `MAP`, with the lines that lead to it if they are kept.
+/// Whether the answer is `MAP`, with the lines that lead to it if they are kept.
 fn is_map(answer: &Answer, kept: KeptLines) -> bool {
     let wanted: &[Line] = match kept {
         KeptLines::All => &MAP_LINES,
@@ -85,7 +85,7 @@ fn is_map(answer: &Answer, kept: KeptLines) -> bool {
     }
 }
 
-// The lines that refute, or none where the answer is a map.
+/// The lines that refute, or none where the answer is a map.
 fn lines_of(answer: &Answer) -> &[Line] {
     match answer {
         Answer::Map(_, _) => &[],
@@ -147,7 +147,7 @@ fn a_root_without_branches(rt: HostRuntime) -> Result<(), Fail> {
     Ok(())
 }
 
-// How many workers, and what lines are kept: those that refute in each.
+/// How many workers, and what lines are kept: those that refute in each.
 const RUNS: [(u32, KeptLines); 6] = [
     (1, KeptLines::All),
     (1, KeptLines::Refuting),
@@ -157,8 +157,8 @@ const RUNS: [(u32, KeptLines); 6] = [
     (8, KeptLines::Refuting),
 ];
 
-// The same answers in each of these runs: these lines, and nothing is cut;
-// and the least map of another problem.
+/// The same answers in each of these runs: these lines, and nothing is cut;
+/// and the least map of another problem.
 fn refutes<R: Threads + Sync + Abort, H: Handout>(
     rt: &R,
     alloc: Global,
@@ -185,7 +185,7 @@ fn lines_are_the_same_for_any_number_of_workers(rt: HostRuntime) -> Result<(), F
     refutes::<_, Stealing>(&rt, rt.alloc(), &problem, lines)
 }
 
-// The account of a run in which the answer is the map and nobody was held to the end.
+/// The account of a run in which the answer is the map and nobody was held to the end.
 fn account_under<R: Threads + Sync + Abort, H: Handout>(
     rt: &R,
     alloc: Global,
@@ -204,8 +204,8 @@ fn account_under<R: Threads + Sync + Abort, H: Handout>(
     Ok(account)
 }
 
-// One worker cuts what lies above the first map. A worker goes on while
-// another one is held at its first branch.
+/// One worker cuts what lies above the first map. A worker goes on while
+/// another one is held at its first branch.
 fn goes_on_beside_one_that_is_held<R: Threads + Sync + Abort, H: Handout>(
     rt: &R,
     alloc: Global,
@@ -235,7 +235,7 @@ fn a_worker_goes_on_beside_one_that_is_held(rt: HostRuntime) -> Result<(), Fail>
     goes_on_beside_one_that_is_held::<_, Stealing>(&rt, rt.alloc())
 }
 
-// Whether the answer is none, without lines.
+/// Whether the answer is none, without lines.
 fn is_none_without_lines(answer: &Answer) -> bool {
     match answer {
         Answer::Map(_, _) => false,
@@ -243,8 +243,8 @@ fn is_none_without_lines(answer: &Answer) -> bool {
     }
 }
 
-// Where no lines are kept the answers and the accounts are the same: the least map of a problem,
-// and none of another one.
+/// Where no lines are kept the answers and the accounts are the same: the least map of a problem,
+/// and none of another one.
 fn answers_without_lines<R: Threads + Sync + Abort, H: Handout>(
     rt: &R,
     alloc: Global,
@@ -282,7 +282,7 @@ fn no_lines_where_none_are_kept(rt: HostRuntime) -> Result<(), Fail> {
     answers_without_lines::<_, Stealing>(&rt, rt.alloc(), &refuted)
 }
 
-// Branches are cut whose workers see a lower one posted before their first turn.
+/// Branches are cut whose workers see a lower one posted before their first turn.
 fn cuts_without_a_turn<R: Threads + Sync + Abort, H: Handout>(
     rt: &R,
     alloc: Global,
@@ -300,8 +300,8 @@ fn a_worker_looks_before_its_first_turn(rt: HostRuntime) -> Result<(), Fail> {
     cuts_without_a_turn::<_, Stealing>(&rt, rt.alloc())
 }
 
-// Both workers are at a turn before either goes on, so each searches a
-// branch, and the third is cut.
+/// Both workers are at a turn before either goes on, so each searches a
+/// branch, and the third is cut.
 fn searches_two_at_once<R: Threads + Sync + Abort, H: Handout>(
     rt: &R,
     alloc: Global,
@@ -325,8 +325,8 @@ fn two_workers_search_at_once(rt: HostRuntime) -> Result<(), Fail> {
     searches_two_at_once::<_, Stealing>(&rt, rt.alloc())
 }
 
-// The main thread does the work of each worker that may not start. No more workers are used than
-// there are branches, and the main thread is one of them.
+/// The main thread does the work of each worker that may not start. No more workers are used than
+/// there are branches, and the main thread is one of them.
 fn needs_no_thread<R: Threads + Sync + Abort, H: Handout>(
     rt: &R,
     alloc: Global,
@@ -346,8 +346,8 @@ fn workers_that_may_not_start(rt: HostRuntime) -> Result<(), Fail> {
     needs_no_thread::<_, Stealing>(&rt, rt.alloc())
 }
 
-// Of three workers one or two may not start (the first works in the main thread), and the answers
-// are those of one worker: the least map, and these lines.
+/// Of three workers one or two may not start (the first works in the main thread), and the answers
+/// are those of one worker: the least map, and these lines.
 fn needs_no_worker<R: Threads + Sync + Abort, H: Handout>(
     rt: &R,
     alloc: Global,
@@ -386,7 +386,7 @@ fn some_workers_that_may_not_start(rt: HostRuntime) -> Result<(), Fail> {
     needs_no_worker::<_, Stealing>(&rt, rt.alloc(), &problem, lines)
 }
 
-// The same map and lines a thousand times, by three workers and by as many as may be asked for.
+/// The same map and lines a thousand times, by three workers and by as many as may be asked for.
 fn finds_the_least_map<R: Threads + Sync + Abort, H: Handout>(
     rt: &R,
     alloc: Global,

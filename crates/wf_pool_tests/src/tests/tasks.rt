@@ -6,7 +6,7 @@ use wf_box::Problem;
 use wf_complex::Protocol;
 use wf_task::Task;
 
-// The problem of a task after some rounds.
+/// The problem of a task after some rounds.
 pub(crate) fn problem_of(alloc: Global, text: &str, rounds: u32) -> Result<Problem, Fail> {
     let task = Task::read_text(alloc, text.as_bytes())?;
     let protocol = Protocol::build(alloc, &task, rounds)?;

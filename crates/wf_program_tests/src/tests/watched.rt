@@ -83,8 +83,8 @@ fn a_gate_is_told_where_progress_is_asked_for(rt: HostRuntime) -> Result<(), Fai
     Ok(())
 }
 
-// Three branches, so there is work for three workers: the first in this
-// thread, and each other one that is started.
+/// Three branches, so there is work for three workers: the first in this
+/// thread, and each other one that is started.
 #[test]
 fn as_many_workers_are_started_as_are_asked_for(rt: HostRuntime) -> Result<(), Fail> {
     let rows = [

@@ -82,7 +82,7 @@ fn roots_that_are_emptied(rt: HostRuntime) -> Result<(), Fail> {
     Ok(())
 }
 
-// Of the closed root, in which point 2 has 1 and 2 left and point 3 has 0 and 1.
+/// Of the closed root, in which point 2 has 1 and 2 left and point 3 has 0 and 1.
 #[test]
 fn each_value_of_a_point_is_tried_in_a_copy(rt: HostRuntime) -> Result<(), Fail> {
     let problem = problem_of(rt.alloc(), PATH_2, 1)?;
@@ -126,7 +126,7 @@ fn try_value(
     }
 }
 
-// The same values of the same box, one after the other in the box itself.
+/// The same values of the same box, one after the other in the box itself.
 #[test]
 fn a_box_is_given_an_earlier_state(rt: HostRuntime) -> Result<(), Fail> {
     let problem = problem_of(rt.alloc(), PATH_2, 1)?;

@@ -43,7 +43,7 @@ fn one_place_rows_with_all_candidates(rt: HostRuntime) -> Result<(), Fail> {
     Ok(())
 }
 
-// A table with larger values.
+/// A table with larger values.
 #[test]
 fn one_place_rows_past_63(rt: HostRuntime) -> Result<(), Fail> {
     let rows = [
@@ -76,7 +76,7 @@ fn no_rows_support_nothing(rt: HostRuntime) -> Result<(), Fail> {
     Ok(())
 }
 
-// The rows are the pairs of values 0 to 2 that differ by at most 1.
+/// The rows are the pairs of values 0 to 2 that differ by at most 1.
 #[test]
 fn near_pairs_with_one_value_fixed(rt: HostRuntime) -> Result<(), Fail> {
     let rows = [
@@ -95,7 +95,7 @@ fn near_pairs_with_one_value_fixed(rt: HostRuntime) -> Result<(), Fail> {
     Ok(())
 }
 
-// The values 63, 5, 0 and 32 at the first places, but 9 at the place that is other.
+/// The values 63, 5, 0 and 32 at the first places, but 9 at the place that is other.
 fn row_but(width: u8, other: u8) -> Row
     requires some { 1 ≤ width }
     requires narrow { width ≤ 4 }
@@ -123,8 +123,8 @@ fn value_but(value: u8, is_other: bool) -> u8
     if is_other { 9 } else { value }
 }
 
-// What is found of the values 63, 5, 0 and 32 in a table whose row at one
-// place has them. Each other row lacks one.
+/// What is found of the values 63, 5, 0 and 32 in a table whose row at one
+/// place has them. Each other row lacks one.
 fn found_in(alloc: Global, width: u8, length: u8, place: u8) -> Result<Support, AllocError>
     requires some { 1 ≤ width }
     requires narrow { width ≤ 4 }
@@ -138,7 +138,7 @@ fn found_in(alloc: Global, width: u8, length: u8, place: u8) -> Result<Support, 
     Ok(table.revise(sets_of([0x8000_0000_0000_0000, 0x20, 1, 0x1_0000_0000])))
 }
 
-// What the row that has them gives at places below the width.
+/// What the row that has them gives at places below the width.
 fn values_below(width: u8) -> [u64; 4] {
     let mut masks = [0; 4];
     for (place, mask) in [0x8000_0000_0000_0000, 0x20, 1, 0x1_0000_0000]
@@ -191,7 +191,7 @@ fn sets_are_met_and_counted(rt: HostRuntime) {
     assert_eq!(rt; sets, [[3, 0, 0, 4], [4, 1, 0, 0], [0; 4]]);
 }
 
-// The one set up to the place, and the other from there on.
+/// The one set up to the place, and the other from there on.
 fn sets_from(place: usize, before: Mask, from: Mask) -> [Mask; 17] {
     let mut sets = [before; 17];
     for i in place..17 {
@@ -224,7 +224,7 @@ fn the_first_empty_set_is_found_at_each_place(rt: HostRuntime) {
     }
 }
 
-// Two values before the place, and three from there on.
+/// Two values before the place, and three from there on.
 #[test]
 fn values_are_counted_at_each_place(rt: HostRuntime) {
     for length in 0..18 {
@@ -235,7 +235,7 @@ fn values_are_counted_at_each_place(rt: HostRuntime) {
     }
 }
 
-// 7 met with 3 before the place and with 5 from there on; the sets past the length stay.
+/// 7 met with 3 before the place and with 5 from there on; the sets past the length stay.
 #[test]
 fn sets_are_met_at_each_place(rt: HostRuntime) {
     for length in 0..18 {

@@ -121,7 +121,7 @@ fn roots_that_closing_refutes(rt: HostRuntime) -> Result<(), Fail> {
     Ok(())
 }
 
-// The lines of two names for two processes after one round.
+/// The lines of two names for two processes after one round.
 fn lines_of_two_names() -> [Line; 9] {
     [
         Line::Branch { point: 0 },
@@ -165,7 +165,7 @@ fn answers_of_an_earlier_search(rt: HostRuntime) -> Result<(), Fail> {
     Ok(())
 }
 
-// Of three names without a round, one point stands twice in the execution of both.
+/// Of three names without a round, one point stands twice in the execution of both.
 #[test]
 fn roots_that_branch(rt: HostRuntime) -> Result<(), Fail> {
     let two = lines_of(rt.alloc(), search_root(rt.alloc(), RENAMING_2_2, 1)?);
@@ -199,7 +199,7 @@ fn roots_with_a_map(rt: HostRuntime) -> Result<(), Fail> {
     Ok(())
 }
 
-// The lines of the path of length 2 after one round, up to its first map.
+/// The lines of the path of length 2 after one round, up to its first map.
 fn lines_of_a_path() -> [Line; 9] {
     [
         lost(0, 0, 1),
@@ -233,8 +233,8 @@ fn search_until(alloc: Global, text: &str, most: u32) -> Result<(u32, bool), Fai
     Ok((limit.asked, matches!(&found, Found::Stopped)))
 }
 
-// The two names take three turns: the root's and those of its two branches.
-// The path is stopped at once.
+/// The two names take three turns: the root's and those of its two branches.
+/// The path is stopped at once.
 #[test]
 fn a_question_before_each_turn(rt: HostRuntime) -> Result<(), Fail> {
     let rows = [

@@ -8,7 +8,7 @@ use std::test::Fail;
 use wf_lane::{Support, TupleTable};
 use wf_task::Row;
 
-// Whether the digits of a number to the base 8 differ.
+/// Whether the digits of a number to the base 8 differ.
 fn differ(first: u8, second: u8, third: u8, fourth: u8) -> bool {
     first != second
         && first != third
@@ -25,8 +25,8 @@ fn moved(value: u8) -> u8
     if value == 7 { 63 } else { value }
 }
 
-// The first rows of four values below 8 that differ, of which there are 8 * 7 * 6 * 5. A last
-// value 7 is moved to 63.
+/// The first rows of four values below 8 that differ, of which there are 8 * 7 * 6 * 5. A last
+/// value 7 is moved to 63.
 fn arrangements(alloc: Global, most: usize) -> Result<Vec<Row>, AllocError>
     ensures long { IfOk result (λ rows. All (λ row. length row ≡ 4) rows.items) }
     ensures few { IfOk result (λ rows. length rows.items ≤ 4096) }
@@ -44,7 +44,7 @@ fn arrangements(alloc: Global, most: usize) -> Result<Vec<Row>, AllocError>
     Ok(rows)
 }
 
-// The value at a place as a bit, and none past the row's end.
+/// The value at a place as a bit, and none past the row's end.
 fn bit(row: &Row, place: u8) -> u64 {
     if place < row.size() {
         1u64.wrapping_shl(u32::from(row.value(place)))
@@ -64,7 +64,7 @@ fn is_alive(row: &Row, candidates: [u64; 4]) -> bool {
         && is_within(row, 3, candidates[3])
 }
 
-// What the rows support, found by going through them.
+/// What the rows support, found by going through them.
 fn scan(rows: &[Row], candidates: [u64; 4]) -> Support {
     let [mut first, mut second, mut third, mut fourth] = [0; 4];
     let mut alive = 0u32;
@@ -83,7 +83,7 @@ fn scan(rows: &[Row], candidates: [u64; 4]) -> Support {
     }
 }
 
-// Lengths up to four blocks of 512 rows, of which the last is short.
+/// Lengths up to four blocks of 512 rows, of which the last is short.
 #[test]
 fn many_rows_support_what_a_scan_finds(rt: HostRuntime) -> Result<(), Fail> {
     let sets = [
@@ -105,7 +105,7 @@ fn many_rows_support_what_a_scan_finds(rt: HostRuntime) -> Result<(), Fail> {
     Ok(())
 }
 
-// The pairs of a value below 40 and one below 30.
+/// The pairs of a value below 40 and one below 30.
 fn pairs(alloc: Global) -> Result<Vec<Row>, AllocError>
     ensures long { IfOk result (λ rows. All (λ row. length row ≡ 2) rows.items) }
     ensures few { IfOk result (λ rows. length rows.items ≤ 4096) }
@@ -121,7 +121,7 @@ fn pairs(alloc: Global) -> Result<Vec<Row>, AllocError>
     Ok(rows)
 }
 
-// Each pair is a row: the candidates below 40 and 30 are supported where both places have one.
+/// Each pair is a row: the candidates below 40 and 30 are supported where both places have one.
 #[test]
 fn all_pairs_support_each_candidate(rt: HostRuntime) -> Result<(), Fail> {
     let table = TupleTable::build(rt.alloc(), &pairs(rt.alloc())?, 2)?;

@@ -34,7 +34,7 @@ fn plain_task(alloc: Global, task: &Task) -> Result<PlainTask, AllocError> {
     Ok(PlainTask {
         processes: usize::from(task.processes()),
         symmetric: task.symmetric(),
-        restriction: None,
+        least_block: None,
         delta: rules,
         outputs,
     })

@@ -2,8 +2,8 @@ use Rattle.std.proofs.Common.{take, length-set, arith, ◌∙◌}
 use Rattle.wf_complex.proofs.RoundLemmas.{low, numbers, ascending, own_part, next_step, after_round}
 use Rattle.wf_complex.proofs.rounds.next_views.Goals as goal
 
-pub seen-requires-clause-colour : goal.seen-requires-clause-colour
-seen-requires-clause-colour c =
+pub seen-requires-clause-process : goal.seen-requires-clause-process
+seen-requires-clause-process c =
     low c.args.views.now c.loop-i.views c.args.current.now c.args.word.now c.requires.views c.requires.long c.loop-i.invariant.extends c.loop-i.i (omega arith)
     c.colour-process.result c.colour-process.ensures.process (take c.visible-seen.result.count c.visible-seen.result.ids) c.visible-seen.ensures.ids
 

@@ -60,7 +60,7 @@ task_of-requires-clause-faultless c =
     c.in_ok-judge_entries.ensures
     (let tuples : tuples_judged listed inputs ≡ Ok c.in_ok-judge_tuples.field-0 = subst (λ ss. tuples_judged listed ss ≡ Ok c.in_ok-judge_tuples.field-0) c.simplices-2.ensures.simplices c.in_ok-judge_tuples.ensures in tuples)
     some
-    (not-false (is_first_block listed.restriction) (passed_last (not (is_first_block listed.restriction)) fault.FirstBlock c.in_ok-judge_first_block.field-0 c.in_ok-judge_first_block.ensures))
+    (not-false (is_first_block listed.least_block) (passed_last (not (is_first_block listed.least_block)) fault.FirstBlock c.in_ok-judge_first_block.field-0 c.in_ok-judge_first_block.ensures))
 
 pub complex-requires-clause-few : goal.complex-requires-clause-few
 complex-requires-clause-few c = omega (arith, ap length c.deref.ensures.value, length-map c.args.draft.now.inputs.items pairs_seen, c.requires.few.inputs)

@@ -3,7 +3,7 @@ use Rattle.wf_model.specs.Simplex.{values_of}
 use Rattle.wf_model.specs.Task.{IsSimplexWithin}
 use Rattle.std.proofs.lemmas.List.{take_more}
 use Rattle.wf_simplex.specs.Entries.{vertices_from, ascends_from}
-use Rattle.wf_simplex.proofs.Reading.{nonempty_by_length, colour_fault, no_fault, simplex_within, added, ascending_step, colours_at_end, at_pair}
+use Rattle.wf_simplex.proofs.Reading.{nonempty_by_length, process_fault, no_fault, simplex_within, added, ascending_step, names_processes_at_end, at_pair}
 use Rattle.wf_simplex.proofs.SmallTables.{values_small, small_set}
 use Rattle.wf_simplex.proofs.simplex.Simplex.read.Goals as goal
 use Rattle.wf_simplex.proofs.simplex.Simplex.read.Goals.{then-process-least-via-then-process-least, then-process-least-via-else-process-least+then-process-gt3}
@@ -11,7 +11,7 @@ use Rattle.wf_simplex.proofs.simplex.Simplex.read.Goals.{then-process-least-via-
 pub returns-then-process-least : goal.returns-then-process-least
 returns-then-process-least c =
     let some = nonempty_by_length c.args.pairs.now (sym c.is_empty.ensures ∙ c.if-is_empty.false) in
-    colour_fault c.args.pairs.now c.loop-process.least c.loop-process.process-index some c.loop-process-test.true c.loop-process.invariant.ascends
+    process_fault c.args.pairs.now c.loop-process.least c.loop-process.process-index some c.loop-process-test.true c.loop-process.invariant.ascends
     (elim c.then-process-least.branch [
       | then-process-least-via-then-process-least w ↦ inl w.if-process-least.true
       | then-process-least-via-else-process-least+then-process-gt3 w ↦ inr w.if-process-gt3.true
@@ -39,13 +39,13 @@ loop-process-preserved c =
 pub invariant_of-result : goal.invariant_of-result
 invariant_of-result c =
     let some = nonempty_by_length c.args.pairs.now (sym c.is_empty.ensures ∙ c.if-is_empty.false) in
-    let colours = colours_at_end c.args.pairs.now c.loop-process.least c.loop-process.process-index c.loop-process-test.false c.loop-process.invariant.ascends in
+    let named = names_processes_at_end c.args.pairs.now c.loop-process.least c.loop-process.process-index c.loop-process-test.false c.loop-process.invariant.ascends in
     let all = c.loop-process.invariant.taken ∙ take_all c.loop-process.process-index c.args.pairs.now c.loop-process-test.false in
-    (c.loop-process.invariant.four, subst (IsSimplexWithin 4 255) (sym all) (simplex_within c.args.pairs.now some colours (subst (λ s. All (λ x. x ≤ 255) (values_of s)) all (values_small 0 c.loop-process.values c.loop-process.invariant.small))))
+    (c.loop-process.invariant.four, subst (IsSimplexWithin 4 255) (sym all) (simplex_within c.args.pairs.now some named (subst (λ s. All (λ x. x ≤ 255) (values_of s)) all (values_small 0 c.loop-process.values c.loop-process.invariant.small))))
 
 pub returns : goal.returns
 returns c =
     let some = nonempty_by_length c.args.pairs.now (sym c.is_empty.ensures ∙ c.if-is_empty.false) in
-    let colours = colours_at_end c.args.pairs.now c.loop-process.least c.loop-process.process-index c.loop-process-test.false c.loop-process.invariant.ascends in
+    let named = names_processes_at_end c.args.pairs.now c.loop-process.least c.loop-process.process-index c.loop-process-test.false c.loop-process.invariant.ascends in
     let all = c.loop-process.invariant.taken ∙ take_all c.loop-process.process-index c.args.pairs.now c.loop-process-test.false in
-    (no_fault c.args.pairs.now some colours, all)
+    (no_fault c.args.pairs.now some named, all)

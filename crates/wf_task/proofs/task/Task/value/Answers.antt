@@ -19,7 +19,7 @@ returns-clause-value c =
     let rows = map vec_items inside.tuples.items in
     IfOk-weaker c.task_value.result _ _
     (λ v e. e
-    ∙ value_is inside.restriction inside.processes inside.symmetric inside.inputs rows inside.outputs (view c.in_ok-inputs.inputs) (view c.in_ok-outputs.outputs) (view c.in_ok-delta.delta) c.self.invariant.each
+    ∙ value_is inside.least_block inside.processes inside.symmetric inside.inputs rows inside.outputs (view c.in_ok-inputs.inputs) (view c.in_ok-outputs.outputs) (view c.in_ok-delta.delta) c.self.invariant.each
     (c.in_ok-inputs.ensures ∙ ap (list_data simplex_data) (c.deref-2.ensures.value ∙ c.in_ok-facets.ensures.facets))
     (c.in_ok-outputs.ensures ∙ ap (list_data simplex_data) (c.deref-3.ensures.value ∙ c.in_ok-facets-2.ensures.facets))
     (c.in_ok-delta.ensures ∙ (λ j. list_data rule_data (rules_seen (c.simplices.ensures.simplices j) (map vec_items (c.deref.ensures.value j)))))

@@ -4,4 +4,4 @@ use Rattle.wf_view.proofs.views.Views.base.Goals as goal
 
 pub number-requires-clause-entry : goal.number-requires-clause-entry
 number-requires-clause-entry c =
-    subst (IsEntry (length c.args.self.now)) (sym c.input.ensures) (is_base c.args.colour c.args.value c.requires.colour (omega (arith, c.ranges.value.fits)))
+    subst (IsEntry (length c.args.self.now)) (sym c.input.ensures) (is_base c.args.process c.args.value c.requires.process (omega (arith, c.ranges.value.fits)))

@@ -90,7 +90,7 @@ normal_numbered c =
     let is = subst (AreInside c.args.self.now c.args.id) (sym c.deref-old-items.ensures.value) c.in_ok-inside.ensures in
     let items : c.deref-2.result.now ≡ c.deref-old-items.result.now = c.deref-2.ensures.value ∙ sym c.deref-old-items.ensures.value in
     renaming_all c.args.self.now c.loop-old.self c.colours_in-processes.result c.args.id c.deref-old-items.result.now c.loop-old.numbers.items c.loop-old.old-index is c.loop-old.invariant
-    c.number_beside.result (c.number_beside.ensures ∙ (λ i. number_beside (items i) (c.deref-3.ensures.value i) c.args.id)) c.loop-old-test.false c.requires.id c.colours_in-processes.ensures.colours
+    c.number_beside.result (c.number_beside.ensures ∙ (λ i. number_beside (items i) (c.deref-3.ensures.value i) c.args.id)) c.loop-old-test.false c.requires.id c.colours_in-processes.ensures.bits
 
 pub returns-clause-number : goal.returns-clause-number
 returns-clause-number c = (normal_numbered c).0

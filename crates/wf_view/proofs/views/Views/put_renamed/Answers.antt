@@ -3,13 +3,13 @@ use Rattle.std.proofs.lemmas.List.{length-map}
 use Rattle.wf_model.specs.View.{renamed}
 use Rattle.wf_model.specs.Problem.{number_of}
 use Rattle.wf_view.specs.declared.node.Node.{Node}
-use Rattle.wf_view.specs.Views.{view_at, with_view, colours_of}
-use Rattle.wf_view.specs.Table.{shown, IsEntry, node_view, colours_at}
+use Rattle.wf_view.specs.Views.{view_at, with_view, process_bits}
+use Rattle.wf_view.specs.Table.{shown, IsEntry, node_view, process_bits_at}
 use Rattle.wf_view.specs.Renaming.{rank_in}
 use Rattle.std.specs.Int.Bits.{bit_or}
 use Rattle.wf_view.proofs.Shown.{length-shown}
 use Rattle.wf_view.proofs.Entries.{count_read, entry_read, entry_low, entry_earlier}
-use Rattle.wf_view.proofs.Renamed.{known, renamed_entry, renamed_view, entry_colours}
+use Rattle.wf_view.proofs.Renamed.{known, renamed_entry, renamed_view, entry_process_bits}
 use Rattle.wf_view.proofs.views.Views.put_renamed.Goals as goal
 
 pub index-node-requires : goal.index-node-requires
@@ -29,24 +29,24 @@ renumber-entry-requires-clause-known c =
     known c.self.inside.nodes.items c.self.invariant.entries c.self.invariant.once c.args.self.now c.self.view_is c.args.id c.index-node.result.now c.requires.id c.index-node.ensures
     c.args.processes c.args.old.now c.args.new.now c.requires.numbers c.requires.parts
 
-pub shared_ref_as_front-colours_seen : goal.shared_ref_as_front-colours_seen
-shared_ref_as_front-colours_seen c =
+pub shared_ref_as_front-process_bits_seen : goal.shared_ref_as_front-process_bits_seen
+shared_ref_as_front-process_bits_seen c =
     let same = ap (λ (n : Node). n.count) c.renumber-entry.ensures in
     let low = count_read c.self.inside.nodes.items c.self.invariant.entries c.args.self.now c.self.view_is c.args.id c.index-node.result.now c.requires.id c.index-node.ensures in
     omega (arith, same, low)
 
-entry_then : (c : goal.After-colours_seen-arg-2-1) → IsEntry (length c.args.self.now) c.renumber-entry.result
+entry_then : (c : goal.After-process_bits_seen-arg-2-1) → IsEntry (length c.args.self.now) c.renumber-entry.result
 entry_then c =
     renamed_entry c.self.inside.nodes.items c.self.invariant.entries c.self.invariant.once c.args.self.now c.self.view_is c.args.id c.index-node.result.now c.requires.id c.index-node.ensures
     c.args.processes c.args.old.now c.args.new.now c.requires.numbers c.requires.parts c.requires.renamed c.rank.result c.rank.ensures c.renumber-entry.result c.renumber-entry.ensures
 
-pub colours_seen-colours-requires-clause-process : goal.colours_seen-colours-requires-clause-process
-colours_seen-colours-requires-clause-process c = entry_low (length c.args.self.now) c.renumber-entry.result (entry_then c)
+pub process_bits_seen-bits-requires-clause-process : goal.process_bits_seen-bits-requires-clause-process
+process_bits_seen-bits-requires-clause-process c = entry_low (length c.args.self.now) c.renumber-entry.result (entry_then c)
 
-pub colours_seen-colours-requires-clause-numbers : goal.colours_seen-colours-requires-clause-numbers
-colours_seen-colours-requires-clause-numbers c =
+pub process_bits_seen-bits-requires-clause-numbers : goal.process_bits_seen-bits-requires-clause-numbers
+process_bits_seen-bits-requires-clause-numbers c =
     let long : length c.args.self.now ≡ length c.deref.result.now =
-    sym (ap length (c.deref.ensures.value ∙ c.self.invariant.coloured) ∙ length-map (shown c.self.inside.nodes.items) colours_of ∙ ap length c.self.view_is) in
+    sym (ap length (c.deref.ensures.value ∙ c.self.invariant.bits_shown) ∙ length-map (shown c.self.inside.nodes.items) process_bits ∙ ap length c.self.view_is) in
     subst (λ n. All (λ k. k < n) (take c.renumber-entry.result.count c.renumber-entry.result.ids)) long (entry_earlier (length c.args.self.now) c.renumber-entry.result (entry_then c))
 
 entry_made : (c : goal.After-number-arg-1) → IsEntry (length c.args.self.now) c.renumber-entry.result
@@ -57,12 +57,12 @@ entry_made c =
 pub number-requires-clause-entry : goal.number-requires-clause-entry
 number-requires-clause-entry c = entry_made c
 
-pub number-requires-clause-colours : goal.number-requires-clause-colours
-number-requires-clause-colours c =
-    c.colours_seen-colours.ensures
-    ∙ ap (λ cs. bit_or (2 ^ c.renumber-entry.result.process) (colours_at cs (take c.renumber-entry.result.count c.renumber-entry.result.ids)))
-    (c.deref.ensures.value ∙ c.self.invariant.coloured ∙ ap (map colours_of) c.self.view_is)
-    ∙ entry_colours c.args.self.now c.renumber-entry.result (entry_made c)
+pub number-requires-clause-bits : goal.number-requires-clause-bits
+number-requires-clause-bits c =
+    c.process_bits_seen-bits.ensures
+    ∙ ap (λ cs. bit_or (2 ^ c.renumber-entry.result.process) (process_bits_at cs (take c.renumber-entry.result.count c.renumber-entry.result.ids)))
+    (c.deref.ensures.value ∙ c.self.invariant.bits_shown ∙ ap (map process_bits) c.self.view_is)
+    ∙ entry_process_bits c.args.self.now c.renumber-entry.result (entry_made c)
 
 view_made : (c : goal.After-number) → node_view c.args.self.now c.renumber-entry.result ≡ renamed (rank_in c.args.processes) (view_at c.args.self.now c.args.id)
 view_made c =

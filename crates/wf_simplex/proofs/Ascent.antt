@@ -11,8 +11,8 @@ ascends_below n m [] = true
 ascends_below n m (v ∷ s) = nat_le m v.0 && nat_lt v.0 n && ascends_below n (v.0 + 1) s
 
 -- the processes strictly ascend, and each is below n
-abbrev pub are_colours : ℕ → Simplex → Bool
-are_colours n s = is_ascending (processes_of s) && list_all (λ p. nat_lt p n) (processes_of s)
+abbrev pub are_processes : ℕ → Simplex → Bool
+are_processes n s = is_ascending (processes_of s) && list_all (λ p. nat_lt p n) (processes_of s)
 
 pub low_processes : (n : ℕ) (ps : List ℕ) → list_all (λ p. nat_lt p n) ps ≡ true → All (λ p. p < n) ps
 low_processes n [] h = All-nil (λ p. p < n)
@@ -25,23 +25,23 @@ starts_at : ℕ → Simplex → Type 0
 starts_at m [] = Unit {0}
 starts_at m (v ∷ s) = m ≤ v.0
 
-colours_from : (n : ℕ) (m : ℕ) (s : Simplex) → ascends_below n m s ≡ true → are_colours n s ≡ true × starts_at m s
+processes_from_ascent : (n : ℕ) (m : ℕ) (s : Simplex) → ascends_below n m s ≡ true → are_processes n s ≡ true × starts_at m s
 unfolding starts_at
-colours_from n m [] h = (refl, tt)
-colours_from n m (v ∷ []) h =
+processes_from_ascent n m [] h = (refl, tt)
+processes_from_ascent n m (v ∷ []) h =
     let low = leb-true m v.0 (and_parts _ _ (and_parts _ _ h).0).0 in
     (and_from _ _ (and_parts _ _ (and_parts _ _ h).0).1 refl, low)
-colours_from n m (v ∷ w ∷ s) h =
+processes_from_ascent n m (v ∷ w ∷ s) h =
     let low : m ≤ v.0 = leb-true m v.0 (and_parts (nat_le m v.0) (nat_lt v.0 n) (and_parts (nat_le m v.0 && nat_lt v.0 n) (ascends_below n (v.0 + 1) (w ∷ s)) h).0).0 in
     let small = (and_parts (nat_le m v.0) (nat_lt v.0 n) (and_parts (nat_le m v.0 && nat_lt v.0 n) (ascends_below n (v.0 + 1) (w ∷ s)) h).0).1 in
-    let rest = colours_from n (v.0 + 1) (w ∷ s) (and_parts (nat_le m v.0 && nat_lt v.0 n) (ascends_below n (v.0 + 1) (w ∷ s)) h).1 in
+    let rest = processes_from_ascent n (v.0 + 1) (w ∷ s) (and_parts (nat_le m v.0 && nat_lt v.0 n) (ascends_below n (v.0 + 1) (w ∷ s)) h).1 in
     let up : v.0 < w.0 = omega (arith, rest.1) in
     (and_from _ _ (and_from _ _ (lt-ltb v.0 w.0 up) (and_parts _ _ rest.0).0) (and_from _ _ small (and_parts _ _ rest.0).1), low)
 
-colours_of_ascending : (n : ℕ) (s : Simplex) → ascends_below n 0 s ≡ true → are_colours n s ≡ true
-colours_of_ascending n s h = (colours_from n 0 s h).0
+processes_of_ascending : (n : ℕ) (s : Simplex) → ascends_below n 0 s ≡ true → are_processes n s ≡ true
+processes_of_ascending n s h = (processes_from_ascent n 0 s h).0
 
-ascending_of : (n : ℕ) (m : ℕ) (s : Simplex) → are_colours n s ≡ true → starts_at m s → ascends_below n m s ≡ true
+ascending_of : (n : ℕ) (m : ℕ) (s : Simplex) → are_processes n s ≡ true → starts_at m s → ascends_below n m s ≡ true
 unfolding starts_at
 ascending_of n m [] h low = refl
 ascending_of n m (v ∷ []) h low =
@@ -62,14 +62,14 @@ unfolding starts_at
 starts_at-zero [] = tt
 starts_at-zero (v ∷ s) = omega arith
 
-ascending_of_colours : (n : ℕ) (s : Simplex) → are_colours n s ≡ true → ascends_below n 0 s ≡ true
-ascending_of_colours n s h = ascending_of n 0 s h (starts_at-zero s)
+ascending_of_processes : (n : ℕ) (s : Simplex) → are_processes n s ≡ true → ascends_below n 0 s ≡ true
+ascending_of_processes n s h = ascending_of n 0 s h (starts_at-zero s)
 
-colours_by : (n : ℕ) (s : Simplex) (a b : Bool) → ascends_below n 0 s ≡ a → are_colours n s ≡ b → a ≡ b
-colours_by n s true true h k = refl
-colours_by n s true false h k = sym (colours_of_ascending n s h) ∙ k
-colours_by n s false true h k = sym h ∙ ascending_of_colours n s k
-colours_by n s false false h k = refl
+ascent_both_ways : (n : ℕ) (s : Simplex) (a b : Bool) → ascends_below n 0 s ≡ a → are_processes n s ≡ b → a ≡ b
+ascent_both_ways n s true true h k = refl
+ascent_both_ways n s true false h k = sym (processes_of_ascending n s h) ∙ k
+ascent_both_ways n s false true h k = sym h ∙ ascending_of_processes n s k
+ascent_both_ways n s false false h k = refl
 
-pub colours_below : (n : ℕ) (s : Simplex) → ascends_below n 0 s ≡ are_colours n s
-colours_below n s = colours_by n s (ascends_below n 0 s) (are_colours n s) refl refl
+pub ascent_below : (n : ℕ) (s : Simplex) → ascends_below n 0 s ≡ are_processes n s
+ascent_below n s = ascent_both_ways n s (ascends_below n 0 s) (are_processes n s) refl refl
