@@ -183,7 +183,7 @@ fn put_lead(text: &mut String, before: Option<u32>, point: u32) -> Result<(), Al
 fn put_loss(text: &mut String, reason: &Reason) -> Result<(), AllocError>
     ensures { OnOk result (string_bytes text.new
         ≡ string_bytes text.old
-            ++ (decimal reason.now.loss.value ++ origin_text reason.now.loss.step)) }
+        ++ (decimal reason.now.loss.value ++ origin_text reason.now.loss.step)) }
 {
     let value = reason.loss.value;
     match reason.loss.step {

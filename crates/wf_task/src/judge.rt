@@ -7,7 +7,7 @@ ghost use Rattle.wf_task.specs.Draft.{Gives};
 ghost use Rattle.wf_task.specs.DraftSeen.{draft_seen, entry_seen};
 ghost use Rattle.wf_task.specs.Judge.{is_large, has_large, rule_has_large, is_first_block, names_processes, rule_names_processes, first_block_judged, numbers_judged};
 
-use crate::draft::{Draft, SECOND_VERSION, FIRST_VERSION};
+use crate::draft::{Draft, FIRST_VERSION, SECOND_VERSION};
 use crate::fault::TaskFault;
 use crate::shape::{Entry, ListedSimplex};
 
