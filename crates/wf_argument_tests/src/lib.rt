@@ -2,6 +2,6 @@
 #![tactic(auto)]
 
 #[cfg(test)]
-mod argument_tests;
+mod arguments;
 #[cfg(test)]
 mod texts;

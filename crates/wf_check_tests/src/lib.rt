@@ -6,4 +6,18 @@
 #![tactic(auto)]
 
 #[cfg(test)]
-mod tests;
+mod changes;
+#[cfg(test)]
+mod checking;
+#[cfg(test)]
+mod full;
+#[cfg(test)]
+mod plain;
+#[cfg(test)]
+mod reading;
+#[cfg(test)]
+mod reports;
+#[cfg(test)]
+mod rows;
+#[cfg(test)]
+mod tasks;

@@ -2,12 +2,12 @@
 #![tactic(auto)]
 
 #[cfg(test)]
-mod branch_tests;
+mod branches;
 #[cfg(test)]
-mod map_tests;
+mod maps;
 #[cfg(test)]
-mod posing_tests;
+mod posing;
 #[cfg(test)]
-mod question_tests;
+mod questions;
 #[cfg(test)]
 mod texts;

@@ -3,4 +3,14 @@
 #![tactic(auto)]
 
 #[cfg(test)]
-mod tests;
+mod boards;
+#[cfg(test)]
+mod cores;
+#[cfg(test)]
+mod handouts;
+#[cfg(test)]
+mod holds;
+#[cfg(test)]
+mod pools;
+#[cfg(test)]
+mod tasks;

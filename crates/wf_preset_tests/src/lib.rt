@@ -4,8 +4,8 @@
 #![tactic(auto)]
 
 #[cfg(test)]
-mod canonical_tests;
+mod canonical;
 #[cfg(test)]
-mod preset_tests;
+mod presets;
 #[cfg(test)]
 mod texts;

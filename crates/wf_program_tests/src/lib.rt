@@ -3,4 +3,22 @@
 #![tactic(auto)]
 
 #[cfg(test)]
-mod tests;
+mod checked;
+#[cfg(test)]
+mod command_line;
+#[cfg(test)]
+mod ends;
+#[cfg(test)]
+mod engines;
+#[cfg(test)]
+mod failing;
+#[cfg(test)]
+mod failing_pairs;
+#[cfg(test)]
+mod rows;
+#[cfg(test)]
+mod texts;
+#[cfg(test)]
+mod watched;
+#[cfg(test)]
+mod words;

@@ -2,6 +2,6 @@
 #![tactic(auto)]
 
 #[cfg(test)]
-mod explain_tests;
+mod explaining;
 #[cfg(test)]
-mod trim_tests;
+mod trimming;

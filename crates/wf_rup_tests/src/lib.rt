@@ -4,10 +4,10 @@
 #![tactic(auto)]
 
 #[cfg(test)]
-mod checker_tests;
+mod checkers;
 #[cfg(test)]
 mod clauses;
 #[cfg(test)]
-mod proof_tests;
+mod proofs;
 #[cfg(test)]
-mod reader_tests;
+mod readers;

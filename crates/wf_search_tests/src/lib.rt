@@ -2,4 +2,12 @@
 #![tactic(auto)]
 
 #[cfg(test)]
-mod tests;
+mod boxes;
+#[cfg(test)]
+mod lanes;
+#[cfg(test)]
+mod searches;
+#[cfg(test)]
+mod tables;
+#[cfg(test)]
+mod tasks;

@@ -7,4 +7,20 @@
 #![tactic(auto)]
 
 #[cfg(test)]
-mod tests;
+mod closings;
+#[cfg(test)]
+mod comparisons;
+#[cfg(test)]
+mod complexes;
+#[cfg(test)]
+mod maps;
+#[cfg(test)]
+mod plain;
+#[cfg(test)]
+mod plain_closing;
+#[cfg(test)]
+mod plain_search;
+#[cfg(test)]
+mod searches;
+#[cfg(test)]
+mod tasks;

@@ -4,4 +4,4 @@
 #![tactic(auto)]
 
 #[cfg(test)]
-mod trim_tests;
+mod trimming;
