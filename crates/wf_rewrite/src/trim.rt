@@ -49,8 +49,8 @@ fn trim_sources<T: Threads + Sync, R: Read, C: Read>(
 ) -> Result<((), Vec<u8>), RunFault>
     requires task { CanRead task_source.old }
     requires report { CanRead report_source.old }
-    ensures { Checks None AreTrimmed task_source.old task_source.new report_source.old report_source.new
-        (answered result) }
+    ensures { Checks None AreTrimmed task_source.old task_source.new report_source.old
+        report_source.new (answered result) }
 {
     let task = read_task(alloc, task_source)?;
     let report = read_report_from(alloc, report_source)?;

@@ -97,7 +97,8 @@ fn names_processes(processes: u64, pairs: &[(u64, u64)]) -> bool
 
 /// Whether each simplex has such processes.
 fn all_name_processes(processes: u64, simplices: &[ListedSimplex]) -> bool
-    ensures { result ≡ list_all (names_processes processes) (map (λ s. s.pairs.items) simplices.now) }
+    ensures { result
+        ≡ list_all (names_processes processes) (map (λ s. s.pairs.items) simplices.now) }
 {
     for simplex in simplices {
         if !names_processes(processes, &simplex.pairs) {
