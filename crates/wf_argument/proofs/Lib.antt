@@ -6,6 +6,5 @@ mod Pieces
 mod Places
 pub mod Reasoning
 mod Taking
-mod Telling
 mod Trails
 mod Usage

@@ -6,10 +6,10 @@ ghost use Rattle.wf_model.specs.View.{base};
 ghost use Rattle.wf_argument.specs.Text.{point_text};
 ghost use Rattle.wf_argument.specs.Used.{marked_text, told_if};
 
-use crate::words::put_view;
 use std::alloc::AllocError;
 use std::fmt::Write;
 use wf_complex::Protocol;
+use wf_view::put_view;
 
 /// Adds what the points are that are marked. Where they are classes, processes go by their ranks.
 pub(crate) fn put_points(

@@ -1,9 +1,7 @@
 //! What an argument says, word by word.
 
-ghost use Rattle.std.specs.Prelude.{◌≡◌, ◌++◌, ◌<◌, ◌+◌, ◌*◌, decimal, length, None, OnOk, string_bytes};
-ghost use Rattle.wf_model.specs.PointsText.{process_text, view_text};
+ghost use Rattle.std.specs.Prelude.{◌≡◌, ◌++◌, ◌<◌, ◌+◌, decimal, length, None, OnOk, string_bytes};
 ghost use Rattle.wf_set.specs.Sets.{values_in};
-ghost use Rattle.wf_view.specs.Views.{view_at};
 ghost use Rattle.wf_argument.specs.Text.{any_text, block_text, counted, lead_text, margin, name, needed_text, number_text, origin_text, reasons_text, rest_text, row_text, separator, tuple_text};
 
 use crate::reasons::Reason;
@@ -11,7 +9,6 @@ use std::alloc::AllocError;
 use std::fmt::Write;
 use wf_set::{Mask, first, has_two, is_empty};
 use wf_task::Row;
-use wf_view::Views;
 
 /// The most tuples that are told one by one.
 const MOST_TOLD: usize = 8;
@@ -203,45 +200,5 @@ pub(crate) fn put_rest(text: &mut String, point: u32, left: Mask) -> Result<(), 
     }
     let value = first(left);
     write!(text, " So v{point} is {value}.")?;
-    Ok(())
-}
-
-/// Adds a view, with the views inside it. Where they are classes, processes go by their ranks.
-pub(crate) fn put_view(
-    text: &mut String,
-    views: &Views,
-    ranks: bool,
-    id: u32,
-) -> Result<(), AllocError>
-    requires { id < length views.now }
-    ensures { OnOk result (string_bytes text.new
-        ≡ string_bytes text.old ++ view_text ranks (view_at views.now id)) }
-{
-    put_process(text, ranks, views.colour(id))?;
-    if let Some(value) = views.input(id) {
-        write!(text, "={value}")?;
-        return Ok(());
-    }
-    write!(text, " saw {{")?;
-    for (place, part) in views.parts(id).iter().enumerate() {
-        if place > 0 {
-            write!(text, ", ")?;
-        }
-        put_view(text, views, ranks, *part)?;
-    }
-    write!(text, "}}")?;
-    Ok(())
-}
-
-/// Adds a process, by its number or by its rank.
-fn put_process(text: &mut String, ranks: bool, process: u8) -> Result<(), AllocError>
-    ensures { OnOk result (string_bytes text.new
-        ≡ string_bytes text.old ++ process_text ranks process) }
-{
-    if ranks {
-        write!(text, "#{process}")?;
-    } else {
-        write!(text, "p{process}")?;
-    }
     Ok(())
 }

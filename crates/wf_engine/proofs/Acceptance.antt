@@ -38,7 +38,8 @@ use Rattle.wf_engine.proofs.Written.{map_within, none_within, least_within}
 unnamed : {P : Type 0} (found : Option Refusal) (f : Refusal) → found ≡ None → found ≡ Some f → P
 unnamed found f clear is = absurd (let bad : ⊥ = cc in bad)
 
-unrefused : {P : Type 0} (e : CertFault) (found : Option Refusal) → found ≡ None → (e ≡ amiss.OutOfMemory → ⊥) → Fails e found → P
+-- nothing is refused for a fault that is none
+pub unrefused : {P : Type 0} (e : CertFault) (found : Option Refusal) → found ≡ None → (e ≡ amiss.OutOfMemory → ⊥) → Fails e found → P
 unrefused amiss.TooLong found clear other fails = absurd fails
 unrefused (amiss.Syntax k) found clear other fails = absurd fails
 unrefused (amiss.Header k) found clear other fails = unnamed found _ clear fails

@@ -14,7 +14,7 @@ use Rattle.wf_engine.specs.Laws.{IsChecked}
 use Rattle.wf_engine.specs.Verify.{IsReportOf, IsVerified, IsVerifiedFor, Checks, ChecksFor}
 use Rattle.wf_engine.proofs.Counts.{beyond, few, handed, judged}
 
-judged_report : (text : Result (List ℕ) ReadFault) (r : Result Report RunFault) → Judged IsReportOf text r → (io.failed_reads text ≡ by_result failed_reads r) × (by_result failed_writes r ≡ 0)
+pub judged_report : (text : Result (List ℕ) ReadFault) (r : Result Report RunFault) → Judged IsReportOf text r → (io.failed_reads text ≡ by_result failed_reads r) × (by_result failed_writes r ≡ 0)
 judged_report (Ok text) (Ok r) j = (refl, refl)
 judged_report (Ok text) (Err run.Read) j = absurd j
 judged_report (Ok text) (Err run.Write) j = absurd j

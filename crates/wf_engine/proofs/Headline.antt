@@ -26,12 +26,12 @@ task_read old new (Ok text) t (given, gave, is) judged = (given, gave, ap text_o
 task_read old new (Err e) t reads judged = absurd (let bad : ⊥ = cc in bad)
 
 -- a report without a fault is about the task and its own rounds
-about : (t : Task) (r : Report) → IsFaultless t r → r ≡ report_about t r.rounds r.body
+pub about : (t : Task) (r : Report) → IsFaultless t r → r ≡ report_about t r.rounds r.body
 about t r faultless =
     let n = numbers t r.rounds r faultless.faultless in
     λ i. record { processes = n.processes i; rounds = r.rounds; points = n.points i; executions = n.executions i; body = r.body }
 
-written_as_read : (text : List ℕ) (t : Task) (r : Report) → report_of 2 text ≡ Ok r → IsFaultless t r → text ≡ text_of_report t r.rounds r.body
+pub written_as_read : (text : List ℕ) (t : Task) (r : Report) → report_of 2 text ≡ Ok r → IsFaultless t r → text ≡ text_of_report t r.rounds r.body
 unfolding text_of_report
 written_as_read text t r read faultless = (read_written text r read).0 ∙ ap report_text (about t r faultless)
 

@@ -1,54 +1,12 @@
 -- The text of a view, by the views that it saw.
-use Rattle.std.proofs.Common.{◌≡◌, ◌≤◌, ℕ, zero, suc, Bool, List, [], ◌∷◌, ◌++◌, map, length, drop, None, codes, decimal, append_assoc, append-nil, slice_get, flat_map, refl, sym, ap, ◌∙◌}
+use Rattle.std.proofs.Common.{◌≡◌, ℕ, Bool, List, ◌++◌, drop, codes, decimal, append_assoc, slice_get, flat_map, sym, ap, ◌∙◌}
 use Rattle.std.specs.List.{enumerate_from}
 use Rattle.std.specs.Option.{unwrap_or}
-use Rattle.std.proofs.Math.ListN.{drop_of_length-le}
 use Rattle.std.proofs.lemmas.Option.{unwrap_or-slice_get}
-use Rattle.wf_model.specs.View.{View, base, seen, Views, no_views, view, process_of}
-use Rattle.wf_model.specs.PointsText.{process_text, view_text, views_text, more_text, decision_text, point_text}
-use Rattle.wf_view.specs.Views.{view_at, list_of, input_of, inner_views}
-use Rattle.wf_engine.proofs.Verdicts.{and_more}
-
--- the views after the first
-abbrev pub more_of : Bool → List View → List ℕ
-more_of ranks [] = []
-more_of ranks (v ∷ vs) = codes ", " ++ (view_text ranks v ++ more_of ranks vs)
-
--- what is to come of the views once so many are told
-abbrev pub rest_of : Bool → ℕ → List View → List ℕ
-rest_of ranks zero [] = []
-rest_of ranks zero (v ∷ vs) = view_text ranks v ++ more_of ranks vs
-rest_of ranks (suc n) vs = more_of ranks vs
-
-more_listed : (ranks : Bool) (vs : Views) → more_text ranks vs ≡ more_of ranks (list_of vs)
-more_listed ranks no_views = refl
-more_listed ranks (view v vs) = ap (λ rest. codes ", " ++ (view_text ranks v ++ rest)) (more_listed ranks vs)
-
-views_listed : (ranks : Bool) (vs : Views) → views_text ranks vs ≡ rest_of ranks 0 (list_of vs)
-views_listed ranks no_views = refl
-views_listed ranks (view v vs) = ap (λ rest. view_text ranks v ++ rest) (more_listed ranks vs)
-
-pub seen_told : (ranks : Bool) (v : View) (ws : List View) → None ≡ input_of v → ws ≡ inner_views v
-    → view_text ranks v ≡ process_text ranks (process_of v) ++ (codes " saw {" ++ (rest_of ranks 0 ws ++ codes "}"))
-seen_told ranks (base p x) ws none are = absurd (let bad : ⊥ = cc in bad)
-seen_told ranks (seen p vs) ws none are =
-    ap (λ rest. process_text ranks p ++ (codes " saw {" ++ (rest ++ codes "}"))) (views_listed ranks vs ∙ ap (rest_of ranks 0) (sym are))
-
-none_left : (ranks : Bool) (n : ℕ) → rest_of ranks n [] ≡ []
-none_left ranks zero = refl
-none_left ranks (suc n) = refl
-
--- a view that saw others is told, once they are
-pub view_told : (ranks : Bool) (vs : List View) (ids : List ℕ) (v : View) (p n : ℕ) (t0 t1 t2 t3 t4 : List ℕ) → None ≡ input_of v → map (view_at vs) ids ≡ inner_views v → p ≡ process_of v
-    → t1 ≡ t0 ++ process_text ranks p → t2 ≡ t1 ++ codes " saw {" → t3 ++ rest_of ranks n (map (view_at vs) (drop n ids)) ≡ t2 ++ rest_of ranks 0 (map (view_at vs) ids) → length ids ≤ n
-    → t4 ≡ t3 ++ codes "}" → t4 ≡ t0 ++ view_text ranks v
-view_told ranks vs ids v p n t0 t1 t2 t3 t4 none are is first second third all fourth =
-    let inside : List ℕ = rest_of ranks 0 (map (view_at vs) ids) in
-    let left : rest_of ranks n (map (view_at vs) (drop n ids)) ≡ [] = ap (λ xs. rest_of ranks n (map (view_at vs) xs)) (drop_of_length-le ids all) ∙ none_left ranks n in
-    let told : t3 ≡ t2 ++ inside = sym (append-nil t3) ∙ ap (λ xs. t3 ++ xs) (sym left) ∙ third in
-    and_more t0 t1 t4 (process_text ranks p) (codes " saw {" ++ (inside ++ codes "}")) first (and_more t1 t2 t4 (codes " saw {") (inside ++ codes "}") second (and_more t2 t3 t4 inside (codes "}") told fourth))
-    ∙ ap (λ q. t0 ++ (process_text ranks q ++ (codes " saw {" ++ (inside ++ codes "}")))) is
-    ∙ ap (λ xs. t0 ++ xs) (sym (seen_told ranks v (map (view_at vs) ids) none are))
+use Rattle.wf_model.specs.View.{View, base}
+use Rattle.wf_model.specs.PointsText.{view_text, decision_text, point_text}
+use Rattle.wf_view.specs.Views.{view_at}
+use Rattle.wf_view.proofs.Lemmas.{and_more}
 
 -- ---- the line of a point
 

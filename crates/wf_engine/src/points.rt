@@ -1,7 +1,7 @@
 //! Telling the points of a protocol complex in words.
 
 ghost use Rattle.std.specs.Prelude.{◌≡◌, ◌++◌, ◌<◌, IfOk, OnOk, string_bytes, length, slice_get};
-ghost use Rattle.wf_model.specs.PointsText.{decision_text, point_text, points_text, process_text, view_text};
+ghost use Rattle.wf_model.specs.PointsText.{decision_text, point_text, points_text};
 ghost use Rattle.wf_io.specs.Ends.{CanCount, CanRead};
 ghost use Rattle.wf_view.specs.Views.{view_at};
 ghost use Rattle.wf_complex.specs.Protocol.{IsProtocol};
@@ -16,7 +16,7 @@ use std::io::{Read, Write};
 use wf_complex::Protocol;
 use wf_io::{Sink, Source};
 use wf_task::Task;
-use wf_view::Views;
+use wf_view::put_view;
 
 /// Reads a task to the reader's end and tells the points of its protocol complex after some rounds
 /// in words, a line for each: who saw what, down to the inputs.
@@ -91,41 +91,6 @@ fn put_point(
     put_view(text, protocol.views(), ranks, protocol.view_of(point))?;
     put_decision(text, decision_at(map, point))?;
     writeln!(text)?;
-    Ok(())
-}
-
-/// Adds a view, with the views inside it. Where they are classes, processes go by their ranks.
-fn put_view(text: &mut String, views: &Views, ranks: bool, id: u32) -> Result<(), AllocError>
-    requires { id < length views.now }
-    ensures { OnOk result (string_bytes text.new
-        ≡ string_bytes text.old ++ view_text ranks (view_at views.now id)) }
-{
-    put_process(text, ranks, views.colour(id))?;
-    if let Some(value) = views.input(id) {
-        write!(text, "={value}")?;
-        return Ok(());
-    }
-    write!(text, " saw {{")?;
-    for (place, part) in views.parts(id).iter().enumerate() {
-        if place > 0 {
-            write!(text, ", ")?;
-        }
-        put_view(text, views, ranks, *part)?;
-    }
-    write!(text, "}}")?;
-    Ok(())
-}
-
-/// Adds a process, by its number or by its rank.
-fn put_process(text: &mut String, ranks: bool, process: u8) -> Result<(), AllocError>
-    ensures { OnOk result (string_bytes text.new
-        ≡ string_bytes text.old ++ process_text ranks process) }
-{
-    if ranks {
-        write!(text, "#{process}")?;
-    } else {
-        write!(text, "p{process}")?;
-    }
     Ok(())
 }
 

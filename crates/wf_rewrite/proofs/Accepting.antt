@@ -1,41 +1,20 @@
 -- A check of the text of a report without a fault accepts it.
-use Rattle.std.proofs.Common.{◌≡◌, ◌≤◌, ℕ, List, length, inl, inr, Option, Some, None, Result, Ok, Err, refl, sym, subst, arith}
+use Rattle.std.proofs.Common.{◌≡◌, ◌≤◌, ℕ, List, length, inl, inr, Option, Some, None, Result, Ok, Err, sym, subst, arith}
 use Rattle.wf_model.specs.Task.{Task}
 use Rattle.wf_model.specs.Report.{Report, report_of, report_text}
-use Rattle.wf_model.specs.Check.{Refusal, report_fault}
+use Rattle.wf_model.specs.Check.{report_fault}
 use Rattle.wf_model.specs.Limits.{most_bytes}
 use Rattle.wf_complex.specs.declared.fault.BuildFault.TheVariants as build
 use Rattle.wf_report.specs.Grammar.{IsInGrammar}
-use Rattle.wf_report.specs.declared.fault.CertFault.{CertFault}
 use Rattle.wf_report.specs.declared.fault.CertFault.TheVariants as amiss
 use Rattle.wf_report.proofs.Lemmas.{written_read}
-use Rattle.wf_check.specs.Faults.{Fails}
+use Rattle.wf_engine.proofs.Lemmas.{unrefused}
 use Rattle.wf_engine.specs.declared.outcome.Accepted.{Accepted}
 use Rattle.wf_engine.specs.declared.fault.RunFault.{RunFault}
 use Rattle.wf_engine.specs.declared.fault.RunFault.TheVariants as run
 use Rattle.wf_engine.specs.Verify.{ChecksText, IsAccepted, IsFaultless, IsVerified, IsVerifiedFor, accepted_of}
 use Rattle.wf_engine.specs.Headline.{AreAsked}
 use Rattle.wf_engine.specs.Laws.{Accepts}
-
--- a report without a fault has none that is named
-unnamed : {P : Type 0} (found : Option Refusal) (f : Refusal) → found ≡ None → found ≡ Some f → P
-unnamed found f clear is = absurd (let bad : ⊥ = cc in bad)
-
-unrefused : {P : Type 0} (e : CertFault) (found : Option Refusal) → found ≡ None → (e ≡ amiss.OutOfMemory → ⊥) → Fails e found → P
-unrefused amiss.TooLong found clear other fails = absurd fails
-unrefused (amiss.Syntax k) found clear other fails = absurd fails
-unrefused (amiss.Header k) found clear other fails = unnamed found _ clear fails
-unrefused amiss.MapLength found clear other fails = unnamed found _ clear fails
-unrefused (amiss.Violates k) found clear other fails = unnamed found _ clear fails
-unrefused (amiss.NoSuch k) found clear other fails = unnamed found _ clear fails
-unrefused (amiss.Unsound k) found clear other fails = unnamed found _ clear fails
-unrefused (amiss.NotEmpty k) found clear other fails = unnamed found _ clear fails
-unrefused (amiss.NotOpen k) found clear other fails = unnamed found _ clear fails
-unrefused amiss.Unfinished found clear other fails = unnamed found _ clear fails
-unrefused (amiss.Trailing k) found clear other fails = unnamed found _ clear fails
-unrefused (amiss.NotFirst k) found clear other fails = unnamed found _ clear fails
-unrefused (amiss.NotTheMap k) found clear other fails = unnamed found _ clear fails
-unrefused amiss.OutOfMemory found clear other fails = absurd (other refl)
 
 module _ (t : Task) (r : Report) (faultless : IsFaultless t r) where
   -- the answer about a report without a fault

@@ -13,7 +13,7 @@ use Rattle.wf_engine.specs.declared.fault.RunFault.{RunFault}
 use Rattle.wf_engine.specs.declared.fault.RunFault.TheVariants as run
 use Rattle.wf_engine.proofs.Counts.{beyond, few}
 use Rattle.wf_engine.proofs.CheckCounts.{IsReportCounted, both_counted, left_alone}
-use Rattle.wf_rewrite.proofs.WasRead.{judged_report}
+use Rattle.wf_engine.proofs.Lemmas.{judged_report}
 use Rattle.wf_rewrite.specs.Lifting.{LiftsBody, LiftsFor, LiftsMap, Made, ReadsToLift, rounds_asked}
 use Rattle.wf_rewrite.specs.LiftingLaws.{LiftingIsCounted}
 

@@ -17,7 +17,7 @@ use Rattle.wf_engine.specs.Headline.{AreAsked, GaveTask}
 use Rattle.wf_engine.proofs.Headline.{task_read}
 use Rattle.wf_rewrite.specs.Trimming.{AreMade, IsShortened}
 use Rattle.wf_rewrite.specs.Trimmed.{IsAcceptedText, IsGoodText, TrimmedReportsAreAccepted}
-use Rattle.wf_rewrite.proofs.WasRead.{about}
+use Rattle.wf_engine.proofs.Lemmas.{about}
 use Rattle.wf_rewrite.proofs.Trimming.{no_longer, stays_within}
 use Rattle.wf_rewrite.proofs.Accepting.{accepts_text}
 

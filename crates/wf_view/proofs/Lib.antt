@@ -8,4 +8,5 @@ pub mod Beside
 pub mod Renamed
 pub mod Collecting
 pub mod Ranked
+pub mod Telling
 pub mod Lemmas

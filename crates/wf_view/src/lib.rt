@@ -8,5 +8,7 @@
 
 mod node;
 mod views;
+mod words;
 
 pub use views::Views;
+pub use words::put_view;

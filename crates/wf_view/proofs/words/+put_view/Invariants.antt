@@ -1,7 +1,7 @@
 use Rattle.std.proofs.Common.{◌≡◌, ◌++◌, string_bytes, map, drop}
 use Rattle.wf_view.specs.Views.{view_at}
-use Rattle.wf_engine.proofs.Telling.{rest_of}
-use Rattle.wf_engine.proofs.points.+put_view.Given as goal
+use Rattle.wf_view.proofs.Telling.{rest_of}
+use Rattle.wf_view.proofs.words.+put_view.Given as goal
 
 abbrev pub decreases-put_view : goal.decreases-put_view
 decreases-put_view l = l.id

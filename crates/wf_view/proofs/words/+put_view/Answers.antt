@@ -1,7 +1,7 @@
 use Rattle.std.proofs.Common.{string_bytes, arith}
 use Rattle.wf_view.specs.Views.{view_at}
-use Rattle.wf_argument.proofs.Telling.{view_told}
-use Rattle.wf_argument.proofs.words.+put_view.Goals as goal
+use Rattle.wf_view.proofs.Telling.{view_told}
+use Rattle.wf_view.proofs.words.+put_view.Goals as goal
 
 pub returns : goal.returns
 returns t c =
