@@ -12,8 +12,6 @@ use Rattle.wf_model.specs.Simplex.{Simplex, processes_of}
 use Rattle.wf_model.specs.Word.{Word, words}
 use Rattle.wf_model.specs.Task.{Task, Rule, inputs, first_block}
 use Rattle.wf_model.specs.Execution.{Execution, executions_on, executions}
-use Rattle.wf_model.specs.Points.{points}
-use Rattle.wf_model.specs.Problem.{constraint_of, problem_of}
 use Rattle.wf_model.proofs.Basics.{below_next}
 use Rattle.wf_model.proofs.WellFormed.{words_long}
 use Rattle.wf_complex.specs.Layout.{turns}
@@ -25,6 +23,7 @@ use Rattle.wf_argument.specs.declared.executions.Span.{Span}
 use Rattle.wf_argument.specs.Table.{spans_of, words_up_to, break_text}
 use Rattle.wf_argument.specs.Text.{others_text, block_text, block_of, word_text, words_text, execution_text}
 use Rattle.wf_argument.proofs.Listing.{rest_of}
+use Rattle.wf_lift.proofs.Lemmas.{length-on}
 
 -- ---- a list of words by division
 
@@ -225,9 +224,6 @@ spans_more m r i first ss s spans low is =
 
 -- ---- the execution of a number
 
-length-on : (m r : ℕ) (rule : Rule) → length (executions_on m r rule) ≡ turns m (length rule.input) r
-length-on m r rule = length-map (lists_of (words m (length rule.input)) r) (λ ws. record { rule = rule; words = ws }) ∙ length-lists_of m (length rule.input) r
-
 -- the span of an input simplex, by the executions on those before it
 span_at : (m r : ℕ) (rules : List Rule) (number first : ℕ) (rule : Rule) → slice_get rules number ≡ Some rule →
     slice_get (spans_of m r first (map (λ rule. rule.input) rules)) number ≡ Some (record { first = first + length (flat_map (executions_on m r) (take number rules)); count = turns m (length rule.input) r })
@@ -289,10 +285,6 @@ found_there t r b e s h on =
     in_place rule [] i ws h = absurd (let none : ⊥ = cc in none)
     in_place rule (l ∷ lists) zero ws h = let same : l ≡ ws = cc in ap (λ x. Some (record { rule = rule; words = x })) same
     in_place rule (l ∷ lists) (suc i) ws h = in_place rule lists i ws h
-
--- as many executions have points as there are
-pub as_many_executions : (t : Task) (r : ℕ) (b : Built) → IsProtocol t r b → length b.scopes ≡ length (executions t r)
-as_many_executions t r b h = ap length h.scopes_are ∙ length-map (problem_of t r).constraints (λ k. k.scope) ∙ length-map (executions t r) (constraint_of t (points t r))
 
 -- as many input simplices are known as executions have points
 pub as_many : (t : Task) (r : ℕ) (b : Built) → IsProtocol t r b → length b.simplices ≡ length b.scopes

@@ -11,8 +11,6 @@ mod complexes;
 #[cfg(test)]
 mod oracle;
 #[cfg(test)]
-mod plain;
-#[cfg(test)]
 mod simplices;
 #[cfg(test)]
 mod supports;

@@ -19,7 +19,7 @@ use Rattle.wf_model.specs.Problem.{Constraint, Participant, problem_of, constrai
 use Rattle.wf_model.proofs.Basics.{by_place, length-below}
 use Rattle.wf_model.proofs.Bridge.{weaker}
 use Rattle.wf_complex.specs.Protocol.{Built, IsProtocol}
-use Rattle.wf_complex.proofs.Lemmas.{constraint_there, got, known_points, rule_there}
+use Rattle.wf_complex.proofs.Lemmas.{constraint_there, got, known_points, rule_there, as_many_constraints}
 use Rattle.wf_set.specs.Sets.{values_in}
 use Rattle.wf_clauses.specs.Formula.{Formula}
 use Rattle.wf_formula.specs.Branches.{branch_line, exclusions}
@@ -59,14 +59,11 @@ as_many m r (rule ∷ rules) n =
     ∙ (λ i. length-map (executions_on m r rule) (λ e. n) i + as_many m r rules (n + 1) i)
     ∙ sym (length-append (executions_on m r rule) (flat_map (executions_on m r) rules))
 
-long_scopes : (t : Task) (r : ℕ) (b : Built) → IsProtocol t r b → length b.scopes ≡ length (problem_of t r).constraints
-long_scopes t r b h = ap length h.scopes_are ∙ length-map (problem_of t r).constraints (λ k. k.scope)
-
 simplex_there : (t : Task) (r : ℕ) (b : Built) (e : ℕ) → IsProtocol t r b → e < length b.scopes → slice_get b.simplices e ≡ Some (slice_index b.simplices e)
 simplex_there t r b e h low =
     let long : length b.simplices ≡ length (executions t r) = ap length h.simplices_are ∙ as_many (first_block t) r t.delta 0 in
     let same : length (problem_of t r).constraints ≡ length (executions t r) = length-map (executions t r) (constraint_of t (points t r)) in
-    slice_get-get_or b.simplices e 0 (omega (arith, low, long, same, long_scopes t r b h))
+    slice_get-get_or b.simplices e 0 (omega (arith, low, long, same, as_many_constraints t r b h))
 
 -- the rule of an execution, with its patterns
 record RuleOf (t : Task) (r : ℕ) (b : Built) (e : ℕ) : Type 0 where
@@ -136,7 +133,7 @@ clauses_same t r b h =
     let n = length b.scopes in
     flat_each (clauses_at (values t) (patterns_of t) b) (λ e. clauses_of (values t) (get_or ks e no_constraint)) (below n)
     (weaker (λ e. e < n) (λ e. clauses_at (values t) (patterns_of t) b e ≡ clauses_of (values t) (get_or ks e no_constraint)) (λ e low. clauses_here t r b e h low) (below n) (each_below n))
-    ∙ ap (λ n. flat_map (λ e. clauses_of (values t) (get_or ks e no_constraint)) (below n)) (long_scopes t r b h)
+    ∙ ap (λ n. flat_map (λ e. clauses_of (values t) (get_or ks e no_constraint)) (below n)) (as_many_constraints t r b h)
     ∙ sym (flat_mapped (clauses_of (values t)) (λ e. get_or ks e no_constraint) (below (length ks)))
     ∙ ap (flat_map (clauses_of (values t))) (by_place ks no_constraint)
 
@@ -213,7 +210,7 @@ module _ (t : Task) (r : ℕ) (b : Built) (n : Counts) (all : List ℕ) (pattern
     processes = counts.processes i;
     rounds = (counts.rounds ∙ h.rounds_are) i;
     points = (counts.points ∙ points_are) i;
-    executions = (counts.executions ∙ long_scopes t r b h ∙ length-map (executions t r) (constraint_of t (points t r))) i;
+    executions = (counts.executions ∙ as_many_constraints t r b h ∙ length-map (executions t r) (constraint_of t (points t r))) i;
     variables = (counts.variables ∙ (λ j. points_are j * length (all_is j))) i;
     clauses = clauses_are i;
   }

@@ -77,8 +77,8 @@ known_points t r b e s ps built inside on are =
 -- ---- values
 
 -- as many scopes as constraints
-long_scopes : (t : Task) (r : ℕ) (b : Built) → IsProtocol t r b → length b.scopes ≡ length (problem_of t r).constraints
-long_scopes t r b h = ap length h.scopes_are ∙ length-map (problem_of t r).constraints (λ k. k.scope)
+pub as_many_constraints : (t : Task) (r : ℕ) (b : Built) → IsProtocol t r b → length b.scopes ≡ length (problem_of t r).constraints
+as_many_constraints t r b h = ap length h.scopes_are ∙ length-map (problem_of t r).constraints (λ k. k.scope)
 
 -- the tuples of the simplex that an execution is on are those of its constraint
 pub tuples_at : (t : Task) (r : ℕ) (b : Built) (e s : ℕ) → IsProtocol t r b → e < length b.scopes → slice_get b.simplices e ≡ Some s
@@ -91,7 +91,7 @@ tuples_at t r b e s h inside on =
 pub scope_is : (t : Task) (r : ℕ) (b : Built) (e : ℕ) → IsProtocol t r b → e < length b.scopes → slice_index_or b.scopes e [] ≡ (constraint_at (problem_of t r) e).scope
 scope_is t r b e h inside =
     ap (λ ss. slice_index_or ss e []) h.scopes_are
-    ∙ get_or-map (λ k. k.scope) (problem_of t r).constraints e no_constraint [] (omega (arith, inside, long_scopes t r b h))
+    ∙ get_or-map (λ k. k.scope) (problem_of t r).constraints e no_constraint [] (omega (arith, inside, as_many_constraints t r b h))
 
 -- the rows of that rule and the points of the execution tell whether the values are right there
 pub right_there : (t : Task) (r : ℕ) (b : Built) (e s : ℕ) (values ps : List ℕ) (rows : List (List ℕ)) → IsProtocol t r b → e < length b.scopes → slice_get b.simplices e ≡ Some s

@@ -1,4 +1,4 @@
 -- What the crates above may use of these proofs.
 pub use Rattle.wf_complex.proofs.Different.{length-distinct}
-pub use Rattle.wf_complex.proofs.ExecutionAt.{known_points, right_there, rule_inside, rule_there, scope_is}
-pub use Rattle.wf_complex.proofs.RuleAt.{constraint_there, got}
+pub use Rattle.wf_complex.proofs.ExecutionAt.{as_many_constraints, known_points, right_there, rule_inside, rule_there, scope_is}
+pub use Rattle.wf_complex.proofs.RuleAt.{as_many_executions, constraint_there, got}

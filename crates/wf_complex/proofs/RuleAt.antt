@@ -50,8 +50,8 @@ pub record StandsAt (t : Task) (r e s : ℕ) : Type 0 where
   pub there : slice_get (executions t r) e ≡ Some execution
   pub rule_there : slice_get t.delta s ≡ Some execution.rule
 
-long_scopes : (t : Task) (r : ℕ) (b : Built) → IsProtocol t r b → length b.scopes ≡ length (executions t r)
-long_scopes t r b h = ap length h.scopes_are ∙ length-map (problem_of t r).constraints (λ k. k.scope) ∙ length-map (executions t r) (constraint_of t (points t r))
+pub as_many_executions : (t : Task) (r : ℕ) (b : Built) → IsProtocol t r b → length b.scopes ≡ length (executions t r)
+as_many_executions t r b h = ap length h.scopes_are ∙ length-map (problem_of t r).constraints (λ k. k.scope) ∙ length-map (executions t r) (constraint_of t (points t r))
 
 found_at : {X : Type 0} (xs : List X) (i : ℕ) → i < length xs → (x : X) × (slice_get xs i ≡ Some x)
 found_at [] i h = absurd (let none : ⊥ = omega (arith, h) in none)
@@ -60,7 +60,7 @@ found_at (x ∷ xs) (suc i) h = found_at xs i (omega (arith, h))
 
 pub stands_at : (t : Task) (r : ℕ) (b : Built) (e s : ℕ) → IsProtocol t r b → e < length b.scopes → slice_get b.simplices e ≡ Some s → StandsAt t r e s
 stands_at t r b e s h inside on =
-    let x = found_at (executions t r) e (omega (arith, inside, long_scopes t r b h)) in
+    let x = found_at (executions t r) e (omega (arith, inside, as_many_executions t r b h)) in
     let left : slice_get (map (slice_get t.delta) (simplices_of t r)) e ≡ Some (slice_get t.delta s) =
     slice_get-map (slice_get t.delta) (simplices_of t r) e ∙ ap (λ ns. option_map (slice_get t.delta) (slice_get ns e)) (sym h.simplices_are) ∙ ap (option_map (slice_get t.delta)) on in
     let right : slice_get (map (λ e. Some e.rule) (executions t r)) e ≡ Some (Some x.0.rule) =

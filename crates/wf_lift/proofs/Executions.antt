@@ -78,7 +78,7 @@ as_many_words ws (suc k) o us h =
 abbrev with_words : Rule → List Word → Execution
 with_words rule ws = record { rule = rule; words = ws }
 
-length-on : (m r : ℕ) (rule : Rule) → length (executions_on m r rule) ≡ turns m (length rule.input) r
+pub length-on : (m r : ℕ) (rule : Rule) → length (executions_on m r rule) ≡ turns m (length rule.input) r
 length-on m r rule = length-map (lists_of (words m (length rule.input)) r) (with_words rule) ∙ length-lists_of m (length rule.input) r
 
 -- the stretch of an input simplex, by the executions on those before it

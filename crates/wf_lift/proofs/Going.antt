@@ -31,6 +31,7 @@ use Rattle.wf_lift.proofs.Executions.{StandsBefore, stands_before}
 use Rattle.wf_lift.proofs.Lifts.{map_twice, stands_at_first}
 use Rattle.wf_lift.proofs.Own.{Stands, stands_after, before_round}
 use Rattle.wf_lift.proofs.Places.{each_placed, as_many_numbers, each_numbered, there_within, of_mapped, in_mapped}
+use Rattle.wf_complex.proofs.Lemmas.{as_many_executions}
 
 -- ---- the point of so many rounds before
 
@@ -174,7 +175,7 @@ goes_on_from t r k b a before after few v at x s on there h =
         earlier_point = number w.earlier_view;
         is_there = subst (λ ps. v < length ps) (sym (after.points_are ∙ sym (appearances_points t (r + k)))) (omega (arith, slice_get_within (first_appearances t (r + k)) v at there, length-map (first_appearances t (r + k)) (λ a. a.point)));
         appears = ap (λ fs. slice_get fs v) after.firsts_are ∙ in_mapped (λ (a : Appearance). (a.execution, a.process)) (first_appearances t (r + k)) v at there;
-        within = omega (arith, slice_get_within (executions t (r + k)) at.execution x.execution x.there, scopes_long t (r + k) a after);
+        within = omega (arith, slice_get_within (executions t (r + k)) at.execution x.execution x.there, as_many_executions t (r + k) a after);
         on = on;
         stretches_there = h.stretch_there;
         begun = h.begun;
@@ -187,8 +188,6 @@ goes_on_from t r k b a before after few v at x s on there h =
       value = λ m. ap (lifted_by t k m) x.point ∙ lifted_by_is t k m (class t x.view) ∙ ap m (sym w.same_point) ∙ sym (value_at_number m ps (class t w.earlier_view) among);
     }
   where
-    scopes_long : (t : Task) (r : ℕ) (b : Built) → IsProtocol t r b → length b.scopes ≡ length (executions t r)
-    scopes_long t r b h = ap length h.scopes_are ∙ length-map (problem_of t r).constraints (λ k. k.scope) ∙ length-map (executions t r) (constraint_of t (points t r))
 
 module _ (t : Task) (r k : ℕ) (b a : Built) (before : IsProtocol t r b) (after : IsProtocol t (r + k) a) (few : length (executions t r) ≤ most_executions) where
   number_on : (e : ℕ) (x : Execution) → slice_get (executions t (r + k)) e ≡ Some x → (s : ℕ) × (slice_get a.simplices e ≡ Some s)

@@ -5,3 +5,4 @@ pub mod Places
 pub mod Executions
 pub mod Turns
 pub mod Going
+pub mod Lemmas

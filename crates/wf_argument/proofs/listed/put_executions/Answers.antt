@@ -3,9 +3,10 @@ use Rattle.wf_io.proofs.Putting.{IsPut, begun, went_on, stopped, all_put, can_go
 use Rattle.wf_model.specs.Execution.{executions}
 use Rattle.wf_model.specs.Problem.{problem_of}
 use Rattle.wf_argument.specs.Listing.{execution_line, executions_text}
-use Rattle.wf_argument.proofs.ExecutionPlaces.{as_many, as_many_executions}
+use Rattle.wf_argument.proofs.ExecutionPlaces.{as_many}
 use Rattle.wf_argument.proofs.Pieces.{all_numbers, next_number, no_number, numbers_left}
 use Rattle.wf_argument.proofs.listed.put_executions.Goals as goal
+use Rattle.wf_complex.proofs.Lemmas.{as_many_executions}
 
 pub loop-execution-init : goal.loop-execution-init
 loop-execution-init g c =
