@@ -9,3 +9,4 @@ pub mod Cutting
 pub mod Joined
 pub mod Small
 pub mod JoinedTruth
+pub mod Closing

@@ -84,7 +84,7 @@ abbrev pub JoinsAreTrue : Type 0
 JoinsAreTrue =
     (rounds : ℕ) (task task' parts parts' : Reading) (sink sink' : Writing)
     → Joins rounds task task' parts parts' sink sink' (Ok tt)
-    → (t : Task) × (body : Body) × GaveTask task task' t × HoldsOf t rounds body × Took sink sink' (text_of_report t rounds body) 0
+    → (t : Task) × (body : Body) × GaveTask task task' t × HoldsOf t rounds body × Wrote sink sink' (text_of_report t rounds body)
 
 -- of the report that was written a check that asks for these rounds says that it is accepted, where
 -- its text has at most as many bytes as a text may have
@@ -92,7 +92,7 @@ abbrev pub JoinsAreAccepted : Type 0
 JoinsAreAccepted =
     (rounds : ℕ) (task task' parts parts' : Reading) (sink sink' : Writing)
     → Joins rounds task task' parts parts' sink sink' (Ok tt)
-    → (t : Task) × (body : Body) × (text : List ℕ) × GaveTask task task' t × (text ≡ text_of_report t rounds body) × Took sink sink' text 0
+    → (t : Task) × (body : Body) × (text : List ℕ) × GaveTask task task' t × (text ≡ text_of_report t rounds body) × Wrote sink sink' text
     × (length text ≤ most_bytes → (answer : Result (Accepted × List ℕ) RunFault)
     → ChecksText (Some rounds) t text answer → Accepts (accepted_of body) answer)
 
