@@ -93,12 +93,12 @@ closes_last = (omega arith, λ rest. refl)
 
 closes_more : (l s : List ℕ) → IsLine l → same_text l end_line ≡ false → Closes s → Closes (l ++ s)
 closes_more l s is other closes = (
-      let k = length-append l s in omega (arith, k, closes.0),
-      λ rest.
+  let k = length-append l s in omega (arith, k, closes.0),
+  λ rest.
       let long : 0 < length (s ++ rest) = let k = length-append s rest in omega (arith, k, closes.0) in
       let assoc : (l ++ s) ++ rest ≡ l ++ (s ++ rest) = append_assoc l s rest in
       ap (λ text. part_length (10 ∷ text)) assoc ∙ starts l (s ++ rest) (length s) (is (s ++ rest)) other long (closes.1 rest) ∙ ap suc (sym (length-append l s)),
-    )
+)
 
 -- a line with numbers
 closes_line : (name ns s : List ℕ) → lacks 10 name ≡ true → AllByRecursion (λ n. n ≤ most_number) ns → same_text (line name ns) end_line ≡ false → Closes s → Closes (line name ns ++ s)
@@ -126,7 +126,7 @@ closes_values (a ∷ m) s h closes =
     let value : a ≤ most_number = omega (arith, h.0) in
     subst Closes (sym assoc) (closes_line (codes "m") (a ∷ []) (flat_map value_line m ++ s) refl (value, tt) refl (closes_values m s h.1 closes))
 
-step_of_line : (l : Line) → IsLineWithin l → IsStepWithin l
+pub step_of_line : (l : Line) → IsLineWithin l → IsStepWithin l
 step_of_line (remove e c a) h = h
 step_of_line (empty v) h = h
 step_of_line (branch v) h = h

@@ -68,9 +68,9 @@ module _ (t : Task) (r : ℕ) (Stops : RunFault → Type 0) (memory : Stops OutO
         | inr stopped ↦ inr stopped
         | inl goes ↦ elim (one_part t r Stops few (length lists) left body lists behind result there last
             (subst (λ j. Gathers t r (suc left) j lists (part_text t r (length lists) body ++ behind) result) here goes)) [
-          | inr stopped ↦ inr stopped
-          | inl more ↦ inl (left, more)
-        ]
+              | inr stopped ↦ inr stopped
+              | inl more ↦ inl (left, more)
+            ]
       ]
 
 -- what they come to where one has a map
@@ -206,7 +206,7 @@ module _ (asked : Form) (shows : asked ≢ form.Verdict) (t : Task) (r : ℕ) (i
       let each = map_within t r is within m lists ls is_least.decides refuted many (whole_map asked shows t r is lists refuted there m ls is_least leads) in
       let body = map_body asked (listed t r m) ls in
       elim (first_gathered t r Stops takes.memory (branches_few t r is) lists body rest gathered there (each_taken 0 lists (omega (arith, there)) refuted each.nones)
-          (takes.maps (length lists) m ls there is_least leads (of_form asked (listed t r m) lists ls each)) gathers) [
+      (takes.maps (length lists) m ls there is_least leads (of_form asked (listed t r m) lists ls each)) gathers) [
         | inr stopped ↦ inr stopped
         | inl goes ↦ inl (found_as asked (listed t r m) (lists ++ ls ∷ []), goes_to asked (listed t r m) ls (λ more. Gathers t r goes.0 (suc (length lists)) more rest) lists gathered goes.1, map_whole asked shows t r is lists refuted there m ls is_least leads)
       ]

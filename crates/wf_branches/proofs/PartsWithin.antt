@@ -22,6 +22,7 @@ use Rattle.wf_formula.specs.Branches.{branch_at, branches}
 use Rattle.wf_report.specs.Grammar.{IsBodyWithin, IsInGrammar, IsLineWithin, IsStepWithin}
 use Rattle.wf_engine.specs.Run.{HasComplex}
 use Rattle.wf_engine.proofs.Written.{least_within, none_within}
+use Rattle.wf_branches.proofs.Closing.{step_of_line}
 use Rattle.wf_branches.proofs.PartLists.{AreRefutationsFrom}
 
 -- ---- the lists that an outline is filled with
@@ -77,12 +78,6 @@ line_of_step (remove e c a) h other = h
 line_of_step (empty v) h other = h
 line_of_step (branch v) h other = h
 line_of_step found h other = absurd other
-
-step_of_line : (l : Line) → IsLineWithin l → IsStepWithin l
-step_of_line (remove e c a) h = h
-step_of_line (empty v) h = h
-step_of_line (branch v) h = h
-step_of_line found h = tt
 
 -- ---- reports of the branches
 

@@ -1,5 +1,5 @@
 -- A part that a search wrote is read as the report that stands in it.
-use Rattle.std.proofs.Common.{◌≡◌, ◌∙◌, ◌⊎◌, inl, inr, ◌+◌, ◌<◌, ℕ, List, ◌++◌, length, length-append, None, Result, Ok, Err, refl, sym, ap, subst, arith}
+use Rattle.std.proofs.Common.{◌≡◌, ◌∙◌, ◌⊎◌, inl, inr, ◌<◌, ℕ, List, ◌++◌, length, None, Result, Ok, Err, refl, sym, ap, subst}
 use Rattle.std.proofs.lemmas.List.{append_cancel_left}
 use Rattle.wf_model.specs.Limits.{most_bytes}
 use Rattle.wf_model.specs.Task.{Task}
@@ -64,14 +64,16 @@ module _ (t : Task) (r i : ℕ) (body : Body) (within : IsWithin t r body) where
 
   -- ---- where it is accepted
 
+  -- its report has more bytes than a text may have
+  abbrev IsLong : Type 0
+  IsLong = most_bytes < length (text_of_report t r body)
+
   -- its text is read, or is too long
-  unread : (e : RunFault) → IsPartOf i Count (part_text t r i body) (Err e) → (e ≡ run.OutOfMemory) ⊎ ((e ≡ run.TooLong) × (most_bytes < length (part_text t r i body)))
+  unread : (e : RunFault) → IsPartOf i Count (part_text t r i body) (Err e) → (e ≡ run.OutOfMemory) ⊎ ((e ≡ run.TooLong) × (IsLong))
   unfolding text_of_report
   unread run.OtherPart is = absurd (is (report_text (report_about t r body)) refl)
   unread run.OutOfMemory is = inl refl
-  unread run.TooLong (rest, begins, long) =
-      let whole : length (part_text t r i body) ≡ length (part_head i Count) + length rest = ap length begins ∙ length-append (part_head i Count) rest in
-      inr (refl, omega (arith, whole, long))
+  unread run.TooLong (rest, begins, long) = inr (refl, subst (λ x. most_bytes < length x) (behind_head rest begins) long)
   unread (run.Cert (amiss.Syntax k)) (rest, begins, bad) =
       let known = its_report rest begins in
       absurd (let never : ⊥ = cc in never)
@@ -87,14 +89,14 @@ module _ (t : Task) (r i : ℕ) (body : Body) (within : IsWithin t r body) where
 
     -- why it is refused by itself
     refused_alone : (report : Result Report RunFault) (e : RunFault) → IsPartOf i Count (part_text t r i body) report → Next (AcceptsBody i t r) report (Err e)
-        → (e ≡ run.OutOfMemory) ⊎ ((e ≡ run.TooLong) × (most_bytes < length (part_text t r i body)))
+        → (e ≡ run.OutOfMemory) ⊎ ((e ≡ run.TooLong) × (IsLong))
     refused_alone (Ok report) e is next = inl (unchecked e (subst (λ x. ChecksIn i t r x (Err e)) (read_part report is) next))
     refused_alone (Err f) e is next =
         let same : e ≡ f = cc in
-        subst (λ x. (x ≡ run.OutOfMemory) ⊎ ((x ≡ run.TooLong) × (most_bytes < length (part_text t r i body)))) (sym same) (unread f is)
+        subst (λ x. (x ≡ run.OutOfMemory) ⊎ ((x ≡ run.TooLong) × (IsLong))) (sym same) (unread f is)
 
-    module _ (Stops : RunFault → Type 0) (memory : Stops run.OutOfMemory) (long : most_bytes < length (part_text t r i body) → Stops (run.InPart i (part.Report amiss.TooLong))) where
-      stops : (e : RunFault) → (e ≡ run.OutOfMemory) ⊎ ((e ≡ run.TooLong) × (most_bytes < length (part_text t r i body))) → Stops (in_part i e)
+    module _ (Stops : RunFault → Type 0) (memory : Stops run.OutOfMemory) (long : IsLong → Stops (run.InPart i (part.Report amiss.TooLong))) where
+      stops : (e : RunFault) → (e ≡ run.OutOfMemory) ⊎ ((e ≡ run.TooLong) × (IsLong)) → Stops (in_part i e)
       stops e (inl same) = subst (λ x. Stops (in_part i x)) (sym same) memory
       stops e (inr why) = subst (λ x. Stops (in_part i x)) (sym why.0) (long why.1)
 

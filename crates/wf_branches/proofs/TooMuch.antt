@@ -34,12 +34,12 @@ module _ (t : Task) (r : ℕ) (asked : Form) (found : Outcome) (is : IsTask t) (
     nones = λ i ls there refuted inside. record {
       within = inside;
       takes = taken_unless t r i (none ls) inside (none_accepted t r is i there ls refuted) (AreTooMuch asked t r found) tt
-          (λ long. (outcome.Nothing, part_text t r i (none ls), there, (ls, refuted, ap (part_text t r i) (sym (shown asked shows ls))), long));
+          (λ long. (outcome.Nothing, none ls, there, (ls, refuted, ap (part_text t r i) (sym (shown asked shows ls))), long));
     };
     maps = λ i m ls there least leads inside. record {
       within = inside;
       takes = taken_unless t r i (map_body asked (listed t r m) ls) inside (map_accepted t r is i there m ls least leads asked) (AreTooMuch asked t r found) tt
-          (λ long. (outcome.Map, part_text t r i (map_body asked (listed t r m) ls), there, (m, ls, least, leads, refl), long));
+          (λ long. (outcome.Map, map_body asked (listed t r m) ls, there, (m, ls, least, leads, refl), long));
     };
   }
 

@@ -6,7 +6,7 @@ use Rattle.wf_model.specs.Task.{Task, IsTask}
 use Rattle.wf_model.specs.DecisionMap.{HasNoDecisionMap}
 use Rattle.wf_formula.specs.Branches.{branches}
 use Rattle.wf_io.specs.Seen.{Reading, Writing}
-use Rattle.wf_io.specs.Texts.{Wrote}
+use Rattle.wf_io.specs.Texts.{Gave, Wrote}
 use Rattle.wf_engine.specs.Headline.{GaveTask}
 use Rattle.wf_check.specs.Truth.{HoldsOf}
 use Rattle.wf_engine.specs.Laws.{Accepts, IsChecked, IsCounted}
@@ -113,6 +113,16 @@ PartsOfSearchesJoinToTheWhole =
     (t : Task) (r : ℕ) (asked : Form) (found : Outcome) (parts text : List ℕ)
     → asked ≢ form.Verdict → HasPartsOf asked t r found parts
     → JoinsText t r parts (Ok (tt, text)) → IsWholeText asked t r found text
+
+-- where parts were joined that searches of the branches wrote in one of these forms, the sources
+-- gave the bytes of a task and of the parts, and the sink took the text that a search of the whole
+-- question writes in that form, to the byte
+abbrev pub JoinsOfSearchesAreWhole : Type 0
+JoinsOfSearchesAreWhole =
+    (rounds : ℕ) (task task' parts parts' : Reading) (sink sink' : Writing)
+    → Joins rounds task task' parts parts' sink sink' (Ok tt)
+    → (t : Task) × (given : List ℕ) × (text : List ℕ) × GaveTask task task' t × Gave parts parts' given 0 × Wrote sink sink' text
+    × ((asked : Form) (found : Outcome) → asked ≢ form.Verdict → HasPartsOf asked t rounds found given → IsWholeText asked t rounds found text)
 
 -- such parts are joined, unless there is too much of them
 abbrev pub PartsOfSearchesAreJoined : Type 0

@@ -17,7 +17,7 @@ use Rattle.wf_engine.specs.declared.fault.PartFault.TheVariants as part
 use Rattle.wf_engine.specs.declared.fault.RunFault.{RunFault}
 use Rattle.wf_engine.specs.declared.fault.RunFault.TheVariants.{InPart, OutOfMemory, TooLong}
 use Rattle.wf_branches.specs.Branches.{HasBranch}
-use Rattle.wf_branches.specs.Solving.{IsSolvedIn}
+use Rattle.wf_branches.specs.Solving.{IsSolvedIn, part_text}
 use Rattle.wf_branches.specs.Joining.{lines_in}
 
 -- what searches of the branches from branch i on write, a part for each: none of them has a map
@@ -41,12 +41,12 @@ pub record IsWholeText (asked : Form) (t : Task) (r : ℕ) (found : Outcome) (te
   pub one : (other : Outcome) (account : Account) (whole : List ℕ) → IsSolved asked t r (other, account) whole → (other ≡ found) × (whole ≡ text)
 
 -- Why such parts are not joined: memory ran out; the report that a search of the whole question
--- writes has more lines than can be numbered; or the part of a branch has more bytes than a text
--- may have.
+-- writes has more lines than can be numbered; or the report in the part of a branch has more bytes
+-- than a text may have.
 abbrev pub AreTooMuch : Form → Task → ℕ → Outcome → RunFault → Type 0
 AreTooMuch asked t r found OutOfMemory = Unit {0}
 AreTooMuch asked t r found TooLong =
     (body : Body) × (account : Account) × IsSolved asked t r (found, account) (text_of_report t r body) × (AreNumbered (lines_in body) → ⊥)
 AreTooMuch asked t r found (InPart i (part.Report amiss.TooLong)) =
-    (had : Outcome) × (text : List ℕ) × HasBranch t r i × IsSolvedIn asked t r i had text × (most_bytes < length text)
+    (had : Outcome) × (body : Body) × HasBranch t r i × IsSolvedIn asked t r i had (part_text t r i body) × (most_bytes < length (text_of_report t r body))
 AreTooMuch asked t r found e = ⊥
