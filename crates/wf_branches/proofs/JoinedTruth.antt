@@ -18,7 +18,7 @@ use Rattle.wf_model.proofs.WellFormed.{task_well_formed}
 use Rattle.wf_formula.specs.Branches.{branches}
 use Rattle.wf_io.specs.Seen.{Reading}
 use Rattle.wf_io.specs.Texts as io
-use Rattle.wf_io.specs.Texts.{Took}
+use Rattle.wf_io.specs.Texts.{Wrote}
 use Rattle.wf_io.specs.declared.source.ReadFault.{ReadFault}
 use Rattle.wf_io.specs.declared.source.ReadFault.TheVariants as read
 use Rattle.wf_report.specs.Grammar.{IsInGrammar, IsBodyWithin, IsLineWithin, IsStepWithin}
@@ -63,7 +63,7 @@ pub joins_true : JoinsAreTrue
 joins_true r task task' parts parts' sink sink' ran =
     let end = done ReadsParts r task task' parts parts' sink sink' ran in
     let joined = of_text end.t r parts parts' end.text end.read.0 end.read.2 in
-    (end.t, joined_body (outline (problem_of end.t r)) joined.gathered, end.given, joined.faultless.holds, subst (λ text. Took sink sink' text 0) joined.is end.took)
+    (end.t, joined_body (outline (problem_of end.t r)) joined.gathered, end.given, joined.faultless.holds, subst (λ text. Wrote sink sink' text) joined.is end.wrote)
 
 -- ---- the values in the lines of parts
 
@@ -152,7 +152,7 @@ joins_accepted r task task' parts parts' sink sink' ran =
     let within = joined.faultless.within in
     let is = within.1.2.task in
     let grammar = joined_within t r is within joined.gathered (gathered_small t r (length (branches t r)) 0 [] joined.given joined.gathered tt joined.gathers) joined.faultless in
-    (t, body, end.text, end.given, joined.is, end.took, λ short answer checks. body_accepted t r (Some r) body end.text answer refl grammar within joined.faultless.faultless joined.is short checks)
+    (t, body, end.text, end.given, joined.is, end.wrote, λ short answer checks. body_accepted t r (Some r) body end.text answer refl grammar within joined.faultless.faultless joined.is short checks)
 
 -- ---- counts
 

@@ -9,3 +9,15 @@ pub mod Cutting
 pub mod Joined
 pub mod Small
 pub mod JoinedTruth
+pub mod Closing
+pub mod RefutingLines
+pub mod BranchChecks
+pub mod FewBranches
+pub mod Canonical
+pub mod PartLists
+pub mod PartsWithin
+pub mod Gathering
+pub mod Taking
+pub mod Joinable
+pub mod Whole
+pub mod TooMuch

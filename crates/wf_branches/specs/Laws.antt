@@ -1,27 +1,30 @@
 -- What runs over branches say, and what holds after each.
-use Rattle.std.specs.Prelude.{◌≡◌, ◌≤◌, ℕ, List, length, Some, Result, Ok}
+use Rattle.std.specs.Prelude.{◌≡◌, ◌≢◌, ◌≤◌, ℕ, List, length, Some, Result, Ok, Err}
 use Rattle.wf_model.specs.Limits.{most_bytes}
 use Rattle.wf_model.specs.Report.{Body}
 use Rattle.wf_model.specs.Task.{Task, IsTask}
 use Rattle.wf_model.specs.DecisionMap.{HasNoDecisionMap}
 use Rattle.wf_formula.specs.Branches.{branches}
 use Rattle.wf_io.specs.Seen.{Reading, Writing}
-use Rattle.wf_io.specs.Texts.{Wrote}
+use Rattle.wf_io.specs.Texts.{Gave, Wrote}
 use Rattle.wf_engine.specs.Headline.{GaveTask}
 use Rattle.wf_check.specs.Truth.{HoldsOf}
 use Rattle.wf_engine.specs.Laws.{Accepts, IsChecked, IsCounted}
 use Rattle.wf_engine.specs.Proofs.{most_proof_bytes}
+use Rattle.wf_engine.specs.Run.{HasComplex}
 use Rattle.wf_engine.specs.Texts.{text_of_report}
 use Rattle.wf_engine.specs.Verify.{ChecksText, accepted_of, accepted_words}
 use Rattle.wf_engine.specs.declared.outcome.Accepted.{Accepted}
 use Rattle.wf_engine.specs.declared.fault.RunFault.{RunFault}
 use Rattle.wf_engine.specs.declared.outcome.Outcome.{Outcome}
 use Rattle.wf_report.specs.declared.form.Form.{Form}
+use Rattle.wf_report.specs.declared.form.Form.TheVariants as form
 use Rattle.wf_branches.specs.Branches.{HasBranch, ListsBranch}
 use Rattle.wf_branches.specs.Refuting.{HasNoMapIn, RefutesBranch, accepted_in, accepted_text}
 use Rattle.wf_branches.specs.Solving.{IsSolvedIn, SolvesBranch}
 use Rattle.wf_branches.specs.Verifying.{HoldsIn, VerifiesBranch}
-use Rattle.wf_branches.specs.Joining.{Joins, most_parts_bytes}
+use Rattle.wf_branches.specs.Joining.{Joins, JoinsText, most_parts_bytes}
+use Rattle.wf_branches.specs.Searched.{AreTooMuch, HasPartsOf, IsWholeText}
 
 -- where branch i was searched, the source gave the bytes of a task, the
 -- branch is there, and the sink took what its search answers: the part of the
@@ -84,7 +87,7 @@ abbrev pub JoinsAreTrue : Type 0
 JoinsAreTrue =
     (rounds : ℕ) (task task' parts parts' : Reading) (sink sink' : Writing)
     → Joins rounds task task' parts parts' sink sink' (Ok tt)
-    → (t : Task) × (body : Body) × GaveTask task task' t × HoldsOf t rounds body × Took sink sink' (text_of_report t rounds body) 0
+    → (t : Task) × (body : Body) × GaveTask task task' t × HoldsOf t rounds body × Wrote sink sink' (text_of_report t rounds body)
 
 -- of the report that was written a check that asks for these rounds says that it is accepted, where
 -- its text has at most as many bytes as a text may have
@@ -92,7 +95,7 @@ abbrev pub JoinsAreAccepted : Type 0
 JoinsAreAccepted =
     (rounds : ℕ) (task task' parts parts' : Reading) (sink sink' : Writing)
     → Joins rounds task task' parts parts' sink sink' (Ok tt)
-    → (t : Task) × (body : Body) × (text : List ℕ) × GaveTask task task' t × (text ≡ text_of_report t rounds body) × Took sink sink' text 0
+    → (t : Task) × (body : Body) × (text : List ℕ) × GaveTask task task' t × (text ≡ text_of_report t rounds body) × Wrote sink sink' text
     × (length text ≤ most_bytes → (answer : Result (Accepted × List ℕ) RunFault)
     → ChecksText (Some rounds) t text answer → Accepts (accepted_of body) answer)
 
@@ -101,3 +104,29 @@ JoiningIsCounted =
     (rounds : ℕ) (task task' parts parts' : Reading) (sink sink' : Writing) (result : Result (Unit {0}) RunFault)
     → Joins rounds task task' parts parts' sink sink' result
     → IsChecked most_parts_bytes task task' parts parts' sink sink' result
+
+-- What is joined of the parts that searches of the branches wrote, in the full or the least form,
+-- is the text that a search of the whole question writes in that form, to the byte: the report of
+-- the least decision map, or of none with the lines of the search.
+abbrev pub PartsOfSearchesJoinToTheWhole : Type 0
+PartsOfSearchesJoinToTheWhole =
+    (t : Task) (r : ℕ) (asked : Form) (found : Outcome) (parts text : List ℕ)
+    → asked ≢ form.Verdict → HasPartsOf asked t r found parts
+    → JoinsText t r parts (Ok (tt, text)) → IsWholeText asked t r found text
+
+-- where parts were joined that searches of the branches wrote in one of these forms, the sources
+-- gave the bytes of a task and of the parts, and the sink took the text that a search of the whole
+-- question writes in that form, to the byte
+abbrev pub JoinsOfSearchesAreWhole : Type 0
+JoinsOfSearchesAreWhole =
+    (rounds : ℕ) (task task' parts parts' : Reading) (sink sink' : Writing)
+    → Joins rounds task task' parts parts' sink sink' (Ok tt)
+    → (t : Task) × (given : List ℕ) × (text : List ℕ) × GaveTask task task' t × Gave parts parts' given 0 × Wrote sink sink' text
+    × ((asked : Form) (found : Outcome) → asked ≢ form.Verdict → HasPartsOf asked t rounds found given → IsWholeText asked t rounds found text)
+
+-- such parts are joined, unless there is too much of them
+abbrev pub PartsOfSearchesAreJoined : Type 0
+PartsOfSearchesAreJoined =
+    (t : Task) (r : ℕ) (asked : Form) (found : Outcome) (parts : List ℕ) (e : RunFault)
+    → IsTask t → HasComplex t r → asked ≢ form.Verdict → HasPartsOf asked t r found parts
+    → JoinsText t r parts (Err e) → AreTooMuch asked t r found e

@@ -5,4 +5,5 @@ pub mod Refuting
 pub mod Solving
 pub mod Verifying
 pub mod Joining
+pub mod Searched
 pub mod Laws

@@ -1,7 +1,7 @@
 //! Laws of runs over branches: that what they say is true, what all of them
 //! together come to, and what holds after each.
 
-ghost use Rattle.wf_branches.specs.Laws.{BranchAnswersAreTrue, BranchesCoverAllMaps, BranchProvingIsCounted, BranchRefutationsAreTrue, BranchSolvingIsCounted, JoiningIsCounted, JoinsAreAccepted, JoinsAreTrue, ListingBranchesIsCounted, PartAcceptancesAreTrue, PartCheckingIsCounted};
+ghost use Rattle.wf_branches.specs.Laws.{BranchAnswersAreTrue, BranchesCoverAllMaps, BranchProvingIsCounted, BranchRefutationsAreTrue, BranchSolvingIsCounted, JoiningIsCounted, JoinsAreAccepted, JoinsAreTrue, JoinsOfSearchesAreWhole, ListingBranchesIsCounted, PartAcceptancesAreTrue, PartCheckingIsCounted, PartsOfSearchesAreJoined, PartsOfSearchesJoinToTheWhole};
 
 /// Where no decision map lies in any branch of a task's question, no function
 /// on the views is a decision map.
@@ -73,4 +73,24 @@ pub fn joins_are_accepted()
 /// is refused for anything but a failed write.
 pub fn joining_is_counted()
     ensures { JoiningIsCounted }
+{}
+
+/// What is joined of the parts that searches of the branches wrote, in the full or the least form
+/// and in the order of the branches, is the very text that a search of the whole question writes in
+/// that form. Where a branch has a map, anything may stand behind the part of the first such one.
+pub fn parts_of_searches_join_to_the_whole()
+    ensures { PartsOfSearchesJoinToTheWhole }
+{}
+
+/// Where such parts are joined in a run, its sources gave the bytes of a task and of the parts, and
+/// the sink took the text that a search of the whole question writes in that form.
+pub fn joins_of_searches_are_whole()
+    ensures { JoinsOfSearchesAreWhole }
+{}
+
+/// Such parts are joined: what is told in place of that is that memory ran out, that the report of
+/// the whole question has more lines than can be numbered, or that the report in a part has more
+/// bytes than a text may have.
+pub fn parts_of_searches_are_joined()
+    ensures { PartsOfSearchesAreJoined }
 {}

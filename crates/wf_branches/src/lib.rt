@@ -32,8 +32,9 @@ pub use joining::run_join;
 pub use laws::{
     branch_answers_are_true, branch_proving_is_counted, branch_refutations_are_true,
     branch_solving_is_counted, branches_cover_all_maps, joining_is_counted, joins_are_accepted,
-    joins_are_true, listing_branches_is_counted, part_acceptances_are_true,
-    part_checking_is_counted,
+    joins_are_true, joins_of_searches_are_whole, listing_branches_is_counted,
+    part_acceptances_are_true, part_checking_is_counted, parts_of_searches_are_joined,
+    parts_of_searches_join_to_the_whole,
 };
 pub use listing::run_branches;
 pub use refuting::run_proof_branch;

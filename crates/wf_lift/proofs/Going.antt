@@ -187,7 +187,6 @@ goes_on_from t r k b a before after few v at x s on there h =
       };
       value = λ m. ap (lifted_by t k m) x.point ∙ lifted_by_is t k m (class t x.view) ∙ ap m (sym w.same_point) ∙ sym (value_at_number m ps (class t w.earlier_view) among);
     }
-  where
 
 module _ (t : Task) (r k : ℕ) (b a : Built) (before : IsProtocol t r b) (after : IsProtocol t (r + k) a) (few : length (executions t r) ≤ most_executions) where
   number_on : (e : ℕ) (x : Execution) → slice_get (executions t (r + k)) e ≡ Some x → (s : ℕ) × (slice_get a.simplices e ≡ Some s)
