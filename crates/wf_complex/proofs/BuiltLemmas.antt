@@ -21,7 +21,7 @@ use Rattle.wf_view.proofs.Lemmas.{number_of-at}
 use Rattle.wf_complex.specs.declared.layout.Execution.{Execution}
 use Rattle.wf_complex.specs.Rounds.{views_at, leaves_of}
 use Rattle.wf_complex.specs.Layout.{laid_out}
-use Rattle.wf_complex.specs.Places.{part_of, processes_on, marks_on}
+use Rattle.wf_complex.specs.Places.{part_of, processes_on, places_on}
 use Rattle.wf_complex.specs.Classes.{class_by}
 use Rattle.wf_complex.specs.Numbering.{same_at, first_places}
 use Rattle.wf_complex.specs.ProtocolSeen.{firsts_seen, scopes_seen}
@@ -82,19 +82,19 @@ their_processes t r =
 abbrev at_appearance : Appearance → ℕ × ℕ
 at_appearance a = (a.execution, a.process)
 
-marks_along : (t : Task) (inputs : List Simplex) (k : ℕ) (es : List Execution) (xs : List model.Execution) → map (processes_on inputs) es ≡ map (λ x. map process_of (last_views x)) xs →
-    flat_map (marks_on inputs) (enumerate_from k es) ≡ map at_appearance (flat_map (appearances_in t) (enumerate_from k xs))
-marks_along t inputs k [] [] h = refl
-marks_along t inputs k [] (x ∷ xs) h = absurd (let none : ⊥ = cc in none)
-marks_along t inputs k (e ∷ es) [] h = absurd (let none : ⊥ = cc in none)
-marks_along t inputs k (e ∷ es) (x ∷ xs) h =
+places_along : (t : Task) (inputs : List Simplex) (k : ℕ) (es : List Execution) (xs : List model.Execution) → map (processes_on inputs) es ≡ map (λ x. map process_of (last_views x)) xs →
+    flat_map (places_on inputs) (enumerate_from k es) ≡ map at_appearance (flat_map (appearances_in t) (enumerate_from k xs))
+places_along t inputs k [] [] h = refl
+places_along t inputs k [] (x ∷ xs) h = absurd (let none : ⊥ = cc in none)
+places_along t inputs k (e ∷ es) [] h = absurd (let none : ⊥ = cc in none)
+places_along t inputs k (e ∷ es) (x ∷ xs) h =
     let first : processes_on inputs e ≡ map process_of (last_views x) = cc in
     let rest : map (processes_on inputs) es ≡ map (λ y. map process_of (last_views y)) xs = cc in
-    let head : marks_on inputs (k, e) ≡ map at_appearance (appearances_in t (k, x)) =
+    let head : places_on inputs (k, e) ≡ map at_appearance (appearances_in t (k, x)) =
     ap (map (λ c. (k, c))) first
     ∙ map-map (λ c. (k, c)) process_of (last_views x)
     ∙ sym (map-map at_appearance (λ v. record { point = class t v; execution = k; process = process_of v }) (last_views x)) in
-    (λ i. head i ++ marks_along t inputs (k + 1) es xs rest i)
+    (λ i. head i ++ places_along t inputs (k + 1) es xs rest i)
     ∙ sym (map-append at_appearance (appearances_in t (k, x)) (flat_map (appearances_in t) (enumerate_from (k + 1) xs)))
 
 points_along : (t : Task) (k : ℕ) (xs : List model.Execution) → map (λ (a : Appearance). a.point) (flat_map (appearances_in t) (enumerate_from k xs)) ≡ flat_map (classes t) xs
@@ -170,7 +170,7 @@ module _ (t : Task) (r : ℕ) (table : List View) (lasts : List ℕ) (made : vie
 
     pub firsts_are : firsts_seen (inputs t) laid firsts ≡ map (λ a. (a.execution, a.process)) (first_appearances t r)
     firsts_are =
-        (λ i. map (λ j. get_or (marks_along t (inputs t) 0 laid (executions t r) (their_processes t r) i) j (0, 0)) firsts)
+        (λ i. map (λ j. get_or (places_along t (inputs t) 0 laid (executions t r) (their_processes t r) i) j (0, 0)) firsts)
         ∙ (λ i. map (λ j. list.get_or-map at_appearance appearances j nowhere i) firsts)
         ∙ sym (map-map at_appearance (λ j. get_or appearances j nowhere) firsts)
         ∙ ap (map at_appearance) (sym appearing_first)

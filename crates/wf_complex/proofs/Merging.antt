@@ -61,7 +61,7 @@ module _ {X : Type 0} where
               rw other (distinct_filter xs ∙ sym (rw (fewer x other) (filter_within p test (away x (fewer x other)) (distinct same xs))))
         ]
 
-  -- the different ones by a number of their own, and of these the different ones by what that number leads to
+  -- the different ones by a number, and of these the different ones by what the number leads to
   pub distinct_coarser : (f : X → ℕ) (g : ℕ → ℕ) (xs : List X) → distinct (λ x y. g (f x) == g (f y)) (distinct (λ x y. f x == f y) xs) ≡ distinct (λ x y. g (f x) == g (f y)) xs
   distinct_coarser f g [] = refl
   distinct_coarser f g (x ∷ xs) =

@@ -8,7 +8,7 @@ use Rattle.std.proofs.lemmas.Slice.Zip.{seconds-zip}
 use Rattle.std.proofs.lemmas.Bool.{cases_Bool}
 use Rattle.wf_model.specs.Simplex.{Simplex, processes_of}
 use Rattle.wf_complex.specs.declared.layout.Execution.{Execution}
-use Rattle.wf_complex.specs.Places.{part_of, EndsBy, LieFrom, BelongsTo, IsOn, processes_on, scope_on, marks_on, marks_on_all}
+use Rattle.wf_complex.specs.Places.{part_of, EndsBy, LieFrom, BelongsTo, IsOn, processes_on, scope_on, places_on, places_on_all}
 use Rattle.wf_complex.specs.ProtocolSeen.{firsts_seen, scopes_seen}
 use Rattle.wf_complex.specs.Protocol.{point_in}
 use Rattle.wf_complex.proofs.Lying.{all_end, lie_after}
@@ -80,54 +80,54 @@ scope_there inputs numbers es k e h = ap (zip (processes_on inputs e)) (sym (poi
 
 -- ---- the execution and the process of a place
 
-mark_here : (inputs : List Simplex) (k n i : ℕ) (e : Execution) → IsOn inputs e → k ≡ n → i < e.size → get_or (marks_on inputs (k, e)) i (0, 0) ≡ (n, get_or (processes_on inputs e) i 0)
-mark_here inputs k n i e on same low =
+place_here : (inputs : List Simplex) (k n i : ℕ) (e : Execution) → IsOn inputs e → k ≡ n → i < e.size → get_or (places_on inputs (k, e)) i (0, 0) ≡ (n, get_or (processes_on inputs e) i 0)
+place_here inputs k n i e on same low =
     get_or-map (λ c. (k, c)) (processes_on inputs e) i 0 (0, 0) (omega (arith, low, length-processes_on inputs e on))
     ∙ ap (λ m. (m, get_or (processes_on inputs e) i 0)) same
 
-length-marks_on : (inputs : List Simplex) (k : ℕ) (e : Execution) → IsOn inputs e → length (marks_on inputs (k, e)) ≡ e.size
-length-marks_on inputs k e on = length-map (processes_on inputs e) (λ c. (k, c)) ∙ length-processes_on inputs e on
+length-places_on : (inputs : List Simplex) (k : ℕ) (e : Execution) → IsOn inputs e → length (places_on inputs (k, e)) ≡ e.size
+length-places_on inputs k e on = length-map (processes_on inputs e) (λ c. (k, c)) ∙ length-processes_on inputs e on
 
-pub mark_there : (inputs : List Simplex) (k first end place : ℕ) (es : List Execution) → LieFrom first end es → AllByRecursion (IsOn inputs) es → (n : ℕ) (d : Execution) → n < length es →
+pub place_there : (inputs : List Simplex) (k first end place : ℕ) (es : List Execution) → LieFrom first end es → AllByRecursion (IsOn inputs) es → (n : ℕ) (d : Execution) → n < length es →
     (get_or es n d).place ≤ place → place < (get_or es n d).place + (get_or es n d).size →
-    get_or (flat_map (marks_on inputs) (enumerate_from k es)) (place - first) (0, 0) ≡ (k + n, get_or (processes_on inputs (get_or es n d)) (place - (get_or es n d).place) 0)
-mark_there inputs k first end place [] lying on n d inside low high = absurd (let none : ⊥ = omega (arith, inside) in none)
-mark_there inputs k first end place (e ∷ es) lying on zero d inside low high =
-    let rest = flat_map (marks_on inputs) (enumerate_from (k + 1) es) in
+    get_or (flat_map (places_on inputs) (enumerate_from k es)) (place - first) (0, 0) ≡ (k + n, get_or (processes_on inputs (get_or es n d)) (place - (get_or es n d).place) 0)
+place_there inputs k first end place [] lying on n d inside low high = absurd (let none : ⊥ = omega (arith, inside) in none)
+place_there inputs k first end place (e ∷ es) lying on zero d inside low high =
+    let rest = flat_map (places_on inputs) (enumerate_from (k + 1) es) in
     let same : place - first ≡ place - e.place = ap (λ p. place - p) (sym lying.0) in
     let short : place - e.place < e.size = omega (arith, low, high) in
     let number : k ≡ k + 0 = omega arith in
-    ap (λ i. get_or (marks_on inputs (k, e) ++ rest) i (0, 0)) same
-    ∙ get_or_append_left (marks_on inputs (k, e)) rest (0, 0) (place - e.place) (omega (arith, short, length-marks_on inputs k e on.0))
-    ∙ mark_here inputs k (k + 0) (place - e.place) e on.0 number short
-mark_there inputs k first end place (e ∷ es) lying on (suc n) d inside low high =
-    let rest = flat_map (marks_on inputs) (enumerate_from (k + 1) es) in
+    ap (λ i. get_or (places_on inputs (k, e) ++ rest) i (0, 0)) same
+    ∙ get_or_append_left (places_on inputs (k, e)) rest (0, 0) (place - e.place) (omega (arith, short, length-places_on inputs k e on.0))
+    ∙ place_here inputs k (k + 0) (place - e.place) e on.0 number short
+place_there inputs k first end place (e ∷ es) lying on (suc n) d inside low high =
+    let rest = flat_map (places_on inputs) (enumerate_from (k + 1) es) in
     let f = get_or es n d in
     let within : n < length es = omega (arith, inside) in
     let later : first + e.size ≤ place = omega (arith, lie_after (first + e.size) end es lying.1 n d within, low) in
     let left : place - first - e.size ≡ place - (first + e.size) = omega arith in
     let number : (k + 1) + n ≡ k + suc n = omega arith in
-    get_or-append_right (marks_on inputs (k, e)) rest e.size (place - first) (0, 0) (length-marks_on inputs k e on.0) (omega (arith, later))
+    get_or-append_right (places_on inputs (k, e)) rest e.size (place - first) (0, 0) (length-places_on inputs k e on.0) (omega (arith, later))
     ∙ ap (λ i. get_or rest i (0, 0)) left
-    ∙ mark_there inputs (k + 1) (first + e.size) end place es lying.1 on.1 n d within low high
+    ∙ place_there inputs (k + 1) (first + e.size) end place es lying.1 on.1 n d within low high
     ∙ ap (λ m. (m, get_or (processes_on inputs f) (place - f.place) 0)) number
 
 -- what is seen of the first place of a point
 pub first_there : (inputs : List Simplex) (end : ℕ) (es : List Execution) (firsts : List ℕ) (point place k : ℕ) (e : Execution) (s : Simplex) → LieFrom 0 end es → All (IsOn inputs) es → point < length firsts →
     place ≡ get_or firsts point place → BelongsTo place es k → e ≡ get_or es k e → s ≡ get_or inputs e.simplex s → slice_get (firsts_seen inputs es firsts) point ≡ Some (k, get_or (processes_of s) (place - e.place) 0)
 first_there inputs end es firsts point place k e s lying on low is at there input =
-    let seen : ℕ → ℕ × ℕ = λ j. get_or (marks_on_all inputs es) j (0, 0) in
+    let seen : ℕ → ℕ × ℕ = λ j. get_or (places_on_all inputs es) j (0, 0) in
     let inside : k < length es = slice_get_within es k at.execution at.there in
     let same : get_or es k e ≡ at.execution = got es k at.execution e at.there in
     let here : IsOn inputs e = subst (IsOn inputs) (sym there) (All-get_or (IsOn inputs) es k e inside on) in
     let place_is : place - 0 ≡ place = omega arith in
     let number : 0 + k ≡ k = omega arith in
-    let mark =
-    mark_there inputs 0 0 end place es lying (recursion_from_All (IsOn inputs) es on) k e inside
+    let found =
+    place_there inputs 0 0 end place es lying (recursion_from_All (IsOn inputs) es on) k e inside
     (omega (arith, at.begun, ap (λ (d : Execution). d.place) same))
     (omega (arith, at.before_its_end, ap (λ (d : Execution). d.place + d.size) same)) in
     slice_get-map seen firsts point
     ∙ ap (option_map seen) (slice_get-get_or firsts point place low ∙ ap (λ j. Some j) (sym is))
-    ∙ ap (λ m. Some m) (ap seen (sym place_is) ∙ mark)
+    ∙ ap (λ m. Some m) (ap seen (sym place_is) ∙ found)
     ∙ (λ i. Some (number i, get_or (processes_on inputs (sym there i)) (place - (sym there i).place) 0))
     ∙ ap (λ (t : Simplex). Some (k, get_or (processes_of t) (place - e.place) 0)) (sym (input_there inputs e s here input))

@@ -37,9 +37,9 @@ abbrev pub scope_on : List Simplex → List ℕ → Execution → List (ℕ × �
 scope_on inputs numbers e = zip (processes_on inputs e) (part_of numbers e)
 
 -- the execution and the process of each place of an execution that has a number
-abbrev pub marks_on : List Simplex → ℕ × Execution → List (ℕ × ℕ)
-marks_on inputs at = map (λ c. (at.0, c)) (processes_on inputs at.1)
+abbrev pub places_on : List Simplex → ℕ × Execution → List (ℕ × ℕ)
+places_on inputs at = map (λ c. (at.0, c)) (processes_on inputs at.1)
 
 -- those of all places of these executions, numbered from 0 on
-abbrev pub marks_on_all : List Simplex → List Execution → List (ℕ × ℕ)
-marks_on_all inputs es = flat_map (marks_on inputs) (enumerate_from 0 es)
+abbrev pub places_on_all : List Simplex → List Execution → List (ℕ × ℕ)
+places_on_all inputs es = flat_map (places_on inputs) (enumerate_from 0 es)

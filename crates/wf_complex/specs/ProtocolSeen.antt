@@ -7,7 +7,7 @@ use Rattle.wf_model.specs.Simplex.{Simplex}
 use Rattle.wf_model.specs.View.{View}
 use Rattle.wf_model.specs.ViewCode.{view_list_code}
 use Rattle.wf_complex.specs.Rounds.{views_at}
-use Rattle.wf_complex.specs.Places.{LieFrom, IsOn, scope_on, marks_on_all}
+use Rattle.wf_complex.specs.Places.{LieFrom, IsOn, scope_on, places_on_all}
 use Rattle.wf_complex.specs.Protocol.{Built}
 use Rattle.wf_complex.specs.declared.layout.Execution.{Execution}
 use Rattle.wf_complex.specs.declared.protocol.Protocol.TheInside.{Inside}
@@ -27,7 +27,7 @@ points_seen table classes = views_at table classes
 
 -- the execution and the process at some places
 abbrev pub firsts_seen : List Simplex → List Execution → List ℕ → List (ℕ × ℕ)
-firsts_seen inputs executions firsts = map (λ j. slice_index_or (marks_on_all inputs executions) j (0, 0)) firsts
+firsts_seen inputs executions firsts = map (λ j. slice_index_or (places_on_all inputs executions) j (0, 0)) firsts
 
 -- the processes of each execution, each with its point
 abbrev pub scopes_seen : List Simplex → List ℕ → List Execution → List (List (ℕ × ℕ))

@@ -1,6 +1,6 @@
-//! The classes of the last views.
+//! The points: the classes of the last views.
 
-ghost use Rattle.std.specs.Prelude.{◌≡◌, ◌<◌, ◌≤◌, ◌+◌, ◌*◌, length, map, slice_index, All, IfOk, OnOk};
+ghost use Rattle.std.specs.Prelude.{◌≡◌, ◌<◌, ◌≤◌, ◌+◌, ◌*◌, length, map, All, IfOk, OnOk};
 ghost use Rattle.wf_model.specs.Lists.{distinct};
 ghost use Rattle.wf_model.specs.Limits.{most_number, most_points};
 ghost use Rattle.wf_model.specs.View.{same_view, normal};
@@ -13,7 +13,7 @@ use crate::numbering::number_all;
 use std::alloc::{AllocError, Global};
 use wf_view::Views;
 
-/// The points: the classes of the last views, in the order of first appearance.
+/// The points of the last views, in the order of first appearance.
 #[derive(Drop)]
 pub(crate) struct Points {
     /// The class of each point, by its number among the views.
@@ -39,7 +39,8 @@ pub(crate) fn points_of(
     requires shallow { All (λ k. count_within (view_at views.old k) ≤ most_within) lasts.items }
     requires room { length views.old + most_within * length lasts.items ≤ most_number }
     ensures extends { OnOk result (Extends views.old views.new) }
-    ensures points { IfOk result (λ p. ArePoints views.new (classes_at symmetric views.old lasts.items)
+    ensures points { IfOk result
+        (λ p. ArePoints views.new (classes_at symmetric views.old lasts.items)
         p.classes.items p.firsts.items p.numbers.items) }
     ensures count { IfOk result
         (λ p. p.view_count ≡ length (distinct same_view (views_at views.old lasts.items))) }
