@@ -11,7 +11,6 @@ use Rattle.wf_report.proofs.Lemmas.{written_read}
 use Rattle.wf_check.specs.Faults.{Fails}
 use Rattle.wf_engine.specs.Run.{Next}
 use Rattle.wf_engine.specs.Texts.{text_of_report}
-use Rattle.wf_engine.specs.Verify.{IsReportOf}
 use Rattle.wf_engine.specs.declared.fault.PartFault.TheVariants as part
 use Rattle.wf_engine.specs.declared.fault.RunFault.{RunFault}
 use Rattle.wf_engine.specs.declared.fault.RunFault.TheVariants as run

@@ -1,6 +1,5 @@
 -- The parts of searches are joined, unless there is too much of them.
-use Rattle.std.proofs.Common.{◌≡◌, ◌≢◌, ◌⊎◌, inl, inr, ◌<◌, ℕ, List, length, Result, Ok, Err, refl, sym, ap, subst}
-use Rattle.wf_model.specs.Limits.{most_bytes}
+use Rattle.std.proofs.Common.{◌≡◌, ◌≢◌, ◌⊎◌, inl, inr, ℕ, Result, Ok, Err, refl, sym, ap, subst}
 use Rattle.wf_model.specs.Task.{Task, IsTask}
 use Rattle.wf_model.specs.DecisionMap.{listed}
 use Rattle.wf_model.specs.Problem.{problem_of}
@@ -17,12 +16,12 @@ use Rattle.wf_engine.specs.declared.fault.RunFault.TheVariants as run
 use Rattle.wf_engine.specs.declared.outcome.Outcome.{Outcome}
 use Rattle.wf_engine.specs.declared.outcome.Outcome.TheVariants as outcome
 use Rattle.wf_branches.specs.Solving.{part_text}
-use Rattle.wf_branches.specs.Joining.{AcceptsJoined, Gathered, GathersAll, joined_body}
+use Rattle.wf_branches.specs.Joining.{AcceptsJoined, Gathered, joined_body}
 use Rattle.wf_branches.specs.Laws.{PartsOfSearchesAreJoined}
-use Rattle.wf_branches.specs.Searched.{AreTooMuch, HasPartsOf}
+use Rattle.wf_branches.specs.Searched.{AreTooMuch}
 use Rattle.wf_branches.proofs.BranchChecks.{map_accepted, none_accepted}
 use Rattle.wf_branches.proofs.Gathering.{IsStopped}
-use Rattle.wf_branches.proofs.Joinable.{AreParts, ComesToWhole, IsWhole, comes}
+use Rattle.wf_branches.proofs.Joinable.{AreParts, IsWhole, comes}
 use Rattle.wf_branches.proofs.PartLists.{shown}
 use Rattle.wf_branches.proofs.Taking.{fails_nothing, taken_unless}
 

@@ -1,5 +1,5 @@
 -- What a joining of the parts of searches writes is what a search of the whole question writes.
-use Rattle.std.proofs.Common.{◌≡◌, ◌≢◌, ◌⊎◌, inl, inr, ℕ, List, Result, Ok, Err, refl, sym, ap, subst}
+use Rattle.std.proofs.Common.{◌≡◌, ◌≢◌, ◌⊎◌, inl, inr, ℕ, List, Result, Ok, Err, sym, subst}
 use Rattle.wf_model.specs.Task.{Task, IsTask}
 use Rattle.wf_model.specs.Problem.{problem_of}
 use Rattle.wf_model.specs.Outline.{outline}
@@ -9,8 +9,8 @@ use Rattle.wf_io.specs.Texts.{Gave, ReadsText}
 use Rattle.wf_io.specs.declared.source.ReadFault.{ReadFault}
 use Rattle.wf_report.specs.declared.form.Form.{Form}
 use Rattle.wf_report.specs.declared.form.Form.TheVariants as form
-use Rattle.wf_engine.specs.Run.{HasComplex, Judged, Next}
-use Rattle.wf_engine.specs.Texts.{map_body, text_of_report}
+use Rattle.wf_engine.specs.Run.{Judged, Next}
+use Rattle.wf_engine.specs.Texts.{text_of_report}
 use Rattle.wf_engine.specs.declared.fault.RunFault.{RunFault}
 use Rattle.wf_engine.specs.declared.outcome.Outcome.{Outcome}
 use Rattle.wf_engine.proofs.Both.{done}
@@ -19,7 +19,7 @@ use Rattle.wf_branches.specs.Laws.{JoinsOfSearchesAreWhole, PartsOfSearchesJoinT
 use Rattle.wf_branches.specs.Searched.{HasPartsOf, IsWholeText}
 use Rattle.wf_branches.proofs.Canonical.{one_text}
 use Rattle.wf_branches.proofs.Gathering.{IsStopped}
-use Rattle.wf_branches.proofs.Joinable.{AreParts, ComesToWhole, IsWhole, comes}
+use Rattle.wf_branches.proofs.Joinable.{AreParts, IsWhole, comes}
 use Rattle.wf_branches.proofs.Taking.{taken_as}
 
 -- what is taken is what a part says, whatever else stops it
