@@ -63,6 +63,7 @@ module _ (t : Task) (r : ℕ) (asked : Form) (found : Outcome) (is : IsTask t) (
       subst (AreTooMuch asked t r found) known stops
 
 pub parts_joined : PartsOfSearchesAreJoined
-parts_joined t r asked found given e is within shows parts (gathered, gathers, next) =
+parts_joined t r asked found given e within shows parts (gathered, gathers, next) =
+    let is = within.1.2.task in
     of_gathered t r asked found is within shows gathered e
     (comes asked shows t r is within (AreTooMuch asked t r found) (as_parts t r asked found is within shows) found given gathered parts gathers) next
