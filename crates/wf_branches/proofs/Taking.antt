@@ -49,11 +49,6 @@ module _ (t : Task) (r i : ℕ) (body : Body) (within : IsWithin t r body) where
       known ∙ accepted_body report x is accepts
   body_there (Err e) found is same = absurd (let bad : ⊥ = cc in bad)
 
-  -- what is taken for it is what it says, or it is refused
-  pub taken_as : (result : Result Body RunFault) → TakesPart i t r (part_text t r i body) result → (result ≡ Ok body) ⊎ ((e : RunFault) × (result ≡ Err e) × Unit {0})
-  taken_as (Ok found) (alone, is, same) = inl (ap Ok (body_there alone found is same))
-  taken_as (Err e) takes = inr (e, refl, tt)
-
   -- ---- where it is accepted
 
   -- its report has more bytes than a text may have

@@ -28,7 +28,7 @@ use Rattle.wf_branches.proofs.Taking.{taken_unless}
 
 module _ (t : Task) (r : ℕ) (asked : Form) (found : Outcome) (is : IsTask t) (within : HasComplex t r) (shows : asked ≢ form.Verdict) where
   -- a part is taken unless it is too long
-  as_parts : AreParts asked t r (AreTooMuch asked t r found)
+  pub as_parts : AreParts asked t r (AreTooMuch asked t r found)
   as_parts = record {
     memory = tt;
     nones = λ i ls there refuted inside. record {
