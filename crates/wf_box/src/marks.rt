@@ -52,8 +52,11 @@ impl Marks {
         ensures kept { IsMore self.old.words.items self.new.words.items }
         ensures long { length self.new.words.items ≡ length self.old.words.items }
     {
+        // what most words have already
+        if self.words[number as usize / 64] == 0 {
+            add_bit(&mut self.tops, number as usize / 64);
+        }
         add_bit(&mut self.words, number as usize);
-        add_bit(&mut self.tops, number as usize / 64);
     }
 
     /// Marks these executions.
