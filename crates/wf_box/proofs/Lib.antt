@@ -5,6 +5,7 @@ pub mod MarkLemmas
 pub mod ChangeLemmas
 pub mod QuietLemmas
 pub mod PlaceLemmas
+pub mod SettleLemmas
 pub mod ProblemLemmas
 pub mod SweepLemmas
 pub mod WorkLemmas

@@ -103,12 +103,25 @@ impl Marks {
         ensures same { IfNone result (self.new.words.items ≡ self.old.words.items) }
         ensures long { length self.new.words.items ≡ length self.old.words.items }
     {
-        let number = self.next(from as usize)?;
+        let number = self.next(from as usize)? as u32;
+        self.take(number);
+        Some(number)
+    }
+
+    /// Takes the mark of an execution away.
+    pub(crate) fn take(&mut self, number: u32)
+        requires { number < 64 * length self.old.words.items }
+        ensures others { KeepsBitsBut self.old.words.items self.new.words.items number }
+        ensures long { length self.new.words.items ≡ length self.old.words.items }
+    {
+        let number = number as usize;
+        if self.words[number / 64] == 0 {
+            return;
+        }
         take_bit(&mut self.words, number);
         if self.words[number / 64] == 0 {
             take_bit(&mut self.tops, number / 64);
         }
-        Some(number as u32)
     }
 
     /// The first marked execution from this one on.
