@@ -5,7 +5,7 @@ pub mod MarkLemmas
 pub mod ChangeLemmas
 pub mod QuietLemmas
 pub mod PlaceLemmas
-pub mod SettleLemmas
+pub mod LeftLemmas
 pub mod ProblemLemmas
 pub mod SweepLemmas
 pub mod WorkLemmas

@@ -297,17 +297,17 @@ fn revise(
         }
     }
     let left = candidates_at(execution, &workspace.tracked.words);
-    settle(number, colours, left, supported, &mut workspace.marks);
+    unmark(number, colours, left, supported, &mut workspace.marks);
     None
 }
 
 /// Takes the mark of an execution away where each of its places has just what was supported there:
 /// what is left is supported by what is left.
-fn settle(number: u32, places: u8, left: [Mask; 4], supported: [Mask; 4], marks: &mut Marks)
+fn unmark(number: u32, places: u8, left: [Mask; 4], supported: [Mask; 4], marks: &mut Marks)
     requires number { number < 64 * length marks.old.words.items }
     requires places { places ≤ 4 }
     ensures others { KeepsBitsBut marks.old.words.items marks.new.words.items number }
-    ensures settled { bit_of marks.new.words.items number ≡ 0
+    ensures same { bit_of marks.new.words.items number ≡ 0
         → AreSame places left supported ⊎ (bit_of marks.old.words.items number ≡ 0) }
     ensures long { length marks.new.words.items ≡ length marks.old.words.items }
 {

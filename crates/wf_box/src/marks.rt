@@ -1,6 +1,6 @@
 //! Marks on executions.
 
-ghost use Rattle.std.specs.Prelude.{◌≡◌, ◌<◌, ◌≤◌, ◌*◌, ◌/◌, ◌^◌, All, length, OnOk, IfSome, IfNone};
+ghost use Rattle.std.specs.Prelude.{◌≡◌, ◌<◌, ◌≤◌, ◌*◌, ◌/◌, ◌^◌, All, length, slice_index, OnOk, IfSome, IfNone};
 ghost use Rattle.wf_model.specs.Limits.{most_executions};
 ghost use Rattle.wf_box.specs.Limits.{most_words};
 ghost use Rattle.wf_box.specs.Marks.{AreSet, AreSetBelow, IsLast, IsLastHere, IsMore, IsNext, KeepsBitsBut, KeepsWordsBut, TopsTell, bit_of};
@@ -115,9 +115,6 @@ impl Marks {
         ensures long { length self.new.words.items ≡ length self.old.words.items }
     {
         let number = number as usize;
-        if self.words[number / 64] == 0 {
-            return;
-        }
         take_bit(&mut self.words, number);
         if self.words[number / 64] == 0 {
             take_bit(&mut self.tops, number / 64);
@@ -189,6 +186,7 @@ fn add_bit(words: &mut Vec<u64>, bit: usize)
 fn take_bit(words: &mut Vec<u64>, bit: usize)
     requires { bit < 64 * length words.old.items }
     ensures taken { bit_of words.new.items bit ≡ 0 }
+    ensures less { slice_index words.new.items (bit / 64) ≤ slice_index words.old.items (bit / 64) }
     ensures others { KeepsBitsBut words.old.items words.new.items bit }
     ensures long { length words.new.items ≡ length words.old.items }
     ensures words { KeepsWordsBut words.old.items words.new.items (bit / 64) }

@@ -17,7 +17,7 @@ use Rattle.wf_box.proofs.QuietLemmas.{nothing_lost, untouched_none, untouched_th
 use Rattle.wf_box.proofs.PlaceLemmas.{keeps_all, loses_nothing, place_done, no_place_more}
 use Rattle.wf_box.proofs.WorkLemmas.{execution_is, execution_told, execution_within, found_is, proceeds_known, proceeds_marked, proceeds_then, still_working, supported_here}
 use Rattle.wf_model.specs.Box.{count}
-use Rattle.wf_box.proofs.SettleLemmas.{left_supports}
+use Rattle.wf_box.proofs.LeftLemmas.{left_supports}
 use Rattle.wf_box.proofs.closing.revise.Goals as goal
 
 pub returns-in_default-clause-step : goal.returns-in_default-clause-step
@@ -185,14 +185,14 @@ candidates_at-left-requires-clause-within c =
     let inside = execution_within c.args.network.now c.args.number c.index.result.now c.requires.network c.requires.number c.index.ensures in
     λ i d low. omega (arith, inside.points_within i d low, c.places.invariant.2.long, ap length c.deref-3.ensures.value)
 
-pub settle-requires-clause-number : goal.settle-requires-clause-number
-settle-requires-clause-number c = omega (arith, c.requires.number, c.places.invariant.2.marks_long)
+pub unmark-requires-clause-number : goal.unmark-requires-clause-number
+unmark-requires-clause-number c = omega (arith, c.requires.number, c.places.invariant.2.marks_long)
 
 pub returns-clause-proceeds : goal.returns-clause-proceeds
-returns-clause-proceeds c = proceeds_marked _ _ _ _ _ c.places.workspace _ _ c.settle.ensures.long c.places.invariant.2
+returns-clause-proceeds c = proceeds_marked _ _ _ _ _ c.places.workspace _ _ c.unmark.ensures.long c.places.invariant.2
 
 pub returns-clause-untouched : goal.returns-clause-untouched
-returns-clause-untouched c = λ e other none. c.places.invariant.3 e (sym (c.settle.ensures.others e other) ∙ none)
+returns-clause-untouched c = λ e other none. c.places.invariant.3 e (sym (c.unmark.ensures.others e other) ∙ none)
 
 pub returns-clause-quiet : goal.returns-clause-quiet
 returns-clause-quiet c = λ none.
@@ -219,7 +219,7 @@ returns-clause-quiet c = λ none.
     (supported_here n c.args.number x c.deref.result.now words c.candidates_at-found.result c.in-Some.supported c.requires.number c.index.ensures c.deref.ensures.value found_here
     (subst (λ o. HasSupported (left_of (found_in n c.args.number c.deref.result.now) o) (rule_in n c.args.number).table (found_in n c.args.number c.deref.result.now)) c.in-Some.is c.supported_at.ensures.supported)) in
     ap (lost (box_of fewer)) seen
-    ∙ elim (c.settle.ensures.settled none) [
+    ∙ elim (c.unmark.ensures.same none) [
       | inl same ↦
           loses_nothing n.rules.items x rule fewer c.candidates_at-left.result known (subst (λ m. IsWithin (length n.rules.items) m x) (sym done.long) inside) few left_here
           (left_supports rule.table c.in-Some.supported c.candidates_at-found.result c.candidates_at-left.result (omega (arith, known.wide, few, c.candidates_at-found.ensures.long)) (omega (arith, known.wide, few, c.candidates_at-left.ensures.long)) right

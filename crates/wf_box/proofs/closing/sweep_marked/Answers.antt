@@ -1,4 +1,4 @@
-use Rattle.std.proofs.Common.{◌<◌, None, Some, length, refl, arith, ap, sym, ◌∙◌, subst, All}
+use Rattle.std.proofs.Common.{◌<◌, None, Some, length, refl, arith, sym, ◌∙◌, subst, All}
 use Rattle.std.proofs.lemmas.List.{length-map}
 use Rattle.wf_box.specs.Problems.{IsWithin, constraint_seen, constraints_in}
 use Rattle.wf_box.specs.Quiet.{IsQuietBut, no_execution}

@@ -1,10 +1,10 @@
 -- What is left of an execution's candidates, where that is what its rule supports.
-use Rattle.std.proofs.Common.{◌≡◌, ℕ, zero, suc, ◌<◌, ◌≤◌, ◌&&◌, ◌||◌, ◌↔◌, true, false, eq-eqb, eqb-true, List, [], ◌∷◌, map, zip, take, length, get_or, All, refl, sym, ap, ◌∙◌, subst, inl, inr, arith}
+use Rattle.std.proofs.Common.{◌≡◌, ℕ, zero, suc, ◌<◌, ◌≤◌, ◌&&◌, ◌↔◌, true, eq-eqb, eqb-true, List, [], ◌∷◌, take, length, get_or, refl, sym, ap, ◌∙◌, subst, inl, inr, arith}
 use Rattle.std.specs.List.{AllByRecursion}
 use Rattle.std.specs.Cmp.Lexicographic.{pointwise}
 use Rattle.std.proofs.lemmas.List.{get_or-map, length-map}
 use Rattle.std.proofs.lemmas.Bool.{and_from, and_parts, or_cases, or_left, or_right, false≢true}
-use Rattle.wf_model.specs.Lists.{has, distinct}
+use Rattle.wf_model.specs.Lists.{has}
 use Rattle.wf_model.specs.Task.{Tuple}
 use Rattle.wf_model.specs.Box.{has_at, is_alive, is_supported}
 use Rattle.wf_lane.specs.Table.{HasSupported, Table, sets_of}
