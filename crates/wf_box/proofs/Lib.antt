@@ -1,6 +1,7 @@
 pub mod StepLemmas
 pub mod NameLemmas
 pub mod TakingLemmas
+pub mod BulkLemmas
 pub mod MarkLemmas
 pub mod ChangeLemmas
 pub mod QuietLemmas
