@@ -150,11 +150,7 @@ pub fn solve_branch<G: Gate>(
 }
 
 /// The branches of a problem, and it leaves what closing found out for their searches.
-fn branches_of(
-    alloc: Global,
-    problem: &Problem,
-    answers: &mut Answers,
-) -> Result<Cover, AllocError>
+fn branches_of(alloc: Global, problem: &Problem, answers: &mut Answers) -> Result<Cover, AllocError>
     requires { ServeFor problem.now answers.old }
     ensures cover { IfOk result (IsCoverOf problem.now) }
     ensures answers { OnOk result (ServeFor problem.now answers.new) }
