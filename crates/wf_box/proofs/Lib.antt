@@ -1,10 +1,12 @@
 pub mod StepLemmas
 pub mod NameLemmas
 pub mod TakingLemmas
+pub mod BulkLemmas
 pub mod MarkLemmas
 pub mod ChangeLemmas
 pub mod QuietLemmas
 pub mod PlaceLemmas
+pub mod LeftLemmas
 pub mod ProblemLemmas
 pub mod SweepLemmas
 pub mod WorkLemmas

@@ -14,7 +14,7 @@ use Rattle.wf_model.specs.Lists.{distinct}
 use Rattle.wf_set.specs.Sets.{box_of, values_in}
 use Rattle.wf_box.specs.Marks.{bit_of, IsMore, IsNext}
 use Rattle.wf_box.specs.Problems.{IsWithin, constraint_seen}
-use Rattle.wf_box.specs.Quiet.{AreTold, IsQuiet, IsQuietBut, IsUntouched, IsUser, no_execution, users_of}
+use Rattle.wf_box.specs.Quiet.{AreTold, IsQuiet, IsQuietBut, IsUntouched, IsUntouchedBut, IsUser, no_execution, users_of}
 use Rattle.wf_box.specs.Steps.{reached}
 use Rattle.wf_box.specs.declared.problem.Rule.{Rule}
 use Rattle.wf_box.specs.declared.problem.Execution.{Execution}
@@ -146,7 +146,7 @@ lost_kept rules x words fewer within long same =
 
 -- so after it was revised each one without a mark is quiet again
 pub quiet_again : (rules : List Rule) (es : List Execution) (u : Users) (number : ℕ) (words : List (List ℕ)) (marks : List ℕ) (fewer : List (List ℕ)) (more : List ℕ) → All (IsWithin (length rules) (length words)) es → AreTold u es → length fewer ≡ length words
-    → IsQuietBut number (map (constraint_seen rules) es) marks (box_of words) → IsUntouched u words marks fewer more → (bit_of more number ≡ 0 → lost (box_of fewer) (constraint_seen rules (get_or es number no_execution)) ≡ [])
+    → IsQuietBut number (map (constraint_seen rules) es) marks (box_of words) → IsUntouchedBut number u words marks fewer more → (bit_of more number ≡ 0 → lost (box_of fewer) (constraint_seen rules (get_or es number no_execution)) ≡ [])
     → IsQuiet (map (constraint_seen rules) es) more (box_of fewer)
 quiet_again rules es u number words marks fewer more within told long quiet untouched here e low none =
     let low' : e < length es = omega (arith, low, length-map es (constraint_seen rules)) in
@@ -157,9 +157,9 @@ quiet_again rules es u number words marks fewer more within told long quiet unto
     ∙ elim (cases_eq e number) [
       | inl same ↦ ap (λ n. lost (box_of fewer) (constraint_seen rules (get_or es n no_execution))) same ∙ here (ap (bit_of more) (sym same) ∙ none)
       | inr other ↦
-          lost_kept rules x words fewer inside.points_within long (λ place small. (untouched e none).1 (slice_index x.points place) (told e place low' (omega (arith, small, inside.long))))
+          lost_kept rules x words fewer inside.points_within long (λ place small. (untouched e other none).1 (slice_index x.points place) (told e place low' (omega (arith, small, inside.long))))
           ∙ ap (lost (box_of words)) (sym seen)
-          ∙ quiet e other low (untouched e none).0
+          ∙ quiet e other low (untouched e other none).0
     ]
 
 -- ---- the executions of the points that changed

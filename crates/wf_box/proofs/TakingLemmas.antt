@@ -31,7 +31,7 @@ left_there : (words : List (List ℕ)) (v a : ℕ) (set : List ℕ) → v < leng
 left_there words v a set inside is = ap (λ box. candidates box v) (sym (set_without words v a set inside is)) ∙ set_there words v set inside
 
 -- the point keeps a candidate
-some_left : (e : ℕ) (x : Loss) (box : Box) (s : List ℕ) → (s ≡ [] → ⊥) → taken_out e x box s ≡ record { lines = refutation.remove e x.process x.value ∷ []; left = Some box }
+pub some_left : (e : ℕ) (x : Loss) (box : Box) (s : List ℕ) → (s ≡ [] → ⊥) → taken_out e x box s ≡ record { lines = refutation.remove e x.process x.value ∷ []; left = Some box }
 some_left e x box [] some = absurd (some refl)
 some_left e x box (a ∷ s) some = refl
 

@@ -42,6 +42,10 @@ pub record AreUsers (u : Users) (points executions : ℕ) : Type 0 where
 abbrev pub IsUntouched : Users → List (List ℕ) → List ℕ → List (List ℕ) → List ℕ → Type 0
 IsUntouched u words marks fewer more = (e : ℕ) → bit_of more e ≡ 0 → (bit_of marks e ≡ 0) × ((v : ℕ) → IsUser u v e → get_or fewer v [] ≡ get_or words v [])
 
+-- the same of each execution but this one
+abbrev pub IsUntouchedBut : ℕ → Users → List (List ℕ) → List ℕ → List (List ℕ) → List ℕ → Type 0
+IsUntouchedBut number u words marks fewer more = (e : ℕ) → e ≢ number → bit_of more e ≡ 0 → (bit_of marks e ≡ 0) × ((v : ℕ) → IsUser u v e → get_or fewer v [] ≡ get_or words v [])
+
 -- the points of an execution without a mark have the candidates that they had after so many changes
 abbrev pub IsUntouchedSince : ℕ → Users → Tracked → Marks → Type 0
 IsUntouchedSince n u t marks = (e : ℕ) → bit_of marks.words.items e ≡ 0 → (v : ℕ) → IsUser u v e → get_or (words_at n t) v [] ≡ get_or t.words.items v []

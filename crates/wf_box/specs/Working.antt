@@ -1,12 +1,13 @@
 -- What closing works on, and what each part of it keeps.
-use Rattle.std.specs.Prelude.{◌≡◌, ◌≤◌, ◌*◌, ℕ, List, Vec, length, Option, Some, None}
+use Rattle.std.specs.Prelude.{◌≡◌, ◌≤◌, ◌*◌, ℕ, List, [], Vec, length, Option, Some, None}
 use Rattle.wf_model.specs.Problem.{Constraint, Problem}
+use Rattle.wf_model.specs.Closing.{lost}
 use Rattle.wf_lines.specs.declared.line.Line.{Line}
 use Rattle.wf_box.specs.Changes.{GrowsTo, KeepsTrack, sets_in}
 use Rattle.wf_box.specs.Closes.{EndsAt}
 use Rattle.wf_box.specs.Marks.{bit_of}
-use Rattle.wf_box.specs.Problems.{constraints_in}
-use Rattle.wf_box.specs.Quiet.{IsUntouched, IsUser, MarksTell}
+use Rattle.wf_box.specs.Problems.{constraint_in, constraints_in}
+use Rattle.wf_box.specs.Quiet.{IsUntouched, IsUntouchedBut, IsUser, MarksTell}
 use Rattle.wf_box.specs.Revising.{AreKnown, answers_in}
 use Rattle.wf_box.specs.Steps.{HasRoom, IsPaid}
 use Rattle.wf_box.specs.declared.problem.Network.{Network}
@@ -58,6 +59,15 @@ AreMarked ks w = MarksTell ks w.marks w.tracked
 -- an execution without a mark had none before, and its points have the candidates that they had
 abbrev pub LeavesUntouched : Network → Workspace → Workspace → Type 0
 LeavesUntouched n old new = IsUntouched n.users old.tracked.words.items old.marks.words.items new.tracked.words.items new.marks.words.items
+
+-- an execution without a mark, if it is not this one, had none before, and its points have the
+-- candidates that they had
+abbrev pub LeavesOthersUntouched : Network → ℕ → Workspace → Workspace → Type 0
+LeavesOthersUntouched n number old new = IsUntouchedBut number n.users old.tracked.words.items old.marks.words.items new.tracked.words.items new.marks.words.items
+
+-- where the execution is not marked, it has lost nothing
+abbrev pub IsQuietAt : Network → ℕ → Workspace → Type 0
+IsQuietAt n e w = bit_of w.marks.words.items e ≡ 0 → lost (sets_in w.tracked) (constraint_in n e) ≡ []
 
 -- where the execution is not marked, no candidate was taken out
 abbrev pub IsSilent : ℕ → Workspace → Workspace → Type 0

@@ -1,18 +1,20 @@
 //! Closing.
 
-ghost use Rattle.std.specs.Prelude.{◌≡◌, ◌<◌, ◌≤◌, ◌*◌, None, length, IfOk, IfSome, OnOk, OnErr, IfNone};
+ghost use Rattle.std.specs.Prelude.{◌≡◌, ◌<◌, ◌≤◌, ◌*◌, ◌⊎◌, None, length, IfOk, IfSome, OnOk, OnErr, IfNone};
 ghost use Rattle.wf_model.specs.Box.{count, first_empty};
 ghost use Rattle.wf_model.specs.Closing.{closing, sweep, sweep_from};
 ghost use Rattle.std.specs.Bool.{OnTrue};
 ghost use Rattle.wf_model.specs.Limits.{most_points};
 ghost use Rattle.wf_box.specs.Boxes.{Grows, IsClosedNow, IsFor};
 ghost use Rattle.wf_box.specs.Changes.{KeepsTrack, sets_in};
+ghost use Rattle.wf_box.specs.Marks.{KeepsBitsBut, bit_of};
 ghost use Rattle.wf_box.specs.Quiet.{EmptiesNoneSince, IsUntouchedSince, MarksTell, StoodClosed};
 ghost use Rattle.wf_set.specs.Sets.{box_of};
 ghost use Rattle.wf_box.specs.Problems.{IsNetwork, constraint_in, constraints_in};
 ghost use Rattle.wf_box.specs.Steps.{ClosesTo, NamesAll, NamesAt, NamesIn, NamesLost, Reaches, SweepsTo, TakesEach, box_in, point_if, revision};
 ghost use Rattle.wf_box.specs.Closes.{AddsClosing, AreFew, IsEmptied, IsSupported, KeepsSolutions, Leaves, LosesNamed, Takes, emptied_by, sweeps_to_close};
-ghost use Rattle.wf_box.specs.Working.{AreMarked, AreSilent, IsSilent, IsWorkingFor, IsWorkingOn, LeavesUntouched, ProceedsFor, ProceedsOn};
+ghost use Rattle.wf_box.specs.Revising.{AreSame};
+ghost use Rattle.wf_box.specs.Working.{AreMarked, AreSilent, IsQuietAt, IsWorkingFor, IsWorkingOn, LeavesOthersUntouched, LeavesUntouched, ProceedsFor, ProceedsOn};
 
 use crate::boxed::Box0;
 use crate::marks::Marks;
@@ -267,8 +269,8 @@ fn revise(
         lines.old workspace.old lines.new workspace.new result }
     ensures proceeds { ProceedsOn network.now
         lines.old workspace.old lines.new workspace.new result }
-    ensures untouched { LeavesUntouched network.now workspace.old workspace.new }
-    ensures silent { IsSilent number workspace.old workspace.new }
+    ensures untouched { LeavesOthersUntouched network.now number workspace.old workspace.new }
+    ensures quiet { IfNone result (IsQuietAt network.now number workspace.new) }
     ensures named { NamesIn network.now number lines.old workspace.old lines.new workspace.new }
 {
     let execution = network.executions[number as usize];
@@ -294,7 +296,37 @@ fn revise(
             return Some(at.point);
         }
     }
+    let left = candidates_at(execution, &workspace.tracked.words);
+    unmark(number, colours, left, supported, &mut workspace.marks);
     None
+}
+
+/// Takes the mark of an execution away where each of its places has just what was supported there:
+/// what is left is supported by what is left.
+fn unmark(number: u32, places: u8, left: [Mask; 4], supported: [Mask; 4], marks: &mut Marks)
+    requires number { number < 64 * length marks.old.words.items }
+    requires places { places ≤ 4 }
+    ensures others { KeepsBitsBut marks.old.words.items marks.new.words.items number }
+    ensures same { bit_of marks.new.words.items number ≡ 0
+        → AreSame places left supported ⊎ (bit_of marks.old.words.items number ≡ 0) }
+    ensures long { length marks.new.words.items ≡ length marks.old.words.items }
+{
+    if are_same(places, left, supported) {
+        marks.take(number);
+    }
+}
+
+/// Whether the first sets, so many of them, are the same.
+fn are_same(count: u8, sets: [Mask; 4], others: [Mask; 4]) -> bool
+    requires { count ≤ 4 }
+    ensures { OnTrue result (AreSame count sets others) }
+{
+    for place in 0..count as usize {
+        if sets[place] != others[place] {
+            return false;
+        }
+    }
+    true
 }
 
 /// Takes those of the values out that are still there, ascending, with their

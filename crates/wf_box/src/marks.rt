@@ -1,6 +1,6 @@
 //! Marks on executions.
 
-ghost use Rattle.std.specs.Prelude.{◌≡◌, ◌<◌, ◌≤◌, ◌*◌, ◌/◌, ◌^◌, All, length, OnOk, IfSome, IfNone};
+ghost use Rattle.std.specs.Prelude.{◌≡◌, ◌<◌, ◌≤◌, ◌*◌, ◌/◌, ◌^◌, All, length, slice_index, OnOk, IfSome, IfNone};
 ghost use Rattle.wf_model.specs.Limits.{most_executions};
 ghost use Rattle.wf_box.specs.Limits.{most_words};
 ghost use Rattle.wf_box.specs.Marks.{AreSet, AreSetBelow, IsLast, IsLastHere, IsMore, IsNext, KeepsBitsBut, KeepsWordsBut, TopsTell, bit_of};
@@ -52,8 +52,11 @@ impl Marks {
         ensures kept { IsMore self.old.words.items self.new.words.items }
         ensures long { length self.new.words.items ≡ length self.old.words.items }
     {
+        // what most words have already
+        if self.words[number as usize / 64] == 0 {
+            add_bit(&mut self.tops, number as usize / 64);
+        }
         add_bit(&mut self.words, number as usize);
-        add_bit(&mut self.tops, number as usize / 64);
     }
 
     /// Marks these executions.
@@ -100,12 +103,22 @@ impl Marks {
         ensures same { IfNone result (self.new.words.items ≡ self.old.words.items) }
         ensures long { length self.new.words.items ≡ length self.old.words.items }
     {
-        let number = self.next(from as usize)?;
+        let number = self.next(from as usize)? as u32;
+        self.take(number);
+        Some(number)
+    }
+
+    /// Takes the mark of an execution away.
+    pub(crate) fn take(&mut self, number: u32)
+        requires { number < 64 * length self.old.words.items }
+        ensures others { KeepsBitsBut self.old.words.items self.new.words.items number }
+        ensures long { length self.new.words.items ≡ length self.old.words.items }
+    {
+        let number = number as usize;
         take_bit(&mut self.words, number);
         if self.words[number / 64] == 0 {
             take_bit(&mut self.tops, number / 64);
         }
-        Some(number as u32)
     }
 
     /// The first marked execution from this one on.
@@ -173,6 +186,7 @@ fn add_bit(words: &mut Vec<u64>, bit: usize)
 fn take_bit(words: &mut Vec<u64>, bit: usize)
     requires { bit < 64 * length words.old.items }
     ensures taken { bit_of words.new.items bit ≡ 0 }
+    ensures less { slice_index words.new.items (bit / 64) ≤ slice_index words.old.items (bit / 64) }
     ensures others { KeepsBitsBut words.old.items words.new.items bit }
     ensures long { length words.new.items ≡ length words.old.items }
     ensures words { KeepsWordsBut words.old.items words.new.items (bit / 64) }

@@ -174,11 +174,12 @@ fn places_wanted(places: usize, misses: u32, most: usize) -> usize {
 /// Any place would be right.
 pub(crate) fn slot_of(rule: u32, candidates: [Part; 4], places: usize) -> usize {
     let [a, b, c, d] = candidates;
-    // a product's middle bits do not tell words apart that differ in their last bits alone
-    let mixed = (a ^ a >> 48).wrapping_mul(0x9e37_79b9_7f4a_7c15)
-        ^ (b ^ b >> 48).wrapping_mul(0xc2b2_ae3d_27d4_eb4f)
-        ^ (c ^ c >> 48).wrapping_mul(0x1656_67b1_9e37_79f9)
-        ^ (d ^ d >> 48).wrapping_mul(0xd6e8_feb8_6659_fd93)
-        ^ u64::from(rule).wrapping_mul(0xff51_afd7_ed55_8ccd);
-    (mixed >> 44) as usize & places.saturating_sub(1)
+    // apart where each candidate is below 10, and a product's high bits tell all of it apart
+    let joined = a
+        ^ b.rotate_left(21)
+        ^ c.rotate_left(42)
+        ^ d.rotate_left(11)
+        ^ u64::from(rule).rotate_left(53);
+    let mixed = (joined ^ joined >> 32).wrapping_mul(0x9e37_79b9_7f4a_7c15);
+    (mixed >> 48) as usize & places.saturating_sub(1)
 }

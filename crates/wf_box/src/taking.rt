@@ -5,12 +5,12 @@ ghost use Rattle.std.specs.Bool.{OnFalse, OnTrue};
 ghost use Rattle.wf_model.specs.Lists.{has};
 ghost use Rattle.std.specs.List.{slice_set};
 ghost use Rattle.wf_model.specs.Box.{candidates, count};
-ghost use Rattle.wf_set.specs.Sets.{box_of};
+ghost use Rattle.wf_set.specs.Sets.{box_of, values_in};
 ghost use Rattle.wf_box.specs.Closes.{EndsAt};
-ghost use Rattle.wf_box.specs.Steps.{HasRoom, IsSpent, NamesAt, TakesEach, TakesOut};
+ghost use Rattle.wf_box.specs.Steps.{HasRoom, IsSpent, NamesAt, TakesEach, TakesOut, removals};
 
 use wf_lines::{Line, Lines};
-use wf_set::{Mask, holds, is_empty, split_first, without};
+use wf_set::{Mask, difference, holds, is_empty, meet, split_first, without};
 
 /// A process of an execution, and its point.
 #[derive(Clone, Copy, Debug)]
@@ -23,6 +23,56 @@ pub(crate) struct Place {
 /// Takes those of the values out that are still there, ascending, with their lines. Where this
 /// empties the point, that ends it, and the answer is true.
 pub(crate) fn take_each(values: Mask, place: Place, sets: &mut [Mask], lines: &mut Lines) -> bool
+    requires point { place.point < length sets.old }
+    requires room { HasRoom lines.old sets.old }
+    ensures step { TakesEach values place lines.old sets.old lines.new sets.new result }
+    ensures long { length sets.new ≡ length sets.old }
+    ensures others { sets.new ≡ slice_set sets.old place.point (get_or sets.new place.point []) }
+    ensures fewer { count (box_of sets.new) ≤ count (box_of sets.old) }
+    ensures same { count (box_of sets.new) ≡ count (box_of sets.old) → sets.new ≡ sets.old }
+    ensures emptied { OnTrue result (EndsAt lines.new.items (box_of sets.new) place.point) }
+    ensures named { NamesAt place lines.old sets.old lines.new sets.new }
+    ensures room { OnFalse result (HasRoom lines.new sets.new) }
+    ensures spent { OnFalse result (IsSpent lines.old sets.old lines.new sets.new) }
+{
+    let set = sets[place.point as usize];
+    let left = difference(set, values);
+    if is_empty(left) {
+        return take_in_turn(values, place, sets, lines);
+    }
+    let gone = meet(values, set);
+    if is_empty(gone) {
+        return false;
+    }
+    name_each(gone, place, lines);
+    sets[place.point as usize] = left;
+    false
+}
+
+/// Adds a line for each of the values, ascending, for which there is room.
+fn name_each(values: Mask, place: Place, lines: &mut Lines)
+    requires { vec_len lines.old + length (values_in values) ≤ vec_capacity lines.old }
+    ensures lines { lines.new.items ≡ lines.old.items ++ removals place (values_in values) }
+    ensures len { vec_len lines.new ≡ vec_len lines.old + length (values_in values) }
+    ensures room { vec_capacity lines.old ≤ vec_capacity lines.new }
+{
+    let mut left = values;
+    'values: while let Some(next) = split_first(left) {
+        let (value, rest) = next;
+        left = rest;
+        put(
+            lines,
+            Line::Remove {
+                execution: place.execution,
+                process: place.process,
+                value,
+            },
+        );
+    }
+}
+
+/// The same, one value after another.
+fn take_in_turn(values: Mask, place: Place, sets: &mut [Mask], lines: &mut Lines) -> bool
     requires point { place.point < length sets.old }
     requires room { HasRoom lines.old sets.old }
     ensures step { TakesEach values place lines.old sets.old lines.new sets.new result }

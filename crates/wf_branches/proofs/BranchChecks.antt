@@ -1,10 +1,10 @@
 -- A checker finds no fault in the part that a search of a branch writes.
-use Rattle.std.proofs.Common.{◌≡◌, ◌∙◌, ◌+◌, ℕ, Bool, true, false, not, List, [], ◌∷◌, length, Option, None, Some, refl, sym, ap, subst}
+use Rattle.std.proofs.Common.{◌≡◌, ◌+◌, ℕ, true, false, not, List, [], ◌∷◌, length, Option, None, Some, refl, ap, subst}
 use Rattle.std.proofs.lemmas.Bool.{and_from}
 use Rattle.wf_model.specs.Lists.{has}
 use Rattle.wf_model.specs.Task.{Task, IsTask}
 use Rattle.wf_model.specs.View.{View}
-use Rattle.wf_model.specs.DecisionMap.{IsDecisionMap, listed}
+use Rattle.wf_model.specs.DecisionMap.{listed}
 use Rattle.wf_model.specs.Problem.{problem_of}
 use Rattle.wf_model.specs.Box.{Box, LiesIn, root}
 use Rattle.wf_model.specs.Closing.{canonical}

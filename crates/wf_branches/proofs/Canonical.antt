@@ -4,8 +4,8 @@ use Rattle.wf_model.specs.Lists.{IsBelowOrSame}
 use Rattle.wf_model.specs.Task.{Task, IsTask}
 use Rattle.wf_model.specs.View.{View}
 use Rattle.wf_model.specs.DecisionMap.{IsLeast, HasNoDecisionMap, listed}
-use Rattle.wf_model.specs.Problem.{Problem, problem_of}
-use Rattle.wf_model.specs.Box.{Box, LiesIn, root}
+use Rattle.wf_model.specs.Problem.{problem_of}
+use Rattle.wf_model.specs.Box.{LiesIn, root}
 use Rattle.wf_model.specs.Refutation.{Line}
 use Rattle.wf_model.specs.Closing.{canonical}
 use Rattle.wf_model.specs.Laws.{HasCanonicalLines, HasCanonicalMap, IsLeastIn}

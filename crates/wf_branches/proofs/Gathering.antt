@@ -1,10 +1,9 @@
 -- What the parts of searches come to when they are put together.
-use Rattle.std.proofs.Common.{◌≡◌, ◌∙◌, ◌⊎◌, inl, inr, ◌+◌, ◌<◌, ◌≤◌, ℕ, zero, suc, List, [], ◌∷◌, ◌++◌, append_assoc, append-nil, length, Result, Ok, Err, refl, sym, ap, subst, arith}
-use Rattle.std.specs.List.{AllByRecursion}
+use Rattle.std.proofs.Common.{◌≡◌, ◌⊎◌, inl, inr, ◌+◌, ◌≤◌, ℕ, zero, suc, List, [], ◌∷◌, ◌++◌, append_assoc, append-nil, length, Result, Ok, Err, sym, subst, arith}
 use Rattle.wf_model.specs.Task.{Task}
 use Rattle.wf_model.specs.Limits.{most_number}
 use Rattle.wf_model.specs.Refutation.{Line}
-use Rattle.wf_model.specs.Report.{Body, a_map, none, least, report_about}
+use Rattle.wf_model.specs.Report.{Body, none, report_about}
 use Rattle.wf_formula.specs.Branches.{branches}
 use Rattle.wf_engine.specs.Run.{Next}
 use Rattle.wf_engine.specs.Texts.{text_of_report}

@@ -1,6 +1,6 @@
 -- The parts of searches are joined to the text of a search of the whole question.
-use Rattle.std.proofs.Common.{◌≡◌, ◌≢◌, ◌∙◌, ◌⊎◌, inl, inr, ◌+◌, ◌-◌, ◌<◌, ◌≤◌, ℕ, zero, suc, List, [], ◌∷◌, ◌++◌, append-nil, length, length-append, None, Some, Result, Ok, Err, refl, sym, ap, subst, arith}
-use Rattle.std.specs.List.{AllByRecursion, concat}
+use Rattle.std.proofs.Common.{◌≡◌, ◌≢◌, ◌∙◌, ◌⊎◌, inl, inr, ◌+◌, ◌-◌, ◌≤◌, ℕ, suc, List, [], ◌∷◌, ◌++◌, append-nil, length, length-append, None, Result, Ok, Err, refl, sym, ap, subst, arith}
+use Rattle.std.specs.List.{AllByRecursion}
 use Rattle.wf_core.specs.declared.Account.{Account}
 use Rattle.wf_model.specs.Limits.{most_number}
 use Rattle.wf_model.specs.Task.{Task, IsTask}
@@ -17,11 +17,11 @@ use Rattle.wf_model.specs.Check.{report_fault}
 use Rattle.wf_model.proofs.WholeReports.{canonical_least_accepted, canonical_none_accepted, map_accepted}
 use Rattle.wf_model.proofs.Tracing.{filled_canonical, filled_leads}
 use Rattle.wf_formula.specs.Branches.{branches}
-use Rattle.wf_pool.specs.Answers.{HasAccountOfMap, HasAccountOfNone, map_lines, refuting_lines}
+use Rattle.wf_pool.specs.Answers.{HasAccountOfMap, map_lines, refuting_lines}
 use Rattle.wf_report.specs.declared.form.Form.{Form}
 use Rattle.wf_report.specs.declared.form.Form.TheVariants as form
-use Rattle.wf_engine.specs.Run.{HasComplex, Next}
-use Rattle.wf_engine.specs.Texts.{IsSolved, lines_kept, map_body, none_body, text_of_report}
+use Rattle.wf_engine.specs.Run.{HasComplex}
+use Rattle.wf_engine.specs.Texts.{IsSolved, lines_kept, map_body, text_of_report}
 use Rattle.wf_engine.specs.declared.fault.RunFault.{RunFault}
 use Rattle.wf_engine.specs.declared.fault.RunFault.TheVariants.{OutOfMemory, TooManyParts}
 use Rattle.wf_engine.specs.declared.outcome.Outcome.{Outcome}
@@ -29,14 +29,13 @@ use Rattle.wf_engine.specs.declared.outcome.Outcome.TheVariants as outcome
 use Rattle.wf_engine.proofs.Verdicts.{kept_shown, map_verdict, none_shown, none_verdict}
 use Rattle.wf_branches.specs.Branches.{HasBranch}
 use Rattle.wf_branches.specs.Solving.{IsLeastInBranch, IsRefutationIn, LeadsToMapIn, part_text}
-use Rattle.wf_branches.specs.Joining.{AcceptsJoined, EndsAll, Gathered, Gathers, GathersAll, GoesOn, JoinsText, joined_body, with_least, with_map, without_map}
-use Rattle.wf_branches.specs.Searched.{HasPartsOf, IsWholeText}
-use Rattle.wf_branches.proofs.Canonical.{finds_map, leading_lines, one_text}
+use Rattle.wf_branches.specs.Joining.{EndsAll, Gathered, Gathers, GathersAll, GoesOn, joined_body, with_least, with_map, without_map}
+use Rattle.wf_branches.specs.Searched.{HasPartsOf}
+use Rattle.wf_branches.proofs.Canonical.{finds_map, leading_lines}
 use Rattle.wf_branches.proofs.FewBranches.{branches_few}
 use Rattle.wf_branches.proofs.Gathering.{AreTakenFrom, IsStopped, IsTaken, nones, one_part}
 use Rattle.wf_branches.proofs.PartLists.{AreRefutationsFrom, are_canonical, lead_to_map, lines_of_parts, none_parts, shown}
 use Rattle.wf_branches.proofs.PartsWithin.{AreWithin, IsWithin, map_within, nones_within}
-use Rattle.wf_branches.proofs.Taking.{taken_as}
 
 -- ---- what all parts come to
 

@@ -1,13 +1,13 @@
 -- The lines of parts, branch by branch.
-use Rattle.std.proofs.Common.{◌≡◌, ◌≢◌, ◌∙◌, ◌+◌, ◌<◌, ◌≤◌, ℕ, suc, List, [], ◌∷◌, ◌++◌, drop, length, length-drop, refl, sym, ap, subst, arith}
-use Rattle.std.specs.List.{AllZip, concat, slice_index_or}
+use Rattle.std.proofs.Common.{◌≡◌, ◌≢◌, ◌∙◌, ◌+◌, ℕ, suc, List, [], ◌∷◌, ◌++◌, drop, length, length-drop, refl, sym, ap, subst, arith}
+use Rattle.std.specs.List.{AllZip, concat}
 use Rattle.std.proofs.Math.Seq.{drop-cons}
 use Rattle.std.proofs.lemmas.List.{nil_from_length}
 use Rattle.wf_model.specs.Task.{Task, IsTask}
 use Rattle.wf_model.specs.Problem.{Problem, problem_of}
 use Rattle.wf_model.specs.Box.{Box}
 use Rattle.wf_model.specs.Refutation.{Line}
-use Rattle.wf_model.specs.Report.{Body, none}
+use Rattle.wf_model.specs.Report.{none}
 use Rattle.wf_model.specs.Laws.{AreCanonicalForBranches, HasCanonicalLines, HasCanonicalMap, LeadToMap}
 use Rattle.wf_formula.specs.Branches.{branch_at, branches}
 use Rattle.wf_report.specs.declared.form.Form.{Form}

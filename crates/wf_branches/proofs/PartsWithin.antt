@@ -1,5 +1,5 @@
 -- The lines of parts are in the grammar of reports, as those of the whole question are.
-use Rattle.std.proofs.Common.{◌≡◌, ◌∙◌, ◌≤◌, ℕ, suc, List, [], ◌∷◌, ◌++◌, length, Some, None, refl, sym, ap, subst, arith}
+use Rattle.std.proofs.Common.{◌≤◌, ℕ, suc, List, [], ◌∷◌, ◌++◌, length, sym, ap, subst, arith}
 use Rattle.std.specs.List.{AllByRecursion}
 use Rattle.wf_model.specs.Task.{Task, IsTask}
 use Rattle.wf_model.specs.View.{View}
@@ -7,10 +7,10 @@ use Rattle.wf_model.specs.DecisionMap.{IsDecisionMap, listed}
 use Rattle.wf_model.specs.Problem.{Problem, problem_of}
 use Rattle.wf_model.specs.Box.{Box, branches_at, root, without}
 use Rattle.wf_model.specs.Refutation.{Line, remove, empty, branch, found, Tree, emptied, removed, branched, ended, Trees, no_trees, tree, lines, lines_each, Refutes, RefutesEach}
-use Rattle.wf_model.specs.Closing.{Trace, canonical}
+use Rattle.wf_model.specs.Closing.{Trace}
 use Rattle.wf_model.specs.Outline.{Item, boxes_left_out, filled, filled_up_to, left_out, outline, written}
 use Rattle.wf_model.specs.Report.{Body, a_map, none, least, report_about}
-use Rattle.wf_model.specs.Laws.{AreCanonicalForBranches, HasCanonicalLines, HasCanonicalMap, LeadToMap}
+use Rattle.wf_model.specs.Laws.{HasCanonicalLines, HasCanonicalMap}
 use Rattle.wf_model.proofs.Bridge.{weaker}
 use Rattle.wf_model.proofs.Canonical.{canonical_none_refutes}
 use Rattle.wf_model.proofs.Filling.{boxes_outline}

@@ -1,32 +1,24 @@
 -- A part that a search wrote is read as the report that stands in it.
-use Rattle.std.proofs.Common.{◌≡◌, ◌∙◌, ◌⊎◌, inl, inr, ◌<◌, ℕ, List, ◌++◌, length, None, Result, Ok, Err, refl, sym, ap, subst}
+use Rattle.std.proofs.Common.{◌≡◌, ◌∙◌, ◌⊎◌, inl, inr, ◌<◌, ℕ, List, ◌++◌, length, Result, Ok, Err, refl, sym, ap, subst}
 use Rattle.std.proofs.lemmas.List.{append_cancel_left}
 use Rattle.wf_model.specs.Limits.{most_bytes}
 use Rattle.wf_model.specs.Task.{Task}
 use Rattle.wf_model.specs.Report.{Report, Body, report_about, report_of, report_text}
 use Rattle.wf_formula.specs.Branches.{branch_at, branches}
-use Rattle.wf_report.specs.declared.fault.CertFault.{CertFault}
 use Rattle.wf_report.specs.declared.fault.CertFault.TheVariants as amiss
 use Rattle.wf_report.proofs.Lemmas.{written_read}
-use Rattle.wf_check.specs.Faults.{Fails}
+use Rattle.wf_check.specs.Within.{report_fault_within}
 use Rattle.wf_engine.specs.Run.{Next}
 use Rattle.wf_engine.specs.Texts.{text_of_report}
-use Rattle.wf_engine.specs.Verify.{IsReportOf}
 use Rattle.wf_engine.specs.declared.fault.PartFault.TheVariants as part
 use Rattle.wf_engine.specs.declared.fault.RunFault.{RunFault}
 use Rattle.wf_engine.specs.declared.fault.RunFault.TheVariants as run
+use Rattle.wf_engine.proofs.Acceptance.{unrefused}
 use Rattle.wf_branches.specs.Solving.{part_head, part_text}
 use Rattle.wf_branches.specs.Verifying.{ChecksIn, IsPartOf}
 use Rattle.wf_branches.specs.Joining.{AcceptsBody, IsBodyIn, TakesPart, among_parts, in_part}
 use Rattle.wf_branches.proofs.BranchChecks.{IsAcceptedIn}
 use Rattle.wf_branches.proofs.PartsWithin.{IsWithin}
-
--- nothing but want of memory is told of a report without a fault
-pub fails_nothing : (e : CertFault) → Fails e None → e ≡ amiss.OutOfMemory
-fails_nothing amiss.TooLong fails = absurd fails
-fails_nothing (amiss.Syntax k) fails = absurd fails
-fails_nothing amiss.OutOfMemory fails = refl
-fails_nothing e fails = absurd (let bad : ⊥ = cc in bad)
 
 module _ (t : Task) (r i : ℕ) (body : Body) (within : IsWithin t r body) where
   -- how many branches there are
@@ -57,11 +49,6 @@ module _ (t : Task) (r i : ℕ) (body : Body) (within : IsWithin t r body) where
       known ∙ accepted_body report x is accepts
   body_there (Err e) found is same = absurd (let bad : ⊥ = cc in bad)
 
-  -- what is taken for it is what it says, or it is refused
-  pub taken_as : (result : Result Body RunFault) → TakesPart i t r (part_text t r i body) result → (result ≡ Ok body) ⊎ ((e : RunFault) × (result ≡ Err e) × Unit {0})
-  taken_as (Ok found) (alone, is, same) = inl (ap Ok (body_there alone found is same))
-  taken_as (Err e) takes = inr (e, refl, tt)
-
   -- ---- where it is accepted
 
   -- its report has more bytes than a text may have
@@ -84,7 +71,7 @@ module _ (t : Task) (r i : ℕ) (body : Body) (within : IsWithin t r body) where
     unchecked run.OutOfMemory is = refl
     unchecked run.NotInBranch is = let inside = accepted.inside in let outside = is.1 in absurd (let never : ⊥ = cc in never)
     unchecked (run.Cert amiss.OutOfMemory) is = absurd is
-    unchecked (run.Cert e) is = let same = fails_nothing e (subst (Fails e) accepted.clear is) in absurd (let never : ⊥ = cc in never)
+    unchecked (run.Cert e) is = unrefused e (report_fault_within t r (branch_at t r i) (report_about t r body)) accepted.clear (λ same. let never : ⊥ = cc in never) is
     unchecked e is = absurd is
 
     -- why it is refused by itself

@@ -1,34 +1,34 @@
 -- The parts of searches are joined, unless there is too much of them.
-use Rattle.std.proofs.Common.{◌≡◌, ◌≢◌, ◌⊎◌, inl, inr, ◌<◌, ℕ, List, length, Result, Ok, Err, refl, sym, ap, subst}
-use Rattle.wf_model.specs.Limits.{most_bytes}
+use Rattle.std.proofs.Common.{◌≡◌, ◌≢◌, ◌⊎◌, inl, inr, ℕ, Result, Ok, Err, refl, sym, ap, subst}
 use Rattle.wf_model.specs.Task.{Task, IsTask}
 use Rattle.wf_model.specs.DecisionMap.{listed}
 use Rattle.wf_model.specs.Problem.{problem_of}
 use Rattle.wf_model.specs.Outline.{outline}
-use Rattle.wf_model.specs.Report.{Body, none}
+use Rattle.wf_model.specs.Report.{Body, none, report_about}
+use Rattle.wf_model.specs.Check.{report_fault}
 use Rattle.wf_report.specs.declared.form.Form.{Form}
 use Rattle.wf_report.specs.declared.form.Form.TheVariants as form
 use Rattle.wf_report.specs.declared.fault.CertFault.TheVariants as amiss
-use Rattle.wf_check.specs.Faults.{Fails}
 use Rattle.wf_engine.specs.Run.{HasComplex, Next}
 use Rattle.wf_engine.specs.Texts.{map_body}
 use Rattle.wf_engine.specs.declared.fault.RunFault.{RunFault}
 use Rattle.wf_engine.specs.declared.fault.RunFault.TheVariants as run
 use Rattle.wf_engine.specs.declared.outcome.Outcome.{Outcome}
 use Rattle.wf_engine.specs.declared.outcome.Outcome.TheVariants as outcome
+use Rattle.wf_engine.proofs.Acceptance.{unrefused}
 use Rattle.wf_branches.specs.Solving.{part_text}
-use Rattle.wf_branches.specs.Joining.{AcceptsJoined, Gathered, GathersAll, joined_body}
+use Rattle.wf_branches.specs.Joining.{AcceptsJoined, Gathered, joined_body}
 use Rattle.wf_branches.specs.Laws.{PartsOfSearchesAreJoined}
-use Rattle.wf_branches.specs.Searched.{AreTooMuch, HasPartsOf}
+use Rattle.wf_branches.specs.Searched.{AreTooMuch}
 use Rattle.wf_branches.proofs.BranchChecks.{map_accepted, none_accepted}
 use Rattle.wf_branches.proofs.Gathering.{IsStopped}
-use Rattle.wf_branches.proofs.Joinable.{AreParts, ComesToWhole, IsWhole, comes}
+use Rattle.wf_branches.proofs.Joinable.{AreParts, IsWhole, comes}
 use Rattle.wf_branches.proofs.PartLists.{shown}
-use Rattle.wf_branches.proofs.Taking.{fails_nothing, taken_unless}
+use Rattle.wf_branches.proofs.Taking.{taken_unless}
 
 module _ (t : Task) (r : ℕ) (asked : Form) (found : Outcome) (is : IsTask t) (within : HasComplex t r) (shows : asked ≢ form.Verdict) where
   -- a part is taken unless it is too long
-  as_parts : AreParts asked t r (AreTooMuch asked t r found)
+  pub as_parts : AreParts asked t r (AreTooMuch asked t r found)
   as_parts = record {
     memory = tt;
     nones = λ i ls there refuted inside. record {
@@ -48,7 +48,7 @@ module _ (t : Task) (r : ℕ) (asked : Form) (found : Outcome) (is : IsTask t) (
   unaccepted body run.OutOfMemory whole refuses = tt
   unaccepted body run.TooLong whole refuses = (body, whole.account, whole.solved, refuses)
   unaccepted body (run.Cert amiss.OutOfMemory) whole refuses = absurd refuses
-  unaccepted body (run.Cert e) whole refuses = let same = fails_nothing e (subst (Fails e) whole.clear refuses.1) in absurd (let never : ⊥ = cc in never)
+  unaccepted body (run.Cert e) whole refuses = unrefused e (report_fault t r (report_about t r body)) whole.clear (λ same. let never : ⊥ = cc in never) refuses.1
   unaccepted body e whole refuses = absurd refuses
 
   -- what a joining makes of what the parts come to
@@ -64,6 +64,7 @@ module _ (t : Task) (r : ℕ) (asked : Form) (found : Outcome) (is : IsTask t) (
       subst (AreTooMuch asked t r found) known stops
 
 pub parts_joined : PartsOfSearchesAreJoined
-parts_joined t r asked found given e is within shows parts (gathered, gathers, next) =
+parts_joined t r asked found given e within shows parts (gathered, gathers, next) =
+    let is = within.1.2.task in
     of_gathered t r asked found is within shows gathered e
     (comes asked shows t r is within (AreTooMuch asked t r found) (as_parts t r asked found is within shows) found given gathered parts gathers) next

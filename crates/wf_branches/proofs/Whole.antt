@@ -1,5 +1,5 @@
 -- What a joining of the parts of searches writes is what a search of the whole question writes.
-use Rattle.std.proofs.Common.{◌≡◌, ◌≢◌, ◌⊎◌, inl, inr, ℕ, List, Result, Ok, Err, refl, sym, ap, subst}
+use Rattle.std.proofs.Common.{◌≡◌, ◌≢◌, ◌⊎◌, inl, inr, ℕ, List, Result, Ok, Err, sym, subst}
 use Rattle.wf_model.specs.Task.{Task, IsTask}
 use Rattle.wf_model.specs.Problem.{problem_of}
 use Rattle.wf_model.specs.Outline.{outline}
@@ -9,28 +9,21 @@ use Rattle.wf_io.specs.Texts.{Gave, ReadsText}
 use Rattle.wf_io.specs.declared.source.ReadFault.{ReadFault}
 use Rattle.wf_report.specs.declared.form.Form.{Form}
 use Rattle.wf_report.specs.declared.form.Form.TheVariants as form
-use Rattle.wf_engine.specs.Run.{HasComplex, Judged, Next}
-use Rattle.wf_engine.specs.Texts.{map_body, text_of_report}
+use Rattle.wf_engine.specs.Run.{Judged, Next}
+use Rattle.wf_engine.specs.Texts.{text_of_report}
 use Rattle.wf_engine.specs.declared.fault.RunFault.{RunFault}
 use Rattle.wf_engine.specs.declared.outcome.Outcome.{Outcome}
 use Rattle.wf_engine.proofs.Both.{done}
 use Rattle.wf_branches.specs.Joining.{AcceptsJoined, Gathered, GathersAll, JoinsText, ReadsParts, joined_body, most_parts_bytes}
 use Rattle.wf_branches.specs.Laws.{JoinsOfSearchesAreWhole, PartsOfSearchesJoinToTheWhole}
-use Rattle.wf_branches.specs.Searched.{HasPartsOf, IsWholeText}
+use Rattle.wf_branches.specs.Searched.{AreTooMuch, HasPartsOf, IsWholeText}
 use Rattle.wf_branches.proofs.Canonical.{one_text}
 use Rattle.wf_branches.proofs.Gathering.{IsStopped}
-use Rattle.wf_branches.proofs.Joinable.{AreParts, ComesToWhole, IsWhole, comes}
-use Rattle.wf_branches.proofs.Taking.{taken_as}
-
--- what is taken is what a part says, whatever else stops it
-as_said : (asked : Form) (t : Task) (r : ℕ) → AreParts asked t r (λ e. Unit {0})
-as_said asked t r = record {
-  memory = tt;
-  nones = λ i ls there refuted within. record { within = within; takes = taken_as t r i _ within };
-  maps = λ i m ls there least leads within. record { within = within; takes = taken_as t r i _ within };
-}
+use Rattle.wf_branches.proofs.Joinable.{IsWhole, comes}
+use Rattle.wf_branches.proofs.TooMuch.{as_parts}
 
 module _ (t : Task) (r : ℕ) (asked : Form) (found : Outcome) (shows : asked ≢ form.Verdict) (given text : List ℕ) (parts : HasPartsOf asked t r found given) where
+  -- the text of the whole question's report is the one text
   is_text : (body : Body) → IsTask t → IsWhole asked t r found body → text ≡ text_of_report t r body → IsWholeText asked t r found text
   is_text body is whole same =
       subst (IsWholeText asked t r found) (sym same)
@@ -39,6 +32,7 @@ module _ (t : Task) (r : ℕ) (asked : Form) (found : Outcome) (shows : asked �
         one = λ other account more solved. one_text t r is asked found other whole.account account (text_of_report t r body) more whole.solved solved;
       })
 
+  -- what the parts came to
   abbrev came_to : Gathered → Result Gathered RunFault
   came_to g = Ok g
 
@@ -47,9 +41,9 @@ module _ (t : Task) (r : ℕ) (asked : Form) (found : Outcome) (shows : asked �
   of_gathered (Ok g) gathers accepts =
       let within = accepts.1.within in
       let is = within.1.2.task in
-      by_whole is (comes asked shows t r is within (λ e. Unit {0}) (as_said asked t r) found given (Ok g) parts gathers)
+      by_whole is (comes asked shows t r is within (AreTooMuch asked t r found) (as_parts t r asked found is within shows) found given (Ok g) parts gathers)
     where
-      by_whole : (is : IsTask t) → ((h : Gathered) × (came_to g ≡ Ok h) × IsWhole asked t r found (joined_body (outline (problem_of t r)) h)) ⊎ IsStopped t r (λ e. Unit {0}) (came_to g) → IsWholeText asked t r found text
+      by_whole : (is : IsTask t) → ((h : Gathered) × (came_to g ≡ Ok h) × IsWhole asked t r found (joined_body (outline (problem_of t r)) h)) ⊎ IsStopped t r (AreTooMuch asked t r found) (came_to g) → IsWholeText asked t r found text
       by_whole is (inl (h, same, whole)) =
           let known : h ≡ g = cc in
           is_text (joined_body (outline (problem_of t r)) g) is (subst (λ x. IsWhole asked t r found (joined_body (outline (problem_of t r)) x)) known whole) accepts.2

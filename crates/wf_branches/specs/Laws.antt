@@ -124,9 +124,10 @@ JoinsOfSearchesAreWhole =
     → (t : Task) × (given : List ℕ) × (text : List ℕ) × GaveTask task task' t × Gave parts parts' given 0 × Wrote sink sink' text
     × ((asked : Form) (found : Outcome) → asked ≢ form.Verdict → HasPartsOf asked t rounds found given → IsWholeText asked t rounds found text)
 
--- such parts are joined, unless there is too much of them
+-- the parts that searches of the branches wrote in one of these forms are joined, unless there is
+-- too much of them
 abbrev pub PartsOfSearchesAreJoined : Type 0
 PartsOfSearchesAreJoined =
     (t : Task) (r : ℕ) (asked : Form) (found : Outcome) (parts : List ℕ) (e : RunFault)
-    → IsTask t → HasComplex t r → asked ≢ form.Verdict → HasPartsOf asked t r found parts
+    → HasComplex t r → asked ≢ form.Verdict → HasPartsOf asked t r found parts
     → JoinsText t r parts (Err e) → AreTooMuch asked t r found e

@@ -41,8 +41,8 @@ pub record IsWholeText (asked : Form) (t : Task) (r : ℕ) (found : Outcome) (te
   pub one : (other : Outcome) (account : Account) (whole : List ℕ) → IsSolved asked t r (other, account) whole → (other ≡ found) × (whole ≡ text)
 
 -- Why such parts are not joined: memory ran out; the report that a search of the whole question
--- writes has more lines than can be numbered; or the report in the part of a branch has more bytes
--- than a text may have.
+-- writes has more values and lines than can be numbered; or the report in the part of a branch has
+-- more bytes than a text may have.
 abbrev pub AreTooMuch : Form → Task → ℕ → Outcome → RunFault → Type 0
 AreTooMuch asked t r found OutOfMemory = Unit {0}
 AreTooMuch asked t r found TooLong =

@@ -76,21 +76,22 @@ pub fn joining_is_counted()
 {}
 
 /// What is joined of the parts that searches of the branches wrote, in the full or the least form
-/// and in the order of the branches, is the very text that a search of the whole question writes in
-/// that form. Where a branch has a map, anything may stand behind the part of the first such one.
+/// and in the order of the branches, is to the byte the text that a search of the whole question
+/// writes in that form. Where a branch has a map, anything may stand behind the first such part.
 pub fn parts_of_searches_join_to_the_whole()
     ensures { PartsOfSearchesJoinToTheWhole }
 {}
 
-/// Where such parts are joined in a run, its sources gave the bytes of a task and of the parts, and
-/// the sink took the text that a search of the whole question writes in that form.
+/// Where a run joined the parts that searches of the branches wrote, its sources gave the bytes of
+/// a task and of these parts, and the sink took the text that a search of the whole question writes
+/// in that form.
 pub fn joins_of_searches_are_whole()
     ensures { JoinsOfSearchesAreWhole }
 {}
 
-/// Such parts are joined: what is told in place of that is that memory ran out, that the report of
-/// the whole question has more lines than can be numbered, or that the report in a part has more
-/// bytes than a text may have.
+/// The parts that searches of the branches wrote are joined, unless memory runs out, the report of
+/// the whole question has more values and lines than can be numbered, or the report in a part has
+/// more bytes than a text may have.
 pub fn parts_of_searches_are_joined()
     ensures { PartsOfSearchesAreJoined }
 {}

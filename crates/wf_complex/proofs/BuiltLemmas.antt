@@ -1,69 +1,36 @@
 -- What is built is the protocol complex of the definitions.
-use Rattle.std.proofs.Common.{◌≡◌, ◌<◌, ℕ, zero, suc, ◌+◌, ◌*◌, List, [], ◌∷◌, ◌++◌, map, flat_map, zip, length, get_or, slice_index, All, sym, refl, ap, ◌∙◌, subst, arith, length-append}
+use Rattle.std.proofs.Common.{◌≡◌, ◌<◌, ℕ, zero, suc, ◌+◌, List, [], ◌∷◌, ◌++◌, Option, Some, None, map, flat_map, zip, length, get_or, slice_get, slice_index, All, sym, refl, ap, ◌∙◌, subst, arith}
 use Rattle.std.specs.List.{AllByRecursion, enumerate_from}
 use Rattle.std.proofs.Math.ListN as list
 use Rattle.std.proofs.lemmas.List.{map-append, map-id, get_or-map, length-map}
 use Rattle.std.proofs.lemmas.List.Elements.{recursion_from_All}
 use Rattle.wf_model.specs.Lists.{distinct, below}
-use Rattle.wf_model.specs.Simplex.{Simplex}
+use Rattle.wf_model.specs.Simplex.{Simplex, processes_of}
+use Rattle.wf_model.specs.Word.{Word}
 use Rattle.wf_model.specs.View.{View, base, same_view, process_of}
-use Rattle.wf_model.specs.Task.{Task, inputs, first_block}
+use Rattle.wf_model.specs.Task.{Task, Rule, inputs, first_block}
 use Rattle.wf_model.specs.Execution as model
 use Rattle.wf_model.specs.Execution.{executions, last_views}
 use Rattle.wf_model.specs.Points.{class, classes, points, Appearance, same_point, appearances_in, first_appearances}
 use Rattle.wf_model.specs.Problem.{Constraint, number_of, constraint_of, problem_of}
 use Rattle.wf_model.proofs.Basics.{by_place}
+use Rattle.wf_model.proofs.WellFormed.{last_processes}
 use Rattle.wf_model.proofs.Numbers.{Apart, apart_distinct, map_same}
 use Rattle.wf_view.specs.Views.{view_at}
 use Rattle.wf_view.proofs.Lemmas.{number_of-at}
 use Rattle.wf_complex.specs.declared.layout.Execution.{Execution}
 use Rattle.wf_complex.specs.Rounds.{views_at, leaves_of}
-use Rattle.wf_complex.specs.Layout.{turns, place_total, laid_on, laid_out}
-use Rattle.wf_complex.specs.Places.{Place, part_of, EndsBy, place_of, places_on}
+use Rattle.wf_complex.specs.Layout.{laid_out}
+use Rattle.wf_complex.specs.Places.{part_of, processes_on, places_on}
 use Rattle.wf_complex.specs.Classes.{class_by}
 use Rattle.wf_complex.specs.Numbering.{same_at, first_places}
-use Rattle.wf_complex.specs.ProtocolMade.{pairs_of}
 use Rattle.wf_complex.specs.ProtocolSeen.{firsts_seen, scopes_seen}
-use Rattle.wf_complex.proofs.Bounds.{suc_times}
 use Rattle.wf_complex.proofs.Executions.{last_views-executions}
-use Rattle.wf_complex.proofs.PlaceLemmas.{length-part_of}
-use Rattle.wf_complex.proofs.Cuts.{parts-map, last_views_cut}
+use Rattle.wf_complex.proofs.Cuts.{parts-map, last_views_cut, laid_simplices}
+use Rattle.wf_complex.proofs.RuleAt.{rules_same, words_long}
 use Rattle.wf_complex.proofs.Different.{distinct_by_place, IsOnce, same_by_number, apart_once, there, distinct_views}
 use Rattle.wf_model.proofs.Bridge.{weaker}
 use Rattle.std.proofs.lemmas.Simd.{map-map}
-
--- ---- how many places there are
-
-sizes : List Execution → ℕ
-sizes [] = 0
-sizes (e ∷ es) = e.size + sizes es
-
-sizes-append : (ds es : List Execution) → sizes (ds ++ es) ≡ sizes ds + sizes es
-unfolding sizes
-sizes-append [] es = omega arith
-sizes-append (d ∷ ds) es = omega (arith, sizes-append ds es)
-
-sizes-laid_on : (k n c p : ℕ) → sizes (laid_on k n p c) ≡ c * n
-unfolding sizes
-sizes-laid_on k n zero p = omega arith
-sizes-laid_on k n (suc c) p = omega (arith, sizes-laid_on k n c (p + n), suc_times c n)
-
-sizes-laid_out : (m r k p : ℕ) (ss : List Simplex) → sizes (laid_out m r k p ss) ≡ place_total m r ss
-unfolding sizes
-sizes-laid_out m r k p [] = refl
-sizes-laid_out m r k p (s ∷ ss) =
-    sizes-append (laid_on k (length s) p (turns m (length s) r)) (laid_out m r (k + 1) (p + turns m (length s) r * length s) ss)
-    ∙ (λ i. sizes-laid_on k (length s) (turns m (length s) r) p i + sizes-laid_out m r (k + 1) (p + turns m (length s) r * length s) ss i)
-
-length-places_on : (table : List View) (lasts : List ℕ) (k : ℕ) (es : List Execution) → AllByRecursion (EndsBy (length lasts)) es → length (flat_map (places_on table lasts) (enumerate_from k es)) ≡ sizes es
-unfolding sizes
-length-places_on table lasts k [] h = refl
-length-places_on table lasts k (e ∷ es) h =
-    length-append (places_on table lasts (k, e)) (flat_map (places_on table lasts) (enumerate_from (k + 1) es))
-    ∙ (λ i. (length-map (part_of lasts e) (place_of table k) ∙ length-part_of lasts e h.0) i + length-places_on table lasts (k + 1) es h.1 i)
-
-pub length-places : (m : ℕ) (table : List View) (lasts : List ℕ) (r : ℕ) (ss : List Simplex) → All (EndsBy (length lasts)) (laid_out m r 0 0 ss) → length (flat_map (places_on table lasts) (enumerate_from 0 (laid_out m r 0 0 ss))) ≡ place_total m r ss
-length-places m table lasts r ss h = length-places_on table lasts 0 (laid_out m r 0 0 ss) (recursion_from_All (EndsBy (length lasts)) (laid_out m r 0 0 ss) h) ∙ sizes-laid_out m r 0 0 ss
 
 -- ---- lists side by side
 
@@ -71,47 +38,64 @@ zip-maps : {X Y Z : Type 0} (f : X → Y) (g : X → Z) (xs : List X) → zip (m
 zip-maps f g [] = refl
 zip-maps f g (x ∷ xs) = ap (λ ps. (f x, g x) ∷ ps) (zip-maps f g xs)
 
+zipped_along : {X Y A B : Type 0} (a : X → List A) (b : X → List B) (f : Y → List A) (g : Y → List B) (xs : List X) (ys : List Y) → map a xs ≡ map f ys → map b xs ≡ map g ys →
+    map (λ x. zip (a x) (b x)) xs ≡ map (λ y. zip (f y) (g y)) ys
+zipped_along {X} {Y} {A} {B} a b f g xs ys firsts seconds =
+    let joined : (List A × List B) → List (A × B) = λ p. zip p.0 p.1 in
+    sym (map-map joined (λ x. (a x, b x)) xs)
+    ∙ ap (map joined) (sym (zip-maps a b xs) ∙ (λ i. zip (firsts i) (seconds i)) ∙ zip-maps f g ys)
+    ∙ map-map joined (λ y. (f y, g y)) ys
+
 -- ---- execution by execution
 
-abbrev at_place : Place → ℕ × ℕ
-at_place place = (place.execution, place.process)
+processes_in : Option Rule → List ℕ
+processes_in None = []
+processes_in (Some rule) = processes_of rule.input
+
+processes_at : (rules : List Rule) (n : ℕ) → processes_of (get_or (map (λ rule. rule.input) rules) n []) ≡ processes_in (slice_get rules n)
+unfolding processes_in
+processes_at [] n = refl
+processes_at (rule ∷ rules) zero = refl
+processes_at (rule ∷ rules) (suc n) = processes_at rules n
+
+their_own : (t : Task) (r : ℕ) → AllByRecursion (λ x. map process_of (last_views x) ≡ processes_of x.rule.input) (executions t r)
+their_own t r =
+    weaker (λ (x : model.Execution). AllByRecursion (λ (w : Word). length w ≡ length x.rule.input) x.words) (λ x. map process_of (last_views x) ≡ processes_of x.rule.input) last_processes (executions t r) (words_long t r)
+
+rules_there : (t : Task) (r : ℕ) → map (λ e. slice_get t.delta e.simplex) (laid_out (first_block t) r 0 0 (inputs t)) ≡ map (λ x. Some x.rule) (executions t r)
+rules_there t r =
+    sym (map-map (slice_get t.delta) (λ (e : Execution). e.simplex) (laid_out (first_block t) r 0 0 (inputs t)))
+    ∙ ap (map (slice_get t.delta)) (laid_simplices t r)
+    ∙ rules_same t r
+
+-- the processes of the executions are those of their last views
+their_processes : (t : Task) (r : ℕ) → map (processes_on (inputs t)) (laid_out (first_block t) r 0 0 (inputs t)) ≡ map (λ x. map process_of (last_views x)) (executions t r)
+unfolding processes_in
+their_processes t r =
+    let laid = laid_out (first_block t) r 0 0 (inputs t) in
+    (λ i. map (λ (e : Execution). processes_at t.delta e.simplex i) laid)
+    ∙ sym (map-map processes_in (λ (e : Execution). slice_get t.delta e.simplex) laid)
+    ∙ ap (map processes_in) (rules_there t r)
+    ∙ map-map processes_in (λ (x : model.Execution). Some x.rule) (executions t r)
+    ∙ sym (map_same (λ (x : model.Execution). map process_of (last_views x)) (λ x. processes_of x.rule.input) (executions t r) (their_own t r))
 
 abbrev at_appearance : Appearance → ℕ × ℕ
 at_appearance a = (a.execution, a.process)
 
-module _ (t : Task) (table : List View) (lasts : List ℕ) where
-  pairs_along : (k : ℕ) (es : List Execution) (xs : List model.Execution) → map (λ e. views_at table (part_of lasts e)) es ≡ map last_views xs →
-      map at_place (flat_map (places_on table lasts) (enumerate_from k es)) ≡ map at_appearance (flat_map (appearances_in t) (enumerate_from k xs))
-  pairs_along k [] [] h = refl
-  pairs_along k [] (x ∷ xs) h = absurd (let none : ⊥ = cc in none)
-  pairs_along k (e ∷ es) [] h = absurd (let none : ⊥ = cc in none)
-  pairs_along k (e ∷ es) (x ∷ xs) h =
-      let first : views_at table (part_of lasts e) ≡ last_views x = cc in
-      let rest : map (λ d. views_at table (part_of lasts d)) es ≡ map last_views xs = cc in
-      let head : map at_place (places_on table lasts (k, e)) ≡ map at_appearance (appearances_in t (k, x)) =
-      map-map at_place (place_of table k) (part_of lasts e)
-      ∙ sym (map-map (λ v. (k, process_of v)) (view_at table) (part_of lasts e))
-      ∙ ap (map (λ v. (k, process_of v))) first
-      ∙ sym (map-map at_appearance (λ v. record { point = class t v; execution = k; process = process_of v }) (last_views x)) in
-      map-append at_place (places_on table lasts (k, e)) (flat_map (places_on table lasts) (enumerate_from (k + 1) es))
-      ∙ (λ i. head i ++ pairs_along (k + 1) es xs rest i)
-      ∙ sym (map-append at_appearance (appearances_in t (k, x)) (flat_map (appearances_in t) (enumerate_from (k + 1) xs)))
-
-  processes_along : (k : ℕ) (es : List Execution) (xs : List model.Execution) → map (λ e. views_at table (part_of lasts e)) es ≡ map last_views xs →
-      map (λ (place : Place). place.process) (flat_map (places_on table lasts) (enumerate_from k es)) ≡ map process_of (flat_map last_views xs)
-  processes_along k [] [] h = refl
-  processes_along k [] (x ∷ xs) h = absurd (let none : ⊥ = cc in none)
-  processes_along k (e ∷ es) [] h = absurd (let none : ⊥ = cc in none)
-  processes_along k (e ∷ es) (x ∷ xs) h =
-      let first : views_at table (part_of lasts e) ≡ last_views x = cc in
-      let rest : map (λ d. views_at table (part_of lasts d)) es ≡ map last_views xs = cc in
-      let head : map (λ (place : Place). place.process) (places_on table lasts (k, e)) ≡ map process_of (last_views x) =
-      map-map (λ (place : Place). place.process) (place_of table k) (part_of lasts e)
-      ∙ sym (map-map process_of (view_at table) (part_of lasts e))
-      ∙ ap (map process_of) first in
-      map-append (λ (place : Place). place.process) (places_on table lasts (k, e)) (flat_map (places_on table lasts) (enumerate_from (k + 1) es))
-      ∙ (λ i. head i ++ processes_along (k + 1) es xs rest i)
-      ∙ sym (map-append process_of (last_views x) (flat_map last_views xs))
+places_along : (t : Task) (inputs : List Simplex) (k : ℕ) (es : List Execution) (xs : List model.Execution) → map (processes_on inputs) es ≡ map (λ x. map process_of (last_views x)) xs →
+    flat_map (places_on inputs) (enumerate_from k es) ≡ map at_appearance (flat_map (appearances_in t) (enumerate_from k xs))
+places_along t inputs k [] [] h = refl
+places_along t inputs k [] (x ∷ xs) h = absurd (let none : ⊥ = cc in none)
+places_along t inputs k (e ∷ es) [] h = absurd (let none : ⊥ = cc in none)
+places_along t inputs k (e ∷ es) (x ∷ xs) h =
+    let first : processes_on inputs e ≡ map process_of (last_views x) = cc in
+    let rest : map (processes_on inputs) es ≡ map (λ y. map process_of (last_views y)) xs = cc in
+    let head : places_on inputs (k, e) ≡ map at_appearance (appearances_in t (k, x)) =
+    ap (map (λ c. (k, c))) first
+    ∙ map-map (λ c. (k, c)) process_of (last_views x)
+    ∙ sym (map-map at_appearance (λ v. record { point = class t v; execution = k; process = process_of v }) (last_views x)) in
+    (λ i. head i ++ places_along t inputs (k + 1) es xs rest i)
+    ∙ sym (map-append at_appearance (appearances_in t (k, x)) (flat_map (appearances_in t) (enumerate_from (k + 1) xs)))
 
 points_along : (t : Task) (k : ℕ) (xs : List model.Execution) → map (λ (a : Appearance). a.point) (flat_map (appearances_in t) (enumerate_from k xs)) ≡ flat_map (classes t) xs
 points_along t k [] = refl
@@ -134,12 +118,6 @@ module _ (t : Task) (r : ℕ) (table : List View) (lasts : List ℕ) (made : vie
 
   cut : map (part_of (views_at table lasts)) laid ≡ map last_views (executions t r)
   cut = ap (λ vs. map (part_of vs) (laid_out (first_block t) r 0 0 (inputs t))) (sym all_lasts) ∙ last_views_cut t r
-
-  cut_by_number : map (λ e. views_at table (part_of lasts e)) laid ≡ map last_views (executions t r)
-  cut_by_number = sym (parts-map (view_at table) lasts (laid_out (first_block t) r 0 0 (inputs t))) ∙ cut
-
-  abbrev marked : List Place
-  marked = flat_map (places_on table lasts) (enumerate_from 0 (laid_out (first_block t) r 0 0 (inputs t)))
 
   pub view_count_is : length (distinct same_view (views_at table lasts)) ≡ length (distinct same_view (flat_map last_views (executions t r)))
   view_count_is = ap (λ vs. length (distinct same_view vs)) (sym all_lasts)
@@ -190,9 +168,9 @@ module _ (t : Task) (r : ℕ) (table : List View) (lasts : List ℕ) (made : vie
         ∙ distinct_by_place (λ j. get_or appearances j nowhere) same_point cs agree
         ∙ ap (map (λ j. get_or appearances j nowhere)) (sym first)
 
-    pub firsts_are : firsts_seen marked firsts ≡ map (λ a. (a.execution, a.process)) (first_appearances t r)
+    pub firsts_are : firsts_seen (inputs t) laid firsts ≡ map (λ a. (a.execution, a.process)) (first_appearances t r)
     firsts_are =
-        (λ i. map (λ j. get_or (pairs_along t table lasts 0 laid (executions t r) cut_by_number i) j (0, 0)) firsts)
+        (λ i. map (λ j. get_or (places_along t (inputs t) 0 laid (executions t r) (their_processes t r) i) j (0, 0)) firsts)
         ∙ (λ i. map (λ j. list.get_or-map at_appearance appearances j nowhere i) firsts)
         ∙ sym (map-map at_appearance (λ j. get_or appearances j nowhere) firsts)
         ∙ ap (map at_appearance) (sym appearing_first)
@@ -226,20 +204,20 @@ module _ (t : Task) (r : ℕ) (table : List View) (lasts : List ℕ) (made : vie
           ∙ ap (map (number_of point_views)) classed
           ∙ map-map (number_of point_views) (class t) (views_at table lasts)
 
-      processes_are : map (λ (place : Place). place.process) marked ≡ map process_of (views_at table lasts)
-      processes_are = processes_along t table lasts 0 laid (executions t r) cut_by_number ∙ ap (map process_of) all_lasts
+      abbrev number : View → ℕ
+      number v = number_of point_views (class t v)
 
-      pairs_are : pairs_of marked numbers ≡ map (λ v. (process_of v, number_of point_views (class t v))) (views_at table lasts)
-      pairs_are =
-          (λ i. zip (processes_are i) (numbers_are i))
-          ∙ zip-maps process_of (λ v. number_of point_views (class t v)) (views_at table lasts)
+      numbers_there : map (part_of numbers) laid ≡ map (λ x. map number (last_views x)) (executions t r)
+      numbers_there =
+          ap (λ ns. map (part_of ns) laid) numbers_are
+          ∙ parts-map number (views_at table lasts) laid
+          ∙ sym (map-map (map number) (part_of (views_at table lasts)) laid)
+          ∙ ap (map (map number)) cut
+          ∙ map-map (map number) last_views (executions t r)
 
-      pub scopes_are : scopes_seen marked numbers laid ≡ map (λ k. k.scope) (problem_of t r).constraints
+      pub scopes_are : scopes_seen (inputs t) numbers laid ≡ map (λ k. k.scope) (problem_of t r).constraints
       scopes_are =
-          ap (λ zs. map (part_of zs) laid) pairs_are
-          ∙ parts-map (λ v. (process_of v, number_of point_views (class t v))) (views_at table lasts) laid
-          ∙ sym (map-map (map (λ v. (process_of v, number_of point_views (class t v)))) (part_of (views_at table lasts)) laid)
-          ∙ ap (map (map (λ v. (process_of v, number_of point_views (class t v))))) cut
-          ∙ map-map (map (λ v. (process_of v, number_of point_views (class t v)))) last_views (executions t r)
+          zipped_along (processes_on (inputs t)) (part_of numbers) (λ x. map process_of (last_views x)) (λ x. map number (last_views x)) laid (executions t r) (their_processes t r) numbers_there
+          ∙ (λ i. map (λ x. zip-maps process_of number (last_views x) i) (executions t r))
           ∙ (λ i. map (λ x. map (λ v. (process_of v, number_of (points_are i) (class t v))) (last_views x)) (executions t r))
           ∙ sym (map-map (λ (k : Constraint). k.scope) (constraint_of t (points t r)) (executions t r))

@@ -1,9 +1,8 @@
 -- The executions that are laid out cut the list of places into the executions' parts.
-use Rattle.std.proofs.Common.{◌≡◌, ◌≤◌, ℕ, zero, suc, ◌+◌, ◌*◌, List, [], ◌∷◌, ◌++◌, map, flat_map, fold, take, drop, length, All, sym, refl, ap, ◌∙◌, subst, arith, append_assoc, length-append}
+use Rattle.std.proofs.Common.{◌≡◌, ℕ, zero, suc, ◌+◌, ◌*◌, List, [], ◌∷◌, ◌++◌, map, flat_map, fold, take, drop, length, sym, refl, ap, ◌∙◌, subst, arith, append_assoc, length-append}
 use Rattle.std.specs.List.{AllByRecursion, enumerate_from}
 use Rattle.std.proofs.lemmas.List.{length-map, map-append, take-map, drop-map}
 use Rattle.std.proofs.lemmas.List.Folds.{flat_map-map}
-use Rattle.std.proofs.lemmas.List.Elements.{All-from_recursion}
 use Rattle.std.proofs.Math.Seq.{take-append_seam, drop-append_seam}
 use Rattle.wf_model.specs.Lists.{lists_of}
 use Rattle.wf_model.specs.Simplex.{Simplex}
@@ -12,15 +11,15 @@ use Rattle.wf_model.specs.View.{View, base_views, round}
 use Rattle.wf_model.specs.Task.{Task, Rule, inputs, first_block}
 use Rattle.wf_model.specs.Execution.{executions_on, executions, last_views}
 use Rattle.wf_complex.specs.declared.layout.Execution.{Execution}
-use Rattle.wf_complex.specs.Layout.{turns, place_total, execution_total, laid_on, laid_out}
-use Rattle.wf_complex.specs.Places.{part_of, EndsBy}
+use Rattle.wf_complex.specs.Layout.{turns, execution_total, laid_on, laid_out}
+use Rattle.wf_complex.specs.Places.{part_of}
 use Rattle.wf_complex.specs.Protocol.{simplices_of}
 use Rattle.wf_complex.proofs.Bounds.{suc_times}
 use Rattle.wf_complex.proofs.RoundLemmas.{length-round}
 use Rattle.wf_complex.proofs.InputLemmas.{length-base_views}
 use Rattle.wf_complex.proofs.Executions.{length-lists_of}
 use Rattle.wf_model.proofs.Bridge.{weaker}
-use Rattle.wf_model.proofs.Headline.{each_append, each_map}
+use Rattle.wf_model.proofs.Headline.{each_map}
 use Rattle.wf_model.proofs.WellFormed.{words_long, each_of_lists}
 
 -- ---- cutting
@@ -104,21 +103,7 @@ laid_out_cut m r k p (rule ∷ rules) =
     (laid_then k n (turns m n r) p (map last_views (executions_on m r rule)) (parts_count m r rule) (parts_long m r rule) (laid_out m r (k + 1) (p + turns m n r * n) (map (λ rule. rule.input) rules)) (map last_views (flat_map (executions_on m r) rules))
     (laid_out_cut m r (k + 1) (p + turns m n r * n) rules))
 
--- ---- where they end, and how many they are
-
-laid_on_ends : (k n c p m : ℕ) → p + c * n ≤ m → AllByRecursion (EndsBy m) (laid_on k n p c)
-laid_on_ends k n zero p m h = tt
-laid_on_ends k n (suc c) p m h = let e = suc_times c n in (omega (arith, h, e), laid_on_ends k n c (p + n) m (omega (arith, h, e)))
-
-laid_out_ends : (m r k p end : ℕ) (ss : List Simplex) → p + place_total m r ss ≤ end → AllByRecursion (EndsBy end) (laid_out m r k p ss)
-laid_out_ends m r k p end [] h = tt
-laid_out_ends m r k p end (s ∷ ss) h =
-    each_append (EndsBy end) (laid_on k (length s) p (turns m (length s) r)) (laid_out m r (k + 1) (p + turns m (length s) r * length s) ss)
-    (laid_on_ends k (length s) (turns m (length s) r) p end (omega (arith, h)))
-    (laid_out_ends m r (k + 1) (p + turns m (length s) r * length s) end ss (omega (arith, h)))
-
-pub all_end : (m r end : ℕ) (ss : List Simplex) → place_total m r ss ≡ end → All (EndsBy end) (laid_out m r 0 0 ss)
-all_end m r end ss e = All-from_recursion (EndsBy end) (laid_out m r 0 0 ss) (laid_out_ends m r 0 0 end ss (omega (arith, e)))
+-- ---- how many they are
 
 length-laid_on : (k n c p : ℕ) → length (laid_on k n p c) ≡ c
 length-laid_on k n zero p = refl

@@ -20,7 +20,7 @@ use Rattle.wf_complex.specs.Numbering.{same_at, first_places}
 use Rattle.wf_model.proofs.Fuel.{length_filter}
 use Rattle.std.proofs.lemmas.Simd.{map-map}
 
-all_in_range : (a n m : ℕ) → a + n ≤ m → AllByRecursion (λ j. j < m) (range_with_len a n)
+pub all_in_range : (a n m : ℕ) → a + n ≤ m → AllByRecursion (λ j. j < m) (range_with_len a n)
 all_in_range a zero m h = tt
 all_in_range a (suc n) m h = (omega (arith, h), all_in_range (a + 1) n m (omega (arith, h)))
 

@@ -1,15 +1,18 @@
 -- What one more place does to the places of first appearance.
-use Rattle.std.proofs.Common.{◌≡◌, ◌<◌, ◌≤◌, ◌||◌, ℕ, suc, ◌+◌, ◌==◌, Bool, true, false, not, List, [], ◌∷◌, ◌++◌, Option, Some, None, map, filter, take, length, get_or, slice_index, set, All, sym, refl, ap, ◌∙◌, subst, inl, inr, arith, length-append}
+use Rattle.std.proofs.Common.{◌≡◌, ◌<◌, ◌≤◌, ◌||◌, ℕ, suc, ◌+◌, ◌==◌, Bool, true, false, not, List, [], ◌∷◌, ◌++◌, Option, Some, None, map, filter, take, drop, length, get_or, slice_index, set, All, sym, refl, ap, ◌∙◌, subst, inl, inr, arith, length-append}
 use Rattle.std.specs.List.{list_any, AllByRecursion}
 use Rattle.std.proofs.lemmas.Bool.{cases_Bool, both_ways, eqb-true, eq-eqb, or_cases, or_left, or_right, false≢true}
-use Rattle.std.proofs.lemmas.List.{map-append, append-nil, get_or-set_same, get_or-set_other, length-set}
+use Rattle.std.proofs.lemmas.List.{map-append, append-nil, get_or-set_same, get_or-set_other, length-set, get_or-map, get_or-drop, drop-set-lt, drop_more}
+use Rattle.std.proofs.lemmas.Grind.{get_or_default_zero}
 use Rattle.std.proofs.lemmas.List.Elements.{filter-append, recursion_from_All, All-push, All-weaker}
 use Rattle.std.proofs.lemmas.List.Folds.{list_any-append}
 use Rattle.std.proofs.Math.Seq.{get_or-append_seam, take-suc}
 use Rattle.std.proofs.lemmas.List.{get_or_append_left}
 use Rattle.wf_model.specs.Lists.{distinct, below}
 use Rattle.wf_model.proofs.Basics.{below_next}
-use Rattle.wf_complex.specs.Numbering.{same_at, first_places, stands, Knows, AllKnown}
+use Rattle.wf_model.proofs.Bridge.{weaker}
+use Rattle.wf_model.proofs.Numbers.{map_same}
+use Rattle.wf_complex.specs.Numbering.{same_at, first_places, stands, Knows, AllKnown, picked}
 
 distinct_new : {X : Type 0} (same : X → X → Bool) (xs : List X) (x : X) → list_any (λ y. same y x) xs ≡ false → distinct same (xs ++ x ∷ []) ≡ distinct same xs ++ x ∷ []
 distinct_new same [] x h = refl
@@ -177,3 +180,50 @@ one_turn ids i firsts firsts_new numbers numbers_new places places_new place Non
     let m = first here in
     let at : places_new ≡ places ++ length firsts ∷ [] = pushed ∙ ap (λ x. places ++ x ∷ []) m.0 in
     subst (λ fs. Kept ids (i + 1) fs numbers_new places_new) (sym m.2) (subst (λ ns. Kept ids (i + 1) (firsts ++ i ∷ []) ns places_new) (sym m.1) (subst (Kept ids (i + 1) (firsts ++ i ∷ []) (set numbers (slice_index ids i) (Some (length firsts)))) (sym at) (new_turn ids i firsts numbers places low inside here h)))
+
+-- the different numbers so far are those at the places of first appearance
+pub different_turn : (ids : List ℕ) (i : ℕ) (firsts firsts_new different different_new : List ℕ) (numbers : List (Option ℕ)) (o : Option ℕ)
+    → get_or numbers (slice_index ids i) None ≡ o
+    → ((k : ℕ) → get_or numbers (slice_index ids i) None ≡ Some k → (firsts_new ≡ firsts) × (different_new ≡ different))
+    → (get_or numbers (slice_index ids i) None ≡ None → (firsts_new ≡ firsts ++ i ∷ []) × (different_new ≡ different ++ slice_index ids i ∷ []))
+    → different ≡ picked ids firsts → different_new ≡ picked ids firsts_new
+different_turn ids i firsts firsts_new different different_new numbers (Some k) here met first is =
+    let m = met k here in
+    m.1 ∙ is ∙ ap (picked ids) (sym m.0)
+different_turn ids i firsts firsts_new different different_new numbers None here met first is =
+    let m = first here in
+    m.1
+    ∙ ap (λ xs. xs ++ slice_index ids i ∷ []) is
+    ∙ sym (map-append (λ p. slice_index ids p) firsts (i ∷ []))
+    ∙ ap (picked ids) (sym m.0)
+
+-- what is picked at places of what was picked
+pub picked_twice : (ids firsts places : List ℕ) → All (λ p. p < length firsts) places → picked (picked ids firsts) places ≡ map (found ids firsts) places
+picked_twice ids firsts places low =
+    map_same (λ p. slice_index (picked ids firsts) p) (found ids firsts) places
+    (weaker (λ p. p < length firsts) (λ p. slice_index (picked ids firsts) p ≡ found ids firsts p) (λ p h. get_or-map (λ j. slice_index ids j) firsts p 0 0 h) places (recursion_from_All (λ p. p < length firsts) places low))
+
+-- ---- a list that is overwritten from its start on
+
+rest : List ℕ → List ℕ
+rest [] = []
+rest (x ∷ xs) = xs
+
+-- what stands at the first place that is not overwritten
+pub still_there : (now old : List ℕ) (i d : ℕ) → drop i now ≡ drop i old → i < length now → get_or now i d ≡ slice_index old i
+still_there now old i d left low =
+    let e : i + 0 ≡ i = omega arith in
+    get_or_default_zero now i d low
+    ∙ ap (λ k. get_or now k 0) (sym e)
+    ∙ sym (get_or-drop i now 0 0)
+    ∙ ap (λ xs. get_or xs 0 0) left
+    ∙ get_or-drop i old 0 0
+    ∙ ap (λ k. get_or old k 0) e
+
+pub left_after : (now old : List ℕ) (i y : ℕ) → drop i now ≡ drop i old → i < length now → i < length old → drop (i + 1) (set now i y) ≡ drop (i + 1) old
+unfolding rest
+left_after now old i y left low inside =
+    drop-set-lt (i + 1) now i y (omega arith)
+    ∙ sym (ap rest (drop_more now i 0 low))
+    ∙ ap rest left
+    ∙ ap rest (drop_more old i 0 inside)

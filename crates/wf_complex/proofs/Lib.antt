@@ -5,8 +5,10 @@ pub mod LayoutLemmas
 pub mod Executions
 pub mod Bounds
 pub mod FirstPlaces
+pub mod Lying
 pub mod PlaceLemmas
 pub mod Different
+pub mod Merging
 pub mod Cuts
 pub mod ClassLemmas
 pub mod BuiltLemmas

@@ -1,98 +1,133 @@
--- Places of executions: parts of the list of places, and the pairs of a process and its point.
-use Rattle.std.proofs.Common.{◌≡◌, ◌<◌, ℕ, zero, suc, ◌+◌, ◌-◌, ◌==◌, if◌then◌else◌, Some, List, [], ◌∷◌, map, zip, take, drop, length, get_or, All, subst, ◌≢◌, inl, inr, eqb-true, sym, refl, ap, ◌∙◌, arith, length-take, length-drop}
-use Rattle.std.proofs.lemmas.List.{take-map, drop-map, drop_more, get_or-map, length-map}
-use Rattle.std.proofs.lemmas.List.Elements.{All-get_or}
+-- Places of executions: the points there, and which execution and process stands at each.
+use Rattle.std.proofs.Common.{◌≡◌, ◌<◌, ◌≤◌, ℕ, zero, suc, ◌+◌, ◌-◌, ◌==◌, if◌then◌else◌, Some, option_map, slice_get, List, [], ◌∷◌, ◌++◌, map, flat_map, zip, take, drop, length, get_or, All, subst, ◌≢◌, inl, inr, eqb-true, sym, ap, ◌∙◌, arith, length-take, length-drop}
+use Rattle.std.specs.List.{AllByRecursion, enumerate_from}
+use Rattle.std.proofs.lemmas.List.{drop_more, get_or-map, length-map, get_or_append_left, get_or-append_right}
+use Rattle.std.proofs.lemmas.List.Elements.{All-get_or, recursion_from_All}
+use Rattle.std.proofs.lemmas.Option.{slice_get-get_or, slice_get-map, slice_get_within}
+use Rattle.std.proofs.lemmas.Slice.Zip.{seconds-zip}
 use Rattle.std.proofs.lemmas.Bool.{cases_Bool}
+use Rattle.wf_model.specs.Simplex.{Simplex, processes_of}
 use Rattle.wf_complex.specs.declared.layout.Execution.{Execution}
-use Rattle.wf_complex.specs.Places.{Place, part_of, EndsBy}
-use Rattle.wf_complex.specs.ProtocolMade.{pairs_of}
-use Rattle.wf_complex.specs.ProtocolSeen.{scopes_seen}
+use Rattle.wf_complex.specs.Places.{part_of, EndsBy, LieFrom, BelongsTo, IsOn, processes_on, scope_on, places_on, places_on_all}
+use Rattle.wf_complex.specs.ProtocolSeen.{firsts_seen, scopes_seen}
 use Rattle.wf_complex.specs.Protocol.{point_in}
-
--- ---- lists side by side
-
-module _ {X Y : Type 0} where
-  take-zip : (n : ℕ) (xs : List X) (ys : List Y) → take n (zip xs ys) ≡ zip (take n xs) (take n ys)
-  take-zip zero xs ys = refl
-  take-zip (suc n) [] ys = refl
-  take-zip (suc n) (x ∷ xs) [] = refl
-  take-zip (suc n) (x ∷ xs) (y ∷ ys) = ap (λ ps. (x, y) ∷ ps) (take-zip n xs ys)
-
-  drop-zip : (n : ℕ) (xs : List X) (ys : List Y) → length xs ≡ length ys → drop n (zip xs ys) ≡ zip (drop n xs) (drop n ys)
-  drop-zip zero xs ys e = refl
-  drop-zip (suc n) [] [] e = refl
-  drop-zip (suc n) [] (y ∷ ys) e = absurd (let none : ⊥ = omega (arith, e) in none)
-  drop-zip (suc n) (x ∷ xs) [] e = absurd (let none : ⊥ = omega (arith, e) in none)
-  drop-zip (suc n) (x ∷ xs) (y ∷ ys) e = drop-zip n xs ys (omega (arith, e))
-
-  pub seconds-zip : (xs : List X) (ys : List Y) → length xs ≡ length ys → map (λ (p : X × Y). p.1) (zip xs ys) ≡ ys
-  seconds-zip [] [] e = refl
-  seconds-zip [] (y ∷ ys) e = absurd (let none : ⊥ = omega (arith, e) in none)
-  seconds-zip (x ∷ xs) [] e = absurd (let none : ⊥ = omega (arith, e) in none)
-  seconds-zip (x ∷ xs) (y ∷ ys) e = ap (λ zs. y ∷ zs) (seconds-zip xs ys (omega (arith, e)))
+use Rattle.wf_complex.proofs.Lying.{all_end, lie_after}
+use Rattle.wf_complex.proofs.RuleAt.{got}
 
 -- ---- an execution's part
 
 pub length-part_of : {X : Type 0} (xs : List X) (e : Execution) → EndsBy (length xs) e → length (part_of xs e) ≡ e.size
 length-part_of xs e h = omega (arith, length-take e.size (drop e.place xs), length-drop e.place xs, h)
 
-pub part_of-pairs : (places : List Place) (points : List ℕ) (e : Execution) → length places ≡ length points → part_of (pairs_of places points) e ≡ pairs_of (part_of places e) (part_of points e)
-part_of-pairs places points e long =
-    let process : Place → ℕ = λ place. place.process in
-    ap (take e.size) (drop-zip e.place (map process places) points (length-map places process ∙ long))
-    ∙ take-zip e.size (drop e.place (map process places)) (drop e.place points)
-    ∙ (λ i. zip (take e.size (drop-map process e.place places i)) (take e.size (drop e.place points)))
-    ∙ (λ i. zip (take-map process e.size (drop e.place places) i) (take e.size (drop e.place points)))
+length-processes_on : (inputs : List Simplex) (e : Execution) → IsOn inputs e → length (processes_on inputs e) ≡ e.size
+length-processes_on inputs e on = length-map (get_or inputs e.simplex []) (λ v. v.0) ∙ sym on.1
 
-pub points-part_of : (places : List Place) (points : List ℕ) (e : Execution) → length places ≡ length points → EndsBy (length points) e → part_of points e ≡ map (λ (at : ℕ × ℕ). at.1) (part_of (pairs_of places points) e)
-points-part_of places points e long h =
-    let process : Place → ℕ = λ place. place.process in
-    sym (ap (map (λ (at : ℕ × ℕ). at.1)) (part_of-pairs places points e long)
-    ∙ seconds-zip (map process (part_of places e)) (part_of points e)
-    (length-map (part_of places e) process ∙ omega (arith, length-part_of places e (omega (arith, h, long)), length-part_of points e h)))
+-- the input simplex of an execution
+pub input_there : (inputs : List Simplex) (e : Execution) (s : Simplex) → IsOn inputs e → s ≡ get_or inputs e.simplex s → s ≡ get_or inputs e.simplex []
+input_there inputs e s on is = is ∙ got inputs e.simplex (get_or inputs e.simplex []) s (slice_get-get_or inputs e.simplex [] on.0)
 
 -- ---- the point of a process
 
-point_in-more : (c : ℕ) (places : List Place) (points : List ℕ) (i : ℕ) (d : Place) → i < length places → length places ≡ length points →
-    point_in c (pairs_of (drop i places) (drop i points)) ≡ (if (get_or places i d).process == c then Some (get_or points i 0) else point_in c (pairs_of (drop (i + 1) places) (drop (i + 1) points)))
-point_in-more c places points i d low long = λ k. point_in c (pairs_of (drop_more places i d low k) (drop_more points i 0 (omega (arith, low, long)) k))
+point_in-more : (c : ℕ) (processes points : List ℕ) (i : ℕ) → i < length processes → length processes ≡ length points →
+    point_in c (zip (drop i processes) (drop i points)) ≡ (if get_or processes i 0 == c then Some (get_or points i 0) else point_in c (zip (drop (i + 1) processes) (drop (i + 1) points)))
+point_in-more c processes points i low long = λ k. point_in c (zip (drop_more processes i 0 low k) (drop_more points i 0 (omega (arith, low, long)) k))
 
-pub point_in-other : (c : ℕ) (places : List Place) (points : List ℕ) (i : ℕ) (d : Place) → i < length places → length places ≡ length points → (get_or places i d).process ≢ c →
-    point_in c (pairs_of (drop (i + 1) places) (drop (i + 1) points)) ≡ point_in c (pairs_of (drop i places) (drop i points))
-point_in-other c places points i d low long other =
-    elim (cases_Bool ((get_or places i d).process == c)) [
+pub point_in-other : (c : ℕ) (processes points : List ℕ) (i : ℕ) → i < length processes → length processes ≡ length points → get_or processes i 0 ≢ c →
+    point_in c (zip (drop (i + 1) processes) (drop (i + 1) points)) ≡ point_in c (zip (drop i processes) (drop i points))
+point_in-other c processes points i low long other =
+    elim (cases_Bool (get_or processes i 0 == c)) [
       | inl same ↦ absurd (other (eqb-true _ _ same))
-      | inr apart ↦ sym (point_in-more c places points i d low long ∙ ap (λ b. if b then Some (get_or points i 0) else point_in c (pairs_of (drop (i + 1) places) (drop (i + 1) points))) apart)
+      | inr apart ↦ sym (point_in-more c processes points i low long ∙ ap (λ b. if b then Some (get_or points i 0) else point_in c (zip (drop (i + 1) processes) (drop (i + 1) points))) apart)
     ]
 
 -- ---- what is seen of an execution
 
--- one execution of those that lie among the places
-pub record IsThere (places : List Place) (numbers : List ℕ) (es : List Execution) (k : ℕ) (e : Execution) : Type 0 where
-  pub pointed : length places ≡ length numbers
+-- one execution of those that lie on the input simplices
+pub record IsThere (inputs : List Simplex) (numbers : List ℕ) (es : List Execution) (k : ℕ) (e : Execution) : Type 0 where
   pub within : EndsBy (length numbers) e
-  pub scope : get_or (scopes_seen places numbers es) k [] ≡ part_of (pairs_of places numbers) e
+  pub on : IsOn inputs e
+  pub scope : get_or (scopes_seen inputs numbers es) k [] ≡ scope_on inputs numbers e
 
-pub is_there : (places : List Place) (numbers : List ℕ) (es : List Execution) (k : ℕ) (e : Execution) → length places ≡ length numbers → All (EndsBy (length numbers)) es → k < length es → e ≡ get_or es k e → IsThere places numbers es k e
-is_there places numbers es k e pointed within low is = record {
-  pointed = pointed;
-  within = subst (EndsBy (length numbers)) (sym is) (All-get_or (EndsBy (length numbers)) es k e low within);
-  scope = get_or-map (part_of (pairs_of places numbers)) es k e [] low ∙ ap (part_of (pairs_of places numbers)) (sym is);
+pub is_there : (inputs : List Simplex) (numbers : List ℕ) (es : List Execution) (k : ℕ) (e : Execution) → LieFrom 0 (length numbers) es → All (IsOn inputs) es → k < length es → e ≡ get_or es k e → IsThere inputs numbers es k e
+is_there inputs numbers es k e lying on low is = record {
+  within = subst (EndsBy (length numbers)) (sym is) (All-get_or (EndsBy (length numbers)) es k e low (all_end (length numbers) es lying));
+  on = subst (IsOn inputs) (sym is) (All-get_or (IsOn inputs) es k e low on);
+  scope = get_or-map (scope_on inputs numbers) es k e [] low ∙ ap (scope_on inputs numbers) (sym is);
 }
 
-pub length-scopes : (places : List Place) (numbers : List ℕ) (es : List Execution) → length (scopes_seen places numbers es) ≡ length es
-length-scopes places numbers es = length-map es (part_of (pairs_of places numbers))
+pub length-scopes : (inputs : List Simplex) (numbers : List ℕ) (es : List Execution) → length (scopes_seen inputs numbers es) ≡ length es
+length-scopes inputs numbers es = length-map es (scope_on inputs numbers)
 
-pub points_there : (places : List Place) (numbers : List ℕ) (es : List Execution) (k : ℕ) (e : Execution) → IsThere places numbers es k e → take (e.place + e.size - e.place) (drop e.place numbers) ≡ map (λ (at : ℕ × ℕ). at.1) (get_or (scopes_seen places numbers es) k [])
-points_there places numbers es k e h =
-    let size : e.place + e.size - e.place ≡ e.size = omega arith in
-    ap (λ n. take n (drop e.place numbers)) size
-    ∙ points-part_of places numbers e h.pointed h.within
-    ∙ ap (map (λ (at : ℕ × ℕ). at.1)) (sym h.scope)
+-- the points of an execution
+pub points_on : (inputs : List Simplex) (numbers : List ℕ) (es : List Execution) (k : ℕ) (e : Execution) → IsThere inputs numbers es k e → part_of numbers e ≡ map (λ (at : ℕ × ℕ). at.1) (get_or (scopes_seen inputs numbers es) k [])
+points_on inputs numbers es k e h =
+    sym (ap (map (λ (at : ℕ × ℕ). at.1)) h.scope
+    ∙ seconds-zip (processes_on inputs e) (part_of numbers e) (length-part_of numbers e h.within ∙ sym (length-processes_on inputs e h.on)))
 
-pub pairs_there : (places : List Place) (numbers : List ℕ) (es : List Execution) (k : ℕ) (e : Execution) (c : ℕ) → IsThere places numbers es k e →
-    point_in c (pairs_of (take (e.place + e.size - e.place) (drop e.place places)) (take (e.place + e.size - e.place) (drop e.place numbers))) ≡ point_in c (get_or (scopes_seen places numbers es) k [])
-pairs_there places numbers es k e c h =
+pub points_there : (inputs : List Simplex) (numbers : List ℕ) (es : List Execution) (k : ℕ) (e : Execution) → IsThere inputs numbers es k e → take (e.place + e.size - e.place) (drop e.place numbers) ≡ map (λ (at : ℕ × ℕ). at.1) (get_or (scopes_seen inputs numbers es) k [])
+points_there inputs numbers es k e h =
     let size : e.place + e.size - e.place ≡ e.size = omega arith in
-    ap (λ n. point_in c (pairs_of (take n (drop e.place places)) (take n (drop e.place numbers)))) size
-    ∙ ap (point_in c) (sym (part_of-pairs places numbers e h.pointed) ∙ sym h.scope)
+    ap (λ n. take n (drop e.place numbers)) size ∙ points_on inputs numbers es k e h
+
+-- as many as its processes
+pub points_long : (inputs : List Simplex) (numbers : List ℕ) (es : List Execution) (k : ℕ) (e : Execution) → IsThere inputs numbers es k e → length (get_or inputs e.simplex []) ≡ length (map (λ (at : ℕ × ℕ). at.1) (get_or (scopes_seen inputs numbers es) k []))
+points_long inputs numbers es k e h = sym h.on.1 ∙ sym (length-part_of numbers e h.within) ∙ ap length (points_on inputs numbers es k e h)
+
+-- its processes beside its points
+pub scope_there : (inputs : List Simplex) (numbers : List ℕ) (es : List Execution) (k : ℕ) (e : Execution) → IsThere inputs numbers es k e →
+    zip (processes_on inputs e) (map (λ (at : ℕ × ℕ). at.1) (get_or (scopes_seen inputs numbers es) k [])) ≡ get_or (scopes_seen inputs numbers es) k []
+scope_there inputs numbers es k e h = ap (zip (processes_on inputs e)) (sym (points_on inputs numbers es k e h)) ∙ sym h.scope
+
+-- ---- the execution and the process of a place
+
+place_here : (inputs : List Simplex) (k n i : ℕ) (e : Execution) → IsOn inputs e → k ≡ n → i < e.size → get_or (places_on inputs (k, e)) i (0, 0) ≡ (n, get_or (processes_on inputs e) i 0)
+place_here inputs k n i e on same low =
+    get_or-map (λ c. (k, c)) (processes_on inputs e) i 0 (0, 0) (omega (arith, low, length-processes_on inputs e on))
+    ∙ ap (λ m. (m, get_or (processes_on inputs e) i 0)) same
+
+length-places_on : (inputs : List Simplex) (k : ℕ) (e : Execution) → IsOn inputs e → length (places_on inputs (k, e)) ≡ e.size
+length-places_on inputs k e on = length-map (processes_on inputs e) (λ c. (k, c)) ∙ length-processes_on inputs e on
+
+pub place_there : (inputs : List Simplex) (k first end place : ℕ) (es : List Execution) → LieFrom first end es → AllByRecursion (IsOn inputs) es → (n : ℕ) (d : Execution) → n < length es →
+    (get_or es n d).place ≤ place → place < (get_or es n d).place + (get_or es n d).size →
+    get_or (flat_map (places_on inputs) (enumerate_from k es)) (place - first) (0, 0) ≡ (k + n, get_or (processes_on inputs (get_or es n d)) (place - (get_or es n d).place) 0)
+place_there inputs k first end place [] lying on n d inside low high = absurd (let none : ⊥ = omega (arith, inside) in none)
+place_there inputs k first end place (e ∷ es) lying on zero d inside low high =
+    let rest = flat_map (places_on inputs) (enumerate_from (k + 1) es) in
+    let same : place - first ≡ place - e.place = ap (λ p. place - p) (sym lying.0) in
+    let short : place - e.place < e.size = omega (arith, low, high) in
+    let number : k ≡ k + 0 = omega arith in
+    ap (λ i. get_or (places_on inputs (k, e) ++ rest) i (0, 0)) same
+    ∙ get_or_append_left (places_on inputs (k, e)) rest (0, 0) (place - e.place) (omega (arith, short, length-places_on inputs k e on.0))
+    ∙ place_here inputs k (k + 0) (place - e.place) e on.0 number short
+place_there inputs k first end place (e ∷ es) lying on (suc n) d inside low high =
+    let rest = flat_map (places_on inputs) (enumerate_from (k + 1) es) in
+    let f = get_or es n d in
+    let within : n < length es = omega (arith, inside) in
+    let later : first + e.size ≤ place = omega (arith, lie_after (first + e.size) end es lying.1 n d within, low) in
+    let left : place - first - e.size ≡ place - (first + e.size) = omega arith in
+    let number : (k + 1) + n ≡ k + suc n = omega arith in
+    get_or-append_right (places_on inputs (k, e)) rest e.size (place - first) (0, 0) (length-places_on inputs k e on.0) (omega (arith, later))
+    ∙ ap (λ i. get_or rest i (0, 0)) left
+    ∙ place_there inputs (k + 1) (first + e.size) end place es lying.1 on.1 n d within low high
+    ∙ ap (λ m. (m, get_or (processes_on inputs f) (place - f.place) 0)) number
+
+-- what is seen of the first place of a point
+pub first_there : (inputs : List Simplex) (end : ℕ) (es : List Execution) (firsts : List ℕ) (point place k : ℕ) (e : Execution) (s : Simplex) → LieFrom 0 end es → All (IsOn inputs) es → point < length firsts →
+    place ≡ get_or firsts point place → BelongsTo place es k → e ≡ get_or es k e → s ≡ get_or inputs e.simplex s → slice_get (firsts_seen inputs es firsts) point ≡ Some (k, get_or (processes_of s) (place - e.place) 0)
+first_there inputs end es firsts point place k e s lying on low is at there input =
+    let seen : ℕ → ℕ × ℕ = λ j. get_or (places_on_all inputs es) j (0, 0) in
+    let inside : k < length es = slice_get_within es k at.execution at.there in
+    let same : get_or es k e ≡ at.execution = got es k at.execution e at.there in
+    let here : IsOn inputs e = subst (IsOn inputs) (sym there) (All-get_or (IsOn inputs) es k e inside on) in
+    let place_is : place - 0 ≡ place = omega arith in
+    let number : 0 + k ≡ k = omega arith in
+    let found =
+    place_there inputs 0 0 end place es lying (recursion_from_All (IsOn inputs) es on) k e inside
+    (omega (arith, at.begun, ap (λ (d : Execution). d.place) same))
+    (omega (arith, at.before_its_end, ap (λ (d : Execution). d.place + d.size) same)) in
+    slice_get-map seen firsts point
+    ∙ ap (option_map seen) (slice_get-get_or firsts point place low ∙ ap (λ j. Some j) (sym is))
+    ∙ ap (λ m. Some m) (ap seen (sym place_is) ∙ found)
+    ∙ (λ i. Some (number i, get_or (processes_on inputs (sym there i)) (place - (sym there i).place) 0))
+    ∙ ap (λ (t : Simplex). Some (k, get_or (processes_of t) (place - e.place) 0)) (sym (input_there inputs e s here input))

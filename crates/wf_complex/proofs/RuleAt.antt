@@ -39,7 +39,7 @@ each_rule m r rules front (rule ∷ back) n long is =
     ∙ (λ i. on_one rules rule n (lists_of (words m (length rule.input)) r) here i ++ rest i)
     ∙ sym (map-append (λ e. Some e.rule) (executions_on m r rule) (flat_map (executions_on m r) back))
 
-rules_same : (t : Task) (r : ℕ) → map (slice_get t.delta) (simplices_of t r) ≡ map (λ e. Some e.rule) (executions t r)
+pub rules_same : (t : Task) (r : ℕ) → map (slice_get t.delta) (simplices_of t r) ≡ map (λ e. Some e.rule) (executions t r)
 rules_same t r = each_rule (first_block t) r t.delta [] t.delta 0 refl refl
 
 -- ---- the execution of a number
@@ -81,7 +81,7 @@ parted : (xs : List (ℕ × ℕ)) → xs ≡ zip (map (λ at. at.0) xs) (map (λ
 parted [] = refl
 parted (x ∷ xs) = ap (λ rest. x ∷ rest) (parted xs)
 
-words_long : (t : Task) (r : ℕ) → AllByRecursion (λ e. AllByRecursion (λ w. length w ≡ length e.rule.input) e.words) (executions t r)
+pub words_long : (t : Task) (r : ℕ) → AllByRecursion (λ e. AllByRecursion (λ w. length w ≡ length e.rule.input) e.words) (executions t r)
 words_long t r = each_execution_with (λ e. AllByRecursion (λ w. length w ≡ length e.rule.input) e.words) t r (λ rule. Unit {0}) (always (λ rule. Unit {0}) (λ rule. tt) t.delta) (λ e _ long. long)
 
 -- the processes of its scope are those of its input simplex

@@ -1,5 +1,5 @@
 -- Numbers in the order of first appearance.
-use Rattle.std.specs.Prelude.{◌≡◌, ◌<◌, ◌==◌, ℕ, Bool, true, false, List, Option, Some, None, length, map, slice_index, get_or}
+use Rattle.std.specs.Prelude.{◌≡◌, ◌<◌, ◌==◌, ℕ, Bool, true, false, List, Option, Some, None, length, map, slice_index, get_or, All}
 use Rattle.std.specs.List.{list_any}
 use Rattle.wf_model.specs.Lists.{distinct, below}
 
@@ -24,6 +24,14 @@ Knows ids n firsts id (Some k) = (stands ids n id ≡ true) × (k < length first
 abbrev pub AllKnown : List ℕ → ℕ → List ℕ → List (Option ℕ) → Type 0
 AllKnown ids n firsts numbers = (id : ℕ) → id < length numbers → Knows ids n firsts id (get_or numbers id None)
 
--- the numbers of these places among the different ones, each read where it stands first
-abbrev pub numbers_at : List ℕ → List ℕ → List ℕ → List ℕ
-numbers_at ids firsts places = map (λ p. slice_index ids (slice_index firsts p)) places
+-- the numbers of a list at these places
+abbrev pub picked : List ℕ → List ℕ → List ℕ
+picked ids places = map (λ p. slice_index ids p) places
+
+-- these are the different numbers of a list, the places at which each of them stands first, and for
+-- each number of the list its place among the different ones
+pub record AreNumbered (ids different firsts places : List ℕ) : Type 0 where
+  pub firsts_are : firsts ≡ first_places ids (length ids)
+  pub different_are : different ≡ picked ids firsts
+  pub low : All (λ p. p < length firsts) places
+  pub found : picked different places ≡ ids

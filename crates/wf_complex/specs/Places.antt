@@ -1,21 +1,8 @@
--- Which process stands at each place of the executions.
-use Rattle.std.specs.Prelude.{ℕ, ◌+◌, ◌*◌, ◌/◌, ◌%◌, ◌≤◌, List, map, flat_map, take, drop}
-use Rattle.std.specs.List.{enumerate_from}
-use Rattle.wf_model.specs.View.{View, process_of}
-use Rattle.wf_view.specs.Views.{view_at}
+-- Which places belong to an execution, and which process stands at each of them.
+use Rattle.std.specs.Prelude.{◌≡◌, ◌<◌, ◌≤◌, ◌+◌, ℕ, List, [], ◌∷◌, Some, length, map, flat_map, zip, take, drop, slice_get}
+use Rattle.std.specs.List.{enumerate_from, slice_index_or}
+use Rattle.wf_model.specs.Simplex.{Simplex, processes_of}
 use Rattle.wf_complex.specs.declared.layout.Execution.{Execution}
-
--- a process in an execution
-pub record Place : Type 0 where
-  pub execution : ℕ
-  pub process : ℕ
-
--- such a process as one number, and the other way round
-abbrev pub code_of : Place → ℕ
-code_of p = 256 * p.execution + p.process
-
-abbrev pub place_of_code : ℕ → Place
-place_of_code n = record { execution = n / 256; process = n % 256 }
 
 -- what stands at the places of an execution
 abbrev pub part_of : {X : Type 0} → List X → Execution → List X
@@ -25,14 +12,34 @@ part_of xs e = take e.size (drop e.place xs)
 abbrev pub EndsBy : ℕ → Execution → Type 0
 EndsBy n e = e.place + e.size ≤ n
 
--- the place of a process in an execution, by its last view
-abbrev pub place_of : List View → ℕ → ℕ → Place
-place_of table execution id = record { execution = execution; process = process_of (view_at table id) }
+-- these executions lie one after another, from the first place up to the end
+abbrev pub LieFrom : ℕ → ℕ → List Execution → Type 0
+LieFrom first end [] = first ≡ end
+LieFrom first end (e ∷ es) = (e.place ≡ first) × LieFrom (first + e.size) end es
 
--- the places of an execution that has a number
-abbrev pub places_on : List View → List ℕ → ℕ × Execution → List Place
-places_on table lasts at = map (place_of table at.0) (part_of lasts at.1)
+-- the place is one of the execution of this number
+pub record BelongsTo (place : ℕ) (es : List Execution) (number : ℕ) : Type 0 where
+  pub execution : Execution
+  pub there : slice_get es number ≡ Some execution
+  pub begun : execution.place ≤ place
+  pub before_its_end : place < execution.place + execution.size
 
--- the places of these executions, numbered from 0 on
-abbrev pub places_on_all : List View → List ℕ → List Execution → List Place
-places_on_all table lasts executions = flat_map (places_on table lasts) (enumerate_from 0 executions)
+-- an execution on one of these simplices: it has a place for each of its processes
+abbrev pub IsOn : List Simplex → Execution → Type 0
+IsOn inputs e = (e.simplex < length inputs) × (e.size ≡ length (slice_index_or inputs e.simplex []))
+
+-- the processes of an execution
+abbrev pub processes_on : List Simplex → Execution → List ℕ
+processes_on inputs e = processes_of (slice_index_or inputs e.simplex [])
+
+-- the processes of an execution, each with its point
+abbrev pub scope_on : List Simplex → List ℕ → Execution → List (ℕ × ℕ)
+scope_on inputs numbers e = zip (processes_on inputs e) (part_of numbers e)
+
+-- the execution and the process of each place of an execution that has a number
+abbrev pub places_on : List Simplex → ℕ × Execution → List (ℕ × ℕ)
+places_on inputs at = map (λ c. (at.0, c)) (processes_on inputs at.1)
+
+-- those of all places of these executions, numbered from 0 on
+abbrev pub places_on_all : List Simplex → List Execution → List (ℕ × ℕ)
+places_on_all inputs es = flat_map (places_on inputs) (enumerate_from 0 es)

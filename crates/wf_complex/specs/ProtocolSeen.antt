@@ -1,12 +1,13 @@
 -- What a clause sees of the program's protocol complexes, and what each of them keeps.
-use Rattle.std.specs.Prelude.{◌≡◌, ◌<◌, ◌≤◌, ℕ, List, map, length, get_or, All, refl}
+use Rattle.std.specs.Prelude.{◌≡◌, ◌<◌, ◌≤◌, ℕ, List, map, length, All, refl}
+use Rattle.std.specs.List.{slice_index_or}
 use Rattle.std.specs.Coded.{Coded, code_by, coded×, coded_list, coded_ℕ}
 use Rattle.wf_model.specs.Limits.{most_executions, most_points}
+use Rattle.wf_model.specs.Simplex.{Simplex}
 use Rattle.wf_model.specs.View.{View}
 use Rattle.wf_model.specs.ViewCode.{view_list_code}
 use Rattle.wf_complex.specs.Rounds.{views_at}
-use Rattle.wf_complex.specs.Places.{Place, part_of, EndsBy}
-use Rattle.wf_complex.specs.ProtocolMade.{pairs_of}
+use Rattle.wf_complex.specs.Places.{LieFrom, IsOn, scope_on, places_on_all}
 use Rattle.wf_complex.specs.Protocol.{Built}
 use Rattle.wf_complex.specs.declared.layout.Execution.{Execution}
 use Rattle.wf_complex.specs.declared.protocol.Protocol.TheInside.{Inside}
@@ -25,12 +26,12 @@ abbrev pub points_seen : List View → List ℕ → List View
 points_seen table classes = views_at table classes
 
 -- the execution and the process at some places
-abbrev pub firsts_seen : List Place → List ℕ → List (ℕ × ℕ)
-firsts_seen places firsts = map (λ j. get_or (map (λ place. (place.execution, place.process)) places) j (0, 0)) firsts
+abbrev pub firsts_seen : List Simplex → List Execution → List ℕ → List (ℕ × ℕ)
+firsts_seen inputs executions firsts = map (λ j. slice_index_or (places_on_all inputs executions) j (0, 0)) firsts
 
 -- the processes of each execution, each with its point
-abbrev pub scopes_seen : List Place → List ℕ → List Execution → List (List (ℕ × ℕ))
-scopes_seen places numbers executions = map (part_of (pairs_of places numbers)) executions
+abbrev pub scopes_seen : List Simplex → List ℕ → List Execution → List (List (ℕ × ℕ))
+scopes_seen inputs numbers executions = map (scope_on inputs numbers) executions
 
 abbrev pub built_seen : Inside → Built
 built_seen p = record {
@@ -38,18 +39,18 @@ built_seen p = record {
   table = p.views;
   points = points_seen p.views p.classes.items;
   view_count = p.view_count;
-  firsts = firsts_seen p.places.items p.firsts.items;
+  firsts = firsts_seen p.inputs.items p.executions.items p.firsts.items;
   simplices = map (λ e. e.simplex) p.executions.items;
-  scopes = scopes_seen p.places.items p.numbers.items p.executions.items;
+  scopes = scopes_seen p.inputs.items p.numbers.items p.executions.items;
 }
 
--- each place has a point, each execution lies among the places, and each
--- point has a view and a first place
+-- the executions are on the input simplices and lie one after another, each place has a point, and
+-- each point has a view and a first place
 pub record IsKept (p : Inside) : Type 0 where
-  pub pointed : length p.places.items ≡ length p.numbers.items
-  pub within : All (EndsBy (length p.numbers.items)) p.executions.items
+  pub lying : LieFrom 0 (length p.numbers.items) p.executions.items
+  pub on : All (IsOn p.inputs.items) p.executions.items
   pub few_executions : length p.executions.items ≤ most_executions
   pub few_points : length p.classes.items ≤ most_points
   pub viewed : All (λ id. id < length p.views) p.classes.items
   pub appearing : length p.firsts.items ≡ length p.classes.items
-  pub placed : All (λ j. j < length p.places.items) p.firsts.items
+  pub placed : All (λ j. j < length p.numbers.items) p.firsts.items

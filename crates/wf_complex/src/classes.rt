@@ -1,55 +1,69 @@
-//! The classes of the last views.
+//! The points: the classes of the last views.
 
-ghost use Rattle.std.specs.Prelude.{◌≡◌, ◌<◌, ◌≤◌, ◌+◌, ◌*◌, length, map, slice_index, All, IfOk, OnOk};
+ghost use Rattle.std.specs.Prelude.{◌≡◌, ◌<◌, ◌≤◌, ◌+◌, ◌*◌, length, map, All, IfOk, OnOk};
 ghost use Rattle.wf_model.specs.Lists.{distinct};
 ghost use Rattle.wf_model.specs.Limits.{most_number, most_points};
 ghost use Rattle.wf_model.specs.View.{same_view, normal};
 ghost use Rattle.wf_view.specs.Views.{view_at, count_within};
 ghost use Rattle.wf_complex.specs.Rounds.{views_at, Extends};
-ghost use Rattle.wf_complex.specs.Classes.{classes_at, most_within};
+ghost use Rattle.wf_complex.specs.Classes.{classes_at, most_within, ArePoints};
+ghost use Rattle.wf_complex.specs.Numbering.{picked};
 
 use crate::numbering::number_all;
 use std::alloc::{AllocError, Global};
 use wf_view::Views;
 
-/// The classes of the last views by their numbers, and how many different last views there are.
+/// The points of the last views, in the order of first appearance.
 #[derive(Drop)]
-pub(crate) struct Classes {
-    pub ids: Vec<u32>,
+pub(crate) struct Points {
+    /// The class of each point, by its number among the views.
+    pub classes: Vec<u32>,
+    /// The place of the last view at which each point appears first.
+    pub firsts: Vec<u32>,
+    /// The point of each last view.
+    pub numbers: Vec<u32>,
+    /// How many different last views there are.
     pub view_count: u32,
 }
 
-/// The classes of the last views: in a symmetric task what they are with the names of their
-/// processes forgotten, and else the views themselves.
-pub(crate) fn classes_of(
+/// The points of the last views. The class of a view is in a symmetric task what it is with the
+/// names of its processes forgotten, and else the view itself.
+pub(crate) fn points_of(
     alloc: Global,
     views: &mut Views,
     lasts: Vec<u32>,
     symmetric: bool,
-) -> Result<Classes, AllocError>
+) -> Result<Points, AllocError>
     requires lasts { All (λ k. k < length views.old) lasts.items }
     requires few { length lasts.items ≤ most_points }
     requires shallow { All (λ k. count_within (view_at views.old k) ≤ most_within) lasts.items }
     requires room { length views.old + most_within * length lasts.items ≤ most_number }
     ensures extends { OnOk result (Extends views.old views.new) }
-    ensures within { IfOk result (λ c. All (λ k. k < length views.new) c.ids.items) }
-    ensures classes { IfOk result
-        (λ c. views_at views.new c.ids.items ≡ classes_at symmetric views.old lasts.items) }
+    ensures points { IfOk result
+        (λ p. ArePoints views.new (classes_at symmetric views.old lasts.items)
+        p.classes.items p.firsts.items p.numbers.items) }
     ensures count { IfOk result
-        (λ c. c.view_count ≡ length (distinct same_view (views_at views.old lasts.items))) }
+        (λ p. p.view_count ≡ length (distinct same_view (views_at views.old lasts.items))) }
 {
-    let different = number_all(alloc, &lasts, views.len() as usize)?;
-    let view_count = different.firsts.len() as u32;
+    let numbered = number_all(alloc, lasts, views.len() as usize)?;
+    let view_count = numbered.different.len() as u32;
     if !symmetric {
-        return Ok(Classes {
-            ids: lasts,
+        return Ok(Points {
+            classes: numbered.different,
+            firsts: numbered.firsts,
+            numbers: numbered.places,
             view_count,
         });
     }
-    let found = pick(alloc, &lasts, &different.firsts)?;
-    let normals = normals_of(alloc, views, &found)?;
-    let ids = pick(alloc, &normals, &different.places)?;
-    Ok(Classes { ids, view_count })
+    let normals = normals_of(alloc, views, &numbered.different)?;
+    let merged = number_all(alloc, normals, views.len() as usize)?;
+    let firsts = pick(alloc, &numbered.firsts, &merged.firsts)?;
+    Ok(Points {
+        classes: merged.different,
+        firsts,
+        numbers: pick_over(&merged.places, numbered.places),
+        view_count,
+    })
 }
 
 /// The numbers of views with the names of their processes forgotten, in the order of the views.
@@ -71,13 +85,25 @@ fn normals_of(alloc: Global, views: &mut Views, ids: &[u32]) -> Result<Vec<u32>,
 }
 
 /// The numbers at these places of a list.
-pub(crate) fn pick(alloc: Global, ids: &[u32], places: &[u32]) -> Result<Vec<u32>, AllocError>
+fn pick(alloc: Global, ids: &[u32], places: &[u32]) -> Result<Vec<u32>, AllocError>
     requires { All (λ p. p < length ids.now) places.now }
-    ensures { IfOk result (λ v. v.items ≡ map (λ p. slice_index ids.now p) places.now) }
+    ensures { IfOk result (λ v. v.items ≡ picked ids.now places.now) }
 {
     let mut numbers = Vec::with_capacity(alloc, places.len())?;
     for place in places {
         numbers.push(ids[*place as usize])?;
     }
     Ok(numbers)
+}
+
+/// The numbers at these places of a list, written over the places.
+fn pick_over(ids: &[u32], places: Vec<u32>) -> Vec<u32>
+    requires { All (λ p. p < length ids.now) places.items }
+    ensures { result.items ≡ picked ids.now places.items }
+{
+    let mut numbers = places;
+    for i in 0..numbers.len() {
+        numbers[i] = ids[numbers[i] as usize];
+    }
+    numbers
 }

@@ -7,7 +7,6 @@ mod classes;
 mod fault;
 mod layout;
 mod numbering;
-mod places;
 mod protocol;
 mod rounds;
 

@@ -1,18 +1,19 @@
 //! The r-round protocol complex of a task.
 
-ghost use Rattle.std.specs.Prelude.{◌≡◌, ◌<◌, ◌≤◌, Some, [], length, map, slice_get, All, IfOk};
+ghost use Rattle.std.specs.Prelude.{◌≡◌, ◌<◌, ◌≤◌, Some, [], length, map, zip, slice_get, All, IfOk};
 ghost use Rattle.std.specs.List.{slice_index_or};
 ghost use Rattle.wf_model.specs.Limits.{most_executions, most_inputs, most_points, most_processes, most_rounds};
+ghost use Rattle.wf_model.specs.Simplex.{processes_of};
 ghost use Rattle.wf_model.specs.Task.{IsTaskSimplex};
 ghost use Rattle.wf_complex.specs.Layout.{execution_total};
 ghost use Rattle.wf_complex.specs.Protocol.{Builds, point_in};
-ghost use Rattle.wf_complex.specs.ProtocolMade.{IsMade, pairs_of};
+ghost use Rattle.wf_complex.specs.ProtocolMade.{IsMade};
 
-use crate::classes::{classes_of, pick};
+use crate::classes::points_of;
 use crate::fault::BuildFault;
-use crate::layout::{Execution, MOST_EXECUTIONS, execution_count, lay_out, place_after_all};
-use crate::numbering::number_all;
-use crate::places::{Place, places_of};
+use crate::layout::{
+    Execution, MOST_EXECUTIONS, execution_count, execution_of, lay_out, place_after_all,
+};
 use crate::rounds::last_views;
 use std::alloc::{AllocError, Global};
 use std::marker::Model;
@@ -40,9 +41,10 @@ pub struct Protocol {
     classes: Vec<u32>,
     // the place at which each point appears first
     firsts: Vec<u32>,
+    // the input simplices: an execution's processes are those of its own
+    inputs: Vec<Simplex>,
     executions: Vec<Execution>,
-    // the execution and the process of each place, and its point
-    places: Vec<Place>,
+    // the point at each place
     numbers: Vec<u32>,
 }
 
@@ -116,9 +118,8 @@ impl Protocol {
         ensures { result ≡ point_in process (slice_index_or self.now.scopes execution []) }
     {
         let at = self.executions[execution as usize];
-        let first = at.place as usize;
-        let end = first + at.size as usize;
-        point_among(&self.places[first..end], &self.numbers[first..end], process)
+        let simplex = &self.inputs[at.simplex as usize];
+        point_among(simplex, self.points_of(execution), process)
     }
 
     /// The points of an execution, by ascending process.
@@ -145,8 +146,11 @@ impl Protocol {
         requires { point < length self.now.points }
         ensures { slice_get self.now.firsts point ≡ Some result }
     {
-        let place = self.places[self.firsts[point as usize] as usize];
-        (place.execution(), place.process())
+        let place = self.firsts[point as usize];
+        let execution = execution_of(&self.executions, place);
+        let at = self.executions[execution as usize];
+        let simplex = &self.inputs[at.simplex as usize];
+        (execution, simplex.colour((place - at.place) as u8))
     }
 
     /// How many different last views there are. In a symmetric task several may be one point.
@@ -185,30 +189,28 @@ fn complex_from(
     let executions = lay_out(alloc, inputs, first_block, rounds)?;
     let room = place_after_all(&executions);
     let lasts = last_views(alloc, &mut views, inputs, first_block, rounds, room)?;
-    let places = places_of(alloc, &views, &lasts, &executions)?;
-    let ids = classes_of(alloc, &mut views, lasts, symmetric)?;
-    let numbered = number_all(alloc, &ids.ids, views.len() as usize)?;
-    let classes = pick(alloc, &ids.ids, &numbered.firsts)?;
+    let points = points_of(alloc, &mut views, lasts, symmetric)?;
+    let inputs = inputs.to_vec(alloc)?;
     Ok(Protocol {
         rounds,
         views,
-        view_count: ids.view_count,
-        classes,
-        firsts: numbered.firsts,
+        view_count: points.view_count,
+        classes: points.classes,
+        firsts: points.firsts,
+        inputs,
         executions,
-        places,
-        numbers: numbered.places,
+        numbers: points.numbers,
     })
 }
 
-/// The point of a process, where these processes have these points.
-fn point_among(places: &[Place], points: &[u32], process: u8) -> Option<u32>
-    requires { length places.now ≡ length points.now }
-    ensures { result ≡ point_in process (pairs_of places.now points.now) }
+/// The point of a process, where the processes of a simplex have these points.
+fn point_among(simplex: &Simplex, points: &[u32], process: u8) -> Option<u32>
+    requires { length simplex.now ≡ length points.now }
+    ensures { result ≡ point_in process (zip (processes_of simplex.now) points.now) }
 {
-    for (i, place) in places.iter().enumerate() {
-        if place.process() == process {
-            return Some(points[i]);
+    for place in 0..simplex.colours() {
+        if simplex.colour(place) == process {
+            return Some(points[place as usize]);
         }
     }
     None

@@ -1,6 +1,6 @@
 //! The answer of all workers together.
 
-ghost use Rattle.std.specs.Prelude.{◌≡◌, ◌+◌, ◌*◌, ◌^◌, ◌<◌, ◌≤◌, map, length, All, IfOk};
+ghost use Rattle.std.specs.Prelude.{◌≡◌, ◌+◌, ◌*◌, ◌^◌, ◌<◌, ◌≤◌, map, length, All, IfOk, OnOk};
 ghost use Rattle.wf_model.specs.Limits.{most_workers};
 ghost use Rattle.wf_model.specs.Outline.{boxes_left_out};
 ghost use Rattle.wf_board.specs.Desk.{fresh_desk};
@@ -26,7 +26,7 @@ use wf_box::{Answers, Problem};
 use wf_core::Account;
 use wf_handout::Handout;
 use wf_lines::Lines;
-use wf_search::{Cover, Found, search_with, split};
+use wf_search::{Cover, Found, search_with, split_with};
 
 /// The most workers that [`solve`] takes.
 pub const MAX_WORKERS: u32 = 64;
@@ -55,7 +55,8 @@ pub fn solve<R: Threads + Sync, H: Handout, G: Gate>(
     ensures answer { IfOk result (λ r. IsAnswer problem.now kept r.0) }
     ensures account { IfOk result (λ r. HasAccount problem.now r.0 r.1) }
 {
-    let cover = branches_of(alloc, problem)?;
+    let mut answers = Answers::new(alloc);
+    let cover = branches_of(alloc, problem, &mut answers)?;
     let branches = cover.branches();
     let used = workers.min(branches).max(1);
     gate.branches(branches);
@@ -93,11 +94,11 @@ pub fn solve_one_watched<G: Gate>(
     ensures account { IfOk result (λ r. HasAccount problem.now r.0 r.1) }
     ensures in_order { IfOk result (λ r. IsInOrder r.0 r.1) }
 {
-    let cover = branches_of(alloc, problem)?;
+    let mut answers = Answers::new(alloc);
+    let cover = branches_of(alloc, problem, &mut answers)?;
     let branches = cover.branches();
     gate.branches(branches);
     let mut lists = Vec::with_capacity(alloc, branches as usize)?;
-    let mut answers = Answers::new(alloc);
     for branch in 0..branches {
         match search_whole(alloc, problem, kept, &cover, branch, gate, &mut answers)? {
             Answer::Map(map, own) => {
@@ -137,23 +138,25 @@ pub fn solve_branch<G: Gate>(
 ) -> Result<BranchAnswer, AllocError>
     ensures { IfOk result (HasBranchAnswer problem.now kept branch) }
 {
-    let cover = branches_of(alloc, problem)?;
+    let mut answers = Answers::new(alloc);
+    let cover = branches_of(alloc, problem, &mut answers)?;
     let branches = cover.branches();
     if branch >= branches {
         return Ok(BranchAnswer::Missing(branches));
     }
     gate.branches(1);
-    let mut answers = Answers::new(alloc);
     let answer = search_whole(alloc, problem, kept, &cover, branch, gate, &mut answers)?;
     Ok(BranchAnswer::Answered(answer, branches))
 }
 
-/// The branches of a problem.
-fn branches_of(alloc: Global, problem: &Problem) -> Result<Cover, AllocError>
-    ensures { IfOk result (IsCoverOf problem.now) }
+/// The branches of a problem, and it leaves what closing found out for their searches.
+fn branches_of(alloc: Global, problem: &Problem, answers: &mut Answers) -> Result<Cover, AllocError>
+    requires { ServeFor problem.now answers.old }
+    ensures cover { IfOk result (IsCoverOf problem.now) }
+    ensures answers { OnOk result (ServeFor problem.now answers.new) }
 {
     let _points = problem.points();
-    split(alloc, problem)
+    split_with(alloc, problem, answers)
 }
 
 /// What a branch has, by a search that a gate is told of. Of its lines those that aren't kept are

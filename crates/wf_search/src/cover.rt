@@ -112,8 +112,13 @@ pub fn split(alloc: Global, problem: &Problem) -> Result<Cover, AllocError>
     split_with(alloc, problem, &mut answers)
 }
 
-/// The same, with what closing found out earlier, and it leaves what is known then.
-fn split_with(alloc: Global, problem: &Problem, answers: &mut Answers) -> Result<Cover, AllocError>
+/// The same as [`split`], with what closing found out earlier, which this saves finding out again;
+/// and it leaves what is known then.
+pub fn split_with(
+    alloc: Global,
+    problem: &Problem,
+    answers: &mut Answers,
+) -> Result<Cover, AllocError>
     requires { ServeFor problem.now answers.old }
     ensures outline { IfOk result (λ cover. cover ≡ outline problem.now) }
     ensures branches { IfOk result (λ cover. boxes_left_out cover ≡ split problem.now) }

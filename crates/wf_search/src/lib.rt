@@ -5,7 +5,8 @@
 //!   [`search_with`]: the same, for several boxes of one problem in turn.
 //! - [`split`]: the branches of a problem, in order, as a [`Cover`], which makes one refutation of
 //!   the root from those of its branches, or the lines that lead to its least map from those of the
-//!   branches up to the map's.
+//!   branches up to the map's. [`split_with`]: the same, before searches that go on with what it
+//!   found out.
 //!
 //! A turn of the search closes a box, and goes on at the first point that has
 //! two candidates or more. Memory is taken only where the search goes deeper
@@ -18,6 +19,6 @@ mod pending;
 mod searching;
 mod stop;
 
-pub use cover::{Cover, split};
+pub use cover::{Cover, split, split_with};
 pub use searching::{Found, search, search_with};
 pub use stop::{Never, Stop};

@@ -1,8 +1,8 @@
-use Rattle.std.proofs.Common.{[], map, ◌≡◌, ◌≤◌, None, length, get_or, refl, sym, ap, ◌∙◌, subst, arith, eqb-true}
+use Rattle.std.proofs.Common.{[], map, ◌≡◌, ◌≤◌, None, length, get_or, refl, sym, ap, ◌∙◌, subst, arith, eqb-true, inl, inr}
 use Rattle.std.proofs.lemmas.List.{length-map, nil_from_length}
 use Rattle.wf_model.specs.Simplex.{processes_of}
 use Rattle.wf_model.specs.Problem.{Problem, constraint_at}
-use Rattle.wf_model.specs.Closing.{Step, and_then}
+use Rattle.wf_model.specs.Closing.{Step, and_then, lost}
 use Rattle.wf_lane.specs.Table.{HasSupported}
 use Rattle.wf_set.specs.Sets.{box_of, values_in}
 use Rattle.wf_box.specs.Problems.{IsWithin, constraint_in, constraint_seen, no_rule, rule_in, rule_of}
@@ -13,9 +13,11 @@ use Rattle.wf_box.specs.declared.problem.Rule.{Rule}
 use Rattle.wf_box.proofs.ProblemLemmas.{known_at}
 use Rattle.wf_box.proofs.StepLemmas.{lost_in_turn, then_keeps}
 use Rattle.wf_box.proofs.NameLemmas.{named_none, named_then, point_of_place}
-use Rattle.wf_box.proofs.QuietLemmas.{untouched_none, untouched_then}
-use Rattle.wf_box.proofs.PlaceLemmas.{keeps_all, place_done, no_place_more}
-use Rattle.wf_box.proofs.WorkLemmas.{execution_is, execution_told, execution_within, found_is, proceeds_known, proceeds_then, still_working, supported_here}
+use Rattle.wf_box.proofs.QuietLemmas.{nothing_lost, untouched_none, untouched_then}
+use Rattle.wf_box.proofs.PlaceLemmas.{keeps_all, loses_nothing, place_done, no_place_more}
+use Rattle.wf_box.proofs.WorkLemmas.{execution_is, execution_told, execution_within, found_is, proceeds_known, proceeds_marked, proceeds_then, still_working, supported_here}
+use Rattle.wf_model.specs.Box.{count}
+use Rattle.wf_box.proofs.LeftLemmas.{left_supports}
 use Rattle.wf_box.proofs.closing.revise.Goals as goal
 
 pub returns-in_default-clause-step : goal.returns-in_default-clause-step
@@ -37,6 +39,26 @@ returns-in_default-clause-step c =
     keeps_all n.rules.items x rule words (found_at x words) c.args.number c.args.lines.now.items known (subst (λ m. IsWithin (length n.rules.items) m x) (sym c.requires.working.long) inside) few
     refl (subst (λ (r : Rule). HasSupported (found_at x words) r.table (found_at x words)) known.is all)
     ∙ ap (λ k. and_then (reached c.args.lines.now.items None words) (revision c.args.number k)) (sym seen)
+
+pub returns-in_default-clause-quiet : goal.returns-in_default-clause-quiet
+returns-in_default-clause-quiet c = λ none.
+    let n = c.args.network.now in
+    let x = c.index.result.now in
+    let rule = c.index-rule.result.now in
+    let words = c.args.workspace.now.tracked.words.items in
+    let sets = c.deref.result.now in
+    let inside = execution_within n c.args.number x c.requires.network c.requires.number c.index.ensures in
+    let known = known_at n.rules.items n.points x rule inside c.requires.network.wide c.index-rule.ensures in
+    let seen : constraint_in n c.args.number ≡ constraint_seen n.rules.items x = ap (constraint_seen n.rules.items) (execution_is n c.args.number x c.requires.number c.index.ensures) in
+    let few : length rule.simplex ≤ 4 = omega (arith, ap (λ (r : Rule). length r.simplex) known.is, c.requires.network.narrow x.rule no_rule inside.rule) in
+    let is : found_in n c.args.number sets ≡ found_at x words = found_is n c.args.number x sets words c.requires.number c.index.ensures c.deref.ensures.value in
+    let all : HasSupported (found_at x words) (rule_of n.rules.items x).table (found_at x words) =
+    supported_here n c.args.number x sets words (found_at x words) (found_at x words) c.requires.number c.index.ensures c.deref.ensures.value refl
+    (subst (λ found. HasSupported found (rule_in n c.args.number).table (found_in n c.args.number sets)) is
+    (subst (λ o. HasSupported (left_of (found_in n c.args.number sets) o) (rule_in n c.args.number).table (found_in n c.args.number sets)) c.in_default.is c.supported_at.ensures.supported)) in
+    ap (lost (box_of words)) seen
+    ∙ loses_nothing n.rules.items x rule words (found_at x words) known (subst (λ m. IsWithin (length n.rules.items) m x) (sym c.requires.working.long) inside) few
+    refl (subst (λ (r : Rule). HasSupported (found_at x words) r.table (found_at x words)) known.is all)
 
 pub places-init : goal.places-init
 places-init c = (
@@ -91,16 +113,7 @@ pub returns-then-take_place-clause-proceeds : goal.returns-then-take_place-claus
 returns-then-take_place-clause-proceeds c = proceeds_then _ _ _ _ _ _ c.places.workspace _ _ c.places.invariant.2 c.if-take_place.ensures.proceeds
 
 pub returns-then-take_place-clause-untouched : goal.returns-then-take_place-clause-untouched
-returns-then-take_place-clause-untouched c = untouched_then c.args.network.now.users _ _ _ _ _ _ c.places.invariant.3 c.take_place.ensures.untouched
-
-pub returns-then-take_place-clause-silent : goal.returns-then-take_place-clause-silent
-returns-then-take_place-clause-silent c =
-    let n = c.args.network.now in
-    let x = c.index.result.now in
-    let user = execution_told n c.args.number x c.requires.network c.requires.number c.index.ensures c.places.place (omega (arith, c.places-test.true, c.colours-colours.ensures.few)) in
-    let silent : IsSilent c.args.number c.args.workspace.now c.take_place.new.workspace = λ none.
-    c.take_place.ensures.silent c.args.number user none ∙ c.places.invariant.4 ((c.take_place.ensures.untouched c.args.number none).0) in
-    silent
+returns-then-take_place-clause-untouched c = λ e other none. untouched_then c.args.network.now.users _ _ _ _ _ _ c.places.invariant.3 c.take_place.ensures.untouched e none
 
 -- a place that loses nothing is passed over
 pub places-preserved-then-is_empty : goal.places-preserved-then-is_empty
@@ -166,3 +179,53 @@ returns-clause-named c =
     let x = c.index.result.now in
     let seen : constraint_in n c.args.number ≡ constraint_seen n.rules.items x = ap (constraint_seen n.rules.items) (execution_is n c.args.number x c.requires.number c.index.ensures) in
     λ p at. c.places.invariant.0 p (at ∙ seen)
+
+pub candidates_at-left-requires-clause-within : goal.candidates_at-left-requires-clause-within
+candidates_at-left-requires-clause-within c =
+    let inside = execution_within c.args.network.now c.args.number c.index.result.now c.requires.network c.requires.number c.index.ensures in
+    λ i d low. omega (arith, inside.points_within i d low, c.places.invariant.2.long, ap length c.deref-3.ensures.value)
+
+pub unmark-requires-clause-number : goal.unmark-requires-clause-number
+unmark-requires-clause-number c = omega (arith, c.requires.number, c.places.invariant.2.marks_long)
+
+pub returns-clause-proceeds : goal.returns-clause-proceeds
+returns-clause-proceeds c = proceeds_marked _ _ _ _ _ c.places.workspace _ _ c.unmark.ensures.long c.places.invariant.2
+
+pub returns-clause-untouched : goal.returns-clause-untouched
+returns-clause-untouched c = λ e other none. c.places.invariant.3 e (sym (c.unmark.ensures.others e other) ∙ none)
+
+pub returns-clause-quiet : goal.returns-clause-quiet
+returns-clause-quiet c = λ none.
+    let n = c.args.network.now in
+    let x = c.index.result.now in
+    let rule = c.index-rule.result.now in
+    let words = c.args.workspace.now.tracked.words.items in
+    let fewer = c.places.workspace.tracked.words.items in
+    let done = c.places.invariant.2 in
+    let inside = execution_within n c.args.number x c.requires.network c.requires.number c.index.ensures in
+    let known = known_at n.rules.items n.points x rule inside c.requires.network.wide c.index-rule.ensures in
+    let seen : constraint_in n c.args.number ≡ constraint_seen n.rules.items x = ap (constraint_seen n.rules.items) (execution_is n c.args.number x c.requires.number c.index.ensures) in
+    let few : length rule.simplex ≤ 4 = omega (arith, c.colours-colours.ensures.count, c.colours-colours.ensures.few) in
+    let ps = processes_of rule.simplex in
+    let many : length ps ≡ length rule.simplex = length-map rule.simplex (λ v. v.0) in
+    let step : reached c.places.lines.items None fewer ≡ and_then (reached c.args.lines.now.items None words) (revision c.args.number (constraint_seen n.rules.items x)) =
+    sym (no_place_more (reached c.places.lines.items None fewer) c.args.number (box_of words) (constraint_seen n.rules.items x) c.places.place ps x.points known.scope
+    (omega (arith, many, c.colours-colours.ensures.count, c.places-test.false)) (omega (arith, many, c.colours-colours.ensures.count, c.colours-colours.ensures.few, inside.long)))
+    ∙ c.places.invariant.1 in
+    let found_here : c.candidates_at-found.result ≡ found_at x words = c.candidates_at-found.ensures.candidates ∙ ap (found_at x) c.deref-2.ensures.value in
+    let left_here : c.candidates_at-left.result ≡ found_at x fewer = c.candidates_at-left.ensures.candidates ∙ ap (found_at x) c.deref-3.ensures.value in
+    let right : HasSupported c.in-Some.supported rule.table c.candidates_at-found.result =
+    subst (λ (r : Rule). HasSupported c.in-Some.supported r.table c.candidates_at-found.result) known.is
+    (supported_here n c.args.number x c.deref.result.now words c.candidates_at-found.result c.in-Some.supported c.requires.number c.index.ensures c.deref.ensures.value found_here
+    (subst (λ o. HasSupported (left_of (found_in n c.args.number c.deref.result.now) o) (rule_in n c.args.number).table (found_in n c.args.number c.deref.result.now)) c.in-Some.is c.supported_at.ensures.supported)) in
+    ap (lost (box_of fewer)) seen
+    ∙ elim (c.unmark.ensures.same none) [
+      | inl same ↦
+          loses_nothing n.rules.items x rule fewer c.candidates_at-left.result known (subst (λ m. IsWithin (length n.rules.items) m x) (sym done.long) inside) few left_here
+          (left_supports rule.table c.in-Some.supported c.candidates_at-found.result c.candidates_at-left.result (omega (arith, known.wide, few, c.candidates_at-found.ensures.long)) (omega (arith, known.wide, few, c.candidates_at-left.ensures.long)) right
+          (λ i low. same i (omega (arith, low, known.wide, c.colours-colours.ensures.count))))
+      | inr before ↦
+          (let kept = c.places.invariant.4 before in
+          nothing_lost (constraint_seen n.rules.items x) c.args.lines.now.items c.places.lines.items words fewer c.args.number kept
+          (omega (arith, done.ends.1, ap (λ ws. count (box_of ws)) kept, c.places.lines.ok.0, c.args.lines.now.ok.0)) step)
+    ]

@@ -1,11 +1,10 @@
-use Rattle.std.proofs.Common.{◌<◌, None, Some, length, refl, arith, ap, sym, ◌∙◌, subst, All}
+use Rattle.std.proofs.Common.{◌<◌, None, Some, length, refl, arith, sym, ◌∙◌, subst, All}
 use Rattle.std.proofs.lemmas.List.{length-map}
-use Rattle.wf_model.specs.Box.{count}
-use Rattle.wf_box.specs.Problems.{IsWithin, constraint_in, constraint_seen, constraints_in}
+use Rattle.wf_box.specs.Problems.{IsWithin, constraint_seen, constraints_in}
 use Rattle.wf_box.specs.Quiet.{IsQuietBut, no_execution}
 use Rattle.wf_set.specs.Sets.{box_of}
 use Rattle.wf_box.proofs.NameLemmas.{named_none, named_then, seen_at}
-use Rattle.wf_box.proofs.QuietLemmas.{next_turn, nothing_lost, pass_all, quiet_again}
+use Rattle.wf_box.proofs.QuietLemmas.{next_turn, pass_all, quiet_again}
 use Rattle.wf_box.proofs.WorkLemmas.{proceeds_marked, proceeds_none, proceeds_then}
 use Rattle.wf_box.proofs.closing.sweep_marked.Goals as goal
 
@@ -66,8 +65,7 @@ marked-preserved c =
     let but : IsQuietBut c.in-Some.number (constraints_in n) c.take_next.new.self.words.items (box_of words) = λ e other inside none. c.marked.invariant.3 e inside (sym (c.in-Some.ensures.others e other) ∙ none) in
     let quiet = quiet_again n.rules.items n.executions.items n.users c.in-Some.number words c.take_next.new.self.words.items fewer c.revise.new.workspace.marks.words.items
     (subst (λ m. All (IsWithin (length n.rules.items) m) n.executions.items) (sym done.long) c.requires.network.within) c.requires.network.told (r.proceeds.long ∙ sym done.long) but r.untouched
-    (λ none. nothing_lost (constraint_in n c.in-Some.number) c.marked.lines.items c.revise.new.lines.items words fewer c.in-Some.number (r.silent none)
-    (omega (arith, r.proceeds.ends.1, ap (λ ws. count (box_of ws)) (r.silent none), c.revise.new.lines.ok.0, c.marked.lines.ok.0)) r.step) in (
+    r.quiet in (
       λ p is. named_then p _ _ _ _ _ _ (c.marked.invariant.0 p is) (r.named p (seen_at p n.rules.items n.executions.items c.in-Some.number no_execution is low)),
       step,
       proceeds_then _ _ _ _ _ _ c.marked.workspace _ _ done r.proceeds,

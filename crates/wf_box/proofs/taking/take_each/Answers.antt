@@ -1,59 +1,44 @@
-use Rattle.std.proofs.Common.{◌≤◌, get_or, ◌≡◌, [], None, Some, ◌∙◌, sym, ap, map, arith}
-use Rattle.std.proofs.lemmas.Grind.{common_steps}
-use Rattle.wf_model.specs.Problem.{Problem, constraint_at}
-use Rattle.wf_model.specs.Closing.{and_then}
-use Rattle.wf_set.specs.Sets.{box_of}
-use Rattle.wf_complex.specs.Protocol.{point_in}
-use Rattle.wf_box.specs.Steps.{IsNamed, loss, reached, take_present}
-use Rattle.wf_box.proofs.StepLemmas.{then_keeps}
-use Rattle.std.specs.List.{slice_set}
-use Rattle.wf_model.specs.Box.{count}
-use Rattle.wf_box.proofs.TakingLemmas.{set_then}
-use Rattle.wf_box.proofs.NameLemmas.{named_then}
-use Rattle.wf_box.proofs.taking.take_each.Goals.{else-holds-via-then-holds+else-take_out, else-holds-via-else-holds}
+use Rattle.std.proofs.Common.{◌≡◌, [], length, get_or, refl, arith}
+use Rattle.std.proofs.lemmas.List.{nil_from_length}
+use Rattle.wf_set.specs.Sets.{values_in}
+use Rattle.wf_box.proofs.BulkLemmas.{bulk_fewer, bulk_is_named, bulk_none, bulk_step}
+use Rattle.wf_box.proofs.TakingLemmas.{no_value, some_value}
 use Rattle.wf_box.proofs.taking.take_each.Goals as goal
 
-pub returns-then-take_out-clause-named : goal.returns-then-take_out-clause-named
-returns-then-take_out-clause-named c = λ p at. named_then p _ _ _ _ _ _ (c.values.invariant.3 p at) (c.take_out.ensures.named p at)
+pub name_each-requires : goal.name_each-requires
+name_each-requires c =
+    let words = c.args.sets.now in
+    let v = c.args.place.point in
+    omega (arith, c.requires.room, bulk_fewer words v c.difference-left.result c.meet-gone.result c.args.values (get_or words v []) c.requires.point refl c.difference-left.ensures c.meet-gone.ensures)
 
-named_on : (c : goal.Joined-else-holds) → (p : Problem) → point_in c.args.place.process (constraint_at p c.args.place.execution).scope ≡ Some c.args.place.point → IsNamed p c.args.lines.now.items c.args.sets.now c.else-holds.lines.items c.else-holds.sets
-named_on c p at =
-    elim c.else-holds.branch [
-      | else-holds-via-then-holds+else-take_out w ↦
-          rw (w.sets-is, w.lines-is) (named_then p _ _ _ _ _ _ (c.values.invariant.3 p at) (w.take_out.ensures.named p at))
-      | else-holds-via-else-holds w ↦ rw (w.sets-is, w.lines-is) (c.values.invariant.3 p at)
-    ]
-
-others_on : (c : goal.Joined-else-holds) → c.else-holds.sets ≡ slice_set c.args.sets.now c.args.place.point (get_or c.else-holds.sets c.args.place.point [])
-others_on c =
-    elim c.else-holds.branch [
-      | else-holds-via-then-holds+else-take_out w ↦ rw w.sets-is (set_then c.args.sets.now c.values.sets w.take_out.new.sets c.args.place.point c.values.invariant.5 w.take_out.ensures.others)
-      | else-holds-via-else-holds w ↦ rw w.sets-is c.values.invariant.5
-    ]
-
-fewer_on : (c : goal.Joined-else-holds) → count (box_of c.else-holds.sets) ≤ count (box_of c.args.sets.now)
-fewer_on c =
-    elim c.else-holds.branch [
-      | else-holds-via-then-holds+else-take_out w ↦ rw w.sets-is (omega (arith, c.values.invariant.6, w.take_out.ensures.fewer))
-      | else-holds-via-else-holds w ↦ rw w.sets-is c.values.invariant.6
-    ]
-
-same_on : (c : goal.Joined-else-holds) → count (box_of c.else-holds.sets) ≡ count (box_of c.args.sets.now) → c.else-holds.sets ≡ c.args.sets.now
-same_on c =
-    elim c.else-holds.branch [
-      | else-holds-via-then-holds+else-take_out w ↦
-          rw w.sets-is (λ is. w.take_out.ensures.same (omega (arith, c.values.invariant.6, w.take_out.ensures.fewer, is)) ∙ c.values.invariant.7 (omega (arith, c.values.invariant.6, w.take_out.ensures.fewer, is)))
-      | else-holds-via-else-holds w ↦ rw w.sets-is c.values.invariant.7
-    ]
-
-pub returns-then-take_out-clause-others : goal.returns-then-take_out-clause-others
-returns-then-take_out-clause-others c = set_then c.args.sets.now c.values.sets c.take_out.new.sets c.args.place.point c.values.invariant.5 c.take_out.ensures.others
-
-pub values-preserved : goal.values-preserved
-values-preserved c = (grind (arith, common_steps), grind (arith, common_steps), grind (arith, common_steps), named_on c, grind (arith, common_steps), others_on c, fewer_on c, same_on c)
+pub returns-then-is_empty-2-clause-step : goal.returns-then-is_empty-2-clause-step
+returns-then-is_empty-2-clause-step c =
+    bulk_none c.args.place c.args.lines.now.items c.args.sets.now c.meet-gone.result c.args.values (get_or c.args.sets.now c.args.place.point []) c.requires.point refl c.meet-gone.ensures (no_value c.meet-gone.result c.if-is_empty-2.ensures)
 
 pub returns-clause-step : goal.returns-clause-step
 returns-clause-step c =
-    sym (then_keeps (reached c.values.lines.items None c.values.sets))
-    ∙ sym (ap (λ vs. and_then (reached c.values.lines.items None c.values.sets) (take_present c.args.place.execution (map (loss c.args.place.process c.args.place.point) vs))) c.in_default.ensures)
-    ∙ c.values.invariant.4
+    bulk_step c.args.place c.args.lines.now.items c.name_each.new.lines.items c.args.sets.now c.difference-left.result c.meet-gone.result c.args.values (get_or c.args.sets.now c.args.place.point []) c.requires.point refl c.difference-left.ensures c.meet-gone.ensures
+    (some_value c.difference-left.result c.if-is_empty.ensures) c.name_each.ensures.lines
+
+pub returns-clause-named : goal.returns-clause-named
+returns-clause-named c = λ p at.
+    bulk_is_named p c.args.place c.args.lines.now.items c.name_each.new.lines.items c.args.sets.now c.difference-left.result c.meet-gone.result c.args.values (get_or c.args.sets.now c.args.place.point []) at c.requires.point refl c.difference-left.ensures c.meet-gone.ensures c.name_each.ensures.lines
+
+pub returns-clause-fewer : goal.returns-clause-fewer
+returns-clause-fewer c =
+    omega (arith, bulk_fewer c.args.sets.now c.args.place.point c.difference-left.result c.meet-gone.result c.args.values (get_or c.args.sets.now c.args.place.point []) c.requires.point refl c.difference-left.ensures c.meet-gone.ensures)
+
+pub returns-clause-spent : goal.returns-clause-spent
+returns-clause-spent c =
+    omega (arith, c.name_each.ensures.len, bulk_fewer c.args.sets.now c.args.place.point c.difference-left.result c.meet-gone.result c.args.values (get_or c.args.sets.now c.args.place.point []) c.requires.point refl c.difference-left.ensures c.meet-gone.ensures)
+
+pub returns-clause-room : goal.returns-clause-room
+returns-clause-room c =
+    omega (arith, c.requires.room, c.name_each.ensures.len, c.name_each.ensures.room, bulk_fewer c.args.sets.now c.args.place.point c.difference-left.result c.meet-gone.result c.args.values (get_or c.args.sets.now c.args.place.point []) c.requires.point refl c.difference-left.ensures c.meet-gone.ensures)
+
+-- some value was there, and is not any more
+pub returns-clause-same : goal.returns-clause-same
+returns-clause-same c = λ is.
+    let some = some_value c.meet-gone.result c.if-is_empty-2.ensures in
+    let none : length (values_in c.meet-gone.result) ≡ 0 = omega (arith, is, bulk_fewer c.args.sets.now c.args.place.point c.difference-left.result c.meet-gone.result c.args.values (get_or c.args.sets.now c.args.place.point []) c.requires.point refl c.difference-left.ensures c.meet-gone.ensures) in
+    absurd (some (nil_from_length (values_in c.meet-gone.result) none))

@@ -1,9 +1,12 @@
-use Rattle.std.proofs.Common.{◌∙◌, ap, arith}
-use Rattle.wf_complex.specs.Places.{Place}
+use Rattle.std.proofs.Common.{◌≡◌, ◌<◌, length, ◌∙◌, arith}
+use Rattle.std.proofs.lemmas.List.{length-map}
+use Rattle.wf_model.specs.Simplex.{processes_of}
 use Rattle.wf_complex.proofs.PlaceLemmas.{point_in-other}
 use Rattle.wf_complex.proofs.protocol.point_among.Goals as goal
 
-pub loop-i-preserved : goal.loop-i-preserved
-loop-i-preserved c =
-    let here : Place = c.index-places-i.result in
-    point_in-other c.args.process c.args.places.now c.args.points.now c.loop-i.i here (omega arith) c.requires (λ same. c.if-process.false (c.process.ensures ∙ ap (λ (p : Place). p.process) c.index-places-i.is ∙ same)) ∙ c.loop-i.invariant
+pub loop-place-preserved : goal.loop-place-preserved
+loop-place-preserved c =
+    let s = c.args.simplex.now in
+    let long : length (processes_of c.args.simplex.now) ≡ length c.args.simplex.now = length-map s (λ v. v.0) in
+    let low : c.loop-place.place < length (processes_of c.args.simplex.now) = omega (arith, c.loop-place-test.true, c.colours-place-end.ensures.count, long) in
+    point_in-other c.args.process (processes_of s) c.args.points.now c.loop-place.place low (long ∙ c.requires) (λ same. c.if-colour-process.false (c.colour.ensures ∙ same)) ∙ c.loop-place.invariant

@@ -10,7 +10,7 @@ use Rattle.wf_pool.proofs.solving.solve_one_watched.Goals as goal
 pub lines_to_map-requires-clause-branch : goal.lines_to_map-requires-clause-branch
 lines_to_map-requires-clause-branch g c =
     let here = c.loop-branch.invariant.0 in
-    let count = c.branches-branches.ensures.branches ∙ count_of_cover c.args.problem.now c.in_ok-cover.cover c.in_ok-cover.ensures in
+    let count = c.branches-branches.ensures.branches ∙ count_of_cover c.args.problem.now c.in_ok-cover.cover c.in_ok-cover.ensures.cover in
     let low = c.loop-branch-test.true in
     omega arith
 
@@ -19,7 +19,7 @@ returns-in-Map-clause-answer g c =
     let p = c.args.problem.now in
     let own = c.in-Map.own.items in
     let lines = c.in_ok-lines-in-Map.lines.items in
-    first_answer p c.args.kept c.loop-branch.branch c.in-Map.map.items own lines c.in_ok-cover.ensures.well_formed
+    first_answer p c.args.kept c.loop-branch.branch c.in-Map.map.items own lines c.in_ok-cover.ensures.cover.well_formed
     (subst (IsAnswerAt p c.args.kept c.loop-branch.branch) c.in-Map.is c.in_ok-map.ensures.branch)
     (λ j low. lines_are p c.args.kept j _ (c.loop-branch.invariant.1 j low))
     (subst (λ n. LeadIfKept p c.args.kept n own lines) c.loop-branch.invariant.0 c.in_ok-lines-in-Map.ensures)
@@ -28,8 +28,8 @@ pub returns-in-Map-clause-account : goal.returns-in-Map-clause-account
 returns-in-Map-clause-account g c =
     let p = c.args.problem.now in
     let low = c.loop-branch-test.true in
-    let count = c.branches-branches.ensures.branches ∙ count_of_cover p c.in_ok-cover.cover c.in_ok-cover.ensures in
-    account_of_map p c.args.kept c.in-Map.map.items c.in-Map.own.items _ c.in_ok-cover.ensures.well_formed count
+    let count = c.branches-branches.ensures.branches ∙ count_of_cover p c.in_ok-cover.cover c.in_ok-cover.ensures.cover in
+    account_of_map p c.args.kept c.in-Map.map.items c.in-Map.own.items _ c.in_ok-cover.ensures.cover.well_formed count
     (subst (IsAnswerAt p c.args.kept c.loop-branch.branch) c.in-Map.is c.in_ok-map.ensures.branch) (omega arith) (omega arith)
 
 pub loop-branch-preserved : goal.loop-branch-preserved
@@ -51,7 +51,7 @@ loop-branch-preserved g c =
 pub lines_of_none-requires-clause-count : goal.lines_of_none-requires-clause-count
 lines_of_none-requires-clause-count g c =
     let p = c.args.problem.now in
-    let count = c.branches-branches.ensures.branches ∙ count_of_cover p c.in_ok-cover.cover c.in_ok-cover.ensures in
+    let count = c.branches-branches.ensures.branches ∙ count_of_cover p c.in_ok-cover.cover c.in_ok-cover.ensures.cover in
     let here = c.loop-branch.invariant.0 in
     let low = c.loop-branch-test.false in
     let end = c.loop-branch.auto.branch-end in
@@ -60,11 +60,11 @@ lines_of_none-requires-clause-count g c =
 pub lines_of_none-requires-clause-lists : goal.lines_of_none-requires-clause-lists
 lines_of_none-requires-clause-lists g c = λ i inside.
     let p = c.args.problem.now in
-    let count = c.branches-branches.ensures.branches ∙ count_of_cover p c.in_ok-cover.cover c.in_ok-cover.ensures in
+    let count = c.branches-branches.ensures.branches ∙ count_of_cover p c.in_ok-cover.cover c.in_ok-cover.ensures.cover in
     let low = c.loop-branch-test.false in
     let end = c.loop-branch.auto.branch-end in
     c.loop-branch.invariant.1 i (omega arith)
 
 pub returns-clause-account : goal.returns-clause-account
 returns-clause-account g c =
-    account_of_none c.args.problem.now _ (c.branches-branches.ensures.branches ∙ count_of_cover c.args.problem.now c.in_ok-cover.cover c.in_ok-cover.ensures) refl refl refl
+    account_of_none c.args.problem.now _ (c.branches-branches.ensures.branches ∙ count_of_cover c.args.problem.now c.in_ok-cover.cover c.in_ok-cover.ensures.cover) refl refl refl

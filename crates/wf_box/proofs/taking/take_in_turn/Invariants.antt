@@ -6,7 +6,7 @@ use Rattle.wf_set.specs.Sets.{box_of, values_in}
 use Rattle.wf_box.specs.Steps.{HasRoom, IsNamed, IsSpent, loss, reached, take_present}
 use Rattle.std.specs.List.{slice_set}
 use Rattle.wf_model.specs.Box.{count}
-use Rattle.wf_box.proofs.taking.take_each.Given as goal
+use Rattle.wf_box.proofs.taking.take_in_turn.Given as goal
 
 abbrev pub decreases-values : goal.decreases-values
 decreases-values l = length (values_in l.left)

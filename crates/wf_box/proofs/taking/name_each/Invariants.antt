@@ -1,0 +1,12 @@
+use Rattle.std.proofs.Common.{◌≡◌, ◌≤◌, ◌+◌, ◌++◌, length, vec_len, vec_capacity}
+use Rattle.wf_set.specs.Sets.{values_in}
+use Rattle.wf_box.specs.Steps.{removals}
+use Rattle.wf_box.proofs.taking.name_each.Given as goal
+
+abbrev pub decreases-values : goal.decreases-values
+decreases-values l = length (values_in l.left)
+
+abbrev pub invariant-values : goal.invariant-values
+invariant-values l = (l.lines.items ++ removals l.place (values_in l.left) ≡ l.initial.lines.items ++ removals l.place (values_in l.initial.left))
+    × (vec_len l.lines + length (values_in l.left) ≡ vec_len l.initial.lines + length (values_in l.initial.left))
+    × (vec_capacity l.initial.lines ≤ vec_capacity l.lines)
