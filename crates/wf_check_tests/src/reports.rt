@@ -7,6 +7,7 @@ use crate::changes::{CHANGES, Change, changed, line_count};
 use crate::full::{Full, LARGE, SMALL};
 use crate::plain::plain_task;
 use crate::rows::ROWS;
+use crate::{checking, reading};
 use std::alloc::{AllocError, Global};
 use std::fmt::Write;
 use std::test::Fail;
