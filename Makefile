@@ -20,7 +20,8 @@ build:
 quick:
 	checks/quick
 
-# Everything is proved from nothing, the edits that must fail are tried, and the tests and the rows of command lines are run.
+# Everything is proved, the edits that must fail are tried, and the tests and the rows of command lines are run. What passed on this
+# machine over the same files is taken over: `rt ci --anew` proves all from nothing.
 test:
 	checks/gate
 
