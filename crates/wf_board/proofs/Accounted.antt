@@ -16,7 +16,7 @@ use Rattle.wf_core.specs.Core.{State as Core}
 use Rattle.wf_core.specs.Count.{times, times_in, total}
 use Rattle.wf_core.proofs.Lemmas.{Contains-times, count-cons, length-places, times-append, times-Contains}
 use Rattle.wf_board.specs.declared.table.View.{View}
-use Rattle.wf_board.specs.Desk.{Place, Desk, known, joined, nothing, gathered, all_posted, IsLeast}
+use Rattle.wf_board.specs.Desk.{BoardId, Desk, known, joined, nothing, gathered, all_posted, IsLeast}
 use Rattle.wf_board.specs.Rule.{Posted, Shown}
 use Rattle.wf_board.specs.Shows.{Table, Agree, FinishAnswersTheAccount, ledger_of}
 use Rattle.wf_board.proofs.Views.{counted_stands, stands_counted, stands_not}
@@ -141,7 +141,7 @@ same_least b xs l m p q = let a = at_most l m p q in let c = at_most m l q p in 
       (λ (there : Contains xs k). All-contains (λ x. j ≤ x) xs k u.below there)
       v.reached
 
-module _ (p : Place) (s : Table) (ds : List Desk) (h : Shown (ledger_of p) s) (order : IsPermutation (map known ds) s.views) where
+module _ (p : BoardId) (s : Table) (ds : List Desk) (h : Shown (ledger_of p) s) (order : IsPermutation (map known ds) s.views) where
   post_times : (x : ℕ) → times x (all_posted ds) ≡ times_in (λ v. v.posted) x s.views
   post_times x = gathered_total (λ v. v.posted) (times x) refl (λ v w. refl) refl (times-append x) ds s.views order
 

@@ -16,7 +16,7 @@ use Rattle.wf_core.specs.Core.{State as Core, Is, Saw, after, start}
 use Rattle.wf_core.specs.Count.{times, times_in}
 use Rattle.wf_core.proofs.Lemmas.{set_at, set_else, at_set, at_replicate, put_at, times-append, times_same, times_other, total_set}
 use Rattle.wf_board.specs.declared.table.View.{View}
-use Rattle.wf_board.specs.Desk.{Place, fresh_desk, known, looked, posted, searched, is_cut}
+use Rattle.wf_board.specs.Desk.{BoardId, fresh_desk, known, looked, posted, searched, is_cut}
 use Rattle.wf_board.specs.Rule.{Stands}
 use Rattle.wf_board.specs.Shows.{Agree, Shows, StartIsShown, LookIsEvent, PostIsEvent, SearchedIsEvent, CutIsEvent, TakeIsShown, EndIsShown}
 use Rattle.wf_board.proofs.Views.{stands_kept, stands_before, stands_not}
@@ -200,7 +200,7 @@ view_replicate (suc n) a v (suc i) e = view_replicate n a v i e
 none_free : (x : Status) (n i : ℕ) → ¬ (status.Free ≡ x) → ¬ (slice_get (replicate n status.Free) i ≡ Some x)
 none_free x n i apart e = apart (at_replicate n status.Free x i e)
 
-agree_start : (f : View → List ℕ) (s : State (Unit {0}) View) (p : Place) (x : Status) → s.views ≡ replicate p.workers (known (fresh_desk p)) → f (known (fresh_desk p)) ≡ [] → ¬ (status.Free ≡ x)
+agree_start : (f : View → List ℕ) (s : State (Unit {0}) View) (p : BoardId) (x : Status) → s.views ≡ replicate p.workers (known (fresh_desk p)) → f (known (fresh_desk p)) ≡ [] → ¬ (status.Free ≡ x)
     → Agree f s.views (start p.branches p.workers) x
 agree_start f s p x views empty apart = record {
   listed = λ i q.

@@ -5,13 +5,13 @@ use Rattle.atomic_table.specs.Seated.{TableId}
 use Rattle.wf_board.specs.declared.table.View.{View}
 
 -- a board: which one, and its branches and workers
-pub record Place : Type 0 where
+pub record BoardId : Type 0 where
   pub table : TableId
   pub branches : ℕ
   pub workers : ℕ
 
-abbrev pub place : TableId → ℕ → ℕ → Place
-place table branches workers = record { table = table; branches = branches; workers = workers }
+abbrev pub board_id : TableId → ℕ → ℕ → BoardId
+board_id table branches workers = record { table = table; branches = branches; workers = workers }
 
 -- the numbers of branches and workers that a board may have: at least one
 -- worker, and all that its words count fits in u32
@@ -19,7 +19,7 @@ abbrev pub MayHave : ℕ → ℕ → Type 0
 MayHave branches workers = (0 < workers) × (branches * workers < 2 ^ 32)
 
 -- the board is of so many branches and workers
-abbrev pub HasSize : ℕ → ℕ → Place → Type 0
+abbrev pub HasSize : ℕ → ℕ → BoardId → Type 0
 HasSize branches workers p = (p.branches ≡ branches) × (p.workers ≡ workers)
 
 -- a seat: of which board, the number that it has seen, and the branches that
@@ -37,11 +37,11 @@ desk table branches seen posted refuted cut =
     record { table = table; branches = branches; seen = seen; posted = posted; refuted = refuted; cut = cut }
 
 -- a seat that has done nothing has seen the number of branches
-abbrev pub fresh_desk : Place → Desk
+abbrev pub fresh_desk : BoardId → Desk
 fresh_desk p = desk p.table p.branches p.branches [] [] []
 
 -- a seat for each worker, none of which has done anything
-abbrev pub AreFresh : Place → ℕ → List Desk → Type 0
+abbrev pub AreFresh : BoardId → ℕ → List Desk → Type 0
 AreFresh p workers ds = (length ds ≡ workers) × All (λ d. d ≡ fresh_desk p) ds
 
 -- the branches that the seat has settled
@@ -49,11 +49,11 @@ abbrev pub settled : Desk → List ℕ
 settled d = d.posted ++ (d.refuted ++ d.cut)
 
 -- a seat of this board
-abbrev pub IsSeatOf : Place → Desk → Type 0
+abbrev pub IsSeatOf : BoardId → Desk → Type 0
 IsSeatOf p d = (d.table ≡ p.table) × (d.branches ≡ p.branches)
 
 -- the seat may settle the branch: the board has it, and the seat has not settled it
-abbrev pub MaySettle : Place → Desk → ℕ → Type 0
+abbrev pub MaySettle : BoardId → Desk → ℕ → Type 0
 MaySettle p d branch = (branch < p.branches) × (times branch (settled d) ≡ 0)
 
 -- the number is at most what the seat has seen, and each of its posts
@@ -75,7 +75,7 @@ abbrev pub is_cut : Desk → ℕ → Desk
 is_cut d branch = record d { cut = d.cut ++ branch ∷ [] }
 
 -- seats of this board
-abbrev pub AreSeats : Place → List Desk → Type 0
+abbrev pub AreSeats : BoardId → List Desk → Type 0
 AreSeats p ds = All (IsSeatOf p) ds
 
 -- What seats know of the table
@@ -114,7 +114,7 @@ pub record IsLeast (b : ℕ) (xs : List ℕ) (least : ℕ) : Type 0 where
   pub reached : (least ≡ b) ⊎ Contains xs least
 
 -- these seats are all the workers' seats
-abbrev pub AreAllSeats : Place → List Desk → Type 0
+abbrev pub AreAllSeats : BoardId → List Desk → Type 0
 AreAllSeats p ds = (length ds ≡ p.workers) × AreSeats p ds
 
 -- how many branches were searched: those that were posted, and those that were refuted
@@ -122,5 +122,5 @@ abbrev pub count_searched : List Desk → ℕ
 count_searched ds = length (all_posted ds) + length (all_refuted ds)
 
 -- what each seat has seen is the number of branches, or was posted
-abbrev pub HaveSeenPosts : Place → List Desk → Type 0
+abbrev pub HaveSeenPosts : BoardId → List Desk → Type 0
 HaveSeenPosts p ds = All (λ d. (d.seen ≡ p.branches) ⊎ Contains (all_posted ds) d.seen) ds

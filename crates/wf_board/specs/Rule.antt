@@ -8,7 +8,7 @@ use Rattle.atomic_table.specs.Table.{State, Me, Step}
 use Rattle.wf_core.specs.Count.{times, once_below, total}
 use Rattle.wf_board.specs.declared.table.View.{View}
 use Rattle.wf_board.specs.declared.table.Ledger.{Ledger}
-use Rattle.wf_board.specs.Desk.{Place, Desk, knows, known, looked, posted, searched, is_cut, IsLow, IsLeast}
+use Rattle.wf_board.specs.Desk.{BoardId, Desk, knows, known, looked, posted, searched, is_cut, IsLow, IsLeast}
 
 -- x stands in some seat's list
 abbrev pub Stands : (View → List ℕ) → List View → ℕ → Type 0
@@ -96,5 +96,5 @@ pub record Ends (branches workers : ℕ) (v : View) (least refuted cut : ℕ) : 
   pub room : length v.posted + (length v.refuted + length v.cut) ≤ branches * workers
 
 -- a seat that is still at hand holds the numbers of the workers that have no seat yet
-abbrev pub IsLeft : Place → TableId → Seated → ℕ → Type 0
+abbrev pub IsLeft : BoardId → TableId → Seated → ℕ → Type 0
 IsLeft p table me left = IsRest me left p.branches × (table ≡ p.table)

@@ -15,7 +15,7 @@ use Rattle.wf_core.specs.Core.{State as Core, Is, Saw, IsActive, Step, start}
 use Rattle.wf_core.specs.Count.{times_in}
 use Rattle.wf_board.specs.declared.table.View.{View}
 use Rattle.wf_board.specs.declared.table.Ledger.{Ledger}
-use Rattle.wf_board.specs.Desk.{Place, Desk, fresh_desk, known, looked, posted, searched, is_cut, IsLeast, all_posted, all_cut, count_searched}
+use Rattle.wf_board.specs.Desk.{BoardId, Desk, fresh_desk, known, looked, posted, searched, is_cut, IsLeast, all_posted, all_cut, count_searched}
 use Rattle.wf_board.specs.Rule.{Stands, Shown}
 
 abbrev pub Table : Type 0
@@ -71,7 +71,7 @@ CutIsEvent = (ledger : Ledger) (s : Table) (c : Core) (w : ℕ) (d : Desk) (i : 
 
 -- a table of fresh seats, one for each worker, shows the opening state
 abbrev pub StartIsShown : Type 0
-StartIsShown = (s : Table) (p : Place) → s.words ≡ p.branches ∷ 0 ∷ 0 ∷ [] → s.views ≡ replicate p.workers (known (fresh_desk p))
+StartIsShown = (s : Table) (p : BoardId) → s.words ≡ p.branches ∷ 0 ∷ 0 ∷ [] → s.views ≡ replicate p.workers (known (fresh_desk p))
     → Shows s (start p.branches p.workers)
 
 -- to take a branch and to end are no calls: the table shows the state after them as it is
@@ -82,12 +82,12 @@ TakeIsShown = (s : Table) (c d : Core) (w i : ℕ) → Shows s c → Step c (Tak
 abbrev pub EndIsShown : Type 0
 EndIsShown = (s : Table) (c d : Core) (w : ℕ) → Shows s c → Step c (End w) d → Shows s d
 
-abbrev pub ledger_of : Place → Ledger
+abbrev pub ledger_of : BoardId → Ledger
 ledger_of p = record { branches = p.branches; workers = p.workers }
 
 -- These are all seats, in any order, of a table that the rule allows and that shows the state c of
 -- a pool with as many branches as the board
-pub record AreSeatsAt (p : Place) (s : Table) (c : Core) (ds : List Desk) : Type 0 where
+pub record AreSeatsAt (p : BoardId) (s : Table) (c : Core) (ds : List Desk) : Type 0 where
   pub rule : Shown (ledger_of p) s
   pub shows : Shows s c
   pub branches : length c.branches ≡ p.branches
@@ -95,7 +95,7 @@ pub record AreSeatsAt (p : Place) (s : Table) (c : Core) (ds : List Desk) : Type
 
 -- what `finish` answers by its clauses, from these seats, is the state's account
 abbrev pub FinishAnswersTheAccount : Type 0
-FinishAnswersTheAccount = (p : Place) (s : Table) (c : Core) (ds : List Desk) (a : Account)
+FinishAnswersTheAccount = (p : BoardId) (s : Table) (c : Core) (ds : List Desk) (a : Account)
     → AreSeatsAt p s c ds
     → a.branches ≡ p.branches
     → IsLeast p.branches (all_posted ds) a.least

@@ -2,7 +2,7 @@
 
 ghost use Rattle.std.specs.Prelude.{◌≡◌, ◌+◌, ◌*◌, ◌^◌, ◌<◌, ◌≤◌, [], ◌∷◌, ◌++◌, length, IfOk};
 ghost use Rattle.wf_board.specs.Rule.{Sits, IsLeft, Ends};
-ghost use Rattle.wf_board.specs.Desk.{Desk, Place, desk, place, fresh_desk, gathered};
+ghost use Rattle.wf_board.specs.Desk.{Desk, BoardId, desk, board_id, fresh_desk, gathered};
 ghost use Rattle.wf_board.specs.Desk.{MayHave, HasSize, AreFresh, IsSeatOf, MaySettle, IsLow, AreSeats, AreAllSeats};
 ghost use Rattle.wf_board.specs.Desk.{looked, posted, searched, is_cut};
 ghost use Rattle.wf_board.specs.Desk.{all_posted, all_cut, count_searched, HaveSeenPosts, IsLeast};
@@ -24,9 +24,9 @@ pub struct Board {
 }
 
 impl Model for Board {
-    ghost Value = { Place };
+    ghost Value = { BoardId };
 
-    ghost view = { λ b. place b.table.shared.table_id b.branches b.workers };
+    ghost view = { λ b. board_id b.table.shared.table_id b.branches b.workers };
 
     ghost invariant = { λ b.
         (b.table.shared.table_id.words ≡ 3) × (b.table.shared.table_id.slots ≡ 0)
@@ -57,7 +57,7 @@ impl Model for BoardSeat {
 
 /// A seat with the numbers of the workers that have no seat yet.
 #[derive(Drop)]
-struct Rest {
+struct Unseated {
     seat: Seat<(), View>,
     left: u32,
 }
@@ -168,7 +168,7 @@ impl Board {
         }
     }
 
-    fn open(alloc: Global, branches: u32, workers: u32) -> Result<(Board, Rest), AllocError>
+    fn open(alloc: Global, branches: u32, workers: u32) -> Result<(Board, Unseated), AllocError>
         requires { MayHave branches workers }
         ensures board { IfOk result (λ m. HasSize branches workers m.0) }
         ensures count { IfOk result (λ m. m.1.left ≡ workers) }
@@ -184,14 +184,14 @@ impl Board {
             branches,
             workers,
         };
-        let rest = Rest {
+        let rest = Unseated {
             seat,
             left: workers,
         };
         Ok((board, rest))
     }
 
-    fn hand_all(&self, alloc: Global, mut rest: Rest) -> Result<Vec<BoardSeat>, AllocError>
+    fn hand_all(&self, alloc: Global, mut rest: Unseated) -> Result<Vec<BoardSeat>, AllocError>
         requires some { 0 < rest.left }
         requires rest { IsLeft self.now rest.seat.table_id rest.seat.me rest.left }
         ensures { IfOk result (λ s. AreFresh self.now rest.left s.items) }
@@ -200,13 +200,13 @@ impl Board {
         while rest.left > 1 {
             seats.push(self.hand(&mut rest))?;
         }
-        let Rest { seat, left: _ } = rest;
+        let Unseated { seat, left: _ } = rest;
         seats.push(self.seat_of(seat))?;
         Ok(seats)
     }
 
     /// One worker's number goes to a seat.
-    fn hand(&self, rest: &mut Rest) -> BoardSeat
+    fn hand(&self, rest: &mut Unseated) -> BoardSeat
         requires some { 1 < rest.old.left }
         requires rest { IsLeft self.now rest.old.seat.table_id rest.old.seat.me rest.old.left }
         ensures count { rest.new.left + 1 ≡ rest.old.left }

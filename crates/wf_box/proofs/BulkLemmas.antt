@@ -19,7 +19,7 @@ use Rattle.wf_set.proofs.SetLaws.{values_ascend}
 use Rattle.wf_set.specs.Sets.{box_of, values_in}
 use Rattle.wf_lines.specs.Lines.{line_of}
 use Rattle.wf_lines.specs.declared.line.Line.{Line}
-use Rattle.wf_box.specs.declared.taking.Place.{Place}
+use Rattle.wf_box.specs.declared.taking.Occurrence.{Occurrence}
 use Rattle.wf_box.specs.Closes.{without_at, without_named}
 use Rattle.wf_box.specs.Steps.{IsNamed, loss, reached, removals, take_present}
 use Rattle.wf_box.proofs.StepLemmas.{has_without, here_without, then_keeps}
@@ -164,21 +164,21 @@ bulk_box words v left values here inside same is =
 gone_is : (words : List (List ℕ)) (v : ℕ) (gone values here : List ℕ) → v < length words → here ≡ get_or words v [] → IsGone gone values here → values_in gone ≡ filter (has (candidates (box_of words) v)) (values_in values)
 gone_is words v gone values here inside same is = is ∙ ap (λ t. filter (has t) (values_in values)) (ap values_in same ∙ sym (set_at words v inside))
 
-removal_lines : (place : Place) (values : List ℕ) → map line_of (removals place values) ≡ map (refutation.remove place.execution place.process) values
-removal_lines place [] = refl
-removal_lines place (a ∷ values) = ap (λ ls. refutation.remove place.execution place.process a ∷ ls) (removal_lines place values)
+removal_lines : (occurrence : Occurrence) (values : List ℕ) → map line_of (removals occurrence values) ≡ map (refutation.remove occurrence.execution occurrence.process) values
+removal_lines occurrence [] = refl
+removal_lines occurrence (a ∷ values) = ap (λ ls. refutation.remove occurrence.execution occurrence.process a ∷ ls) (removal_lines occurrence values)
 
-pub bulk_step : (place : Place) (old more : List Line) (words : List (List ℕ)) (left gone values here : List ℕ) → place.point < length words → here ≡ get_or words place.point [] → IsLeft left values here → IsGone gone values here → (values_in left ≡ [] → ⊥) → more ≡ old ++ removals place (values_in gone)
-    → reached more None (slice_set words place.point left) ≡ and_then (reached old None words) (take_present place.execution (map (loss place.process place.point) (values_in values)))
-bulk_step place old more words left gone values here inside same is out some are =
+pub bulk_step : (occurrence : Occurrence) (old more : List Line) (words : List (List ℕ)) (left gone values here : List ℕ) → occurrence.point < length words → here ≡ get_or words occurrence.point [] → IsLeft left values here → IsGone gone values here → (values_in left ≡ [] → ⊥) → more ≡ old ++ removals occurrence (values_in gone)
+    → reached more None (slice_set words occurrence.point left) ≡ and_then (reached old None words) (take_present occurrence.execution (map (loss occurrence.process occurrence.point) (values_in values)))
+bulk_step occurrence old more words left gone values here inside same is out some are =
     let box = box_of words in
-    let v = place.point in
+    let v = occurrence.point in
     let left_is : values_in left ≡ rest_of (values_in values) (candidates box v) = is ∙ ap (rest_of (values_in values)) (ap values_in same ∙ sym (set_at words v inside)) in
-    let main = bulk place.execution place.process v (values_in values) box (values_ascend values) (λ none. some (left_is ∙ none)) in
-    let lines : map line_of (removals place (values_in gone)) ≡ map (refutation.remove place.execution place.process) (filter (has (candidates box v)) (values_in values)) =
-    removal_lines place (values_in gone) ∙ ap (map (refutation.remove place.execution place.process)) (gone_is words v gone values here inside same out) in
+    let main = bulk occurrence.execution occurrence.process v (values_in values) box (values_ascend values) (λ none. some (left_is ∙ none)) in
+    let lines : map line_of (removals occurrence (values_in gone)) ≡ map (refutation.remove occurrence.execution occurrence.process) (filter (has (candidates box v)) (values_in values)) =
+    removal_lines occurrence (values_in gone) ∙ ap (map (refutation.remove occurrence.execution occurrence.process)) (gone_is words v gone values here inside same out) in
     λ i. record {
-      lines = (ap (map line_of) are ∙ map-append line_of old (removals place (values_in gone)) ∙ ap (λ ls. map line_of old ++ ls) (lines ∙ sym (ap (λ (s : Step). s.lines) main))) i;
+      lines = (ap (map line_of) are ∙ map-append line_of old (removals occurrence (values_in gone)) ∙ ap (λ ls. map line_of old ++ ls) (lines ∙ sym (ap (λ (s : Step). s.lines) main))) i;
       left = (ap Some (bulk_box words v left values here inside same is) ∙ sym (ap (λ (s : Step). s.left) main)) i;
     }
 
@@ -186,14 +186,14 @@ pub bulk_fewer : (words : List (List ℕ)) (v : ℕ) (left gone values here : Li
 bulk_fewer words v left gone values here inside same is out =
     omega (arith, ap count (bulk_box words v left values here inside same is), ap length (gone_is words v gone values here inside same out), bulk_spent v (values_in values) (box_of words) (values_ascend values))
 
-pub bulk_is_named : (p : Problem) (place : Place) (old more : List Line) (words : List (List ℕ)) (left gone values here : List ℕ) → point_in place.process (constraint_at p place.execution).scope ≡ Some place.point → place.point < length words → here ≡ get_or words place.point [] → IsLeft left values here → IsGone gone values here → more ≡ old ++ removals place (values_in gone)
-    → IsNamed p old words more (slice_set words place.point left)
-bulk_is_named p place old more words left gone values here at inside same is out are = record {
-  added = removals place (values_in gone);
+pub bulk_is_named : (p : Problem) (occurrence : Occurrence) (old more : List Line) (words : List (List ℕ)) (left gone values here : List ℕ) → point_in occurrence.process (constraint_at p occurrence.execution).scope ≡ Some occurrence.point → occurrence.point < length words → here ≡ get_or words occurrence.point [] → IsLeft left values here → IsGone gone values here → more ≡ old ++ removals occurrence (values_in gone)
+    → IsNamed p old words more (slice_set words occurrence.point left)
+bulk_is_named p occurrence old more words left gone values here at inside same is out are = record {
+  added = removals occurrence (values_in gone);
   lines_are = are;
-  box_is = bulk_box words place.point left values here inside same is
-      ∙ sym (ap (λ ls. without_named p ls (box_of words)) (removal_lines place (values_in gone) ∙ ap (map (refutation.remove place.execution place.process)) (gone_is words place.point gone values here inside same out))
-      ∙ bulk_named_gone p place.execution place.process place.point (values_in values) (box_of words) at);
+  box_is = bulk_box words occurrence.point left values here inside same is
+      ∙ sym (ap (λ ls. without_named p ls (box_of words)) (removal_lines occurrence (values_in gone) ∙ ap (map (refutation.remove occurrence.execution occurrence.process)) (gone_is words occurrence.point gone values here inside same out))
+      ∙ bulk_named_gone p occurrence.execution occurrence.process occurrence.point (values_in values) (box_of words) at);
 }
 
 kept_first : (f : ℕ → Bool) (x : ℕ) (xs : List ℕ) → f x ≡ true → filter f (x ∷ xs) ≡ x ∷ filter f xs
@@ -211,8 +211,8 @@ none_there e p v (x ∷ vs) box h =
       | inr none ↦ rw none (none_there e p v vs box (sym (dropped_first (has (candidates box v)) x vs none) ∙ h))
     ]
 
-pub bulk_none : (place : Place) (old : List Line) (words : List (List ℕ)) (gone values here : List ℕ) → place.point < length words → here ≡ get_or words place.point [] → IsGone gone values here → values_in gone ≡ []
-    → reached old None words ≡ and_then (reached old None words) (take_present place.execution (map (loss place.process place.point) (values_in values)))
-bulk_none place old words gone values here inside same out none =
+pub bulk_none : (occurrence : Occurrence) (old : List Line) (words : List (List ℕ)) (gone values here : List ℕ) → occurrence.point < length words → here ≡ get_or words occurrence.point [] → IsGone gone values here → values_in gone ≡ []
+    → reached old None words ≡ and_then (reached old None words) (take_present occurrence.execution (map (loss occurrence.process occurrence.point) (values_in values)))
+bulk_none occurrence old words gone values here inside same out none =
     sym (then_keeps (reached old None words))
-    ∙ ap (λ (s : Step). and_then (reached old None words) (λ _. s)) (sym (none_there place.execution place.process place.point (values_in values) (box_of words) (sym (gone_is words place.point gone values here inside same out) ∙ none)))
+    ∙ ap (λ (s : Step). and_then (reached old None words) (λ _. s)) (sym (none_there occurrence.execution occurrence.process occurrence.point (values_in values) (box_of words) (sym (gone_is words occurrence.point gone values here inside same out) ∙ none)))

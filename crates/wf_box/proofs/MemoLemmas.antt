@@ -14,7 +14,7 @@ use Rattle.wf_box.specs.Revising.{AreKnown, IsKnown, IsKnownParts, answer_seen, 
 use Rattle.wf_box.specs.declared.memo.Memo.{Memo}
 use Rattle.wf_box.specs.declared.memo.Revised.{Revised}
 use Rattle.wf_box.specs.declared.memo.RevisedParts.{RevisedParts}
-use Rattle.wf_box.specs.declared.problem.Execution.{Execution}
+use Rattle.wf_box.specs.declared.problem.PackedExecution.{PackedExecution}
 use Rattle.wf_box.specs.declared.problem.Network.{Network}
 use Rattle.wf_box.specs.declared.problem.Rule.{Rule}
 use Rattle.wf_box.proofs.WorkLemmas.{few_at}
@@ -57,7 +57,7 @@ length_beside (p ∷ ps) [] few = absurd (let none : ⊥ = omega (arith, few) in
 length_beside (p ∷ ps) (v ∷ vs) few = ap suc (length_beside ps vs (omega (arith, few)))
 
 -- the constraint of an execution has the table of its rule
-table_is : (rules : List Rule) (x : Execution) → length x.points ≡ 4 → length (rule_of rules x).simplex ≤ 4 → IsWide (rule_of rules x) → table_seen (constraint_seen rules x) ≡ (rule_of rules x).table
+table_is : (rules : List Rule) (x : PackedExecution) → length x.points ≡ 4 → length (rule_of rules x).simplex ≤ 4 → IsWide (rule_of rules x) → table_seen (constraint_seen rules x) ≡ (rule_of rules x).table
 table_is rules x long few wide =
     let s = (rule_of rules x).simplex in
     let count : length (processes_of s) ≡ length s = length-map s (λ v. v.0) in

@@ -17,7 +17,7 @@ use Rattle.wf_box.specs.Problems.{IsWithin, constraint_seen}
 use Rattle.wf_box.specs.Quiet.{AreTold, IsQuiet, IsQuietBut, IsUntouched, IsUntouchedBut, IsUser, no_execution, users_of}
 use Rattle.wf_box.specs.Steps.{reached}
 use Rattle.wf_box.specs.declared.problem.Rule.{Rule}
-use Rattle.wf_box.specs.declared.problem.Execution.{Execution}
+use Rattle.wf_box.specs.declared.problem.PackedExecution.{PackedExecution}
 use Rattle.wf_box.specs.declared.users.Users.{Users}
 use Rattle.wf_lines.specs.Lines.{line_of}
 use Rattle.wf_lines.specs.declared.line.Line.{Line}
@@ -97,7 +97,7 @@ pass_all ks lines words marks next all quiet low none is =
     ∙ is
 
 -- the next one that is marked is revised
-pub next_turn : (rules : List Rule) (es : List Execution) (lines more : List Line) (words fewer : List (List ℕ)) (marks : List ℕ) (o : Option ℕ) (next number : ℕ) (all : Step) → IsQuiet (map (constraint_seen rules) es) marks (box_of words) → IsNext marks next number → number < length es
+pub next_turn : (rules : List Rule) (es : List PackedExecution) (lines more : List Line) (words fewer : List (List ℕ)) (marks : List ℕ) (o : Option ℕ) (next number : ℕ) (all : Step) → IsQuiet (map (constraint_seen rules) es) marks (box_of words) → IsNext marks next number → number < length es
     → reached more o fewer ≡ and_then (reached lines None words) (λ box. take_out_each number (lost box (constraint_seen rules (get_or es number no_execution))) box)
     → and_then (reached lines None words) (sweep_from next (drop next (map (constraint_seen rules) es))) ≡ all
     → and_then (reached more o fewer) (sweep_from (number + 1) (drop (number + 1) (map (constraint_seen rules) es))) ≡ all
@@ -138,14 +138,14 @@ untouched_then u words marks fewer more least most first then e none =
     (earlier.0, λ v user. later.1 v user ∙ earlier.1 v user)
 
 -- an execution whose points kept their sets has lost what it had
-pub lost_kept : (rules : List Rule) (x : Execution) (words fewer : List (List ℕ)) → All (λ v. v < length words) x.points → length fewer ≡ length words → ((place : ℕ) → place < length x.points → get_or fewer (slice_index x.points place) [] ≡ get_or words (slice_index x.points place) [])
+pub lost_kept : (rules : List Rule) (x : PackedExecution) (words fewer : List (List ℕ)) → All (λ v. v < length words) x.points → length fewer ≡ length words → ((place : ℕ) → place < length x.points → get_or fewer (slice_index x.points place) [] ≡ get_or words (slice_index x.points place) [])
     → lost (box_of fewer) (constraint_seen rules x) ≡ lost (box_of words) (constraint_seen rules x)
 lost_kept rules x words fewer within long same =
     lost_same (box_of fewer) (box_of words) (constraint_seen rules x) _ x.points refl
     (λ i low. let inside = within i 0 low in set_at fewer (get_or x.points i 0) (omega (arith, inside, long)) ∙ ap values_in (same i low) ∙ sym (set_at words (get_or x.points i 0) inside))
 
 -- so after it was revised each one without a mark is quiet again
-pub quiet_again : (rules : List Rule) (es : List Execution) (u : Users) (number : ℕ) (words : List (List ℕ)) (marks : List ℕ) (fewer : List (List ℕ)) (more : List ℕ) → All (IsWithin (length rules) (length words)) es → AreTold u es → length fewer ≡ length words
+pub quiet_again : (rules : List Rule) (es : List PackedExecution) (u : Users) (number : ℕ) (words : List (List ℕ)) (marks : List ℕ) (fewer : List (List ℕ)) (more : List ℕ) → All (IsWithin (length rules) (length words)) es → AreTold u es → length fewer ≡ length words
     → IsQuietBut number (map (constraint_seen rules) es) marks (box_of words) → IsUntouchedBut number u words marks fewer more → (bit_of more number ≡ 0 → lost (box_of fewer) (constraint_seen rules (get_or es number no_execution)) ≡ [])
     → IsQuiet (map (constraint_seen rules) es) more (box_of fewer)
 quiet_again rules es u number words marks fewer more within told long quiet untouched here e low none =
@@ -201,7 +201,7 @@ pub length_back : (cs : List Change) (words : List (List ℕ)) → length (taken
 length_back [] words = refl
 length_back (c ∷ cs) words = length-set (taken_back cs words) c.point c.before ∙ length_back cs words
 
-pub quiet_closed : (rules : List Rule) (es : List Execution) (u : Users) (words after : List (List ℕ)) (marks : List ℕ) → length after ≡ length words → (sweep_from 0 (map (constraint_seen rules) es) (box_of after)).lines ≡ [] → All (IsWithin (length rules) (length words)) es → AreTold u es
+pub quiet_closed : (rules : List Rule) (es : List PackedExecution) (u : Users) (words after : List (List ℕ)) (marks : List ℕ) → length after ≡ length words → (sweep_from 0 (map (constraint_seen rules) es) (box_of after)).lines ≡ [] → All (IsWithin (length rules) (length words)) es → AreTold u es
     → ((e : ℕ) → bit_of marks e ≡ 0 → (v : ℕ) → IsUser u v e → get_or after v [] ≡ get_or words v []) → IsQuiet (map (constraint_seen rules) es) marks (box_of words)
 quiet_closed rules es u words after marks long closed within told untouched e low none =
     let low' : e < length es = omega (arith, low, length-map es (constraint_seen rules)) in

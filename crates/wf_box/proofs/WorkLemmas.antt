@@ -18,7 +18,7 @@ use Rattle.wf_box.specs.declared.closing.Closed.{Closed}
 use Rattle.wf_box.specs.declared.closing.Closed.TheVariants.{Empty, Open}
 use Rattle.wf_box.specs.declared.marks.Marks.{Marks}
 use Rattle.wf_box.specs.declared.memo.Memo.{Memo}
-use Rattle.wf_box.specs.declared.problem.Execution.{Execution}
+use Rattle.wf_box.specs.declared.problem.PackedExecution.{PackedExecution}
 use Rattle.wf_box.specs.declared.problem.Network.{Network}
 use Rattle.wf_box.specs.declared.tracked.Tracked.{Tracked}
 use Rattle.wf_box.specs.declared.workspace.Workspace.{Workspace}
@@ -100,26 +100,26 @@ emptied_so lines more old new (Open n) ends = tt
 
 -- ---- an execution of a network
 
-pub execution_is : (n : Network) (e : ℕ) (x : Execution) → e < length n.executions.items → x ≡ slice_index_or n.executions.items e x → get_or n.executions.items e no_execution ≡ x
+pub execution_is : (n : Network) (e : ℕ) (x : PackedExecution) → e < length n.executions.items → x ≡ slice_index_or n.executions.items e x → get_or n.executions.items e no_execution ≡ x
 execution_is n e x low here = get_or_default n.executions.items e no_execution x low ∙ sym here
 
-pub execution_within : (n : Network) (e : ℕ) (x : Execution) → IsNetwork n → e < length n.executions.items → x ≡ slice_index_or n.executions.items e x → IsWithin (length n.rules.items) n.points x
+pub execution_within : (n : Network) (e : ℕ) (x : PackedExecution) → IsNetwork n → e < length n.executions.items → x ≡ slice_index_or n.executions.items e x → IsWithin (length n.rules.items) n.points x
 execution_within n e x network low here = subst (IsWithin (length n.rules.items) n.points) (execution_is n e x low here) (network.within e no_execution low)
 
-pub execution_told : (n : Network) (e : ℕ) (x : Execution) → IsNetwork n → e < length n.executions.items → x ≡ slice_index_or n.executions.items e x → (place : ℕ) → place < 4 → IsUser n.users (slice_index x.points place) e
-execution_told n e x network low here place small = subst (λ (y : Execution). IsUser n.users (slice_index y.points place) e) (execution_is n e x low here) (network.told e place low small)
+pub execution_told : (n : Network) (e : ℕ) (x : PackedExecution) → IsNetwork n → e < length n.executions.items → x ≡ slice_index_or n.executions.items e x → (place : ℕ) → place < 4 → IsUser n.users (slice_index x.points place) e
+execution_told n e x network low here place small = subst (λ (y : PackedExecution). IsUser n.users (slice_index y.points place) e) (execution_is n e x low here) (network.told e place low small)
 
 -- there are four processes at most
 pub few_at : (n : Network) (e : ℕ) → IsNetwork n → e < length n.executions.items → length (rule_in n e).simplex ≤ 4
 few_at n e network low = network.narrow (get_or n.executions.items e no_execution).rule no_rule (network.within e no_execution low).rule
 
 -- what is found at its points
-pub found_is : (n : Network) (e : ℕ) (x : Execution) (sets words : List (List ℕ)) → e < length n.executions.items → x ≡ slice_index_or n.executions.items e x → sets ≡ words → found_in n e sets ≡ found_at x words
-found_is n e x sets words low here same = ap (λ (y : Execution). found_at y sets) (execution_is n e x low here) ∙ ap (found_at x) same
+pub found_is : (n : Network) (e : ℕ) (x : PackedExecution) (sets words : List (List ℕ)) → e < length n.executions.items → x ≡ slice_index_or n.executions.items e x → sets ≡ words → found_in n e sets ≡ found_at x words
+found_is n e x sets words low here same = ap (λ (y : PackedExecution). found_at y sets) (execution_is n e x low here) ∙ ap (found_at x) same
 
 -- what is supported there
-pub supported_here : (n : Network) (e : ℕ) (x : Execution) (sets words found supported : List (List ℕ)) → e < length n.executions.items → x ≡ slice_index_or n.executions.items e x → sets ≡ words → found ≡ found_at x words
+pub supported_here : (n : Network) (e : ℕ) (x : PackedExecution) (sets words found supported : List (List ℕ)) → e < length n.executions.items → x ≡ slice_index_or n.executions.items e x → sets ≡ words → found ≡ found_at x words
     → HasSupported supported (rule_in n e).table (found_in n e sets) → HasSupported supported (rule_of n.rules.items x).table found
 supported_here n e x sets words found supported low here same is right =
     subst (HasSupported supported (rule_of n.rules.items x).table) (found_is n e x sets words low here same ∙ sym is)
-    (subst (λ (y : Execution). HasSupported supported (rule_of n.rules.items y).table (found_in n e sets)) (execution_is n e x low here) right)
+    (subst (λ (y : PackedExecution). HasSupported supported (rule_of n.rules.items y).table (found_in n e sets)) (execution_is n e x low here) right)

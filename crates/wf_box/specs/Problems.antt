@@ -7,7 +7,7 @@ use Rattle.wf_set.specs.Sets.{values_in}
 use Rattle.wf_model.specs.Limits.{most_executions, most_points}
 use Rattle.wf_box.specs.Quiet.{AreTold, AreUsers, no_execution}
 use Rattle.wf_box.specs.declared.problem.Rule.{Rule}
-use Rattle.wf_box.specs.declared.problem.Execution.{Execution}
+use Rattle.wf_box.specs.declared.problem.PackedExecution.{PackedExecution}
 use Rattle.wf_box.specs.declared.problem.Network.{Network}
 use Rattle.wf_box.specs.declared.problem.Problem.TheInside.{Inside}
 
@@ -41,15 +41,15 @@ abbrev pub HasTable : Simplex → List task.Tuple → List Rule → ℕ → Type
 HasTable simplex tuples rules number = (get_or rules number no_rule).table ≡ record { width = length simplex; rows = tuples }
 
 -- the rule of an execution
-abbrev pub rule_of : List Rule → Execution → Rule
+abbrev pub rule_of : List Rule → PackedExecution → Rule
 rule_of rules e = get_or rules e.rule no_rule
 
 -- the processes of the execution's simplex, each with its point, and the tuples of that simplex
-abbrev pub constraint_seen : List Rule → Execution → Constraint
+abbrev pub constraint_seen : List Rule → PackedExecution → Constraint
 constraint_seen rules e = record { scope = zip (processes_of (rule_of rules e).simplex) e.points; tuples = (rule_of rules e).table.rows }
 
 -- the same of each execution in turn
-abbrev pub constraints_seen : List Rule → List Execution → List Constraint
+abbrev pub constraints_seen : List Rule → List PackedExecution → List Constraint
 constraints_seen rules es = map (constraint_seen rules) es
 
 abbrev pub problem_seen : Inside → Problem
@@ -57,13 +57,13 @@ problem_seen p = record { points = p.network.points; values = values_in p.values
 
 -- an execution with a rule that is there and four points that are there, of
 -- which those past its size are not used
-pub record IsWithin (rules points : ℕ) (e : Execution) : Type 0 where
+pub record IsWithin (rules points : ℕ) (e : PackedExecution) : Type 0 where
   pub rule : e.rule < rules
   pub long : length e.points ≡ 4
   pub points_within : All (λ v. v < points) e.points
 
 -- each execution has a rule that is there and points that are there
-abbrev pub AreWithin : List Rule → ℕ → List Execution → Type 0
+abbrev pub AreWithin : List Rule → ℕ → List PackedExecution → Type 0
 AreWithin rules points es = All (IsWithin (length rules) points) es
 
 -- the rule is that of the simplex, with these tuples
@@ -71,7 +71,7 @@ abbrev pub IsRuleOf : Simplex → List task.Tuple → Rule → Type 0
 IsRuleOf simplex tuples rule = rule_seen rule ≡ record { input = simplex; tuples = tuples }
 
 -- with these rules the executions are those of the task after so many rounds
-abbrev pub AreExecutionsOf : task.Task → ℕ → List Rule → List Execution → Type 0
+abbrev pub AreExecutionsOf : task.Task → ℕ → List Rule → List PackedExecution → Type 0
 AreExecutionsOf t rounds rules es = map (constraint_seen rules) es ≡ (problem_of t rounds).constraints
 
 -- the rule of an execution

@@ -9,7 +9,7 @@ use Rattle.wf_box.specs.Changes.{sets_in, words_after, words_at}
 use Rattle.wf_box.specs.declared.tracked.Change.{Change}
 use Rattle.wf_box.specs.declared.tracked.Tracked.{Tracked}
 use Rattle.wf_box.specs.declared.marks.Marks.{Marks}
-use Rattle.wf_box.specs.declared.problem.Execution.{Execution}
+use Rattle.wf_box.specs.declared.problem.PackedExecution.{PackedExecution}
 use Rattle.wf_box.specs.declared.users.Users.{Users}
 
 -- an execution without a mark has lost nothing
@@ -55,11 +55,11 @@ abbrev pub EmptiesNoneSince : ℕ → Tracked → Type 0
 EmptiesNoneSince n t = (v : ℕ) → values_in (get_or t.words.items v []) ≡ [] → values_in (get_or (words_at n t) v []) ≡ []
 
 -- no execution
-abbrev pub no_execution : Execution
+abbrev pub no_execution : PackedExecution
 no_execution = record { rule = 0; points = [] }
 
 -- each of its four points knows an execution
-abbrev pub AreTold : Users → List Execution → Type 0
+abbrev pub AreTold : Users → List PackedExecution → Type 0
 AreTold u es = (e place : ℕ) → e < length es → place < 4 → IsUser u (slice_index (get_or es e no_execution).points place) e
 
 -- after so many changes the sets were those of a closed box without an empty point

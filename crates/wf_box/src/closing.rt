@@ -20,7 +20,7 @@ use crate::boxed::Box0;
 use crate::marks::Marks;
 use crate::problem::{Network, Problem};
 use crate::revising::{candidates_at, supported_at};
-use crate::taking::{Place, put, take_each};
+use crate::taking::{Occurrence, put, take_each};
 use crate::tracked::Tracked;
 use crate::workspace::Workspace;
 use std::alloc::{AllocError, Global};
@@ -281,13 +281,13 @@ fn revise(
         return None;
     };
     let found = candidates_at(execution, &workspace.tracked.words);
-    let colours = rule.simplex.colours();
-    'places: for place in 0..colours {
+    let processes = rule.simplex.colours();
+    'places: for place in 0..processes {
         let lost = difference(found[place as usize], supported[place as usize]);
         if is_empty(lost) {
             continue;
         }
-        let at = Place {
+        let at = Occurrence {
             execution: number,
             process: rule.simplex.colour(place),
             point: execution.points[place as usize],
@@ -297,7 +297,7 @@ fn revise(
         }
     }
     let left = candidates_at(execution, &workspace.tracked.words);
-    unmark(number, colours, left, supported, &mut workspace.marks);
+    unmark(number, processes, left, supported, &mut workspace.marks);
     None
 }
 
@@ -334,7 +334,7 @@ fn are_same(count: u8, sets: [Mask; 4], others: [Mask; 4]) -> bool
 /// this empties the point, that ends it, and the answer is true.
 fn take_place(
     lost: Mask,
-    place: Place,
+    place: Occurrence,
     network: &Network,
     workspace: &mut Workspace,
     lines: &mut Lines,

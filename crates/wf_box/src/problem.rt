@@ -57,7 +57,7 @@ impl Rule {
 /// An execution: the number of its input simplex, and the points of its processes. The points past
 /// their number are that of the first process, and are not used.
 #[derive(Clone, Copy, Debug)]
-pub(crate) struct Execution {
+pub(crate) struct PackedExecution {
     pub(crate) rule: u32,
     pub(crate) points: [u32; 4],
 }
@@ -68,7 +68,7 @@ pub(crate) struct Execution {
 pub(crate) struct Network {
     pub(crate) points: u32,
     pub(crate) rules: Vec<Rule>,
-    pub(crate) executions: Vec<Execution>,
+    pub(crate) executions: Vec<PackedExecution>,
     pub(crate) users: Users,
 }
 
@@ -196,7 +196,7 @@ fn executions(
     task: &Task,
     protocol: &Protocol,
     rules: &[Rule],
-) -> Result<Vec<Execution>, AllocError>
+) -> Result<Vec<PackedExecution>, AllocError>
     requires built { IsProtocol task.now protocol.now.rounds protocol.now }
     requires rules { map rule_seen rules.now ≡ task.now.delta }
     ensures constraints { IfOk result
@@ -208,7 +208,7 @@ fn executions(
     let count = protocol.executions();
     let mut executions = Vec::with_capacity(alloc, count as usize)?;
     for number in 0..count {
-        executions.push(Execution {
+        executions.push(PackedExecution {
             rule: protocol.simplex_of(number),
             points: four(protocol.points_of(number)),
         })?;

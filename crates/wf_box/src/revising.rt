@@ -7,7 +7,7 @@ ghost use Rattle.wf_box.specs.Problems.{IsNetwork, constraints_in, rule_in};
 ghost use Rattle.wf_box.specs.Revising.{AreKnown, answers_in, found_at, found_in, left_of, widened};
 
 use crate::memo::{Memo, Revised, RevisedParts, slot_of};
-use crate::problem::{Execution, Network};
+use crate::problem::{Network, PackedExecution};
 use wf_set::Mask;
 use wf_set::part::Part;
 
@@ -36,7 +36,7 @@ pub(crate) fn supported_at(
 }
 
 /// The candidates of the points of an execution; past their number those of the first point.
-pub(crate) fn candidates_at(execution: Execution, sets: &[Mask]) -> [Mask; 4]
+pub(crate) fn candidates_at(execution: PackedExecution, sets: &[Mask]) -> [Mask; 4]
     requires long { length execution.points ≡ 4 }
     requires within { All (λ v. v < length sets.now) execution.points }
     ensures candidates { result ≡ found_at execution sets.now }

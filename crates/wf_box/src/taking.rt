@@ -14,7 +14,7 @@ use wf_set::{Mask, difference, holds, is_empty, meet, split_first, without};
 
 /// A process of an execution, and its point.
 #[derive(Clone, Copy, Debug)]
-pub(crate) struct Place {
+pub(crate) struct Occurrence {
     pub(crate) execution: u32,
     pub(crate) process: u8,
     pub(crate) point: u32,
@@ -22,37 +22,37 @@ pub(crate) struct Place {
 
 /// Takes those of the values out that are still there, ascending, with their lines. Where this
 /// empties the point, that ends it, and the answer is true.
-pub(crate) fn take_each(values: Mask, place: Place, sets: &mut [Mask], lines: &mut Lines) -> bool
-    requires point { place.point < length sets.old }
+pub(crate) fn take_each(values: Mask, at: Occurrence, sets: &mut [Mask], lines: &mut Lines) -> bool
+    requires point { at.point < length sets.old }
     requires room { HasRoom lines.old sets.old }
-    ensures step { TakesEach values place lines.old sets.old lines.new sets.new result }
+    ensures step { TakesEach values at lines.old sets.old lines.new sets.new result }
     ensures long { length sets.new ≡ length sets.old }
-    ensures others { sets.new ≡ slice_set sets.old place.point (get_or sets.new place.point []) }
+    ensures others { sets.new ≡ slice_set sets.old at.point (get_or sets.new at.point []) }
     ensures fewer { count (box_of sets.new) ≤ count (box_of sets.old) }
     ensures same { count (box_of sets.new) ≡ count (box_of sets.old) → sets.new ≡ sets.old }
-    ensures emptied { OnTrue result (EndsAt lines.new.items (box_of sets.new) place.point) }
-    ensures named { NamesAt place lines.old sets.old lines.new sets.new }
+    ensures emptied { OnTrue result (EndsAt lines.new.items (box_of sets.new) at.point) }
+    ensures named { NamesAt at lines.old sets.old lines.new sets.new }
     ensures room { OnFalse result (HasRoom lines.new sets.new) }
     ensures spent { OnFalse result (IsSpent lines.old sets.old lines.new sets.new) }
 {
-    let set = sets[place.point as usize];
+    let set = sets[at.point as usize];
     let left = difference(set, values);
     if is_empty(left) {
-        return take_in_turn(values, place, sets, lines);
+        return take_in_turn(values, at, sets, lines);
     }
     let gone = meet(values, set);
     if is_empty(gone) {
         return false;
     }
-    name_each(gone, place, lines);
-    sets[place.point as usize] = left;
+    name_each(gone, at, lines);
+    sets[at.point as usize] = left;
     false
 }
 
 /// Adds a line for each of the values, ascending, for which there is room.
-fn name_each(values: Mask, place: Place, lines: &mut Lines)
+fn name_each(values: Mask, at: Occurrence, lines: &mut Lines)
     requires { vec_len lines.old + length (values_in values) ≤ vec_capacity lines.old }
-    ensures lines { lines.new.items ≡ lines.old.items ++ removals place (values_in values) }
+    ensures lines { lines.new.items ≡ lines.old.items ++ removals at (values_in values) }
     ensures len { vec_len lines.new ≡ vec_len lines.old + length (values_in values) }
     ensures room { vec_capacity lines.old ≤ vec_capacity lines.new }
 {
@@ -63,8 +63,8 @@ fn name_each(values: Mask, place: Place, lines: &mut Lines)
         put(
             lines,
             Line::Remove {
-                execution: place.execution,
-                process: place.process,
+                execution: at.execution,
+                process: at.process,
                 value,
             },
         );
@@ -72,16 +72,16 @@ fn name_each(values: Mask, place: Place, lines: &mut Lines)
 }
 
 /// The same, one value after another.
-fn take_in_turn(values: Mask, place: Place, sets: &mut [Mask], lines: &mut Lines) -> bool
-    requires point { place.point < length sets.old }
+fn take_in_turn(values: Mask, at: Occurrence, sets: &mut [Mask], lines: &mut Lines) -> bool
+    requires point { at.point < length sets.old }
     requires room { HasRoom lines.old sets.old }
-    ensures step { TakesEach values place lines.old sets.old lines.new sets.new result }
+    ensures step { TakesEach values at lines.old sets.old lines.new sets.new result }
     ensures long { length sets.new ≡ length sets.old }
-    ensures others { sets.new ≡ slice_set sets.old place.point (get_or sets.new place.point []) }
+    ensures others { sets.new ≡ slice_set sets.old at.point (get_or sets.new at.point []) }
     ensures fewer { count (box_of sets.new) ≤ count (box_of sets.old) }
     ensures same { count (box_of sets.new) ≡ count (box_of sets.old) → sets.new ≡ sets.old }
-    ensures emptied { OnTrue result (EndsAt lines.new.items (box_of sets.new) place.point) }
-    ensures named { NamesAt place lines.old sets.old lines.new sets.new }
+    ensures emptied { OnTrue result (EndsAt lines.new.items (box_of sets.new) at.point) }
+    ensures named { NamesAt at lines.old sets.old lines.new sets.new }
     ensures room { OnFalse result (HasRoom lines.new sets.new) }
     ensures spent { OnFalse result (IsSpent lines.old sets.old lines.new sets.new) }
 {
@@ -89,7 +89,7 @@ fn take_in_turn(values: Mask, place: Place, sets: &mut [Mask], lines: &mut Lines
     'values: while let Some(next) = split_first(left) {
         let (value, rest) = next;
         left = rest;
-        if holds(sets[place.point as usize], value) && take_out(value, place, sets, lines) {
+        if holds(sets[at.point as usize], value) && take_out(value, at, sets, lines) {
             return true;
         }
     }
@@ -98,33 +98,33 @@ fn take_in_turn(values: Mask, place: Place, sets: &mut [Mask], lines: &mut Lines
 
 /// Takes a candidate out, and adds its line. Where this empties the point, the line for that
 /// follows, and the answer is true.
-fn take_out(value: u8, place: Place, sets: &mut [Mask], lines: &mut Lines) -> bool
-    requires point { place.point < length sets.old }
-    requires present { has (candidates (box_of sets.old) place.point) value ≡ true }
+fn take_out(value: u8, at: Occurrence, sets: &mut [Mask], lines: &mut Lines) -> bool
+    requires point { at.point < length sets.old }
+    requires present { has (candidates (box_of sets.old) at.point) value ≡ true }
     requires room { HasRoom lines.old sets.old }
-    ensures step { TakesOut value place lines.old sets.old lines.new sets.new result }
+    ensures step { TakesOut value at lines.old sets.old lines.new sets.new result }
     ensures long { length sets.new ≡ length sets.old }
-    ensures others { sets.new ≡ slice_set sets.old place.point (get_or sets.new place.point []) }
+    ensures others { sets.new ≡ slice_set sets.old at.point (get_or sets.new at.point []) }
     ensures fewer { count (box_of sets.new) ≤ count (box_of sets.old) }
     ensures same { count (box_of sets.new) ≡ count (box_of sets.old) → sets.new ≡ sets.old }
-    ensures emptied { OnTrue result (EndsAt lines.new.items (box_of sets.new) place.point) }
-    ensures named { NamesAt place lines.old sets.old lines.new sets.new }
+    ensures emptied { OnTrue result (EndsAt lines.new.items (box_of sets.new) at.point) }
+    ensures named { NamesAt at lines.old sets.old lines.new sets.new }
     ensures room { OnFalse result (HasRoom lines.new sets.new) }
     ensures spent { OnFalse result (IsSpent lines.old sets.old lines.new sets.new) }
 {
-    let point = place.point as usize;
+    let point = at.point as usize;
     let set = without(sets[point], value);
     sets[point] = set;
     put(
         lines,
         Line::Remove {
-            execution: place.execution,
-            process: place.process,
+            execution: at.execution,
+            process: at.process,
             value,
         },
     );
     if is_empty(set) {
-        put(lines, Line::Empty { point: place.point });
+        put(lines, Line::Empty { point: at.point });
         return true;
     }
     false

@@ -11,6 +11,7 @@ use Rattle.wf_model.specs.Closing.{canonical}
 use Rattle.wf_model.specs.Refutation.{Line}
 use Rattle.wf_model.specs.Report.{Body, a_map, least, none, report_about}
 use Rattle.wf_model.specs.Check.{Refusal, body_fault, first_fault, first_least_fault, header_fault, map_fault, unless_fault}
+use Rattle.wf_model.proofs.Accepting.{box_accepts}
 use Rattle.wf_model.proofs.Bridge.{listed_solves}
 use Rattle.wf_model.proofs.LeastChecked.{leading_lines_accepted}
 use Rattle.wf_model.proofs.Trying.{faultless}
@@ -24,7 +25,6 @@ use Rattle.wf_engine.specs.Texts.{map_body}
 use Rattle.wf_branches.specs.Branches.{HasBranch}
 use Rattle.wf_branches.specs.Solving.{IsLeastInBranch, IsRefutationIn, LeadsToMapIn}
 use Rattle.wf_branches.specs.Verifying.{is_outside, lies_in}
-use Rattle.wf_branches.proofs.RefutingLines.{refuting_lines_pass}
 use Rattle.wf_branches.proofs.Solved.{branch_is_box}
 use Rattle.wf_branches.proofs.Verified.{both_none}
 
@@ -68,7 +68,7 @@ module _ (t : Task) (r : ℕ) (is : IsTask t) where
         let shape = refuted.refutes in
         accepted_where (none ls)
         (subst (λ x. first_fault (problem_of t r) 7 x (branch_at t r i ∷ []) ≡ None) shape.1
-        (refuting_lines_pass (problem_of t r) (task_well_formed t r is) 7 shape.0 (branch_at t r i) (branch_is_box t r i is there).long shape.2)) refl
+        (box_accepts (problem_of t r) (task_well_formed t r is) 7 shape.0 (branch_at t r i) (branch_is_box t r i is there).long shape.2)) refl
 
     module _ (m : View → ℕ) (ls : List Line) (found : IsLeastInBranch t r i m) (leads : LeadsToMapIn t r i (listed t r m) ls) where
       map_clear : map_fault (problem_of t r) (listed t r m) ≡ None

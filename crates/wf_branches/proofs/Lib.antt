@@ -10,7 +10,6 @@ pub mod Joined
 pub mod Small
 pub mod JoinedTruth
 pub mod Closing
-pub mod RefutingLines
 pub mod BranchChecks
 pub mod FewBranches
 pub mod Canonical

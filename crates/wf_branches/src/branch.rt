@@ -30,7 +30,7 @@ pub(crate) struct FoundBranch {
 
 /// Which branch something is about, and how many there are.
 #[derive(Clone, Copy)]
-pub(crate) struct Place {
+pub(crate) struct BranchIndex {
     /// The branch's number, from 0.
     pub(crate) number: u32,
     /// How many branches there are.
@@ -39,18 +39,18 @@ pub(crate) struct Place {
 
 impl FoundBranch {
     /// Which branch it is.
-    pub(crate) fn place(&self) -> Place
+    pub(crate) fn index(&self) -> BranchIndex
         ensures number { result.number ≡ self.now.number }
         ensures count { result.count ≡ self.now.count }
     {
-        Place {
+        BranchIndex {
             number: self.number,
             count: self.count,
         }
     }
 }
 
-impl Place {
+impl BranchIndex {
     /// The lines with which a part begins.
     pub(crate) fn head(self, alloc: Global) -> Result<String, AllocError>
         ensures { IfOk result (λ text. string_bytes text ≡ part_head self.number self.count) }

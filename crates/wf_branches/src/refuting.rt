@@ -110,7 +110,7 @@ fn refute<C: Read>(
 {
     let checker = pose_branch(alloc, task, protocol, &branch.sets)?;
     read_proof_from(alloc, source, checker)?;
-    let place = branch.place();
-    let text = place.accepted(alloc, "accepted none", protocol.rounds())?;
+    let index = branch.index();
+    let text = index.accepted(alloc, "accepted none", protocol.rounds())?;
     Ok(((), text.into_bytes()))
 }

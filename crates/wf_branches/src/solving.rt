@@ -12,7 +12,7 @@ ghost use Rattle.wf_engine.specs.Texts.{lines_kept};
 ghost use Rattle.wf_branches.specs.Branches.{AnswersBranch, AsksBranch};
 ghost use Rattle.wf_branches.specs.Solving.{IsSolvedIn, SolvesBranch, part_text};
 
-use crate::branch::Place;
+use crate::branch::BranchIndex;
 use std::alloc::{AllocError, Global};
 use std::io::{Read, Write};
 use wf_engine::{
@@ -93,11 +93,11 @@ fn solve_task<G: Gate>(
     let (header, problem) = pose_problem(alloc, task, rounds, gate)?;
     match solve_branch(alloc, &problem, lines_kept(form), branch, gate)? {
         BranchAnswer::Answered(answer, count) => {
-            let place = Place {
+            let index = BranchIndex {
                 number: branch,
                 count,
             };
-            Ok(with_part(alloc, task, rounds, header, place, answer, form)?)
+            Ok(with_part(alloc, task, rounds, header, index, answer, form)?)
         }
         BranchAnswer::Missing(branches) => Err(RunFault::NoBranch { branches }),
     }
@@ -109,29 +109,29 @@ fn with_part(
     task: &Task,
     rounds: u32,
     header: Header,
-    place: Place,
+    index: BranchIndex,
     answer: Answer,
     form: Form,
 ) -> Result<(Outcome, Vec<u8>), AllocError>
     requires header { IsHead task.now rounds header }
-    requires count { place.count ≡ length (branches task.now rounds) }
-    requires answer { IsAnswerAt (problem_of task.now rounds) (lines_kept form) place.number
+    requires count { index.count ≡ length (branches task.now rounds) }
+    requires answer { IsAnswerAt (problem_of task.now rounds) (lines_kept form) index.number
         answer }
-    ensures { IfOk result (λ r. IsSolvedIn form task.now rounds place.number r.0 r.1.items) }
+    ensures { IfOk result (λ r. IsSolvedIn form task.now rounds index.number r.0 r.1.items) }
 {
     match answer {
         Answer::Map(values, lines) => {
             let body = map_body(form, values, lines);
             Ok((
                 Outcome::Map,
-                part_text(alloc, task, rounds, header, place, body)?,
+                part_text(alloc, task, rounds, header, index, body)?,
             ))
         }
         Answer::Nothing(lines) => {
             let body = Body::Nothing(lines);
             Ok((
                 Outcome::Nothing,
-                part_text(alloc, task, rounds, header, place, body)?,
+                part_text(alloc, task, rounds, header, index, body)?,
             ))
         }
     }
@@ -143,15 +143,15 @@ fn part_text(
     task: &Task,
     rounds: u32,
     header: Header,
-    place: Place,
+    index: BranchIndex,
     body: Body,
 ) -> Result<Vec<u8>, AllocError>
     requires header { IsHead task.now rounds header }
-    requires count { place.count ≡ length (branches task.now rounds) }
+    requires count { index.count ≡ length (branches task.now rounds) }
     ensures { IfOk result (λ text. text.items
-        ≡ part_text task.now rounds place.number (body_of body)) }
+        ≡ part_text task.now rounds index.number (body_of body)) }
 {
-    let mut text = place.head(alloc)?.into_bytes();
+    let mut text = index.head(alloc)?.into_bytes();
     text.extend_from_slice(&report_text(alloc, task, rounds, header, body)?)?;
     Ok(text)
 }

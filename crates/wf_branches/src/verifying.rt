@@ -145,8 +145,8 @@ pub(crate) fn part_of(alloc: Global, branch: &FoundBranch, text: &[u8]) -> Resul
     ensures read { IsPartOf branch.now.number branch.now.count text.now (seen result) }
     ensures few { IfOk result (λ report. AreNumbered (body_length report.body)) }
 {
-    let place = branch.place();
-    let head = place.head(alloc)?;
+    let index = branch.index();
+    let head = index.head(alloc)?;
     match behind(head.as_bytes(), text) {
         Some(rest) => Ok(read_report(alloc, rest)?),
         None => Err(RunFault::OtherPart),
@@ -180,10 +180,10 @@ fn accept<T: Threads + Sync>(
     ensures { ChecksPart branch.number task.now protocol.now.rounds (report_seen report.now)
         (answered result) }
 {
-    let place = branch.place();
+    let index = branch.index();
     let checker = Checker::of(alloc, task)?;
     check_part(rt, alloc, task, protocol, &checker, branch, report)?;
-    let text = place.accepted(alloc, accepted_words(&report.body), protocol.rounds())?;
+    let text = index.accepted(alloc, accepted_words(&report.body), protocol.rounds())?;
     Ok(((), text.into_bytes()))
 }
 

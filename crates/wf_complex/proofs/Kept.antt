@@ -9,7 +9,7 @@ use Rattle.wf_model.specs.Simplex.{Simplex, is_nonempty, is_ascending, processes
 use Rattle.wf_model.specs.View.{View, same_view}
 use Rattle.wf_model.specs.Task.{Task, IsTask, inputs, first_block, IsSimplexWithin}
 use Rattle.wf_simplex.proofs.Lemmas.{length-within}
-use Rattle.wf_complex.specs.declared.layout.Execution.{Execution}
+use Rattle.wf_complex.specs.declared.layout.Span.{Span}
 use Rattle.wf_complex.specs.Rounds.{views_at, leaves_of, cost_of_each}
 use Rattle.wf_complex.specs.Layout.{execution_total, place_total, laid_out}
 use Rattle.wf_complex.specs.Places.{LieFrom}
@@ -83,7 +83,7 @@ module _ (m r : ℕ) (ss : List Simplex) (few : execution_total m r ss ≤ 50000
 
 module _ (t : Task) (task : IsTask t) (r : ℕ) (ss : List Simplex) (given : inputs t ≡ ss) (symmetric : Bool) (named : t.symmetric ≡ symmetric) (m : ℕ) (least : first_block t ≡ m)
     (table : List View) (lasts : List ℕ) (made : views_at table lasts ≡ flat_map (leaves_of m r) ss)
-    (es : List Execution) (laid : es ≡ laid_out m r 0 0 ss) (view_count : ℕ) (counted : view_count ≡ length (distinct same_view (views_at table lasts)))
+    (es : List Span) (laid : es ≡ laid_out m r 0 0 ss) (view_count : ℕ) (counted : view_count ≡ length (distinct same_view (views_at table lasts)))
     (grown : List View) (classes firsts numbers : List ℕ) (points : ArePoints grown (map (class_by symmetric) (views_at table lasts)) classes firsts numbers) where
   the_lasts : views_at table lasts ≡ flat_map (leaves_of (first_block t) r) (inputs t)
   the_lasts = made ∙ sym (λ i. flat_map (leaves_of (least i) r) (given i))
@@ -103,7 +103,7 @@ module _ (t : Task) (task : IsTask t) (r : ℕ) (ss : List Simplex) (given : inp
     points = points_seen grown classes;
     view_count = view_count;
     firsts = firsts_seen ss es firsts;
-    simplices = map (λ (e : Execution). e.simplex) es;
+    simplices = map (λ (e : Span). e.simplex) es;
     scopes = scopes_seen ss numbers es;
   })
   is_protocol = record {
@@ -112,7 +112,7 @@ module _ (t : Task) (task : IsTask t) (r : ℕ) (ss : List Simplex) (given : inp
     points_are = ap (points_seen grown) points.numbered.different_are ∙ points_are t r table lasts the_lasts grown points.once points.ids points.within the_classes firsts points.numbered.firsts_are;
     views_are = counted ∙ view_count_is t r table lasts the_lasts;
     firsts_are = (λ i. firsts_seen (sym given i) (the_executions i) firsts) ∙ firsts_are t r table lasts the_lasts grown points.once points.ids points.within the_classes firsts points.numbered.firsts_are;
-    simplices_are = ap (map (λ (e : Execution). e.simplex)) the_executions ∙ laid_simplices t r;
+    simplices_are = ap (map (λ (e : Span). e.simplex)) the_executions ∙ laid_simplices t r;
     scopes_are =
         (λ i. scopes_seen (sym given i) numbers (the_executions i))
         ∙ scopes_are t r table lasts the_lasts grown points.once points.ids points.within the_classes firsts points.numbered.firsts_are numbers points.numbered.low the_ids;

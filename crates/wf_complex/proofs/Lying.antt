@@ -6,38 +6,38 @@ use Rattle.std.proofs.lemmas.List.Elements.{All-from_recursion}
 use Rattle.std.proofs.lemmas.Option.{slice_get-get_or}
 use Rattle.wf_model.specs.Simplex.{Simplex}
 use Rattle.wf_model.proofs.Headline.{each_append}
-use Rattle.wf_complex.specs.declared.layout.Execution.{Execution}
+use Rattle.wf_complex.specs.declared.layout.Span.{Span}
 use Rattle.wf_complex.specs.Layout.{turns, place_total, laid_on, laid_out}
 use Rattle.wf_complex.specs.Places.{EndsBy, LieFrom, BelongsTo, IsOn}
 use Rattle.wf_complex.proofs.Bounds.{suc_times}
 
 -- ---- where they lie
 
-lie_up : (first end : ℕ) (es : List Execution) → LieFrom first end es → first ≤ end
+lie_up : (first end : ℕ) (es : List Span) → LieFrom first end es → first ≤ end
 lie_up first end [] h = omega (arith, h)
 lie_up first end (e ∷ es) h = omega (arith, lie_up (first + e.size) end es h.1)
 
-lie_ends : (first end : ℕ) (es : List Execution) → LieFrom first end es → AllByRecursion (EndsBy end) es
+lie_ends : (first end : ℕ) (es : List Span) → LieFrom first end es → AllByRecursion (EndsBy end) es
 lie_ends first end [] h = tt
 lie_ends first end (e ∷ es) h = (omega (arith, h.0, lie_up (first + e.size) end es h.1), lie_ends (first + e.size) end es h.1)
 
-pub all_end : (end : ℕ) (es : List Execution) → LieFrom 0 end es → All (EndsBy end) es
+pub all_end : (end : ℕ) (es : List Span) → LieFrom 0 end es → All (EndsBy end) es
 all_end end es h = All-from_recursion (EndsBy end) es (lie_ends 0 end es h)
 
-pub lie_after : (first end : ℕ) (es : List Execution) → LieFrom first end es → (j : ℕ) (d : Execution) → j < length es → first ≤ (get_or es j d).place
+pub lie_after : (first end : ℕ) (es : List Span) → LieFrom first end es → (j : ℕ) (d : Span) → j < length es → first ≤ (get_or es j d).place
 lie_after first end [] h j d inside = absurd (let none : ⊥ = omega (arith, inside) in none)
 lie_after first end (e ∷ es) h zero d inside = omega (arith, h.0)
 lie_after first end (e ∷ es) h (suc j) d inside = omega (arith, lie_after (first + e.size) end es h.1 j d (omega (arith, inside)))
 
 -- their places rise
-pub lie_rising : (first end : ℕ) (es : List Execution) → LieFrom first end es → (i j : ℕ) (d : Execution) → i ≤ j → j < length es → (get_or es i d).place ≤ (get_or es j d).place
+pub lie_rising : (first end : ℕ) (es : List Span) → LieFrom first end es → (i j : ℕ) (d : Span) → i ≤ j → j < length es → (get_or es i d).place ≤ (get_or es j d).place
 lie_rising first end [] h i j d up inside = absurd (let none : ⊥ = omega (arith, inside) in none)
 lie_rising first end (e ∷ es) h zero j d up inside = omega (arith, h.0, lie_after first end (e ∷ es) h j d inside)
 lie_rising first end (e ∷ es) h (suc i) zero d up inside = absurd (let none : ⊥ = omega (arith, up) in none)
 lie_rising first end (e ∷ es) h (suc i) (suc j) d up inside = lie_rising (first + e.size) end es h.1 i j d (omega (arith, up)) (omega (arith, inside))
 
 -- a place before the next execution lies before the end of this one
-pub lie_before : (first end place : ℕ) (es : List Execution) → LieFrom first end es → place < end → (n : ℕ) (d : Execution) → n < length es → (suc n < length es → place < (get_or es (suc n) d).place) →
+pub lie_before : (first end place : ℕ) (es : List Span) → LieFrom first end es → place < end → (n : ℕ) (d : Span) → n < length es → (suc n < length es → place < (get_or es (suc n) d).place) →
     place < (get_or es n d).place + (get_or es n d).size
 lie_before first end place [] h low n d inside next = absurd (let none : ⊥ = omega (arith, inside) in none)
 lie_before first end place (e ∷ []) h low zero d inside next = omega (arith, h.0, h.1, low)
@@ -45,12 +45,12 @@ lie_before first end place (e ∷ f ∷ es) h low zero d inside next = omega (ar
 lie_before first end place (e ∷ es) h low (suc n) d inside next = lie_before (first + e.size) end place es h.1 low n d (omega (arith, inside)) (λ k. next (omega (arith, k)))
 
 -- a place belongs to the last execution that has begun by then
-pub belongs : (end place n : ℕ) (es : List Execution) → LieFrom 0 end es → place < end → n ≤ length es → ((k : ℕ) (d : Execution) → k < n → (get_or es k d).place ≤ place) →
-    ((k : ℕ) (d : Execution) → n ≤ k → k < length es → place < (get_or es k d).place) → (1 ≤ n) × BelongsTo place es (n - 1)
+pub belongs : (end place n : ℕ) (es : List Span) → LieFrom 0 end es → place < end → n ≤ length es → ((k : ℕ) (d : Span) → k < n → (get_or es k d).place ≤ place) →
+    ((k : ℕ) (d : Span) → n ≤ k → k < length es → place < (get_or es k d).place) → (1 ≤ n) × BelongsTo place es (n - 1)
 belongs end place zero [] lying low inside begun later = absurd (let none : ⊥ = omega (arith, lying, low) in none)
 belongs end place zero (e ∷ es) lying low inside begun later = absurd (let none : ⊥ = omega (arith, lying.0, later 0 e (omega arith) (omega arith)) in none)
 belongs end place (suc n) es lying low inside begun later =
-    let nothing : Execution = record { place = 0; simplex = 0; size = 0 } in
+    let nothing : Span = record { place = 0; simplex = 0; size = 0 } in
     let within : n < length es = omega (arith, inside) in
     let last : BelongsTo place es n =
     record {
@@ -64,7 +64,7 @@ belongs end place (suc n) es lying low inside begun later =
 
 -- ---- those that are laid out
 
-lie_append : (first middle end : ℕ) (es fs : List Execution) → LieFrom first middle es → LieFrom middle end fs → LieFrom first end (es ++ fs)
+lie_append : (first middle end : ℕ) (es fs : List Span) → LieFrom first middle es → LieFrom middle end fs → LieFrom first end (es ++ fs)
 lie_append first middle end [] fs h k = subst (λ n. LieFrom n end fs) (sym h) k
 lie_append first middle end (e ∷ es) fs h k = (h.0, lie_append (first + e.size) middle end es fs h.1 k)
 

@@ -7,7 +7,7 @@ use Rattle.std.proofs.lemmas.Option.{slice_get-get_or, slice_get-map, slice_get_
 use Rattle.std.proofs.lemmas.Slice.Zip.{seconds-zip}
 use Rattle.std.proofs.lemmas.Bool.{cases_Bool}
 use Rattle.wf_model.specs.Simplex.{Simplex, processes_of}
-use Rattle.wf_complex.specs.declared.layout.Execution.{Execution}
+use Rattle.wf_complex.specs.declared.layout.Span.{Span}
 use Rattle.wf_complex.specs.Places.{part_of, EndsBy, LieFrom, BelongsTo, IsOn, processes_on, scope_on, places_on, places_on_all}
 use Rattle.wf_complex.specs.ProtocolSeen.{firsts_seen, scopes_seen}
 use Rattle.wf_complex.specs.Protocol.{point_in}
@@ -16,14 +16,14 @@ use Rattle.wf_complex.proofs.RuleAt.{got}
 
 -- ---- an execution's part
 
-pub length-part_of : {X : Type 0} (xs : List X) (e : Execution) → EndsBy (length xs) e → length (part_of xs e) ≡ e.size
+pub length-part_of : {X : Type 0} (xs : List X) (e : Span) → EndsBy (length xs) e → length (part_of xs e) ≡ e.size
 length-part_of xs e h = omega (arith, length-take e.size (drop e.place xs), length-drop e.place xs, h)
 
-length-processes_on : (inputs : List Simplex) (e : Execution) → IsOn inputs e → length (processes_on inputs e) ≡ e.size
+length-processes_on : (inputs : List Simplex) (e : Span) → IsOn inputs e → length (processes_on inputs e) ≡ e.size
 length-processes_on inputs e on = length-map (get_or inputs e.simplex []) (λ v. v.0) ∙ sym on.1
 
 -- the input simplex of an execution
-pub input_there : (inputs : List Simplex) (e : Execution) (s : Simplex) → IsOn inputs e → s ≡ get_or inputs e.simplex s → s ≡ get_or inputs e.simplex []
+pub input_there : (inputs : List Simplex) (e : Span) (s : Simplex) → IsOn inputs e → s ≡ get_or inputs e.simplex s → s ≡ get_or inputs e.simplex []
 input_there inputs e s on is = is ∙ got inputs e.simplex (get_or inputs e.simplex []) s (slice_get-get_or inputs e.simplex [] on.0)
 
 -- ---- the point of a process
@@ -43,52 +43,52 @@ point_in-other c processes points i low long other =
 -- ---- what is seen of an execution
 
 -- one execution of those that lie on the input simplices
-pub record IsThere (inputs : List Simplex) (numbers : List ℕ) (es : List Execution) (k : ℕ) (e : Execution) : Type 0 where
+pub record IsThere (inputs : List Simplex) (numbers : List ℕ) (es : List Span) (k : ℕ) (e : Span) : Type 0 where
   pub within : EndsBy (length numbers) e
   pub on : IsOn inputs e
   pub scope : get_or (scopes_seen inputs numbers es) k [] ≡ scope_on inputs numbers e
 
-pub is_there : (inputs : List Simplex) (numbers : List ℕ) (es : List Execution) (k : ℕ) (e : Execution) → LieFrom 0 (length numbers) es → All (IsOn inputs) es → k < length es → e ≡ get_or es k e → IsThere inputs numbers es k e
+pub is_there : (inputs : List Simplex) (numbers : List ℕ) (es : List Span) (k : ℕ) (e : Span) → LieFrom 0 (length numbers) es → All (IsOn inputs) es → k < length es → e ≡ get_or es k e → IsThere inputs numbers es k e
 is_there inputs numbers es k e lying on low is = record {
   within = subst (EndsBy (length numbers)) (sym is) (All-get_or (EndsBy (length numbers)) es k e low (all_end (length numbers) es lying));
   on = subst (IsOn inputs) (sym is) (All-get_or (IsOn inputs) es k e low on);
   scope = get_or-map (scope_on inputs numbers) es k e [] low ∙ ap (scope_on inputs numbers) (sym is);
 }
 
-pub length-scopes : (inputs : List Simplex) (numbers : List ℕ) (es : List Execution) → length (scopes_seen inputs numbers es) ≡ length es
+pub length-scopes : (inputs : List Simplex) (numbers : List ℕ) (es : List Span) → length (scopes_seen inputs numbers es) ≡ length es
 length-scopes inputs numbers es = length-map es (scope_on inputs numbers)
 
 -- the points of an execution
-pub points_on : (inputs : List Simplex) (numbers : List ℕ) (es : List Execution) (k : ℕ) (e : Execution) → IsThere inputs numbers es k e → part_of numbers e ≡ map (λ (at : ℕ × ℕ). at.1) (get_or (scopes_seen inputs numbers es) k [])
+pub points_on : (inputs : List Simplex) (numbers : List ℕ) (es : List Span) (k : ℕ) (e : Span) → IsThere inputs numbers es k e → part_of numbers e ≡ map (λ (at : ℕ × ℕ). at.1) (get_or (scopes_seen inputs numbers es) k [])
 points_on inputs numbers es k e h =
     sym (ap (map (λ (at : ℕ × ℕ). at.1)) h.scope
     ∙ seconds-zip (processes_on inputs e) (part_of numbers e) (length-part_of numbers e h.within ∙ sym (length-processes_on inputs e h.on)))
 
-pub points_there : (inputs : List Simplex) (numbers : List ℕ) (es : List Execution) (k : ℕ) (e : Execution) → IsThere inputs numbers es k e → take (e.place + e.size - e.place) (drop e.place numbers) ≡ map (λ (at : ℕ × ℕ). at.1) (get_or (scopes_seen inputs numbers es) k [])
+pub points_there : (inputs : List Simplex) (numbers : List ℕ) (es : List Span) (k : ℕ) (e : Span) → IsThere inputs numbers es k e → take (e.place + e.size - e.place) (drop e.place numbers) ≡ map (λ (at : ℕ × ℕ). at.1) (get_or (scopes_seen inputs numbers es) k [])
 points_there inputs numbers es k e h =
     let size : e.place + e.size - e.place ≡ e.size = omega arith in
     ap (λ n. take n (drop e.place numbers)) size ∙ points_on inputs numbers es k e h
 
 -- as many as its processes
-pub points_long : (inputs : List Simplex) (numbers : List ℕ) (es : List Execution) (k : ℕ) (e : Execution) → IsThere inputs numbers es k e → length (get_or inputs e.simplex []) ≡ length (map (λ (at : ℕ × ℕ). at.1) (get_or (scopes_seen inputs numbers es) k []))
+pub points_long : (inputs : List Simplex) (numbers : List ℕ) (es : List Span) (k : ℕ) (e : Span) → IsThere inputs numbers es k e → length (get_or inputs e.simplex []) ≡ length (map (λ (at : ℕ × ℕ). at.1) (get_or (scopes_seen inputs numbers es) k []))
 points_long inputs numbers es k e h = sym h.on.1 ∙ sym (length-part_of numbers e h.within) ∙ ap length (points_on inputs numbers es k e h)
 
 -- its processes beside its points
-pub scope_there : (inputs : List Simplex) (numbers : List ℕ) (es : List Execution) (k : ℕ) (e : Execution) → IsThere inputs numbers es k e →
+pub scope_there : (inputs : List Simplex) (numbers : List ℕ) (es : List Span) (k : ℕ) (e : Span) → IsThere inputs numbers es k e →
     zip (processes_on inputs e) (map (λ (at : ℕ × ℕ). at.1) (get_or (scopes_seen inputs numbers es) k [])) ≡ get_or (scopes_seen inputs numbers es) k []
 scope_there inputs numbers es k e h = ap (zip (processes_on inputs e)) (sym (points_on inputs numbers es k e h)) ∙ sym h.scope
 
 -- ---- the execution and the process of a place
 
-place_here : (inputs : List Simplex) (k n i : ℕ) (e : Execution) → IsOn inputs e → k ≡ n → i < e.size → get_or (places_on inputs (k, e)) i (0, 0) ≡ (n, get_or (processes_on inputs e) i 0)
+place_here : (inputs : List Simplex) (k n i : ℕ) (e : Span) → IsOn inputs e → k ≡ n → i < e.size → get_or (places_on inputs (k, e)) i (0, 0) ≡ (n, get_or (processes_on inputs e) i 0)
 place_here inputs k n i e on same low =
     get_or-map (λ c. (k, c)) (processes_on inputs e) i 0 (0, 0) (omega (arith, low, length-processes_on inputs e on))
     ∙ ap (λ m. (m, get_or (processes_on inputs e) i 0)) same
 
-length-places_on : (inputs : List Simplex) (k : ℕ) (e : Execution) → IsOn inputs e → length (places_on inputs (k, e)) ≡ e.size
+length-places_on : (inputs : List Simplex) (k : ℕ) (e : Span) → IsOn inputs e → length (places_on inputs (k, e)) ≡ e.size
 length-places_on inputs k e on = length-map (processes_on inputs e) (λ c. (k, c)) ∙ length-processes_on inputs e on
 
-pub place_there : (inputs : List Simplex) (k first end place : ℕ) (es : List Execution) → LieFrom first end es → AllByRecursion (IsOn inputs) es → (n : ℕ) (d : Execution) → n < length es →
+pub place_there : (inputs : List Simplex) (k first end place : ℕ) (es : List Span) → LieFrom first end es → AllByRecursion (IsOn inputs) es → (n : ℕ) (d : Span) → n < length es →
     (get_or es n d).place ≤ place → place < (get_or es n d).place + (get_or es n d).size →
     get_or (flat_map (places_on inputs) (enumerate_from k es)) (place - first) (0, 0) ≡ (k + n, get_or (processes_on inputs (get_or es n d)) (place - (get_or es n d).place) 0)
 place_there inputs k first end place [] lying on n d inside low high = absurd (let none : ⊥ = omega (arith, inside) in none)
@@ -113,7 +113,7 @@ place_there inputs k first end place (e ∷ es) lying on (suc n) d inside low hi
     ∙ ap (λ m. (m, get_or (processes_on inputs f) (place - f.place) 0)) number
 
 -- what is seen of the first place of a point
-pub first_there : (inputs : List Simplex) (end : ℕ) (es : List Execution) (firsts : List ℕ) (point place k : ℕ) (e : Execution) (s : Simplex) → LieFrom 0 end es → All (IsOn inputs) es → point < length firsts →
+pub first_there : (inputs : List Simplex) (end : ℕ) (es : List Span) (firsts : List ℕ) (point place k : ℕ) (e : Span) (s : Simplex) → LieFrom 0 end es → All (IsOn inputs) es → point < length firsts →
     place ≡ get_or firsts point place → BelongsTo place es k → e ≡ get_or es k e → s ≡ get_or inputs e.simplex s → slice_get (firsts_seen inputs es firsts) point ≡ Some (k, get_or (processes_of s) (place - e.place) 0)
 first_there inputs end es firsts point place k e s lying on low is at there input =
     let seen : ℕ → ℕ × ℕ = λ j. get_or (places_on_all inputs es) j (0, 0) in
@@ -124,8 +124,8 @@ first_there inputs end es firsts point place k e s lying on low is at there inpu
     let number : 0 + k ≡ k = omega arith in
     let found =
     place_there inputs 0 0 end place es lying (recursion_from_All (IsOn inputs) es on) k e inside
-    (omega (arith, at.begun, ap (λ (d : Execution). d.place) same))
-    (omega (arith, at.before_its_end, ap (λ (d : Execution). d.place + d.size) same)) in
+    (omega (arith, at.begun, ap (λ (d : Span). d.place) same))
+    (omega (arith, at.before_its_end, ap (λ (d : Span). d.place + d.size) same)) in
     slice_get-map seen firsts point
     ∙ ap (option_map seen) (slice_get-get_or firsts point place low ∙ ap (λ j. Some j) (sym is))
     ∙ ap (λ m. Some m) (ap seen (sym place_is) ∙ found)

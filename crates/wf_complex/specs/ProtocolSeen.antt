@@ -9,7 +9,7 @@ use Rattle.wf_model.specs.ViewCode.{view_list_code}
 use Rattle.wf_complex.specs.Rounds.{views_at}
 use Rattle.wf_complex.specs.Places.{LieFrom, IsOn, scope_on, places_on_all}
 use Rattle.wf_complex.specs.Protocol.{Built}
-use Rattle.wf_complex.specs.declared.layout.Execution.{Execution}
+use Rattle.wf_complex.specs.declared.layout.Span.{Span}
 use Rattle.wf_complex.specs.declared.protocol.Protocol.TheInside.{Inside}
 
 -- a protocol complex is stored as the tuple of its fields
@@ -26,11 +26,11 @@ abbrev pub points_seen : List View → List ℕ → List View
 points_seen table classes = views_at table classes
 
 -- the execution and the process at some places
-abbrev pub firsts_seen : List Simplex → List Execution → List ℕ → List (ℕ × ℕ)
+abbrev pub firsts_seen : List Simplex → List Span → List ℕ → List (ℕ × ℕ)
 firsts_seen inputs executions firsts = map (λ j. slice_index_or (places_on_all inputs executions) j (0, 0)) firsts
 
 -- the processes of each execution, each with its point
-abbrev pub scopes_seen : List Simplex → List ℕ → List Execution → List (List (ℕ × ℕ))
+abbrev pub scopes_seen : List Simplex → List ℕ → List Span → List (List (ℕ × ℕ))
 scopes_seen inputs numbers executions = map (scope_on inputs numbers) executions
 
 abbrev pub built_seen : Inside → Built

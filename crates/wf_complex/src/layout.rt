@@ -14,7 +14,7 @@ pub const MOST_EXECUTIONS: u32 = 500_000;
 /// An execution, in eight bytes: the place of its first process in the list of places, the number
 /// of its input simplex, and how many processes take part.
 #[derive(Clone, Copy, Debug)]
-pub(crate) struct Execution {
+pub(crate) struct Span {
     pub place: u32,
     pub simplex: u16,
     pub size: u8,
@@ -60,7 +60,7 @@ pub(crate) fn lay_out(
     inputs: &[Simplex],
     first_block: u8,
     rounds: u32,
-) -> Result<Vec<Execution>, AllocError>
+) -> Result<Vec<Span>, AllocError>
     requires one { 1 ≤ first_block }
     requires most { first_block ≤ most_processes }
     requires few { execution_total first_block rounds inputs.now ≤ most_executions }
@@ -82,7 +82,7 @@ pub(crate) fn lay_out(
 
 /// Adds the executions on one simplex, whose places begin here.
 fn lay_on(
-    executions: &mut Vec<Execution>,
+    executions: &mut Vec<Span>,
     simplex: u16,
     size: u8,
     first: u32,
@@ -95,7 +95,7 @@ fn lay_on(
 {
     let mut place = first;
     for _turn in 0..count {
-        executions.push(Execution {
+        executions.push(Span {
             place,
             simplex,
             size,
@@ -106,7 +106,7 @@ fn lay_on(
 }
 
 /// The place after the last of these executions.
-pub(crate) fn place_after_all(executions: &[Execution]) -> usize
+pub(crate) fn place_after_all(executions: &[Span]) -> usize
     ensures { result ≡ place_after (slice_get executions.now (length executions.now - 1)) }
 {
     match executions.last() {
@@ -116,7 +116,7 @@ pub(crate) fn place_after_all(executions: &[Execution]) -> usize
 }
 
 /// The number of the execution that a place belongs to, where they lie one after another.
-pub(crate) fn execution_of(executions: &[Execution], place: u32) -> u32
+pub(crate) fn execution_of(executions: &[Span], place: u32) -> u32
     requires lying { (end : ℕ) × (place < end) × LieFrom 0 end executions.now }
     requires few { length executions.now ≤ most_executions }
     ensures { BelongsTo place executions.now result }

@@ -12,7 +12,7 @@ ghost use Rattle.wf_complex.specs.ProtocolMade.{IsMade};
 use crate::classes::points_of;
 use crate::fault::BuildFault;
 use crate::layout::{
-    Execution, MOST_EXECUTIONS, execution_count, execution_of, lay_out, place_after_all,
+    MOST_EXECUTIONS, Span, execution_count, execution_of, lay_out, place_after_all,
 };
 use crate::rounds::last_views;
 use std::alloc::{AllocError, Global};
@@ -43,7 +43,7 @@ pub struct Protocol {
     firsts: Vec<u32>,
     // the input simplices: an execution's processes are those of its own
     inputs: Vec<Simplex>,
-    executions: Vec<Execution>,
+    executions: Vec<Span>,
     // the point at each place
     numbers: Vec<u32>,
 }

@@ -1,4 +1,4 @@
--- The text of a view, by the views that it saw.
+-- The lines of points, of decisions and of refusals, as they are told.
 use Rattle.std.proofs.Common.{◌≡◌, ℕ, Bool, List, ◌++◌, drop, codes, decimal, append_assoc, slice_get, flat_map, sym, ap, ◌∙◌}
 use Rattle.std.specs.List.{enumerate_from}
 use Rattle.std.specs.Option.{unwrap_or}

@@ -332,7 +332,7 @@ module _ (t : Task) (r : ℕ) (task : IsTask t) where
       (λ s h. weaker (λ x. x ≤ largest_value t.least_block) IsSmall (λ x k. omega (arith, k, largest_is t.least_block)) (values_of s) (recursion_from_All _ (values_of s) h.values))
       t.outputs (recursion_from_All _ t.outputs (outputs_within t task)))
 
-  values_small : AllByRecursion IsSmall (values t)
+  pub values_small : AllByRecursion IsSmall (values t)
   values_small =
       let all = flat_map values_of t.outputs in
       weaker (λ a. has (values t) a ≡ true) IsSmall (λ a h. each_with_value IsSmall all a outputs_small (has_from_order a all h)) (values t) (each_has (values t))

@@ -78,8 +78,11 @@ module _ (p : Problem) (well : IsWellFormed p) where
         subst (λ all. first_fault p k all (box ∷ (more ++ boxes)) ≡ None) (sym (append_assoc (lines t) (lines_each ts) ls))
         (accepts t (lines_each ts ++ ls) box (more ++ boxes) r.0 these.0 (each_append (λ b. length b ≡ p.points) more boxes these.1 fits) (accepts_each ts ls more boxes r.1 these.1 fits next) k)
 
-  -- the lines of a tree that refutes the root have no fault
+  -- the lines of a tree that refutes a box have no fault as lines about it
+  pub box_accepts : (k : ℕ) (t : Tree) (box : Box) → length box ≡ p.points → Refutes p t box → first_fault p k (lines t) (box ∷ []) ≡ None
+  box_accepts k t box long r =
+      subst (λ all. first_fault p k all (box ∷ []) ≡ None) (append-nil (lines t))
+      (accepts t [] box [] r long tt (λ k. refl) k)
+
   pub root_accepts : (k : ℕ) (t : Tree) → Refutes p t (root p) → first_fault p k (lines t) (root p ∷ []) ≡ None
-  root_accepts k t r =
-      subst (λ all. first_fault p k all (root p ∷ []) ≡ None) (append-nil (lines t))
-      (accepts t [] (root p) [] r (length-replicate p.points p.values) tt (λ k. refl) k)
+  root_accepts k t r = box_accepts k t (root p) (length-replicate p.points p.values) r

@@ -1,5 +1,6 @@
 pub mod Basics
 pub mod Sound
+pub mod Tuples
 pub mod Bridge
 pub mod Headline
 pub mod Fuel

@@ -3,7 +3,7 @@ use Rattle.std.specs.Prelude.{◌≡◌, ℕ, ◌+◌, ◌<◌, ◌≤◌, true,
 use Rattle.wf_model.specs.Problem.{Problem}
 use Rattle.wf_model.specs.Outline.{Item, boxes_left_out}
 use Rattle.wf_core.specs.Count.{times, times_in, once_below}
-use Rattle.wf_board.specs.Desk.{Place, Desk, looked, settled}
+use Rattle.wf_board.specs.Desk.{BoardId, Desk, looked, settled}
 use Rattle.wf_box.specs.Boxes.{ServeFor}
 use Rattle.wf_search.specs.declared.searching.Found.{Found}
 use Rattle.wf_search.specs.declared.searching.Found.TheVariants as found
@@ -46,7 +46,7 @@ pub record IsHonest (p : Problem) (kept : KeptLines) (d : Desk) (f : Finds) : Ty
   pub lines_kept : (i : ℕ) → i < d.seen → times i d.refuted ≤ times i (lines_branches f.lines)
 
 -- a seat of this board
-abbrev pub IsSeat : Place → Desk → Type 0
+abbrev pub IsSeat : BoardId → Desk → Type 0
 IsSeat b d = (d.table ≡ b.table) × (d.branches ≡ b.branches)
 
 -- the seat has looked at the board, and done nothing else
@@ -56,11 +56,11 @@ pub record HasLooked (d e : Desk) : Type 0 where
 
 -- a worker of the board that tells the truth about the problem, and keeps
 -- answers of the kernel that are right for it
-abbrev pub IsWorker : Problem → KeptLines → Place → Worker → Type 0
+abbrev pub IsWorker : Problem → KeptLines → BoardId → Worker → Type 0
 IsWorker p kept b w = IsSeat b w.seat × IsHonest p kept w.seat w.finds × ServeFor p w.answers
 
 -- a worker that has settled nothing
-abbrev pub IsFresh : Problem → KeptLines → Place → Worker → Type 0
+abbrev pub IsFresh : Problem → KeptLines → BoardId → Worker → Type 0
 IsFresh p kept b w = IsWorker p kept b w × (settled w.seat ≡ [])
 
 -- the worker has settled what its share has taken
@@ -87,7 +87,7 @@ abbrev pub IsAlike : {X A : Type 0} → Vec X A → Vec X A → Type 0
 IsAlike old new = (length new.items ≡ length old.items) × (vec_capacity new ≡ vec_capacity old)
 
 -- workers of the board, and what they have settled
-abbrev pub AreWorkers : Problem → KeptLines → Place → List Worker → Type 0
+abbrev pub AreWorkers : Problem → KeptLines → BoardId → List Worker → Type 0
 AreWorkers p kept b ws = All (IsWorker p kept b) ws
 
 abbrev pub times_settled : ℕ → List Worker → ℕ
@@ -98,17 +98,17 @@ abbrev pub AreDone : {S : Type 0} → (S → List ℕ) → List Worker → List 
 AreDone taken ws ss = (x : ℕ) → times_settled x ws ≡ times_in taken x ss
 
 -- the workers have settled every branch of the board; and so they have once these are settled too
-abbrev pub AreAllSettled : Place → List Worker → Type 0
+abbrev pub AreAllSettled : BoardId → List Worker → Type 0
 AreAllSettled b ws = (x : ℕ) → times_settled x ws ≡ once_below x b.branches
 
-abbrev pub AreAllBut : Place → List ℕ → List Worker → Type 0
+abbrev pub AreAllBut : BoardId → List ℕ → List Worker → Type 0
 AreAllBut b left ws = (x : ℕ) → times_settled x ws + times x left ≡ once_below x b.branches
 
 -- a branch of the board that the seat has not settled; and different such branches
-abbrev pub IsToSettle : Place → Desk → ℕ → Type 0
+abbrev pub IsToSettle : BoardId → Desk → ℕ → Type 0
 IsToSettle b d i = (i < b.branches) × (times i (settled d) ≡ 0)
 
-abbrev pub AreToSettle : Place → Desk → List ℕ → Type 0
+abbrev pub AreToSettle : BoardId → Desk → List ℕ → Type 0
 AreToSettle b d left = (x : ℕ) → times x (settled d) + times x left ≤ once_below x b.branches
 
 -- the worker has settled these branches, each once, and no other one since
@@ -128,7 +128,7 @@ StaysHonestIf P old new =
     (p : Problem) (kept : KeptLines) → IsHonest p kept old.seat old.finds → P p kept → IsHonest p kept new.seat new.finds
 
 -- the branches of the problem are those that the board counts
-pub record IsGround (p : Problem) (c : List Item) (b : Place) : Type 0 where
+pub record IsGround (p : Problem) (c : List Item) (b : BoardId) : Type 0 where
   pub cover : IsCoverOf p c
   pub count : length (boxes_left_out c) ≡ b.branches
 

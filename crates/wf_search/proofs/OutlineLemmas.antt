@@ -1,4 +1,4 @@
--- Outlines as slots.
+-- Outlines as gaps.
 use Rattle.std.proofs.Common.{◌≡◌, ℕ, zero, suc, ◌-◌, ◌<◌, ◌≤◌, ◌&&◌, ◌||◌, ◌==◌, nat_lt, true, false, List, [], ◌∷◌, ◌++◌, map, flat_map, length, get_or, take, Bool, refl, sym, ap, ◌∙◌, subst, arith, Option, Some, None, IfSome, IfOk, Result, Ok, Err, ltb-true, Vec, ◌⊎◌, inl, inr}
 use Rattle.std.specs.List.{AllByRecursion, list_any}
 use Rattle.std.specs.Bool.{OnTrue}
@@ -19,12 +19,12 @@ use Rattle.wf_model.proofs.Closed.{closed_branch}
 use Rattle.wf_lines.specs.Lines.{line_of}
 use Rattle.wf_lines.specs.declared.line.Line.{Line}
 use Rattle.wf_set.specs.Sets.{values_in}
-use Rattle.wf_search.specs.declared.outline.Slot.{Slot}
+use Rattle.wf_search.specs.declared.outline.Gap.{Gap}
 use Rattle.wf_search.specs.Cover.{each_seen}
 use Rattle.wf_box.specs.Boxes.{Grows, IsFor, Tracked, WasClosed, box_after}
 use Rattle.wf_box.specs.Revising.{AreKnown}
 use Rattle.wf_box.proofs.Lemmas.{on_true, after_grown, closed_undone, grown_trail, known_none, still_closed}
-use Rattle.wf_search.specs.Outline.{IsClosedBox, IsJustClosed, as_written, slot_seen, slots_filled, is_to_open}
+use Rattle.wf_search.specs.Outline.{IsClosedBox, IsJustClosed, as_written, gap_seen, gaps_filled, is_to_open}
 use Rattle.wf_search.proofs.SearchLemmas.{branches_are_boxes}
 use Rattle.wf_search.proofs.PendingLemmas.{if_there, last_state}
 
@@ -38,47 +38,47 @@ no_boxes : (ls : List refutation.Line) → boxes_left_out (map written ls) ≡ [
 no_boxes [] = refl
 no_boxes (l ∷ ls) = no_boxes ls
 
-boxes_slots : (slots : List Slot) → boxes_left_out (flat_map slot_seen slots) ≡ map (λ (s : Slot). s.boxed.sets) slots
-boxes_slots [] = refl
-boxes_slots (s ∷ slots) =
-    boxes_append (slot_seen s) (flat_map slot_seen slots)
-    ∙ ap (λ bs. bs ++ boxes_left_out (flat_map slot_seen slots)) (boxes_written (map line_of s.before.items) (left_out s.boxed.sets ∷ []))
-    ∙ ap (λ bs. s.boxed.sets ∷ bs) (boxes_slots slots)
+boxes_gaps : (gaps : List Gap) → boxes_left_out (flat_map gap_seen gaps) ≡ map (λ (s : Gap). s.boxed.sets) gaps
+boxes_gaps [] = refl
+boxes_gaps (s ∷ gaps) =
+    boxes_append (gap_seen s) (flat_map gap_seen gaps)
+    ∙ ap (λ bs. bs ++ boxes_left_out (flat_map gap_seen gaps)) (boxes_written (map line_of s.before.items) (left_out s.boxed.sets ∷ []))
+    ∙ ap (λ bs. s.boxed.sets ∷ bs) (boxes_gaps gaps)
 
-pub boxes_seen : (slots : List Slot) (after : List Line) → boxes_left_out (flat_map slot_seen slots ++ as_written after) ≡ map (λ (s : Slot). s.boxed.sets) slots
-boxes_seen slots after =
-    boxes_append (flat_map slot_seen slots) (as_written after)
-    ∙ ap (λ bs. boxes_left_out (flat_map slot_seen slots) ++ bs) (no_boxes (map line_of after))
-    ∙ append-nil (boxes_left_out (flat_map slot_seen slots))
-    ∙ boxes_slots slots
+pub boxes_seen : (gaps : List Gap) (after : List Line) → boxes_left_out (flat_map gap_seen gaps ++ as_written after) ≡ map (λ (s : Gap). s.boxed.sets) gaps
+boxes_seen gaps after =
+    boxes_append (flat_map gap_seen gaps) (as_written after)
+    ∙ ap (λ bs. boxes_left_out (flat_map gap_seen gaps) ++ bs) (no_boxes (map line_of after))
+    ∙ append-nil (boxes_left_out (flat_map gap_seen gaps))
+    ∙ boxes_gaps gaps
 
-pub number_seen : (slots : List Slot) (after : List Line) → length (boxes_left_out (flat_map slot_seen slots ++ as_written after)) ≡ length slots
-number_seen slots after = ap length (boxes_seen slots after) ∙ length-map slots (λ (s : Slot). s.boxed.sets)
+pub number_seen : (gaps : List Gap) (after : List Line) → length (boxes_left_out (flat_map gap_seen gaps ++ as_written after)) ≡ length gaps
+number_seen gaps after = ap length (boxes_seen gaps after) ∙ length-map gaps (λ (s : Gap). s.boxed.sets)
 
-pub box_at : (slots : List Slot) (i : ℕ) (s : Slot) → i < length slots → s ≡ get_or slots i s → s.boxed.sets ≡ get_or (map (λ (s : Slot). s.boxed.sets) slots) i []
+pub box_at : (gaps : List Gap) (i : ℕ) (s : Gap) → i < length gaps → s ≡ get_or gaps i s → s.boxed.sets ≡ get_or (map (λ (s : Gap). s.boxed.sets) gaps) i []
 box_at [] i s low is = absurd (let none : ⊥ = omega (arith, low) in none)
-box_at (x ∷ slots) zero s low is = ap (λ (s : Slot). s.boxed.sets) is
-box_at (x ∷ slots) (suc i) s low is = box_at slots i s (omega (arith, low)) is
+box_at (x ∷ gaps) zero s low is = ap (λ (s : Gap). s.boxed.sets) is
+box_at (x ∷ gaps) (suc i) s low is = box_at gaps i s (omega (arith, low)) is
 
-any_slot : (slots : List Slot) → list_any is_open (map (λ (s : Slot). s.boxed.sets) slots) ≡ list_any (λ (s : Slot). is_open s.boxed.sets) slots
-any_slot [] = refl
-any_slot (s ∷ slots) = ap (λ b. is_open s.boxed.sets || b) (any_slot slots)
+any_gap : (gaps : List Gap) → list_any is_open (map (λ (s : Gap). s.boxed.sets) gaps) ≡ list_any (λ (s : Gap). is_open s.boxed.sets) gaps
+any_gap [] = refl
+any_gap (s ∷ gaps) = ap (λ b. is_open s.boxed.sets || b) (any_gap gaps)
 
-pub to_open_seen : (slots : List Slot) (after : List Line) → is_to_open (flat_map slot_seen slots ++ as_written after) ≡ (nat_lt (length slots) 64 && list_any (λ (s : Slot). is_open s.boxed.sets) slots)
-to_open_seen slots after =
-    ap (λ n. nat_lt n 64 && list_any is_open (boxes_left_out (flat_map slot_seen slots ++ as_written after))) (number_seen slots after)
-    ∙ ap (λ bs. nat_lt (length slots) 64 && list_any is_open bs) (boxes_seen slots after)
-    ∙ ap (λ b. nat_lt (length slots) 64 && b) (any_slot slots)
+pub to_open_seen : (gaps : List Gap) (after : List Line) → is_to_open (flat_map gap_seen gaps ++ as_written after) ≡ (nat_lt (length gaps) 64 && list_any (λ (s : Gap). is_open s.boxed.sets) gaps)
+to_open_seen gaps after =
+    ap (λ n. nat_lt n 64 && list_any is_open (boxes_left_out (flat_map gap_seen gaps ++ as_written after))) (number_seen gaps after)
+    ∙ ap (λ bs. nat_lt (length gaps) 64 && list_any is_open bs) (boxes_seen gaps after)
+    ∙ ap (λ b. nat_lt (length gaps) 64 && b) (any_gap gaps)
 
 -- ---- adding to an outline
 
-pub left_out_seen : (slots : List Slot) (s : Slot) (none : List Line) → none ≡ [] → flat_map slot_seen (slots ++ s ∷ []) ++ as_written none ≡ (flat_map slot_seen slots ++ as_written s.before.items) ++ left_out s.boxed.sets ∷ []
-left_out_seen [] s none is = ap (λ ls. ((slot_seen s ++ []) ++ as_written ls)) is ∙ append-nil (slot_seen s ++ []) ∙ append-nil (slot_seen s)
-left_out_seen (x ∷ slots) s none is =
-    append_assoc (slot_seen x) (flat_map slot_seen (slots ++ s ∷ [])) (as_written none)
-    ∙ ap (λ items. slot_seen x ++ items) (left_out_seen slots s none is)
-    ∙ sym (append_assoc (slot_seen x) (flat_map slot_seen slots ++ as_written s.before.items) (left_out s.boxed.sets ∷ []))
-    ∙ ap (λ items. items ++ left_out s.boxed.sets ∷ []) (sym (append_assoc (slot_seen x) (flat_map slot_seen slots) (as_written s.before.items)))
+pub left_out_seen : (gaps : List Gap) (s : Gap) (none : List Line) → none ≡ [] → flat_map gap_seen (gaps ++ s ∷ []) ++ as_written none ≡ (flat_map gap_seen gaps ++ as_written s.before.items) ++ left_out s.boxed.sets ∷ []
+left_out_seen [] s none is = ap (λ ls. ((gap_seen s ++ []) ++ as_written ls)) is ∙ append-nil (gap_seen s ++ []) ∙ append-nil (gap_seen s)
+left_out_seen (x ∷ gaps) s none is =
+    append_assoc (gap_seen x) (flat_map gap_seen (gaps ++ s ∷ [])) (as_written none)
+    ∙ ap (λ items. gap_seen x ++ items) (left_out_seen gaps s none is)
+    ∙ sym (append_assoc (gap_seen x) (flat_map gap_seen gaps ++ as_written s.before.items) (left_out s.boxed.sets ∷ []))
+    ∙ ap (λ items. items ++ left_out s.boxed.sets ∷ []) (sym (append_assoc (gap_seen x) (flat_map gap_seen gaps) (as_written s.before.items)))
 
 -- ---- filling
 
@@ -90,37 +90,37 @@ up_to_after : (ls : List refutation.Line) (items : List Item) (lists : List (Lis
 up_to_after [] items lists = refl
 up_to_after (l ∷ ls) items lists = ap (λ ms. l ∷ ms) (up_to_after ls items lists)
 
--- the first slot's lines come first, then its box
-first_slot : (s : Slot) (slots : List Slot) (items : List Item) → flat_map slot_seen (s ∷ slots) ++ items ≡ as_written s.before.items ++ left_out s.boxed.sets ∷ (flat_map slot_seen slots ++ items)
-first_slot s slots items = append_assoc (slot_seen s) (flat_map slot_seen slots) items ∙ append_assoc (as_written s.before.items) (left_out s.boxed.sets ∷ []) (flat_map slot_seen slots ++ items)
+-- the first gap's lines come first, then its box
+first_gap : (s : Gap) (gaps : List Gap) (items : List Item) → flat_map gap_seen (s ∷ gaps) ++ items ≡ as_written s.before.items ++ left_out s.boxed.sets ∷ (flat_map gap_seen gaps ++ items)
+first_gap s gaps items = append_assoc (gap_seen s) (flat_map gap_seen gaps) items ∙ append_assoc (as_written s.before.items) (left_out s.boxed.sets ∷ []) (flat_map gap_seen gaps ++ items)
 
 module _ {A : Type 0} where
-  filled_seen : (slots : List Slot) (lists : List (Vec Line A)) (after : List refutation.Line) → length lists ≡ length slots
-      → filled (flat_map slot_seen slots ++ map written after) (each_seen lists) ≡ slots_filled slots lists ++ after
+  filled_seen : (gaps : List Gap) (lists : List (Vec Line A)) (after : List refutation.Line) → length lists ≡ length gaps
+      → filled (flat_map gap_seen gaps ++ map written after) (each_seen lists) ≡ gaps_filled gaps lists ++ after
   filled_seen [] [] after same = ap (λ items. filled items []) (sym (append-nil (map written after))) ∙ filled_after after [] [] ∙ append-nil after
   filled_seen [] (list ∷ lists) after same = absurd (let none : ⊥ = omega (arith, same) in none)
-  filled_seen (s ∷ slots) [] after same = absurd (let none : ⊥ = omega (arith, same) in none)
-  filled_seen (s ∷ slots) (list ∷ lists) after same =
+  filled_seen (s ∷ gaps) [] after same = absurd (let none : ⊥ = omega (arith, same) in none)
+  filled_seen (s ∷ gaps) (list ∷ lists) after same =
       let before = map line_of s.before.items in
       let here = map line_of list.items in
-      ap (λ items. filled items (each_seen (list ∷ lists))) (first_slot s slots (map written after))
-      ∙ filled_after before (left_out s.boxed.sets ∷ (flat_map slot_seen slots ++ map written after)) (each_seen (list ∷ lists))
-      ∙ ap (λ ms. before ++ (here ++ ms)) (filled_seen slots lists after (omega (arith, same)))
-      ∙ ap (λ ms. before ++ ms) (sym (append_assoc here (slots_filled slots lists) after))
-      ∙ sym (append_assoc before (here ++ slots_filled slots lists) after)
+      ap (λ items. filled items (each_seen (list ∷ lists))) (first_gap s gaps (map written after))
+      ∙ filled_after before (left_out s.boxed.sets ∷ (flat_map gap_seen gaps ++ map written after)) (each_seen (list ∷ lists))
+      ∙ ap (λ ms. before ++ (here ++ ms)) (filled_seen gaps lists after (omega (arith, same)))
+      ∙ ap (λ ms. before ++ ms) (sym (append_assoc here (gaps_filled gaps lists) after))
+      ∙ sym (append_assoc before (here ++ gaps_filled gaps lists) after)
 
-  up_to_seen : (slots : List Slot) (lists : List (Vec Line A)) (after : List refutation.Line) → 0 < length lists → length lists ≤ length slots
-      → filled_up_to (flat_map slot_seen slots ++ map written after) (each_seen lists) ≡ slots_filled slots lists
-  up_to_seen slots [] after some few = absurd (let none : ⊥ = omega (arith, some) in none)
+  up_to_seen : (gaps : List Gap) (lists : List (Vec Line A)) (after : List refutation.Line) → 0 < length lists → length lists ≤ length gaps
+      → filled_up_to (flat_map gap_seen gaps ++ map written after) (each_seen lists) ≡ gaps_filled gaps lists
+  up_to_seen gaps [] after some few = absurd (let none : ⊥ = omega (arith, some) in none)
   up_to_seen [] (list ∷ lists) after some few = absurd (let none : ⊥ = omega (arith, few) in none)
-  up_to_seen (s ∷ slots) (list ∷ []) after some few =
-      ap (λ items. filled_up_to items (each_seen (list ∷ []))) (first_slot s slots (map written after))
-      ∙ up_to_after (map line_of s.before.items) (left_out s.boxed.sets ∷ (flat_map slot_seen slots ++ map written after)) (each_seen (list ∷ []))
+  up_to_seen (s ∷ gaps) (list ∷ []) after some few =
+      ap (λ items. filled_up_to items (each_seen (list ∷ []))) (first_gap s gaps (map written after))
+      ∙ up_to_after (map line_of s.before.items) (left_out s.boxed.sets ∷ (flat_map gap_seen gaps ++ map written after)) (each_seen (list ∷ []))
       ∙ ap (λ ms. map line_of s.before.items ++ ms) (sym (append-nil (map line_of list.items)))
-  up_to_seen (s ∷ slots) (list ∷ next ∷ lists) after some few =
-      ap (λ items. filled_up_to items (each_seen (list ∷ next ∷ lists))) (first_slot s slots (map written after))
-      ∙ up_to_after (map line_of s.before.items) (left_out s.boxed.sets ∷ (flat_map slot_seen slots ++ map written after)) (each_seen (list ∷ next ∷ lists))
-      ∙ ap (λ ms. map line_of s.before.items ++ (map line_of list.items ++ ms)) (up_to_seen slots (next ∷ lists) after (omega arith) (omega (arith, few)))
+  up_to_seen (s ∷ gaps) (list ∷ next ∷ lists) after some few =
+      ap (λ items. filled_up_to items (each_seen (list ∷ next ∷ lists))) (first_gap s gaps (map written after))
+      ∙ up_to_after (map line_of s.before.items) (left_out s.boxed.sets ∷ (flat_map gap_seen gaps ++ map written after)) (each_seen (list ∷ next ∷ lists))
+      ∙ ap (λ ms. map line_of s.before.items ++ (map line_of list.items ++ ms)) (up_to_seen gaps (next ∷ lists) after (omega arith) (omega (arith, few)))
 
 -- ---- opening
 
@@ -129,8 +129,8 @@ module _ (p : Problem) where
   open_written [] items = refl
   open_written (l ∷ ls) items = ap (λ is. written l ∷ is) (open_written ls items)
 
-  pub open_slot : (s : Slot) (items : List Item) → flat_map (opened p) (slot_seen s ++ items) ≡ as_written s.before.items ++ (opened p (left_out s.boxed.sets) ++ flat_map (opened p) items)
-  open_slot s items =
+  pub open_gap : (s : Gap) (items : List Item) → flat_map (opened p) (gap_seen s ++ items) ≡ as_written s.before.items ++ (opened p (left_out s.boxed.sets) ++ flat_map (opened p) items)
+  open_gap s items =
       ap (flat_map (opened p)) (append_assoc (as_written s.before.items) (left_out s.boxed.sets ∷ []) items)
       ∙ open_written (map line_of s.before.items) (left_out s.boxed.sets ∷ items)
 
@@ -253,83 +253,83 @@ closed_for p b now closed =
       known = subst (AreKnown p.constraints) (sym now.fresh) (known_none p.constraints);
     }
 
-pub slot_closed : (slots : List Slot) (i : ℕ) (s : Slot) → AllByRecursion (λ (s : Slot). IsJustClosed s.boxed) slots → i < length slots → s ≡ get_or slots i s → IsJustClosed s.boxed
-slot_closed [] i s all low is = absurd (let none : ⊥ = omega (arith, low) in none)
-slot_closed (x ∷ slots) zero s all low is = subst (λ (t : Slot). IsJustClosed t.boxed) (sym is) all.0
-slot_closed (x ∷ slots) (suc i) s all low is = slot_closed slots i s all.1 (omega (arith, low)) is
+pub gap_closed : (gaps : List Gap) (i : ℕ) (s : Gap) → AllByRecursion (λ (s : Gap). IsJustClosed s.boxed) gaps → i < length gaps → s ≡ get_or gaps i s → IsJustClosed s.boxed
+gap_closed [] i s all low is = absurd (let none : ⊥ = omega (arith, low) in none)
+gap_closed (x ∷ gaps) zero s all low is = subst (λ (t : Gap). IsJustClosed t.boxed) (sym is) all.0
+gap_closed (x ∷ gaps) (suc i) s all low is = gap_closed gaps i s all.1 (omega (arith, low)) is
 
 -- ---- the loops' steps
 
-pub few_enough : (slots : List Slot) (after : List Line) (items : List Item) (n : ℕ) → n ≡ length slots → flat_map slot_seen slots ++ as_written after ≡ items → n < 64 → list_any (λ (s : Slot). is_open s.boxed.sets) slots ≡ is_to_open items
-few_enough slots after items n same seen few =
-    sym (ap (λ b. b && list_any (λ (s : Slot). is_open s.boxed.sets) slots) (lt-ltb (length slots) 64 (omega (arith, same, few))))
-    ∙ sym (to_open_seen slots after) ∙ ap is_to_open seen
+pub few_enough : (gaps : List Gap) (after : List Line) (items : List Item) (n : ℕ) → n ≡ length gaps → flat_map gap_seen gaps ++ as_written after ≡ items → n < 64 → list_any (λ (s : Gap). is_open s.boxed.sets) gaps ≡ is_to_open items
+few_enough gaps after items n same seen few =
+    sym (ap (λ b. b && list_any (λ (s : Gap). is_open s.boxed.sets) gaps) (lt-ltb (length gaps) 64 (omega (arith, same, few))))
+    ∙ sym (to_open_seen gaps after) ∙ ap is_to_open seen
 
-pub enough : (slots : List Slot) (after : List Line) (items : List Item) (n : ℕ) → n ≡ length slots → flat_map slot_seen slots ++ as_written after ≡ items → 64 ≤ n → nat_lt n 64 ≡ is_to_open items
-enough slots after items n same seen many =
+pub enough : (gaps : List Gap) (after : List Line) (items : List Item) (n : ℕ) → n ≡ length gaps → flat_map gap_seen gaps ++ as_written after ≡ items → 64 ≤ n → nat_lt n 64 ≡ is_to_open items
+enough gaps after items n same seen many =
     let no : (m : ℕ) → 64 ≤ m → nat_lt m 64 ≡ false = λ m h. false_from_ne_true (nat_lt m 64) (λ yes'. let less = ltb-true m 64 yes' in let none : ⊥ = omega (arith, less, h) in none) in
     no n many
-    ∙ sym (ap (λ b. b && list_any (λ (s : Slot). is_open s.boxed.sets) slots) (no (length slots) (omega (arith, same, many))))
-    ∙ sym (to_open_seen slots after) ∙ ap is_to_open seen
+    ∙ sym (ap (λ b. b && list_any (λ (s : Gap). is_open s.boxed.sets) gaps) (no (length gaps) (omega (arith, same, many))))
+    ∙ sym (to_open_seen gaps after) ∙ ap is_to_open seen
 
-pub fill_step : {A : Type 0} (slots more : List Slot) (lists others : List (Vec Line A)) (s : Slot) (list : Vec Line A) (old mid new : List Line) (whole : List refutation.Line)
-    → slots ≡ s ∷ more → lists ≡ list ∷ others → mid ≡ old ++ s.before.items → new ≡ mid ++ list.items
-    → map line_of old ++ slots_filled slots lists ≡ whole → map line_of new ++ slots_filled more others ≡ whole
-fill_step slots more lists others s list old mid new whole here there first then all =
-    let rest = slots_filled more others in
+pub fill_step : {A : Type 0} (gaps more : List Gap) (lists others : List (Vec Line A)) (s : Gap) (list : Vec Line A) (old mid new : List Line) (whole : List refutation.Line)
+    → gaps ≡ s ∷ more → lists ≡ list ∷ others → mid ≡ old ++ s.before.items → new ≡ mid ++ list.items
+    → map line_of old ++ gaps_filled gaps lists ≡ whole → map line_of new ++ gaps_filled more others ≡ whole
+fill_step gaps more lists others s list old mid new whole here there first then all =
+    let rest = gaps_filled more others in
     ap (λ ls. ls ++ rest)
     (ap (map line_of) (then ∙ ap (λ ls. ls ++ list.items) first) ∙ map-append line_of (old ++ s.before.items) list.items ∙ ap (λ ls. ls ++ map line_of list.items) (map-append line_of old s.before.items))
     ∙ append_assoc (map line_of old ++ map line_of s.before.items) (map line_of list.items) rest
     ∙ append_assoc (map line_of old) (map line_of s.before.items) (map line_of list.items ++ rest)
-    ∙ ap (λ ss. map line_of old ++ slots_filled ss (list ∷ others)) (sym here)
-    ∙ ap (λ ls. map line_of old ++ slots_filled slots ls) (sym there)
+    ∙ ap (λ ss. map line_of old ++ gaps_filled ss (list ∷ others)) (sym here)
+    ∙ ap (λ ls. map line_of old ++ gaps_filled gaps ls) (sym there)
     ∙ all
 
--- no slot is left, or no list
-pub fill_end : {A : Type 0} (slots : List Slot) (lists : List (Vec Line A)) (lines whole : List refutation.Line) → (slots ≡ []) ⊎ (lists ≡ []) → lines ++ slots_filled slots lists ≡ whole → lines ≡ whole
-fill_end slots [] lines whole ends all = sym (append-nil lines) ∙ all
+-- no gap is left, or no list
+pub fill_end : {A : Type 0} (gaps : List Gap) (lists : List (Vec Line A)) (lines whole : List refutation.Line) → (gaps ≡ []) ⊎ (lists ≡ []) → lines ++ gaps_filled gaps lists ≡ whole → lines ≡ whole
+fill_end gaps [] lines whole ends all = sym (append-nil lines) ∙ all
 fill_end [] (l ∷ lists) lines whole ends all = sym (append-nil lines) ∙ all
-fill_end (s ∷ slots) (l ∷ lists) lines whole ends all = elim ends [ inl e ↦ absurd (let none : ⊥ = cc in none) | inr e ↦ absurd (let none : ⊥ = cc in none) ]
+fill_end (s ∷ gaps) (l ∷ lists) lines whole ends all = elim ends [ inl e ↦ absurd (let none : ⊥ = cc in none) | inr e ↦ absurd (let none : ⊥ = cc in none) ]
 
-pub opened_step : (p : Problem) (slots more : List Slot) (s : Slot) (old mid new whole : List Item) (lines : List Line)
-    → slots ≡ s ∷ more → lines ≡ s.before.items → mid ≡ old ++ as_written lines → new ≡ mid ++ opened p (left_out s.boxed.sets)
-    → old ++ flat_map (opened p) (flat_map slot_seen slots) ≡ whole → new ++ flat_map (opened p) (flat_map slot_seen more) ≡ whole
-opened_step p slots more s old mid new whole lines here same first then all =
-    let rest = flat_map slot_seen more in
+pub opened_step : (p : Problem) (gaps more : List Gap) (s : Gap) (old mid new whole : List Item) (lines : List Line)
+    → gaps ≡ s ∷ more → lines ≡ s.before.items → mid ≡ old ++ as_written lines → new ≡ mid ++ opened p (left_out s.boxed.sets)
+    → old ++ flat_map (opened p) (flat_map gap_seen gaps) ≡ whole → new ++ flat_map (opened p) (flat_map gap_seen more) ≡ whole
+opened_step p gaps more s old mid new whole lines here same first then all =
+    let rest = flat_map gap_seen more in
     ap (λ items. items ++ flat_map (opened p) rest) (then ∙ ap (λ items. items ++ opened p (left_out s.boxed.sets)) (first ∙ ap (λ ls. old ++ as_written ls) same))
     ∙ append_assoc (old ++ as_written s.before.items) (opened p (left_out s.boxed.sets)) (flat_map (opened p) rest)
     ∙ append_assoc old (as_written s.before.items) (opened p (left_out s.boxed.sets) ++ flat_map (opened p) rest)
-    ∙ ap (λ items. old ++ items) (sym (open_slot p s rest))
-    ∙ ap (λ ss. old ++ flat_map (opened p) (flat_map slot_seen ss)) (sym here)
+    ∙ ap (λ items. old ++ items) (sym (open_gap p s rest))
+    ∙ ap (λ ss. old ++ flat_map (opened p) (flat_map gap_seen ss)) (sym here)
     ∙ all
 
-pub opened_last : (p : Problem) (slots none : List Slot) (after lines : List Line) (old new items : List Item) → none ≡ [] → lines ≡ after → new ≡ old ++ as_written lines
-    → old ++ flat_map (opened p) (flat_map slot_seen none) ≡ flat_map (opened p) (flat_map slot_seen slots) → flat_map slot_seen slots ++ as_written after ≡ items → new ≡ flat_map (opened p) items
-opened_last p slots none after lines old new items past same grown all seen =
+pub opened_last : (p : Problem) (gaps none : List Gap) (after lines : List Line) (old new items : List Item) → none ≡ [] → lines ≡ after → new ≡ old ++ as_written lines
+    → old ++ flat_map (opened p) (flat_map gap_seen none) ≡ flat_map (opened p) (flat_map gap_seen gaps) → flat_map gap_seen gaps ++ as_written after ≡ items → new ≡ flat_map (opened p) items
+opened_last p gaps none after lines old new items past same grown all seen =
     grown ∙ ap (λ ls. old ++ as_written ls) same
     ∙ ap (λ is. is ++ as_written after)
-    (sym (append-nil old) ∙ ap (λ ss. old ++ flat_map (opened p) (flat_map slot_seen ss)) (sym past) ∙ all)
-    ∙ ap (λ is. flat_map (opened p) (flat_map slot_seen slots) ++ is) (sym (open_end p after))
-    ∙ sym (flat_map-append (opened p) (flat_map slot_seen slots) (as_written after))
+    (sym (append-nil old) ∙ ap (λ ss. old ++ flat_map (opened p) (flat_map gap_seen ss)) (sym past) ∙ all)
+    ∙ ap (λ is. flat_map (opened p) (flat_map gap_seen gaps) ++ is) (sym (open_end p after))
+    ∙ sym (flat_map-append (opened p) (flat_map gap_seen gaps) (as_written after))
     ∙ ap (flat_map (opened p)) seen
 
-pub boxes_of_slots : (P : Box → Type 0) (slots : List Slot) (after : List Line) (items : List Item) → flat_map slot_seen slots ++ as_written after ≡ items → AllByRecursion P (boxes_left_out items) → AllByRecursion P (map (λ (s : Slot). s.boxed.sets) slots)
-boxes_of_slots P slots after items seen all = subst (AllByRecursion P) (ap boxes_left_out (sym seen) ∙ boxes_seen slots after) all
+pub boxes_of_gaps : (P : Box → Type 0) (gaps : List Gap) (after : List Line) (items : List Item) → flat_map gap_seen gaps ++ as_written after ≡ items → AllByRecursion P (boxes_left_out items) → AllByRecursion P (map (λ (s : Gap). s.boxed.sets) gaps)
+boxes_of_gaps P gaps after items seen all = subst (AllByRecursion P) (ap boxes_left_out (sym seen) ∙ boxes_seen gaps after) all
 
 pub no_more_branches : (p : Problem) (old whole : List Item) (box : Box) (v : ℕ) (left : List ℕ) → values_in left ≡ [] → old ++ branches_closed p box v (values_in left) ≡ whole → old ≡ whole
 no_more_branches p old whole box v left none all = sym (append-nil old) ∙ ap (λ vs. old ++ branches_closed p box v vs) (sym none) ∙ all
 
-pub fill_last : {A : Type 0} (slots : List Slot) (after : List Line) (lists : List (Vec Line A)) (old new more : List Line) (items : List Item) → length lists ≡ length slots
-    → map line_of old ≡ slots_filled slots lists → new ≡ old ++ more → more ≡ after → flat_map slot_seen slots ++ as_written after ≡ items → map line_of new ≡ filled items (each_seen lists)
-fill_last slots after lists old new more items long so_far grown same seen =
+pub fill_last : {A : Type 0} (gaps : List Gap) (after : List Line) (lists : List (Vec Line A)) (old new more : List Line) (items : List Item) → length lists ≡ length gaps
+    → map line_of old ≡ gaps_filled gaps lists → new ≡ old ++ more → more ≡ after → flat_map gap_seen gaps ++ as_written after ≡ items → map line_of new ≡ filled items (each_seen lists)
+fill_last gaps after lists old new more items long so_far grown same seen =
     ap (map line_of) (grown ∙ ap (λ ls. old ++ ls) same) ∙ map-append line_of old after
     ∙ ap (λ ls. ls ++ map line_of after) so_far
-    ∙ sym (filled_seen slots lists (map line_of after) long)
+    ∙ sym (filled_seen gaps lists (map line_of after) long)
     ∙ ap (λ is. filled is (each_seen lists)) seen
 
-pub fill_first : {A : Type 0} (slots : List Slot) (after : List Line) (lists : List (Vec Line A)) (items : List Item) → 0 < length lists → length lists ≤ length slots
-    → flat_map slot_seen slots ++ as_written after ≡ items → slots_filled slots lists ≡ filled_up_to items (each_seen lists)
-fill_first slots after lists items some few seen = sym (up_to_seen slots lists (map line_of after) some few) ∙ ap (λ is. filled_up_to is (each_seen lists)) seen
+pub fill_first : {A : Type 0} (gaps : List Gap) (after : List Line) (lists : List (Vec Line A)) (items : List Item) → 0 < length lists → length lists ≤ length gaps
+    → flat_map gap_seen gaps ++ as_written after ≡ items → gaps_filled gaps lists ≡ filled_up_to items (each_seen lists)
+fill_first gaps after lists items some few seen = sym (up_to_seen gaps lists (map line_of after) some few) ∙ ap (λ is. filled_up_to is (each_seen lists)) seen
 
 pub none_of : {X : Type 0} (xs : List X) → length xs ≡ 0 → xs ≡ []
 none_of [] none = refl

@@ -12,7 +12,7 @@ use Rattle.wf_model.specs.Outline.{Item, written, left_out, boxes_left_out, clos
 use Rattle.wf_lines.specs.Lines.{line_of}
 use Rattle.wf_lines.specs.declared.line.Line.{Line}
 use Rattle.wf_box.specs.Boxes.{IsFor, Tracked}
-use Rattle.wf_search.specs.declared.outline.Slot.{Slot}
+use Rattle.wf_search.specs.declared.outline.Gap.{Gap}
 use Rattle.wf_search.specs.declared.outline.Outline.TheInside.{Inside}
 
 -- lines as they are written
@@ -20,11 +20,11 @@ abbrev pub as_written : List Line → List Item
 as_written lines = map written (map line_of lines)
 
 -- the lines before a box, and the box in the place of its own
-abbrev pub slot_seen : Slot → List Item
-slot_seen s = as_written s.before.items ++ left_out s.boxed.sets ∷ []
+abbrev pub gap_seen : Gap → List Item
+gap_seen s = as_written s.before.items ++ left_out s.boxed.sets ∷ []
 
 abbrev pub outline_seen : Inside → List Item
-outline_seen o = flat_map slot_seen o.slots.items ++ as_written o.after.items
+outline_seen o = flat_map gap_seen o.gaps.items ++ as_written o.after.items
 
 -- a box of the problem in which a sweep loses nothing and no point is without a candidate
 pub record IsClosedBox (p : Problem) (box : Box) : Type 0 where
@@ -42,7 +42,7 @@ abbrev pub IsForIfClosed : Tracked → Type 0
 IsForIfClosed b = (p : Problem) → IsClosedBox p b.sets → IsFor p b
 
 abbrev pub AreJustClosed : Inside → Type 0
-AreJustClosed o = AllByRecursion (λ (s : Slot). IsJustClosed s.boxed) o.slots.items
+AreJustClosed o = AllByRecursion (λ (s : Gap). IsJustClosed s.boxed) o.gaps.items
 
 -- whether a further level is opened
 abbrev pub is_to_open : List Item → Bool
@@ -53,13 +53,13 @@ abbrev pub branches_closed : Problem → Box → ℕ → List Item
 branches_closed p box v = closed_each p (branches_at box v)
 
 -- the lines before each box and those of its list, for as many boxes as there are lists
-abbrev pub slots_filled : {A : Type 0} → List Slot → List (Vec Line A) → List refutation.Line
-slots_filled slots [] = []
-slots_filled [] (list ∷ lists) = []
-slots_filled (s ∷ slots) (list ∷ lists) = map line_of s.before.items ++ (map line_of list.items ++ slots_filled slots lists)
+abbrev pub gaps_filled : {A : Type 0} → List Gap → List (Vec Line A) → List refutation.Line
+gaps_filled gaps [] = []
+gaps_filled [] (list ∷ lists) = []
+gaps_filled (s ∷ gaps) (list ∷ lists) = map line_of s.before.items ++ (map line_of list.items ++ gaps_filled gaps lists)
 
-abbrev pub AreSlotsFilled : {A B : Type 0} → List Slot → List (Vec Line A) → Vec Line B → Type 0
-AreSlotsFilled slots lists lines = map line_of lines.items ≡ slots_filled slots lists
+abbrev pub AreGapsFilled : {A B : Type 0} → List Gap → List (Vec Line A) → Vec Line B → Type 0
+AreGapsFilled gaps lists lines = map line_of lines.items ≡ gaps_filled gaps lists
 
 -- the new lines are the old ones and these
 abbrev pub Adds : List Line → List Line → List refutation.Line → Type 0

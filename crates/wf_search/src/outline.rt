@@ -10,7 +10,7 @@ ghost use Rattle.wf_model.specs.Split.{is_open};
 ghost use Rattle.wf_lines.specs.Lines.{line_of};
 ghost use Rattle.wf_box.specs.Boxes.{Grows, IsFor, ServeFor};
 ghost use Rattle.wf_search.specs.Cover.{IsFilled, IsFilledUpTo, branch_at};
-ghost use Rattle.wf_search.specs.Outline.{AreSlotsFilled, IsClosedBox, IsForIfClosed, IsJustClosed, as_written, branches_closed, is_to_open};
+ghost use Rattle.wf_search.specs.Outline.{AreGapsFilled, IsClosedBox, IsForIfClosed, IsJustClosed, as_written, branches_closed, is_to_open};
 
 use std::alloc::{AllocError, Global};
 use std::marker::Model;
@@ -24,7 +24,7 @@ const ENOUGH_BOXES: usize = 64;
 
 /// A box in the place of the lines that refute it, and the lines that come before.
 #[derive(Drop)]
-struct Slot {
+struct Gap {
     before: Lines,
     boxed: Snapshot,
 }
@@ -32,7 +32,7 @@ struct Slot {
 /// Lines, with boxes in the places of the lines that refute them.
 #[derive(Drop)]
 pub(crate) struct Outline {
-    slots: Vec<Slot>,
+    gaps: Vec<Gap>,
     // the lines past the last box
     after: Lines,
 }
@@ -77,7 +77,7 @@ impl Outline {
         ensures { result ≡ [] }
     {
         Outline {
-            slots: Vec::new(alloc),
+            gaps: Vec::new(alloc),
             after: Vec::new(alloc),
         }
     }
@@ -86,7 +86,7 @@ impl Outline {
     pub(crate) fn len(&self) -> usize
         ensures { result ≡ length (boxes_left_out self.now) }
     {
-        self.slots.len()
+        self.gaps.len()
     }
 
     /// A copy of the box of this number.
@@ -95,14 +95,14 @@ impl Outline {
         ensures branch { IfOk result (λ boxed. boxed.sets ≡ branch_at self.now number) }
         ensures is { IfOk result IsForIfClosed }
     {
-        self.slots[number].boxed.to_box(alloc)
+        self.gaps[number].boxed.to_box(alloc)
     }
 
     /// Whether there are too few boxes, and one of them is open.
     pub(crate) fn is_to_open(&self) -> bool
         ensures { result ≡ is_to_open self.now }
     {
-        self.slots.len() < ENOUGH_BOXES && has_open(&self.slots)
+        self.gaps.len() < ENOUGH_BOXES && has_open(&self.gaps)
     }
 
     /// The lines with those of the lists in the places of the boxes.
@@ -110,7 +110,7 @@ impl Outline {
         requires { length lists.items ≡ length (boxes_left_out self.now) }
         ensures { IfOk result (IsFilled self.now lists.items) }
     {
-        let mut lines = fill_slots(alloc, &self.slots, lists)?;
+        let mut lines = fill_gaps(alloc, &self.gaps, lists)?;
         lines.extend_from_slice(&self.after)?;
         Ok(lines)
     }
@@ -122,7 +122,7 @@ impl Outline {
         requires few { length lists.items ≤ length (boxes_left_out self.now) }
         ensures { IfOk result (IsFilledUpTo self.now lists.items) }
     {
-        fill_slots(alloc, &self.slots, lists)
+        fill_gaps(alloc, &self.gaps, lists)
     }
 
     /// Writes a line.
@@ -149,7 +149,7 @@ impl Outline {
         let mut before = mem::replace(&mut self.after, Vec::new(alloc));
         // closing had room for a line for each candidate
         before.shrink_to_fit();
-        self.slots.push(Slot { before, boxed })?;
+        self.gaps.push(Gap { before, boxed })?;
         Ok(())
     }
 
@@ -240,11 +240,11 @@ impl Outline {
         ensures opened { IfOk result (λ outline. outline ≡ flat_map (opened problem.now) self) }
         ensures answers { OnOk result (ServeFor problem.now answers.new) }
     {
-        let Outline { slots, after } = self;
+        let Outline { gaps, after } = self;
         let mut outline = Outline::new(alloc);
-        for slot in slots {
-            outline.write_all(&slot.before)?;
-            outline.open(alloc, problem, slot.boxed, answers)?;
+        for gap in gaps {
+            outline.write_all(&gap.before)?;
+            outline.open(alloc, problem, gap.boxed, answers)?;
         }
         outline.write_all(&after)?;
         Ok(outline)
@@ -252,20 +252,20 @@ impl Outline {
 }
 
 /// Whether one of the boxes is open.
-fn has_open(slots: &[Slot]) -> bool
-    ensures { result ≡ list_any (λ slot. is_open slot.boxed.sets) slots.now }
+fn has_open(gaps: &[Gap]) -> bool
+    ensures { result ≡ list_any (λ gap. is_open gap.boxed.sets) gaps.now }
 {
-    slots.iter().any(|slot| slot.boxed.first_open().is_some())
+    gaps.iter().any(|gap| gap.boxed.first_open().is_some())
 }
 
 /// The lines before each box and those of its list, for as many boxes as there are lists. Each list
 /// is given back as soon as its lines are copied.
-fn fill_slots(alloc: Global, slots: &[Slot], lists: Vec<Lines>) -> Result<Lines, AllocError>
-    ensures { IfOk result (AreSlotsFilled slots.now lists.items) }
+fn fill_gaps(alloc: Global, gaps: &[Gap], lists: Vec<Lines>) -> Result<Lines, AllocError>
+    ensures { IfOk result (AreGapsFilled gaps.now lists.items) }
 {
     let mut lines = Vec::new(alloc);
-    for (slot, list) in slots.iter().zip(lists) {
-        lines.extend_from_slice(&slot.before)?;
+    for (gap, list) in gaps.iter().zip(lists) {
+        lines.extend_from_slice(&gap.before)?;
         lines.extend_from_slice(&list)?;
     }
     Ok(lines)

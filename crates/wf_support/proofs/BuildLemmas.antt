@@ -9,7 +9,7 @@ use Rattle.wf_model.specs.Box.{has_at}
 use Rattle.wf_set.specs.Parts.{part_values}
 use Rattle.wf_set.proofs.Lemmas.{values_of_nothing}
 use Rattle.wf_support.specs.Blocks.{IsBlock}
-use Rattle.wf_support.proofs.RowLemmas.{has_at_past, has_at_place}
+use Rattle.wf_model.proofs.Tuples.{has_at_past, has_at_place}
 use Rattle.wf_model.proofs.Basics.{or_none, has_at-take}
 
 -- ---- the first values of a row

@@ -1,4 +1,3 @@
-mod RowLemmas
 mod BlockLemmas
 mod BuildLemmas
 mod GroupLemmas

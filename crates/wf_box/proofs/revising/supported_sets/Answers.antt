@@ -5,7 +5,7 @@ use Rattle.wf_lane.specs.Table.{HasSupported}
 use Rattle.wf_box.specs.Problems.{constraints_in, no_rule, rule_in, rule_of}
 use Rattle.wf_box.specs.Quiet.{no_execution}
 use Rattle.wf_box.specs.Revising.{IsKnown}
-use Rattle.wf_box.specs.declared.problem.Execution.{Execution}
+use Rattle.wf_box.specs.declared.problem.PackedExecution.{PackedExecution}
 use Rattle.wf_box.proofs.MemoLemmas.{known_now, known_serves, wide_known}
 use Rattle.wf_box.proofs.ProblemLemmas.{known_at}
 use Rattle.wf_box.proofs.WorkLemmas.{execution_is, execution_within, few_at}
@@ -22,8 +22,8 @@ returns-clause-supported c =
     let same : known.candidates ≡ c.args.candidates = (pointwise_decides bytes_decides known.candidates c.args.candidates).0 (sym c.eq.ensures ∙ c.if-eq.true) in
     let inside : known.execution < length n.executions.items = omega (arith, c.if-answer-len.true, c.len-3.ensures, n.executions.ok.0) in
     let rule : (get_or n.executions.items known.execution no_execution).rule ≡ (get_or n.executions.items c.args.number no_execution).rule =
-    ap (λ (x : Execution). x.rule) (execution_is n known.execution c.index-3.result.now inside c.index-3.ensures) ∙ c.if-index-rule.true
-    ∙ sym (ap (λ (x : Execution). x.rule) (execution_is n c.args.number c.index.result.now c.requires.number c.index.ensures)) in
+    ap (λ (x : PackedExecution). x.rule) (execution_is n known.execution c.index-3.result.now inside c.index-3.ensures) ∙ c.if-index-rule.true
+    ∙ sym (ap (λ (x : PackedExecution). x.rule) (execution_is n c.args.number c.index.result.now c.requires.number c.index.ensures)) in
     subst (HasSupported known.supported (rule_in n c.args.number).table) same (known_serves n c.args.number known c.requires.network c.requires.number inside (ap (λ r. (get_or n.rules.items r no_rule).table) rule) right)
 
 -- the new answer is right for the execution

@@ -7,6 +7,6 @@ abbrev pub decreases-values : goal.decreases-values
 decreases-values l = length (values_in l.left)
 
 abbrev pub invariant-values : goal.invariant-values
-invariant-values l = (l.lines.items ++ removals l.place (values_in l.left) ≡ l.initial.lines.items ++ removals l.place (values_in l.initial.left))
+invariant-values l = (l.lines.items ++ removals l.at (values_in l.left) ≡ l.initial.lines.items ++ removals l.at (values_in l.initial.left))
     × (vec_len l.lines + length (values_in l.left) ≡ vec_len l.initial.lines + length (values_in l.initial.left))
     × (vec_capacity l.initial.lines ≤ vec_capacity l.lines)

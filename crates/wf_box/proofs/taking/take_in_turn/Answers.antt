@@ -16,7 +16,7 @@ use Rattle.wf_box.proofs.taking.take_in_turn.Goals as goal
 pub returns-then-take_out-clause-named : goal.returns-then-take_out-clause-named
 returns-then-take_out-clause-named c = λ p at. named_then p _ _ _ _ _ _ (c.values.invariant.3 p at) (c.take_out.ensures.named p at)
 
-named_on : (c : goal.Joined-else-holds) → (p : Problem) → point_in c.args.place.process (constraint_at p c.args.place.execution).scope ≡ Some c.args.place.point → IsNamed p c.args.lines.now.items c.args.sets.now c.else-holds.lines.items c.else-holds.sets
+named_on : (c : goal.Joined-else-holds) → (p : Problem) → point_in c.args.at.process (constraint_at p c.args.at.execution).scope ≡ Some c.args.at.point → IsNamed p c.args.lines.now.items c.args.sets.now c.else-holds.lines.items c.else-holds.sets
 named_on c p at =
     elim c.else-holds.branch [
       | else-holds-via-then-holds+else-take_out w ↦
@@ -24,10 +24,10 @@ named_on c p at =
       | else-holds-via-else-holds w ↦ rw (w.sets-is, w.lines-is) (c.values.invariant.3 p at)
     ]
 
-others_on : (c : goal.Joined-else-holds) → c.else-holds.sets ≡ slice_set c.args.sets.now c.args.place.point (get_or c.else-holds.sets c.args.place.point [])
+others_on : (c : goal.Joined-else-holds) → c.else-holds.sets ≡ slice_set c.args.sets.now c.args.at.point (get_or c.else-holds.sets c.args.at.point [])
 others_on c =
     elim c.else-holds.branch [
-      | else-holds-via-then-holds+else-take_out w ↦ rw w.sets-is (set_then c.args.sets.now c.values.sets w.take_out.new.sets c.args.place.point c.values.invariant.5 w.take_out.ensures.others)
+      | else-holds-via-then-holds+else-take_out w ↦ rw w.sets-is (set_then c.args.sets.now c.values.sets w.take_out.new.sets c.args.at.point c.values.invariant.5 w.take_out.ensures.others)
       | else-holds-via-else-holds w ↦ rw w.sets-is c.values.invariant.5
     ]
 
@@ -47,7 +47,7 @@ same_on c =
     ]
 
 pub returns-then-take_out-clause-others : goal.returns-then-take_out-clause-others
-returns-then-take_out-clause-others c = set_then c.args.sets.now c.values.sets c.take_out.new.sets c.args.place.point c.values.invariant.5 c.take_out.ensures.others
+returns-then-take_out-clause-others c = set_then c.args.sets.now c.values.sets c.take_out.new.sets c.args.at.point c.values.invariant.5 c.take_out.ensures.others
 
 pub values-preserved : goal.values-preserved
 values-preserved c = (grind (arith, common_steps), grind (arith, common_steps), grind (arith, common_steps), named_on c, grind (arith, common_steps), others_on c, fewer_on c, same_on c)
@@ -55,5 +55,5 @@ values-preserved c = (grind (arith, common_steps), grind (arith, common_steps), 
 pub returns-clause-step : goal.returns-clause-step
 returns-clause-step c =
     sym (then_keeps (reached c.values.lines.items None c.values.sets))
-    ∙ sym (ap (λ vs. and_then (reached c.values.lines.items None c.values.sets) (take_present c.args.place.execution (map (loss c.args.place.process c.args.place.point) vs))) c.in_default.ensures)
+    ∙ sym (ap (λ vs. and_then (reached c.values.lines.items None c.values.sets) (take_present c.args.at.execution (map (loss c.args.at.process c.args.at.point) vs))) c.in_default.ensures)
     ∙ c.values.invariant.4

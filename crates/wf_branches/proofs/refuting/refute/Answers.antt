@@ -44,6 +44,6 @@ returns g c =
     let posed = subst (λ box. IsPosed (formula_in (problem_of t r) box) known) (ap (map values_in) c.deref.ensures.value ∙ c.requires.branch.sets) c.in_ok-checker.ensures in
     told t r branch.number known c.requires.protocol.task posed c.args.source.now c.read_proof_from.new.source branch.count c.into_bytes.result.items c.requires.branch.count
     (ap (λ v. v.items) c.into_bytes.ensures.value ∙ c.in_ok-text.ensures
-    ∙ ap (λ n. accepted_text n c.place-place.result.count c.rounds.result) c.place-place.ensures.number
-    ∙ ap (λ n. accepted_text branch.number n c.rounds.result) c.place-place.ensures.count
+    ∙ ap (λ n. accepted_text n c.index-index.result.count c.rounds.result) c.index-index.ensures.number
+    ∙ ap (λ n. accepted_text branch.number n c.rounds.result) c.index-index.ensures.count
     ∙ ap (λ rounds. accepted_text branch.number branch.count rounds) c.rounds.ensures) c.in_ok-read_proof_from.ensures

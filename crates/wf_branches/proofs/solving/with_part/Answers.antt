@@ -10,7 +10,7 @@ pub returns-in_ok-part_text-in-Map : goal.returns-in_ok-part_text-in-Map
 returns-in_ok-part_text-in-Map c =
     let t = c.args.task.now in
     let r = c.args.rounds in
-    let i = c.args.place.number in
+    let i = c.args.index.number in
     let answer = subst (IsAnswerAt (problem_of t r) (lines_kept c.args.form) i) c.in-Map.is c.requires.answer in
     map_part t r i c.args.form c.in-Map.values.items c.in-Map.lines.items c.in_ok-part_text-in-Map.field-0.items c.requires.header.task answer
     (c.in_ok-part_text-in-Map.ensures ∙ ap (part_text t r i) c.map_body-body.ensures)
@@ -19,7 +19,7 @@ pub returns-in_ok-part_text-in-Nothing : goal.returns-in_ok-part_text-in-Nothing
 returns-in_ok-part_text-in-Nothing c =
     let t = c.args.task.now in
     let r = c.args.rounds in
-    let i = c.args.place.number in
+    let i = c.args.index.number in
     let answer = subst (IsAnswerAt (problem_of t r) (lines_kept c.args.form) i) c.in-Nothing.is c.requires.answer in
     none_part t r i c.args.form c.in-Nothing.lines.items c.in_ok-part_text-in-Nothing.field-0.items c.requires.header.task answer
     c.in_ok-part_text-in-Nothing.ensures

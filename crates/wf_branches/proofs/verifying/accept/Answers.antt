@@ -9,14 +9,14 @@ pub returns : goal.returns
 returns g c =
     let t = c.args.task.now in
     let r = c.args.protocol.now.rounds in
-    let place = c.place-place.ensures in
+    let index = c.index-index.ensures in
     let branch = c.requires.branch in
     let i = c.args.branch.number in
     let words = accepted_words (body_of c.args.report.now.body) in (
       c.in_ok-check_part.ensures,
       ap (λ v. v.items) c.into_bytes.ensures.value ∙ c.in_ok-text.ensures
-          ∙ ap (λ w. accepted_in w c.place-place.result.number c.place-place.result.count c.rounds.result) c.accepted_words.ensures
-          ∙ ap (λ k. accepted_in words k c.place-place.result.count c.rounds.result) place.number
-          ∙ ap (λ n. accepted_in words i n c.rounds.result) (place.count ∙ branch.count)
+          ∙ ap (λ w. accepted_in w c.index-index.result.number c.index-index.result.count c.rounds.result) c.accepted_words.ensures
+          ∙ ap (λ k. accepted_in words k c.index-index.result.count c.rounds.result) index.number
+          ∙ ap (λ n. accepted_in words i n c.rounds.result) (index.count ∙ branch.count)
           ∙ ap (accepted_in words i (length (branches t r))) c.rounds.ensures,
     )

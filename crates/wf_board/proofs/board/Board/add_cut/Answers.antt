@@ -1,7 +1,7 @@
 use Rattle.std.proofs.Common.{rules, ℕ, ◌≡◌, ◌*◌, ◌^◌, ◌<◌, arith, ap, sym, ◌∙◌, subst, refl}
 use Rattle.wf_board.specs.Rule.{Seated}
 use Rattle.std.specs.Prelude.{Contains, List}
-use Rattle.wf_board.specs.Desk.{Desk, Place, known, is_cut}
+use Rattle.wf_board.specs.Desk.{Desk, BoardId, known, is_cut}
 use Rattle.wf_board.proofs.Keeps.{cuts_number}
 use Rattle.wf_board.proofs.Seats.{sits_room, sits_cut, one_seen, desk_at, sits_known, desk_is, inside_of, fresh_of}
 use Rattle.wf_board.proofs.board.Board.add_cut.Goals as goal
@@ -13,7 +13,7 @@ fetch_add-requires g c =
     let h = c.self.invariant in
     let key = c.self.inside.table.shared.key in
     let same : c.seat.inside.branches ≡ key.branches =
-    ap (λ (x : Desk). x.branches) c.seat.view_is ∙ c.requires.board.1 ∙ sym (h.2 ∙ ap (λ (x : Place). x.branches) c.self.view_is) in
+    ap (λ (x : Desk). x.branches) c.seat.view_is ∙ c.requires.board.1 ∙ sym (h.2 ∙ ap (λ (x : BoardId). x.branches) c.self.view_is) in
     let room = sits_room _ _ _ _ c.args.branch c.seat.invariant inside fresh in
     let small : key.branches * key.workers < 2 ^ 32 = rw (h.2, h.3) h.4 in
     let seen : Contains c.seat.inside.seat.me.0.seen c.seat.inside.seen =

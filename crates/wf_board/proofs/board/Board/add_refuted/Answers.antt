@@ -1,5 +1,5 @@
 use Rattle.std.proofs.Common.{rules, ℕ, ◌≡◌, ◌*◌, ◌^◌, ◌<◌, arith, ap, sym, ◌∙◌}
-use Rattle.wf_board.specs.Desk.{Desk, Place, known, searched}
+use Rattle.wf_board.specs.Desk.{Desk, BoardId, known, searched}
 use Rattle.wf_board.proofs.Keeps.{refutes_number}
 use Rattle.wf_board.proofs.Seats.{sits_room, sits_refuted, one_seen, desk_at, sits_known, desk_is, inside_of, fresh_of}
 use Rattle.wf_board.proofs.board.Board.add_refuted.Goals as goal
@@ -11,7 +11,7 @@ fetch_add-requires g c =
     let h = c.self.invariant in
     let key = c.self.inside.table.shared.key in
     let same : c.seat.inside.branches ≡ key.branches =
-    ap (λ (x : Desk). x.branches) c.seat.view_is ∙ c.requires.board.1 ∙ sym (h.2 ∙ ap (λ (x : Place). x.branches) c.self.view_is) in
+    ap (λ (x : Desk). x.branches) c.seat.view_is ∙ c.requires.board.1 ∙ sym (h.2 ∙ ap (λ (x : BoardId). x.branches) c.self.view_is) in
     let room = sits_room _ _ _ _ c.args.branch c.seat.invariant inside fresh in
     let small : key.branches * key.workers < 2 ^ 32 = rw (h.2, h.3) h.4 in
     (search rules, omega (arith, h.0), refutes_number _ _ _ _ _ small (one_seen _ _ _ _ c.seat.invariant) (omega arith))

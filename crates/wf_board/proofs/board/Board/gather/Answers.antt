@@ -1,7 +1,7 @@
 use Rattle.std.proofs.Common.{rules, ◌≡◌, ◌+◌, ◌*◌, ◌≤◌, List, [], ◌∷◌, ◌++◌, length, arith, ap, sym, ◌∙◌, refl, append-nil, length-append}
 use Rattle.std.proofs.Math.Nat.{mul-le-mul_right, add-mul}
 use Rattle.wf_core.proofs.Lemmas.{popped_has, popped_is, popped_length}
-use Rattle.wf_board.specs.Desk.{Desk, Place, known, gathered}
+use Rattle.wf_board.specs.Desk.{Desk, BoardId, known, gathered}
 use Rattle.wf_board.specs.Rule.{Seated}
 use Rattle.wf_board.proofs.Parts.{joins}
 use Rattle.wf_board.proofs.Seats.{few_posts}
@@ -23,7 +23,7 @@ pub join_seat-requires : goal.join_seat-requires
 join_seat-requires c =
     let h = c.loop-next.invariant in
     let of = popped_has (λ (x : Desk). (x.table ≡ c.args.self.now.table) × (x.branches ≡ c.args.self.now.branches)) _ c.loop-next.seats.items c.pop.new.self.items h.0 c.in-Some.next h.1 c.in-Some.ensures.items c.requires.seats in
-    let t = ap (λ (x : Place). x.table) c.self.view_is in
+    let t = ap (λ (x : BoardId). x.table) c.self.view_is in
     (h.2 ∙ sym t, ap (λ (x : Desk). x.table) c.next.view_is ∙ of.0 ∙ sym t, ap (λ (m : Seated). m.1) c.next.invariant.is, omega (arith, c.self.invariant.0), joins _ _ _ _ _)
 
 pub overflow_add-posts : goal.overflow_add-posts

@@ -1,7 +1,7 @@
 use Rattle.std.proofs.Common.{rules, ◌≡◌, min, [], ◌∷◌, ◌++◌, arith, ap, sym, ◌∙◌, subst}
 use Rattle.std.proofs.Math.Nat.{le-mul_of_pos_right}
 use Rattle.wf_board.specs.Desk.{IsLow}
-use Rattle.wf_board.specs.Desk.{Desk, Place, knows, known, posted}
+use Rattle.wf_board.specs.Desk.{Desk, BoardId, knows, known, posted}
 use Rattle.wf_board.proofs.Keeps.{posts_number}
 use Rattle.wf_board.proofs.Seats.{sits_room, sits_posted, one_seen, desk_at, sits_known, desk_is, inside_of, fresh_of}
 use Rattle.wf_board.proofs.board.Board.post.Goals as goal
@@ -13,7 +13,7 @@ fetch_min-found-requires c =
     let h = c.self.invariant in
     let key = c.self.inside.table.shared.key in
     let same : c.seat.inside.branches ≡ key.branches =
-    ap (λ (x : Desk). x.branches) c.seat.view_is ∙ c.requires.board.1 ∙ sym (h.2 ∙ ap (λ (x : Place). x.branches) c.self.view_is) in
+    ap (λ (x : Desk). x.branches) c.seat.view_is ∙ c.requires.board.1 ∙ sym (h.2 ∙ ap (λ (x : BoardId). x.branches) c.self.view_is) in
     let room = sits_room _ _ _ _ c.args.branch c.seat.invariant inside fresh in
     let number = c.from.ensures in
     (search rules, omega (arith, h.0), posts_number _ _ _ _ _ (one_seen _ _ _ _ c.seat.invariant) (omega arith) (omega arith))
@@ -25,7 +25,7 @@ overflow_add-seat c =
     let h = c.self.invariant in
     let key = c.self.inside.table.shared.key in
     let same : c.seat.inside.branches ≡ key.branches =
-    ap (λ (x : Desk). x.branches) c.seat.view_is ∙ c.requires.board.1 ∙ sym (h.2 ∙ ap (λ (x : Place). x.branches) c.self.view_is) in
+    ap (λ (x : Desk). x.branches) c.seat.view_is ∙ c.requires.board.1 ∙ sym (h.2 ∙ ap (λ (x : BoardId). x.branches) c.self.view_is) in
     let room = sits_room _ _ _ _ c.args.branch c.seat.invariant inside fresh in
     let few = le-mul_of_pos_right c.self.inside.branches h.5 in
     let posts = c.seat.invariant.counted in
