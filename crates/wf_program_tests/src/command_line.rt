@@ -1,59 +1,15 @@
 //! The program over streams of its own: each command writes, tells and
 //! answers what it is to, byte for byte.
 
-use crate::ends::{Drip, EMPTY, Full, Narrow};
 use crate::rows::{BEGINNINGS, DONE, Row};
-use crate::words::split;
-use std::alloc::{AllocError, Global};
-use std::process::Abort;
+use crate::running::{Given, Tally, run, run_line};
 use std::test::Fail;
-use std::thread::Threads;
 use wf_args::{Slip, WordsFault};
 use wf_examples::{ONE_PROCESS, RENAMING_2_2};
-use wf_io::{Sink, Source};
-use wf_pool::Open;
-use wf_program::{Folder, run_program};
 
-/// What a run wrote and answered.
-#[derive(Drop)]
-struct Answer {
-    output: Vec<u8>,
-    errors: Vec<u8>,
-    status: u8,
-}
-
-fn run(
-    rt: &(impl Threads + Sync),
-    alloc: Global,
-    line: &str,
-    input: &str,
-) -> Result<Answer, AllocError> {
-    let words = split(alloc, line)?;
-    let mut output = Vec::new(alloc);
-    let mut errors = Vec::new(alloc);
-    let mut source = Source::new(input.as_bytes());
-    let mut sink = Sink::new(&mut output);
-    let mut told = Sink::new(&mut errors);
-    let status = run_program(
-        rt,
-        alloc,
-        &mut Folder::new(EMPTY),
-        &Open,
-        Ok(words),
-        &mut source,
-        &mut sink,
-        &mut told,
-    );
-    Ok(Answer {
-        output,
-        errors,
-        status,
-    })
-}
-
-/// Whether each row writes and answers what it is to, byte for byte.
-fn hold(rt: &(impl Abort + Threads + Sync), alloc: Global, rows: &[Row]) -> Result<(), Fail> {
-    for row in rows {
+#[test]
+fn jobs_are_done(rt: HostRuntime) -> Result<(), Fail> {
+    for row in &DONE {
         let Row {
             words,
             input,
@@ -61,7 +17,7 @@ fn hold(rt: &(impl Abort + Threads + Sync), alloc: Global, rows: &[Row]) -> Resu
             errors,
             status,
         } = *row;
-        let answer = run(rt, alloc, words, input)?;
+        let answer = run_line(&rt, rt.alloc(), words, Given::input(input))?;
         assert_eq!(rt; answer.status, status, "{words}");
         assert_eq!(rt; answer.output.as_slice(), output.as_bytes(), "{words}");
         assert_eq!(rt; answer.errors.as_slice(), errors.as_bytes(), "{words}");
@@ -70,14 +26,9 @@ fn hold(rt: &(impl Abort + Threads + Sync), alloc: Global, rows: &[Row]) -> Resu
 }
 
 #[test]
-fn jobs_are_done(rt: HostRuntime) -> Result<(), Fail> {
-    hold(&rt, rt.alloc(), &DONE)
-}
-
-#[test]
 fn a_preset_is_written(rt: HostRuntime) -> Result<(), Fail> {
     let words = "wfcheck preset renaming --processes 2 --names 2";
-    let answer = run(&rt, rt.alloc(), words, "")?;
+    let answer = run_line(&rt, rt.alloc(), words, Given::input(""))?;
     assert_eq!(rt; answer.status, 0);
     assert_eq!(rt;
         answer.output.strip_suffix(b"\n".as_slice()),
@@ -97,7 +48,7 @@ fn words_ask_for_help_or_are_refused(rt: HostRuntime) -> Result<(), Fail> {
             errors,
             status,
         } = row;
-        let answer = run(&rt, rt.alloc(), words, input)?;
+        let answer = run_line(&rt, rt.alloc(), words, Given::input(input))?;
         assert_eq!(rt; answer.status, status, "{words}");
         assert!(rt; begins(&answer.output, output), "{words}");
         assert!(rt; begins(&answer.errors, errors), "{words}");
@@ -120,108 +71,70 @@ fn words_that_could_not_be_had_are_the_refusal(rt: HostRuntime) -> Result<(), Fa
             2,
         ),
     ];
+    // a read or a write would be told
+    let given = Given {
+        read: 1,
+        write: 1,
+        ..Given::input(ONE_PROCESS)
+    };
     for (fault, line, status) in rows {
-        let mut source = Source::new(Drip::new(ONE_PROCESS.as_bytes(), 1));
-        let mut sink = Sink::new(Full);
-        let mut told = Vec::new(rt.alloc());
-        let mut errors = Sink::new(&mut told);
-        let found = run_program(
-            &rt,
-            rt.alloc(),
-            &mut Folder::new(EMPTY),
-            &Open,
-            Err(fault),
-            &mut source,
-            &mut sink,
-            &mut errors,
-        );
-        assert_eq!(rt; found, status);
-        drop(errors);
-        assert_eq!(rt; told.as_slice(), line.as_bytes());
+        let answer = run(&rt, rt.alloc(), Err(fault), given, &Tally::new());
+        assert_eq!(rt; answer.status, status);
+        assert_eq!(rt; answer.errors.as_slice(), line.as_bytes());
     }
     Ok(())
 }
 
 #[test]
 fn failed_calls_are_told(rt: HostRuntime) -> Result<(), Fail> {
+    let read = "wfcheck: 30 Read\n";
+    let written = "wfcheck: 31 Write\n";
     let rows = [
-        (
-            "wfcheck solve --rounds 8 --workers 1 --verdict",
-            1,
-            0,
-            "wfcheck: 30 Read\n",
-            4,
-        ),
-        ("wfcheck views --rounds 8", 1, 0, "wfcheck: 30 Read\n", 4),
+        ("wfcheck solve --rounds 8 --workers 1 --verdict", 1, 0, read),
+        ("wfcheck views --rounds 8", 1, 0, read),
         (
             "wfcheck solve --rounds 8 --workers 1 --verdict",
             0,
             11,
-            "wfcheck: 31 Write\n",
-            4,
+            written,
         ),
-        ("wfcheck views --rounds 8", 0, 11, "wfcheck: 31 Write\n", 4),
-        ("wfcheck points --rounds 8", 1, 0, "wfcheck: 30 Read\n", 4),
-        ("wfcheck points --rounds 8", 0, 11, "wfcheck: 31 Write\n", 4),
-        ("wfcheck --help", 1, 11, "wfcheck: 31 Write\n", 4),
-        ("wfcheck --version", 1, 11, "wfcheck: 31 Write\n", 4),
+        ("wfcheck views --rounds 8", 0, 11, written),
+        ("wfcheck points --rounds 8", 1, 0, read),
+        ("wfcheck points --rounds 8", 0, 11, written),
+        ("wfcheck --help", 1, 11, written),
+        ("wfcheck --version", 1, 11, written),
         (
             "wfcheck preset renaming --processes 2 --names 2",
             1,
             11,
-            "wfcheck: 31 Write\n",
-            4,
+            written,
         ),
     ];
-    for (line, read, write, text, status) in rows {
-        let words = split(rt.alloc(), line)?;
-        let mut source = Source::new(Drip::new(ONE_PROCESS.as_bytes(), read));
-        let mut written = Vec::new(rt.alloc());
-        let mut sink = Sink::new(Narrow::new(&mut written, write));
-        let mut told = Vec::new(rt.alloc());
-        let mut errors = Sink::new(&mut told);
-        let found = run_program(
-            &rt,
-            rt.alloc(),
-            &mut Folder::new(EMPTY),
-            &Open,
-            Ok(words),
-            &mut source,
-            &mut sink,
-            &mut errors,
-        );
-        assert_eq!(rt; found, status, "{line}");
-        drop(sink);
-        drop(errors);
-        assert_eq!(rt; told.as_slice(), text.as_bytes(), "{line}");
-        assert_eq!(rt;
-            written.len(),
-            if write == 0 { 0 } else { write - 1 },
-            "{line}"
-        );
+    for (line, read, write, text) in rows {
+        let given = Given {
+            read,
+            write,
+            ..Given::input(ONE_PROCESS)
+        };
+        let answer = run_line(&rt, rt.alloc(), line, given)?;
+        assert_eq!(rt; answer.status, 4, "{line}");
+        assert_eq!(rt; answer.errors.as_slice(), text.as_bytes(), "{line}");
+        assert_eq!(rt; answer.output.len(), write.saturating_sub(1), "{line}");
     }
     Ok(())
 }
 
 #[test]
 fn a_refusal_that_cannot_be_told_keeps_its_status(rt: HostRuntime) -> Result<(), Fail> {
-    for (line, status) in [("wfcheck views --rounds 9", 2), ("wfcheck draw", 2)] {
-        let words = split(rt.alloc(), line)?;
-        let mut source = Source::new(ONE_PROCESS.as_bytes());
-        let mut sink = Sink::new(Vec::new(rt.alloc()));
-        let mut errors = Sink::new(Full);
-        let found = run_program(
-            &rt,
-            rt.alloc(),
-            &mut Folder::new(EMPTY),
-            &Open,
-            Ok(words),
-            &mut source,
-            &mut sink,
-            &mut errors,
-        );
-        assert_eq!(rt; found, status, "{line}");
-        assert_eq!(rt; errors.failures(), 1);
+    let given = Given {
+        tell: 1,
+        ..Given::input(ONE_PROCESS)
+    };
+    for line in ["wfcheck views --rounds 9", "wfcheck draw"] {
+        let answer = run_line(&rt, rt.alloc(), line, given)?;
+        assert_eq!(rt; answer.status, 2, "{line}");
+        assert_eq!(rt; answer.untold, 1);
+        assert!(rt; answer.errors.is_empty());
     }
     Ok(())
 }

@@ -2,6 +2,7 @@
 
 use std::io;
 use std::io::{Read, Write};
+use wf_io::Source;
 use wf_program::Files;
 
 /// Gives its bytes one a call. One call, counted from 1, answers an error in place of a byte.
@@ -38,6 +39,12 @@ impl Read for Drip<'_> {
             _ => Ok(0),
         }
     }
+}
+
+/// A source of this text, no call of which fails. Wherever a test could do with another reader it
+/// takes this one, so that what it calls is compiled once.
+pub(crate) fn given(text: &str) -> Source<Drip<'_>> {
+    Source::new(Drip::new(text.as_bytes(), 0))
 }
 
 /// Takes one byte a write. One call, counted from 1, answers an error; writes

@@ -2,7 +2,7 @@
 
 ghost use Rattle.wf_io.specs.Ends.{CanCount};
 
-use crate::ends::LineFeeds;
+use crate::ends::{Drip, LineFeeds, Narrow, given};
 use std::alloc::Global;
 use std::io::{Read, Write};
 use std::test::Fail;
@@ -108,9 +108,9 @@ pub(crate) const ENGINES: [Engine; 5] = [
 #[test]
 fn a_task_is_answered(rt: HostRuntime) -> Result<(), Fail> {
     for engine in ENGINES {
-        let mut source = Source::new(ONE.as_bytes());
+        let mut source = given(ONE);
         let mut written = Vec::new(rt.alloc());
-        let mut sink = Sink::new(&mut written);
+        let mut sink = Sink::new(Narrow::new(&mut written, 0));
         assert_eq!(rt;
             engine.run(&rt, rt.alloc(), &mut source, &mut sink, 8),
             None
@@ -123,8 +123,9 @@ fn a_task_is_answered(rt: HostRuntime) -> Result<(), Fail> {
 
 #[test]
 fn one_worker_searches_one_branch(rt: HostRuntime) -> Result<(), Fail> {
-    let mut source = Source::new(ONE.as_bytes());
-    let mut sink = Sink::new(Vec::new(rt.alloc()));
+    let mut source = given(ONE);
+    let mut written = Vec::new(rt.alloc());
+    let mut sink = Sink::new(Narrow::new(&mut written, 0));
     let found = run_solve_one(rt.alloc(), &mut source, &mut sink, 8, Form::Full);
     let account = Account {
         branches: 1,
@@ -139,9 +140,9 @@ fn one_worker_searches_one_branch(rt: HostRuntime) -> Result<(), Fail> {
 #[test]
 fn a_least_map_is_written_with_its_lines(rt: HostRuntime) -> Result<(), Fail> {
     for workers in [1, 2] {
-        let mut source = Source::new(PATH_2.as_bytes());
+        let mut source = given(PATH_2);
         let mut written = Vec::new(rt.alloc());
-        let mut sink = Sink::new(&mut written);
+        let mut sink = Sink::new(Narrow::new(&mut written, 0));
         let found = run_solve(
             &rt,
             rt.alloc(),
@@ -161,10 +162,10 @@ fn a_least_map_is_written_with_its_lines(rt: HostRuntime) -> Result<(), Fail> {
 
 #[test]
 fn a_least_map_is_accepted_by_its_lines(rt: HostRuntime) -> Result<(), Fail> {
-    let mut task = Source::new(PATH_2.as_bytes());
-    let mut report = Source::new(LEAST.as_bytes());
+    let mut task = given(PATH_2);
+    let mut report = given(LEAST);
     let mut written = Vec::new(rt.alloc());
-    let mut sink = Sink::new(&mut written);
+    let mut sink = Sink::new(Narrow::new(&mut written, 0));
     let found = run_verify(&rt, rt.alloc(), &mut task, &mut report, &mut sink, None);
     assert_eq!(rt; found, Ok(Accepted::Least));
     drop(sink);
@@ -180,10 +181,10 @@ fn a_report_is_accepted_for_the_rounds_that_are_asked_for(rt: HostRuntime) -> Re
         (2, Err(RunFault::OtherRounds), ""),
     ];
     for (rounds, outcome, line) in rows {
-        let mut task = Source::new(PATH_2.as_bytes());
-        let mut report = Source::new(LEAST.as_bytes());
+        let mut task = given(PATH_2);
+        let mut report = given(LEAST);
         let mut written = Vec::new(rt.alloc());
-        let mut sink = Sink::new(&mut written);
+        let mut sink = Sink::new(Narrow::new(&mut written, 0));
         let found = run_verify(
             &rt,
             rt.alloc(),
@@ -201,10 +202,10 @@ fn a_report_is_accepted_for_the_rounds_that_are_asked_for(rt: HostRuntime) -> Re
 
 #[test]
 fn what_a_map_decides_is_told(rt: HostRuntime) -> Result<(), Fail> {
-    let mut task = Source::new(PATH_2.as_bytes());
-    let mut report = Source::new(LEAST.as_bytes());
+    let mut task = given(PATH_2);
+    let mut report = given(LEAST);
     let mut written = Vec::new(rt.alloc());
-    let mut sink = Sink::new(&mut written);
+    let mut sink = Sink::new(Narrow::new(&mut written, 0));
     let found = run_decisions(&rt, rt.alloc(), &mut task, &mut report, &mut sink);
     assert_eq!(rt; found, Ok(()));
     drop(sink);
@@ -240,10 +241,10 @@ fn a_model_is_reported_as_a_map(rt: HostRuntime) -> Result<(), Fail> {
         ),
     ];
     for (output, outcome, text) in rows {
-        let mut task = Source::new(PATH_2.as_bytes());
-        let mut model = Source::new(output.as_bytes());
+        let mut task = given(PATH_2);
+        let mut model = given(output);
         let mut written = Vec::new(rt.alloc());
-        let mut sink = Sink::new(&mut written);
+        let mut sink = Sink::new(Narrow::new(&mut written, 0));
         let found = run_model(&rt, rt.alloc(), &mut task, &mut model, &mut sink, 1);
         assert_eq!(rt; found, outcome, "{output}");
         drop(sink);
@@ -254,22 +255,21 @@ fn a_model_is_reported_as_a_map(rt: HostRuntime) -> Result<(), Fail> {
 
 #[test]
 fn too_many_rounds_are_refused_before_the_model_is_read(rt: HostRuntime) -> Result<(), Fail> {
-    let mut given = 0;
-    let mut task = Source::new(ONE.as_bytes());
-    let mut model = Source::new(LineFeeds::new(&mut given));
-    let mut sink = Sink::new(Vec::new(rt.alloc()));
+    let mut task = given(ONE);
+    let mut model = Source::new(Drip::new("".as_bytes(), 1));
+    let mut written = Vec::new(rt.alloc());
+    let mut sink = Sink::new(Narrow::new(&mut written, 0));
     let found = run_model(&rt, rt.alloc(), &mut task, &mut model, &mut sink, 9);
     assert_eq!(rt; found, Err(RunFault::Build(BuildFault::Rounds)));
-    drop(model);
-    assert_eq!(rt; given, 0);
+    assert_eq!(rt; model.failures(), 0);
     Ok(())
 }
 
 /// What a check of a proof answers about renaming of two with two names after some rounds.
 fn refute(alloc: Global, proof: &str, written: &mut Vec<u8>, rounds: u32) -> Result<(), RunFault> {
-    let mut task = Source::new(RENAMING_2_2.as_bytes());
-    let mut source = Source::new(proof.as_bytes());
-    let mut sink = Sink::new(written);
+    let mut task = given(RENAMING_2_2);
+    let mut source = given(proof);
+    let mut sink = Sink::new(Narrow::new(written, 0));
     run_proof(alloc, &mut task, &mut source, &mut sink, rounds)
 }
 
@@ -304,14 +304,13 @@ fn proofs_are_refused(rt: HostRuntime) -> Result<(), Fail> {
 
 #[test]
 fn too_many_rounds_are_refused_before_the_proof_is_read(rt: HostRuntime) -> Result<(), Fail> {
-    let mut given = 0;
-    let mut task = Source::new(ONE.as_bytes());
-    let mut proof = Source::new(LineFeeds::new(&mut given));
-    let mut sink = Sink::new(Vec::new(rt.alloc()));
+    let mut task = given(ONE);
+    let mut proof = Source::new(Drip::new("".as_bytes(), 1));
+    let mut written = Vec::new(rt.alloc());
+    let mut sink = Sink::new(Narrow::new(&mut written, 0));
     let found = run_proof(rt.alloc(), &mut task, &mut proof, &mut sink, 9);
     assert_eq!(rt; found, Err(RunFault::Build(BuildFault::Rounds)));
-    drop(proof);
-    assert_eq!(rt; given, 0);
+    assert_eq!(rt; proof.failures(), 0);
     Ok(())
 }
 
@@ -324,9 +323,9 @@ fn refusals_write_nothing(rt: HostRuntime) -> Result<(), Fail> {
     ];
     for (text, rounds, fault) in rows {
         for engine in ENGINES {
-            let mut source = Source::new(text.as_bytes());
+            let mut source = given(text);
             let mut written = Vec::new(rt.alloc());
-            let mut sink = Sink::new(&mut written);
+            let mut sink = Sink::new(Narrow::new(&mut written, 0));
             let found = engine.run(&rt, rt.alloc(), &mut source, &mut sink, rounds);
             assert_eq!(rt; found, Some(fault), "{engine:?} of {text}");
             drop(sink);
@@ -338,17 +337,15 @@ fn refusals_write_nothing(rt: HostRuntime) -> Result<(), Fail> {
 
 #[test]
 fn a_text_without_end_is_too_long(rt: HostRuntime) -> Result<(), Fail> {
-    for engine in ENGINES {
-        let mut given = 0;
-        let mut source = Source::new(LineFeeds::new(&mut given));
-        let mut written = Vec::new(rt.alloc());
-        let mut sink = Sink::new(&mut written);
-        let found = engine.run(&rt, rt.alloc(), &mut source, &mut sink, 1);
-        assert_eq!(rt; found, Some(RunFault::TooLong), "{engine:?}");
-        drop(source);
-        drop(sink);
-        assert_eq!(rt; given, 16_777_217);
-        assert!(rt; written.is_empty());
-    }
+    let mut taken = 0;
+    let mut source = Source::new(LineFeeds::new(&mut taken));
+    let mut written = Vec::new(rt.alloc());
+    let mut sink = Sink::new(Narrow::new(&mut written, 0));
+    let found = run_views(rt.alloc(), &mut source, &mut sink, 1);
+    assert_eq!(rt; found, Err(RunFault::TooLong));
+    drop(source);
+    drop(sink);
+    assert_eq!(rt; taken, 16_777_217);
+    assert!(rt; written.is_empty());
     Ok(())
 }

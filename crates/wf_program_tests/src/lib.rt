@@ -13,9 +13,9 @@ mod engines;
 #[cfg(test)]
 mod failing;
 #[cfg(test)]
-mod failing_pairs;
-#[cfg(test)]
 mod rows;
+#[cfg(test)]
+mod running;
 #[cfg(test)]
 mod texts;
 #[cfg(test)]
