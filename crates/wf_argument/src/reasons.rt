@@ -20,7 +20,7 @@ pub(crate) struct Reason {
 }
 
 /// Whether a tuple has this value at this place.
-#[tactic(auto, using(crate::proofs::Reasoning::has_at_past, crate::proofs::Reasoning::has_at_place))]
+#[tactic(auto, using(wf_model::proofs::Tuples::has_at_past, wf_model::proofs::Tuples::has_at_place))]
 pub(crate) fn has_at(tuple: &Row, place: u8, value: u8) -> bool
     ensures { result ≡ has_at tuple.now place value }
 {
