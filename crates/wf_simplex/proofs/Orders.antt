@@ -1,5 +1,5 @@
 -- Lists in order, each element once: `in_order` under an order that tells apart what differs.
-use Rattle.std.proofs.Common.{◌≡◌, suc, ◌≤◌, List, [], ◌∷◌, ◌++◌, length, Contains, ◌⊎◌, inl, inr, refl, sym, ap, ◌∙◌, subst, arith}
+use Rattle.std.proofs.Common.{◌≡◌, ℕ, zero, suc, ◌<◌, ◌≤◌, List, [], ◌∷◌, ◌++◌, length, map, get_or, Contains, ◌⊎◌, inl, inr, refl, sym, ap, ◌∙◌, subst, arith}
 use Rattle.std.specs.declared.cmp.Ordering.{Ordering}
 use Rattle.std.specs.declared.cmp.Ordering.TheVariants.{Less, Equal, Greater}
 use Rattle.std.specs.Ordering.{match_ordering, ordering_reverse}
@@ -63,6 +63,24 @@ pub has_at_place : {X : Type 0} (x : X) (ys : List X) → Has x ys → Contains 
 has_at_place x [] h = absurd h
 has_at_place x (y ∷ ys) (inl e) = (0, omega arith, e)
 has_at_place x (y ∷ ys) (inr h) = let at = has_at_place x ys h in (suc at.0, omega (arith, at.1), at.2)
+
+pub contains-has : {X : Type 0} (x : X) (xs : List X) → Contains xs x → Has x xs
+contains-has {X} x xs h = at xs h.0 h.1 h.2
+  where
+    at : (ys : List X) (k : ℕ) → k < length ys → get_or ys k x ≡ x → Has x ys
+    at [] k low is = absurd (let none : ⊥ = omega (arith, low) in none)
+    at (y ∷ ys) zero low is = inl is
+    at (y ∷ ys) (suc k) low is = inr (at ys k (omega (arith, low)) is)
+
+pub map-has : {X Y : Type 0} (f : X → Y) (x : X) (xs : List X) → Has x xs → Has (f x) (map f xs)
+map-has f x [] h = absurd h
+map-has f x (y ∷ ys) (inl e) = inl (ap f e)
+map-has f x (y ∷ ys) (inr h) = inr (map-has f x ys h)
+
+pub has-map : {X Y : Type 0} (f : X → Y) (y : Y) (xs : List X) → Has y (map f xs) → (x : X) × Has x xs × (f x ≡ y)
+has-map f y [] h = absurd h
+has-map f y (x ∷ xs) (inl e) = (x, inl refl, e)
+has-map f y (x ∷ xs) (inr h) = let r = has-map f y xs h in (r.0, inr r.1, r.2)
 
 module _ {X : Type 0} (cmp : X → X → Ordering) (o : IsTotalOrder cmp) (same : (x y : X) → cmp x y ≡ Equal → x ≡ y) where
   has_with_element : (x y : X) (ys : List X) → Has x (with_element cmp y ys) → (y ≡ x) ⊎ Has x ys

@@ -1,12 +1,12 @@
 -- Tables whose values are at most 255, and the faces that are put together from them.
-use Rattle.std.proofs.Common.{◌≡◌, ℕ, zero, suc, ◌+◌, ◌<◌, ◌≤◌, true, nat_lt, List, [], ◌∷◌, ◌++◌, length, map, filter, All, Option, None, Some, slice_index_or, slice_set, IfSome, refl, sym, ap, ◌∙◌, arith, lt-ltb, append_assoc, append-nil}
+use Rattle.std.proofs.Common.{◌≡◌, ℕ, zero, suc, ◌+◌, ◌<◌, ◌≤◌, true, nat_lt, List, [], ◌∷◌, ◌++◌, length, map, filter, All, Option, None, Some, slice_index_or, slice_set, IfSome, Result, Ok, Err, OnOk, refl, sym, ap, ◌∙◌, arith, lt-ltb, append_assoc, append-nil}
 use Rattle.std.proofs.lemmas.List.{map-append}
 use Rattle.std.proofs.lemmas.List.Elements.{All-nil, All-cons, All-head, All-tail, filter-append}
-use Rattle.wf_model.specs.Simplex.{Vertex, Simplex, processes_of, values_of, is_ascending, is_nonempty, parts_of, faces_of, simplex_cmp}
+use Rattle.wf_model.specs.Simplex.{Vertex, Simplex, processes_of, values_of, is_ascending, is_nonempty, parts_of, faces_of}
 use Rattle.wf_model.specs.Task.{IsSimplexWithin}
 use Rattle.wf_simplex.specs.Entries.{vertices_from}
-use Rattle.wf_simplex.specs.Faces.{AreSmall, faces_with, with_all}
-use Rattle.wf_simplex.proofs.Orders.{with_all-append}
+use Rattle.wf_simplex.specs.Faces.{AreSmall, faces_with}
+use Rattle.wf_simplex.specs.Keys.{key_of}
 use Rattle.std.proofs.lemmas.Bool.{and_from}
 
 -- ---- a table of small values is a simplex
@@ -112,10 +112,13 @@ map-same (p ∷ ps) = ap (λ qs. p ∷ qs) (map-same ps)
 pub faces_with-all : (s : Simplex) → faces_with [] s ≡ faces_of s
 faces_with-all s = ap (filter is_nonempty) (map-same (parts_of s))
 
-pub add_with_and_without : (front : Simplex) (v : Vertex) (others : Simplex) (keys middle new : List Simplex)
-    → middle ≡ with_all simplex_cmp (faces_with front others) keys → new ≡ with_all simplex_cmp (faces_with (front ++ (v ∷ [])) others) middle
-    → new ≡ with_all simplex_cmp (faces_with front (v ∷ others)) keys
-add_with_and_without front v others keys middle new h k =
-    k ∙ ap (with_all simplex_cmp (faces_with (front ++ (v ∷ [])) others)) h
-    ∙ sym (with_all-append simplex_cmp (faces_with (front ++ (v ∷ [])) others) (faces_with front others) keys)
-    ∙ ap (λ ts. with_all simplex_cmp ts keys) (sym (faces_with-cons front v others))
+-- the keys of those with the vertex, and then of those without
+pub keys_with_and_without : {A E : Type 0} (r : Result A E) (front : Simplex) (v : Vertex) (others : Simplex) (keys middle new : List ℕ)
+    → middle ≡ keys ++ map key_of (faces_with (front ++ (v ∷ [])) others) → OnOk r (new ≡ middle ++ map key_of (faces_with front others))
+    → OnOk r (new ≡ keys ++ map key_of (faces_with front (v ∷ others)))
+keys_with_and_without (Err e) front v others keys middle new h k = tt
+keys_with_and_without (Ok x) front v others keys middle new h k =
+    let with = map key_of (faces_with (front ++ (v ∷ [])) others) in
+    let without = map key_of (faces_with front others) in
+    k ∙ ap (λ ks. ks ++ without) h ∙ append_assoc keys with without
+    ∙ ap (λ ks. keys ++ ks) (sym (map-append key_of (faces_with (front ++ (v ∷ [])) others) (faces_with front others)) ∙ ap (map key_of) (sym (faces_with-cons front v others)))

@@ -16,11 +16,11 @@ use Rattle.std.proofs.lemmas.Bool.{and_from, and_parts}
 use Rattle.wf_simplex.proofs.Reading.{no_fault}
 
 -- processes from m on, below n and ascending, with values of at most the largest
-Climbs : ℕ → ℕ → ℕ → Simplex → Type 0
+unfoldable pub Climbs : ℕ → ℕ → ℕ → Simplex → Type 0
 Climbs n largest m [] = Unit {0}
 Climbs n largest m (v ∷ s) = (m ≤ v.0) × (v.0 < n) × (v.1 ≤ largest) × Climbs n largest (v.0 + 1) s
 
-climbs_lower : (n largest m k : ℕ) (s : Simplex) → k ≤ m → Climbs n largest m s → Climbs n largest k s
+pub climbs_lower : (n largest m k : ℕ) (s : Simplex) → k ≤ m → Climbs n largest m s → Climbs n largest k s
 unfolding Climbs
 climbs_lower n largest m k [] low h = tt
 climbs_lower n largest m k (v ∷ s) low h = let first : k ≤ v.0 = omega (arith, h.0, low) in (first, h.1, h.2, h.3)
@@ -86,7 +86,7 @@ climbs_from n largest m (v ∷ s) up below small low = (
 all_from_none : (s : Simplex) → All (λ p. 0 ≤ p) (processes_of s)
 all_from_none s = λ k d h. omega arith
 
-climbs : (n largest : ℕ) (s : Simplex) → IsSimplexWithin n largest s → Climbs n largest 0 s
+pub climbs : (n largest : ℕ) (s : Simplex) → IsSimplexWithin n largest s → Climbs n largest 0 s
 climbs n largest s h = climbs_from n largest 0 s (and_parts (is_nonempty s) (is_ascending (processes_of s)) h.is_simplex).1 h.processes h.values (all_from_none s)
 
 -- a face of a simplex within some bounds is within them
