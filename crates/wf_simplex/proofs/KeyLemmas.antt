@@ -1,5 +1,5 @@
 -- The key of a simplex: what stands in it, and that keys are ordered as simplices are.
-use Rattle.std.proofs.Common.{◌≡◌, ℕ, zero, suc, ◌+◌, ◌*◌, ◌/◌, ◌%◌, ◌<◌, ◌≤◌, ◌==◌, true, false, nat_lt, List, [], ◌∷◌, length, Option, None, Some, IfSome, slice_index_or, inl, inr, refl, sym, ap, ap₂, ◌∙◌, subst, arith, ne_eqb, eq-eqb, lt-ltb}
+use Rattle.std.proofs.Common.{◌≡◌, ℕ, zero, suc, ◌+◌, ◌*◌, ◌/◌, ◌%◌, ◌<◌, ◌≤◌, ◌==◌, true, false, nat_lt, List, [], ◌∷◌, length, Option, None, Some, IfSome, inl, inr, refl, sym, ap, ap₂, ◌∙◌, subst, arith, ne_eqb, eq-eqb, lt-ltb}
 use Rattle.std.specs.Cmp.{ranked, nat_cmp_is}
 use Rattle.std.specs.Ordering.{nat_cmp, ordering_then}
 use Rattle.std.specs.declared.cmp.Ordering.{Ordering}
@@ -8,12 +8,12 @@ use Rattle.std.proofs.lemmas.Bool.{cases_lt}
 use Rattle.std.proofs.lemmas.Nat.{div-mul-add, mod-mul-add}
 use Rattle.wf_model.specs.Simplex.{Vertex, Simplex, simplex_cmp}
 use Rattle.wf_model.specs.Task.{IsSimplexWithin, IsTaskSimplex}
-use Rattle.wf_simplex.specs.Entries.{vertices_from, value_at, entries_of, entry_cmp}
+use Rattle.wf_simplex.specs.Entries.{vertices_from, value_at, entries_of}
 use Rattle.wf_simplex.specs.Faces.{AreSmall}
 use Rattle.wf_simplex.specs.Keys.{digit_of, key_of, entry_of, entries_from}
 use Rattle.wf_simplex.specs.Order.{simplex_cmp-Equal}
 use Rattle.wf_simplex.proofs.SmallTables.{small_of_simplex}
-use Rattle.wf_simplex.proofs.Tables.{ordered_by_entries}
+use Rattle.wf_simplex.proofs.Tables.{entry_cmp, ordered_by_entries}
 use Rattle.wf_simplex.proofs.Within.{Climbs, climbs, climbs_lower}
 
 -- ---- a simplex is its table

@@ -7,21 +7,12 @@ use Rattle.std.specs.Cmp.{IsTotalOrder, tied_itself}
 use Rattle.std.specs.List.{AllByRecursion}
 use Rattle.std.specs.List.Sorted.{IsStrictlySortedBy}
 use Rattle.std.specs.BTreeSet.{insert_key}
-use Rattle.wf_simplex.specs.Faces.{with_all}
 use Rattle.wf_model.specs.Lists.{with_element, in_order}
 
 -- x is one of the elements, by recursion
 abbrev pub Has : {X : Type 0} → X → List X → Type 0
 Has x [] = ⊥
 Has x (y ∷ ys) = (y ≡ x) ⊎ Has x ys
-
-pub with_all-append : {X : Type 0} (cmp : X → X → Ordering) (xs ys zs : List X) → with_all cmp (xs ++ ys) zs ≡ with_all cmp xs (with_all cmp ys zs)
-with_all-append cmp [] ys zs = refl
-with_all-append cmp (x ∷ xs) ys zs = ap (with_element cmp x) (with_all-append cmp xs ys zs)
-
-pub with_all-in_order : {X : Type 0} (cmp : X → X → Ordering) (xs ys : List X) → with_all cmp xs (in_order cmp ys) ≡ in_order cmp (xs ++ ys)
-with_all-in_order cmp [] ys = refl
-with_all-in_order cmp (x ∷ xs) ys = ap (with_element cmp x) (with_all-in_order cmp xs ys)
 
 -- what a set of std does with one more key
 pub insert_key-with_element : {X : Type 0} (cmp : X → X → Ordering) (x : X) (ys : List X) → insert_key cmp ys x ≡ with_element cmp x ys

@@ -1,6 +1,6 @@
 //! Keys: a number for each simplex, in the order of simplices. Numbers are sorted fast.
 
-ghost use Rattle.std.specs.Prelude.{◌≡◌, ◌≤◌, ◌<◌, ◌∷◌, []};
+ghost use Rattle.std.specs.Prelude.{◌≡◌, ◌≤◌};
 ghost use Rattle.wf_simplex.specs.Entries.{vertices_from};
 ghost use Rattle.wf_simplex.specs.Keys.{digit_of, key_of, entry_of, entries_from};
 
@@ -50,9 +50,5 @@ fn digit(entry: Option<u8>) -> u64
 fn entry(digit: u64) -> Option<u8>
     ensures { result ≡ entry_of digit }
 {
-    if digit < 256 {
-        Some(digit as u8)
-    } else {
-        None
-    }
+    if digit < 256 { Some(digit as u8) } else { None }
 }

@@ -151,7 +151,9 @@ impl Simplex {
         ensures key { key_of result ≡ key }
         ensures simplex { IsTaskSimplex result }
     {
-        Simplex { values: entries(key) }
+        Simplex {
+            values: entries(key),
+        }
     }
 }
 

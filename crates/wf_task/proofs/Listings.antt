@@ -1,5 +1,5 @@
 -- Lists of so many elements: how many, in which order, and which.
-use Rattle.std.proofs.Common.{Contains, ◌≡◌, ℕ, zero, suc, ◌+◌, ◌*◌, ◌/◌, ◌%◌, ◌^◌, ◌<◌, ◌≤◌, Bool, true, false, List, [], ◌∷◌, ◌++◌, length, map, flat_map, take, get_or, nat_lt, inl, inr, refl, sym, ap, ◌∙◌, subst, arith, ltb-true, length-append}
+use Rattle.std.proofs.Common.{◌≡◌, ℕ, zero, suc, ◌+◌, ◌*◌, ◌/◌, ◌%◌, ◌^◌, ◌<◌, ◌≤◌, Bool, true, false, List, [], ◌∷◌, ◌++◌, length, map, flat_map, take, get_or, nat_lt, inl, inr, refl, sym, ap, ◌∙◌, subst, arith, ltb-true, length-append}
 use Rattle.std.specs.List.{AllByRecursion, range_with_len}
 use Rattle.std.specs.List.Sorted.{IsStrictlySortedBy}
 use Rattle.std.specs.declared.cmp.Ordering.{Ordering}
@@ -13,7 +13,7 @@ use Rattle.std.proofs.lemmas.List.Concat.{get_or-flat_map}
 use Rattle.wf_model.specs.Lists.{below, lists_of}
 use Rattle.wf_model.proofs.Bridge.{weaker}
 use Rattle.wf_model.proofs.Headline.{each_append, each_map, each_flat, always}
-use Rattle.wf_simplex.proofs.Lemmas.{Has, begins, has-flat_map, has-map, flat_map-has, map-has}
+use Rattle.wf_simplex.proofs.Lemmas.{Has, begins, has-flat_map, flat_map-has, map-has}
 use Rattle.wf_model.proofs.Basics.{nat_cmp-Less}
 
 -- ---- how many

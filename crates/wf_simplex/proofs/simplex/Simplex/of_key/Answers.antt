@@ -1,4 +1,4 @@
-use Rattle.std.proofs.Common.{length, sym, ap, ◌∙◌, subst, refl}
+use Rattle.std.proofs.Common.{length, sym, ap, ◌∙◌, subst}
 use Rattle.wf_model.specs.Task.{IsTaskSimplex}
 use Rattle.wf_simplex.specs.Entries.{vertices_from}
 use Rattle.wf_simplex.specs.Keys.{key_of}
