@@ -1,25 +1,24 @@
 -- The simplices of the keys of all faces.
-use Rattle.std.proofs.Common.{◌≡◌, ℕ, ◌+◌, ◌*◌, ◌≤◌, ◌<◌, List, [], ◌∷◌, ◌++◌, length, map, flat_map, take, All, Contains, slice_index_or, refl, sym, ap, ◌∙◌, subst, arith, eqb, append-nil, length-append, take_all}
+use Rattle.std.proofs.Common.{◌≡◌, ℕ, ◌+◌, ◌*◌, ◌≤◌, ◌<◌, nat_eq, List, [], ◌∷◌, ◌++◌, length, map, flat_map, take, All, slice_index_or, sym, ap, ◌∙◌, subst, arith, append-nil, length-append, take_all}
 use Rattle.std.proofs.lemmas.List.{take_more, map-append}
 use Rattle.std.proofs.lemmas.Grind.{flat_map-append}
-use Rattle.std.proofs.lemmas.List.Elements.{All-nil, All-append, All-head, All-tail, All-map, All-push}
-use Rattle.std.proofs.lemmas.List.Filters.{All-dedup, dedup_is}
-use Rattle.std.proofs.lemmas.List.Kept.{Contains-dedup_nat, Contains-from_dedup}
-use Rattle.std.proofs.lemmas.List.Sorted.{All-permutation, Contains-permutation, IsPermutation-sym}
-use Rattle.std.proofs.lemmas.Map.Keys.{IsStrictlyIncreasing-dedup, sorted_from_strictly_increasing}
-use Rattle.std.specs.List.{AllByRecursion, dedup}
+use Rattle.std.proofs.lemmas.List.Elements.{All-nil, All-append, All-head, All-tail, All-push}
+use Rattle.std.proofs.lemmas.Cmp.{nat_eq_equiv}
+use Rattle.std.specs.Cmp.{nat_cmp_total, unsigned_ties}
+use Rattle.std.specs.List.{AllByRecursion}
 use Rattle.std.specs.List.Retain.{IsFiltered, DiffersFromLast}
 use Rattle.std.specs.List.Sorted.{IsPermutation, IsSorted, IsStrictlySortedBy}
 use Rattle.std.specs.Ordering.{nat_cmp}
 use Rattle.std.specs.declared.cmp.Ordering.TheVariants.{Less}
+use Rattle.wf_model.specs.Lists.{in_order}
 use Rattle.wf_model.specs.Simplex.{Simplex, faces_of, simplex_cmp, complex_of}
 use Rattle.wf_model.specs.Task.{IsTaskSimplex}
 use Rattle.wf_simplex.specs.Faces.{IsComplex}
 use Rattle.wf_simplex.specs.Keys.{key_of, IsKey}
-use Rattle.wf_simplex.specs.Order.{simplex_cmp-total, simplex_cmp-Equal}
-use Rattle.wf_simplex.proofs.Orders.{Has, contains-has, has_at_place, has-in_order, has-map, in_order-has, length-in_order, map-has, same_in_order, sorted-in_order}
+use Rattle.wf_simplex.specs.Order.{nat_cmp-Equal, simplex_cmp-total, simplex_cmp-Equal}
+use Rattle.wf_simplex.proofs.Orders.{Has, has-in_order, has-map, in_order-dedup, in_order-has, length-in_order, map-has, same_in_order, sorted-in_order}
 use Rattle.wf_simplex.proofs.Faces.{complex_of-complex_of, length-faces_of}
-use Rattle.wf_simplex.proofs.Within.{faces_within, has_of_all, length-within}
+use Rattle.wf_simplex.proofs.Within.{all_of_has, faces_within, has_of_all, length-within}
 use Rattle.wf_simplex.proofs.KeyLemmas.{keys_compared, key_of-same}
 
 -- ---- one facet more
@@ -55,9 +54,6 @@ few_faces (f ∷ facets) h =
     let one = length-faces_of f (length-within 4 255 f (All-head IsTaskSimplex f facets h)) in
     omega (arith, rest, one, length-append (faces_of f) (flat_map faces_of facets))
 
-are_keys : (ss : List Simplex) → All IsTaskSimplex ss → All IsKey (map key_of ss)
-are_keys ss h = All-map IsKey key_of ss (λ k d inside. (let s = slice_index_or ss k d in (s, h k d inside, refl)))
-
 -- ---- the simplices of keys in order
 
 sorted_by_keys : (ss : List Simplex) → All IsTaskSimplex ss → IsStrictlySortedBy nat_cmp (map key_of ss) → IsStrictlySortedBy simplex_cmp ss
@@ -71,59 +67,56 @@ sorted_by_keys (s ∷ ss) all h = (below ss (All-tail IsTaskSimplex s ss all) h.
         (sym (keys_compared s t (All-head IsTaskSimplex s ss all) (All-head IsTaskSimplex t ts each)) ∙ g.0, below ts (All-tail IsTaskSimplex t ts each) g.1)
 
 -- where each key of the first is one of the second, each simplex is
-has_by_keys : (ss ts : List Simplex) → All IsTaskSimplex ss → All IsTaskSimplex ts → ((k : ℕ) → Contains (map key_of ss) k → Contains (map key_of ts) k) → (s : Simplex) → Has s ss → Has s ts
+has_by_keys : (ss ts : List Simplex) → All IsTaskSimplex ss → All IsTaskSimplex ts → ((k : ℕ) → Has k (map key_of ss) → Has k (map key_of ts)) → (s : Simplex) → Has s ss → Has s ts
 has_by_keys ss ts all_s all_t keys s here =
-    let there = has-map key_of (key_of s) ts (contains-has (key_of s) (map key_of ts) (keys (key_of s) (has_at_place (key_of s) (map key_of ss) (map-has key_of s ss here)))) in
+    let there = has-map key_of (key_of s) ts (keys (key_of s) (map-has key_of s ss here)) in
     subst (λ t. Has t ts) (key_of-same there.0 s (has_of_all IsTaskSimplex there.0 ts all_t there.1) (has_of_all IsTaskSimplex s ss all_s here) there.2) there.1
 
--- the keys of all faces, in order, each once
-pub record AreSorted (facets : List Simplex) (sorted ordered : List ℕ) : Type 0 where
+-- facets, and the keys of all their faces in order, each once
+pub record AreKeysOf (facets : List Simplex) (keys : List ℕ) : Type 0 where
   pub within : All IsTaskSimplex facets
-  pub moved : IsPermutation (map key_of (flat_map faces_of facets)) sorted
-  pub ascend : IsSorted nat_cmp sorted
-  pub once : ordered ≡ dedup eqb sorted
+  pub ordered : keys ≡ in_order nat_cmp (map key_of (flat_map faces_of facets))
 
-pub sorted_after : (facets : List Simplex) (i : ℕ) (keys sorted ordered : List ℕ) → length facets ≤ i
+pub keys_sorted : (facets : List Simplex) (i : ℕ) (keys sorted once : List ℕ) → length facets ≤ i
     → keys ≡ map key_of (flat_map faces_of (take i facets)) → All IsTaskSimplex (take i facets)
-    → IsPermutation keys sorted → IsSorted nat_cmp sorted → IsFiltered (DiffersFromLast eqb) [] sorted ordered → AreSorted facets sorted ordered
-sorted_after facets i keys sorted ordered whole are within moved ascend once =
+    → IsPermutation keys sorted → IsSorted nat_cmp sorted → IsFiltered (DiffersFromLast nat_eq) [] sorted once → AreKeysOf facets once
+keys_sorted facets i keys sorted once whole are within moved ascend filtered =
     let all = take_all i facets whole in
     record {
       within = subst (All IsTaskSimplex) all within;
-      moved = subst (λ ks. IsPermutation ks sorted) (are ∙ ap (λ fs. map key_of (flat_map faces_of fs)) all) moved;
-      ascend = ascend;
-      once = dedup_is eqb sorted ordered once;
+      ordered = in_order-dedup nat_cmp nat_cmp_total nat_cmp-Equal nat_eq_equiv unsigned_ties keys sorted once moved ascend filtered
+          ∙ ap (in_order nat_cmp) (are ∙ ap (λ fs. map key_of (flat_map faces_of fs)) all);
     }
 
-module _ (facets : List Simplex) (sorted ordered : List ℕ) (h : AreSorted facets sorted ordered) where
-  pub ordered_are_keys : All IsKey ordered
-  ordered_are_keys = subst (All IsKey) (sym h.once) (All-dedup eqb IsKey sorted (All-permutation IsKey _ _ h.moved (are_keys (flat_map faces_of facets) (all_faces_within facets h.within))))
+module _ (facets : List Simplex) (keys : List ℕ) (h : AreKeysOf facets keys) where
+  within : All IsTaskSimplex (flat_map faces_of facets)
+  within = all_faces_within facets h.within
 
-  module _ (ss : List Simplex) (all : All IsTaskSimplex ss) (is : map key_of ss ≡ ordered) where
-    once : map key_of ss ≡ dedup eqb sorted
-    once = is ∙ h.once
+  key_of_face : (k : ℕ) → Has k keys → Has k (map key_of (flat_map faces_of facets))
+  key_of_face k here = has-in_order nat_cmp nat_cmp_total nat_cmp-Equal k (map key_of (flat_map faces_of facets)) (subst (Has k) h.ordered here)
 
-    keys_forth : (k : ℕ) → Contains (map key_of ss) k → Contains (map key_of (flat_map faces_of facets)) k
-    keys_forth k g = Contains-permutation _ _ k (IsPermutation-sym _ _ h.moved) (Contains-from_dedup eqb sorted k (subst (λ ks. Contains ks k) once g))
+  pub all_are_keys : All IsKey keys
+  all_are_keys = all_of_has IsKey keys (λ k here. (let s = has-map key_of k (flat_map faces_of facets) (key_of_face k here) in
+      (s.0, has_of_all IsTaskSimplex s.0 (flat_map faces_of facets) within s.1, s.2)))
 
-    keys_back : (k : ℕ) → Contains (map key_of (flat_map faces_of facets)) k → Contains (map key_of ss) k
-    keys_back k g = subst (λ ks. Contains ks k) (sym once) (Contains-dedup_nat sorted k (Contains-permutation _ _ k h.moved g))
-
-    in_order_of_faces : IsStrictlySortedBy simplex_cmp ss
-    in_order_of_faces = sorted_by_keys ss all (subst (IsStrictlySortedBy nat_cmp) (sym once) (sorted_from_strictly_increasing _ (IsStrictlyIncreasing-dedup sorted h.ascend)))
+  module _ (ss : List Simplex) (all : All IsTaskSimplex ss) (is : map key_of ss ≡ keys) where
+    ascending : IsStrictlySortedBy simplex_cmp ss
+    ascending = sorted_by_keys ss all (subst (IsStrictlySortedBy nat_cmp) (sym (is ∙ h.ordered)) (sorted-in_order nat_cmp nat_cmp_total nat_cmp-Equal (map key_of (flat_map faces_of facets))))
 
     -- they are the complex of the facets
     pub are_complex : ss ≡ complex_of facets
     are_complex =
         let faces = flat_map faces_of facets in
-        let within = all_faces_within facets h.within in
-        same_in_order simplex_cmp simplex_cmp-total simplex_cmp-Equal ss (complex_of facets) in_order_of_faces (sorted-in_order simplex_cmp simplex_cmp-total simplex_cmp-Equal faces)
-        (λ s here. in_order-has simplex_cmp simplex_cmp-total simplex_cmp-Equal s faces (has_by_keys ss faces all within keys_forth s here))
-        (λ s here. has_by_keys faces ss within all keys_back s (has-in_order simplex_cmp simplex_cmp-total simplex_cmp-Equal s faces here))
+        same_in_order simplex_cmp simplex_cmp-total simplex_cmp-Equal ss (complex_of facets) ascending (sorted-in_order simplex_cmp simplex_cmp-total simplex_cmp-Equal faces)
+        (λ s here. in_order-has simplex_cmp simplex_cmp-total simplex_cmp-Equal s faces
+        (has_by_keys ss faces all within (λ k there. key_of_face k (subst (Has k) is there)) s here))
+        (λ s here. has_by_keys faces ss within all
+        (λ k there. subst (Has k) (sym (is ∙ h.ordered)) (in_order-has nat_cmp nat_cmp_total nat_cmp-Equal k (map key_of faces) there))
+        s (has-in_order simplex_cmp simplex_cmp-total simplex_cmp-Equal s faces here))
 
     pub is_complex : length facets ≤ 16777216 → IsComplex ss
     is_complex few = record {
-      ascending = in_order_of_faces;
+      ascending = ascending;
       closed = ap complex_of are_complex ∙ complex_of-complex_of facets ∙ sym are_complex;
       within = all;
       countable = omega (arith, few, ap length are_complex, length-in_order simplex_cmp (flat_map faces_of facets), few_faces facets h.within);

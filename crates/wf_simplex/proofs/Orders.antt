@@ -1,11 +1,15 @@
 -- Lists in order, each element once: `in_order` under an order that tells apart what differs.
-use Rattle.std.proofs.Common.{◌≡◌, ℕ, zero, suc, ◌<◌, ◌≤◌, List, [], ◌∷◌, ◌++◌, length, map, get_or, Contains, ◌⊎◌, inl, inr, refl, sym, ap, ◌∙◌, subst, arith}
+use Rattle.std.proofs.Common.{◌≡◌, ℕ, zero, suc, Bool, true, ◌<◌, ◌≤◌, List, [], ◌∷◌, ◌++◌, length, map, get_or, Contains, ◌⊎◌, inl, inr, refl, sym, ap, ◌∙◌, subst, arith}
 use Rattle.std.specs.declared.cmp.Ordering.{Ordering}
 use Rattle.std.specs.declared.cmp.Ordering.TheVariants.{Less, Equal, Greater}
-use Rattle.std.specs.Ordering.{match_ordering, ordering_reverse}
-use Rattle.std.specs.Cmp.{IsTotalOrder, tied_itself}
-use Rattle.std.specs.List.{AllByRecursion}
-use Rattle.std.specs.List.Sorted.{IsStrictlySortedBy}
+use Rattle.std.specs.Ordering.{match_ordering, ordering_reverse, eq_by_cmp}
+use Rattle.std.specs.Cmp.{IsTotalOrder, IsEquivalence, Equal-is, tied_itself}
+use Rattle.std.specs.List.{AllByRecursion, dedup}
+use Rattle.std.specs.List.Retain.{IsFiltered, DiffersFromLast}
+use Rattle.std.specs.List.Sorted.{IsPermutation, IsSorted, IsStrictlySortedBy}
+use Rattle.std.proofs.lemmas.List.Filters.{dedup_is}
+use Rattle.std.proofs.lemmas.List.Kept.{Contains-dedup, Contains-from_dedup, IsStrictlySortedBy-dedup}
+use Rattle.std.proofs.lemmas.List.Sorted.{Contains-permutation, IsPermutation-sym}
 use Rattle.std.specs.BTreeSet.{insert_key}
 use Rattle.wf_model.specs.Lists.{with_element, in_order}
 
@@ -181,6 +185,16 @@ module _ {X : Type 0} (cmp : X → X → Ordering) (o : IsTotalOrder cmp) (same 
 
   pub in_order-in_order : (xs : List X) → in_order cmp (in_order cmp xs) ≡ in_order cmp xs
   in_order-in_order xs = in_order-sorted (in_order cmp xs) (sorted-in_order xs)
+
+  -- a list that was sorted, without each element that is the same as the one before
+  pub in_order-dedup : {E : X → X → Bool} → IsEquivalence E → ((x y : X) → E x y ≡ eq_by_cmp cmp x y) → (xs ys zs : List X)
+      → IsPermutation xs ys → IsSorted cmp ys → IsFiltered (DiffersFromLast E) [] ys zs → zs ≡ in_order cmp xs
+  in_order-dedup {E} laws ties xs ys zs moved ascend once =
+      let is : zs ≡ dedup E ys = dedup_is E ys zs once in
+      let exact : (x y : X) → E x y ≡ true → x ≡ y = λ x y h. same x y ((Equal-is (cmp x y)).0 (sym (ties x y) ∙ h)) in
+      is ∙ same_in_order (dedup E ys) (in_order cmp xs) (IsStrictlySortedBy-dedup o ties ys ascend) (sorted-in_order xs)
+      (λ z h. in_order-has z xs (contains-has z xs (Contains-permutation ys xs z (IsPermutation-sym xs ys moved) (Contains-from_dedup E ys z (has_at_place z (dedup E ys) h)))))
+      (λ z h. contains-has z (dedup E ys) (Contains-dedup laws exact ys z (Contains-permutation xs ys z moved (has_at_place z xs (has-in_order z xs h)))))
 
   -- the order in which the elements come is of no matter, nor how often
   pub in_order-same : (xs ys : List X) → ((z : X) → Has z xs → Has z ys) → ((z : X) → Has z ys → Has z xs) → in_order cmp xs ≡ in_order cmp ys

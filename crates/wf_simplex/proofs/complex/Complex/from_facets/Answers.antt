@@ -1,6 +1,6 @@
 use Rattle.std.proofs.Common.{All, sym, ◌∙◌, subst}
 use Rattle.wf_simplex.specs.Keys.{IsKey}
-use Rattle.wf_simplex.proofs.FromFacets.{keys_more, within_more, sorted_after, ordered_are_keys, are_complex, is_complex}
+use Rattle.wf_simplex.proofs.FromFacets.{keys_more, within_more, keys_sorted, all_are_keys, are_complex, is_complex}
 use Rattle.wf_simplex.proofs.complex.Complex.from_facets.Goals as goal
 
 pub loop-facet-preserved : goal.loop-facet-preserved
@@ -18,21 +18,21 @@ pub simplices_of-requires : goal.simplices_of-requires
 simplices_of-requires c =
     let inv = c.loop-facet.invariant in
     let sort = c.sort_unstable.ensures in
-    let h = sorted_after c.args.facets.now c.loop-facet.facet-index _ _ _ c.loop-facet-test.false inv.keys inv.within sort.permutation sort.sorted c.dedup.ensures.filtered in
-    subst (All IsKey) (sym c.deref.ensures.value) (ordered_are_keys _ _ _ h)
+    let h = keys_sorted c.args.facets.now c.loop-facet.facet-index _ _ _ c.loop-facet-test.false inv.keys inv.within sort.permutation sort.sorted c.dedup.ensures.filtered in
+    subst (All IsKey) (sym c.deref.ensures.value) (all_are_keys _ _ h)
 
 pub invariant_of-result : goal.invariant_of-result
 invariant_of-result c =
     let inv = c.loop-facet.invariant in
     let sort = c.sort_unstable.ensures in
-    let h = sorted_after c.args.facets.now c.loop-facet.facet-index _ _ _ c.loop-facet-test.false inv.keys inv.within sort.permutation sort.sorted c.dedup.ensures.filtered in
+    let h = keys_sorted c.args.facets.now c.loop-facet.facet-index _ _ _ c.loop-facet-test.false inv.keys inv.within sort.permutation sort.sorted c.dedup.ensures.filtered in
     let made = c.in_ok-simplices.ensures in
-    is_complex _ _ _ h c.in_ok-simplices.simplices.items made.within (made.keys ∙ c.deref.ensures.value) c.requires
+    is_complex _ _ h c.in_ok-simplices.simplices.items made.within (made.keys ∙ c.deref.ensures.value) c.requires
 
 pub returns : goal.returns
 returns c =
     let inv = c.loop-facet.invariant in
     let sort = c.sort_unstable.ensures in
-    let h = sorted_after c.args.facets.now c.loop-facet.facet-index _ _ _ c.loop-facet-test.false inv.keys inv.within sort.permutation sort.sorted c.dedup.ensures.filtered in
+    let h = keys_sorted c.args.facets.now c.loop-facet.facet-index _ _ _ c.loop-facet-test.false inv.keys inv.within sort.permutation sort.sorted c.dedup.ensures.filtered in
     let made = c.in_ok-simplices.ensures in
-    are_complex _ _ _ h c.in_ok-simplices.simplices.items made.within (made.keys ∙ c.deref.ensures.value)
+    are_complex _ _ h c.in_ok-simplices.simplices.items made.within (made.keys ∙ c.deref.ensures.value)
