@@ -32,7 +32,8 @@ impl Model for Complex {
 
 impl Complex {
     /// The faces of these simplices. It takes n log n steps, and memory for eight bytes a face of
-    /// each facet, at most 15 of them a facet, before those that are the same become one.
+    /// each facet, at most 15 of them a facet, in a vector that grows by doubling: the same face
+    /// of two facets is kept twice until all are sorted.
     pub fn from_facets(alloc: Global, facets: &[Simplex]) -> Result<Complex, AllocError>
         requires { length facets.now ≤ most_facets }
         ensures { IfOk result (λ c. c ≡ complex_of facets.now) }
