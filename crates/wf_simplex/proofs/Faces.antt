@@ -1,11 +1,10 @@
 -- The faces of simplices, and the complex of some facets.
-use Rattle.std.proofs.Common.{◌≡◌, ◌≤◌, Bool, true, false, List, [], ◌∷◌, ◌++◌, length, map, filter, flat_map, cond, inl, inr, refl, sym, ap, ◌∙◌, subst, arith}
+use Rattle.std.proofs.Common.{◌≡◌, ◌≤◌, Bool, true, false, List, [], ◌∷◌, length, map, filter, flat_map, cond, inl, inr, refl, sym, ap, ◌∙◌, subst, arith}
 use Rattle.std.specs.List.Sorted.{IsStrictlySortedBy}
-use Rattle.wf_model.specs.Lists.{in_order}
 use Rattle.wf_model.specs.Simplex.{Simplex, is_nonempty, parts_of, faces_of, simplex_cmp, complex_of}
 use Rattle.wf_model.proofs.Fuel.{length_filter}
 use Rattle.wf_simplex.specs.Order.{simplex_cmp-total, simplex_cmp-Equal}
-use Rattle.wf_simplex.proofs.Orders.{Has, has-append, has-append_left, has-append_right, has-in_order, in_order-has, in_order-same, sorted-in_order, same_in_order}
+use Rattle.wf_simplex.proofs.Orders.{Has, has-append, has-append_left, has-append_right, has-in_order, in_order-has, sorted-in_order, same_in_order}
 
 -- ---- parts
 
@@ -111,32 +110,6 @@ complex_of-complex_of facets =
     (complex_of-sorted (complex_of facets)) (complex_of-sorted facets)
     (λ t h. (let g = of_some_facet t (complex_of facets) h in complex_closed g.0 t facets g.1 g.2))
     (λ t h. (let g = of_some_facet t facets h in is_in_complex t t (complex_of facets) h (face_of_itself t (nonempty_face g.0 t g.2))))
-
--- a facet that is there already changes nothing
-pub complex_of-again : (facets : List Simplex) (f : Simplex) → Has f (complex_of facets) → complex_of (facets ++ (f ∷ [])) ≡ complex_of facets
-complex_of-again facets f here =
-    same_in_order simplex_cmp simplex_cmp-total simplex_cmp-Equal (complex_of (facets ++ (f ∷ []))) (complex_of facets)
-    (complex_of-sorted (facets ++ (f ∷ []))) (complex_of-sorted facets)
-    (λ t h. (let g = of_some_facet t (facets ++ (f ∷ [])) h in
-    elim (has-append g.0 facets (f ∷ []) g.1) [
-      | inl old ↦ is_in_complex t g.0 facets old g.2
-      | inr new ↦ elim new [ inl e ↦ complex_closed f t facets here (subst (λ w. Has t (faces_of w)) (sym e) g.2) | inr none ↦ absurd none ]
-    ]))
-    (λ t h. (let g = of_some_facet t facets h in is_in_complex t g.0 (facets ++ (f ∷ [])) (has-append_left g.0 facets (f ∷ []) g.1) g.2))
-
--- one more facet
-pub complex_of-more : (facets : List Simplex) (f : Simplex) → in_order simplex_cmp (faces_of f ++ flat_map faces_of facets) ≡ complex_of (facets ++ (f ∷ []))
-complex_of-more facets f =
-    in_order-same simplex_cmp simplex_cmp-total simplex_cmp-Equal (faces_of f ++ flat_map faces_of facets) (flat_map faces_of (facets ++ (f ∷ [])))
-    (λ t h. elim (has-append t (faces_of f) (flat_map faces_of facets) h) [
-      | inl new ↦ flat_map-has faces_of t f (facets ++ (f ∷ [])) (has-append_right f facets (f ∷ []) (inl refl)) new
-      | inr old ↦ (let g = has-flat_map faces_of t facets old in flat_map-has faces_of t g.0 (facets ++ (f ∷ [])) (has-append_left g.0 facets (f ∷ []) g.1) g.2)
-    ])
-    (λ t h. (let g = has-flat_map faces_of t (facets ++ (f ∷ [])) h in
-    elim (has-append g.0 facets (f ∷ []) g.1) [
-      | inl old ↦ has-append_right t (faces_of f) (flat_map faces_of facets) (flat_map-has faces_of t g.0 facets old g.2)
-      | inr new ↦ elim new [ inl e ↦ has-append_left t (faces_of f) (flat_map faces_of facets) (subst (λ w. Has t (faces_of w)) (sym e) g.2) | inr none ↦ absurd none ]
-    ]))
 
 -- ---- how many
 

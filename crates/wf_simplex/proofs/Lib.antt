@@ -8,5 +8,6 @@ pub mod Faces
 pub mod SmallTables
 pub mod Search
 pub mod Within
+pub mod KeyLemmas
 pub mod FromFacets
 pub mod Lemmas

@@ -1,27 +1,22 @@
 -- Lists in order, each element once: `in_order` under an order that tells apart what differs.
-use Rattle.std.proofs.Common.{◌≡◌, suc, ◌≤◌, List, [], ◌∷◌, ◌++◌, length, Contains, ◌⊎◌, inl, inr, refl, sym, ap, ◌∙◌, subst, arith}
+use Rattle.std.proofs.Common.{◌≡◌, ℕ, zero, suc, Bool, true, ◌<◌, ◌≤◌, List, [], ◌∷◌, ◌++◌, length, map, get_or, Contains, ◌⊎◌, inl, inr, refl, sym, ap, ◌∙◌, subst, arith}
 use Rattle.std.specs.declared.cmp.Ordering.{Ordering}
 use Rattle.std.specs.declared.cmp.Ordering.TheVariants.{Less, Equal, Greater}
-use Rattle.std.specs.Ordering.{match_ordering, ordering_reverse}
-use Rattle.std.specs.Cmp.{IsTotalOrder, tied_itself}
-use Rattle.std.specs.List.{AllByRecursion}
-use Rattle.std.specs.List.Sorted.{IsStrictlySortedBy}
+use Rattle.std.specs.Ordering.{match_ordering, ordering_reverse, eq_by_cmp}
+use Rattle.std.specs.Cmp.{IsTotalOrder, IsEquivalence, Equal-is, tied_itself}
+use Rattle.std.specs.List.{AllByRecursion, dedup}
+use Rattle.std.specs.List.Retain.{IsFiltered, DiffersFromLast}
+use Rattle.std.specs.List.Sorted.{IsPermutation, IsSorted, IsStrictlySortedBy}
+use Rattle.std.proofs.lemmas.List.Filters.{dedup_is}
+use Rattle.std.proofs.lemmas.List.Kept.{Contains-dedup, Contains-from_dedup, IsStrictlySortedBy-dedup}
+use Rattle.std.proofs.lemmas.List.Sorted.{Contains-permutation, IsPermutation-sym}
 use Rattle.std.specs.BTreeSet.{insert_key}
-use Rattle.wf_simplex.specs.Faces.{with_all}
 use Rattle.wf_model.specs.Lists.{with_element, in_order}
 
 -- x is one of the elements, by recursion
 abbrev pub Has : {X : Type 0} → X → List X → Type 0
 Has x [] = ⊥
 Has x (y ∷ ys) = (y ≡ x) ⊎ Has x ys
-
-pub with_all-append : {X : Type 0} (cmp : X → X → Ordering) (xs ys zs : List X) → with_all cmp (xs ++ ys) zs ≡ with_all cmp xs (with_all cmp ys zs)
-with_all-append cmp [] ys zs = refl
-with_all-append cmp (x ∷ xs) ys zs = ap (with_element cmp x) (with_all-append cmp xs ys zs)
-
-pub with_all-in_order : {X : Type 0} (cmp : X → X → Ordering) (xs ys : List X) → with_all cmp xs (in_order cmp ys) ≡ in_order cmp (xs ++ ys)
-with_all-in_order cmp [] ys = refl
-with_all-in_order cmp (x ∷ xs) ys = ap (with_element cmp x) (with_all-in_order cmp xs ys)
 
 -- what a set of std does with one more key
 pub insert_key-with_element : {X : Type 0} (cmp : X → X → Ordering) (x : X) (ys : List X) → insert_key cmp ys x ≡ with_element cmp x ys
@@ -63,6 +58,24 @@ pub has_at_place : {X : Type 0} (x : X) (ys : List X) → Has x ys → Contains 
 has_at_place x [] h = absurd h
 has_at_place x (y ∷ ys) (inl e) = (0, omega arith, e)
 has_at_place x (y ∷ ys) (inr h) = let at = has_at_place x ys h in (suc at.0, omega (arith, at.1), at.2)
+
+pub contains-has : {X : Type 0} (x : X) (xs : List X) → Contains xs x → Has x xs
+contains-has {X} x xs h = at xs h.0 h.1 h.2
+  where
+    at : (ys : List X) (k : ℕ) → k < length ys → get_or ys k x ≡ x → Has x ys
+    at [] k low is = absurd (let none : ⊥ = omega (arith, low) in none)
+    at (y ∷ ys) zero low is = inl is
+    at (y ∷ ys) (suc k) low is = inr (at ys k (omega (arith, low)) is)
+
+pub map-has : {X Y : Type 0} (f : X → Y) (x : X) (xs : List X) → Has x xs → Has (f x) (map f xs)
+map-has f x [] h = absurd h
+map-has f x (y ∷ ys) (inl e) = inl (ap f e)
+map-has f x (y ∷ ys) (inr h) = inr (map-has f x ys h)
+
+pub has-map : {X Y : Type 0} (f : X → Y) (y : Y) (xs : List X) → Has y (map f xs) → (x : X) × Has x xs × (f x ≡ y)
+has-map f y [] h = absurd h
+has-map f y (x ∷ xs) (inl e) = (x, inl refl, e)
+has-map f y (x ∷ xs) (inr h) = let r = has-map f y xs h in (r.0, inr r.1, r.2)
 
 module _ {X : Type 0} (cmp : X → X → Ordering) (o : IsTotalOrder cmp) (same : (x y : X) → cmp x y ≡ Equal → x ≡ y) where
   has_with_element : (x y : X) (ys : List X) → Has x (with_element cmp y ys) → (y ≡ x) ⊎ Has x ys
@@ -172,6 +185,16 @@ module _ {X : Type 0} (cmp : X → X → Ordering) (o : IsTotalOrder cmp) (same 
 
   pub in_order-in_order : (xs : List X) → in_order cmp (in_order cmp xs) ≡ in_order cmp xs
   in_order-in_order xs = in_order-sorted (in_order cmp xs) (sorted-in_order xs)
+
+  -- a list that was sorted, without each element that is the same as the one before
+  pub in_order-dedup : {E : X → X → Bool} → IsEquivalence E → ((x y : X) → E x y ≡ eq_by_cmp cmp x y) → (xs ys zs : List X)
+      → IsPermutation xs ys → IsSorted cmp ys → IsFiltered (DiffersFromLast E) [] ys zs → zs ≡ in_order cmp xs
+  in_order-dedup {E} laws ties xs ys zs moved ascend once =
+      let is : zs ≡ dedup E ys = dedup_is E ys zs once in
+      let exact : (x y : X) → E x y ≡ true → x ≡ y = λ x y h. same x y ((Equal-is (cmp x y)).0 (sym (ties x y) ∙ h)) in
+      is ∙ same_in_order (dedup E ys) (in_order cmp xs) (IsStrictlySortedBy-dedup o ties ys ascend) (sorted-in_order xs)
+      (λ z h. in_order-has z xs (contains-has z xs (Contains-permutation ys xs z (IsPermutation-sym xs ys moved) (Contains-from_dedup E ys z (has_at_place z (dedup E ys) h)))))
+      (λ z h. contains-has z (dedup E ys) (Contains-dedup laws exact ys z (Contains-permutation xs ys z moved (has_at_place z xs (has-in_order z xs h)))))
 
   -- the order in which the elements come is of no matter, nor how often
   pub in_order-same : (xs ys : List X) → ((z : X) → Has z xs → Has z ys) → ((z : X) → Has z ys → Has z xs) → in_order cmp xs ≡ in_order cmp ys

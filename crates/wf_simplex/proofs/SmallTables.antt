@@ -1,52 +1,19 @@
 -- Tables whose values are at most 255, and the faces that are put together from them.
-use Rattle.std.proofs.Common.{◌≡◌, ℕ, zero, suc, ◌+◌, ◌<◌, ◌≤◌, true, nat_lt, List, [], ◌∷◌, ◌++◌, length, map, filter, All, Option, None, Some, slice_index_or, slice_set, IfSome, refl, sym, ap, ◌∙◌, arith, lt-ltb, append_assoc, append-nil}
+use Rattle.std.proofs.Common.{◌≡◌, ℕ, zero, suc, ◌+◌, ◌≤◌, List, [], ◌∷◌, ◌++◌, length, map, filter, All, Option, None, Some, slice_index_or, slice_set, IfSome, Result, Ok, Err, OnOk, refl, sym, ap, ◌∙◌, arith, append_assoc}
 use Rattle.std.proofs.lemmas.List.{map-append}
 use Rattle.std.proofs.lemmas.List.Elements.{All-nil, All-cons, All-head, All-tail, filter-append}
-use Rattle.wf_model.specs.Simplex.{Vertex, Simplex, processes_of, values_of, is_ascending, is_nonempty, parts_of, faces_of, simplex_cmp}
+use Rattle.wf_model.specs.Simplex.{Vertex, Simplex, values_of, is_nonempty, parts_of, faces_of}
 use Rattle.wf_model.specs.Task.{IsSimplexWithin}
 use Rattle.wf_simplex.specs.Entries.{vertices_from}
-use Rattle.wf_simplex.specs.Faces.{AreSmall, faces_with, with_all}
-use Rattle.wf_simplex.proofs.Orders.{with_all-append}
-use Rattle.std.proofs.lemmas.Bool.{and_from}
+use Rattle.wf_simplex.specs.Faces.{AreSmall, faces_with}
+use Rattle.wf_simplex.specs.Keys.{key_of}
 
 -- ---- a table of small values is a simplex
-
-from_on : (m n : ℕ) (es : List (Option ℕ)) → m ≤ n → All (λ p. m ≤ p) (processes_of (vertices_from n es))
-from_on m n [] h = All-nil (λ p. m ≤ p)
-from_on m n (None ∷ es) h = from_on m (n + 1) es (omega arith)
-from_on m n (Some x ∷ es) h = All-cons (λ p. m ≤ p) n (processes_of (vertices_from (n + 1) es)) h (from_on m (n + 1) es (omega arith))
-
-ascends_after : (n : ℕ) (ps : List ℕ) → All (λ p. n + 1 ≤ p) ps → is_ascending ps ≡ true → is_ascending (n ∷ ps) ≡ true
-ascends_after n [] h k = refl
-ascends_after n (p ∷ ps) h k =
-    let first : n + 1 ≤ p = All-head (λ p. n + 1 ≤ p) p ps h in
-    and_from (nat_lt n p) (is_ascending (p ∷ ps)) (lt-ltb n p (omega arith)) k
-
-pub vertices-ascend : (n : ℕ) (es : List (Option ℕ)) → is_ascending (processes_of (vertices_from n es)) ≡ true
-vertices-ascend n [] = refl
-vertices-ascend n (None ∷ es) = vertices-ascend (n + 1) es
-vertices-ascend n (Some x ∷ es) = ascends_after n (processes_of (vertices_from (n + 1) es)) (from_on (n + 1) (n + 1) es (omega arith)) (vertices-ascend (n + 1) es)
-
-processes_below : (n m : ℕ) (es : List (Option ℕ)) → n + length es ≤ m → All (λ p. p < m) (processes_of (vertices_from n es))
-processes_below n m [] h = All-nil (λ p. p < m)
-processes_below n m (None ∷ es) h = processes_below (n + 1) m es (omega arith)
-processes_below n m (Some x ∷ es) h = All-cons (λ p. p < m) n (processes_of (vertices_from (n + 1) es)) (omega arith) (processes_below (n + 1) m es (omega arith))
 
 pub values_small : (n : ℕ) (es : List (Option ℕ)) → AreSmall es → All (λ x. x ≤ 255) (values_of (vertices_from n es))
 values_small n [] h = All-nil (λ x. x ≤ 255)
 values_small n (None ∷ es) h = values_small (n + 1) es (λ k. h (suc k))
 values_small n (Some x ∷ es) h = All-cons (λ x. x ≤ 255) x (values_of (vertices_from (n + 1) es)) (h 0) (values_small (n + 1) es (λ k. h (suc k)))
-
-nonempty : (s : Simplex) → 0 < length s → is_nonempty s ≡ true
-nonempty [] h = absurd (omega arith)
-nonempty (v ∷ s) h = refl
-
-pub table_within : (es : List (Option ℕ)) → length es ≡ 4 → AreSmall es → 0 < length (vertices_from 0 es) → IsSimplexWithin 4 255 (vertices_from 0 es)
-table_within es four small some = record {
-  is_simplex = and_from (is_nonempty (vertices_from 0 es)) (is_ascending (processes_of (vertices_from 0 es))) (nonempty (vertices_from 0 es) some) (vertices-ascend 0 es);
-  processes = processes_below 0 4 es (omega arith);
-  values = values_small 0 es small;
-}
 
 -- with one more entry
 pub small_set : (es : List (Option ℕ)) (p : ℕ) (e : Option ℕ) → AreSmall es → IfSome e (λ x. x ≤ 255) → AreSmall (slice_set es p e)
@@ -97,14 +64,6 @@ faces_with-cons front v others =
     ∙ filter-append is_nonempty (map (λ part. front ++ part) (map (λ rest. v ∷ rest) (parts_of others))) (map (λ part. front ++ part) (parts_of others))
     ∙ ap (λ ts. filter is_nonempty ts ++ faces_with front others) (map-front front v (parts_of others))
 
--- no vertex is left
-pub faces_with-done : (front : Simplex) → 0 < length front → faces_with front [] ≡ front ∷ []
-faces_with-done front some = ap (λ t. filter is_nonempty (t ∷ [])) (append-nil front) ∙ by front some
-  where
-    by : (front : Simplex) → 0 < length front → filter is_nonempty (front ∷ []) ≡ front ∷ []
-    by [] h = absurd (omega arith)
-    by (v ∷ front) h = refl
-
 map-same : (ps : List Simplex) → map (λ part. [] ++ part) ps ≡ ps
 map-same [] = refl
 map-same (p ∷ ps) = ap (λ qs. p ∷ qs) (map-same ps)
@@ -112,10 +71,13 @@ map-same (p ∷ ps) = ap (λ qs. p ∷ qs) (map-same ps)
 pub faces_with-all : (s : Simplex) → faces_with [] s ≡ faces_of s
 faces_with-all s = ap (filter is_nonempty) (map-same (parts_of s))
 
-pub add_with_and_without : (front : Simplex) (v : Vertex) (others : Simplex) (keys middle new : List Simplex)
-    → middle ≡ with_all simplex_cmp (faces_with front others) keys → new ≡ with_all simplex_cmp (faces_with (front ++ (v ∷ [])) others) middle
-    → new ≡ with_all simplex_cmp (faces_with front (v ∷ others)) keys
-add_with_and_without front v others keys middle new h k =
-    k ∙ ap (with_all simplex_cmp (faces_with (front ++ (v ∷ [])) others)) h
-    ∙ sym (with_all-append simplex_cmp (faces_with (front ++ (v ∷ [])) others) (faces_with front others) keys)
-    ∙ ap (λ ts. with_all simplex_cmp ts keys) (sym (faces_with-cons front v others))
+-- the keys of those with the vertex, and then of those without
+pub keys_with_and_without : {A E : Type 0} (r : Result A E) (front : Simplex) (v : Vertex) (others : Simplex) (keys middle new : List ℕ)
+    → middle ≡ keys ++ map key_of (faces_with (front ++ (v ∷ [])) others) → OnOk r (new ≡ middle ++ map key_of (faces_with front others))
+    → OnOk r (new ≡ keys ++ map key_of (faces_with front (v ∷ others)))
+keys_with_and_without (Err e) front v others keys middle new h k = tt
+keys_with_and_without (Ok x) front v others keys middle new h k =
+    let with = map key_of (faces_with (front ++ (v ∷ [])) others) in
+    let without = map key_of (faces_with front others) in
+    k ∙ ap (λ ks. ks ++ without) h ∙ append_assoc keys with without
+    ∙ ap (λ ks. keys ++ ks) (sym (map-append key_of (faces_with (front ++ (v ∷ [])) others) (faces_with front others)) ∙ ap (map key_of) (sym (faces_with-cons front v others)))

@@ -1,5 +1,5 @@
 -- A simplex as a table and as a list of vertices: what the one says of the other.
-use Rattle.std.proofs.Common.{◌≡◌, ℕ, zero, suc, ◌+◌, ◌<◌, ◌≤◌, Bool, true, false, ◌&&◌, ◌==◌, List, [], ◌∷◌, length, Option, None, Some, is_some, slice_index_or, refl, sym, ap, ap₂, ◌∙◌, arith, eq-eqb, eqb-true, ne_eqb}
+use Rattle.std.proofs.Common.{◌≡◌, ℕ, zero, suc, ◌+◌, ◌<◌, ◌≤◌, Bool, true, false, ◌&&◌, ◌==◌, List, [], ◌∷◌, length, Option, None, Some, is_some, slice_index_or, refl, sym, ap, ◌∙◌, arith, eq-eqb, eqb-true, ne_eqb}
 use Rattle.std.specs.List.{list_any, list_all}
 use Rattle.std.specs.Bool.{Decides}
 use Rattle.std.specs.Option.{option_eq}
@@ -11,7 +11,7 @@ use Rattle.std.specs.declared.cmp.Ordering.TheVariants.{Less, Equal, Greater}
 use Rattle.std.proofs.Math.Bool.{or-false}
 use mir.Val.{bool_byte}
 use Rattle.wf_model.specs.Simplex.{Vertex, Simplex, same_vertex, vertex_cmp, simplex_cmp, is_face, is_nonempty, is_simplex}
-use Rattle.wf_simplex.specs.Entries.{vertices_from, value_at, entries_of, entries_of-four, is_within, entry_cmp}
+use Rattle.wf_simplex.specs.Entries.{vertices_from, value_at, entries_of, entries_of-four, is_within}
 use Rattle.wf_simplex.specs.Order.{same_simplex, same_simplex-decides}
 
 -- what holds of each table of four entries
@@ -158,6 +158,13 @@ same_by_entries es fs h k =
 
 -- ---- the order of two tables
 
+-- the entry that is there comes before one that is absent, and a smaller value before a larger one
+abbrev pub entry_cmp : Option ℕ → Option ℕ → Ordering
+entry_cmp None None = Equal
+entry_cmp None (Some y) = Greater
+entry_cmp (Some x) None = Less
+entry_cmp (Some x) (Some y) = nat_cmp x y
+
 pub entries_cmp : List (Option ℕ) → List (Option ℕ) → Ordering
 entries_cmp [] fs = Equal
 entries_cmp (e ∷ es) [] = Equal
@@ -229,15 +236,3 @@ past_end (e ∷ es) (suc p) h = past_end es p (omega arith)
 pub nonempty_of_simplex : (s : Simplex) → is_simplex s ≡ true → is_nonempty s ≡ true
 nonempty_of_simplex [] h = h
 nonempty_of_simplex (v ∷ s) h = refl
-
--- the answers of the calls of `cmp`, put together
-pub compared : (es fs : List (Option ℕ)) (s t : Simplex) → length es ≡ 4 → length fs ≡ 4 → vertices_from 0 es ≡ s → vertices_from 0 fs ≡ t →
-    (m n : ℕ) (o e f g h : Ordering) (p q r u : Ordering) → m ≡ length s → n ≡ length t → o ≡ nat_cmp m n →
-    e ≡ entry_cmp (slice_index_or es 0 None) (slice_index_or fs 0 None) → p ≡ ordering_then o e →
-    f ≡ entry_cmp (slice_index_or es 1 None) (slice_index_or fs 1 None) → q ≡ ordering_then p f →
-    g ≡ entry_cmp (slice_index_or es 2 None) (slice_index_or fs 2 None) → r ≡ ordering_then q g →
-    h ≡ entry_cmp (slice_index_or es 3 None) (slice_index_or fs 3 None) → u ≡ ordering_then r h → u ≡ simplex_cmp s t
-compared es fs s t four-s four-t s-is t-is m n o e f g h p q r u m-is n-is o-is e-is p-is f-is q-is g-is r-is h-is u-is =
-    u-is ∙ ap₂ ordering_then (r-is ∙ ap₂ ordering_then (q-is ∙ ap₂ ordering_then (p-is ∙ ap (ordering_then o) e-is) f-is) g-is) h-is
-    ∙ ordered_by_entries o es fs four-s four-t (o-is ∙ ap₂ nat_cmp (m-is ∙ ap length (sym s-is)) (n-is ∙ ap length (sym t-is)))
-    ∙ ap₂ simplex_cmp s-is t-is

@@ -1,26 +1,21 @@
 -- The faces of a simplex within some bounds are within them.
 use Rattle.std.proofs.Common.{◌≡◌, ℕ, ◌+◌, ◌<◌, ◌≤◌, true, nat_lt, List, [], ◌∷◌, length, map, All, inl, inr, refl, subst, arith, ltb-true, lt-ltb, None}
-use Rattle.std.specs.declared.cmp.Ordering.{Ordering}
-use Rattle.std.specs.declared.cmp.Ordering.TheVariants.{Less, Equal, Greater}
-use Rattle.std.specs.Ordering.{match_ordering}
 use Rattle.std.specs.List.{AllByRecursion, list_all}
 use Rattle.std.proofs.lemmas.List.Elements.{All-nil, All-cons, All-head, All-tail, All-from_recursion}
-use Rattle.wf_model.specs.Lists.{with_element}
 use Rattle.wf_model.specs.Simplex.{Simplex, processes_of, values_of, is_ascending, is_nonempty, parts_of, faces_of, complex_of}
 use Rattle.wf_model.specs.Task.{IsSimplexWithin}
-use Rattle.wf_simplex.specs.Faces.{with_all}
-use Rattle.wf_simplex.proofs.Orders.{Has, has-append, length-with_element}
+use Rattle.wf_simplex.proofs.Orders.{Has, has-append}
 use Rattle.wf_simplex.proofs.Faces.{has-filter, of_some_facet, begins}
 use Rattle.wf_simplex.specs.Reading.{read_fault}
 use Rattle.std.proofs.lemmas.Bool.{and_from, and_parts}
 use Rattle.wf_simplex.proofs.Reading.{no_fault}
 
 -- processes from m on, below n and ascending, with values of at most the largest
-Climbs : ℕ → ℕ → ℕ → Simplex → Type 0
+unfoldable pub Climbs : ℕ → ℕ → ℕ → Simplex → Type 0
 Climbs n largest m [] = Unit {0}
 Climbs n largest m (v ∷ s) = (m ≤ v.0) × (v.0 < n) × (v.1 ≤ largest) × Climbs n largest (v.0 + 1) s
 
-climbs_lower : (n largest m k : ℕ) (s : Simplex) → k ≤ m → Climbs n largest m s → Climbs n largest k s
+pub climbs_lower : (n largest m k : ℕ) (s : Simplex) → k ≤ m → Climbs n largest m s → Climbs n largest k s
 unfolding Climbs
 climbs_lower n largest m k [] low h = tt
 climbs_lower n largest m k (v ∷ s) low h = let first : k ≤ v.0 = omega (arith, h.0, low) in (first, h.1, h.2, h.3)
@@ -86,7 +81,7 @@ climbs_from n largest m (v ∷ s) up below small low = (
 all_from_none : (s : Simplex) → All (λ p. 0 ≤ p) (processes_of s)
 all_from_none s = λ k d h. omega arith
 
-climbs : (n largest : ℕ) (s : Simplex) → IsSimplexWithin n largest s → Climbs n largest 0 s
+pub climbs : (n largest : ℕ) (s : Simplex) → IsSimplexWithin n largest s → Climbs n largest 0 s
 climbs n largest s h = climbs_from n largest 0 s (and_parts (is_nonempty s) (is_ascending (processes_of s)) h.is_simplex).1 h.processes h.values (all_from_none s)
 
 -- a face of a simplex within some bounds is within them
@@ -112,25 +107,6 @@ complex_within n largest facets h =
 
 pub faces_within : (n largest : ℕ) (s : Simplex) → IsSimplexWithin n largest s → All (IsSimplexWithin n largest) (faces_of s)
 faces_within n largest s h = all_of_has (IsSimplexWithin n largest) (faces_of s) (λ t here. face_within n largest s t h here)
-
--- ---- one list put into another
-
-pub all-with_all : {X : Type 0} (cmp : X → X → Ordering) (P : X → Type 0) (xs ys : List X) → All P xs → All P ys → All P (with_all cmp xs ys)
-all-with_all cmp P [] ys h g = g
-all-with_all cmp P (x ∷ xs) ys h g = all-with_element cmp P x (with_all cmp xs ys) (All-head P x xs h) (all-with_all cmp P xs ys (All-tail P x xs h) g)
-  where
-    all-with_element : {X : Type 0} (cmp : X → X → Ordering) (P : X → Type 0) (x : X) (ys : List X) → P x → All P ys → All P (with_element cmp x ys)
-    all-with_element cmp P x [] h g = All-cons P x [] h g
-    all-with_element {X = X} cmp P x (y ∷ ys) h g = by (all-with_element cmp P x ys h (All-tail P y ys g)) (cmp x y)
-      where
-        by : All P (with_element cmp x ys) → (o : Ordering) → All P (match_ordering o (x ∷ y ∷ ys) (y ∷ ys) (y ∷ with_element cmp x ys))
-        by deeper Less = All-cons P x (y ∷ ys) h g
-        by deeper Equal = g
-        by deeper Greater = All-cons P y (with_element cmp x ys) (All-head P y ys g) deeper
-
-pub length-with_all : {X : Type 0} (cmp : X → X → Ordering) (xs ys : List X) → length (with_all cmp xs ys) ≤ length xs + length ys
-length-with_all cmp [] ys = omega arith
-length-with_all cmp (x ∷ xs) ys = omega (arith, length-with_element cmp x (with_all cmp xs ys), length-with_all cmp xs ys)
 
 -- ---- how many vertices, and no fault
 

@@ -1,8 +1,5 @@
 -- A simplex kept as a table: for each process from 0 on its value, if it takes part.
 use Rattle.std.specs.Prelude.{ℕ, ◌+◌, List, [], ◌∷◌, Option, None, Some, nat_lt, nat_le, ◌==◌, ◌&&◌, if◌then◌else◌, Bool, true, false}
-use Rattle.std.specs.declared.cmp.Ordering.{Ordering}
-use Rattle.std.specs.declared.cmp.Ordering.TheVariants.{Less, Equal, Greater}
-use Rattle.std.specs.Ordering.{nat_cmp}
 use Rattle.std.proofs.Common.{◌≡◌, length, refl, arith}
 use Rattle.wf_model.specs.Simplex.{Simplex}
 
@@ -53,13 +50,6 @@ abbrev pub is_within : Option ℕ → Option ℕ → Bool
 is_within None f = true
 is_within (Some x) None = false
 is_within (Some x) (Some y) = x == y
-
--- the entry that is there comes before one that is absent, and a smaller value before a larger one
-abbrev pub entry_cmp : Option ℕ → Option ℕ → Ordering
-entry_cmp None None = Equal
-entry_cmp None (Some y) = Greater
-entry_cmp (Some x) None = Less
-entry_cmp (Some x) (Some y) = nat_cmp x y
 
 -- processes strictly ascending, from m on and at most 3
 abbrev pub ascends_from : ℕ → Simplex → Bool

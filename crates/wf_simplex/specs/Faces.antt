@@ -1,8 +1,6 @@
 -- Complexes: what each one has, and their faces one after another.
-use Rattle.std.specs.Prelude.{◌≡◌, ℕ, ◌<◌, ◌≤◌, ◌^◌, List, [], ◌∷◌, ◌++◌, length, map, filter, All, Option, None, slice_index_or, IfSome}
-use Rattle.std.specs.declared.cmp.Ordering.{Ordering}
+use Rattle.std.specs.Prelude.{◌≡◌, ℕ, ◌<◌, ◌≤◌, ◌^◌, List, ◌++◌, length, map, filter, All, Option, None, slice_index_or, IfSome}
 use Rattle.std.specs.List.Sorted.{IsStrictlySortedBy}
-use Rattle.wf_model.specs.Lists.{with_element}
 use Rattle.wf_model.specs.Simplex.{Simplex, is_nonempty, parts_of, simplex_cmp, complex_of}
 use Rattle.wf_model.specs.Task.{IsTaskSimplex}
 
@@ -12,11 +10,6 @@ pub record IsComplex (simplices : List Simplex) : Type 0 where
   pub closed : complex_of simplices ≡ simplices
   pub within : All IsTaskSimplex simplices
   pub countable : length simplices < 2 ^ 32
-
--- the elements of the first list put into the second, the last first
-abbrev pub with_all : {X : Type 0} → (X → X → Ordering) → List X → List X → List X
-with_all cmp [] ys = ys
-with_all cmp (x ∷ xs) ys = with_element cmp x (with_all cmp xs ys)
 
 -- the faces that have all of the first vertices and some of the others
 abbrev pub faces_with : Simplex → Simplex → List Simplex

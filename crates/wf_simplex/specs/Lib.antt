@@ -6,3 +6,4 @@ pub mod Faces
 -- What only this crate's own code and proofs use.
 pub mod WordTable
 pub mod FaultText
+pub mod Keys

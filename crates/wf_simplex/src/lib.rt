@@ -7,6 +7,7 @@
 #![tactic(auto)]
 
 pub mod complex;
+mod keys;
 pub mod simplex;
 pub mod word;
 

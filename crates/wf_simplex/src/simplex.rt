@@ -1,15 +1,16 @@
 //! Simplices: vertices of different processes.
 
-ghost use Rattle.std.specs.Prelude.{◌≡◌, ℕ, ◌<◌, ◌≤◌, List, length, None, Some, MatchResult, OnOk, slice_index, slice_index_or, drop};
+ghost use Rattle.std.specs.Prelude.{◌≡◌, ℕ, ◌<◌, ◌≤◌, ◌++◌, map, List, length, None, Some, MatchResult, OnOk, slice_index, slice_index_or, drop};
 ghost use Rattle.wf_model.specs.Simplex.{processes_of, faces_of, is_face, simplex_cmp};
 ghost use Rattle.wf_model.specs.Task.{IsTaskSimplex};
-ghost use Rattle.wf_simplex.specs.Faces.{with_all, faces_with, AreSmall};
-ghost use Rattle.wf_simplex.specs.Entries.{vertices_from, value_at, entry_cmp, is_within};
+ghost use Rattle.wf_simplex.specs.Faces.{faces_with};
+ghost use Rattle.wf_simplex.specs.Entries.{vertices_from, value_at, is_within};
+ghost use Rattle.wf_simplex.specs.Keys.{key_of, IsKey};
 ghost use Rattle.wf_simplex.specs.Reading.{read_fault};
 
+use crate::keys::{entries, key};
 use std::alloc::AllocError;
 use std::cmp::Ordering;
-use std::collections::BTreeSet;
 use std::fmt;
 use std::marker::Model;
 
@@ -135,14 +136,24 @@ impl Simplex {
         is_within(a, e) & is_within(b, f) & is_within(c, g) & is_within(d, h)
     }
 
-    /// Adds all faces.
-    pub(crate) fn add_faces(&self, faces: &mut BTreeSet<Simplex>) -> Result<(), AllocError>
-        ensures added { OnOk result (faces.new.keys
-            ≡ with_all simplex_cmp (faces_of self.now) faces.old.keys) }
+    /// Adds the key of each face.
+    pub(crate) fn add_keys(&self, keys: &mut Vec<u64>) -> Result<(), AllocError>
+        ensures added { OnOk result (keys.new.items
+            ≡ keys.old.items ++ map key_of (faces_of self.now)) }
         ensures simplex { IsTaskSimplex self.now }
-        ensures few { length self.now ≤ 4 }
     {
-        add_faces(faces, self.values, [None; 4], 0)
+        add_keys(keys, self.values, [None; 4], 0)
+    }
+
+    /// The simplex of a key.
+    pub(crate) fn of_key(key: u64) -> Simplex
+        requires { IsKey key }
+        ensures key { key_of result ≡ key }
+        ensures simplex { IsTaskSimplex result }
+    {
+        Simplex {
+            values: entries(key),
+        }
     }
 }
 
@@ -155,42 +166,38 @@ fn entry(value: u8) -> Option<u8>
 }
 
 /// How many entries are there.
-fn count(values: [Option<u8>; 4]) -> u8
+pub(crate) fn count(values: [Option<u8>; 4]) -> u8
     ensures { result ≡ length (vertices_from 0 values) }
 {
     let [a, b, c, d] = values;
     u8::from(a.is_some()) + u8::from(b.is_some()) + u8::from(c.is_some()) + u8::from(d.is_some())
 }
 
-/// Adds the faces that have the chosen entries, and of the others some of the facet's.
-fn add_faces(
-    faces: &mut BTreeSet<Simplex>,
+/// Adds the keys of the faces that have the chosen entries, and of the others some of the facet's.
+fn add_keys(
+    keys: &mut Vec<u64>,
     facet: [Option<u8>; 4],
     chosen: [Option<u8>; 4],
     from: usize,
 ) -> Result<(), AllocError>
     requires place { from ≤ 4 }
     requires blank { (k : ℕ) → from ≤ k → slice_index_or chosen k None ≡ None }
-    requires small { AreSmall chosen }
-    requires small_facet { AreSmall facet }
-    ensures { OnOk result (faces.new.keys
-        ≡ with_all simplex_cmp
-        (faces_with (vertices_from 0 chosen) (vertices_from from (drop from facet)))
-        faces.old.keys) }
+    ensures { OnOk result (keys.new.items ≡ keys.old.items ++ map key_of
+        (faces_with (vertices_from 0 chosen) (vertices_from from (drop from facet)))) }
 {
     if from == 4 {
         if count(chosen) > 0 {
-            faces.insert(Simplex { values: chosen })?;
+            keys.push(key(chosen))?;
         }
         return Ok(());
     }
-    add_faces(faces, facet, chosen, from + 1)?;
-    if facet[from].is_some() {
-        let mut longer = chosen;
-        longer[from] = facet[from];
-        add_faces(faces, facet, longer, from + 1)?;
+    if facet[from].is_none() {
+        return add_keys(keys, facet, chosen, from + 1);
     }
-    Ok(())
+    let mut longer = chosen;
+    longer[from] = facet[from];
+    add_keys(keys, facet, longer, from + 1)?;
+    add_keys(keys, facet, chosen, from + 1)
 }
 
 /// Whether the first entry is absent or the same as the second.
@@ -201,19 +208,6 @@ fn is_within(entry: Option<u8>, other: Option<u8>) -> bool
         (None, _) => true,
         (Some(_), None) => false,
         (Some(x), Some(y)) => x == y,
-    }
-}
-
-/// How two entries of one process order their simplices: of two simplices of one size the one in
-/// which the process takes part comes first, since the other's next process is a later one.
-fn entry_cmp(entry: Option<u8>, other: Option<u8>) -> Ordering
-    ensures { result ≡ entry_cmp entry other }
-{
-    match (entry, other) {
-        (None, None) => Ordering::Equal,
-        (None, Some(_)) => Ordering::Greater,
-        (Some(_), None) => Ordering::Less,
-        (Some(x), Some(y)) => x.cmp(&y),
     }
 }
 
@@ -249,14 +243,7 @@ impl Ord for Simplex {
     ghost matches_eq = { same_simplex-ties };
 
     fn cmp(&self, other: &Simplex) -> Ordering {
-        let [a, b, c, d] = self.values;
-        let [e, f, g, h] = other.values;
-        self.colours()
-            .cmp(&other.colours())
-            .then(entry_cmp(a, e))
-            .then(entry_cmp(b, f))
-            .then(entry_cmp(c, g))
-            .then(entry_cmp(d, h))
+        key(self.values).cmp(&key(other.values))
     }
 }
 

@@ -21,7 +21,7 @@ use Rattle.wf_model.proofs.Fuel.{length_filter}
 use Rattle.wf_model.proofs.Tasks.{inputs_within, outputs_within, inputs_are}
 use Rattle.wf_simplex.specs.Faces.{IsComplex}
 use Rattle.wf_simplex.specs.Order.{same_simplex, same_simplex-decides, simplex_cmp-total}
-use Rattle.wf_simplex.proofs.Lemmas.{Has, has-filter, complex_of-sorted, has_of_all, all_of_has, length-within}
+use Rattle.wf_simplex.proofs.Lemmas.{Has, has-filter, complex_of-sorted, has_of_all, all_of_has, length-within, contains-has, map-has, has-map}
 use Rattle.wf_task.specs.declared.fault.TaskFault.{TaskFault}
 use Rattle.wf_task.specs.Shape.{each, whole_of, pair_of, simplex_of, tuples_of, rule_of, entry_of, list_of}
 use Rattle.wf_task.specs.Draft.{Listed, ◌>>=◌, draft_of}
@@ -35,7 +35,7 @@ use Rattle.wf_task.proofs.Drafted.{within_more}
 use Rattle.wf_task.proofs.Lengths.{HasShortParts, simplex-long, tuple-long as tuple-short, rule-long, task-long, task-deep}
 use Rattle.wf_task.proofs.Faceted.{complex_of-facets}
 use Rattle.wf_task.proofs.Facets.{any-has}
-use Rattle.wf_task.proofs.Listings.{contains-has, map-has, has-map, each_has}
+use Rattle.wf_task.proofs.Listings.{each_has}
 use Rattle.wf_model.proofs.Basics.{suc_not_zero}
 use Rattle.wf_model.proofs.WellFormed.{values_of_zip}
 

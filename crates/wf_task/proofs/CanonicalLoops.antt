@@ -10,7 +10,7 @@ use Rattle.serde_json.specs.Data.{Data}
 use Rattle.wf_model.specs.Simplex.{Simplex, Vertex, processes_of, values_of, complex_of}
 use Rattle.wf_model.specs.Task.{Tuple, IsSimplexWithin}
 use Rattle.wf_simplex.specs.Faces.{IsComplex}
-use Rattle.wf_simplex.proofs.Lemmas.{Has, has_at_place, face_within, length-within}
+use Rattle.wf_simplex.proofs.Lemmas.{Has, has_at_place, face_within, length-within, contains-has}
 use Rattle.wf_task.specs.Borders.{borders_if, borders_of, place_before}
 use Rattle.wf_task.specs.Canonical.{is_inner, facets, HasFewFacets, list_data, simplex_data, rule_data, keyed, task_data}
 use Rattle.wf_task.specs.Shape.{rule_of}
@@ -18,7 +18,6 @@ use Rattle.wf_task.specs.TaskSeen.{rules_seen, task_with_block}
 use Rattle.wf_model.proofs.Fuel.{length_filter}
 use Rattle.wf_task.proofs.OneMore.{filter-passes, filter-fails}
 use Rattle.wf_task.proofs.Faceted.{inner-border, border-inner, length-complex, within-complex, removed-part}
-use Rattle.wf_task.proofs.Listings.{contains-has}
 use Rattle.wf_task.proofs.Images.{nonempty-long, part-face}
 use Rattle.wf_task.proofs.TaskSeen.{inputs-rules_seen}
 

@@ -9,9 +9,9 @@ use Rattle.std.specs.Cmp.{nat_cmp_total, tied_itself}
 use Rattle.std.specs.Cmp.Lexicographic.{slice_cmp}
 use Rattle.wf_model.specs.Lists.{below}
 use Rattle.wf_model.specs.Simplex.{Simplex, processes_of, parts_of, vertex_cmp, simplex_cmp}
-use Rattle.wf_simplex.proofs.Lemmas.{Has, has-append, has-append_left, has-append_right, begins}
+use Rattle.wf_simplex.proofs.Lemmas.{Has, has-append, has-append_left, has-append_right, begins, map-has}
 use Rattle.std.proofs.lemmas.List.FromFn.{length-range_with_len}
-use Rattle.wf_task.proofs.Listings.{map-has, has-below, sorted-below, length-among}
+use Rattle.wf_task.proofs.Listings.{has-below, sorted-below, length-among}
 use Rattle.wf_task.proofs.Differing.{Differ, has_or_not}
 use Rattle.wf_task.proofs.Facets.{length-part}
 

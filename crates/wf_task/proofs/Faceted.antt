@@ -10,9 +10,9 @@ use Rattle.wf_model.specs.Task.{IsSimplexWithin}
 use Rattle.wf_model.proofs.Ascending.{Ascends, ascends_from}
 use Rattle.wf_simplex.specs.Faces.{IsComplex}
 use Rattle.wf_simplex.specs.Order.{simplex_cmp-total}
-use Rattle.wf_simplex.proofs.Lemmas.{Has, has-append, length-in_order, begins, has-filter, filter-has, has-flat_map, flat_map-has, of_some_facet, is_in_complex, complex_of-sorted, part_of_part, length-faces_of, has_of_all, length-within}
+use Rattle.wf_simplex.proofs.Lemmas.{Has, has-append, length-in_order, begins, has-filter, filter-has, has-flat_map, flat_map-has, of_some_facet, is_in_complex, complex_of-sorted, part_of_part, length-faces_of, has_of_all, length-within, has-map, map-has}
 use Rattle.wf_task.specs.Borders.{borders_if, borders_of}
-use Rattle.wf_task.proofs.Listings.{has-map, map-has, has-below, below-has, length-among, each_has}
+use Rattle.wf_task.proofs.Listings.{has-below, below-has, length-among, each_has}
 use Rattle.wf_task.specs.Canonical.{is_inner, facets}
 use Rattle.wf_task.proofs.Facets.{length-part, whole-part, part-is_face, any-has, has-any}
 use Rattle.wf_task.proofs.Extending.{with_first, without_first, no_part}

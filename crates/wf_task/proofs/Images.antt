@@ -3,8 +3,7 @@ use Rattle.std.proofs.Common.{◌≡◌, ◌<◌, true, List, [], ◌∷◌, len
 use Rattle.wf_model.specs.Simplex.{Simplex, processes_of, is_nonempty, parts_of, faces_of, simplex_cmp, complex_of}
 use Rattle.wf_model.specs.Task.{Tuple}
 use Rattle.wf_simplex.specs.Order.{simplex_cmp-total, simplex_cmp-Equal}
-use Rattle.wf_simplex.proofs.Lemmas.{Has, same_in_order, filter-has, has-flat_map, flat_map-has, whole_is_part, is_in_complex, of_some_facet, complex_closed, complex_of-sorted}
-use Rattle.wf_task.proofs.Listings.{map-has, has-map}
+use Rattle.wf_simplex.proofs.Lemmas.{Has, same_in_order, filter-has, has-flat_map, flat_map-has, whole_is_part, is_in_complex, of_some_facet, complex_closed, complex_of-sorted, map-has, has-map}
 
 pub nonempty-long : {X : Type 0} (s : List X) → 0 < length s → is_nonempty s ≡ true
 nonempty-long [] h = absurd (let none : ⊥ = omega (arith, h) in none)

@@ -1,5 +1,5 @@
 -- Lists of so many elements: how many, in which order, and which.
-use Rattle.std.proofs.Common.{Contains, ◌≡◌, ℕ, zero, suc, ◌+◌, ◌*◌, ◌/◌, ◌%◌, ◌^◌, ◌<◌, ◌≤◌, Bool, true, false, List, [], ◌∷◌, ◌++◌, length, map, flat_map, take, get_or, nat_lt, inl, inr, refl, sym, ap, ◌∙◌, subst, arith, ltb-true, length-append}
+use Rattle.std.proofs.Common.{◌≡◌, ℕ, zero, suc, ◌+◌, ◌*◌, ◌/◌, ◌%◌, ◌^◌, ◌<◌, ◌≤◌, Bool, true, false, List, [], ◌∷◌, ◌++◌, length, map, flat_map, take, get_or, nat_lt, inl, inr, refl, sym, ap, ◌∙◌, subst, arith, ltb-true, length-append}
 use Rattle.std.specs.List.{AllByRecursion, range_with_len}
 use Rattle.std.specs.List.Sorted.{IsStrictlySortedBy}
 use Rattle.std.specs.declared.cmp.Ordering.{Ordering}
@@ -13,7 +13,7 @@ use Rattle.std.proofs.lemmas.List.Concat.{get_or-flat_map}
 use Rattle.wf_model.specs.Lists.{below, lists_of}
 use Rattle.wf_model.proofs.Bridge.{weaker}
 use Rattle.wf_model.proofs.Headline.{each_append, each_map, each_flat, always}
-use Rattle.wf_simplex.proofs.Lemmas.{Has, begins, has-flat_map, flat_map-has}
+use Rattle.wf_simplex.proofs.Lemmas.{Has, begins, has-flat_map, flat_map-has, map-has}
 use Rattle.wf_model.proofs.Basics.{nat_cmp-Less}
 
 -- ---- how many
@@ -118,16 +118,6 @@ sorted-below n = sorted-range 0 n
 
 -- ---- which
 
-pub map-has : {X Y : Type 0} (f : X → Y) (x : X) (xs : List X) → Has x xs → Has (f x) (map f xs)
-map-has f x [] h = absurd h
-map-has f x (y ∷ ys) (inl e) = inl (ap f e)
-map-has f x (y ∷ ys) (inr h) = inr (map-has f x ys h)
-
-pub has-map : {X Y : Type 0} (f : X → Y) (y : Y) (xs : List X) → Has y (map f xs) → (x : X) × Has x xs × (f x ≡ y)
-has-map f y [] h = absurd h
-has-map f y (x ∷ xs) (inl e) = (x, inl refl, e)
-has-map f y (x ∷ xs) (inr h) = let r = has-map f y xs h in (r.0, inr r.1, r.2)
-
 pub has-lists_of : {X : Type 0} (t xs : List X) (n : ℕ) → Has t (lists_of xs n) → (length t ≡ n) × AllByRecursion (λ x. Has x xs) t
 has-lists_of {X} t xs zero (inl e) = subst (λ (u : List X). (length u ≡ 0) × AllByRecursion (λ x. Has x xs) u) e (refl, tt)
 has-lists_of t xs zero (inr h) = absurd h
@@ -198,13 +188,3 @@ module _ {X : Type 0} (cmp : X → X → Ordering) (o : IsTotalOrder cmp) where
       apart : (z : X) → Has z xs → z ≡ x → ⊥
       apart z g e = let less : cmp x x ≡ Less = subst (λ w. cmp x w ≡ Less) e (each_has (λ w. cmp x w ≡ Less) z xs h.0 g) in
           let same : Less ≡ Equal = sym less ∙ tied_itself o x in cc
-
--- ---- what a list contains
-
-pub contains-has : {X : Type 0} (x : X) (xs : List X) → Contains xs x → Has x xs
-contains-has {X} x xs h = at xs h.0 h.1 h.2
-  where
-    at : (ys : List X) (k : ℕ) → k < length ys → get_or ys k x ≡ x → Has x ys
-    at [] k low is = absurd (let none : ⊥ = omega (arith, low) in none)
-    at (y ∷ ys) zero low is = inl is
-    at (y ∷ ys) (suc k) low is = inr (at ys k (omega (arith, low)) is)

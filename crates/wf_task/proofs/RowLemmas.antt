@@ -1,20 +1,22 @@
 -- Rows in order, and values as bits.
-use Rattle.std.proofs.Common.{◌≡◌, ℕ, zero, suc, ◌+◌, ◌<◌, ◌==◌, ◌||◌, Bool, true, false, List, [], ◌∷◌, ◌++◌, length, map, take, get_or, Some, Vec, Global, slice_index_or, inl, inr, refl, sym, ap, ◌∙◌, subst, arith, eqb-true, eq-eqb}
+use Rattle.std.proofs.Common.{◌≡◌, ℕ, zero, suc, ◌+◌, ◌<◌, ◌≤◌, ◌==◌, ◌||◌, Bool, true, false, List, [], ◌∷◌, ◌++◌, length, map, take, get_or, Some, Vec, Global, slice_index_or, take_all, nat_eq, inl, inr, refl, sym, ap, ◌∙◌, subst, arith, eqb-true, eq-eqb}
 use Rattle.std.specs.declared.cmp.Ordering.TheVariants.{Equal}
 use Rattle.std.specs.Ordering.{nat_cmp}
-use Rattle.std.specs.Cmp.Lexicographic.{slice_cmp, nat_list_cmp_total}
+use Rattle.std.specs.Cmp.Lexicographic.{slice_cmp, pointwise, nat_list_cmp_total, texts_ties}
+use Rattle.std.proofs.lemmas.Cmp.{nat_list_eq_equiv}
+use Rattle.std.specs.List.Retain.{IsFiltered, DiffersFromLast}
+use Rattle.std.specs.List.Sorted.{IsPermutation, IsSorted}
 use Rattle.std.specs.List.{AllByRecursion}
-use Rattle.std.specs.BTreeSet.{insert_key}
 use Rattle.std.proofs.lemmas.Bool.{cases_Bool, and_parts}
 use Rattle.std.proofs.lemmas.List.{take_more, map-append, length-map}
 use Rattle.std.proofs.lemmas.List.Folds.{list_any-append}
-use Rattle.wf_model.specs.Lists.{has, in_order, with_element}
+use Rattle.wf_model.specs.Lists.{has, in_order}
 use Rattle.wf_model.specs.Simplex.{Simplex, processes_of, values_of, is_nonempty, is_ascending}
 use Rattle.wf_model.specs.Task.{Tuple, IsSimplexWithin}
 use Rattle.wf_model.proofs.Ascending.{Ascends, ascends_from}
 use Rattle.wf_simplex.specs.Entries.{value_at}
 use Rattle.wf_simplex.specs.Order.{nat_cmp-Equal, slice_cmp-Equal}
-use Rattle.wf_simplex.proofs.Lemmas.{Has, has-append, has-append_left, has-append_right, insert_key-with_element, in_order-same}
+use Rattle.wf_simplex.proofs.Lemmas.{in_order-dedup}
 use Rattle.wf_set.specs.Sets.{values_in}
 use Rattle.wf_task.specs.Mask.{HasMore, IsMaskOf}
 use Rattle.wf_model.proofs.Basics.{or_none}
@@ -24,27 +26,19 @@ use Rattle.wf_model.proofs.Basics.{or_none}
 pub tuple_cmp-Equal : (s t : Tuple) → slice_cmp nat_cmp s t ≡ Equal → s ≡ t
 tuple_cmp-Equal = slice_cmp-Equal nat_cmp nat_cmp-Equal
 
--- one more at the end
-in_order-more : (ts : List Tuple) (t : Tuple) → with_element (slice_cmp nat_cmp) t (in_order (slice_cmp nat_cmp) ts) ≡ in_order (slice_cmp nat_cmp) (ts ++ (t ∷ []))
-in_order-more ts t =
-    in_order-same (slice_cmp nat_cmp) nat_list_cmp_total tuple_cmp-Equal (t ∷ ts) (ts ++ (t ∷ [])) forth back
-  where
-    forth : (u : Tuple) → Has u (t ∷ ts) → Has u (ts ++ (t ∷ []))
-    forth u (inl e) = has-append_right u ts (t ∷ []) (inl e)
-    forth u (inr h) = has-append_left u ts (t ∷ []) h
-
-    back : (u : Tuple) → Has u (ts ++ (t ∷ [])) → Has u (t ∷ ts)
-    back u h = elim (has-append u ts (t ∷ []) h) [ inl old ↦ inr old | inr new ↦ elim new [ inl e ↦ inl e | inr none ↦ absurd none ] ]
-
-pub row_more : (keys new : List Tuple) (lists : List (Vec ℕ Global)) (i : ℕ) (list : Vec ℕ Global) (row : Tuple) → i < length lists → list ≡ slice_index_or lists i list → row ≡ list.items
-    → keys ≡ in_order (slice_cmp nat_cmp) (map (λ t. t.items) (take i lists)) → new ≡ insert_key (slice_cmp nat_cmp) keys row
-    → new ≡ in_order (slice_cmp nat_cmp) (map (λ t. t.items) (take (i + 1) lists))
-row_more keys new lists i list row inside is same so_far next =
+-- one more list
+pub row_more : (rows new : List Tuple) (lists : List (Vec ℕ Global)) (i : ℕ) (list : Vec ℕ Global) (row : Tuple) → i < length lists → list ≡ slice_index_or lists i list → row ≡ list.items
+    → rows ≡ map (λ t. t.items) (take i lists) → new ≡ rows ++ (row ∷ []) → new ≡ map (λ t. t.items) (take (i + 1) lists)
+row_more rows new lists i list row inside is same so_far next =
     let longer = ap (map (λ t. t.items)) (take_more lists i list inside ∙ ap (λ l. take i lists ++ (l ∷ [])) (sym is)) ∙ map-append (λ t. t.items) (take i lists) (list ∷ []) in
-    next ∙ insert_key-with_element (slice_cmp nat_cmp) row keys
-    ∙ (λ j. with_element (slice_cmp nat_cmp) (same j) (so_far j))
-    ∙ in_order-more (map (λ t. t.items) (take i lists)) list.items
-    ∙ ap (in_order (slice_cmp nat_cmp)) (sym longer)
+    next ∙ (λ j. so_far j ++ (same j ∷ [])) ∙ sym longer
+
+pub rows_sorted : (lists : List (Vec ℕ Global)) (i : ℕ) (rows sorted once : List Tuple) → length lists ≤ i → rows ≡ map (λ t. t.items) (take i lists)
+    → IsPermutation rows sorted → IsSorted (slice_cmp nat_cmp) sorted → IsFiltered (DiffersFromLast (pointwise nat_eq)) [] sorted once
+    → once ≡ in_order (slice_cmp nat_cmp) (map (λ t. t.items) lists)
+rows_sorted lists i rows sorted once whole are moved ascend filtered =
+    in_order-dedup (slice_cmp nat_cmp) nat_list_cmp_total tuple_cmp-Equal nat_list_eq_equiv texts_ties rows sorted once moved ascend filtered
+    ∙ ap (in_order (slice_cmp nat_cmp)) (are ∙ ap (map (λ t. t.items)) (take_all i lists whole))
 
 -- ---- the value of a process
 

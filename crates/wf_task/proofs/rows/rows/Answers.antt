@@ -1,7 +1,7 @@
 use Rattle.std.proofs.Common.{sym, ◌∙◌, subst}
 use Rattle.wf_task.specs.Tuples.{IsRow}
 use Rattle.wf_task.proofs.TupleLemmas.{seen_here}
-use Rattle.wf_task.proofs.RowLemmas.{row_more}
+use Rattle.wf_task.proofs.RowLemmas.{row_more, rows_sorted}
 use Rattle.wf_task.proofs.rows.rows.Goals as goal
 
 pub row_of-requires : goal.row_of-requires
@@ -10,5 +10,10 @@ row_of-requires c =
 
 pub loop-list-preserved : goal.loop-list-preserved
 loop-list-preserved c =
-    row_more c.loop-list.rows.keys c.insert.new.self.keys c.args.lists.now c.loop-list.list-index c.list-item.result c.row_of.result
-    c.loop-list-test.true c.list-item.is (c.row_of.ensures ∙ c.deref.ensures.value) c.loop-list.invariant c.in_ok-insert.ensures.keys
+    row_more c.loop-list.rows.items c.push.new.self.items c.args.lists.now c.loop-list.list-index c.list-item.result c.row_of.result
+    c.loop-list-test.true c.list-item.is (c.row_of.ensures ∙ c.deref.ensures.value) c.loop-list.invariant c.in_ok-push.ensures.items
+
+pub returns : goal.returns
+returns c =
+    rows_sorted c.args.lists.now c.loop-list.list-index _ _ _ c.loop-list-test.false c.loop-list.invariant
+    c.sort_unstable.ensures.permutation c.sort_unstable.ensures.sorted c.dedup.ensures.filtered

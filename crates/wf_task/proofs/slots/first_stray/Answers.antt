@@ -1,4 +1,4 @@
-use Rattle.std.proofs.Common.{true, Contains, sym, ◌∙◌, subst}
+use Rattle.std.proofs.Common.{Contains, sym, ◌∙◌, subst}
 use Rattle.wf_model.specs.Task.{IsSimplexWithin}
 use Rattle.wf_task.proofs.EntrySlots.{entry_within, stray_here, not_both}
 use Rattle.wf_task.proofs.slots.first_stray.Goals as goal

@@ -1,4 +1,4 @@
-use Rattle.std.proofs.Common.{true, Contains, length, zip, not, ap, sym, ◌∙◌, subst}
+use Rattle.std.proofs.Common.{Contains, length, zip, not, ap, sym, ◌∙◌, subst}
 use Rattle.wf_model.specs.Simplex.{processes_of}
 use Rattle.wf_task.specs.Judge.{is_among}
 use Rattle.wf_task.specs.Tuples.{IsTupleOf}

@@ -1,9 +1,11 @@
-use Rattle.wf_simplex.proofs.Tables.{compared}
+use Rattle.std.proofs.Common.{ap₂, ◌∙◌}
+use Rattle.std.specs.Ordering.{nat_cmp}
+use Rattle.wf_model.specs.Simplex.{simplex_cmp}
+use Rattle.wf_simplex.proofs.KeyLemmas.{keys_compared}
 use Rattle.wf_simplex.proofs.simplex.SimplexOrd.cmp.Goals as goal
 
 pub returns : goal.returns
 returns c =
-    compared c.self.inside.values c.other.inside.values _ _ c.self.invariant.0 c.other.invariant.0 c.self.view_is c.other.view_is
-    _ _ _ _ _ _ _ _ _ _ _ c.colours.ensures.count c.colours-2.ensures.count c.cmp.ensures
-    c.entry_cmp.ensures c.then.ensures c.entry_cmp-2.ensures c.then-2.ensures
-    c.entry_cmp-3.ensures c.then-3.ensures c.entry_cmp-4.ensures c.then-4.ensures
+    c.cmp.ensures ∙ ap₂ nat_cmp c.key.ensures c.key-2.ensures
+    ∙ keys_compared _ _ c.self.invariant.1 c.other.invariant.1
+    ∙ ap₂ simplex_cmp c.self.view_is c.other.view_is
