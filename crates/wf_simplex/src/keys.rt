@@ -2,9 +2,15 @@
 
 ghost use Rattle.std.specs.Prelude.{◌≡◌, ◌≤◌};
 ghost use Rattle.wf_simplex.specs.Entries.{vertices_from};
-ghost use Rattle.wf_simplex.specs.Keys.{digit_of, key_of, entry_of, entries_from};
+ghost use Rattle.wf_simplex.specs.Keys.{absent, digit_of, key_of, entry_of, entries_from};
 
 use crate::simplex::count;
+
+/// How many digits there are: a power of two above that of an absent entry.
+const DIGITS: u64 = 512;
+
+/// The digit of an absent entry: one more than the largest value.
+const ABSENT: u64 = 256;
 
 /// The key of a table: its size, and a digit for each process.
 pub(crate) fn key(values: [Option<u8>; 4]) -> u64
@@ -12,24 +18,24 @@ pub(crate) fn key(values: [Option<u8>; 4]) -> u64
 {
     let [a, b, c, d] = values;
     let size = u64::from(count(values));
-    let first = size * 512 + digit(a);
-    let second = first * 512 + digit(b);
-    let third = second * 512 + digit(c);
-    third * 512 + digit(d)
+    let first = size * DIGITS + digit(a);
+    let second = first * DIGITS + digit(b);
+    let third = second * DIGITS + digit(c);
+    third * DIGITS + digit(d)
 }
 
 /// The table of a key.
 pub(crate) fn entries(key: u64) -> [Option<u8>; 4]
     ensures { result ≡ entries_from key }
 {
-    let third = key / 512;
-    let second = third / 512;
-    let first = second / 512;
+    let third = key / DIGITS;
+    let second = third / DIGITS;
+    let first = second / DIGITS;
     [
-        entry(first % 512),
-        entry(second % 512),
-        entry(third % 512),
-        entry(key % 512),
+        entry(first % DIGITS),
+        entry(second % DIGITS),
+        entry(third % DIGITS),
+        entry(key % DIGITS),
     ]
 }
 
@@ -38,11 +44,11 @@ pub(crate) fn entries(key: u64) -> [Option<u8>; 4]
 /// is a later one.
 fn digit(entry: Option<u8>) -> u64
     ensures digit { result ≡ digit_of entry }
-    ensures few { result ≤ 256 }
+    ensures few { result ≤ absent }
 {
     match entry {
         Some(value) => u64::from(value),
-        None => 256,
+        None => ABSENT,
     }
 }
 
@@ -50,5 +56,5 @@ fn digit(entry: Option<u8>) -> u64
 fn entry(digit: u64) -> Option<u8>
     ensures { result ≡ entry_of digit }
 {
-    if digit < 256 { Some(digit as u8) } else { None }
+    if digit < ABSENT { Some(digit as u8) } else { None }
 }
