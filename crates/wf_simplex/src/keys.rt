@@ -56,5 +56,9 @@ fn digit(entry: Option<u8>) -> u64
 fn entry(digit: u64) -> Option<u8>
     ensures { result ≡ entry_of digit }
 {
-    if digit < ABSENT { Some(digit as u8) } else { None }
+    if digit < ABSENT {
+        Some(digit as u8)
+    } else {
+        None
+    }
 }
