@@ -11,4 +11,5 @@ pub mod Deleted
 pub mod Index
 pub mod Fed
 pub mod Kept
+pub mod Posed
 pub mod Whole
