@@ -1,9 +1,9 @@
 -- Clauses that are added to a checker, and the models that it keeps.
-use Rattle.std.proofs.Common.{◌≡◌, ℕ, ◌+◌, ◌<◌, ◌≤◌, Bool, true, false, List, [], ◌∷◌, ◌++◌, map, zip, length, take, get_or, min, slice_index, flat_map, Result, Ok, Err, refl, sym, ap, ◌∙◌, subst, arith, append-nil, append_assoc}
+use Rattle.std.proofs.Common.{◌≡◌, ℕ, ◌+◌, ◌<◌, ◌≤◌, Bool, true, false, List, [], ◌∷◌, ◌++◌, map, zip, length, take, get_or, min, slice_index, flat_map, refl, sym, ap, ◌∙◌, subst, arith, append-nil, append_assoc}
 use Rattle.std.proofs.lemmas.List.{map-append, take_more}
-use Rattle.std.proofs.lemmas.List.Elements.{All-append, All-cons, All-from_recursion, All-nil, All-push, All-weaker, recursion_from_All}
+use Rattle.std.proofs.lemmas.List.Elements.{All-from_recursion, recursion_from_All}
 use Rattle.std.proofs.lemmas.Slice.Zip.{length-zip, get_or-zip}
-use Rattle.std.specs.Prelude.{IfOk, if◌then◌else◌}
+use Rattle.std.specs.Prelude.{if◌then◌else◌}
 use Rattle.std.proofs.lemmas.Bool.{false≢true}
 use Rattle.std.proofs.lemmas.List.Concat.{flat_map-append}
 use Rattle.wf_model.specs.Limits.{most_points}
@@ -14,10 +14,8 @@ use Rattle.wf_clauses.specs.Formula.{Assignment, Clause, Formula, Literal, Satis
 use Rattle.wf_formula.specs.Encoding.{variable}
 use Rattle.wf_formula.proofs.Members.{In, each_from_in, each_in, in_left, in_right}
 use Rattle.wf_rup.specs.Codes.{most_variables}
-use Rattle.wf_rup.specs.Kept.{IsKept, KnowsStill}
 use Rattle.wf_rup.specs.Seen.{KeepsModelsOf, Known, KnowsNothing}
-use Rattle.wf_rup.proofs.StoredLemmas.{kept-on, models-kept, still-both, still-same}
-use Rattle.wf_rup.specs.Posed.{FollowsFrom, IsPosed, KeepsAll, KeepsEach, KeepsModelsOfAll}
+use Rattle.wf_rup.specs.Posed.{FollowsFrom, KeepsModelsOfAll}
 use Rattle.wf_cnf.proofs.TextLemmas.{few_ranks, few_values, product_few}
 
 -- ---- clauses among others

@@ -1,5 +1,5 @@
 -- What a checker makes of a proof's bytes, as an engine tells it.
-use Rattle.std.proofs.Common.{◌≡◌, ℕ, ◌++◌, List, inl, inr, sym, subst}
+use Rattle.std.proofs.Common.{ℕ, ◌++◌, List, inl, inr, sym, subst}
 use Rattle.wf_rup.specs.Fed.{IsFaultAtEnd, IsFaultIn}
 use Rattle.wf_rup.specs.Seen.{Known}
 use Rattle.wf_rup.specs.Whole.{IsFaultOfProof, IsRefusedBy}

@@ -13,3 +13,4 @@ pub mod Fed
 pub mod Kept
 pub mod Posed
 pub mod Whole
+pub mod Examples

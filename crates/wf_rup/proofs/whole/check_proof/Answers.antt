@@ -1,4 +1,4 @@
-use Rattle.std.proofs.Common.{◌≡◌, [], ap, sym, ◌∙◌, inr}
+use Rattle.std.proofs.Common.{[], ap, sym, ◌∙◌, inr}
 use Rattle.std.proofs.lemmas.Result.{IfErr-weaker, IfOk-weaker}
 use Rattle.wf_drat.specs.Text.{at_start}
 use Rattle.wf_rup.proofs.Feeding.{fed_more, nothing_fed, refusal_at_end, refusal_fed}
