@@ -14,7 +14,7 @@ use Rattle.wf_formula.proofs.Branches.{is_model_in}
 use Rattle.wf_io.specs.Seen.{Reading}
 use Rattle.wf_io.specs.Texts.{Wrote}
 use Rattle.wf_rup.specs.Seen.{HasNoModel, Known}
-use Rattle.wf_cnf.specs.Posing.{FollowsFrom, IsPosed}
+use Rattle.wf_rup.specs.Posed.{FollowsFrom, IsPosed}
 use Rattle.wf_engine.specs.Proofs.{ReadsAsProof}
 use Rattle.wf_engine.specs.Sources.{NextReads, ReadsAbout}
 use Rattle.wf_engine.specs.declared.fault.RunFault.{RunFault}

@@ -1,16 +1,17 @@
 -- The clauses that rule out what a branch has not: their text, and a checker that is told them.
-use Rattle.std.proofs.Common.{◌≡◌, ℕ, ◌+◌, List, [], ◌∷◌, ◌++◌, map, flat_map, length, inl, inr, refl, sym, ap, ◌∙◌, subst, arith}
+use Rattle.std.proofs.Common.{◌≡◌, ℕ, ◌+◌, List, [], ◌∷◌, ◌++◌, map, flat_map, length, inl, inr, refl, sym, ap, ◌∙◌, subst, arith, append-nil, append_assoc}
 use Rattle.std.proofs.lemmas.List.{length-map}
 use Rattle.std.proofs.lemmas.List.Elements.{All-cons, All-nil}
 use Rattle.wf_model.specs.Lists.{below}
 use Rattle.wf_clauses.specs.Formula.{Clause, Formula, SatisfiesAll}
 use Rattle.wf_formula.specs.Dimacs.{clause_text}
 use Rattle.wf_formula.proofs.Members.{In, in_left, in_right}
-use Rattle.wf_rup.specs.Kept.{IsKept, KnowsStill}
+use Rattle.wf_rup.specs.Kept.{AddsAtMost, IsKept, KnowsStill}
 use Rattle.wf_rup.specs.Seen.{KeepsModelsOf, Known}
 use Rattle.wf_rup.proofs.StoredLemmas.{kept-on, still-both, still-same}
-use Rattle.wf_cnf.specs.Posing.{FollowsFrom, IsPosed, KeepsAll, KeepsEach, KeepsModelsOfAll}
-use Rattle.wf_cnf.proofs.PosingLemmas.{keeps_one, kept_more, posed_of, satisfied_some}
+use Rattle.wf_rup.specs.Posed.{AddsSomeOf, AreSomeOf, FollowsFrom, IsPosed, KeepsAll, KeepsEach, KeepsModelsOfAll}
+use Rattle.wf_rup.proofs.PosedLemmas.{adds_one, posed_on, some_both}
+use Rattle.wf_cnf.proofs.PosingLemmas.{keeps_one, satisfied_some}
 use Rattle.wf_cnf.proofs.TextLemmas.{length_more}
 
 -- ---- the clauses of a point
@@ -34,22 +35,42 @@ next_clause f v left rest is = ap (λ vs. flat_map clause_text (map f vs)) is
 pub record KeepsBut (all left : List Clause) (old now : Known) : Type 0 where
   pub still : KnowsStill old now
   pub later : (new : Known) → KnowsStill now new → KeepsEach left new → KeepsEach all new
+  pub told : List Clause
+  pub behind : now.clauses ≡ old.clauses ++ told
+  pub some : (rest : List Clause) → AreSomeOf rest left → AreSomeOf (told ++ rest) all
 
 -- what is left is among all
 abbrev pub IsAmong : List Clause → List Clause → Type 0
 IsAmong left all = (clause : Clause) → In clause left → In clause all
 
 pub kept_but_all : (all : List Clause) (known : Known) → KeepsBut all all known known
-kept_but_all all known = record { still = still-same known; later = λ new still each. each }
+kept_but_all all known = record {
+  still = still-same known;
+  later = λ new still each. each;
+  told = [];
+  behind = sym (append-nil known.clauses);
+  some = λ rest is. is;
+}
+
+one : (f : ℕ → Clause) (v : ℕ) (added : Clause) (now new : Known) → added ≡ f v → AddsAtMost added now new → AddsSomeOf (f v ∷ []) now new
+one f v added now new same alone = subst (λ c. AddsSomeOf (c ∷ []) now new) same (adds_one added now new alone)
 
 pub told_one : (f : ℕ → Clause) (all : List Clause) (v : ℕ) (left rest : List ℕ) (added : Clause) (old now new : Known) → left ≡ v ∷ rest → added ≡ f v
-    → KeepsBut all (map f left) old now → IsKept added new → KnowsStill now new → KeepsBut all (map f rest) old new
-told_one f all v left rest added old now new is same so_far kept still = record {
+    → KeepsBut all (map f left) old now → IsKept added new → KnowsStill now new → AddsAtMost added now new → KeepsBut all (map f rest) old new
+told_one f all v left rest added old now new is same so_far kept still alone = record {
   still = still-both old now new so_far.still still;
   later = λ later after each.
       let first : IsKept (f v) later = kept-on (f v) new later after (subst (λ c. IsKept c new) same kept) in
       so_far.later later (still-both now new later still after)
       (subst (λ vs. KeepsEach (map f vs) later) (sym is) (All-cons (λ c. IsKept c later) (f v) (map f rest) first each));
+  told = so_far.told ++ (one f v added now new same alone).added;
+  behind = (one f v added now new same alone).is ∙ ap (λ cs. cs ++ (one f v added now new same alone).added) so_far.behind
+      ∙ append_assoc old.clauses so_far.told (one f v added now new same alone).added;
+  some = λ others here.
+      let this = one f v added now new same alone in
+      subst (λ cs. AreSomeOf cs all) (sym (append_assoc so_far.told this.added others))
+      (so_far.some (this.added ++ others)
+      (subst (λ vs. AreSomeOf (this.added ++ others) (map f vs)) (sym is) (some_both this.added (f v ∷ []) others (map f rest) this.some here)));
 }
 
 pub among_rest : (f : ℕ → Clause) (all : List Clause) (v : ℕ) (left rest : List ℕ) → left ≡ v ∷ rest → IsAmong (map f left) all → IsAmong (map f rest) all
@@ -64,6 +85,7 @@ pub told_all : (f : ℕ → Clause) (all : List Clause) (left : List ℕ) (old n
 told_all f all left old now none so_far = record {
   still = so_far.still;
   each = so_far.later now (still-same now) (subst (λ vs. KeepsEach (map f vs) now) (sym none) (All-nil (λ c. IsKept c now)));
+  alone = record { added = so_far.told; some = subst (λ cs. AreSomeOf cs all) (append-nil so_far.told) (so_far.some [] tt); is = so_far.behind };
 }
 
 -- ---- a formula and further clauses
@@ -79,5 +101,4 @@ follows_also f g more some known whole begun ended = λ a model.
 pub posed_also : (f g : Formula) (more : List Clause) (some known : Known) → f.variables ≡ g.variables → f.clauses ++ more ≡ g.clauses
     → IsPosed f some → KeepsModelsOfAll more some known → KeepsAll more some known → IsPosed g known
 posed_also f g more some known variables whole posed follows all =
-    posed_of g some known (follows_also f g more some known whole posed.models.follows follows) (posed.variables ∙ variables)
-    (kept_more f.clauses g.clauses more more some some known (sym whole) refl (record { still = still-same some; each = posed.each }) all)
+    posed_on f g more some known variables whole posed (follows_also f g more some known whole posed.models.follows follows) all

@@ -1,9 +1,9 @@
 -- Clauses that are added to a checker, and the models that it keeps.
-use Rattle.std.proofs.Common.{◌≡◌, ℕ, ◌+◌, ◌<◌, ◌≤◌, Bool, true, false, List, [], ◌∷◌, ◌++◌, map, zip, length, take, get_or, min, slice_index, flat_map, Result, Ok, Err, refl, sym, ap, ◌∙◌, subst, arith, append-nil, append_assoc}
+use Rattle.std.proofs.Common.{◌≡◌, ℕ, ◌+◌, ◌<◌, ◌≤◌, Bool, true, false, List, [], ◌∷◌, ◌++◌, map, zip, length, take, get_or, min, slice_index, flat_map, refl, sym, ap, ◌∙◌, subst, arith, append-nil, append_assoc}
 use Rattle.std.proofs.lemmas.List.{map-append, take_more}
-use Rattle.std.proofs.lemmas.List.Elements.{All-append, All-cons, All-from_recursion, All-nil, All-push, All-weaker, recursion_from_All}
+use Rattle.std.proofs.lemmas.List.Elements.{All-from_recursion, recursion_from_All}
 use Rattle.std.proofs.lemmas.Slice.Zip.{length-zip, get_or-zip}
-use Rattle.std.specs.Prelude.{IfOk, if◌then◌else◌}
+use Rattle.std.specs.Prelude.{if◌then◌else◌}
 use Rattle.std.proofs.lemmas.Bool.{false≢true}
 use Rattle.std.proofs.lemmas.List.Concat.{flat_map-append}
 use Rattle.wf_model.specs.Limits.{most_points}
@@ -14,10 +14,8 @@ use Rattle.wf_clauses.specs.Formula.{Assignment, Clause, Formula, Literal, Satis
 use Rattle.wf_formula.specs.Encoding.{variable}
 use Rattle.wf_formula.proofs.Members.{In, each_from_in, each_in, in_left, in_right}
 use Rattle.wf_rup.specs.Codes.{most_variables}
-use Rattle.wf_rup.specs.Kept.{IsKept, KnowsStill}
 use Rattle.wf_rup.specs.Seen.{KeepsModelsOf, Known, KnowsNothing}
-use Rattle.wf_rup.proofs.StoredLemmas.{kept-on, models-kept, still-both, still-same}
-use Rattle.wf_cnf.specs.Posing.{FollowsFrom, IsPosed, KeepsAll, KeepsEach, KeepsModelsOfAll}
+use Rattle.wf_rup.specs.Posed.{FollowsFrom, KeepsModelsOfAll}
 use Rattle.wf_cnf.proofs.TextLemmas.{few_ranks, few_values, product_few}
 
 -- ---- clauses among others
@@ -49,50 +47,7 @@ follows f first second none some known whole nothing begun ended = λ a model.
     ended a (begun a (nothing a) (satisfied_some a (first ++ second) first (λ clause here. in_left first second clause here) h))
     (satisfied_some a (first ++ second) second (λ clause here. in_right first second clause here) h)
 
--- ---- no clause is forgotten
-
-pub kept_same : (some all : List Clause) (before old now : Known) → some ≡ all → before ≡ old → KeepsAll some before now → KeepsAll all old now
-kept_same some all before old now is same kept = subst (λ o. KeepsAll all o now) same (subst (λ cs. KeepsAll cs before now) is kept)
-
--- nothing was added
-pub kept_none : (known : Known) → KeepsAll [] known known
-kept_none known = record { still = still-same known; each = All-nil (λ c. IsKept c known) }
-
--- what is kept stays so
-each_on : (clauses : List Clause) (old new : Known) → KnowsStill old new → KeepsEach clauses old → KeepsEach clauses new
-each_on clauses old new still each = All-weaker (λ c. IsKept c old) (λ c. IsKept c new) (λ c here. kept-on c old new still here) clauses each
-
--- one more clause is added
-pub kept_one : (some more : List Clause) (clause added : Clause) (old now new : Known) → more ≡ some ++ clause ∷ [] → added ≡ clause
-    → KeepsAll some old now → IsKept added new → KnowsStill now new → KeepsAll more old new
-kept_one some more clause added old now new is same so_far kept still = record {
-  still = still-both old now new so_far.still still;
-  each = subst (λ cs. KeepsEach cs new) (sym is) (All-push (λ c. IsKept c new) some clause (each_on some now new still so_far.each) (subst (λ c. IsKept c new) same kept));
-}
-
--- one clause is added
-pub kept_alone : {X E : Type 0} (r : Result X E) (clauses : List Clause) (clause : Clause) (before old new : Known) → clauses ≡ clause ∷ [] → before ≡ old
-    → IfOk r (λ done. IsKept clause new) → IfOk r (λ done. KnowsStill before new) → IfOk r (λ done. KeepsAll clauses old new)
-kept_alone (Ok x) clauses clause before old new is same kept still =
-    record { still = subst (λ o. KnowsStill o new) same still; each = subst (λ cs. KeepsEach cs new) (sym is) (All-cons (λ c. IsKept c new) clause [] kept (All-nil (λ c. IsKept c new))) }
-kept_alone (Err e) clauses clause before old new is same kept still = tt
-
--- further clauses are added
-pub kept_more : (some more next added : List Clause) (old now new : Known) → more ≡ some ++ next → added ≡ next
-    → KeepsAll some old now → KeepsAll added now new → KeepsAll more old new
-kept_more some more next added old now new is same so_far all = record {
-  still = still-both old now new so_far.still all.still;
-  each = subst (λ cs. KeepsEach cs new) (sym is) (All-append (λ c. IsKept c new) some next (each_on some now new all.still so_far.each) (subst (λ cs. KeepsEach cs new) same all.each));
-}
-
--- what is known follows from a formula, and its clauses were added where as
--- many variables were known
-pub posed_of : (f : Formula) (old known : Known) → FollowsFrom f known → old.variables ≡ f.variables → KeepsAll f.clauses old known → IsPosed f known
-posed_of f old known follows variables all = record {
-  models = record { follows = follows; complete = λ a model. (models-kept f.clauses old known all.still all.each a model).1 };
-  variables = all.still.variables ∙ variables;
-  each = all.each;
-}
+-- ---- patterns and executions
 
 -- where nothing is allowed, there is one pattern
 pub nothing_seen : {X : Type 0} (b : Bool) (xs ys : List X) → b ≡ true → (if b then xs else ys) ≡ xs

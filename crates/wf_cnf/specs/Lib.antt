@@ -1,7 +1,6 @@
 -- What contracts say, here and in the crates above.
 pub mod Patterns
 pub mod Models
-pub mod Posing
 -- What the crate's own code and proofs use.
 pub mod Found
 pub mod Groups

@@ -11,7 +11,7 @@ ghost use Rattle.wf_set.specs.Sets.{values_in};
 ghost use Rattle.wf_formula.specs.Branches.{formula_in, missing, ruled_out};
 ghost use Rattle.wf_formula.specs.Dimacs.{clause_text};
 ghost use Rattle.wf_cnf.specs.Variables.{IsNumbered};
-ghost use Rattle.wf_cnf.specs.Posing.{IsPosed, KeepsAll, KeepsModelsOfAll};
+ghost use Rattle.wf_rup.specs.Posed.{IsPosed, KeepsAll, KeepsModelsOfAll};
 ghost use Rattle.wf_cnf.specs.Exclusions.{exclusions_on, exclusions_text, sets_in};
 
 use crate::posing::pose;

@@ -1,6 +1,6 @@
 //! The question of a task, told to a checker of clausal proofs.
 
-ghost use Rattle.std.specs.Prelude.{◌≡◌, ◌<◌, ◌≤◌, All, IfOk, OnOk, map};
+ghost use Rattle.std.specs.Prelude.{◌≡◌, ◌<◌, ◌≤◌, [], All, IfOk, OnOk, map};
 ghost use Rattle.wf_model.specs.Limits.{most_points};
 ghost use Rattle.wf_model.specs.Lists.{below};
 ghost use Rattle.wf_complex.specs.Protocol.{IsProtocol};
@@ -10,7 +10,7 @@ ghost use Rattle.wf_rup.specs.Seen.{KnowsNothing};
 ghost use Rattle.wf_cnf.specs.Patterns.{pattern_seen, patterns_seen};
 ghost use Rattle.wf_cnf.specs.Variables.{IsNumbered};
 ghost use Rattle.wf_cnf.specs.Clauses.{AreCovered, AreFew, HasPoints, clauses_on, denied_at};
-ghost use Rattle.wf_cnf.specs.Posing.{IsPosed, KeepsAll, KeepsModelsOfAll};
+ghost use Rattle.wf_rup.specs.Posed.{IsPosed, KeepsAll, KeepsModelsOfAll};
 
 use crate::patterns::{Pattern, Patterns};
 use crate::question::all_patterns;
@@ -59,6 +59,7 @@ impl Posing {
     /// One that knows nothing, on so many variables.
     fn new(alloc: Global, variables: u32) -> Result<Posing, AllocError>
         ensures nothing { IfOk result KnowsNothing }
+        ensures empty { IfOk result (λ posing. posing.clauses ≡ []) }
         ensures variables { IfOk result (λ posing. posing.variables ≡ variables) }
     {
         Ok(Posing {

@@ -17,7 +17,9 @@ use Rattle.wf_rup.specs.Kept.{IsKept}
 use Rattle.wf_rup.specs.Seen.{HasNoModel, KeepsModels, Known}
 use Rattle.wf_rup.specs.declared.proof.ProofFault.{ProofFault}
 use Rattle.wf_rup.specs.declared.proof.ProofFault.TheVariants as proof
-use Rattle.wf_cnf.specs.Posing.{FollowsFrom, IsPosed}
+use Rattle.wf_rup.specs.Posed.{FollowsFrom, IsPosed}
+use Rattle.wf_rup.proofs.Feeding.{IsFed, fed_more, nothing_fed}
+use Rattle.wf_rup.proofs.PosedLemmas.{some_itself}
 use Rattle.wf_engine.specs.Faults.{of_proof}
 use Rattle.wf_engine.specs.Run.{answered}
 use Rattle.wf_engine.specs.Verify.{accepted_text}
@@ -25,7 +27,7 @@ use Rattle.wf_engine.specs.Proofs.{IsAcceptedNone, IsOfProof, IsRefusedProof, Re
 use Rattle.wf_engine.specs.declared.fault.RunFault.{RunFault}
 use Rattle.wf_engine.specs.declared.fault.RunFault.TheVariants as run
 use Rattle.wf_engine.proofs.Asking.{IsRefusal}
-use Rattle.wf_engine.proofs.Feeding.{IsFed, fault_at_end, fault_fed, fed_more, nothing_fed}
+use Rattle.wf_engine.proofs.Feeding.{fault_at_end, fault_fed}
 
 -- a source gave these bytes, so many
 pub record IsGiven (old new : Reading) (given : List ℕ) (count : ℕ) : Type 0 where
@@ -160,6 +162,7 @@ stated_posed f = record {
   };
   variables = refl;
   each = All-weaker (Contains f.clauses) (λ clause. IsKept clause (stated f)) (λ clause there. inr (inl there)) f.clauses (All-contains_itself f.clauses);
+  alone = some_itself f.clauses;
 }
 
 -- what is said of a refusal does not depend on what holds where a proof is accepted

@@ -1,6 +1,6 @@
 -- A run over two sources: a task, and the clausal proof by which a SAT solver
 -- shows that its question has no model.
-use Rattle.std.specs.Prelude.{◌≡◌, ◌≤◌, ◌+◌, ◌^◌, ℕ, List, [], ◌∷◌, ◌++◌, length, Option, Some, Result, Ok, Err}
+use Rattle.std.specs.Prelude.{◌≡◌, ◌≤◌, ◌+◌, ◌^◌, ℕ, List, [], length, Option, Some, Result, Ok, Err}
 use Rattle.std.specs.Io.KnownBytes.{IsAtEnd}
 use Rattle.wf_model.specs.Task.{Task}
 use Rattle.wf_model.specs.DecisionMap.{HasNoDecisionMap}
@@ -9,13 +9,9 @@ use Rattle.wf_clauses.specs.Formula.{Formula}
 use Rattle.wf_formula.specs.Encoding.{question}
 use Rattle.wf_io.specs.Seen.{Reading, Writing}
 use Rattle.wf_io.specs.Texts.{Gave}
-use Rattle.wf_drat.specs.Text.{State, Text, at_start, open_in, text_of}
 use Rattle.wf_rup.specs.Seen.{Known}
-use Rattle.wf_rup.specs.Fed.{IsFaultIn, IsReadTo}
-use Rattle.wf_rup.specs.Unit.{DoesNotFollow}
-use Rattle.wf_rup.specs.declared.proof.ProofFault.{ProofFault}
-use Rattle.wf_rup.specs.declared.proof.ProofFault.TheVariants as proof
-use Rattle.wf_cnf.specs.Posing.{IsPosed}
+use Rattle.wf_rup.specs.Whole.{IsFaultOfProof}
+use Rattle.wf_rup.specs.Posed.{IsPosed}
 use Rattle.wf_engine.specs.Run.{Ran, by_result, failed_reads}
 use Rattle.wf_engine.specs.Sources.{AsksBoth, AsksWithin}
 use Rattle.wf_engine.specs.Verify.{accepted_text}
@@ -27,29 +23,6 @@ abbrev pub most_proof_bytes : ℕ
 most_proof_bytes = 2 ^ 62
 
 -- ---- why a proof is refused
-
--- what the bytes of a proof say, of clauses on the variables from 1 to this
--- number: a line feed ends its last line
-abbrev pub text_of_proof : ℕ → List ℕ → Text
-text_of_proof variables given = text_of (at_start variables) (given ++ 10 ∷ [])
-
--- the bytes leave off in this line, all steps of the proof are taken, and the contradiction does
--- not follow by unit propagation
-pub record EndsUnrefuted (posed : Known) (given : List ℕ) (line : ℕ) (known : Known) : Type 0 where
-  pub last : State
-  pub end : (text_of (at_start posed.variables) given).end ≡ open_in last
-  pub in_line : line ≡ last.line
-  pub next : State
-  pub read : IsReadTo (text_of_proof posed.variables given) next posed known
-  pub refused : DoesNotFollow known []
-
--- A proof of these bytes is refused for this fault, where this was known before its first step, and
--- that behind the steps that were taken: it ends too early; or it has a flaw, or a lemma that does
--- not follow, in the line that is named.
-abbrev pub IsFaultOfProof : Known → List ℕ → Known → ProofFault → Type 0
-IsFaultOfProof posed given known (proof.NoContradiction line) = EndsUnrefuted posed given line known
-IsFaultOfProof posed given known proof.OutOfMemory = ⊥
-IsFaultOfProof posed given known fault = IsFaultIn (text_of_proof posed.variables given) posed known fault
 
 -- what may come of a proof of these bytes that is refused, where this was known before it
 abbrev pub IsRefusedProof : Known → List ℕ → RunFault → Type 0
@@ -75,7 +48,7 @@ ReadsAsProof posed holds old new result =
     (given : List ℕ) × Gave old new given (by_result failed_reads result) × IsOfProof posed holds given new.left result
 
 -- the same of a formula: what was known is this formula, with its variables
--- and each of its clauses kept
+-- and each of its clauses kept, and no other clause
 abbrev pub ReadsProofOf : Formula → (Unit {0} × List ℕ → Type 0) → Reading → Reading → Result (Unit {0} × List ℕ) RunFault → Type 0
 ReadsProofOf f holds old new result = (posed : Known) × IsPosed f posed × ReadsAsProof posed holds old new result
 

@@ -11,3 +11,6 @@ pub mod IndexLemmas
 pub mod HashLemmas
 pub mod CatalogueLemmas
 pub mod FedLemmas
+pub mod PosedLemmas
+pub mod Pieces
+pub mod Feeding

@@ -3,12 +3,12 @@ use Rattle.std.proofs.Common.{◌≡◌, ℕ, ◌<◌, Bool, true, List, [], ◌
 use Rattle.std.specs.List.{All, Contains}
 use Rattle.std.proofs.Math.Seq.{take-append_seam, take-length}
 use Rattle.std.proofs.lemmas.Bool.{cases_Bool, false≢true}
-use Rattle.std.proofs.lemmas.List.{get_or-take, length-take}
+use Rattle.std.proofs.lemmas.List.{get_or-take, length-take, map-append}
 use Rattle.std.proofs.lemmas.List.Elements.{All-contains, All-take, All-weaker, Contains-push}
 use Rattle.std.proofs.lemmas.List.Folds.{list_any_at}
 use Rattle.wf_clauses.specs.Formula.{Assignment, Clause, Literal, SatisfiesAll, holds, satisfies}
 use Rattle.wf_drat.specs.Codes.{code_of, literal_of}
-use Rattle.wf_rup.specs.Kept.{IsKept, IsStored, KnowsStill, StoresStill}
+use Rattle.wf_rup.specs.Kept.{AddsAtMost, IsKept, IsStored, KnowsStill, StoresAtMost, StoresStill}
 use Rattle.wf_rup.specs.Propagation.{with_literal}
 use Rattle.wf_rup.specs.Seen.{IsModelOf, Known, known_of}
 use Rattle.wf_rup.specs.Stored.{Stored, has, kept_of}
@@ -42,6 +42,13 @@ stores-pushed literals before after refuted clause l old is there same =
     subst (λ s. StoresStill s (record { literals = literals; clauses = kept_of after; is_refuted = refuted })) is
     (record { literals = take-length literals; clauses = kept-still before after clause l there same; refuted = λ was. was })
 
+-- of clauses, the one that is stored is the only one more
+pub stores-one : (literals : List ℕ) (before after : List (List ℕ)) (refuted : Bool) (clause : List ℕ) (l : ℕ) (old : Stored)
+    → record { literals = literals; clauses = kept_of before; is_refuted = refuted } ≡ old → has clause l ≡ true → after ≡ before ++ clause ∷ []
+    → kept_of after ≡ old.clauses ++ clause ∷ []
+stores-one literals before after refuted clause l old is there same =
+    ap kept_of same ∙ kept_of-pushed before clause (some-literal clause l there) ∙ ap (λ (s : Stored). s.clauses ++ clause ∷ []) is
+
 -- ---- what is known
 
 front-map : {A B : Type 0} (f : A → B) (old new : List A) → take (length old) new ≡ old → take (length (map f old)) (map f new) ≡ map f old
@@ -56,6 +63,17 @@ pub knows-still : (v : ℕ) (old new : Stored) (known : Known) → known_of v ol
 knows-still v old new known is h =
     subst (λ k. KnowsStill k (known_of v new)) is
     (record { variables = refl; literals = front-map literal_of old.literals new.literals h.literals; clauses = front-map (map literal_of) old.clauses new.clauses h.clauses; refuted = h.refuted })
+
+alone-known : (v : ℕ) (old new : Stored) (known : Known) (clause : Clause) (codes : List ℕ) → known_of v old ≡ known → map literal_of codes ≡ clause
+    → StoresAtMost codes old new → AddsAtMost clause known (known_of v new)
+alone-known v old new known clause codes is coded (inl none) = inl (ap (map (map literal_of)) none ∙ ap (λ (k : Known). k.clauses) is)
+alone-known v old new known clause codes is coded (inr one) =
+    inr (ap (map (map literal_of)) one ∙ map-append (map literal_of) old.clauses (codes ∷ [])
+    ∙ ap (λ c. map (map literal_of) old.clauses ++ c ∷ []) coded ∙ ap (λ (k : Known). k.clauses ++ clause ∷ []) is)
+
+pub knows-alone : (v : ℕ) (old new : Stored) (known : Known) (clause : Clause) (codes : List ℕ) → known_of v old ≡ known → codes ≡ map code_of clause
+    → StoresAtMost codes old new → AddsAtMost clause known (known_of v new)
+knows-alone v old new known clause codes is same stored = alone-known v old new known clause codes is (ap (map literal_of) same ∙ back-again clause) stored
 
 kept-codes : (v : ℕ) (new : Stored) (clause : Clause) (codes : List ℕ) → map literal_of codes ≡ clause → IsStored codes new → IsKept clause (known_of v new)
 kept-codes v new clause codes is (inl refuted) = inl refuted

@@ -2,7 +2,7 @@
 use Rattle.std.specs.Prelude.{◌≡◌, ◌⊎◌, ◌++◌, ℕ, true, false, List, [], ◌∷◌, Bool}
 use Rattle.wf_clauses.specs.Formula.{Clause}
 use Rattle.wf_rup.specs.Deleted.{Deletes, HasAlike, IsWithout}
-use Rattle.wf_rup.specs.Kept.{IsKept, KnowsStill}
+use Rattle.wf_rup.specs.Kept.{AddsAtMost, IsKept, KnowsStill}
 use Rattle.wf_rup.specs.Seen.{Entails, Known}
 use Rattle.wf_drat.specs.Text.{State, Step, Text, broken_in, deletion, lemma, open_in, state_after, step_of, text_of}
 use Rattle.wf_rup.specs.Unit.{DoesNotFollow}
@@ -13,11 +13,12 @@ use Rattle.wf_drat.specs.declared.reader.Turn.TheVariants.{GoesOn, BeginsDeletio
 use Rattle.wf_drat.specs.declared.reader.Flaw.{Flaw}
 use Rattle.wf_drat.specs.declared.reader.Flaw.TheVariants as flaw
 
--- a lemma is entailed by what was known, and known from now on beside it
+-- a lemma is entailed by what was known, and known from now on beside it, and no clause else
 pub record Learns (clause : Clause) (old new : Known) : Type 0 where
   pub entailed : Entails old clause
   pub kept : IsKept clause new
   pub still : KnowsStill old new
+  pub alone : AddsAtMost clause old new
 
 -- one clause with these literals is no longer known, if there was one
 pub record Forgets (clause : Clause) (old new : Known) : Type 0 where

@@ -1,5 +1,5 @@
 -- What stays known.
-use Rattle.std.specs.Prelude.{◌≡◌, ◌⊎◌, ℕ, true, List, Contains, length, take}
+use Rattle.std.specs.Prelude.{◌≡◌, ◌⊎◌, ◌++◌, ℕ, true, List, [], ◌∷◌, Contains, length, take}
 use Rattle.wf_clauses.specs.Formula.{Clause, Literal}
 use Rattle.wf_rup.specs.Seen.{Known}
 use Rattle.wf_rup.specs.Stored.{Stored, has}
@@ -16,6 +16,10 @@ pub record KnowsStill (old new : Known) : Type 0 where
   pub clauses : take (length old.clauses) new.clauses ≡ old.clauses
   pub refuted : old.is_refuted ≡ true → new.is_refuted ≡ true
 
+-- of clauses, what was known is known, and behind it this one at most
+abbrev pub AddsAtMost : Clause → Known → Known → Type 0
+AddsAtMost clause old new = (new.clauses ≡ old.clauses) ⊎ (new.clauses ≡ old.clauses ++ clause ∷ [])
+
 -- ---- the same of codes
 
 abbrev pub IsStored : List ℕ → Stored → Type 0
@@ -26,3 +30,6 @@ pub record StoresStill (old new : Stored) : Type 0 where
   pub literals : take (length old.literals) new.literals ≡ old.literals
   pub clauses : take (length old.clauses) new.clauses ≡ old.clauses
   pub refuted : old.is_refuted ≡ true → new.is_refuted ≡ true
+
+abbrev pub StoresAtMost : List ℕ → Stored → Stored → Type 0
+StoresAtMost clause old new = (new.clauses ≡ old.clauses) ⊎ (new.clauses ≡ old.clauses ++ clause ∷ [])

@@ -11,4 +11,6 @@ pub mod Deleted
 pub mod Index
 pub mod Fed
 pub mod Kept
+pub mod Posed
 pub mod Whole
+pub mod Examples

@@ -1,9 +1,9 @@
 //! The checker.
 
-ghost use Rattle.std.specs.Prelude.{◌≡◌, false, IfOk, IsTrue, map};
+ghost use Rattle.std.specs.Prelude.{◌≡◌, [], false, IfOk, IsTrue, map};
 ghost use Rattle.wf_drat.specs.Codes.{code_of};
 ghost use Rattle.wf_rup.specs.Deleted.{Deletes, HasAlike, IsWithout};
-ghost use Rattle.wf_rup.specs.Kept.{IsKept, KnowsStill};
+ghost use Rattle.wf_rup.specs.Kept.{AddsAtMost, IsKept, KnowsStill};
 ghost use Rattle.wf_rup.specs.Seen.{Entails, HasNoModel, KeepsModels, KeepsModelsOf, KnowsNothing};
 ghost use Rattle.wf_rup.specs.Unit.{DoesNotFollow};
 
@@ -37,6 +37,7 @@ impl Checker {
     /// taken too where it comes, at the cost of memory for all those before it.
     pub fn new(alloc: Global, variables: u32) -> Result<Checker, AllocError>
         ensures nothing { IfOk result KnowsNothing }
+        ensures empty { IfOk result (λ checker. checker.clauses ≡ []) }
         ensures variables { IfOk result (λ checker. checker.variables ≡ variables) }
     {
         Ok(Checker {
@@ -63,11 +64,12 @@ impl Checker {
     }
 
     /// Adds a clause, and all that it forces. It is kept, or one of its literals holds from now on,
-    /// or all is refuted; and nothing that was known is lost.
+    /// or all is refuted; nothing that was known is lost, and no other clause is kept.
     pub fn add(&mut self, alloc: Global, clause: &[Literal]) -> Result<(), AllocError>
         ensures sound { KeepsModelsOf clause.now self.old self.new }
         ensures kept { IfOk result (λ done. IsKept clause.now self.new) }
         ensures still { IfOk result (λ done. KnowsStill self.old self.new) }
+        ensures alone { IfOk result (λ done. AddsAtMost clause.now self.old self.new) }
     {
         put_codes(&mut self.codes, clause)?;
         self.database.add(alloc, &self.codes)
@@ -82,6 +84,7 @@ impl Checker {
         ensures unchanged { IfOk result (λ follows. follows ≡ false → self.new ≡ self.old) }
         ensures added { IfOk result (λ follows. IsTrue follows → IsKept lemma.now self.new) }
         ensures still { IfOk result (λ follows. KnowsStill self.old self.new) }
+        ensures alone { IfOk result (λ follows. AddsAtMost lemma.now self.old self.new) }
         ensures kept { KeepsModels self.old self.new }
     {
         put_codes(&mut self.codes, lemma)?;

@@ -2,7 +2,7 @@
 
 ghost use Rattle.std.specs.Prelude.{◌≡◌, ◌++◌, ◌∷◌, [], false, true, IfOk, IsTrue, length, take};
 ghost use Rattle.wf_rup.specs.Deleted.{DeletesStored, HasAlikeStored, IsStoredWithout};
-ghost use Rattle.wf_rup.specs.Kept.{IsStored, StoresStill};
+ghost use Rattle.wf_rup.specs.Kept.{IsStored, StoresAtMost, StoresStill};
 ghost use Rattle.wf_rup.specs.Propagation.{AddsClause, Implies};
 ghost use Rattle.wf_rup.specs.Stored.{HasNoStoredModel, KeepsStoredModels, KeepsStoredModelsOf, KeepsStoredModelsWith, StoredEntails, StoresNothing, has, kept_of};
 ghost use Rattle.wf_rup.specs.Settled.{Refuses, StopsBefore};
@@ -49,7 +49,8 @@ impl Model for Database {
 impl Database {
     /// One with nothing in it, over the variables from 1 to this number.
     pub(crate) fn new(alloc: Global, variables: u32) -> Result<Database, AllocError>
-        ensures { IfOk result StoresNothing }
+        ensures nothing { IfOk result StoresNothing }
+        ensures empty { IfOk result (λ database. database.clauses ≡ []) }
     {
         let codes = 2 * variables as usize + 2;
         Ok(Database {
@@ -75,6 +76,7 @@ impl Database {
         ensures sound { KeepsStoredModelsOf clause.now self.old self.new }
         ensures kept { IfOk result (λ done. IsStored clause.now self.new) }
         ensures still { IfOk result (λ done. StoresStill self.old self.new) }
+        ensures alone { IfOk result (λ done. StoresAtMost clause.now self.old self.new) }
     {
         let Some(first) = open_literal(clause, &self.trail) else {
             self.is_refuted = true;
@@ -137,6 +139,7 @@ impl Database {
         ensures sound { KeepsStoredModelsWith literal self.old self.new }
         ensures kept { IfOk result (λ done. has self.new.literals literal ≡ true) }
         ensures still { IfOk result (λ done. StoresStill self.old self.new) }
+        ensures same { self.new.clauses ≡ self.old.clauses }
     {
         if self.trail.is_true(literal) {
             return Ok(());
@@ -164,6 +167,7 @@ impl Database {
         ensures unchanged { IfOk result (λ follows. follows ≡ false → self.new ≡ self.old) }
         ensures stored { IfOk result (λ follows. IsTrue follows → IsStored lemma.now self.new) }
         ensures still { IfOk result (λ follows. StoresStill self.old self.new) }
+        ensures alone { IfOk result (λ follows. StoresAtMost lemma.now self.old self.new) }
         ensures kept { KeepsStoredModels self.old self.new }
     {
         if self.is_refuted {

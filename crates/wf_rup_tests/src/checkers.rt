@@ -104,6 +104,19 @@ fn a_clause_is_deleted_whatever_its_order(rt: HostRuntime) -> Result<(), Fail> {
 }
 
 #[test]
+fn a_lemma_is_kept_once(rt: HostRuntime) -> Result<(), Fail> {
+    let alloc = rt.alloc();
+    let mut checker = with(alloc, &[&[1, 2, 3], &[1, 2, -3]])?;
+    assert!(rt; derives(alloc, &mut checker, &[1, 2])?);
+    checker.delete(&clause(alloc, &[1, 2, 3])?)?;
+    assert!(rt; derives(alloc, &mut checker, &[4, 2, 1])?);
+    checker.delete(&clause(alloc, &[1, 2, 4])?)?;
+    checker.delete(&clause(alloc, &[2, 1])?)?;
+    assert!(rt; !derives(alloc, &mut checker, &[4, 2, 1])?);
+    Ok(())
+}
+
+#[test]
 fn what_is_kept_outlasts_many_deletions(rt: HostRuntime) -> Result<(), Fail> {
     let alloc = rt.alloc();
     let mut checker = with(alloc, &[&[1, 2], &[1, -2], &[-1, 3, 4]])?;

@@ -2,7 +2,7 @@ use Rattle.std.proofs.Common.{ap, map, subst, ◌∙◌}
 use Rattle.wf_model.specs.Problem.{problem_of}
 use Rattle.wf_set.specs.Sets.{values_in}
 use Rattle.wf_formula.specs.Branches.{branch_question, formula_in}
-use Rattle.wf_cnf.specs.Posing.{IsPosed}
+use Rattle.wf_rup.specs.Posed.{IsPosed}
 use Rattle.wf_engine.proofs.Refuting.{refused, unposed, untold}
 use Rattle.wf_branches.specs.Refuting.{IsAcceptedBranch, accepted_text}
 use Rattle.wf_branches.proofs.Truth.{told}

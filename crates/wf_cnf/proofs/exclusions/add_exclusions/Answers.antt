@@ -5,7 +5,8 @@ use Rattle.wf_set.specs.Sets.{values_in}
 use Rattle.wf_formula.proofs.Members.{in_below, in_flat}
 use Rattle.wf_formula.specs.Branches.{ruled_out}
 use Rattle.wf_cnf.specs.Exclusions.{exclusions_at, exclusions_on}
-use Rattle.wf_cnf.proofs.PosingLemmas.{keeps_some, kept_more, kept_same, one_part_more}
+use Rattle.wf_rup.proofs.PosedLemmas.{kept_more, kept_same}
+use Rattle.wf_cnf.proofs.PosingLemmas.{keeps_some, one_part_more}
 use Rattle.wf_cnf.proofs.exclusions.add_exclusions.Goals as goal
 
 pub loop-point-preserved : goal.loop-point-preserved

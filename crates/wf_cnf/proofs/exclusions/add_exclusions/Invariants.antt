@@ -1,7 +1,7 @@
 use Rattle.std.proofs.Common.{flat_map, map}
 use Rattle.wf_model.specs.Lists.{below}
 use Rattle.wf_set.specs.Sets.{values_in}
-use Rattle.wf_cnf.specs.Posing.{KeepsAll, KeepsModelsOfAll}
+use Rattle.wf_rup.specs.Posed.{KeepsAll, KeepsModelsOfAll}
 use Rattle.wf_cnf.specs.Exclusions.{exclusions_at, exclusions_on}
 use Rattle.wf_cnf.proofs.exclusions.add_exclusions.Given as goal
 

@@ -12,7 +12,7 @@ values-preserved c =
     record {
       sound = keeps_next f all v _ _ _ _ _ _ c.in-Some.ensures (ap (λ l. l ∷ []) c.negative.ensures) c.values.invariant.among c.values.invariant.sound c.add.ensures.sound;
       among = among_rest f all v _ _ c.in-Some.ensures c.values.invariant.among;
-      whole = told_one f all v _ _ _ _ _ _ c.in-Some.ensures (ap (λ l. l ∷ []) c.negative.ensures) c.values.invariant.whole c.in_ok-add.ensures.kept c.in_ok-add.ensures.still;
+      whole = told_one f all v _ _ _ _ _ _ c.in-Some.ensures (ap (λ l. l ∷ []) c.negative.ensures) c.values.invariant.whole c.in_ok-add.ensures.kept c.in_ok-add.ensures.still c.in_ok-add.ensures.alone;
     }
 
 pub returns-in_err-add-clause-sound : goal.returns-in_err-add-clause-sound

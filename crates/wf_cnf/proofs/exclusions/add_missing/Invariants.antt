@@ -1,7 +1,7 @@
 use Rattle.std.proofs.Common.{length, map}
 use Rattle.wf_set.specs.Sets.{values_in}
 use Rattle.wf_formula.specs.Branches.{ruled_out}
-use Rattle.wf_cnf.specs.Posing.{KeepsModelsOfAll}
+use Rattle.wf_rup.specs.Posed.{KeepsModelsOfAll}
 use Rattle.wf_cnf.proofs.ExclusionLemmas.{IsAmong, KeepsBut}
 use Rattle.wf_cnf.proofs.exclusions.add_missing.Given as goal
 

@@ -5,8 +5,9 @@ use Rattle.wf_set.specs.Sets.{values_in}
 use Rattle.wf_formula.specs.Encoding.{at_least_one, question}
 use Rattle.wf_cnf.specs.Patterns.{patterns_seen}
 use Rattle.wf_cnf.specs.Clauses.{clauses_on}
-use Rattle.wf_cnf.specs.Posing.{IsPosed}
-use Rattle.wf_cnf.proofs.PosingLemmas.{follows, kept_more, posed_of}
+use Rattle.wf_rup.specs.Posed.{IsPosed}
+use Rattle.wf_rup.proofs.PosedLemmas.{kept_more, posed_of}
+use Rattle.wf_cnf.proofs.PosingLemmas.{follows}
 use Rattle.wf_cnf.proofs.Questions.{clauses_are_question, covered}
 use Rattle.wf_cnf.proofs.posing.pose.Goals as goal
 
@@ -32,5 +33,5 @@ returns c =
     ∙ c.count.ensures
     ∙ (λ i. (c.points-points.ensures.points ∙ ap length c.requires.points_are) i * length (all_is i)) in
     subst (IsPosed f) (sym c.posing-2.view_is)
-    (posed_of f _ _ (follows f _ _ _ _ _ whole c.in_ok-posing.ensures.nothing begun.sound ended.sound) variables
+    (posed_of f _ _ (follows f _ _ _ _ _ whole c.in_ok-posing.ensures.nothing begun.sound ended.sound) c.in_ok-posing.ensures.empty variables
     (kept_more _ f.clauses _ _ _ _ _ (sym whole) refl begun.whole ended.whole))

@@ -1,23 +1,27 @@
-use Rattle.std.proofs.Common.{◌≡◌, ap, sym, subst, ◌∙◌, true, take}
-use Rattle.std.proofs.lemmas.List.{take_all}
-use Rattle.std.proofs.lemmas.Result.{IfOk-weaker}
-use Rattle.wf_clauses.specs.Formula.{SatisfiesAll, satisfies}
-use Rattle.wf_rup.specs.Whole.{clauses_of}
-use Rattle.wf_rup.proofs.LiteralLemmas.{satisfies_all-more}
+use Rattle.std.proofs.Common.{[], ap, sym, ◌∙◌, inr}
+use Rattle.std.proofs.lemmas.Result.{IfErr-weaker, IfOk-weaker}
+use Rattle.wf_drat.specs.Text.{at_start}
+use Rattle.wf_rup.proofs.Feeding.{fed_more, nothing_fed, refusal_at_end, refusal_fed}
 use Rattle.wf_rup.proofs.whole.check_proof.Goals as goal
 
-pub clauses-preserved : goal.clauses-preserved
-clauses-preserved c = λ a model.
-    let parts : SatisfiesAll a (clauses_of (take c.clauses.clause-index c.args.clauses.now)) × (satisfies a c.clause-item.result.items ≡ true) =
-    satisfies_all-more a c.args.clauses.now c.clauses.clause-index c.clause-item.result c.clauses-test.true c.clause-item.is model in
-    c.add.ensures.sound a (c.clauses.invariant a parts.0) (ap (satisfies a) c.deref.ensures.value ∙ parts.1)
+pub returns-in-Err-clause-refused : goal.returns-in-Err-clause-refused
+returns-in-Err-clause-refused c =
+    let posed = c.in-Ok.checker in
+    let start = c.new-reading.result in
+    let same = c.new-reading.ensures ∙ ap at_start (sym c.in-Ok.ensures.variables) in
+    inr (posed, c.in-Ok.ensures, refusal_fed posed [] start posed c.args.proof.now c.feed.new.checker c.in-Err.fault (nothing_fed posed start same) c.in-Err.ensures.refused)
 
-pub returns : goal.returns
-returns c = IfOk-weaker c.finish.result _ _
-    (λ accepted none a model.
-    let all : take c.clauses.clause-index c.args.clauses.now ≡ c.args.clauses.now = take_all _ _ c.clauses-test.false in
-    none a (c.feed.ensures.kept a (c.clauses.invariant a (subst (λ vs. SatisfiesAll a (clauses_of vs)) (sym all) model))))
+pub returns-clause-accepted : goal.returns-clause-accepted
+returns-clause-accepted c = IfOk-weaker c.finish.result _ _
+    (λ accepted none a model. none a (c.feed.ensures.kept a (c.in-Ok.ensures.models.follows a model)))
     c.finish.ensures.accepted
 
-pub clauses-init : goal.clauses-init
-clauses-init c = λ a model. c.in_ok-checker.ensures.nothing a
+pub returns-clause-refused : goal.returns-clause-refused
+returns-clause-refused c =
+    let posed = c.in-Ok.checker in
+    let start = c.new-reading.result in
+    let same = c.new-reading.ensures ∙ ap at_start (sym c.in-Ok.ensures.variables) in
+    let fed = fed_more posed [] start posed c.args.proof.now c.feed.new.self c.feed.new.checker (nothing_fed posed start same) c.in_default-feed.ensures.read in
+    IfErr-weaker c.finish.result _ _
+    (λ fault why. inr (posed, c.in-Ok.ensures, refusal_at_end posed c.args.proof.now c.feed.new.self c.feed.new.checker c.finish.new.checker fault fed why))
+    c.finish.ensures.refused

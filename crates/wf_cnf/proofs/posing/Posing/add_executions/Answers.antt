@@ -4,7 +4,8 @@ use Rattle.wf_set.specs.Sets.{values_in}
 use Rattle.wf_formula.proofs.Members.{in_below, in_flat}
 use Rattle.wf_cnf.specs.Patterns.{patterns_seen}
 use Rattle.wf_cnf.specs.Clauses.{clauses_at, clauses_on, denied_at, patterns_in}
-use Rattle.wf_cnf.proofs.PosingLemmas.{keeps_some, kept_more, kept_same, one_part_more}
+use Rattle.wf_rup.proofs.PosedLemmas.{kept_more, kept_same}
+use Rattle.wf_cnf.proofs.PosingLemmas.{keeps_some, one_part_more}
 use Rattle.wf_cnf.proofs.TextLemmas.{pattern_there}
 use Rattle.wf_cnf.proofs.posing.Posing.add_executions.Goals as goal
 

@@ -3,7 +3,7 @@ use Rattle.wf_model.specs.Lists.{below}
 use Rattle.wf_set.specs.Sets.{values_in}
 use Rattle.wf_cnf.specs.Patterns.{patterns_seen}
 use Rattle.wf_cnf.specs.Clauses.{clauses_at, clauses_on}
-use Rattle.wf_cnf.specs.Posing.{KeepsAll, KeepsModelsOfAll}
+use Rattle.wf_rup.specs.Posed.{KeepsAll, KeepsModelsOfAll}
 use Rattle.wf_cnf.proofs.posing.Posing.add_executions.Given as goal
 
 abbrev pub invariant-loop-execution : goal.invariant-loop-execution

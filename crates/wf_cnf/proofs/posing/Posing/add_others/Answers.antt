@@ -4,8 +4,9 @@ use Rattle.wf_set.specs.Sets.{values_in}
 use Rattle.wf_cnf.specs.Patterns.{pattern_seen}
 use Rattle.wf_cnf.specs.Clauses.{HasPoints, denied_at}
 use Rattle.wf_formula.proofs.Members.{in_from_contains, in_map}
-use Rattle.wf_cnf.specs.Posing.{KeepsModelsOfAll}
-use Rattle.wf_cnf.proofs.PosingLemmas.{keeps_one, kept_one, kept_same, one_more}
+use Rattle.wf_rup.specs.Posed.{KeepsModelsOfAll}
+use Rattle.wf_rup.proofs.PosedLemmas.{kept_one, kept_same}
+use Rattle.wf_cnf.proofs.PosingLemmas.{keeps_one, one_more}
 use Rattle.wf_cnf.proofs.posing.Posing.add_others.Goals as goal
 
 pub put_denied-requires-clause-places : goal.put_denied-requires-clause-places
@@ -29,7 +30,7 @@ loop-pattern-preserved c =
           added c.loop-pattern.invariant.sound c.add.ensures.sound;
       whole = kept_one (map f (map pattern_seen (take i patterns))) (map f (map pattern_seen (take (i + 1) patterns))) (f (pattern_seen x)) _ _ _ _
           (one_more f pattern_seen patterns i x c.loop-pattern-test.true c.pattern-item.is) added
-          c.loop-pattern.invariant.whole c.in_ok-add.ensures.kept c.in_ok-add.ensures.still;
+          c.loop-pattern.invariant.whole c.in_ok-add.ensures.kept c.in_ok-add.ensures.still c.in_ok-add.ensures.alone;
     }
 
 pub returns-in_err-add-clause-sound : goal.returns-in_err-add-clause-sound

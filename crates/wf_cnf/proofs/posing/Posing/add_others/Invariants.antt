@@ -2,7 +2,7 @@ use Rattle.std.proofs.Common.{map, take}
 use Rattle.wf_set.specs.Sets.{values_in}
 use Rattle.wf_cnf.specs.Patterns.{pattern_seen}
 use Rattle.wf_cnf.specs.Clauses.{denied_at}
-use Rattle.wf_cnf.specs.Posing.{KeepsAll, KeepsModelsOfAll}
+use Rattle.wf_rup.specs.Posed.{KeepsAll, KeepsModelsOfAll}
 use Rattle.wf_cnf.proofs.posing.Posing.add_others.Given as goal
 
 abbrev pub invariant-loop-pattern : goal.invariant-loop-pattern

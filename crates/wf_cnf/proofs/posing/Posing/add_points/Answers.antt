@@ -5,8 +5,9 @@ use Rattle.wf_set.specs.Sets.{values_in}
 use Rattle.wf_formula.specs.Encoding.{at_least_one}
 use Rattle.wf_formula.proofs.Members.{in_below, in_map}
 use Rattle.wf_model.proofs.Basics.{below_next}
-use Rattle.wf_cnf.specs.Posing.{KeepsModelsOfAll}
-use Rattle.wf_cnf.proofs.PosingLemmas.{keeps_one, kept_one, kept_same}
+use Rattle.wf_rup.specs.Posed.{KeepsModelsOfAll}
+use Rattle.wf_rup.proofs.PosedLemmas.{kept_one, kept_same}
+use Rattle.wf_cnf.proofs.PosingLemmas.{keeps_one}
 use Rattle.wf_cnf.proofs.posing.Posing.add_points.Goals as goal
 
 pub loop-point-preserved : goal.loop-point-preserved
@@ -18,7 +19,7 @@ loop-point-preserved c =
     record {
       sound = keeps_one (map f (below n)) (f i) _ _ _ _ (in_map f (below n) i (in_below n i c.loop-point-test.true)) added c.loop-point.invariant.sound c.add.ensures.sound;
       whole = kept_one (map f (below i)) (map f (below (i + 1))) (f i) _ _ _ _ (ap (map f) (below_next i) ∙ map-append f (below i) (i ∷ [])) added
-          c.loop-point.invariant.whole c.in_ok-add.ensures.kept c.in_ok-add.ensures.still;
+          c.loop-point.invariant.whole c.in_ok-add.ensures.kept c.in_ok-add.ensures.still c.in_ok-add.ensures.alone;
     }
 
 pub returns-in_err-add-clause-sound : goal.returns-in_err-add-clause-sound

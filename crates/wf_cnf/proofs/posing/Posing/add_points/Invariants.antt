@@ -2,7 +2,7 @@ use Rattle.std.proofs.Common.{map}
 use Rattle.wf_model.specs.Lists.{below}
 use Rattle.wf_set.specs.Sets.{values_in}
 use Rattle.wf_formula.specs.Encoding.{at_least_one}
-use Rattle.wf_cnf.specs.Posing.{KeepsAll, KeepsModelsOfAll}
+use Rattle.wf_rup.specs.Posed.{KeepsAll, KeepsModelsOfAll}
 use Rattle.wf_cnf.proofs.posing.Posing.add_points.Given as goal
 
 abbrev pub invariant-loop-point : goal.invariant-loop-point

@@ -2,7 +2,7 @@ use Rattle.std.proofs.Common.{◌∙◌, ap}
 use Rattle.std.proofs.lemmas.Result.{IfOk-weaker}
 use Rattle.wf_rup.specs.Seen.{known_of}
 use Rattle.wf_rup.proofs.LiteralLemmas.{entails-clause, keeps-models}
-use Rattle.wf_rup.proofs.StoredLemmas.{is-kept, knows-still}
+use Rattle.wf_rup.proofs.StoredLemmas.{is-kept, knows-alone, knows-still}
 use Rattle.wf_rup.proofs.UnitLemmas.{does-not-follow}
 use Rattle.wf_rup.proofs.checker.Checker.derive.Goals as goal
 
@@ -33,3 +33,9 @@ returns-clause-added c = IfOk-weaker c.derive.result _ _
 
 pub returns-clause-still : goal.returns-clause-still
 returns-clause-still c = IfOk-weaker c.derive.result _ _ (λ follows still. knows-still c.self.inside.variables c.self.inside.database c.derive.new.self c.args.self.now c.self.view_is still) c.derive.ensures.still
+
+pub returns-clause-alone : goal.returns-clause-alone
+returns-clause-alone c = IfOk-weaker c.derive.result _ _
+    (λ follows stored. knows-alone c.self.inside.variables c.self.inside.database c.derive.new.self c.args.self.now c.args.lemma.now _ c.self.view_is
+    (c.deref.ensures.value ∙ c.in_ok-put_codes.ensures) stored)
+    c.derive.ensures.alone

@@ -10,4 +10,5 @@ returns-in-Ok-true-clause-taken c =
       entailed = c.in-Ok-true.ensures.follows c.in-Ok-true.field-0-test;
       kept = c.in-Ok-true.ensures.added c.in-Ok-true.field-0-test;
       still = c.in-Ok-true.ensures.still;
+      alone = c.in-Ok-true.ensures.alone;
     })
