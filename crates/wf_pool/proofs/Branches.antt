@@ -13,13 +13,12 @@ use Rattle.wf_model.specs.Laws.{HasCanonicalLines, HasCanonicalMap, IsBoxOf, IsC
 use Rattle.wf_lines.specs.declared.line.Line.{Line}
 use Rattle.wf_lines.specs.Lines.{line_of}
 use Rattle.wf_search.specs.Cover.{LeadsToMapInRoot}
-use Rattle.wf_search.specs.Found.{IsCanonical}
 use Rattle.wf_search.specs.declared.searching.Found.{Found}
 use Rattle.wf_search.specs.declared.searching.Found.TheVariants as found
 use Rattle.wf_pool.specs.declared.answer.KeptLines.{KeptLines}
 use Rattle.wf_pool.specs.declared.answer.KeptLines.TheVariants as keep
 use Rattle.wf_pool.specs.Branches.{has_map, branch_count, box_at, lines_at, map_lines, refuting_lines, IsCoverOf, IsMapAt, IsMapOf, AreLinesAt, AreLinesOf, HasEachLines, LeadIfKept, LeadInBox, LeadInRoot}
-use Rattle.wf_pool.specs.Work.{IsFoundAt}
+use Rattle.wf_pool.specs.Work.{IsFoundAt, IsFoundIn}
 
 -- what keeps the lines that refute, and what drops those that lead to a map
 abbrev pub KeepsRefuting : KeptLines → Type 0
@@ -37,16 +36,6 @@ dropped_map kept ls drops = ⊎_elim (λ (e : kept ≡ keep.Refuting). ap (λ k.
 pub map_is : (p : Problem) (kept : KeptLines) (i : ℕ) (m : List ℕ) (ls : List Line) → IsMapAt p kept i m ls → has_map p i ≡ true
 unfolding IsMapAt has_map
 map_is p _ i m ls h = ap is_some h.1
-
--- a map with what is kept of its lines
-pub map_kept : (p : Problem) (kept : KeptLines) (i : ℕ) (m : List ℕ) (ls less : List Line) → IsMapAt p keep.All i m ls → map line_of less ≡ map_lines kept (map line_of ls) → IsMapAt p kept i m less
-unfolding IsMapAt
-map_kept p kept i m ls less h are = (h.0, h.1, are ∙ ap (map_lines kept) h.2)
-
--- what is kept of the lines of a branch without a map
-pub lines_kept : (p : Problem) (kept : KeptLines) (i : ℕ) (ls less : List Line) → AreLinesAt p keep.All i ls → map line_of less ≡ refuting_lines kept (map line_of ls) → AreLinesAt p kept i less
-unfolding AreLinesAt
-lines_kept p kept i ls less h are = (h.0, (h.1.0, are ∙ ap (refuting_lines kept) h.1.1))
 
 pub lines_are : (p : Problem) (kept : KeptLines) (i : ℕ) (ls : List Line) → AreLinesAt p kept i ls → has_map p i ≡ false
 unfolding AreLinesAt has_map
@@ -71,25 +60,25 @@ unfolding branch_count
 inside_cover p c i cover inside = subst (λ (boxes : List Box). i < length boxes) cover.branches inside
 
 -- what is found in a branch of a cover
-map_in_cover : (p : Problem) (c : List Item) (i : ℕ) (m : List ℕ) (ls : List Line) → IsCoverOf p c → i < length (boxes_left_out c)
-    → IsMapOf p (box_at (boxes_left_out c) i) m → LeadInBox p keep.All (box_at (boxes_left_out c) i) ls → IsMapAt p keep.All i m ls
+map_in_cover : (p : Problem) (kept : KeptLines) (c : List Item) (i : ℕ) (m : List ℕ) (ls : List Line) → IsCoverOf p c → i < length (boxes_left_out c)
+    → IsMapOf p (box_at (boxes_left_out c) i) m → LeadInBox p kept (box_at (boxes_left_out c) i) ls → IsMapAt p kept i m ls
 unfolding IsMapAt
-map_in_cover p c i m ls cover inside found lead = (
+map_in_cover p kept c i m ls cover inside found lead = (
   inside_cover p c i cover inside,
   subst (λ boxes. IsMapOf p (box_at boxes i) m) cover.branches found,
-  subst (λ boxes. LeadInBox p keep.All (box_at boxes i) ls) cover.branches lead,
+  subst (λ boxes. LeadInBox p kept (box_at boxes i) ls) cover.branches lead,
 )
 
-lines_in_cover : (p : Problem) (c : List Item) (i : ℕ) (ls : List Line) → IsCoverOf p c → i < length (boxes_left_out c) → AreLinesOf p keep.All (box_at (boxes_left_out c) i) ls → AreLinesAt p keep.All i ls
+lines_in_cover : (p : Problem) (kept : KeptLines) (c : List Item) (i : ℕ) (ls : List Line) → IsCoverOf p c → i < length (boxes_left_out c) → AreLinesOf p kept (box_at (boxes_left_out c) i) ls → AreLinesAt p kept i ls
 unfolding AreLinesAt
-lines_in_cover p c i ls cover inside found = (inside_cover p c i cover inside, subst (λ boxes. AreLinesOf p keep.All (box_at boxes i) ls) cover.branches found)
+lines_in_cover p kept c i ls cover inside found = (inside_cover p c i cover inside, subst (λ boxes. AreLinesOf p kept (box_at boxes i) ls) cover.branches found)
 
 -- what a search found in a branch of a cover
-pub found_at : (p : Problem) (c : List Item) (i : ℕ) (box : Box) (f : Found)
-    → IsCoverOf p c → i < length (boxes_left_out c) → box ≡ box_at (boxes_left_out c) i → IsCanonical (canonical p box) f → IsFoundAt p i f
-found_at p c i box (found.Map m ls) cover inside is h = map_in_cover p c i m.items ls.items cover inside (subst (λ b. IsMapOf p b m.items) is h.0) (subst (λ b. LeadInBox p keep.All b ls.items) is (sym h.1))
-found_at p c i box (found.Refuted ls) cover inside is h = lines_in_cover p c i ls.items cover inside (subst (λ b. AreLinesOf p keep.All b ls.items) is (h.0, sym h.1))
-found_at p c i box found.Stopped cover inside is h = tt
+pub found_at : (p : Problem) (kept : KeptLines) (c : List Item) (i : ℕ) (box : Box) (f : Found)
+    → IsCoverOf p c → i < length (boxes_left_out c) → box ≡ box_at (boxes_left_out c) i → IsFoundIn p kept box f → IsFoundAt p kept i f
+found_at p kept c i box (found.Map m ls) cover inside is h = map_in_cover p kept c i m.items ls.items cover inside (subst (λ b. IsMapOf p b m.items) is h.0) (subst (λ b. LeadInBox p kept b ls.items) is h.1)
+found_at p kept c i box (found.Refuted ls) cover inside is h = lines_in_cover p kept c i ls.items cover inside (subst (λ b. AreLinesOf p kept b ls.items) is h)
+found_at p kept c i box found.Stopped cover inside is h = tt
 
 pub count_of_cover : (p : Problem) (c : List Item) → IsCoverOf p c → length (boxes_left_out c) ≡ branch_count p
 unfolding branch_count

@@ -1,6 +1,7 @@
 -- What a worker knows, and what it keeps of what it found.
 use Rattle.std.specs.Prelude.{◌≡◌, ℕ, ◌+◌, ◌<◌, ◌≤◌, true, false, List, [], ◌∷◌, map, length, All, Option, IfSome, option_to_list, Vec, vec_capacity}
 use Rattle.wf_model.specs.Problem.{Problem}
+use Rattle.wf_model.specs.Box.{Box}
 use Rattle.wf_model.specs.Outline.{Item, boxes_left_out}
 use Rattle.wf_core.specs.Count.{times, times_in, once_below}
 use Rattle.wf_board.specs.Desk.{BoardId, Desk, looked, settled}
@@ -8,12 +9,11 @@ use Rattle.wf_box.specs.Boxes.{ServeFor}
 use Rattle.wf_search.specs.declared.searching.Found.{Found}
 use Rattle.wf_search.specs.declared.searching.Found.TheVariants as found
 use Rattle.wf_pool.specs.declared.answer.KeptLines.{KeptLines}
-use Rattle.wf_pool.specs.declared.answer.KeptLines.TheVariants as keep
 use Rattle.wf_pool.specs.declared.worker.MapAt.{MapAt}
 use Rattle.wf_pool.specs.declared.worker.LinesAt.{LinesAt}
 use Rattle.wf_pool.specs.declared.worker.Finds.{Finds}
 use Rattle.wf_pool.specs.declared.worker.Worker.{Worker}
-use Rattle.wf_pool.specs.Branches.{has_map, IsCoverOf, IsMapAt, AreLinesAt}
+use Rattle.wf_pool.specs.Branches.{has_map, IsCoverOf, IsMapAt, IsMapOf, AreLinesAt, AreLinesOf, LeadInBox}
 
 -- the branches whose map, or whose lines, are kept
 abbrev pub map_branches : Option MapAt → List ℕ
@@ -132,8 +132,14 @@ pub record IsGround (p : Problem) (c : List Item) (b : BoardId) : Type 0 where
   pub cover : IsCoverOf p c
   pub count : length (boxes_left_out c) ≡ b.branches
 
--- what a search of branch i found
-abbrev pub IsFoundAt : Problem → ℕ → Found → Type 0
-IsFoundAt p i (found.Map m ls) = IsMapAt p keep.All i m.items ls.items
-IsFoundAt p i (found.Refuted ls) = AreLinesAt p keep.All i ls.items
-IsFoundAt p i found.Stopped = Unit {0}
+-- what a search of a box found, with those of its lines that are kept
+abbrev pub IsFoundIn : Problem → KeptLines → Box → Found → Type 0
+IsFoundIn p kept box (found.Map m ls) = IsMapOf p box m.items × LeadInBox p kept box ls.items
+IsFoundIn p kept box (found.Refuted ls) = AreLinesOf p kept box ls.items
+IsFoundIn p kept box found.Stopped = Unit {0}
+
+-- the same of branch i
+abbrev pub IsFoundAt : Problem → KeptLines → ℕ → Found → Type 0
+IsFoundAt p kept i (found.Map m ls) = IsMapAt p kept i m.items ls.items
+IsFoundAt p kept i (found.Refuted ls) = AreLinesAt p kept i ls.items
+IsFoundAt p kept i found.Stopped = Unit {0}

@@ -10,6 +10,7 @@
 //! - `worker`: a seat, what the worker keeps of what it found, and what
 //!   closing found out on the way.
 //! - `site`: what all workers share.
+//! - `finding`: what a search finds, with those of its lines that are kept.
 //! - `watch`: a worker at a branch; it looks at the board before each turn of its search.
 //! - `crew`: all workers, each in a thread of its own where one can be had.
 //! - `answer`: what the workers kept, brought together by branch.
@@ -29,6 +30,7 @@
 
 mod answer;
 mod crew;
+mod finding;
 mod gate;
 mod laws;
 mod site;

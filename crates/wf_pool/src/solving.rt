@@ -15,6 +15,7 @@ ghost use Rattle.wf_pool.specs.Answers.{IsAnswer, IsAnswerAt, HasAccount, HasBra
 
 use crate::answer::{AllFinds, Answer, BranchAnswer, KeptLines, apart, in_order, map_of};
 use crate::crew::crew;
+use crate::finding::find;
 use crate::gate::{Gate, Moment, Open};
 use crate::site::Site;
 use crate::watch::{Told, settle};
@@ -26,7 +27,7 @@ use wf_box::{Answers, Problem};
 use wf_core::Account;
 use wf_handout::Handout;
 use wf_lines::Lines;
-use wf_search::{Cover, Found, search_with, split_with};
+use wf_search::{Cover, Found, split_with};
 
 /// The most workers that [`solve`] takes.
 pub const MAX_WORKERS: u32 = 64;
@@ -159,9 +160,8 @@ fn branches_of(alloc: Global, problem: &Problem, answers: &mut Answers) -> Resul
     split_with(alloc, problem, answers)
 }
 
-/// What a branch has, by a search that a gate is told of. Of its lines those that aren't kept are
-/// dropped as soon as it is searched. It goes by what closing found out in earlier branches, and
-/// leaves what is known then.
+/// What a branch has, by a search that a gate is told of, with those of its lines that are kept. It
+/// goes by what closing found out in earlier branches, and leaves what is known then.
 fn search_whole<G: Gate>(
     alloc: Global,
     problem: &Problem,
@@ -179,11 +179,12 @@ fn search_whole<G: Gate>(
 {
     gate.at(0, Moment::Taken(branch));
     let boxed = cover.branch(alloc, branch)?;
-    let found = search_with(alloc, problem, boxed, &mut Told { gate, branch }, answers)?;
+    let mut told = Told { gate, branch };
+    let found = find(alloc, problem, kept, boxed, &mut told, answers)?;
     gate.at(0, Moment::Settled(branch));
     match found {
-        Found::Map(map, lines) => Ok(Answer::Map(map, kept.map_lines(alloc, lines))),
-        Found::Refuted(lines) => Ok(Answer::Nothing(kept.refuting_lines(alloc, lines))),
+        Found::Map(map, lines) => Ok(Answer::Map(map, lines)),
+        Found::Refuted(lines) => Ok(Answer::Nothing(lines)),
         Found::Stopped => unreachable!(),
     }
 }

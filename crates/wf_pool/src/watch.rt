@@ -5,12 +5,13 @@ ghost use Rattle.wf_pool.specs.Work.{HasLooked, HasSettled, IsToSettle};
 ghost use Rattle.wf_pool.specs.Sites.{IsWorkerOf};
 ghost use Rattle.wf_pool.specs.Looking.{looked_itself, looked_on};
 
+use crate::finding::find;
 use crate::gate::{Gate, Moment};
 use crate::site::Site;
 use crate::worker::Worker;
 use std::alloc::{AllocError, Global};
 use wf_board::{Board, BoardSeat};
-use wf_search::{Stop, search_with};
+use wf_search::Stop;
 
 /// The seat of a worker while it searches a branch. It looks before each
 /// turn, and stops where a lower branch is posted.
@@ -99,7 +100,14 @@ pub(crate) fn settle<G: Gate>(
         branch,
         seat,
     };
-    let found = search_with(alloc, site.problem, boxed, &mut watch, &mut answers)?;
+    let found = find(
+        alloc,
+        site.problem,
+        site.kept,
+        boxed,
+        &mut watch,
+        &mut answers,
+    )?;
     let Watch {
         board: _,
         gate: _,
@@ -112,7 +120,7 @@ pub(crate) fn settle<G: Gate>(
         finds,
         answers,
     };
-    let settled = me.settle(alloc, site.board, site.kept, branch, found)?;
+    let settled = me.settle(site.board, branch, found)?;
     site.gate.at(worker, Moment::Settled(branch));
     Ok(settled)
 }

@@ -6,8 +6,7 @@ ghost use Rattle.wf_pool.specs.Branches.{IsMapAt, AreLinesAt};
 ghost use Rattle.wf_search.specs.Found.{OnStopped};
 ghost use Rattle.wf_pool.specs.Work.{HasSettled, IsFoundAt, IsSeat, IsToSettle, StaysHonest, StaysHonestIf};
 
-use crate::answer::KeptLines;
-use std::alloc::{AllocError, Global};
+use std::alloc::AllocError;
 use wf_board::{Board, BoardSeat};
 use wf_box::Answers;
 use wf_lines::Lines;
@@ -106,13 +105,10 @@ impl Worker {
         board.cut(&mut self.seat, branch);
     }
 
-    /// Settles a branch by what a search of it found. Of its lines those that
-    /// aren't kept are dropped first.
+    /// Settles a branch by what a search of it found, with those of its lines that are kept.
     pub(crate) fn settle(
         self,
-        alloc: Global,
         board: &Board,
-        kept: KeptLines,
         branch: u32,
         found: Found,
     ) -> Result<Worker, AllocError>
@@ -122,18 +118,18 @@ impl Worker {
         ensures seat { IfOk result (λ w. IsSeat board.now w.seat) }
         ensures settled { IfOk result (HasSettled branch self) }
         ensures honest { IfOk result (StaysHonestIf
-            (λ p k. (k ≡ kept) × IsFoundAt p branch found) self) }
+            (λ p kept. IsFoundAt p kept branch found) self) }
         ensures answers { IfOk result (λ w. w.answers ≡ self.answers) }
     {
         let mut me = self;
         match found {
             Found::Map(map, lines) => {
-                me.post(board, branch, map, kept.map_lines(alloc, lines));
+                me.post(board, branch, map, lines);
                 me.forget();
                 Ok(me)
             }
             Found::Refuted(lines) => {
-                me.refute(board, branch, kept.refuting_lines(alloc, lines))?;
+                me.refute(board, branch, lines)?;
                 Ok(me)
             }
             Found::Stopped => {

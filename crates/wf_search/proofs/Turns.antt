@@ -1,16 +1,17 @@
 -- How many turns write the lines of closing a box, and those of the turn that it is in.
 use Rattle.std.proofs.Common.{◌≡◌, ℕ, zero, suc, ◌+◌, List, [], ◌∷◌, ◌++◌, map, Option, Some, None, Result, Ok, Err, IsErr, refl, ap, ◌∙◌, arith}
 use Rattle.std.proofs.lemmas.Bool.{false≢true}
-use Rattle.std.proofs.lemmas.List.{map-append}
 use Rattle.wf_model.specs.Problem.{Constraint, Problem}
 use Rattle.wf_model.specs.Box.{Box, candidates, count, first_empty, without}
 use Rattle.wf_model.specs.Refutation as refutation
-use Rattle.wf_model.specs.Closing.{Loss, Step, closing, closing_at, continued, lost, sweep, sweep_from, sweeps, take_out, take_out_each, taken_out, unless_none}
+use Rattle.wf_model.specs.Closing.{Loss, Step, closing, closing_at, continued, lost, sweep, sweep_from, sweeps, take_out, take_out_each, taken_out, unless_none, Trace}
 use Rattle.wf_lines.specs.Lines.{line_of}
-use Rattle.wf_lines.specs.declared.line.Line.{Line}
 use Rattle.wf_search.specs.declared.searching.Found.{Found}
 use Rattle.wf_search.specs.declared.searching.Found.TheVariants.{Map, Refuted, Stopped}
 use Rattle.wf_search.specs.Found.{AskedAtAll, HasAsked, turns}
+use Rattle.wf_search.specs.FoundMap.{HasAskedForMap}
+use Rattle.wf_search.specs.declared.maps.FoundMap.{FoundMap}
+use Rattle.wf_search.specs.declared.maps.FoundMap.TheVariants as mapped
 
 pub turns_append : (ls ms : List refutation.Line) → turns (ls ++ ms) ≡ turns ls + turns ms
 turns_append [] ms = omega arith
@@ -59,23 +60,20 @@ closing_at_ends (Some v) p box = refl
 
 -- ---- the lines of a turn
 
-module _ (p : Problem) (box : Box) (old closed : List Line) (grown : map line_of closed ≡ map line_of old ++ (closing p box).lines) where
-  closed_turns : (left : Option Box) → (closing p box).left ≡ left → turns (map line_of closed) ≡ turns (map line_of old) + ended left
-  closed_turns left is =
-      ap turns grown ∙ turns_append (map line_of old) (closing p box).lines
-      ∙ ap (λ n. turns (map line_of old) + n) (closing_at_ends (first_empty box) p box ∙ ap ended is)
-
+module _ (p : Problem) (box : Box) where
   -- it empties a point
-  pub emptied_turns : (closing p box).left ≡ None → turns (map line_of closed) ≡ turns (map line_of old) + 1
-  emptied_turns is = closed_turns None is
+  pub emptied_turn : (closing p box).left ≡ None → turns (closing p box).lines ≡ 1
+  emptied_turn is = closing_at_ends (first_empty box) p box ∙ ap ended is
 
   -- a line that takes nothing out comes after those of closing
-  pub opened_turns : (left : Box) (new : List Line) (line : Line) → (closing p box).left ≡ Some left → new ≡ closed ++ line ∷ [] → turns (line_of line ∷ []) ≡ 1
-      → turns (map line_of new) ≡ turns (map line_of old) + 1
-  opened_turns left new line is last one =
-      let whole : turns (map line_of new) ≡ turns (map line_of closed) + turns (line_of line ∷ []) =
-      ap (λ ls. turns (map line_of ls)) last ∙ ap turns (map-append line_of closed (line ∷ [])) ∙ turns_append (map line_of closed) (line_of line ∷ []) in
-      omega (arith, whole, one, closed_turns (Some left) is)
+  pub opened_turn : (left : Box) (line : refutation.Line) → (closing p box).left ≡ Some left → turns (line ∷ []) ≡ 1 → turns ((closing p box).lines ++ line ∷ []) ≡ 1
+  opened_turn left line is one =
+      let closed : turns (closing p box).lines ≡ 0 = closing_at_ends (first_empty box) p box ∙ ap ended is in
+      omega (arith, turns_append (closing p box).lines (line ∷ []), closed, one)
+
+-- one more turn than before
+pub turns_more : (ls added : List refutation.Line) → turns added ≡ 1 → turns (ls ++ added) ≡ turns ls + 1
+turns_more ls added one = omega (arith, turns_append ls added, one)
 
 -- however a search ends, it has asked
 pub asked_at_all : {E : Type 0} (Asked : ℕ → Type 0) (result : Result Found E) → HasAsked Asked result → (n : ℕ) × Asked n
@@ -84,7 +82,17 @@ asked_at_all Asked (Ok (Refuted lines)) has = (turns (map line_of lines.items), 
 asked_at_all Asked (Ok Stopped) has = (has.0, has.2)
 asked_at_all Asked (Err e) has = (has.0, has.2)
 
+pub asked_for_map : {E : Type 0} (t : Trace) (Asked : ℕ → Type 0) (result : Result FoundMap E) → HasAskedForMap t Asked result → (n : ℕ) × Asked n
+asked_for_map t Asked (Ok (mapped.Map values)) has = (turns t.lines, has)
+asked_for_map t Asked (Ok mapped.Nothing) has = (turns t.lines, has)
+asked_for_map t Asked (Ok mapped.Stopped) has = (has.0, has.2)
+asked_for_map t Asked (Err e) has = (has.0, has.2)
+
 -- where memory ran out, it had asked
+pub failed_map : {E : Type 0} (t : Trace) (Asked : ℕ → Type 0) (result : Result FoundMap E) → IsErr result → AskedAtAll Asked → HasAskedForMap t Asked result
+failed_map t Asked (Ok found) is asked = absurd (false≢true is)
+failed_map t Asked (Err e) is asked = asked
+
 pub failed : {E : Type 0} (Asked : ℕ → Type 0) (result : Result Found E) → IsErr result → AskedAtAll Asked → HasAsked Asked result
 failed Asked (Ok found) is asked = absurd (false≢true is)
 failed Asked (Err e) is asked = asked

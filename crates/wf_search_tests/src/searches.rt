@@ -13,7 +13,7 @@ use wf_examples::{
     RENAMING_2_3,
 };
 use wf_lines::{Line, Lines};
-use wf_search::{Cover, Found, Never, Stop, search, search_with, split};
+use wf_search::{Cover, Found, FoundMap, Never, Stop, search, search_map, search_with, split};
 
 /// It counts its questions as far as a number goes, and answers yes to those past so many.
 #[derive(Drop)]
@@ -247,6 +247,50 @@ fn a_question_before_each_turn(rt: HostRuntime) -> Result<(), Fail> {
     for (text, most, asked, stopped) in rows {
         assert_eq!(rt; search_until(rt.alloc(), text, most)?, (asked, stopped));
     }
+    Ok(())
+}
+
+/// What a search of the root of a task's problem finds without its lines, where so many questions
+/// are answered no; and how many it asks.
+fn search_root_for_map(
+    alloc: Global,
+    text: &str,
+    rounds: u32,
+    most: u32,
+) -> Result<(FoundMap, u32), Fail> {
+    let problem = problem_of(alloc, text, rounds)?;
+    let _points = problem.points();
+    let root = Box0::root(alloc, &problem)?;
+    let mut limit = Limit { asked: 0, most };
+    let mut answers = Answers::new(alloc);
+    let found = search_map(alloc, &problem, root, &mut limit, &mut answers)?;
+    Ok((found, limit.asked))
+}
+
+/// The lines of these searches, as they stand in the tests above, end this many turns.
+#[test]
+fn searches_without_lines(rt: HostRuntime) -> Result<(), Fail> {
+    let maps = [
+        (PATH_2, 1, [0, 2, 1, 0].as_slice(), 3),
+        (ONE_PROCESS, 8, [5].as_slice(), 1),
+    ];
+    for (text, rounds, wanted, turns) in maps {
+        let (found, asked) = search_root_for_map(rt.alloc(), text, rounds, 9)?;
+        let map = match found {
+            FoundMap::Map(values) => values,
+            _ => Vec::new(rt.alloc()),
+        };
+        assert_eq!(rt; map.as_slice(), wanted);
+        assert_eq!(rt; asked, turns);
+    }
+    for (text, rounds, turns) in [(RENAMING_2_2, 1, 3), (RENAMING_2_3, 0, 4), (PATH_3, 0, 1)] {
+        let (found, asked) = search_root_for_map(rt.alloc(), text, rounds, 9)?;
+        assert!(rt; matches!(&found, FoundMap::Nothing));
+        assert_eq!(rt; asked, turns);
+    }
+    let (stopped, asked) = search_root_for_map(rt.alloc(), RENAMING_2_2, 1, 2)?;
+    assert!(rt; matches!(&stopped, FoundMap::Stopped));
+    assert_eq!(rt; asked, 3);
     Ok(())
 }
 

@@ -1,9 +1,9 @@
 use Rattle.std.proofs.Common.{◌≡◌, ◌++◌, map}
 use Rattle.wf_lines.specs.Lines.{line_of}
-use Rattle.wf_search.specs.Outline.{slots_filled}
-use Rattle.wf_search.proofs.outline.fill_slots.Given as goal
+use Rattle.wf_search.specs.Outline.{gaps_filled}
+use Rattle.wf_search.proofs.outline.fill_gaps.Given as goal
 
-abbrev pub invariant-loop-slot : goal.invariant-loop-slot
-invariant-loop-slot l =
-    map line_of l.lines.items ++ slots_filled l.slot-iterator.a.rest.now l.slot-iterator.b.rest.items
-    ≡ slots_filled l.initial.slot-iterator.a.rest.now l.initial.slot-iterator.b.rest.items
+abbrev pub invariant-loop-gap : goal.invariant-loop-gap
+invariant-loop-gap l =
+    map line_of l.lines.items ++ gaps_filled l.gap-iterator.a.rest.now l.gap-iterator.b.rest.items
+    ≡ gaps_filled l.initial.gap-iterator.a.rest.now l.initial.gap-iterator.b.rest.items

@@ -1,0 +1,43 @@
+//! What a search finds, with those of its lines that are kept.
+
+ghost use Rattle.std.specs.Prelude.{ℕ, IfOk, OnOk};
+ghost use Rattle.wf_box.specs.Boxes.{IsFor, ServeFor};
+ghost use Rattle.wf_search.specs.Found.{OnStopped};
+ghost use Rattle.wf_pool.specs.Work.{IsFoundIn};
+
+use crate::answer::KeptLines;
+use std::alloc::{AllocError, Global};
+use wf_box::{Answers, Box0, Problem};
+use wf_search::{Found, FoundMap, Stop, search_map, search_with};
+
+/// What a search of a box finds, with those of its lines that are kept. Where none is kept, its
+/// memory doesn't grow with the number of turns.
+pub(crate) fn find<S: Stop>(
+    alloc: Global,
+    problem: &Problem,
+    kept: KeptLines,
+    boxed: Box0,
+    stop: &mut S,
+    answers: &mut Answers,
+) -> Result<Found, AllocError>
+    requires boxed { IsFor problem.now boxed }
+    requires answers { ServeFor problem.now answers.old }
+    ensures found { IfOk result (IsFoundIn problem.now kept boxed.sets) }
+    ensures asked { OnOk result ((n : ℕ) × S.asked n stop.old stop.new) }
+    ensures stopped { IfOk result (OnStopped (S.is_stopped stop.new)) }
+    ensures answers { ServeFor problem.now answers.new }
+{
+    match kept {
+        KeptLines::All => search_with(alloc, problem, boxed, stop, answers),
+        KeptLines::Refuting => match search_with(alloc, problem, boxed, stop, answers)? {
+            Found::Map(map, _) => Ok(Found::Map(map, Vec::new(alloc))),
+            Found::Refuted(lines) => Ok(Found::Refuted(lines)),
+            Found::Stopped => Ok(Found::Stopped),
+        },
+        KeptLines::Neither => match search_map(alloc, problem, boxed, stop, answers)? {
+            FoundMap::Map(map) => Ok(Found::Map(map, Vec::new(alloc))),
+            FoundMap::Nothing => Ok(Found::Refuted(Vec::new(alloc))),
+            FoundMap::Stopped => Ok(Found::Stopped),
+        },
+    }
+}
