@@ -37,12 +37,11 @@ changed_there (w ∷ words) (suc v) (suc u) word other = changed_there words v u
 after_more : (n : ℕ) (trail : List Change) (c : Change) (words : List (List ℕ)) → n ≤ length trail → words_after n (trail ++ c ∷ []) words ≡ words_after n trail (slice_set words c.point c.before)
 after_more n trail c words low = ap (λ cs. taken_back cs words) (drop-append-le n trail (c ∷ []) low) ∙ back_more (drop n trail) (c ∷ []) words
 
-pub one_change : (words : List (List ℕ)) (trail : List Change) (capacity counted left open_from v : ℕ) (before : List ℕ) → IsTracked (slice_set words v before) trail capacity counted open_from → v < length words → length (values_in (get_or words v [])) < length (values_in before)
-    → left + length (values_in before) ≡ counted + length (values_in (get_or words v [])) → IsTracked words (trail ++ record { point = v; before = before } ∷ []) capacity left open_from
-one_change words trail capacity counted left open_from v before kept within fewer counts = record {
+pub one_change : (words : List (List ℕ)) (trail : List Change) (capacity open_from v : ℕ) (before : List ℕ) → IsTracked (slice_set words v before) trail capacity open_from → v < length words → length (values_in (get_or words v [])) < length (values_in before)
+    → IsTracked words (trail ++ record { point = v; before = before } ∷ []) capacity open_from
+one_change words trail capacity open_from v before kept within fewer = record {
   few = omega (arith, kept.few, long);
   small = kept.small;
-  count_is = omega (arith, kept.count_is, counts, count_changed words v before within);
   room = λ n low. ⊎_elim
       (λ (earlier : n < suc (length trail)). subst (λ ws. n + count (box_of ws) ≤ capacity) (sym (after_more n trail c words (omega (arith, earlier)))) (kept.room n (omega (arith, earlier))))
       (λ (last : suc (length trail) ≤ n). subst (λ cs. n + count (box_of (taken_back cs words)) ≤ capacity) (sym (drop_all n (trail ++ c ∷ []) (omega (arith, last, length-append trail (c ∷ []))))) (at_end n (omega (arith, low, last, length-append trail (c ∷ [])))))
@@ -68,8 +67,8 @@ one_change words trail capacity counted left open_from v before kept within fewe
         omega (arith, all, is, ap (λ ws. count (box_of ws)) now, count_changed words v before within, fewer)
 
 -- there is room for a further change
-pub room_now : (words : List (List ℕ)) (trail : List Change) (capacity counted open_from : ℕ) → IsTracked words trail capacity counted open_from → length trail + count (box_of words) ≤ capacity
-room_now words trail capacity counted open_from kept =
+pub room_now : (words : List (List ℕ)) (trail : List Change) (capacity open_from : ℕ) → IsTracked words trail capacity open_from → length trail + count (box_of words) ≤ capacity
+room_now words trail capacity open_from kept =
     subst (λ cs. length trail + count (box_of (taken_back cs words)) ≤ capacity) (drop_all (length trail) trail (omega arith)) (kept.room (length trail) (omega arith))
 
 -- ---- one change less
@@ -83,20 +82,11 @@ last_at : {X : Type 0} (xs : List X) (x d : X) → get_or (xs ++ x ∷ []) (leng
 last_at [] x d = refl
 last_at (y ∷ xs) x d = last_at xs x d
 
-pub last_within : (words : List (List ℕ)) (trail : List Change) (c : Change) (capacity counted open_from : ℕ) → IsTracked words (trail ++ c ∷ []) capacity counted open_from → c.point < length words
-last_within words trail c capacity counted open_from kept = subst (λ x. x.point < length words) (last_at trail c c) (kept.within (length trail) c (omega (arith, length-append trail (c ∷ []))))
-
-pub count_here : (words : List (List ℕ)) (v : ℕ) → v < length words → length (values_in (get_or words v [])) ≤ count (box_of words)
-count_here [] v within = absurd (let none : ⊥ = omega (arith, within) in none)
-count_here (w ∷ words) zero within = omega arith
-count_here (w ∷ words) (suc v) within = omega (arith, count_here words v (omega (arith, within)))
-
-pub one_back : (words : List (List ℕ)) (trail : List Change) (c : Change) (capacity counted now open_from from : ℕ) → IsTracked words (trail ++ c ∷ []) capacity counted open_from
-    → now + length (values_in (get_or words c.point [])) ≡ counted + length (values_in c.before) → from ≤ open_from → (c.point < from → length (values_in c.before) ≤ 1) → IsTracked (slice_set words c.point c.before) trail capacity now from
-one_back words trail c capacity counted now open_from from kept counts low single = record {
+pub one_back : (words : List (List ℕ)) (trail : List Change) (c : Change) (capacity open_from from : ℕ) → IsTracked words (trail ++ c ∷ []) capacity open_from
+    → from ≤ open_from → (c.point < from → length (values_in c.before) ≤ 1) → IsTracked (slice_set words c.point c.before) trail capacity from
+one_back words trail c capacity open_from from kept low single = record {
   few = omega (arith, kept.few, long);
   small = kept.small;
-  count_is = omega (arith, kept.count_is, counts, count_changed words c.point c.before within);
   room = λ n inside. subst (λ ws. n + count (box_of ws) ≤ capacity) (after_more n trail c words inside) (kept.room n (omega (arith, inside, length-append trail (c ∷ []))));
   within = λ k d inside. subst (λ x. x.point < length (slice_set words c.point c.before)) (first_at trail (c ∷ []) k d inside) (omega (arith, long, kept.within k d (omega (arith, inside, length-append trail (c ∷ [])))));
   open_within = omega (arith, low, kept.open_within, long);

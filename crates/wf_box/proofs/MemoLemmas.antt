@@ -10,16 +10,17 @@ use Rattle.wf_box.specs.Quiet.{no_execution}
 use Rattle.wf_set.specs.Sets.{values_in}
 use Rattle.wf_model.specs.Lists.{has}
 use Rattle.wf_model.specs.Box.{is_supported}
-use Rattle.wf_box.specs.Revising.{AreKnown, IsKnown, IsKnownParts, answer_seen, answers_in, table_seen, wide_set, widened}
+use Rattle.wf_box.specs.Revising.{AreKnown, IsKnown, IsKnownParts, IsKnownWord, answer_seen, answers_in, table_seen, wide_set, widened, word_seen}
 use Rattle.wf_box.specs.declared.memo.Memo.{Memo}
 use Rattle.wf_box.specs.declared.memo.Revised.{Revised}
 use Rattle.wf_box.specs.declared.memo.RevisedParts.{RevisedParts}
+use Rattle.wf_box.specs.declared.memo.RevisedWord.{RevisedWord}
 use Rattle.wf_box.specs.declared.problem.PackedExecution.{PackedExecution}
 use Rattle.wf_box.specs.declared.problem.Network.{Network}
 use Rattle.wf_box.specs.declared.problem.Rule.{Rule}
 use Rattle.wf_box.proofs.WorkLemmas.{few_at}
 
--- ---- answers of both kinds
+-- ---- answers of all kinds
 
 front : {X : Type 0} (P : X → Type 0) (xs ys : List X) → All P (xs ++ ys) → All P xs
 front P [] ys all i d low = absurd (let none : ⊥ = omega (arith, low) in none)
@@ -35,14 +36,25 @@ seen_known ks [] all i d low = absurd (let none : ⊥ = omega (arith, low) in no
 seen_known ks (x ∷ xs) all zero d low = all 0 None (omega arith)
 seen_known ks (x ∷ xs) all (suc i) d low = seen_known ks xs (λ k e h. all (suc k) e (omega (arith, h))) i d (omega (arith, low))
 
+words_known : (ks : List Constraint) (answers : List (Option RevisedWord)) → AreKnown ks (map word_seen answers) → All (IsKnownWord ks) answers
+words_known ks [] all i d low = absurd (let none : ⊥ = omega (arith, low) in none)
+words_known ks (x ∷ xs) all zero d low = all 0 None (omega arith)
+words_known ks (x ∷ xs) all (suc i) d low = words_known ks xs (λ k e h. all (suc k) e (omega (arith, h))) i d (omega (arith, low))
+
+pub small_known : (ks : List Constraint) (m : Memo) → AreKnown ks (answers_in m) → All (IsKnownWord ks) m.small.items
+small_known ks m known = words_known ks m.small.items (front (IsKnown ks) (map word_seen m.small.items) (map answer_seen m.narrow.items)
+    (front (IsKnown ks) (map word_seen m.small.items ++ map answer_seen m.narrow.items) m.wide.items known))
+
 pub narrow_known : (ks : List Constraint) (m : Memo) → AreKnown ks (answers_in m) → All (IsKnownParts ks) m.narrow.items
-narrow_known ks m known = seen_known ks m.narrow.items (front (IsKnown ks) (map answer_seen m.narrow.items) m.wide.items known)
+narrow_known ks m known = seen_known ks m.narrow.items (back (IsKnown ks) (map word_seen m.small.items) (map answer_seen m.narrow.items)
+    (front (IsKnown ks) (map word_seen m.small.items ++ map answer_seen m.narrow.items) m.wide.items known))
 
 pub wide_known : (ks : List Constraint) (m : Memo) → AreKnown ks (answers_in m) → All (IsKnown ks) m.wide.items
-wide_known ks m known = back (IsKnown ks) (map answer_seen m.narrow.items) m.wide.items known
+wide_known ks m known = back (IsKnown ks) (map word_seen m.small.items ++ map answer_seen m.narrow.items) m.wide.items known
 
-pub both_known : (ks : List Constraint) (narrow : List (Option RevisedParts)) (wide : List (Option Revised)) → All (IsKnownParts ks) narrow → All (IsKnown ks) wide → AreKnown ks (map answer_seen narrow ++ wide)
-both_known ks narrow wide first then = All-append (IsKnown ks) (map answer_seen narrow) wide (All-map (IsKnown ks) answer_seen narrow first) then
+pub all_known : (ks : List Constraint) (small : List (Option RevisedWord)) (narrow : List (Option RevisedParts)) (wide : List (Option Revised)) → All (IsKnownWord ks) small → All (IsKnownParts ks) narrow → All (IsKnown ks) wide → AreKnown ks (map word_seen small ++ map answer_seen narrow ++ wide)
+all_known ks small narrow wide first second third = All-append (IsKnown ks) (map word_seen small ++ map answer_seen narrow) wide
+    (All-append (IsKnown ks) (map word_seen small) (map answer_seen narrow) (All-map (IsKnown ks) word_seen small first) (All-map (IsKnown ks) answer_seen narrow second)) third
 
 -- what is none or nothing at all is none
 pub none_alone : {A : Type 0} (C : Option A → Type 0) → ((x : A) → C (Some x) → ⊥) → (y : Option A) → C y → y ≡ None

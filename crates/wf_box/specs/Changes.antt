@@ -17,10 +17,9 @@ taken_back (c ∷ cs) words = slice_set (taken_back cs words) c.point c.before
 abbrev pub words_after : ℕ → List Change → List (List ℕ) → List (List ℕ)
 words_after n trail words = taken_back (drop n trail) words
 
-pub record IsTracked (words : List (List ℕ)) (trail : List Change) (capacity counted open_from : ℕ) : Type 0 where
+pub record IsTracked (words : List (List ℕ)) (trail : List Change) (capacity open_from : ℕ) : Type 0 where
   pub few : length words ≤ most_points
   pub small : capacity ≤ most_candidates
-  pub count_is : counted ≡ count (box_of words)
   -- a change takes a candidate at least, so there is room for all that can come
   pub room : (n : ℕ) → n ≤ length trail → n + count (box_of (words_after n trail words)) ≤ capacity
   pub within : All (λ c. c.point < length words) trail
@@ -28,11 +27,11 @@ pub record IsTracked (words : List (List ℕ)) (trail : List Change) (capacity c
   pub single : (v : ℕ) → v < open_from → length (candidates (box_of words) v) ≤ 1
 
 abbrev pub KeepsTrack : Tracked → Type 0
-KeepsTrack t = IsTracked t.words.items t.trail.items (vec_capacity t.trail) t.count t.open_from
+KeepsTrack t = IsTracked t.words.items t.trail.items (vec_capacity t.trail) t.open_from
 
 -- it keeps track once the point has these candidates
 abbrev pub KeepsTrackWith : ℕ → List ℕ → Tracked → Type 0
-KeepsTrackWith v set t = IsTracked (slice_set t.words.items v set) t.trail.items (vec_capacity t.trail) t.count t.open_from
+KeepsTrackWith v set t = IsTracked (slice_set t.words.items v set) t.trail.items (vec_capacity t.trail) t.open_from
 
 -- the candidates of each point
 abbrev pub sets_in : Tracked → Box

@@ -69,7 +69,7 @@ pub fn close(
     ensures refused_lines { OnErr result (lines.new.items ≡ lines.old.items) }
     ensures refused_box { OnErr result (boxed.new ≡ boxed.old) }
 {
-    lines.reserve(boxed.workspace.tracked.count as usize + 1)?;
+    lines.reserve(boxed.workspace.tracked.room() + 1)?;
     let executions = problem.network.executions.len() as u32;
     boxed.workspace.marks.reserve(alloc, executions)?;
     // no call after this one is refused

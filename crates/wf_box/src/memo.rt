@@ -3,7 +3,7 @@
 ghost use Rattle.std.specs.Prelude.{◌≡◌, [], All, List, Some};
 ghost use Rattle.wf_model.specs.Problem.{Constraint};
 ghost use Rattle.wf_box.specs.Problems.{IsNetwork};
-ghost use Rattle.wf_box.specs.Revising.{AreKnown, IsKnown, IsKnownParts, answers_in};
+ghost use Rattle.wf_box.specs.Revising.{AreKnown, IsKnown, IsKnownParts, IsKnownWord, answers_in};
 
 use crate::problem::Network;
 use std::alloc::Global;
@@ -16,7 +16,7 @@ const FEWEST: usize = 64;
 /// How many there are at most for candidates of which one is 64 or more.
 const MOST_WIDE: usize = 4096;
 
-/// How many there are at most for candidates below 64.
+/// How many there are at most for candidates below 16, and for others below 64.
 const MOST_NARROW: usize = 65536;
 
 /// The places become so many times as many.
@@ -39,13 +39,25 @@ pub(crate) struct RevisedParts {
     pub(crate) supported: [Part; 4],
 }
 
+/// The same for candidates below 16, in a machine word each: 16 bits for each place, those of the
+/// first one lowest. Most problems have no others, and more of these lie near each other.
+#[derive(Clone, Copy, Debug)]
+pub(crate) struct RevisedWord {
+    pub(crate) execution: usize,
+    pub(crate) candidates: u64,
+    pub(crate) supported: u64,
+}
+
 /// Answers of the kernel. Each has its place by its rule and its candidates,
 /// and stays there until another one comes.
 #[derive(Drop)]
 pub(crate) struct Memo {
-    // for candidates below 64
-    pub(crate) narrow: Vec<Option<RevisedParts>>,
+    // for candidates below 16
+    pub(crate) small: Vec<Option<RevisedWord>>,
     // how many of these answers were not there, since it has so many places for them
+    pub(crate) small_misses: u32,
+    // for others below 64
+    pub(crate) narrow: Vec<Option<RevisedParts>>,
     pub(crate) narrow_misses: u32,
     // for others
     pub(crate) wide: Vec<Option<Revised>>,
@@ -58,6 +70,8 @@ impl Memo {
         ensures { answers_in result ≡ [] }
     {
         Memo {
+            small: Vec::new(alloc),
+            small_misses: 0,
             narrow: Vec::new(alloc),
             narrow_misses: 0,
             wide: Vec::new(alloc),
@@ -73,11 +87,29 @@ impl Memo {
         ensures { (ks : List Constraint) → AreKnown ks (answers_in self.old)
             → AreKnown ks (answers_in self.new) }
     {
+        self.grow_small(alloc, network);
         self.grow_narrow(alloc, network);
         self.grow_wide(alloc);
     }
 
-    /// The same for candidates below 64.
+    /// The same for candidates below 16.
+    fn grow_small(&mut self, alloc: Global, network: &Network)
+        requires { IsNetwork network.now }
+        ensures { (ks : List Constraint) → AreKnown ks (answers_in self.old)
+            → AreKnown ks (answers_in self.new) }
+    {
+        let places = places_wanted(self.small.len(), self.small_misses, MOST_NARROW);
+        if places > self.small.len()
+            && let Ok(small) = vec![in alloc; None; places]
+        {
+            let mut more = small;
+            keep_words(&mut more, &self.small, network);
+            self.small = more;
+            self.small_misses = 0;
+        }
+    }
+
+    /// The same for others below 64.
     fn grow_narrow(&mut self, alloc: Global, network: &Network)
         requires { IsNetwork network.now }
         ensures { (ks : List Constraint) → AreKnown ks (answers_in self.old)
@@ -110,8 +142,19 @@ impl Memo {
         }
     }
 
-    /// Keeps an answer for candidates below 64 at this place, where there is
+    /// Keeps an answer for candidates below 16 at this place, where there is
     /// one, and forgets the one that was there.
+    pub(crate) fn keep_small(&mut self, place: usize, answer: RevisedWord)
+        ensures { (ks : List Constraint) → IsKnownWord ks (Some answer)
+            → AreKnown ks (answers_in self.old) → AreKnown ks (answers_in self.new) }
+    {
+        self.small_misses = self.small_misses.saturating_add(1);
+        if place < self.small.len() {
+            self.small[place] = Some(answer);
+        }
+    }
+
+    /// The same for others below 64.
     pub(crate) fn keep_narrow(&mut self, place: usize, answer: RevisedParts)
         ensures { (ks : List Constraint) → IsKnownParts ks (Some answer)
             → AreKnown ks (answers_in self.old) → AreKnown ks (answers_in self.new) }
@@ -134,7 +177,31 @@ impl Memo {
     }
 }
 
-/// Keeps these answers at their places, each of which forgets the one that was there.
+/// Keeps these answers for candidates below 16 at their places, each of which forgets the one that
+/// was there.
+fn keep_words(
+    places: &mut Vec<Option<RevisedWord>>,
+    answers: &[Option<RevisedWord>],
+    network: &Network,
+)
+    requires { IsNetwork network.now }
+    ensures { (ks : List Constraint) → All (IsKnownWord ks) answers.now
+        → All (IsKnownWord ks) places.old.items → All (IsKnownWord ks) places.new.items }
+{
+    for answer in answers {
+        if let Some(kept) = answer
+            && kept.execution < network.executions.len()
+        {
+            let like = network.like_at(kept.execution);
+            let place = slot_of(like, [kept.candidates, 0, 0, 0], places.len());
+            if place < places.len() {
+                places[place] = Some(*kept);
+            }
+        }
+    }
+}
+
+/// The same for others below 64.
 fn keep_each(
     places: &mut Vec<Option<RevisedParts>>,
     answers: &[Option<RevisedParts>],

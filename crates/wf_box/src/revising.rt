@@ -4,12 +4,15 @@ ghost use Rattle.std.specs.Prelude.{◌≡◌, ◌<◌, ◌∷◌, [], ℕ, All,
 ghost use Rattle.std.specs.Bool.{OnTrue};
 ghost use Rattle.wf_lane.specs.Table.{HasSupported};
 ghost use Rattle.wf_box.specs.Problems.{IsNetwork, constraints_in, rule_in};
-ghost use Rattle.wf_box.specs.Revising.{AreKnown, answers_in, found_at, found_in, left_of, widened};
+ghost use Rattle.wf_box.specs.Revising.{AreKnown, answers_in, found_at, found_in, left_of, parts_in, widened};
 
-use crate::memo::{Memo, Revised, RevisedParts, slot_of};
+use crate::memo::{Memo, Revised, RevisedParts, RevisedWord, slot_of};
 use crate::problem::{Network, PackedExecution};
 use wf_set::Mask;
 use wf_set::part::Part;
+
+/// Parts of values below 16 are below this one.
+const ROOM: u64 = 65_536;
 
 /// The values that the rule of an execution supports at each place for the candidates of its
 /// points; none where those are all that the candidates have. Answers are kept, since many
@@ -30,7 +33,7 @@ pub(crate) fn supported_at(
 {
     let execution = network.executions[number as usize];
     match narrowed(candidates_at(execution, sets)) {
-        Some(parts) => supported_parts(number, parts, network, memo),
+        Some(parts) => supported_narrow(number, parts, network, memo),
         None => Some(supported_sets(number, candidates_at(execution, sets), network, memo)),
     }
 }
@@ -52,6 +55,117 @@ pub(crate) fn candidates_at(execution: PackedExecution, sets: &[Mask]) -> [Mask;
 }
 
 /// The same for candidates below 64.
+fn supported_narrow(
+    number: u32,
+    candidates: [Part; 4],
+    network: &Network,
+    memo: &mut Memo,
+) -> Option<[Mask; 4]>
+    requires network { IsNetwork network.now }
+    requires number { number < length network.now.executions.items }
+    requires known { AreKnown (constraints_in network.now) (answers_in memo.old) }
+    ensures supported { HasSupported (left_of (widened candidates) result)
+        (rule_in network.now number).table (widened candidates) }
+    ensures known { AreKnown (constraints_in network.now) (answers_in memo.new) }
+{
+    match packed(candidates) {
+        Some(word) => supported_word(number, word, network, memo),
+        None => supported_parts(number, candidates, network, memo),
+    }
+}
+
+/// The same for candidates below 16, in one word.
+fn supported_word(number: u32, word: u64, network: &Network, memo: &mut Memo) -> Option<[Mask; 4]>
+    requires network { IsNetwork network.now }
+    requires number { number < length network.now.executions.items }
+    requires known { AreKnown (constraints_in network.now) (answers_in memo.old) }
+    ensures supported { HasSupported (left_of (widened (parts_in word)) result)
+        (rule_in network.now number).table (widened (parts_in word)) }
+    ensures known { AreKnown (constraints_in network.now) (answers_in memo.new) }
+{
+    let like = network.like_at(number as usize);
+    let slot = slot_of(like, [word, 0, 0, 0], memo.small.len());
+    if slot < memo.small.len()
+        && let Some(answer) = &memo.small[slot]
+        && answer.candidates == word
+        && answer.execution < network.executions.len()
+        && network.like_at(answer.execution) == like
+    {
+        return changed_word(word, answer.supported);
+    }
+    revise_word(number, slot, word, network, memo)
+}
+
+/// The same, where no answer is kept.
+fn revise_word(
+    number: u32,
+    slot: usize,
+    word: u64,
+    network: &Network,
+    memo: &mut Memo,
+) -> Option<[Mask; 4]>
+    requires network { IsNetwork network.now }
+    requires number { number < length network.now.executions.items }
+    requires known { AreKnown (constraints_in network.now) (answers_in memo.old) }
+    ensures supported { HasSupported (left_of (widened (parts_in word)) result)
+        (rule_in network.now number).table (widened (parts_in word)) }
+    ensures known { AreKnown (constraints_in network.now) (answers_in memo.new) }
+{
+    let rule = &network.rules[network.executions[number as usize].rule as usize];
+    let candidates = unpacked(word);
+    let masks = rule.table.revise(widened(candidates)).masks;
+    let Some(parts) = narrowed(masks) else {
+        return Some(masks);
+    };
+    let Some(supported) = packed(up_to(rule.simplex.colours(), parts, candidates)) else {
+        return Some(masks);
+    };
+    memo.keep_small(
+        slot,
+        RevisedWord {
+            execution: number as usize,
+            candidates: word,
+            supported,
+        },
+    );
+    changed_word(word, supported)
+}
+
+/// The sets that are packed in the other word, where it is not the first one.
+fn changed_word(word: u64, other: u64) -> Option<[Mask; 4]>
+    ensures { left_of (widened (parts_in word)) result ≡ widened (parts_in other) }
+{
+    if word == other {
+        return None;
+    }
+    Some(widened(unpacked(other)))
+}
+
+/// The parts in one word, 16 bits each, where each value is below 16.
+fn packed(parts: [Part; 4]) -> Option<u64>
+    ensures { IfSome result (λ word. parts_in word ≡ parts) }
+{
+    let [a, b, c, d] = parts;
+    if (a < ROOM) & (b < ROOM) & (c < ROOM) & (d < ROOM) {
+        Some(a + ROOM * (b + ROOM * (c + ROOM * d)))
+    } else {
+        None
+    }
+}
+
+/// The parts that are packed in a word.
+fn unpacked(word: u64) -> [Part; 4]
+    ensures { result ≡ parts_in word }
+{
+    [
+        word % ROOM,
+        word / ROOM % ROOM,
+        word / (ROOM * ROOM) % ROOM,
+        word / (ROOM * ROOM * ROOM),
+    ]
+}
+
+/// The same for other candidates below 64.
 fn supported_parts(
     number: u32,
     candidates: [Part; 4],

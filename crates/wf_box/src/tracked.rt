@@ -10,7 +10,7 @@ ghost use Rattle.wf_box.specs.Limits.{most_candidates};
 
 use std::alloc::{AllocError, Global};
 use wf_lane::{count, first_open};
-use wf_set::{Mask, count as size, has_two, only};
+use wf_set::{Mask, has_two, only};
 
 /// A point's candidates as they were before a change.
 #[derive(Clone, Copy, Debug)]
@@ -26,8 +26,6 @@ pub(crate) struct Tracked {
     pub(crate) words: Vec<Mask>,
     // there is room for as many changes as there were candidates at first
     pub(crate) trail: Vec<Change>,
-    // how many candidates there are in all
-    pub(crate) count: u32,
     // no point before this one has two candidates
     pub(crate) open_from: u32,
 }
@@ -44,7 +42,6 @@ impl Tracked {
         Ok(Tracked {
             words,
             trail: Vec::with_capacity(alloc, count as usize)?,
-            count,
             open_from: 0,
         })
     }
@@ -73,9 +70,17 @@ impl Tracked {
         ensures words { self.new.words.items ≡ self.old.words.items }
         ensures trail { Notes self.old self.new point before }
     {
-        let now = self.words[point as usize];
-        self.count = self.count + size(now) - size(before);
         self.trail.push_reserved(Change { point, before });
+    }
+
+    /// For how many changes there is room, each of which takes a candidate out: so many candidates
+    /// are left at most.
+    pub(crate) fn room(&self) -> usize
+        requires { KeepsTrack self.now }
+        ensures enough { count (sets_in self.now) ≤ result }
+        ensures few { result ≤ most_candidates }
+    {
+        self.trail.capacity() - self.trail.len()
     }
 
     /// Takes the changes past so many back, the last first.
@@ -99,8 +104,6 @@ impl Tracked {
         ensures undone { UndoesLast self.old self.new }
     {
         if let Some(change) = self.trail.pop() {
-            let now = self.words[change.point as usize];
-            self.count = self.count + size(change.before) - size(now);
             let before = change.before;
             self.words[change.point as usize] = before;
             self.open_from = open_from_with(self.open_from, change);

@@ -18,7 +18,7 @@ use Rattle.wf_box.proofs.closing.close.Goals.{in-Open, in-Empty}
 use Rattle.wf_box.proofs.closing.close.Goals as goal
 
 pub overflow_cast-boxed : goal.overflow_cast-boxed
-overflow_cast-boxed c = omega (arith, c.len.ensures, c.close_tracked-closed.new.workspace.tracked.trail.ok.0, room_now _ _ _ _ _ c.close_tracked-closed.ensures.proceeds.kept, c.close_tracked-closed.ensures.proceeds.kept.small)
+overflow_cast-boxed c = omega (arith, c.len.ensures, c.close_tracked-closed.new.workspace.tracked.trail.ok.0, room_now _ _ _ _ c.close_tracked-closed.ensures.proceeds.kept, c.close_tracked-closed.ensures.proceeds.kept.small)
 
 pub close_tracked-closed-requires-clause-closed : goal.close_tracked-closed-requires-clause-closed
 close_tracked-closed-requires-clause-closed c =

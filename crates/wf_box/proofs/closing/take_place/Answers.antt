@@ -33,11 +33,11 @@ returns-then-eq-clause-proceeds c =
     let e = c.take_each-emptied.ensures in
     let now = with_items_is t.words c.take_each-emptied.new.sets (omega (arith, e.long, ap length c.deref_mut.ensures.value, t.words.ok.0)) in
     record {
-      kept = subst (λ ws. IsTracked ws t.trail.items (vec_capacity t.trail) t.count t.open_from) (sym (unchanged c)) c.requires.working.kept;
+      kept = subst (λ ws. IsTracked ws t.trail.items (vec_capacity t.trail) t.open_from) (sym (unchanged c)) c.requires.working.kept;
       long = ap length (unchanged c) ∙ c.requires.working.long;
       marks_long = c.requires.working.marks_long;
       grown = subst (λ ws. IsGrown t.words.items t.trail.items ws t.trail.items) (sym (unchanged c)) (grown_none t.words.items t.trail.items);
-      ends = ends_if c.args.lines.now c.take_each-emptied.new.lines t (record { words = with_items t.words c.take_each-emptied.new.sets; trail = t.trail; count = t.count; open_from = t.open_from }) c.deref_mut.result.now c.take_each-emptied.new.sets c.take_each-emptied.result c.args.place.point c.deref_mut.ensures.value (sym now) e.emptied e.room e.spent;
+      ends = ends_if c.args.lines.now c.take_each-emptied.new.lines t (record { words = with_items t.words c.take_each-emptied.new.sets; trail = t.trail; open_from = t.open_from }) c.deref_mut.result.now c.take_each-emptied.new.sets c.take_each-emptied.result c.args.place.point c.deref_mut.ensures.value (sym now) e.emptied e.room e.spent;
       known = c.requires.working.known;
     }
 
@@ -53,7 +53,7 @@ note-requires-clause-kept c =
     let now = with_items_is c.args.workspace.now.tracked.words c.take_each-emptied.new.sets (omega (arith, c.take_each-emptied.ensures.long, ap length c.deref_mut.ensures.value, c.args.workspace.now.tracked.words.ok.0)) in
     let t = c.take_each-emptied.ensures in
     let less = less_from c.args.workspace.now.tracked.words.items c.deref_mut.result.now c.take_each-emptied.new.sets _ c.args.place.point c.index.result.now c.index-2.result.now c.deref_mut.ensures.value now (omega (arith, c.requires.point, c.requires.working.long)) t.long t.others t.fewer t.same c.index.ensures c.index-2.ensures (differ _ _ (sym c.eq.ensures ∙ c.if-eq.false)) in
-    subst (λ ws. IsTracked ws c.args.workspace.now.tracked.trail.items (vec_capacity c.args.workspace.now.tracked.trail) c.args.workspace.now.tracked.count c.args.workspace.now.tracked.open_from) (sym less.back) c.requires.working.kept
+    subst (λ ws. IsTracked ws c.args.workspace.now.tracked.trail.items (vec_capacity c.args.workspace.now.tracked.trail) c.args.workspace.now.tracked.open_from) (sym less.back) c.requires.working.kept
 
 pub note-requires-clause-fewer : goal.note-requires-clause-fewer
 note-requires-clause-fewer c =

@@ -13,7 +13,6 @@ returns-in-Some-clause-kept c =
     record {
       few = c.requires.few;
       small = c.requires.small;
-      count_is = c.requires.count_is;
       room = c.requires.room;
       within = c.requires.within;
       open_within = omega (arith, found.0, length-map c.args.self.now.words.items values_in);

@@ -12,7 +12,7 @@ pub note-requires-clause-kept : goal.note-requires-clause-kept
 note-requires-clause-kept c =
     let words = c.args.self.now.words.items in
     let here = get_or_read words c.args.point c.index-before.result.now (point_there words c.args.point c.args.value c.requires.there) c.index-before.ensures [] in
-    subst (λ ws. IsTracked ws c.args.self.now.trail.items (vec_capacity c.args.self.now.trail) c.args.self.now.count c.args.self.now.open_from) (sym (set_back words c.args.point c.only.result c.index-before.result.now here)) c.requires.kept
+    subst (λ ws. IsTracked ws c.args.self.now.trail.items (vec_capacity c.args.self.now.trail) c.args.self.now.open_from) (sym (set_back words c.args.point c.only.result c.index-before.result.now here)) c.requires.kept
 
 pub returns-then-has_two-clause-decided : goal.returns-then-has_two-clause-decided
 returns-then-has_two-clause-decided c = ap box_of c.note.ensures.words ∙ one_value c.args.self.now.words.items c.args.point c.args.value c.only.result c.only.ensures
