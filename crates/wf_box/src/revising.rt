@@ -12,7 +12,7 @@ use wf_set::Mask;
 use wf_set::part::Part;
 
 /// Parts of values below 16 are below this one.
-const ROOM: u64 = 65_536;
+const SMALL_LIMIT: u64 = 65_536;
 
 /// The values that the rule of an execution supports at each place for the candidates of its
 /// points; none where those are all that the candidates have. Answers are kept, since many
@@ -146,8 +146,8 @@ fn packed(parts: [Part; 4]) -> Option<u64>
     ensures { IfSome result (λ word. parts_in word ≡ parts) }
 {
     let [a, b, c, d] = parts;
-    if (a < ROOM) & (b < ROOM) & (c < ROOM) & (d < ROOM) {
-        Some(a + ROOM * (b + ROOM * (c + ROOM * d)))
+    if (a < SMALL_LIMIT) & (b < SMALL_LIMIT) & (c < SMALL_LIMIT) & (d < SMALL_LIMIT) {
+        Some(a + SMALL_LIMIT * (b + SMALL_LIMIT * (c + SMALL_LIMIT * d)))
     } else {
         None
     }
@@ -158,10 +158,10 @@ fn unpacked(word: u64) -> [Part; 4]
     ensures { result ≡ parts_in word }
 {
     [
-        word % ROOM,
-        word / ROOM % ROOM,
-        word / (ROOM * ROOM) % ROOM,
-        word / (ROOM * ROOM * ROOM),
+        word % SMALL_LIMIT,
+        word / SMALL_LIMIT % SMALL_LIMIT,
+        word / (SMALL_LIMIT * SMALL_LIMIT) % SMALL_LIMIT,
+        word / (SMALL_LIMIT * SMALL_LIMIT * SMALL_LIMIT),
     ]
 }
 
