@@ -16,12 +16,13 @@
 //! - `answer`: what the workers kept, brought together by branch.
 //! - `solving`: from a problem to its answer and the account of the work.
 //!
-//! A worker keeps one map at most, that of the least branch that it posted, and the
-//! lines of the branches that it refuted, as long as it has seen no lower branch posted.
-//! Lines that aren't kept for the answer are given back as soon as their branch is
-//! searched. In the end the others are moved to their places in a list of the branches,
-//! or of those up to the first with a map, and none is copied but into the lines of the
-//! root: this takes one list for each branch, and a step for each list of lines.
+//! A worker keeps one map at most, that of the least branch that it posted, and the lines of the
+//! branches that it refuted, as long as it has seen no lower branch posted. Lines that aren't kept
+//! for the answer are given back as soon as their branch is searched; where none is kept, those of
+//! a turn are dropped before the next one, so that no memory grows with the length of a search. In
+//! the end the others are moved to their places in a list of the branches, or of those up to the
+//! first with a map, and none is copied but into the lines of the root: this takes one list for
+//! each branch, and a step for each list of lines.
 //!
 //! Each worker, the only one too, begins a branch with what closing found out in its earlier ones.
 //! Workers share none of it, and it is moved with its worker and never copied. It saves time alone:

@@ -1,17 +1,14 @@
 -- How many turns write the lines of closing a box, and those of the turn that it is in.
-use Rattle.std.proofs.Common.{◌≡◌, ℕ, zero, suc, ◌+◌, List, [], ◌∷◌, ◌++◌, map, Option, Some, None, Result, Ok, Err, IsErr, refl, ap, ◌∙◌, arith}
+use Rattle.std.proofs.Common.{◌≡◌, ℕ, zero, suc, ◌+◌, List, [], ◌∷◌, ◌++◌, Option, Some, None, Result, Ok, Err, IsErr, refl, ap, ◌∙◌, arith}
 use Rattle.std.proofs.lemmas.Bool.{false≢true}
 use Rattle.wf_model.specs.Problem.{Constraint, Problem}
 use Rattle.wf_model.specs.Box.{Box, candidates, count, first_empty, without}
 use Rattle.wf_model.specs.Refutation as refutation
 use Rattle.wf_model.specs.Closing.{Loss, Step, closing, closing_at, continued, lost, sweep, sweep_from, sweeps, take_out, take_out_each, taken_out, unless_none, Trace}
-use Rattle.wf_lines.specs.Lines.{line_of}
 use Rattle.wf_search.specs.declared.searching.Found.{Found}
-use Rattle.wf_search.specs.declared.searching.Found.TheVariants.{Map, Refuted, Stopped}
 use Rattle.wf_search.specs.Found.{AskedAtAll, HasAsked, turns}
 use Rattle.wf_search.specs.FoundMap.{HasAskedForMap}
 use Rattle.wf_search.specs.declared.maps.FoundMap.{FoundMap}
-use Rattle.wf_search.specs.declared.maps.FoundMap.TheVariants as mapped
 
 pub turns_append : (ls ms : List refutation.Line) → turns (ls ++ ms) ≡ turns ls + turns ms
 turns_append [] ms = omega arith
@@ -75,24 +72,11 @@ module _ (p : Problem) (box : Box) where
 pub turns_more : (ls added : List refutation.Line) → turns added ≡ 1 → turns (ls ++ added) ≡ turns ls + 1
 turns_more ls added one = omega (arith, turns_append ls added, one)
 
--- however a search ends, it has asked
-pub asked_at_all : {E : Type 0} (Asked : ℕ → Type 0) (result : Result Found E) → HasAsked Asked result → (n : ℕ) × Asked n
-asked_at_all Asked (Ok (Map values lines)) has = (turns (map line_of lines.items), has)
-asked_at_all Asked (Ok (Refuted lines)) has = (turns (map line_of lines.items), has)
-asked_at_all Asked (Ok Stopped) has = (has.0, has.2)
-asked_at_all Asked (Err e) has = (has.0, has.2)
-
-pub asked_for_map : {E : Type 0} (t : Trace) (Asked : ℕ → Type 0) (result : Result FoundMap E) → HasAskedForMap t Asked result → (n : ℕ) × Asked n
-asked_for_map t Asked (Ok (mapped.Map values)) has = (turns t.lines, has)
-asked_for_map t Asked (Ok mapped.Nothing) has = (turns t.lines, has)
-asked_for_map t Asked (Ok mapped.Stopped) has = (has.0, has.2)
-asked_for_map t Asked (Err e) has = (has.0, has.2)
-
 -- where memory ran out, it had asked
-pub failed_map : {E : Type 0} (t : Trace) (Asked : ℕ → Type 0) (result : Result FoundMap E) → IsErr result → AskedAtAll Asked → HasAskedForMap t Asked result
-failed_map t Asked (Ok found) is asked = absurd (false≢true is)
-failed_map t Asked (Err e) is asked = asked
-
 pub failed : {E : Type 0} (Asked : ℕ → Type 0) (result : Result Found E) → IsErr result → AskedAtAll Asked → HasAsked Asked result
 failed Asked (Ok found) is asked = absurd (false≢true is)
 failed Asked (Err e) is asked = asked
+
+pub failed_map : {E : Type 0} (t : Trace) (Asked : ℕ → Type 0) (result : Result FoundMap E) → IsErr result → AskedAtAll Asked → HasAskedForMap t Asked result
+failed_map t Asked (Ok found) is asked = absurd (false≢true is)
+failed_map t Asked (Err e) is asked = asked
