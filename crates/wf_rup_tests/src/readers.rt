@@ -25,17 +25,21 @@ fn taken(alloc: Global, piece: &[u8], from: usize) -> Result<Option<usize>, Fail
 
 #[test]
 fn whole_literals_are_taken(rt: HostRuntime) -> Result<(), Fail> {
-    let alloc = rt.alloc();
-    assert_eq!(rt; taken(alloc, b"-12 7", 0)?, Some(4));
-    assert_eq!(rt; taken(alloc, b"1 12 7", 2)?, Some(5));
     // the end of the piece, another blank, a word, the 0, a variable too large, and a sign alone
-    assert_eq!(rt; taken(alloc, b"-12", 0)?, None);
-    assert_eq!(rt; taken(alloc, b"12\n", 0)?, None);
-    assert_eq!(rt; taken(alloc, b"12x ", 0)?, None);
-    assert_eq!(rt; taken(alloc, b"0 ", 0)?, None);
-    assert_eq!(rt; taken(alloc, b"13 ", 0)?, None);
-    assert_eq!(rt; taken(alloc, b"4294967297 ", 0)?, None);
-    assert_eq!(rt; taken(alloc, b"- ", 0)?, None);
+    let rows: [(&[u8], usize, Option<usize>); 9] = [
+        (b"-12 7", 0, Some(4)),
+        (b"1 12 7", 2, Some(5)),
+        (b"-12", 0, None),
+        (b"12\n", 0, None),
+        (b"12x ", 0, None),
+        (b"0 ", 0, None),
+        (b"13 ", 0, None),
+        (b"4294967297 ", 0, None),
+        (b"- ", 0, None),
+    ];
+    for (piece, from, end) in rows {
+        assert_eq!(rt; taken(rt.alloc(), piece, from)?, end, "{piece:?}");
+    }
     Ok(())
 }
 
