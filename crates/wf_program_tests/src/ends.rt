@@ -1,5 +1,7 @@
 //! Readers and writers that fail at a call of the test's choice.
 
+ghost use Rattle.wf_io.specs.Ends.{CanRead};
+
 use std::io;
 use std::io::{Read, Write};
 use wf_io::Source;
@@ -43,7 +45,9 @@ impl Read for Drip<'_> {
 
 /// A source of this text, no call of which fails. Wherever a test could do with another reader it
 /// takes this one, so that what it calls is compiled once.
-pub(crate) fn given(text: &str) -> Source<Drip<'_>> {
+pub(crate) fn given(text: &str) -> Source<Drip<'_>>
+    ensures { CanRead result }
+{
     Source::new(Drip::new(text.as_bytes(), 0))
 }
 
