@@ -1,6 +1,6 @@
 //! Closing.
 
-ghost use Rattle.std.specs.Prelude.{◌≡◌, ◌<◌, ◌≤◌, ◌*◌, ◌⊎◌, None, length, IfOk, IfSome, OnOk, OnErr, IfNone};
+ghost use Rattle.std.specs.Prelude.{◌≡◌, ◌<◌, ◌≤◌, ◌*◌, ◌⊎◌, All, None, length, IfOk, IfSome, OnOk, OnErr, IfNone};
 ghost use Rattle.wf_model.specs.Box.{count, first_empty};
 ghost use Rattle.wf_model.specs.Closing.{closing, sweep, sweep_from};
 ghost use Rattle.std.specs.Bool.{OnTrue};
@@ -13,12 +13,12 @@ ghost use Rattle.wf_set.specs.Sets.{box_of};
 ghost use Rattle.wf_box.specs.Problems.{IsNetwork, constraint_in, constraints_in};
 ghost use Rattle.wf_box.specs.Steps.{ClosesTo, NamesAll, NamesAt, NamesIn, NamesLost, Reaches, SweepsTo, TakesEach, box_in, point_if, revision};
 ghost use Rattle.wf_box.specs.Closes.{AddsClosing, AreFew, IsEmptied, IsSupported, KeepsSolutions, Leaves, LosesNamed, Takes, emptied_by, sweeps_to_close};
-ghost use Rattle.wf_box.specs.Revising.{AreSame};
+ghost use Rattle.wf_box.specs.Revising.{AreSame, found_at};
 ghost use Rattle.wf_box.specs.Working.{AreMarked, AreSilent, IsQuietAt, IsWorkingFor, IsWorkingOn, LeavesOthersUntouched, LeavesUntouched, ProceedsFor, ProceedsOn};
 
 use crate::boxed::Box0;
 use crate::marks::Marks;
-use crate::problem::{Network, Problem};
+use crate::problem::{Network, PackedExecution, Problem};
 use crate::revising::{candidates_at, supported_at};
 use crate::taking::{Occurrence, put, take_each};
 use crate::tracked::Tracked;
@@ -296,33 +296,53 @@ fn revise(
             return Some(at.point);
         }
     }
-    let left = candidates_at(execution, &workspace.tracked.words);
-    unmark(number, processes, left, supported, &mut workspace.marks);
+    let sets = &workspace.tracked.words;
+    unmark(
+        number,
+        processes,
+        execution,
+        sets,
+        supported,
+        &mut workspace.marks,
+    );
     None
 }
 
 /// Takes the mark of an execution away where each of its places has just what was supported there:
 /// what is left is supported by what is left.
-fn unmark(number: u32, places: u8, left: [Mask; 4], supported: [Mask; 4], marks: &mut Marks)
+fn unmark(
+    number: u32,
+    places: u8,
+    execution: PackedExecution,
+    sets: &[Mask],
+    supported: [Mask; 4],
+    marks: &mut Marks,
+)
     requires number { number < 64 * length marks.old.words.items }
     requires places { places ≤ 4 }
+    requires long { length execution.points ≡ 4 }
+    requires within { All (λ v. v < length sets.now) execution.points }
     ensures others { KeepsBitsBut marks.old.words.items marks.new.words.items number }
     ensures same { bit_of marks.new.words.items number ≡ 0
-        → AreSame places left supported ⊎ (bit_of marks.old.words.items number ≡ 0) }
+        → AreSame places (found_at execution sets.now) supported
+        ⊎ (bit_of marks.old.words.items number ≡ 0) }
     ensures long { length marks.new.words.items ≡ length marks.old.words.items }
 {
-    if are_same(places, left, supported) {
+    if are_left(places, execution, sets, supported) {
         marks.take(number);
     }
 }
 
-/// Whether the first sets, so many of them, are the same.
-fn are_same(count: u8, sets: [Mask; 4], others: [Mask; 4]) -> bool
-    requires { count ≤ 4 }
-    ensures { OnTrue result (AreSame count sets others) }
+/// Whether the first points of an execution, so many of them, have just these sets.
+fn are_left(count: u8, execution: PackedExecution, sets: &[Mask], supported: [Mask; 4]) -> bool
+    requires count { count ≤ 4 }
+    requires long { length execution.points ≡ 4 }
+    requires within { All (λ v. v < length sets.now) execution.points }
+    ensures { OnTrue result (AreSame count (found_at execution sets.now) supported) }
 {
     for place in 0..count as usize {
-        if sets[place] != others[place] {
+        let left = sets[execution.points[place] as usize];
+        if left != supported[place] {
             return false;
         }
     }

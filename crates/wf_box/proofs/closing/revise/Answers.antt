@@ -180,8 +180,8 @@ returns-clause-named c =
     let seen : constraint_in n c.args.number ≡ constraint_seen n.rules.items x = ap (constraint_seen n.rules.items) (execution_is n c.args.number x c.requires.number c.index.ensures) in
     λ p at. c.places.invariant.0 p (at ∙ seen)
 
-pub candidates_at-left-requires-clause-within : goal.candidates_at-left-requires-clause-within
-candidates_at-left-requires-clause-within c =
+pub unmark-requires-clause-within : goal.unmark-requires-clause-within
+unmark-requires-clause-within c =
     let inside = execution_within c.args.network.now c.args.number c.index.result.now c.requires.network c.requires.number c.index.ensures in
     λ i d low. omega (arith, inside.points_within i d low, c.places.invariant.2.long, ap length c.deref-3.ensures.value)
 
@@ -213,7 +213,9 @@ returns-clause-quiet c = λ none.
     (omega (arith, many, c.colours-processes.ensures.count, c.places-test.false)) (omega (arith, many, c.colours-processes.ensures.count, c.colours-processes.ensures.few, inside.long)))
     ∙ c.places.invariant.1 in
     let found_here : c.candidates_at-found.result ≡ found_at x words = c.candidates_at-found.ensures.candidates ∙ ap (found_at x) c.deref-2.ensures.value in
-    let left_here : c.candidates_at-left.result ≡ found_at x fewer = c.candidates_at-left.ensures.candidates ∙ ap (found_at x) c.deref-3.ensures.value in
+    let left = found_at x c.deref-3.result.now in
+    let left_here : left ≡ found_at x fewer = ap (found_at x) c.deref-3.ensures.value in
+    let left_long : length left ≡ 4 = length-map x.points (λ v. get_or c.deref-3.result.now v []) ∙ inside.long in
     let right : HasSupported c.in-Some.supported rule.table c.candidates_at-found.result =
     subst (λ (r : Rule). HasSupported c.in-Some.supported r.table c.candidates_at-found.result) known.is
     (supported_here n c.args.number x c.deref.result.now words c.candidates_at-found.result c.in-Some.supported c.requires.number c.index.ensures c.deref.ensures.value found_here
@@ -221,8 +223,8 @@ returns-clause-quiet c = λ none.
     ap (lost (box_of fewer)) seen
     ∙ elim (c.unmark.ensures.same none) [
       | inl same ↦
-          loses_nothing n.rules.items x rule fewer c.candidates_at-left.result known (subst (λ m. IsWithin (length n.rules.items) m x) (sym done.long) inside) few left_here
-          (left_supports rule.table c.in-Some.supported c.candidates_at-found.result c.candidates_at-left.result (omega (arith, known.wide, few, c.candidates_at-found.ensures.long)) (omega (arith, known.wide, few, c.candidates_at-left.ensures.long)) right
+          loses_nothing n.rules.items x rule fewer left known (subst (λ m. IsWithin (length n.rules.items) m x) (sym done.long) inside) few left_here
+          (left_supports rule.table c.in-Some.supported c.candidates_at-found.result left (omega (arith, known.wide, few, c.candidates_at-found.ensures.long)) (omega (arith, known.wide, few, left_long)) right
           (λ i low. same i (omega (arith, low, known.wide, c.colours-processes.ensures.count))))
       | inr before ↦
           (let kept = c.places.invariant.4 before in
