@@ -54,9 +54,11 @@ fn runs_a_legal_list(rt: HostRuntime) -> Result<(), Fail> {
     ];
     let core = Core::run(rt.alloc(), 3, 2, events.as_slice())?;
     let statuses = [core.status(0), core.status(1), core.status(2)];
-    assert_eq!(rt; statuses, [Status::Posted, Status::Cut, Status::Posted]);
-    assert_eq!(rt; core.least(), 0);
-    assert_eq!(rt; [core.seen(0), core.seen(1)], [0, 2]);
+    let seen = [core.seen(0), core.seen(1)];
+    assert_eq!(rt;
+        (statuses, core.least(), seen),
+        ([Status::Posted, Status::Cut, Status::Posted], 0, [0, 2])
+    );
     Ok(())
 }
 
@@ -75,7 +77,7 @@ fn refuses_at_the_first_illegal_event(rt: HostRuntime) {
         (no_worker.as_slice(), 0, Illegal::NoWorker),
     ];
     for (events, at, why) in table {
-        let least = Core::run(rt.alloc(), 3, 2, events).map(|core| core.least());
-        assert_eq!(rt; least, Err(CoreFault::Illegal { at, why }), "{why}");
+        let fault = Core::run(rt.alloc(), 3, 2, events).err();
+        assert_eq!(rt; fault, Some(CoreFault::Illegal { at, why }), "{why}");
     }
 }

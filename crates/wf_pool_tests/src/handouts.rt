@@ -1,27 +1,95 @@
 //! Takes in one thread, in a known order, and in several threads, in whatever order.
 
-ghost use Rattle.std.specs.Prelude.{ℕ, ◌≡◌, ◌*◌, ◌^◌, ◌<◌, length, IfOk};
+ghost use Rattle.std.specs.Prelude.{ℕ, ◌≡◌, ◌*◌, ◌^◌, ◌<◌, length};
 ghost use Rattle.wf_handout.specs.Shares.{AllAt};
 
 use std::alloc::{AllocError, Global};
+use std::process::Abort;
 use std::test::Fail;
 use std::thread;
 use std::thread::Threads;
 use wf_handout::{Counter, Handout, Stealing};
 
-/// A handout with its shares.
-fn dealt<H: Handout>(
-    alloc: Global,
-    branches: u32,
-    workers: u32,
-) -> Result<(H, Vec<H::Share>), AllocError>
-    requires { (0 < workers) × (branches * workers < 2 ^ 32) }
-    ensures { IfOk result (λ d. (length d.1.items ≡ workers)
-        × (length d.1.items ≡ H.worker_count d.0) × AllAt (H.fits d.0) d.1.items) }
-{
-    let (handout, shares) = H::deal(alloc, branches, workers)?;
-    Ok((handout, shares))
+/// Takes of so many branches, by a first share and so many others: whose share takes, one after the
+/// other, what it takes, and what is left of the branches then.
+struct Takes {
+    branches: u8,
+    others: u8,
+    takers: &'static [usize],
+    taken: &'static [Option<u32>],
+    left: &'static [u32],
 }
+
+static OF_A_COUNTER: [Takes; 3] = [
+    Takes {
+        branches: 3,
+        others: 1,
+        takers: &[0, 1, 0, 0, 1],
+        taken: &[Some(0), Some(1), Some(2), None, None],
+        left: &[],
+    },
+    Takes {
+        branches: 0,
+        others: 0,
+        takers: &[0],
+        taken: &[None],
+        left: &[],
+    },
+    Takes {
+        branches: 3,
+        others: 0,
+        takers: &[0],
+        taken: &[Some(0)],
+        left: &[1, 2],
+    },
+];
+
+/// A share steals what another one was dealt, the last share from the first. One that found the
+/// next deque empty has ended, though a third has branches.
+static OF_THE_DEQUES: [Takes; 6] = [
+    Takes {
+        branches: 5,
+        others: 1,
+        takers: &[0, 0, 0, 0, 0, 0, 1],
+        taken: &[Some(0), Some(2), Some(4), Some(1), Some(3), None, None],
+        left: &[],
+    },
+    Takes {
+        branches: 1,
+        others: 1,
+        takers: &[1, 0, 1],
+        taken: &[Some(0), None, None],
+        left: &[],
+    },
+    Takes {
+        branches: 6,
+        others: 2,
+        takers: &[2, 2, 2, 2, 2, 0],
+        taken: &[Some(2), Some(5), Some(0), Some(3), None, Some(1)],
+        left: &[4],
+    },
+    Takes {
+        branches: 0,
+        others: 0,
+        takers: &[0],
+        taken: &[None],
+        left: &[],
+    },
+    Takes {
+        branches: 3,
+        others: 0,
+        takers: &[0],
+        taken: &[Some(0)],
+        left: &[1, 2],
+    },
+    Takes {
+        branches: 5,
+        others: 1,
+        takers: &[1],
+        taken: &[Some(1)],
+        left: &[3, 0, 2, 4],
+    },
+];
 
 /// A take by one of several shares.
 fn take_at<H: Handout>(handout: &H, shares: &mut Vec<H::Share>, who: usize) -> Option<u32>
@@ -32,99 +100,42 @@ fn take_at<H: Handout>(handout: &H, shares: &mut Vec<H::Share>, who: usize) -> O
     handout.take(&mut shares[who])
 }
 
-#[test]
-fn two_shares_take_three_branches(rt: HostRuntime) -> Result<(), Fail> {
-    let (counter, mut shares) = dealt::<Counter>(rt.alloc(), 3, 2)?;
-    let takes = [
-        take_at(&counter, &mut shares, 0),
-        take_at(&counter, &mut shares, 1),
-        take_at(&counter, &mut shares, 0),
-        take_at(&counter, &mut shares, 0),
-        take_at(&counter, &mut shares, 1),
-    ];
-    assert_eq!(rt; takes, [Some(0), Some(1), Some(2), None, None]);
-    assert!(rt; counter.finish(rt.alloc(), shares)?.is_empty());
+/// What the shares take, and what is left then.
+fn take_all<H: Handout>(
+    alloc: Global,
+    takes: &Takes,
+) -> Result<(Vec<Option<u32>>, Vec<u32>), AllocError> {
+    let workers = u32::from(takes.others) + 1;
+    let (handout, mut shares) = H::deal(alloc, u32::from(takes.branches), workers)?;
+    let mut taken = Vec::new(alloc);
+    for who in takes.takers {
+        if *who < shares.len() {
+            taken.push(take_at(&handout, &mut shares, *who))?;
+        }
+    }
+    let left = handout.finish(alloc, shares)?;
+    Ok((taken, left))
+}
+
+fn take_as_they_say<R: Abort, H: Handout>(
+    rt: &R,
+    alloc: Global,
+    all: &[Takes],
+) -> Result<(), Fail> {
+    for takes in all {
+        let (taken, left) = take_all::<H>(alloc, takes)?;
+        assert_eq!(rt;
+            (taken.as_slice(), left.as_slice()),
+            (takes.taken, takes.left)
+        );
+    }
     Ok(())
 }
 
 #[test]
-fn one_share_steals_what_the_other_was_dealt(rt: HostRuntime) -> Result<(), Fail> {
-    let (stealing, mut shares) = dealt::<Stealing>(rt.alloc(), 5, 2)?;
-    let takes = [
-        take_at(&stealing, &mut shares, 0),
-        take_at(&stealing, &mut shares, 0),
-        take_at(&stealing, &mut shares, 0),
-        take_at(&stealing, &mut shares, 0),
-        take_at(&stealing, &mut shares, 0),
-        take_at(&stealing, &mut shares, 0),
-        take_at(&stealing, &mut shares, 1),
-    ];
-    let branches = [Some(0), Some(2), Some(4), Some(1), Some(3), None, None];
-    assert_eq!(rt; takes, branches);
-    assert!(rt; stealing.finish(rt.alloc(), shares)?.is_empty());
-    Ok(())
-}
-
-#[test]
-fn the_last_share_steals_from_the_first(rt: HostRuntime) -> Result<(), Fail> {
-    let (stealing, mut shares) = dealt::<Stealing>(rt.alloc(), 1, 2)?;
-    let takes = [
-        take_at(&stealing, &mut shares, 1),
-        take_at(&stealing, &mut shares, 0),
-        take_at(&stealing, &mut shares, 1),
-    ];
-    assert_eq!(rt; takes, [Some(0), None, None]);
-    assert!(rt; stealing.finish(rt.alloc(), shares)?.is_empty());
-    Ok(())
-}
-
-/// A share that found the next deque empty has ended, though a third has branches.
-#[test]
-fn a_share_ends_while_others_have_branches(rt: HostRuntime) -> Result<(), Fail> {
-    let (stealing, mut shares) = dealt::<Stealing>(rt.alloc(), 6, 3)?;
-    let takes = [
-        take_at(&stealing, &mut shares, 2),
-        take_at(&stealing, &mut shares, 2),
-        take_at(&stealing, &mut shares, 2),
-        take_at(&stealing, &mut shares, 2),
-        take_at(&stealing, &mut shares, 2),
-        take_at(&stealing, &mut shares, 0),
-    ];
-    assert_eq!(rt; takes, [Some(2), Some(5), Some(0), Some(3), None, Some(1)]);
-    let left = stealing.finish(rt.alloc(), shares)?;
-    assert_eq!(rt; left.as_slice(), [4].as_slice());
-    Ok(())
-}
-
-#[test]
-fn what_a_counter_leaves(rt: HostRuntime) -> Result<(), Fail> {
-    let (none, mut shares) = dealt::<Counter>(rt.alloc(), 0, 1)?;
-    assert_eq!(rt; take_at(&none, &mut shares, 0), None);
-    assert!(rt; none.finish(rt.alloc(), shares)?.is_empty());
-
-    let (counter, mut shares) = dealt::<Counter>(rt.alloc(), 3, 1)?;
-    assert_eq!(rt; take_at(&counter, &mut shares, 0), Some(0));
-    let left = counter.finish(rt.alloc(), shares)?;
-    assert_eq!(rt; left.as_slice(), [1, 2].as_slice());
-    Ok(())
-}
-
-#[test]
-fn what_the_deques_leave(rt: HostRuntime) -> Result<(), Fail> {
-    let (none, mut shares) = dealt::<Stealing>(rt.alloc(), 0, 1)?;
-    assert_eq!(rt; take_at(&none, &mut shares, 0), None);
-    assert!(rt; none.finish(rt.alloc(), shares)?.is_empty());
-
-    let (alone, mut shares) = dealt::<Stealing>(rt.alloc(), 3, 1)?;
-    assert_eq!(rt; take_at(&alone, &mut shares, 0), Some(0));
-    let left = alone.finish(rt.alloc(), shares)?;
-    assert_eq!(rt; left.as_slice(), [1, 2].as_slice());
-
-    let (stealing, mut shares) = dealt::<Stealing>(rt.alloc(), 5, 2)?;
-    assert_eq!(rt; take_at(&stealing, &mut shares, 1), Some(1));
-    let left = stealing.finish(rt.alloc(), shares)?;
-    assert_eq!(rt; left.as_slice(), [3, 0, 2, 4].as_slice());
-    Ok(())
+fn shares_take_in_a_known_order(rt: HostRuntime) -> Result<(), Fail> {
+    take_as_they_say::<_, Counter>(&rt, rt.alloc(), &OF_A_COUNTER)?;
+    take_as_they_say::<_, Stealing>(&rt, rt.alloc(), &OF_THE_DEQUES)
 }
 
 /// What a worker takes, one branch after the other.
@@ -174,16 +185,18 @@ fn each_is_taken_once<R: Threads + Sync, H: Handout>(
     requires { (0 < workers) × (1000 * workers < 2 ^ 32) }
 {
     for _ in 0..100 {
-        let mut times = [0u8; 1000];
+        let mut is_taken = [false; 1000];
+        let mut count = 0u32;
         for taken in drain_all::<R, H>(rt, alloc, 1000, workers)? {
             for branch in taken? {
-                if branch >= 1000 || times[branch as usize] > 0 {
+                if branch >= 1000 || is_taken[branch as usize] {
                     return Ok(false);
                 }
-                times[branch as usize] = 1;
+                is_taken[branch as usize] = true;
+                count = count.wrapping_add(1);
             }
         }
-        if times.iter().any(|&n| n == 0) {
+        if count != 1000 {
             return Ok(false);
         }
     }
@@ -191,17 +204,11 @@ fn each_is_taken_once<R: Threads + Sync, H: Handout>(
 }
 
 #[test]
-fn threads_take_each_branch_of_a_counter_once(rt: HostRuntime) -> Result<(), Fail> {
-    assert!(rt; each_is_taken_once::<_, Counter>(&rt, rt.alloc(), 1)?);
-    assert!(rt; each_is_taken_once::<_, Counter>(&rt, rt.alloc(), 2)?);
-    assert!(rt; each_is_taken_once::<_, Counter>(&rt, rt.alloc(), 4)?);
-    Ok(())
-}
-
-#[test]
-fn threads_take_each_branch_of_the_deques_once(rt: HostRuntime) -> Result<(), Fail> {
-    assert!(rt; each_is_taken_once::<_, Stealing>(&rt, rt.alloc(), 1)?);
-    assert!(rt; each_is_taken_once::<_, Stealing>(&rt, rt.alloc(), 2)?);
-    assert!(rt; each_is_taken_once::<_, Stealing>(&rt, rt.alloc(), 4)?);
+fn threads_take_each_branch_once(rt: HostRuntime) -> Result<(), Fail> {
+    for workers in [1, 2, 4] {
+        let of_a_counter = each_is_taken_once::<_, Counter>(&rt, rt.alloc(), workers)?;
+        let of_the_deques = each_is_taken_once::<_, Stealing>(&rt, rt.alloc(), workers)?;
+        assert_eq!(rt; (of_a_counter, of_the_deques), (true, true));
+    }
     Ok(())
 }

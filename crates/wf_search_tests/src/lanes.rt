@@ -1,16 +1,15 @@
-//! The kernels, with rows worked out by hand, and at each place of tables and
-//! boxes of each length up to 17.
+//! Tables of rows, worked out by hand, of each length up to 17, and of many rows.
 
 ghost use Rattle.std.specs.Prelude.{◌≡◌, ◌≤◌, length};
 
 use std::alloc::{AllocError, Global};
 use std::test::Fail;
-use wf_lane::{Support, TupleTable, count, first_empty, first_open, meet};
+use wf_lane::{Support, TupleTable};
 use wf_set::{Mask, of_part};
 use wf_task::Row;
 
 /// Sets of values below 64, by their first words.
-pub(crate) fn sets_of(words: [u64; 4]) -> [Mask; 4] {
+fn sets_of(words: [u64; 4]) -> [Mask; 4] {
     let [first, second, third, fourth] = words;
     [
         of_part(first),
@@ -20,234 +19,185 @@ pub(crate) fn sets_of(words: [u64; 4]) -> [Mask; 4] {
     ]
 }
 
-#[test]
-fn one_place_rows_with_all_candidates(rt: HostRuntime) -> Result<(), Fail> {
-    let rows = [
-        Row::new(&[0]),
-        Row::new(&[1]),
-        Row::new(&[2]),
-        Row::new(&[3]),
-        Row::new(&[4]),
-        Row::new(&[5]),
-        Row::new(&[6]),
-        Row::new(&[7]),
-        Row::new(&[63]),
-    ];
-    let table = TupleTable::build(rt.alloc(), &rows, 1)?;
-    let all = table.revise(sets_of([u64::MAX, 0, 5, 9]));
-    assert_eq!(rt; all.masks, sets_of([0x8000_0000_0000_00ff, 0, 0, 0]));
-    assert_eq!(rt; all.alive, 9);
-    let last = table.revise(sets_of([0x8000_0000_0000_0000, 0, 0, 0]));
-    assert_eq!(rt; last.masks, sets_of([0x8000_0000_0000_0000, 0, 0, 0]));
-    assert_eq!(rt; last.alive, 1);
-    Ok(())
-}
-
-/// A table with larger values.
-#[test]
-fn one_place_rows_past_63(rt: HostRuntime) -> Result<(), Fail> {
-    let rows = [
-        Row::new(&[0]),
-        Row::new(&[1]),
-        Row::new(&[2]),
-        Row::new(&[3]),
-        Row::new(&[4]),
-        Row::new(&[5]),
-        Row::new(&[6]),
-        Row::new(&[7]),
-        Row::new(&[63]),
-        Row::new(&[64]),
-        Row::new(&[255]),
-    ];
-    let table = TupleTable::build(rt.alloc(), &rows, 1)?;
-    let all = table.revise([[u64::MAX; 4]; 4]);
-    let found = [0x8000_0000_0000_00ff, 1, 0, 0x8000_0000_0000_0000];
-    assert_eq!(rt; all.masks, [found, [0; 4], [0; 4], [0; 4]]);
-    assert_eq!(rt; all.alive, 11);
-    Ok(())
-}
-
-#[test]
-fn no_rows_support_nothing(rt: HostRuntime) -> Result<(), Fail> {
-    let table = TupleTable::build(rt.alloc(), &[], 1)?;
-    let none = table.revise(sets_of([u64::MAX, u64::MAX, u64::MAX, u64::MAX]));
-    assert_eq!(rt; none.masks, sets_of([0, 0, 0, 0]));
-    assert_eq!(rt; none.alive, 0);
-    Ok(())
-}
-
-/// The rows are the pairs of values 0 to 2 that differ by at most 1.
-#[test]
-fn near_pairs_with_one_value_fixed(rt: HostRuntime) -> Result<(), Fail> {
-    let rows = [
-        Row::new(&[0, 0]),
-        Row::new(&[0, 1]),
-        Row::new(&[1, 0]),
-        Row::new(&[1, 1]),
-        Row::new(&[1, 2]),
-        Row::new(&[2, 1]),
-        Row::new(&[2, 2]),
-    ];
-    let table = TupleTable::build(rt.alloc(), &rows, 2)?;
-    let near = table.revise(sets_of([1, 7, 7, 7]));
-    assert_eq!(rt; near.masks, sets_of([1, 3, 0, 0]));
-    assert_eq!(rt; near.alive, 2);
-    Ok(())
-}
-
-/// The values 63, 5, 0 and 32 at the first places, but 9 at the place that is other.
-fn row_but(width: u8, other: u8) -> Row
+/// The first ones of four values, as many as the width.
+fn row_of(width: u8, values: [u8; 4]) -> Row
     requires some { 1 ≤ width }
     requires narrow { width ≤ 4 }
     ensures { length result ≡ width }
 {
-    let first = value_but(63, other == 0);
-    let second = value_but(5, other == 1);
-    let third = value_but(0, other == 2);
-    let fourth = value_but(32, other == 3);
-    if width == 1 {
-        Row::new(&[first])
-    } else if width == 2 {
-        Row::new(&[first, second])
-    } else if width == 3 {
-        Row::new(&[first, second, third])
-    } else {
-        Row::new(&[first, second, third, fourth])
-    }
+    Row::new(&values[..usize::from(width)])
 }
 
-fn value_but(value: u8, is_other: bool) -> u8
-    requires { value ≤ 63 }
-    ensures { result ≤ 63 }
-{
-    if is_other { 9 } else { value }
-}
-
-/// What is found of the values 63, 5, 0 and 32 in a table whose row at one
-/// place has them. Each other row lacks one.
-fn found_in(alloc: Global, width: u8, length: u8, place: u8) -> Result<Support, AllocError>
+/// What a table of rows supports of some candidates. Each row is the first ones of four values, as
+/// many as the width, and there are 4096 rows at most.
+fn support_of(
+    alloc: Global,
+    width: u8,
+    rows: &[[u8; 4]],
+    candidates: [Mask; 4],
+) -> Result<Support, AllocError>
     requires some { 1 ≤ width }
     requires narrow { width ≤ 4 }
 {
-    let mut rows = Vec::new(alloc);
-    for i in 0..length {
-        let other = if i == place { 4 } else { i % width };
-        rows.push(row_but(width, other))?;
+    let mut kept = Vec::new(alloc);
+    for i in 0..rows.len().min(4096) {
+        kept.push(row_of(width, rows[i]))?;
     }
-    let table = TupleTable::build(alloc, &rows, width)?;
-    Ok(table.revise(sets_of([0x8000_0000_0000_0000, 0x20, 1, 0x1_0000_0000])))
+    let table = TupleTable::build(alloc, &kept, width)?;
+    Ok(table.revise(candidates))
 }
 
-/// What the row that has them gives at places below the width.
-fn values_below(width: u8) -> [u64; 4] {
-    let mut masks = [0; 4];
-    for (place, mask) in [0x8000_0000_0000_0000, 0x20, 1, 0x1_0000_0000]
-        .into_iter()
-        .enumerate()
-    {
-        if place < usize::from(width) {
-            masks[place] = mask;
+/// The values 0 to 7, 63, 64 and 255.
+static VALUES: [[u8; 4]; 11] = [
+    [0, 0, 0, 0],
+    [1, 0, 0, 0],
+    [2, 0, 0, 0],
+    [3, 0, 0, 0],
+    [4, 0, 0, 0],
+    [5, 0, 0, 0],
+    [6, 0, 0, 0],
+    [7, 0, 0, 0],
+    [63, 0, 0, 0],
+    [64, 0, 0, 0],
+    [255, 0, 0, 0],
+];
+
+/// How many of them are below 64.
+const SMALL_VALUES: usize = 9;
+
+const ALL: Mask = [u64::MAX; 4];
+
+const NONE: Mask = [0; 4];
+
+const LAST: Mask = [0x8000_0000_0000_0000, 0, 0, 0];
+
+const ALL_SMALL: Mask = [0x8000_0000_0000_00ff, 0, 0, 0];
+
+/// Those of a table with larger values.
+const ALL_LARGE: Mask = [0x8000_0000_0000_00ff, 1, 0, 0x8000_0000_0000_0000];
+
+#[test]
+fn rows_of_one_place(rt: HostRuntime) -> Result<(), Fail> {
+    let small = &VALUES[..SMALL_VALUES];
+    let cases = [
+        (small, sets_of([u64::MAX, 0, 5, 9]), ALL_SMALL, 9),
+        (small, [LAST, NONE, NONE, NONE], LAST, 1),
+        (VALUES.as_slice(), [ALL; 4], ALL_LARGE, 11),
+        (&[], sets_of([u64::MAX; 4]), NONE, 0),
+    ];
+    for (rows, candidates, first, alive) in cases {
+        let masks = [first, NONE, NONE, NONE];
+        let found = support_of(rt.alloc(), 1, rows, candidates)?;
+        assert_eq!(rt; found, Support { masks, alive });
+    }
+    Ok(())
+}
+
+/// The pairs of values 0 to 2 that differ by at most 1.
+static NEAR: [[u8; 4]; 7] = [
+    [0, 0, 0, 0],
+    [0, 1, 0, 0],
+    [1, 0, 0, 0],
+    [1, 1, 0, 0],
+    [1, 2, 0, 0],
+    [2, 1, 0, 0],
+    [2, 2, 0, 0],
+];
+
+/// The pairs of a value below 40 and one below 30.
+fn all_pairs(alloc: Global) -> Result<Vec<[u8; 4]>, AllocError> {
+    let mut pairs = Vec::new(alloc);
+    for first in 0..40 {
+        for second in 0..30 {
+            pairs.push([first, second, 0, 0])?;
         }
     }
-    masks
+    Ok(pairs)
+}
+
+/// Where each pair is a row, the candidates below 40 and 30 are supported where both places have
+/// one.
+#[test]
+fn rows_of_two_places(rt: HostRuntime) -> Result<(), Fail> {
+    let pairs = all_pairs(rt.alloc())?;
+    let all = pairs.as_slice();
+    let cases = [
+        (NEAR.as_slice(), [1, 7, 7, 7], [1, 3], 2),
+        (
+            all,
+            [u64::MAX, u64::MAX, 0, 9],
+            [0xff_ffff_ffff, 0x3fff_ffff],
+            1200,
+        ),
+        (
+            all,
+            [0x80_0000_0000, 0x2000_0000, 5, 0],
+            [0x80_0000_0000, 0x2000_0000],
+            1,
+        ),
+        (all, [0xff00_0000_0007, 6, 0, 0], [7, 6], 6),
+        (all, [u64::MAX, 0x4000_0000, 1, 1], [0, 0], 0),
+        (all, [0, u64::MAX, 1, 1], [0, 0], 0),
+    ];
+    for (rows, candidates, [first, second], alive) in cases {
+        let masks = sets_of([first, second, 0, 0]);
+        let found = support_of(rt.alloc(), 2, rows, sets_of(candidates))?;
+        assert_eq!(rt; found, Support { masks, alive });
+    }
+    Ok(())
+}
+
+/// The values 63, 5, 0 and 32, but 9 at the place that is other.
+fn values_but(other: usize) -> [u8; 4] {
+    let mut values = [63, 5, 0, 32];
+    if other < 4 {
+        values[other] = 9;
+    }
+    values
+}
+
+/// Rows of which the one at a place has the values 63, 5, 0 and 32. Each other lacks one of them at
+/// a place below the width.
+fn rows_but_one(width: u8, at: usize) -> [[u8; 4]; 17]
+    requires { 1 ≤ width }
+{
+    let mut rows = [[63, 5, 0, 32]; 17];
+    for i in 0..17 {
+        if i != at {
+            rows[i] = values_but(i % usize::from(width));
+        }
+    }
+    rows
+}
+
+/// The values 63, 5, 0 and 32 as sets.
+const FOUR_WORDS: [u64; 4] = [0x8000_0000_0000_0000, 0x20, 1, 0x1_0000_0000];
+
+/// What the row that has them supports, if it is there.
+fn support_if(is_there: bool, width: u8) -> Support {
+    let mut words = [0; 4];
+    for place in 0..4 {
+        if is_there && place < usize::from(width) {
+            words[place] = FOUR_WORDS[place];
+        }
+    }
+    Support {
+        masks: sets_of(words),
+        alive: u32::from(is_there),
+    }
 }
 
 #[test]
 fn one_row_is_found_at_each_place(rt: HostRuntime) -> Result<(), Fail> {
     for width in 1..5 {
         for length in 0..18 {
-            for place in 0..length {
-                let found = found_in(rt.alloc(), width, length, place)?;
-                assert_eq!(rt; found.masks, sets_of(values_below(width)));
-                assert_eq!(rt; found.alive, 1);
+            for at in 0..length + 1 {
+                let rows = rows_but_one(width, at);
+                let candidates = sets_of(FOUR_WORDS);
+                let found = support_of(rt.alloc(), width, &rows[..length], candidates)?;
+                assert_eq!(rt; found, support_if(at < length, width));
             }
-            let none = found_in(rt.alloc(), width, length, length)?;
-            assert_eq!(rt; none.masks, sets_of([0, 0, 0, 0]));
-            assert_eq!(rt; none.alive, 0);
         }
     }
     Ok(())
-}
-
-#[test]
-fn sets_are_met_and_counted(rt: HostRuntime) {
-    assert_eq!(rt; first_open(&sets_of([1, 2, 6, 3])), Some(2));
-    assert_eq!(rt; first_open(&[[1, 0, 0, 0], [0, 0, 1, 1]]), Some(1));
-    assert_eq!(rt; first_open(&[]), None);
-    let single = [[0; 4], [0, 0, 0, 1 << 63], [0, 4, 0, 0], [1, 0, 0, 0]];
-    assert_eq!(rt; first_open(&single), None);
-    assert_eq!(rt; first_empty(&single), Some(0));
-    assert_eq!(rt; first_empty(&single[1..]), None);
-    assert_eq!(rt; first_empty(&[]), None);
-    let one_empty = sets_of([1, 0, 0, 0]);
-    assert_eq!(rt; first_empty(&one_empty[..3]), Some(1));
-    let three = sets_of([3, 4, 0, 0]);
-    assert_eq!(rt; count(&three[..3]), 3);
-    assert_eq!(rt; count(&single), 3);
-    assert_eq!(rt; count(&[]), 0);
-    assert_eq!(rt; count(&[[u64::MAX; 4]; 17]), 4352);
-    let mut sets = [[7, 0, 0, 5], [5, 1, 0, 0], [1, 0, 2, 0]];
-    meet(&mut sets, &[[3, 1, 0, 4], [4, 1, 0, 0], [2, 0, 1, 0]]);
-    assert_eq!(rt; sets, [[3, 0, 0, 4], [4, 1, 0, 0], [0; 4]]);
-}
-
-/// The one set up to the place, and the other from there on.
-fn sets_from(place: usize, before: Mask, from: Mask) -> [Mask; 17] {
-    let mut sets = [before; 17];
-    for i in place..17 {
-        sets[i] = from;
-    }
-    sets
-}
-
-#[test]
-fn the_first_open_set_is_found_at_each_place(rt: HostRuntime) {
-    for length in 0..18 {
-        for place in 0..length {
-            let sets = sets_from(place, [0, 0, 4, 0], [0, 2, 4, 0]);
-            assert_eq!(rt; first_open(&sets[..length]), Some(place));
-        }
-        let single = sets_from(length, [0, 0, 0, 1 << 63], [u64::MAX; 4]);
-        assert_eq!(rt; first_open(&single[..length]), None);
-    }
-}
-
-#[test]
-fn the_first_empty_set_is_found_at_each_place(rt: HostRuntime) {
-    for length in 0..18 {
-        for place in 0..length {
-            let sets = sets_from(place, [0, 0, 0, 1 << 63], [0; 4]);
-            assert_eq!(rt; first_empty(&sets[..length]), Some(place));
-        }
-        let full = sets_from(length, [1, 0, 0, 0], [0; 4]);
-        assert_eq!(rt; first_empty(&full[..length]), None);
-    }
-}
-
-/// Two values before the place, and three from there on.
-#[test]
-fn values_are_counted_at_each_place(rt: HostRuntime) {
-    for length in 0..18 {
-        for place in 0..length {
-            let sets = sets_from(place, [1, 0, 0, 1 << 63], [4, 2, 1, 0]);
-            assert_eq!(rt; count(&sets[..length]), (3 * length - place) as u64);
-        }
-    }
-}
-
-/// 7 met with 3 before the place and with 5 from there on; the sets past the length stay.
-#[test]
-fn sets_are_met_at_each_place(rt: HostRuntime) {
-    for length in 0..18 {
-        for place in 0..length {
-            let mut sets = [[7, 0, 0, 7]; 17];
-            let others = sets_from(place, [11, 1, 0, 21], [21, 0, 1, 11]);
-            meet(&mut sets[..length], &others[..length]);
-            let mut met = sets_from(place, [3, 0, 0, 5], [5, 0, 0, 3]);
-            for i in length..17 {
-                met[i] = [7, 0, 0, 7];
-            }
-            assert_eq!(rt; sets, met);
-        }
-    }
 }

@@ -1,6 +1,18 @@
 //! Tests of kernels, boxes and searches, with rows worked out by hand.
 #![tactic(auto)]
 
+/// The line of a value that is lost.
+#[cfg(test)]
+macro_rules! lost {
+    ($execution:literal, $process:literal, $value:literal) => {
+        Line::Remove {
+            execution: $execution,
+            process: $process,
+            value: $value,
+        }
+    };
+}
+
 #[cfg(test)]
 mod boxes;
 #[cfg(test)]
@@ -8,6 +20,6 @@ mod lanes;
 #[cfg(test)]
 mod searches;
 #[cfg(test)]
-mod tables;
+mod sets;
 #[cfg(test)]
 mod tasks;
