@@ -1,6 +1,7 @@
-//! The board in one thread, in a known order, and under two threads, in whatever order.
+//! The board in one thread, in a known order, and under four threads, in whatever order.
 
 ghost use Rattle.std.specs.Prelude.{ℕ, ◌≡◌, ◌+◌, ◌<◌, length, All};
+ghost use Rattle.std.specs.Thread.{IsSync};
 ghost use Rattle.wf_core.specs.Count.{times};
 ghost use Rattle.wf_core.specs.declared.event.Status.TheVariants.{Free};
 ghost use Rattle.wf_board.specs.Desk.{fresh_desk, settled};
@@ -83,10 +84,20 @@ fn counts_posts_refutals_and_cuts(rt: HostRuntime) -> Result<(), Fail> {
     Ok(())
 }
 
+/// What a worker does with its sixteen branches.
+#[derive(Clone, Copy)]
+enum Plan {
+    // Posts each.
+    Post,
+    // Looks first, and cuts a branch above the least; else every third branch has a map.
+    Search,
+}
+
 #[derive(Drop)]
 struct Job {
     worker: u32,
     seat: BoardSeat,
+    plan: Plan,
 }
 
 /// A seat, and what became of each branch through it.
@@ -96,8 +107,8 @@ struct Worked {
     statuses: [Status; 64],
 }
 
-/// Looks first, and cuts a branch above the least; else every third branch has a map.
-fn settle(board: &Board, seat: &mut BoardSeat, branch: u32) -> Status
+/// Settles a branch as planned.
+fn settle(board: &Board, seat: &mut BoardSeat, branch: u32, plan: Plan) -> Status
     requires board { (seat.old.table ≡ board.now.table) × (seat.old.branches ≡ board.now.branches) }
     requires branch { (branch < board.now.branches) × (times branch (settled seat.old) ≡ 0) }
     ensures seat { (seat.new.table ≡ seat.old.table) × (seat.new.branches ≡ seat.old.branches) }
@@ -105,6 +116,10 @@ fn settle(board: &Board, seat: &mut BoardSeat, branch: u32) -> Status
         → times x (settled seat.new) ≡ times x (settled seat.old) }
     ensures status { ¬ (result ≡ Free) }
 {
+    if matches!(plan, Plan::Post) {
+        board.post(seat, branch);
+        return Status::Posted;
+    }
     if board.least(seat) < branch {
         board.cut(seat, branch);
         return Status::Cut;
@@ -117,45 +132,141 @@ fn settle(board: &Board, seat: &mut BoardSeat, branch: u32) -> Status
     Status::Refuted
 }
 
-/// Settles every second branch, in scattered order.
+/// Settles every fourth branch, in scattered order.
 fn work(board: &Board, job: Job) -> Worked
-    requires { (board.now.branches ≡ BRANCHES) × (job.worker < 2)
+    requires { (board.now.branches ≡ BRANCHES) × (job.worker < 4)
         × (job.seat ≡ fresh_desk board.now) }
     ensures { (result.seat.table ≡ board.now.table) × (result.seat.branches ≡ board.now.branches) }
 {
-    let Job { worker, mut seat } = job;
+    let Job {
+        worker,
+        mut seat,
+        plan,
+    } = job;
     let mut statuses = [Status::Free; 64];
-    for turn in 0..32 {
-        let branch = (5 * turn + 3) % 32 * 2 + worker;
+    for turn in 0..16 {
+        let branch = (5 * turn + 3) % 16 * 4 + worker;
         let Status::Free = statuses[branch as usize] else {
             continue;
         };
-        statuses[branch as usize] = settle(board, &mut seat, branch);
+        statuses[branch as usize] = settle(board, &mut seat, branch, plan);
     }
     Worked { seat, statuses }
 }
 
-/// The account of two workers at once, and what became of each branch through each of them.
+fn two<R: Threads + Sync>(rt: &R, board: &Board, first: Job, second: Job) -> (Worked, Worked)
+    requires board { board.now.branches ≡ BRANCHES }
+    requires first { (first.worker < 4) × (first.seat ≡ fresh_desk board.now) }
+    requires second { (second.worker < 4) × (second.seat ≡ fresh_desk board.now) }
+    ensures first { (result.0.seat.table ≡ board.now.table)
+        × (result.0.seat.branches ≡ board.now.branches) }
+    ensures second { (result.1.seat.table ≡ board.now.table)
+        × (result.1.seat.branches ≡ board.now.branches) }
+{
+    join(rt, move || work(board, first), move || work(board, second))
+}
+
+/// All four workers at once.
+fn four<R: Threads + Sync>(
+    rt: &R,
+    board: &Board,
+    first: Job,
+    second: Job,
+    third: Job,
+    fourth: Job,
+) -> ((Worked, Worked), (Worked, Worked))
+    requires board { board.now.branches ≡ BRANCHES }
+    requires first { (first.worker < 4) × (first.seat ≡ fresh_desk board.now) }
+    requires second { (second.worker < 4) × (second.seat ≡ fresh_desk board.now) }
+    requires third { (third.worker < 4) × (third.seat ≡ fresh_desk board.now) }
+    requires fourth { (fourth.worker < 4) × (fourth.seat ≡ fresh_desk board.now) }
+    ensures first { (result.0.0.seat.table ≡ board.now.table)
+        × (result.0.0.seat.branches ≡ board.now.branches) }
+    ensures second { (result.0.1.seat.table ≡ board.now.table)
+        × (result.0.1.seat.branches ≡ board.now.branches) }
+    ensures third { (result.1.0.seat.table ≡ board.now.table)
+        × (result.1.0.seat.branches ≡ board.now.branches) }
+    ensures fourth { (result.1.1.seat.table ≡ board.now.table)
+        × (result.1.1.seat.branches ≡ board.now.branches) }
+{
+    join(
+        rt,
+        move || -> (Worked, Worked)
+            requires { IsSync R.row × (board.now.branches ≡ BRANCHES) × (first.worker < 4)
+                × (first.seat ≡ fresh_desk board.now) × (second.worker < 4)
+                × (second.seat ≡ fresh_desk board.now) }
+            ensures { (result.0.seat.table ≡ board.entry.now.table)
+                × (result.0.seat.branches ≡ board.entry.now.branches)
+                × (result.1.seat.table ≡ board.entry.now.table)
+                × (result.1.seat.branches ≡ board.entry.now.branches) }
+        { two(rt, board, first, second) },
+        move || -> (Worked, Worked)
+            requires { IsSync R.row × (board.now.branches ≡ BRANCHES) × (third.worker < 4)
+                × (third.seat ≡ fresh_desk board.now) × (fourth.worker < 4)
+                × (fourth.seat ≡ fresh_desk board.now) }
+            ensures { (result.0.seat.table ≡ board.entry.now.table)
+                × (result.0.seat.branches ≡ board.entry.now.branches)
+                × (result.1.seat.table ≡ board.entry.now.table)
+                × (result.1.seat.branches ≡ board.entry.now.branches) }
+        { two(rt, board, third, fourth) },
+    )
+}
+
+/// The account of all four, and what became of each branch through each of them.
 fn run<R: Threads + Sync>(
     rt: &R,
     alloc: Global,
-) -> Result<(Account, [[Status; 64]; 2]), AllocError> {
-    let (board, mut seats) = Board::make(alloc, BRANCHES, 2)?;
+    plan: Plan,
+) -> Result<(Account, [[Status; 64]; 4]), AllocError> {
+    let (board, mut seats) = Board::make(alloc, BRANCHES, 4)?;
     let first = Job {
         worker: 0,
         seat: next_seat(&board, &mut seats),
+        plan,
     };
     let second = Job {
         worker: 1,
         seat: next_seat(&board, &mut seats),
+        plan,
     };
-    let (first, second) = join(rt, || work(&board, first), || work(&board, second));
-    let statuses = [first.statuses, second.statuses];
-    Ok((account_of(alloc, board, first.seat, second.seat)?, statuses))
+    let third = Job {
+        worker: 2,
+        seat: next_seat(&board, &mut seats),
+        plan,
+    };
+    let fourth = Job {
+        worker: 3,
+        seat: next_seat(&board, &mut seats),
+        plan,
+    };
+    let ((a, b), (c, d)) = four(rt, &board, first, second, third, fourth);
+    let Worked {
+        seat: a,
+        statuses: of_a,
+    } = a;
+    let Worked {
+        seat: b,
+        statuses: of_b,
+    } = b;
+    let Worked {
+        seat: c,
+        statuses: of_c,
+    } = c;
+    let Worked {
+        seat: d,
+        statuses: of_d,
+    } = d;
+    let mut seats = Vec::new(alloc);
+    seats.push(a)?;
+    seats.push(b)?;
+    seats.push(c)?;
+    seats.push(d)?;
+    let statuses = [of_a, of_b, of_c, of_d];
+    Ok((board.finish(seats), statuses))
 }
 
-/// The account of what became of the branches through each of two workers.
-fn counted(statuses: &[[Status; 64]; 2]) -> Account {
+/// The account of what became of the branches through each of four workers.
+fn counted(statuses: &[[Status; 64]; 4]) -> Account {
     let mut account = Account {
         branches: BRANCHES,
         least: BRANCHES,
@@ -179,9 +290,24 @@ fn counted(statuses: &[[Status; 64]; 2]) -> Account {
 }
 
 #[test]
+fn four_threads_post_all_branches(rt: HostRuntime) -> Result<(), Fail> {
+    let wanted = Account {
+        branches: 64,
+        least: 0,
+        searched: 64,
+        cut: 0,
+    };
+    for _ in 0..100 {
+        let (account, _) = run(&rt, rt.alloc(), Plan::Post)?;
+        assert_eq!(rt; account, wanted);
+    }
+    Ok(())
+}
+
+#[test]
 fn the_account_is_exact_in_any_schedule(rt: HostRuntime) -> Result<(), Fail> {
     for _ in 0..1000 {
-        let (account, statuses) = run(&rt, rt.alloc())?;
+        let (account, statuses) = run(&rt, rt.alloc(), Plan::Search)?;
         let settled = account.searched.wrapping_add(account.cut);
         assert_eq!(rt; (account, settled), (counted(&statuses), BRANCHES));
     }

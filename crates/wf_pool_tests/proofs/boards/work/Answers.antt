@@ -19,13 +19,13 @@ fresh_after statuses b r old new inside settled_now fresh others x lt free = dit
 
 pub settle-requires-clause-branch : goal.settle-requires-clause-branch
 settle-requires-clause-branch c =
-    let inside : (5 * c.loop-turn.turn + 3) % 32 * 2 + c.args.job.worker < 64 = omega arith in
+    let inside : (5 * c.loop-turn.turn + 3) % 16 * 4 + c.args.job.worker < 64 = omega arith in
     (search rules, c.loop-turn.invariant.fresh _ inside (search rules))
 
 pub loop-turn-preserved : goal.loop-turn-preserved
 loop-turn-preserved c =
     let h = c.loop-turn.invariant in
-    let b = (5 * c.loop-turn.turn + 3) % 32 * 2 + c.args.job.worker in
+    let b = (5 * c.loop-turn.turn + 3) % 16 * 4 + c.args.job.worker in
     let size = h.size in
     let inside : b < length c.loop-turn.statuses = omega arith in
     let e = c.settle.ensures in
