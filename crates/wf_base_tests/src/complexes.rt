@@ -29,8 +29,8 @@ static COUNTED: [(&str, u32, Result<Counts, BuildFault>); 15] = [
     (RENAMING_2_3, 0, Ok((0, 1, 3, 2))),
 ];
 
-/// Where each point of a task appears first after some rounds, and the points of each execution, one
-/// execution after another. By rank, one point stands twice in an execution.
+/// Where each point of a task appears first after so many rounds, and the points of each
+/// execution, one execution after another. By rank, one point stands twice in an execution.
 static PLACED: [(&str, u32, &[(u32, u8)], &[u32]); 3] = [
     (
         PATH_3,
