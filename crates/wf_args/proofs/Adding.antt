@@ -18,3 +18,8 @@ pub with_leaf : (old new sub : Command) (app : App) (shape : Shape) → AddsSubc
     → app_of new ≡ with_subcommand app shape
 with_leaf old new sub app shape adds leaf is =
     adds.shape leaf.1 ∙ ap₂ with_subcommand is (ap (λ (a : App). a.top) leaf.0)
+
+-- what a command comes to with one subcommand more, by what it came to before
+pub after : (shape : Shape) → {new : App} → {old : App} → {app : App} → new ≡ with_subcommand old shape → old ≡ app
+    → new ≡ with_subcommand app shape
+after shape adds is = adds ∙ ap (λ app. with_subcommand app shape) is

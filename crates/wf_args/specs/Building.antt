@@ -1,10 +1,12 @@
 -- What building the command line comes to.
-use Rattle.std.specs.Prelude.{◌≡◌, [], false}
-use Rattle.clap.specs.Simple.{Shape, app_of}
+use Rattle.std.specs.Prelude.{◌≡◌, ℕ, [], false, take, Result, IfOk}
+use Rattle.std.specs.declared.alloc.AllocError.{AllocError}
+use Rattle.clap.specs.Simple.{App, Shape, app_of, with_subcommand}
 use Rattle.clap.specs.Walk.{Rule, rule_of}
 use Rattle.clap.specs.declared.builder.arg.Arg.{Arg}
 use Rattle.clap.specs.declared.builder.command.Command.{Command}
 use Rattle.clap.specs.declared.builder.command.Command.TheViews.{out-Command as fields_of}
+use Rattle.wf_args.specs.CommandLine.{command_line}
 
 -- an option of one subcommand
 abbrev pub IsOption : Rule → Arg → Type 0
@@ -13,3 +15,12 @@ IsOption rule arg = (rule_of arg ≡ rule) × (arg.global ≡ false)
 -- a command without subcommands
 abbrev pub IsLeaf : Shape → Command → Type 0
 IsLeaf shape c = (app_of c ≡ record { top = shape; subs = [] }) × ((fields_of c).has_globals ≡ false)
+
+-- a command with one subcommand more, where both were made
+abbrev pub Adds : Command → Result Command AllocError → Result Command AllocError → Type 0
+Adds old sub result = (shape : Shape) → IfOk sub (IsLeaf shape)
+    → IfOk result (λ new. app_of new ≡ with_subcommand (app_of old) shape)
+
+-- the command line with the first so many of its subcommands
+abbrev pub with_first : ℕ → App
+with_first count = record command_line { subs = take count command_line.subs }

@@ -3,7 +3,7 @@
 ghost use Rattle.std.specs.Prelude.{◌≡◌, [], IfOk};
 ghost use Rattle.clap.specs.Words.{app_of};
 ghost use Rattle.wf_args.specs.CommandLine as line;
-ghost use Rattle.wf_args.specs.Building.{IsLeaf, IsOption};
+ghost use Rattle.wf_args.specs.Building.{Adds, IsLeaf, IsOption, with_first};
 
 use crate::version::VERSION;
 use clap::{Arg, ArgAction, Command, value_parser};
@@ -76,26 +76,6 @@ fn subcommand<'a>(alloc: Global, name: &'a str, about: &'a str) -> Command<'a>
 fn solve_command<'a>(alloc: Global) -> Result<Command<'a>, AllocError>
     ensures { IfOk result (IsLeaf line.solve) }
 {
-    let verdict = flag(
-        alloc,
-        "verdict",
-        "Leave out the lines of a refutation; not beside --least",
-    );
-    let least = flag(
-        alloc,
-        "least",
-        "With a map, write the lines that show that no decision map is smaller; not beside --verdict",
-    );
-    let account = flag(
-        alloc,
-        "account",
-        "Tell on standard error how many branches were searched, and how many were cut; not beside --branch",
-    );
-    let progress = flag(
-        alloc,
-        "progress",
-        "Tell on standard error how the search goes on, and how many branches are settled",
-    );
     subcommand(
         alloc,
         "solve",
@@ -103,10 +83,26 @@ fn solve_command<'a>(alloc: Global) -> Result<Command<'a>, AllocError>
     )
     .arg(rounds(alloc))?
     .arg(workers(alloc))?
-    .arg(verdict)?
-    .arg(least)?
-    .arg(account)?
-    .arg(progress)?
+    .arg(flag(
+        alloc,
+        "verdict",
+        "Leave out the lines of a refutation; not beside --least",
+    ))?
+    .arg(flag(
+        alloc,
+        "least",
+        "With a map, write the lines that show that no decision map is smaller; not beside --verdict",
+    ))?
+    .arg(flag(
+        alloc,
+        "account",
+        "Tell on standard error how many branches were searched, and how many were cut; not beside --branch",
+    ))?
+    .arg(flag(
+        alloc,
+        "progress",
+        "Tell on standard error how the search goes on, and how many branches are settled",
+    ))?
     .arg(branch(alloc))
 }
 
@@ -309,47 +305,69 @@ fn kind<'a>(alloc: Global) -> Arg<'a>
 fn preset_command<'a>(alloc: Global) -> Result<Command<'a>, AllocError>
     ensures { IfOk result (IsLeaf line.preset) }
 {
-    let k = optional(
-        alloc,
-        "k",
-        "How many different values may be decided, at least 1",
-    );
-    let values = optional(
-        alloc,
-        "values",
-        "How many values each process may have as input, 1 to 64; without it each has its own number",
-    );
-    let names = optional(alloc, "names", "How many names there are, 1 to 64");
     subcommand(alloc, "preset", "Write the text of a task that has a name")
         .after_help(KINDS)
         .arg(kind(alloc))?
         .arg(number(alloc, "processes", "How many processes there are, 1 to 4"))?
-        .arg(k)?
-        .arg(values)?
-        .arg(names)
+        .arg(optional(
+            alloc,
+            "k",
+            "How many different values may be decided, at least 1",
+        ))?
+        .arg(optional(
+            alloc,
+            "values",
+            "How many values each process may have as input, 1 to 64; without it each has its own number",
+        ))?
+        .arg(optional(alloc, "names", "How many names there are, 1 to 64"))
 }
 
-pub(crate) fn whole_command<'a>(alloc: Global) -> Result<Command<'a>, AllocError>
-    ensures { IfOk result (λ c. app_of c ≡ line.command_line) }
+/// A command with one subcommand more, if there is memory for both.
+fn adding<'a>(
+    command: Command<'a>,
+    sub: Result<Command<'a>, AllocError>,
+) -> Result<Command<'a>, AllocError>
+    ensures { Adds command.entry sub.entry result }
 {
-    Command::new(alloc, "wfcheck")
+    command.subcommand(sub?)
+}
+
+/// The command line with the first five of its subcommands.
+fn first_five<'a>(alloc: Global) -> Result<Command<'a>, AllocError>
+    ensures { IfOk result (λ c. app_of c ≡ with_first 5) }
+{
+    let command = Command::new(alloc, "wfcheck")
         .about(
             "Decide whether a task can be solved wait-free in r rounds of iterated immediate snapshots",
         )
         .version(VERSION)
-        .subcommand_required(true)
-        .subcommand(solve_command(alloc)?)?
-        .subcommand(verify_command(alloc)?)?
-        .subcommand(views_command(alloc)?)?
-        .subcommand(points_command(alloc)?)?
-        .subcommand(branches_command(alloc)?)?
-        .subcommand(join_command(alloc)?)?
-        .subcommand(cnf_command(alloc)?)?
-        .subcommand(model_command(alloc)?)?
-        .subcommand(proof_command(alloc)?)?
-        .subcommand(trim_command(alloc)?)?
-        .subcommand(explain_command(alloc)?)?
-        .subcommand(lift_command(alloc)?)?
-        .subcommand(executions_command(alloc)?)?
-        .subcommand(preset_command(alloc)?)
+        .subcommand_required(true);
+    let command = adding(command, solve_command(alloc))?;
+    let command = adding(command, verify_command(alloc))?;
+    let command = adding(command, views_command(alloc))?;
+    let command = adding(command, points_command(alloc))?;
+    adding(command, branches_command(alloc))
+}
+
+/// The command line with the first ten of its subcommands.
+fn first_ten<'a>(alloc: Global) -> Result<Command<'a>, AllocError>
+    ensures { IfOk result (λ c. app_of c ≡ with_first 10) }
+{
+    let command = first_five(alloc)?;
+    let command = adding(command, join_command(alloc))?;
+    let command = adding(command, cnf_command(alloc))?;
+    let command = adding(command, model_command(alloc))?;
+    let command = adding(command, proof_command(alloc))?;
+    adding(command, trim_command(alloc))
+}
+
+/// The whole command line.
+pub(crate) fn whole_command<'a>(alloc: Global) -> Result<Command<'a>, AllocError>
+    ensures { IfOk result (λ c. app_of c ≡ line.command_line) }
+{
+    let command = first_ten(alloc)?;
+    let command = adding(command, explain_command(alloc))?;
+    let command = adding(command, lift_command(alloc))?;
+    let command = adding(command, executions_command(alloc))?;
+    adding(command, preset_command(alloc))
 }

@@ -1,205 +1,286 @@
 //! Simplices, complexes and words.
 
+use std::alloc::{AllocError, Global};
 use std::test::Fail;
 use wf_simplex::{Complex, Simplex, SimplexFault, Word, allowed_count, word_count};
 
-fn simplex(pairs: &[(u8, u8)]) -> Result<Simplex, SimplexFault> {
-    Simplex::read(pairs)
+/// The vertices of a simplex: processes with their values.
+type Pairs = &'static [(u8, u8)];
+
+const EDGE: Pairs = &[(1, 7), (3, 0)];
+
+const VERTEX: Pairs = &[(3, 0)];
+
+const OTHER_VERTEX: Pairs = &[(3, 1)];
+
+/// Vertices that are a simplex, or why they are none.
+static READ: [(Pairs, Option<SimplexFault>); 12] = [
+    (&[(0, 0)], None),
+    (&[(3, 63)], None),
+    (&[(0, 5), (1, 5), (2, 5), (3, 5)], None),
+    (&[(1, 0), (3, 1)], None),
+    (&[], Some(SimplexFault::Empty)),
+    (&[(4, 0)], Some(SimplexFault::Colour)),
+    (&[(1, 0), (0, 0)], Some(SimplexFault::Colour)),
+    (&[(1, 0), (1, 0)], Some(SimplexFault::Colour)),
+    (&[(0, 64)], None),
+    (&[(0, 0), (1, 255)], None),
+    (&[(0, 64), (0, 0)], Some(SimplexFault::Colour)),
+    (
+        &[(0, 0), (1, 0), (2, 0), (3, 0), (4, 64)],
+        Some(SimplexFault::Colour),
+    ),
+];
+
+/// Simplices by size, and then as lists.
+static ASCENDING: [Pairs; 8] = [
+    &[(0, 0)],
+    &[(0, 1)],
+    &[(3, 0)],
+    &[(0, 0), (1, 0)],
+    &[(0, 0), (1, 1)],
+    &[(0, 0), (2, 0)],
+    &[(1, 0), (2, 0)],
+    &[(0, 0), (1, 0), (2, 0)],
+];
+
+/// Facets, of which one is listed twice and one is a face of another.
+static FACETS: [Pairs; 4] = [
+    &[(0, 0), (1, 1)],
+    &[(1, 1)],
+    &[(0, 0), (1, 0)],
+    &[(0, 0), (1, 1)],
+];
+
+static TETRAHEDRON: [Pairs; 1] = [&[(0, 0), (1, 0), (2, 0), (3, 0)]];
+
+/// Where simplices stand in the complex of these facets.
+static PLACES: [(Pairs, Option<u32>); 7] = [
+    (&[(0, 0)], Some(0)),
+    (&[(1, 0)], Some(1)),
+    (&[(1, 1)], Some(2)),
+    (&[(0, 0), (1, 0)], Some(3)),
+    (&[(0, 0), (1, 1)], Some(4)),
+    (&[(1, 2)], None),
+    (&[(0, 1)], None),
+];
+
+/// The words of three participants.
+static WORDS: [[u8; 3]; 13] = [
+    [0, 0, 0],
+    [0, 0, 1],
+    [0, 1, 0],
+    [0, 1, 1],
+    [0, 1, 2],
+    [0, 2, 1],
+    [1, 0, 0],
+    [1, 0, 1],
+    [1, 0, 2],
+    [1, 1, 0],
+    [1, 2, 0],
+    [2, 0, 1],
+    [2, 1, 0],
+];
+
+/// Those with two at least in the first block.
+static WORDS_OF_PAIRS: [[u8; 3]; 4] = [[0, 0, 0], [0, 0, 1], [0, 1, 0], [1, 0, 0]];
+
+/// The simplices with these vertices.
+fn simplices(alloc: Global, rows: &[Pairs]) -> Result<Vec<Simplex>, Fail> {
+    let mut simplices = Vec::new(alloc);
+    for pairs in rows {
+        simplices.push(Simplex::read(pairs)?)?;
+    }
+    Ok(simplices)
+}
+
+/// Whether a simplex is more than those before this place, itself here, and less than the others.
+fn stands_at(ascending: &[Simplex], simplex: &Simplex, place: usize) -> bool {
+    for (other_place, other) in ascending.iter().enumerate() {
+        if simplex.cmp(other) != place.cmp(&other_place)
+            || (simplex == other) != (place == other_place)
+        {
+            return false;
+        }
+    }
+    true
+}
+
+/// Puts the levels of three participants at the end of a list.
+fn put_levels(word: &Word, list: &mut Vec<[u8; 3]>) -> Result<(), AllocError> {
+    if word.size() == 3 {
+        list.push([word.level(0), word.level(1), word.level(2)])?;
+    }
+    Ok(())
+}
+
+/// Whether the first of two participants sees the first and the second, and so of the second.
+fn seen(word: &Word) -> Option<[bool; 4]> {
+    if word.size() != 2 {
+        return None;
+    }
+    Some([
+        word.sees(0, 0),
+        word.sees(0, 1),
+        word.sees(1, 0),
+        word.sees(1, 1),
+    ])
 }
 
 #[test]
 fn simplices_are_read_or_refused(rt: HostRuntime) {
-    let rows: [(&[(u8, u8)], Option<SimplexFault>); 12] = [
-        (&[(0, 0)], None),
-        (&[(3, 63)], None),
-        (&[(0, 5), (1, 5), (2, 5), (3, 5)], None),
-        (&[(1, 0), (3, 1)], None),
-        (&[], Some(SimplexFault::Empty)),
-        (&[(4, 0)], Some(SimplexFault::Colour)),
-        (&[(1, 0), (0, 0)], Some(SimplexFault::Colour)),
-        (&[(1, 0), (1, 0)], Some(SimplexFault::Colour)),
-        (&[(0, 64)], None),
-        (&[(0, 0), (1, 255)], None),
-        (&[(0, 64), (0, 0)], Some(SimplexFault::Colour)),
-        (
-            &[(0, 0), (1, 0), (2, 0), (3, 0), (4, 64)],
-            Some(SimplexFault::Colour),
-        ),
-    ];
-    for (pairs, fault) in rows {
-        assert_eq!(rt; simplex(pairs).err(), fault, "at {pairs:?}");
+    for (place, (pairs, fault)) in READ.iter().enumerate() {
+        assert!(rt; Simplex::read(pairs).err() == *fault, "at {place}");
     }
+}
+
+/// How many vertices a simplex has, and what processes 0, 1, 3 and 4 have there.
+fn values(simplex: &Simplex) -> (u8, [Option<u8>; 4]) {
+    let values = [
+        simplex.value(0),
+        simplex.value(1),
+        simplex.value(3),
+        simplex.value(4),
+    ];
+    (simplex.colours(), values)
+}
+
+/// The processes of an edge.
+fn ends(simplex: &Simplex) -> Option<(u8, u8)> {
+    if simplex.colours() != 2 {
+        return None;
+    }
+    Some((simplex.colour(0), simplex.colour(1)))
+}
+
+/// Whether the first of two simplices is a face of the second.
+fn is_face(face: Pairs, whole: Pairs) -> Result<bool, SimplexFault> {
+    Ok(Simplex::read(face)?.is_face(&Simplex::read(whole)?))
 }
 
 #[test]
 fn simplices_know_their_vertices(rt: HostRuntime) -> Result<(), Fail> {
-    let edge = simplex(&[(1, 7), (3, 0)])?;
-    assert_eq!(rt; edge.colours(), 2);
-    assert_eq!(rt; edge.value(0), None);
-    assert_eq!(rt; edge.value(1), Some(7));
-    assert_eq!(rt; edge.value(3), Some(0));
-    assert_eq!(rt; edge.value(4), None);
-    if edge.colours() == 2 {
-        assert_eq!(rt; edge.colour(0), 1);
-        assert_eq!(rt; edge.colour(1), 3);
-    }
-    let vertex = simplex(&[(3, 0)])?;
-    assert!(rt; vertex.is_face(&edge));
-    assert!(rt; edge.is_face(&edge));
-    assert!(rt; !edge.is_face(&vertex));
-    assert!(rt; !simplex(&[(3, 1)])?.is_face(&edge));
+    let edge = Simplex::read(EDGE)?;
+    assert!(rt; values(&edge) == (2, [None, Some(7), Some(0), None]));
+    assert!(rt; ends(&edge) == Some((1, 3)));
     Ok(())
+}
+
+#[test]
+fn faces_are_told_apart(rt: HostRuntime) {
+    assert!(rt; is_face(VERTEX, EDGE) == Ok(true));
+    assert!(rt; is_face(EDGE, EDGE) == Ok(true));
+    assert!(rt; is_face(EDGE, VERTEX) == Ok(false));
+    assert!(rt; is_face(OTHER_VERTEX, EDGE) == Ok(false));
 }
 
 #[test]
 fn simplices_are_ordered_by_size_and_then_as_lists(rt: HostRuntime) -> Result<(), Fail> {
-    let ascending = [
-        simplex(&[(0, 0)])?,
-        simplex(&[(0, 1)])?,
-        simplex(&[(3, 0)])?,
-        simplex(&[(0, 0), (1, 0)])?,
-        simplex(&[(0, 0), (1, 1)])?,
-        simplex(&[(0, 0), (2, 0)])?,
-        simplex(&[(1, 0), (2, 0)])?,
-        simplex(&[(0, 0), (1, 0), (2, 0)])?,
-    ];
-    for (i, left) in ascending.iter().enumerate() {
-        for (j, right) in ascending.iter().enumerate() {
-            assert_eq!(rt; left.cmp(right), i.cmp(&j), "at {i} and {j}");
-            assert_eq!(rt; left == right, i == j, "at {i} and {j}");
-        }
+    let ascending = simplices(rt.alloc(), &ASCENDING)?;
+    for (place, simplex) in ascending.iter().enumerate() {
+        assert!(rt; stands_at(&ascending, simplex, place), "at {place}");
     }
     Ok(())
 }
 
+/// How many simplices the complex with these facets has.
+fn complex_size(alloc: Global, facets: &[Pairs]) -> Result<Option<usize>, Fail> {
+    let facets = simplices(alloc, facets)?;
+    if facets.len() > 4 {
+        return Ok(None);
+    }
+    Ok(Some(Complex::from_facets(alloc, &facets)?.simplices().len()))
+}
+
+/// Where a simplex stands in a complex, and whether it is there.
+fn found(complex: &Complex, pairs: Pairs) -> Result<(Option<u32>, bool), Fail> {
+    let simplex = Simplex::read(pairs)?;
+    Ok((complex.index(&simplex), complex.contains(&simplex)))
+}
+
 #[test]
 fn complexes_are_closed_under_faces(rt: HostRuntime) -> Result<(), Fail> {
-    let facets = [
-        simplex(&[(0, 0), (1, 1)])?,
-        simplex(&[(1, 1)])?,
-        simplex(&[(0, 0), (1, 0)])?,
-        simplex(&[(0, 0), (1, 1)])?,
-    ];
+    assert!(rt; complex_size(rt.alloc(), &FACETS)? == Some(5));
+    assert!(rt; complex_size(rt.alloc(), &TETRAHEDRON)? == Some(15));
+    assert!(rt; complex_size(rt.alloc(), &[])? == Some(0));
+    Ok(())
+}
+
+#[test]
+fn simplices_of_a_complex_are_found(rt: HostRuntime) -> Result<(), Fail> {
+    let facets = simplices(rt.alloc(), &FACETS)?;
+    assert!(rt; facets.len() <= 4);
     let complex = Complex::from_facets(rt.alloc(), &facets)?;
-    let listed = [
-        simplex(&[(0, 0)])?,
-        simplex(&[(1, 0)])?,
-        simplex(&[(1, 1)])?,
-        simplex(&[(0, 0), (1, 0)])?,
-        simplex(&[(0, 0), (1, 1)])?,
-    ];
-    assert!(rt; complex.simplices() == listed.as_slice());
-    assert_eq!(rt; complex.index(&simplex(&[(1, 1)])?), Some(2));
-    assert_eq!(rt; complex.index(&simplex(&[(1, 2)])?), None);
-    assert!(rt; complex.contains(&simplex(&[(0, 0), (1, 1)])?));
-    assert!(rt; !complex.contains(&simplex(&[(0, 1)])?));
-    let triangle = [simplex(&[(0, 0), (1, 0), (2, 0), (3, 0)])?];
-    assert_eq!(rt;
-        Complex::from_facets(rt.alloc(), &triangle)?
-            .simplices()
-            .len(),
-        15
-    );
-    assert_eq!(rt; Complex::from_facets(rt.alloc(), &[])?.simplices().len(), 0);
+    for (place, (pairs, index)) in PLACES.iter().enumerate() {
+        assert!(rt;
+            found(&complex, pairs)? == (*index, index.is_some()),
+            "at {place}"
+        );
+    }
     Ok(())
 }
 
 #[test]
 fn words_follow_one_another(rt: HostRuntime) -> Result<(), Fail> {
-    let three = [
-        [0, 0, 0],
-        [0, 0, 1],
-        [0, 1, 0],
-        [0, 1, 1],
-        [0, 1, 2],
-        [0, 2, 1],
-        [1, 0, 0],
-        [1, 0, 1],
-        [1, 0, 2],
-        [1, 1, 0],
-        [1, 2, 0],
-        [2, 0, 1],
-        [2, 1, 0],
-    ];
+    let mut words = Vec::new(rt.alloc());
+    let mut allowed = Vec::new(rt.alloc());
     let mut word = Word::first(3);
-    for (place, levels) in three.iter().enumerate() {
-        if word.size() == 3 {
-            let found = [word.level(0), word.level(1), word.level(2)];
-            assert_eq!(rt; &found, levels, "at {place}");
+    for _ in 0..100 {
+        put_levels(&word, &mut words)?;
+        if word.allowed(2) {
+            put_levels(&word, &mut allowed)?;
         }
-        assert_eq!(rt; word.next(), place < 12, "at {place}");
+        if !word.next() {
+            break;
+        }
     }
+    assert!(rt; words.as_slice() == WORDS.as_slice());
+    assert!(rt; allowed.as_slice() == WORDS_OF_PAIRS.as_slice());
     Ok(())
 }
 
 #[test]
-fn words_are_counted(rt: HostRuntime) {
-    for (size, count) in [(1u8, 1u32), (2, 3), (3, 13), (4, 75)] {
-        if size >= 1 && size <= 4 {
-            assert_eq!(rt; word_count(size), count);
-            let mut word = Word::first(size);
-            let mut steps = 1u32;
-            for _ in 0..100 {
-                if word.next() {
-                    steps = steps.saturating_add(1);
-                }
-            }
-            assert_eq!(rt; steps, count, "at {size}");
-        }
-    }
-}
-
-#[test]
-fn words_with_a_larger_first_block_are_counted(rt: HostRuntime) {
-    let counts = [[1u32, 3, 13, 75], [1, 1, 4, 23], [1, 1, 1, 5], [1, 1, 1, 1]];
-    for m in 1..5u8 {
-        for size in 1..5u8 {
-            let count = counts[m as usize - 1][size as usize - 1];
-            assert_eq!(rt; allowed_count(size, m), count, "{m} of {size}");
-            let mut word = Word::first_allowed(size, m);
-            let mut steps = 1u32;
-            for _ in 0..100 {
-                assert!(rt; word.allowed(m), "{m} of {size} at {steps}");
-                if word.next_allowed(m) {
-                    steps = steps.saturating_add(1);
-                }
-            }
-            assert_eq!(rt; steps, count, "{m} of {size}");
-        }
-    }
-}
-
-#[test]
-fn words_with_two_at_least_in_the_first_block(rt: HostRuntime) {
-    let three = [[0u8, 0, 0], [0, 0, 1], [0, 1, 0], [1, 0, 0]];
+fn words_with_two_at_least_in_the_first_block(rt: HostRuntime) -> Result<(), Fail> {
+    let mut words = Vec::new(rt.alloc());
     let mut word = Word::first_allowed(3, 2);
-    for (place, levels) in three.iter().enumerate() {
-        if word.size() == 3 {
-            let found = [word.level(0), word.level(1), word.level(2)];
-            assert_eq!(rt; &found, levels, "at {place}");
+    for _ in 0..100 {
+        put_levels(&word, &mut words)?;
+        if !word.next_allowed(2) {
+            break;
         }
-        assert_eq!(rt; word.next_allowed(2), place < 3, "at {place}");
     }
-    let mut single = Word::first(3);
-    let _ = single.next();
-    let _ = single.next();
-    let _ = single.next();
-    assert!(rt; single.allowed(1), "0 1 1");
-    assert!(rt; !single.allowed(2), "0 1 1");
+    assert!(rt; words.as_slice() == WORDS_OF_PAIRS.as_slice());
+    Ok(())
+}
+
+/// The numbers of words of one to four with so many at least in the first block.
+fn allowed_counts(m: u8) -> [u32; 4] {
+    if m < 1 || m > 4 {
+        return [0; 4];
+    }
+    [
+        allowed_count(1, m),
+        allowed_count(2, m),
+        allowed_count(3, m),
+        allowed_count(4, m),
+    ]
+}
+
+#[test]
+fn words_are_counted(rt: HostRuntime) {
+    let counts = (word_count(1), word_count(2), word_count(3), word_count(4));
+    assert!(rt; counts == (1, 3, 13, 75));
+    assert!(rt; allowed_counts(1) == [1, 3, 13, 75]);
+    assert!(rt; allowed_counts(2) == [1, 1, 4, 23]);
+    assert!(rt; allowed_counts(3) == [1, 1, 1, 5]);
+    assert!(rt; allowed_counts(4) == [1, 1, 1, 1]);
 }
 
 #[test]
 fn participants_see_earlier_blocks_and_their_own(rt: HostRuntime) {
-    // The word 0 1 after one step: process 1 sees both, process 0 only itself.
     let mut word = Word::first(2);
-    if word.size() == 2 {
-        assert!(rt; word.sees(0, 1), "one block");
-    }
-    let _ = word.next();
-    if word.size() == 2 {
-        assert!(rt; word.sees(0, 0));
-        assert!(rt; !word.sees(0, 1));
-        assert!(rt; word.sees(1, 0));
-        assert!(rt; word.sees(1, 1));
-    }
+    assert!(rt; seen(&word) == Some([true, true, true, true]));
+    // then 0 1: process 1 sees both, process 0 only itself
+    word.next();
+    assert!(rt; seen(&word) == Some([true, false, true, true]));
 }

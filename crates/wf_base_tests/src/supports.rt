@@ -1,10 +1,22 @@
-//! Support for a value in the tuples of a rule, beside a loop over all tuples.
+//! Support for a value in the tuples of a rule.
 
 use std::alloc::{AllocError, Global};
 use std::test::Fail;
-use wf_set::{Mask, holds, of_part, only, with};
+use wf_set::{of_part, only};
 use wf_support::Support;
 use wf_task::Row;
+
+/// A number of sets, a place and a value, and whether it is supported there by tuples with three
+/// values and one with two, 40 and 41.
+static ASKED: [(usize, usize, u8, bool); 7] = [
+    (3, 2, 2, true),
+    (2, 1, 0, false),
+    (4, 2, 2, false),
+    (5, 2, 2, false),
+    (0, 0, 0, false),
+    (2, 0, 40, true),
+    (3, 0, 40, false),
+];
 
 /// So many tuples with three values, and one with this value at its ends.
 fn some_tuples(alloc: Global, count: u16, value: u8) -> Result<Vec<Row>, AllocError> {
@@ -19,55 +31,23 @@ fn some_tuples(alloc: Global, count: u16, value: u8) -> Result<Vec<Row>, AllocEr
     Ok(tuples)
 }
 
-/// Sets for three places, with this value at the ends.
-fn some_sets(value: u8) -> [Mask; 3] {
-    [
-        with(of_part(0b0011_0110), value),
-        of_part(0x000f_3f01_0003_0f01),
-        with(of_part(0b0110_1100_0101), value),
-    ]
+/// Whether a table of so many tuples and one with this value at its ends supports it, 6 in its
+/// place, and it at a place past the ends, where the sets have that tuple alone.
+fn ends_are_supported(alloc: Global, count: u16, end: u8) -> Result<[bool; 3], AllocError> {
+    let tuples = some_tuples(alloc, count, end)?;
+    let support = Support::of(alloc, &tuples)?;
+    let sets = [only(end), only(0), only(end)];
+    Ok([
+        support.supports(&sets, 0, end),
+        support.supports(&sets, 0, 6),
+        support.supports(&sets, 3, end),
+    ])
 }
 
-/// Whether each value of the tuple is in the set of its place.
-fn is_alive(values: &[u8], sets: &[Mask]) -> bool {
-    for (place, set) in sets.iter().enumerate() {
-        if place >= values.len() || !holds(*set, values[place]) {
-            return false;
-        }
-    }
-    values.len() == sets.len()
-}
-
-/// Whether one of the tuples supports the value, by a look at each.
-fn is_supported(tuples: &[Row], sets: &[Mask], place: usize, value: u8) -> bool {
-    for tuple in tuples {
-        let values = tuple.as_slice();
-        if place < values.len() && values[place] == value && is_alive(values, sets) {
-            return true;
-        }
-    }
-    false
-}
-
-/// The first of some values at the place on which the two differ.
-fn first_wrong(support: &Support, tuples: &[Row], sets: &[Mask], place: usize) -> Option<u8> {
-    for value in [0, 1, 6, 9, 40, 63, 64, 255] {
-        if support.supports(sets, place, value) != is_supported(tuples, sets, place, value) {
-            return Some(value);
-        }
-    }
-    None
-}
-
-/// The first place, and the value there, on which the two differ.
-fn first_fault(alloc: Global, tuples: &[Row], sets: &[Mask]) -> Result<Option<(usize, u8)>, Fail> {
-    let support = Support::of(alloc, tuples)?;
-    for place in 0..5 {
-        if let Some(value) = first_wrong(&support, tuples, sets, place) {
-            return Ok(Some((place, value)));
-        }
-    }
-    Ok(None)
+/// What is supported by so many of five sets that have all values.
+fn is_supported(support: &Support, sets: usize, place: usize, value: u8) -> bool {
+    let all = [[u64::MAX; 4]; 5];
+    sets <= 5 && support.supports(&all[..sets], place, value)
 }
 
 #[test]
@@ -75,63 +55,34 @@ fn a_value_is_supported_by_a_tuple_that_is_alive(rt: HostRuntime) -> Result<(), 
     let tuples = [Row::new(&[0, 1]), Row::new(&[1, 0]), Row::new(&[1, 2])];
     let support = Support::of(rt.alloc(), &tuples)?;
     let sets = [of_part(0b11), of_part(0b101)];
-    assert!(rt; support.supports(&sets, 0, 1));
-    assert!(rt; support.supports(&sets, 1, 2));
-    assert!(rt; !support.supports(&sets, 0, 0));
-    assert!(rt; !support.supports(&sets, 2, 1));
+    let alive = (support.supports(&sets, 0, 1), support.supports(&sets, 1, 2));
+    assert!(rt; alive == (true, true));
+    let dead = (support.supports(&sets, 0, 0), support.supports(&sets, 2, 1));
+    assert!(rt; dead == (false, false));
     Ok(())
 }
 
 #[test]
-fn a_large_table_has_a_tuple_past_its_blocks(rt: HostRuntime) -> Result<(), Fail> {
-    let tuples = some_tuples(rt.alloc(), 700, 63)?;
-    let support = Support::of(rt.alloc(), &tuples)?;
-    let sets = [only(63), only(0), only(63)];
-    assert!(rt; support.supports(&sets, 0, 63));
-    assert!(rt; !support.supports(&sets, 0, 6));
-    assert!(rt; !support.supports(&sets, 3, 63));
-    Ok(())
-}
-
-#[test]
-fn tables_of_each_size_are_as_a_look_at_each_tuple(rt: HostRuntime) -> Result<(), Fail> {
+fn a_table_of_each_size_has_a_tuple_past_its_blocks(rt: HostRuntime) -> Result<(), Fail> {
     for count in [0, 63, 64, 65, 255, 256, 700] {
-        for value in [9, 63, 64, 255] {
-            let tuples = some_tuples(rt.alloc(), count, value)?;
-            let sets = some_sets(value);
-            assert_eq!(rt;
-                first_fault(rt.alloc(), &tuples, &sets)?,
-                None,
-                "of {count} and {value}"
-            );
+        for end in [9, 63, 64, 255] {
+            let found = ends_are_supported(rt.alloc(), count, end)?;
+            assert!(rt; found == [true, false, false], "{count}");
         }
     }
     Ok(())
 }
 
 #[test]
-fn sets_of_another_number_support_nothing(rt: HostRuntime) -> Result<(), Fail> {
-    let all = [[u64::MAX; 4]; 5];
+fn tuples_and_sets_of_different_numbers_are_told_apart(rt: HostRuntime) -> Result<(), Fail> {
     for count in [3, 700] {
-        let tuples = some_tuples(rt.alloc(), count, 63)?;
+        let mut tuples = some_tuples(rt.alloc(), count, 63)?;
+        tuples.push(Row::new(&[40, 41]))?;
         let support = Support::of(rt.alloc(), &tuples)?;
-        assert!(rt; support.supports(&all[..3], 2, 2));
-        assert!(rt; !support.supports(&all[..2], 1, 0));
-        assert!(rt; !support.supports(&all[..4], 2, 2));
-        assert!(rt; !support.supports(&all, 2, 2));
-        assert!(rt; !support.supports(&[], 0, 0));
+        for (sets, place, value, supported) in &ASKED {
+            let found = is_supported(&support, *sets, *place, *value);
+            assert!(rt; found == *supported, "{value}");
+        }
     }
-    Ok(())
-}
-
-#[test]
-fn tuples_of_different_sizes_are_told_apart(rt: HostRuntime) -> Result<(), Fail> {
-    let mut tuples = some_tuples(rt.alloc(), 700, 63)?;
-    tuples.push(Row::new(&[40, 41]))?;
-    let support = Support::of(rt.alloc(), &tuples)?;
-    let all = [[u64::MAX; 4]; 3];
-    assert!(rt; support.supports(&all[..2], 0, 40));
-    assert!(rt; !support.supports(&all, 0, 40));
-    assert_eq!(rt; first_fault(rt.alloc(), &tuples, &some_sets(63))?, None);
     Ok(())
 }
