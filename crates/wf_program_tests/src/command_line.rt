@@ -1,57 +1,47 @@
-//! The program over streams of its own: each command writes, tells and
-//! answers what it is to, byte for byte.
+//! The program over streams and files of its own: each command writes, tells
+//! and answers what it is to, byte for byte.
 
-use crate::rows::{BEGINNINGS, DONE, Row};
+use crate::ends::Shelf;
+use crate::rows::{BEGINNINGS, DONE, REPORT, Row, VERIFY};
 use crate::running::{Given, Tally, run, run_line};
 use std::test::Fail;
 use wf_args::{Slip, WordsFault};
-use wf_examples::{ONE_PROCESS, RENAMING_2_2};
+use wf_examples::{ONE_PROCESS, PATH_3};
 
 #[test]
 fn jobs_are_done(rt: HostRuntime) -> Result<(), Fail> {
     for row in &DONE {
         let Row {
             words,
+            task,
             input,
             output,
             errors,
             status,
         } = *row;
-        let answer = run_line(&rt, rt.alloc(), words, Given::input(input))?;
-        assert_eq!(rt; answer.status, status, "{words}");
-        assert_eq!(rt; answer.output.as_slice(), output.as_bytes(), "{words}");
-        assert_eq!(rt; answer.errors.as_slice(), errors.as_bytes(), "{words}");
+        let given = Given {
+            file: Shelf {
+                name: "task.json",
+                text: task,
+                fails_at: 0,
+            },
+            ..Given::input(input)
+        };
+        let answer = run_line(&rt, rt.alloc(), words, given)?;
+        let holds = answer.is(output, errors, status);
+        assert!(rt; holds, "{words} is to write {output} and to tell {errors}");
     }
     Ok(())
 }
 
 #[test]
-fn a_preset_is_written(rt: HostRuntime) -> Result<(), Fail> {
-    let words = "wfcheck preset renaming --processes 2 --names 2";
-    let answer = run_line(&rt, rt.alloc(), words, Given::input(""))?;
-    assert_eq!(rt; answer.status, 0);
-    assert_eq!(rt;
-        answer.output.strip_suffix(b"\n".as_slice()),
-        Some(RENAMING_2_2.as_bytes())
-    );
-    assert!(rt; answer.errors.is_empty(), "nothing is told");
-    Ok(())
-}
-
-#[test]
 fn words_ask_for_help_or_are_refused(rt: HostRuntime) -> Result<(), Fail> {
-    for row in BEGINNINGS {
-        let Row {
-            words,
-            input,
-            output,
-            errors,
-            status,
-        } = row;
-        let answer = run_line(&rt, rt.alloc(), words, Given::input(input))?;
-        assert_eq!(rt; answer.status, status, "{words}");
-        assert!(rt; begins(&answer.output, output), "{words}");
-        assert!(rt; begins(&answer.errors, errors), "{words}");
+    for row in &BEGINNINGS {
+        let answer = run_line(&rt, rt.alloc(), row.words, Given::input(row.input))?;
+        let holds = answer.status == row.status
+            && begins(&answer.output, row.output)
+            && begins(&answer.errors, row.errors);
+        assert!(rt; holds, "{}", row.words);
     }
     Ok(())
 }
@@ -79,36 +69,27 @@ fn words_that_could_not_be_had_are_the_refusal(rt: HostRuntime) -> Result<(), Fa
     };
     for (fault, line, status) in rows {
         let answer = run(&rt, rt.alloc(), Err(fault), given, &Tally::new());
-        assert_eq!(rt; answer.status, status);
-        assert_eq!(rt; answer.errors.as_slice(), line.as_bytes());
+        assert!(rt; answer.is("", line, status), "{line}");
     }
     Ok(())
 }
 
 #[test]
 fn failed_calls_are_told(rt: HostRuntime) -> Result<(), Fail> {
+    let solve = "wfcheck solve --rounds 8 --workers 1 --verdict";
+    let preset = "wfcheck preset renaming --processes 2 --names 2";
     let read = "wfcheck: 30 Read\n";
     let written = "wfcheck: 31 Write\n";
     let rows = [
-        ("wfcheck solve --rounds 8 --workers 1 --verdict", 1, 0, read),
+        (solve, 1, 0, read),
         ("wfcheck views --rounds 8", 1, 0, read),
-        (
-            "wfcheck solve --rounds 8 --workers 1 --verdict",
-            0,
-            11,
-            written,
-        ),
+        (solve, 0, 11, written),
         ("wfcheck views --rounds 8", 0, 11, written),
         ("wfcheck points --rounds 8", 1, 0, read),
         ("wfcheck points --rounds 8", 0, 11, written),
         ("wfcheck --help", 1, 11, written),
         ("wfcheck --version", 1, 11, written),
-        (
-            "wfcheck preset renaming --processes 2 --names 2",
-            1,
-            11,
-            written,
-        ),
+        (preset, 1, 11, written),
     ];
     for (line, read, write, text) in rows {
         let given = Given {
@@ -117,9 +98,43 @@ fn failed_calls_are_told(rt: HostRuntime) -> Result<(), Fail> {
             ..Given::input(ONE_PROCESS)
         };
         let answer = run_line(&rt, rt.alloc(), line, given)?;
-        assert_eq!(rt; answer.status, 4, "{line}");
-        assert_eq!(rt; answer.errors.as_slice(), text.as_bytes(), "{line}");
-        assert_eq!(rt; answer.output.len(), write.saturating_sub(1), "{line}");
+        let holds = answer.status == 4
+            && answer.errors.as_slice() == text.as_bytes()
+            && answer.output.len() == write.saturating_sub(1);
+        assert!(rt; holds, "{line}");
+    }
+    Ok(())
+}
+
+#[test]
+fn failed_calls_of_a_check_are_told(rt: HostRuntime) -> Result<(), Fail> {
+    // whether the file is there, and the calls of it, of the report's reader
+    // and of the writer that fail
+    let rows = [
+        (false, 0, 0, 0, "wfcheck: 30 Read\n"),
+        (true, 1, 0, 0, "wfcheck: 30 Read\n"),
+        (true, 0, 1, 0, "wfcheck: 30 Read\n"),
+        (true, 0, 0, 1, "wfcheck: 31 Write\n"),
+    ];
+    // the same report, told in words
+    let decisions = "wfcheck points --task task.json";
+    for (is_there, opened, read, write, text) in rows {
+        for line in [VERIFY, decisions] {
+            let given = Given {
+                file: Shelf {
+                    name: if is_there { "task.json" } else { "other.json" },
+                    text: PATH_3,
+                    fails_at: opened,
+                },
+                read,
+                write,
+                ..Given::input(REPORT)
+            };
+            let answer = run_line(&rt, rt.alloc(), line, given)?;
+            assert!(rt; answer.is("", text, 4), "{line}: {text}");
+            let unread = is_there.then_some(opened as u64);
+            assert_eq!(rt; answer.files(), (1, u64::from(!is_there), unread));
+        }
     }
     Ok(())
 }
@@ -132,9 +147,11 @@ fn a_refusal_that_cannot_be_told_keeps_its_status(rt: HostRuntime) -> Result<(),
     };
     for line in ["wfcheck views --rounds 9", "wfcheck draw"] {
         let answer = run_line(&rt, rt.alloc(), line, given)?;
-        assert_eq!(rt; answer.status, 2, "{line}");
-        assert_eq!(rt; answer.untold, 1);
-        assert!(rt; answer.errors.is_empty());
+        assert_eq!(rt;
+            (answer.status, answer.untold, answer.errors.len()),
+            (2, 1, 0),
+            "{line}"
+        );
     }
     Ok(())
 }

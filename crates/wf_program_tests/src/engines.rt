@@ -1,8 +1,8 @@
 //! The engines, each on its happy path, and where it refuses a text.
 
-ghost use Rattle.wf_io.specs.Ends.{CanCount};
+ghost use Rattle.wf_engine.specs.Verify.{CanVerify};
 
-use crate::ends::{Drip, LineFeeds, Narrow, given};
+use crate::ends::{Drip, Narrow, given};
 use std::alloc::Global;
 use std::io::{Read, Write};
 use std::test::Fail;
@@ -11,7 +11,7 @@ use wf_cnf::ModelFault;
 use wf_complex::BuildFault;
 use wf_core::Account;
 use wf_engine::{
-    Accepted, Form, Outcome, RunFault, run_cnf, run_decisions, run_model, run_points, run_proof,
+    Form, MAX_WORKERS, Outcome, RunFault, run_cnf, run_decisions, run_model, run_points, run_proof,
     run_solve, run_solve_one, run_verify, run_views,
 };
 use wf_examples::{PATH_2, RENAMING_2_2};
@@ -20,10 +20,10 @@ use wf_report::CertFault;
 use wf_rup::ProofFault;
 use wf_task::TaskFault;
 
-pub(crate) const ONE: &str =
+const ONE: &str =
     r#"{"version":1,"processes":1,"symmetric":false,"inputs":[[[0,0]]],"outputs":[[[0,5]]],"delta":[{"in":[[0,0]],"out":[[5]]}]}"#;
 
-pub(crate) const REPORT: &str =
+const REPORT: &str =
     "wfcheck report 1\nprocesses 1\nrounds 8\npoints 1\nexecutions 1\nanswer map\nm 5\nend\n";
 
 const LIST: &str =
@@ -50,73 +50,251 @@ const DECIDED: &str =
     "0 p0 saw {p0=0} decides 0\n1 p1 saw {p1=0} decides 2\n2 p0 saw {p0=0, p1=0} decides 1\n3 p1 saw {p0=0, p1=0} decides 0\n";
 
 /// A proof that two processes can't take two names in one round, and what is written of it.
-pub(crate) const PROOF: &str = "c one name\n-1 0\nd 1 0\n";
+const PROOF: &str = "c one name\n-1 0\nd 1 0\n";
 
-pub(crate) const REFUTED: &str = "accepted none at 1 round\n";
+const REFUTED: &str = "accepted none at 1 round\n";
 
-/// An engine over one source.
-#[derive(Clone, Copy, Debug)]
+/// An engine. The last four read a text about the task too.
+#[derive(Clone, Copy)]
 pub enum Engine {
-    Solve,
-    Share,
+    /// The search, by so many workers.
+    Solve(u32, Form),
     Views,
     Points,
     Cnf,
+    /// The check of a report, which is to be for these rounds where they are named.
+    Verify(Option<u32>),
+    Decisions,
+    Model,
+    Proof,
 }
 
 impl Engine {
-    /// Runs it for some rounds: a search by one worker, one by three, one of the two listings, or
-    /// the question as a formula.
-    pub(crate) fn run<T: Threads + Sync, R: Read, W: Write>(
+    /// Runs it for some rounds, and says why it refuses.
+    fn run<T: Threads + Sync, R: Read, W: Write>(
         self,
         rt: &T,
         alloc: Global,
-        source: &mut Source<R>,
+        task: &mut Source<R>,
+        text: &mut Source<R>,
         sink: &mut Sink<W>,
         rounds: u32,
     ) -> Option<RunFault>
-        requires { CanCount source.old sink.old }
+        requires { CanVerify task.old text.old sink.old }
     {
         match self {
-            Engine::Solve => run_solve(rt, alloc, source, sink, rounds, 1, Form::Verdict).err(),
-            Engine::Share => run_solve(rt, alloc, source, sink, rounds, 3, Form::Full).err(),
-            Engine::Views => run_views(alloc, source, sink, rounds).err(),
-            Engine::Points => run_points(alloc, source, sink, rounds).err(),
-            Engine::Cnf => run_cnf(alloc, source, sink, rounds).err(),
-        }
-    }
-
-    /// What it writes of the task of one process after eight rounds.
-    pub(crate) fn text(self) -> &'static str {
-        match self {
-            Engine::Solve | Engine::Share => REPORT,
-            Engine::Views => LIST,
-            Engine::Points => TOLD,
-            Engine::Cnf => QUESTION,
+            Engine::Solve(workers, form) => {
+                let workers = workers.clamp(1, MAX_WORKERS);
+                run_solve(rt, alloc, task, sink, rounds, workers, form).err()
+            }
+            Engine::Views => run_views(alloc, task, sink, rounds).err(),
+            Engine::Points => run_points(alloc, task, sink, rounds).err(),
+            Engine::Cnf => run_cnf(alloc, task, sink, rounds).err(),
+            Engine::Verify(rounds) => run_verify(rt, alloc, task, text, sink, rounds).err(),
+            Engine::Decisions => run_decisions(rt, alloc, task, text, sink).err(),
+            Engine::Model => run_model(rt, alloc, task, text, sink, rounds).err(),
+            Engine::Proof => run_proof(alloc, task, text, sink, rounds).err(),
         }
     }
 }
 
-pub(crate) const ENGINES: [Engine; 5] = [
-    Engine::Solve,
-    Engine::Share,
-    Engine::Views,
-    Engine::Points,
-    Engine::Cnf,
+/// What an engine is given, and which call of each source and of the sink fails, counted from 1;
+/// 0 where none does.
+#[derive(Clone, Copy)]
+pub struct Case<'a> {
+    pub task: &'a str,
+    pub text: &'a str,
+    pub rounds: u32,
+    pub task_fails_at: usize,
+    pub text_fails_at: usize,
+    pub write_fails_at: usize,
+}
+
+impl<'a> Case<'a> {
+    /// No call fails.
+    pub(crate) fn new(task: &'a str, text: &'a str, rounds: u32) -> Case<'a> {
+        Case {
+            task,
+            text,
+            rounds,
+            task_fails_at: 0,
+            text_fails_at: 0,
+            write_fails_at: 0,
+        }
+    }
+}
+
+/// Why an engine refused, what it wrote, and how many calls of the task's source, of the other one
+/// and of the sink failed.
+#[derive(Drop)]
+pub struct Ran {
+    pub fault: Option<RunFault>,
+    pub written: Vec<u8>,
+    pub failures: (u64, u64, u64),
+}
+
+impl Ran {
+    /// Whether it ended so.
+    pub(crate) fn is(
+        &self,
+        fault: Option<RunFault>,
+        written: &[u8],
+        failures: (u64, u64, u64),
+    ) -> bool {
+        self.fault == fault && self.written.as_slice() == written && self.failures == failures
+    }
+}
+
+/// Runs an engine. All tests of engines run them by this call, so that each is proved once.
+pub(crate) fn run(
+    rt: &(impl Threads + Sync),
+    alloc: Global,
+    engine: Engine,
+    case: Case<'_>,
+) -> Ran {
+    let mut written = Vec::new(alloc);
+    let mut task = Source::new(Drip::new(case.task.as_bytes(), case.task_fails_at));
+    let mut text = Source::new(Drip::new(case.text.as_bytes(), case.text_fails_at));
+    let mut sink = Sink::new(Narrow::new(&mut written, case.write_fails_at));
+    let fault = engine.run(rt, alloc, &mut task, &mut text, &mut sink, case.rounds);
+    let failures = (task.failures(), text.failures(), sink.failures());
+    drop(sink);
+    Ran {
+        fault,
+        written,
+        failures,
+    }
+}
+
+/// What an engine is asked: a task, a text about it or none, and the number of rounds.
+pub(crate) type Asked = (Engine, &'static str, &'static str, u32);
+
+/// One of each engine that is tried with calls that fail, and what it writes: a search by one
+/// worker, one by three, the two listings, the question as a formula, and the check of a proof.
+pub(crate) static ENGINES: [(Asked, &str); 6] = [
+    ((Engine::Solve(1, Form::Verdict), ONE, "", 8), REPORT),
+    ((Engine::Solve(3, Form::Full), ONE, "", 8), REPORT),
+    ((Engine::Views, ONE, "", 8), LIST),
+    ((Engine::Points, ONE, "", 8), TOLD),
+    ((Engine::Cnf, ONE, "", 8), QUESTION),
+    // the formula has 3 points with 2 values; with one of them given,
+    // propagation finds the contradiction
+    ((Engine::Proof, RENAMING_2_2, PROOF, 1), REFUTED),
+];
+
+/// What else engines write of a task.
+static ANSWERED: [(Asked, &str); 7] = [
+    ((Engine::Solve(1, Form::Least), PATH_2, "", 1), LEAST),
+    ((Engine::Solve(2, Form::Least), PATH_2, "", 1), LEAST),
+    ((Engine::Verify(None), PATH_2, LEAST, 1), "accepted least\n"),
+    (
+        (Engine::Verify(Some(1)), PATH_2, LEAST, 1),
+        "accepted least at 1 round\n",
+    ),
+    ((Engine::Decisions, PATH_2, LEAST, 1), DECIDED),
+    // the path of length 2 has three values: variables 3 v + 1 to 3 v + 3 for point v
+    (
+        (
+            Engine::Model,
+            PATH_2,
+            "s SATISFIABLE\nv 1 -2 -3 6 8\nv 10 0\n",
+            1,
+        ),
+        MAP,
+    ),
+    ((Engine::Model, PATH_2, "SAT\n1 6 8 9 10 12 0\n", 1), MAP),
+];
+
+/// What engines refuse.
+static REFUSED: [(Asked, RunFault); 11] = [
+    (
+        (Engine::Verify(Some(0)), PATH_2, LEAST, 1),
+        RunFault::OtherRounds,
+    ),
+    (
+        (Engine::Verify(Some(2)), PATH_2, LEAST, 1),
+        RunFault::OtherRounds,
+    ),
+    (
+        (Engine::Model, PATH_2, "s UNSATISFIABLE\n", 1),
+        RunFault::Model(ModelFault::NoModel { line: 2 }),
+    ),
+    (
+        (Engine::Model, PATH_2, "v 1 6\nv x 0\n", 1),
+        RunFault::Model(ModelFault::NotALiteral { line: 2 }),
+    ),
+    (
+        (Engine::Model, PATH_2, "v 13 0\n", 1),
+        RunFault::Model(ModelFault::NoSuchVariable { line: 1 }),
+    ),
+    (
+        (Engine::Model, PATH_2, "v 1 6 7 10 0\n", 1),
+        RunFault::Cert(CertFault::Violates(4)),
+    ),
+    (
+        (Engine::Proof, RENAMING_2_2, "c\nx 0", 1),
+        RunFault::Proof(ProofFault::NotALiteral { line: 2 }),
+    ),
+    (
+        (Engine::Proof, RENAMING_2_2, "7 0", 1),
+        RunFault::Proof(ProofFault::NoSuchVariable { line: 1 }),
+    ),
+    (
+        (Engine::Proof, RENAMING_2_2, "\n0", 1),
+        RunFault::Proof(ProofFault::NotImplied { line: 2 }),
+    ),
+    (
+        (Engine::Proof, RENAMING_2_2, "d 1 2 0\n", 1),
+        RunFault::Proof(ProofFault::NoContradiction { line: 2 }),
+    ),
+    (
+        (Engine::Proof, RENAMING_2_2, "a\u{2}\u{0}", 1),
+        RunFault::Proof(ProofFault::Binary),
+    ),
 ];
 
 #[test]
-fn a_task_is_answered(rt: HostRuntime) -> Result<(), Fail> {
-    for engine in ENGINES {
-        let mut source = given(ONE);
-        let mut written = Vec::new(rt.alloc());
-        let mut sink = Sink::new(Narrow::new(&mut written, 0));
-        assert_eq!(rt;
-            engine.run(&rt, rt.alloc(), &mut source, &mut sink, 8),
-            None
-        );
-        drop(sink);
-        assert_eq!(rt; written.as_slice(), engine.text().as_bytes(), "{engine:?}");
+fn what_is_asked_is_answered(rt: HostRuntime) -> Result<(), Fail> {
+    for ((engine, task, text, rounds), output) in ANSWERED {
+        let ran = run(&rt, rt.alloc(), engine, Case::new(task, text, rounds));
+        let holds = ran.is(None, output.as_bytes(), (0, 0, 0));
+        assert!(rt; holds, "{text} is to give {output}");
+    }
+    Ok(())
+}
+
+#[test]
+fn a_text_that_does_not_hold_is_refused(rt: HostRuntime) -> Result<(), Fail> {
+    for ((engine, task, text, rounds), fault) in REFUSED {
+        let ran = run(&rt, rt.alloc(), engine, Case::new(task, text, rounds));
+        let holds = ran.is(Some(fault), &[], (0, 0, 0));
+        assert!(rt; holds, "{text} is to be refused by {fault:?}");
+    }
+    Ok(())
+}
+
+#[test]
+fn a_task_is_refused_before_another_text_is_read(rt: HostRuntime) -> Result<(), Fail> {
+    let rounds = RunFault::Build(BuildFault::Rounds);
+    let json = RunFault::Task(TaskFault::NotJson);
+    for (task, rounds, fault) in [(ONE, 9, rounds), ("{", 1, json), ("", 1, json)] {
+        for engine in [
+            Engine::Solve(1, Form::Verdict),
+            Engine::Solve(3, Form::Full),
+            Engine::Views,
+            Engine::Points,
+            Engine::Cnf,
+            Engine::Model,
+            Engine::Proof,
+        ] {
+            let case = Case {
+                text_fails_at: 1,
+                ..Case::new(task, "", rounds)
+            };
+            let ran = run(&rt, rt.alloc(), engine, case);
+            let holds = ran.is(Some(fault), &[], (0, 0, 0));
+            assert!(rt; holds, "{task} after {rounds} rounds");
+        }
     }
     Ok(())
 }
@@ -134,218 +312,5 @@ fn one_worker_searches_one_branch(rt: HostRuntime) -> Result<(), Fail> {
         cut: 0,
     };
     assert_eq!(rt; found, Ok((Outcome::Map, account)));
-    Ok(())
-}
-
-#[test]
-fn a_least_map_is_written_with_its_lines(rt: HostRuntime) -> Result<(), Fail> {
-    for workers in [1, 2] {
-        let mut source = given(PATH_2);
-        let mut written = Vec::new(rt.alloc());
-        let mut sink = Sink::new(Narrow::new(&mut written, 0));
-        let found = run_solve(
-            &rt,
-            rt.alloc(),
-            &mut source,
-            &mut sink,
-            1,
-            workers,
-            Form::Least,
-        );
-        let outcome = found.map(|answer| answer.0);
-        assert_eq!(rt; outcome, Ok(Outcome::Map), "{workers} workers");
-        drop(sink);
-        assert_eq!(rt; written.as_slice(), LEAST.as_bytes(), "{workers} workers");
-    }
-    Ok(())
-}
-
-#[test]
-fn a_least_map_is_accepted_by_its_lines(rt: HostRuntime) -> Result<(), Fail> {
-    let mut task = given(PATH_2);
-    let mut report = given(LEAST);
-    let mut written = Vec::new(rt.alloc());
-    let mut sink = Sink::new(Narrow::new(&mut written, 0));
-    let found = run_verify(&rt, rt.alloc(), &mut task, &mut report, &mut sink, None);
-    assert_eq!(rt; found, Ok(Accepted::Least));
-    drop(sink);
-    assert_eq!(rt; written.as_slice(), "accepted least\n".as_bytes());
-    Ok(())
-}
-
-#[test]
-fn a_report_is_accepted_for_the_rounds_that_are_asked_for(rt: HostRuntime) -> Result<(), Fail> {
-    let rows = [
-        (1, Ok(Accepted::Least), "accepted least at 1 round\n"),
-        (0, Err(RunFault::OtherRounds), ""),
-        (2, Err(RunFault::OtherRounds), ""),
-    ];
-    for (rounds, outcome, line) in rows {
-        let mut task = given(PATH_2);
-        let mut report = given(LEAST);
-        let mut written = Vec::new(rt.alloc());
-        let mut sink = Sink::new(Narrow::new(&mut written, 0));
-        let found = run_verify(
-            &rt,
-            rt.alloc(),
-            &mut task,
-            &mut report,
-            &mut sink,
-            Some(rounds),
-        );
-        assert_eq!(rt; found, outcome, "{rounds} rounds");
-        drop(sink);
-        assert_eq!(rt; written.as_slice(), line.as_bytes(), "{rounds} rounds");
-    }
-    Ok(())
-}
-
-#[test]
-fn what_a_map_decides_is_told(rt: HostRuntime) -> Result<(), Fail> {
-    let mut task = given(PATH_2);
-    let mut report = given(LEAST);
-    let mut written = Vec::new(rt.alloc());
-    let mut sink = Sink::new(Narrow::new(&mut written, 0));
-    let found = run_decisions(&rt, rt.alloc(), &mut task, &mut report, &mut sink);
-    assert_eq!(rt; found, Ok(()));
-    drop(sink);
-    assert_eq!(rt; written.as_slice(), DECIDED.as_bytes());
-    Ok(())
-}
-
-#[test]
-fn a_model_is_reported_as_a_map(rt: HostRuntime) -> Result<(), Fail> {
-    // the path of length 2 has three values: variables 3 v + 1 to 3 v + 3 for point v
-    let rows = [
-        ("s SATISFIABLE\nv 1 -2 -3 6 8\nv 10 0\n", Ok(()), MAP),
-        ("SAT\n1 6 8 9 10 12 0\n", Ok(()), MAP),
-        (
-            "s UNSATISFIABLE\n",
-            Err(RunFault::Model(ModelFault::NoModel { line: 2 })),
-            "",
-        ),
-        (
-            "v 1 6\nv x 0\n",
-            Err(RunFault::Model(ModelFault::NotALiteral { line: 2 })),
-            "",
-        ),
-        (
-            "v 13 0\n",
-            Err(RunFault::Model(ModelFault::NoSuchVariable { line: 1 })),
-            "",
-        ),
-        (
-            "v 1 6 7 10 0\n",
-            Err(RunFault::Cert(CertFault::Violates(4))),
-            "",
-        ),
-    ];
-    for (output, outcome, text) in rows {
-        let mut task = given(PATH_2);
-        let mut model = given(output);
-        let mut written = Vec::new(rt.alloc());
-        let mut sink = Sink::new(Narrow::new(&mut written, 0));
-        let found = run_model(&rt, rt.alloc(), &mut task, &mut model, &mut sink, 1);
-        assert_eq!(rt; found, outcome, "{output}");
-        drop(sink);
-        assert_eq!(rt; written.as_slice(), text.as_bytes(), "{output}");
-    }
-    Ok(())
-}
-
-#[test]
-fn too_many_rounds_are_refused_before_the_model_is_read(rt: HostRuntime) -> Result<(), Fail> {
-    let mut task = given(ONE);
-    let mut model = Source::new(Drip::new("".as_bytes(), 1));
-    let mut written = Vec::new(rt.alloc());
-    let mut sink = Sink::new(Narrow::new(&mut written, 0));
-    let found = run_model(&rt, rt.alloc(), &mut task, &mut model, &mut sink, 9);
-    assert_eq!(rt; found, Err(RunFault::Build(BuildFault::Rounds)));
-    assert_eq!(rt; model.failures(), 0);
-    Ok(())
-}
-
-/// What a check of a proof answers about renaming of two with two names after some rounds.
-fn refute(alloc: Global, proof: &str, written: &mut Vec<u8>, rounds: u32) -> Result<(), RunFault> {
-    let mut task = given(RENAMING_2_2);
-    let mut source = given(proof);
-    let mut sink = Sink::new(Narrow::new(written, 0));
-    run_proof(alloc, &mut task, &mut source, &mut sink, rounds)
-}
-
-#[test]
-fn a_proof_is_accepted(rt: HostRuntime) -> Result<(), Fail> {
-    // the formula has 3 points with 2 values; with one of them given,
-    // propagation finds the contradiction
-    let mut written = Vec::new(rt.alloc());
-    let found = refute(rt.alloc(), PROOF, &mut written, 1);
-    assert_eq!(rt; found, Ok(()));
-    assert_eq!(rt; written.as_slice(), REFUTED.as_bytes());
-    Ok(())
-}
-
-#[test]
-fn proofs_are_refused(rt: HostRuntime) -> Result<(), Fail> {
-    let rows = [
-        ("c\nx 0", ProofFault::NotALiteral { line: 2 }),
-        ("7 0", ProofFault::NoSuchVariable { line: 1 }),
-        ("\n0", ProofFault::NotImplied { line: 2 }),
-        ("d 1 2 0\n", ProofFault::NoContradiction { line: 2 }),
-        ("a\u{2}\u{0}", ProofFault::Binary),
-    ];
-    for (proof, fault) in rows {
-        let mut written = Vec::new(rt.alloc());
-        let found = refute(rt.alloc(), proof, &mut written, 1);
-        assert_eq!(rt; found, Err(RunFault::Proof(fault)));
-        assert!(rt; written.is_empty());
-    }
-    Ok(())
-}
-
-#[test]
-fn too_many_rounds_are_refused_before_the_proof_is_read(rt: HostRuntime) -> Result<(), Fail> {
-    let mut task = given(ONE);
-    let mut proof = Source::new(Drip::new("".as_bytes(), 1));
-    let mut written = Vec::new(rt.alloc());
-    let mut sink = Sink::new(Narrow::new(&mut written, 0));
-    let found = run_proof(rt.alloc(), &mut task, &mut proof, &mut sink, 9);
-    assert_eq!(rt; found, Err(RunFault::Build(BuildFault::Rounds)));
-    assert_eq!(rt; proof.failures(), 0);
-    Ok(())
-}
-
-#[test]
-fn refusals_write_nothing(rt: HostRuntime) -> Result<(), Fail> {
-    let rows = [
-        (ONE, 9, RunFault::Build(BuildFault::Rounds)),
-        ("{", 1, RunFault::Task(TaskFault::NotJson)),
-        ("", 1, RunFault::Task(TaskFault::NotJson)),
-    ];
-    for (text, rounds, fault) in rows {
-        for engine in ENGINES {
-            let mut source = given(text);
-            let mut written = Vec::new(rt.alloc());
-            let mut sink = Sink::new(Narrow::new(&mut written, 0));
-            let found = engine.run(&rt, rt.alloc(), &mut source, &mut sink, rounds);
-            assert_eq!(rt; found, Some(fault), "{engine:?} of {text}");
-            drop(sink);
-            assert!(rt; written.is_empty());
-        }
-    }
-    Ok(())
-}
-
-#[test]
-fn a_text_without_end_is_too_long(rt: HostRuntime) -> Result<(), Fail> {
-    let mut taken = 0;
-    let mut source = Source::new(LineFeeds::new(&mut taken));
-    let mut written = Vec::new(rt.alloc());
-    let mut sink = Sink::new(Narrow::new(&mut written, 0));
-    let found = run_views(rt.alloc(), &mut source, &mut sink, 1);
-    assert_eq!(rt; found, Err(RunFault::TooLong));
-    drop(source);
-    drop(sink);
-    assert_eq!(rt; taken, 16_777_217);
-    assert!(rt; written.is_empty());
     Ok(())
 }

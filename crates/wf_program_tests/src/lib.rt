@@ -3,8 +3,6 @@
 #![tactic(auto)]
 
 #[cfg(test)]
-mod checked;
-#[cfg(test)]
 mod command_line;
 #[cfg(test)]
 mod ends;

@@ -49,6 +49,21 @@ pub struct Answer {
     pub unread: Option<u64>,
 }
 
+impl Answer {
+    /// Whether this was written, told and answered.
+    pub(crate) fn is(&self, output: &str, errors: &str, status: u8) -> bool {
+        self.status == status
+            && self.output.as_slice() == output.as_bytes()
+            && self.errors.as_slice() == errors.as_bytes()
+    }
+
+    /// What became of the files: how many were asked for, how many could not be opened, and how
+    /// many calls of the last one failed.
+    pub(crate) fn files(&self) -> (u64, u64, Option<u64>) {
+        (self.asked, self.unopened, self.unread)
+    }
+}
+
 /// Notes how many branches there are and which workers are started beside the first, and counts the
 /// branches that are settled.
 #[derive(Drop)]

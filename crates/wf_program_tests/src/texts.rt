@@ -9,15 +9,9 @@ fn a_text_is_read_to_its_end(rt: HostRuntime) -> Result<(), Fail> {
     for length in [0usize, 1, 4095, 4096, 4097, 10_000] {
         let text = vec![in rt.alloc(); 7u8; length]?;
         let mut source = Source::new(text.as_slice());
-        let read = match read_all(rt.alloc(), &mut source, 10_000) {
-            Ok(read) => read,
-            Err(fault) => {
-                assert!(rt; false, "{fault:?} at {length}");
-                continue;
-            }
-        };
-        assert_eq!(rt; read.as_slice(), text.as_slice(), "at {length}");
-        assert_eq!(rt; source.failures(), 0);
+        let read = read_all(rt.alloc(), &mut source, 10_000)?;
+        let holds = read == text && source.failures() == 0;
+        assert!(rt; holds, "at {length}");
     }
     Ok(())
 }
@@ -28,9 +22,9 @@ fn one_byte_more_than_the_most_is_taken(rt: HostRuntime) -> Result<(), Fail> {
         let mut given = 0;
         let mut source = Source::new(LineFeeds::new(&mut given));
         let found = read_all(rt.alloc(), &mut source, most);
-        assert!(rt; found.is_err_and(|e| e == ReadFault::TooLong), "at {most}");
+        let is_too_long = matches!(found, Err(ReadFault::TooLong));
         drop(source);
-        assert_eq!(rt; given, most + 1);
+        assert_eq!(rt; (is_too_long, given), (true, most + 1), "at {most}");
     }
     Ok(())
 }
@@ -39,21 +33,21 @@ fn one_byte_more_than_the_most_is_taken(rt: HostRuntime) -> Result<(), Fail> {
 fn a_text_is_written_whole(rt: HostRuntime) -> Result<(), Fail> {
     let mut written = Vec::new(rt.alloc());
     let mut sink = Sink::new(&mut written);
-    assert_eq!(rt; write_whole(&mut sink, "ab".as_bytes()), Ok(()));
-    assert_eq!(rt; write_whole(&mut sink, &[]), Ok(()));
+    let done = [write_whole(&mut sink, b"ab"), write_whole(&mut sink, &[])];
     sink.put("cde");
-    assert_eq!(rt; sink.failures(), 0);
+    let failures = sink.failures();
     drop(sink);
-    assert_eq!(rt; written.as_slice(), "abcde".as_bytes());
+    assert_eq!(rt; (done, failures), ([Ok(()), Ok(())], 0));
+    assert_eq!(rt; written.as_slice(), b"abcde".as_slice());
     Ok(())
 }
 
 #[test]
 fn a_writer_that_takes_nothing_has_failed(rt: HostRuntime) -> Result<(), Fail> {
     let mut sink = Sink::new(Full);
-    assert_eq!(rt; write_whole(&mut sink, "ab".as_bytes()), Err(WriteFault));
-    assert_eq!(rt; sink.failures(), 1);
+    let done = write_whole(&mut sink, b"ab");
+    let failures = sink.failures();
     sink.put("c");
-    assert_eq!(rt; sink.failures(), 2);
+    assert_eq!(rt; (done, failures, sink.failures()), (Err(WriteFault), 1, 2));
     Ok(())
 }
