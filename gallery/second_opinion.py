@@ -150,20 +150,24 @@ def judge(task, text):
     return answer, made.wrong_map(values) or (made.wrong_lines(steps, values) if answer == "least" else None)
 
 
-def main():
+def given(name, about):
+    """The task and the report's text that a script of this name is asked about. Where they can't be read, that is the end."""
     words = argparse.ArgumentParser(
-        description=__doc__, formatter_class=argparse.RawDescriptionHelpFormatter, usage="second_opinion.py TASK REPORT")
+        description=about, formatter_class=argparse.RawDescriptionHelpFormatter, usage=f"{name} TASK REPORT")
     words.add_argument("task")
     words.add_argument("report")
     asked = words.parse_args()
     try:
         with open(asked.task, "rb") as task_file, open(asked.report, "rb") as report_file:
-            task, _ = lint.read(task_file.read())
-            answer, wrong = judge(task, report_file.read().decode("ascii", "replace"))
+            return lint.read(task_file.read())[0], report_file.read().decode("ascii", "replace")
     except OSError as error:
-        sys.exit(f"second_opinion.py: {error}")
+        sys.exit(f"{name}: {error}")
     except lint.Refused as refused:
         sys.exit(f"the task is refused, {refused.line}: {refused.words}")
+
+
+def main():
+    answer, wrong = judge(*given("second_opinion.py", __doc__))
     if wrong:
         sys.exit(f"does not hold: {wrong}")
     print(f"holds: {answer}")
