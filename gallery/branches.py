@@ -103,6 +103,8 @@ def told(notes):
     known = notes.all()
     maps = [branch for branch, note in known.items() if note.startswith("map")]
     nones = len(known) - len(maps)
+    if not notes.count:
+        return "none: the question has no branch", "none"
     if maps:
         return f"map, in branch {min(maps)} of {notes.count}", "map"
     if nones == notes.count:

@@ -47,6 +47,8 @@ def value_of(text):
     """The JSON value of a text of bytes."""
     if len(text) > LONGEST:
         raise Refused("1 TooLong", f"the file has {len(text)} bytes, and {LONGEST} are read")
+    if not text.strip():
+        raise Refused("2 NotJson", "the file is empty")
     try:
         decoded = text.decode("utf-8")
         value = json.loads(decoded, parse_int=whole_or_not, parse_float=finite, parse_constant=no_json)
