@@ -61,16 +61,19 @@ def decide(ask, notes, task, rounds, branch, solver, seconds):
     """Asks the solver about a branch, or the search where there is none, and notes what is accepted of it."""
     question = ask.Question(task, rounds, notes.folder, branch)
     question.clear()
-    begun = time.monotonic()
+    begun, is_late = time.monotonic(), False
     run = begin(question, solver)
     try:
         run.wait(seconds)
     except subprocess.TimeoutExpired:
-        return None
+        is_late = True
     finally:
         run.kill()
         run.wait()
     ask.go_on()
+    if is_late:
+        question.clear()
+        return None
     taken = time.monotonic() - begun
     who = solver.split()[0] if solver else "the search"
     answer = question.of_solver(question.who(who), taken) if solver else question.of_search(taken)
