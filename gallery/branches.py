@@ -58,9 +58,18 @@ def begin(question, solver):
 
 
 def decide(ask, notes, task, rounds, branch, solver, seconds):
-    """Asks the solver about a branch, or the search where there is none, and notes what is accepted of it."""
+    """Asks about a branch, as `answered` does; of one that was cut off nothing is kept."""
     question = ask.Question(task, rounds, notes.folder, branch)
     question.clear()
+    try:
+        return answered(ask, notes, question, branch, solver, seconds)
+    except ask.Stopped:
+        question.clear()
+        raise
+
+
+def answered(ask, notes, question, branch, solver, seconds):
+    """Asks the solver about a branch, or the search where there is none, and notes what is accepted of it."""
     begun, is_late = time.monotonic(), False
     run = begin(question, solver)
     try:
