@@ -137,6 +137,8 @@ def text_of(task, report):
     header, steps = report.header, report.steps
     if report.answer != "none":
         raise SystemExit("the report has a map")
+    if not steps:
+        raise Unreadable("it has no lines")
     made = Complex(task, header["rounds"])
     argument, parts = Argument(made), list(parts_of(steps))
     used = {part[1] for part in parts if part[0] == "p"}

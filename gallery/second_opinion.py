@@ -2,9 +2,9 @@
 """second_opinion.py TASK REPORT: whether the report about the task holds, straight from the definitions.
 
 It shares nothing with the program: it is here to be read in ten minutes, and is slow. The task is read by lint.py, and the report's
-text by reports.py. It says `holds: map`, `holds: least`, `holds: none` or `holds: none, by the header alone` (the short form has no
-lines to check), or says in words what is wrong, or why it can't read the report, and ends with status 1. Whether a map is the least
-one it looks at where the report has the lines for it."""
+text by reports.py. It says `holds: map`, `holds: least` or `holds: none`, or says in words what is wrong, as with a report of none
+that has no lines, or why it can't read the report, and ends with status 1. Whether a map is the least one it looks at where the
+report has the lines for it."""
 import argparse
 import itertools
 import sys
@@ -146,7 +146,7 @@ def judge(task, text):
         if header[name] != it:
             return None, f"{name} should be {it}"
     if answer == "none":
-        return ("none", made.wrong_lines(steps)) if steps else ("none, by the header alone", None)
+        return answer, made.wrong_lines(steps) if steps else "it has no lines that show it, as --verdict leaves them out"
     return answer, made.wrong_map(values) or (made.wrong_lines(steps, values) if answer == "least" else None)
 
 

@@ -93,6 +93,8 @@ def text_of(task, text):
     report = read(text)
     if report.answer != "none":
         return text
+    if not report.steps:
+        raise Unreadable("it has no lines")
     front = text.split("\n")[:6]
     return "\n".join([*front, *Trimmer(task, report).whole.text, "end\n"])
 
@@ -101,7 +103,7 @@ def main():
     task, text = given("trim.py", __doc__)
     try:
         sys.stdout.write(text_of(task, text))
-    except (Unreadable, KeyError, IndexError, ValueError) as fault:
+    except (Unreadable, AttributeError, KeyError, IndexError, ValueError) as fault:
         sys.exit(f"the report can't be trimmed: {judge(task, text)[1] or fault}")
 
 
