@@ -4,11 +4,10 @@
 It is written from the definitions in crates/wf_argument/specs and shares no code with the program. It takes the report as it is:
 `second_opinion.py` says whether it holds."""
 import itertools
-import json
 import sys
 
-from reports import read
-from second_opinion import faces, point_of, seen_after, simplex_of, words_of
+from reports import Unreadable, read
+from second_opinion import faces, given, judge, point_of, seen_after, simplex_of, words_of
 
 DEEPEST, MOST_TOLD = 12, 8
 
@@ -138,6 +137,8 @@ def text_of(task, report):
     header, steps = report.header, report.steps
     if report.answer != "none":
         raise SystemExit("the report has a map")
+    if not steps:
+        raise Unreadable("it has no lines")
     made = Complex(task, header["rounds"])
     argument, parts = Argument(made), list(parts_of(steps))
     used = {part[1] for part in parts if part[0] == "p"}
@@ -151,8 +152,13 @@ def text_of(task, report):
     return "".join(line + "\n" for line in lines)
 
 
+def main():
+    task, text = given("argument.py", __doc__)
+    try:
+        sys.stdout.write(text_of(task, text))
+    except (Unreadable, KeyError, IndexError, ValueError) as fault:
+        sys.exit(f"the report can't be told: {judge(task, text)[1] or fault}")
+
+
 if __name__ == "__main__":
-    if len(sys.argv) != 3:
-        sys.exit(__doc__)
-    with open(sys.argv[1]) as task_file, open(sys.argv[2], newline="") as report_file:
-        sys.stdout.write(text_of(json.load(task_file), report_file.read()))
+    main()

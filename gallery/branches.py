@@ -6,6 +6,8 @@ import concurrent.futures
 import hashlib
 import os
 import pathlib
+import re
+import shlex
 import subprocess
 import sys
 import time
@@ -16,14 +18,14 @@ FILES = {"none": ["said", "out"], "map": ["cnf", "said", "out", "drat"]}
 class Notes:
     """What is known of the branches of one question."""
 
-    def __init__(self, folder, task, rounds, count):
+    def __init__(self, ask, folder, task, rounds, count):
         self.folder, self.count = folder, count
         digest = hashlib.sha256(task.read_bytes()).hexdigest()
         about = f"{digest} {rounds} {count}\n"
         if not (folder / "question").is_file():
             self.write("question", about)
         elif (folder / "question").read_text() != about:
-            sys.exit(f"{folder} has notes about another question: choose another folder")
+            ask.refuse(f"{folder} has notes about another question: choose another folder")
 
     def write(self, name, text):
         part = self.folder / f".{name}.{os.getpid()}.{time.monotonic_ns()}"
@@ -39,14 +41,12 @@ class Notes:
         return {branch: note for branch in range(self.count) if (note := self.of(branch))}
 
 
-def branch_count(program, task, rounds):
+def branch_count(ask, task, rounds):
     """How many branches there are. Where the question is refused, that is the end."""
-    with open(task) as text:
-        run = subprocess.run([program, "branches", "--rounds", str(rounds)], stdin=text, capture_output=True, text=True)
-    if run.returncode:
-        print(run.stderr, end="")
-        sys.exit(2)
-    return int(next(line.split()[1] for line in run.stdout.split("\n") if line.startswith("branches ")))
+    status, said, _ = ask.program(["branches", "--rounds", rounds], task)
+    if status:
+        ask.refuse_question(said, task)
+    return int(next(line.split()[1] for line in said.split("\n") if line.startswith("branches ")))
 
 
 def begin(question, solver):
@@ -58,18 +58,31 @@ def begin(question, solver):
 
 
 def decide(ask, notes, task, rounds, branch, solver, seconds):
-    """Asks the solver about a branch, or the search where there is none, and notes what is accepted of it."""
+    """Asks about a branch, as `answered` does; of one that was cut off nothing is kept."""
     question = ask.Question(task, rounds, notes.folder, branch)
     question.clear()
-    begun = time.monotonic()
+    try:
+        return answered(ask, notes, question, branch, solver, seconds)
+    except ask.Stopped:
+        question.clear()
+        raise
+
+
+def answered(ask, notes, question, branch, solver, seconds):
+    """Asks the solver about a branch, or the search where there is none, and notes what is accepted of it."""
+    begun, is_late = time.monotonic(), False
     run = begin(question, solver)
     try:
         run.wait(seconds)
     except subprocess.TimeoutExpired:
-        return None
+        is_late = True
     finally:
         run.kill()
         run.wait()
+    ask.go_on()
+    if is_late:
+        question.clear()
+        return None
     taken = time.monotonic() - begun
     who = solver.split()[0] if solver else "the search"
     answer = question.of_solver(question.who(who), taken) if solver else question.of_search(taken)
@@ -84,12 +97,17 @@ def decide(ask, notes, task, rounds, branch, solver, seconds):
 def run_jobs(ask, notes, words, rounds, solver, chosen):
     """Asks about the branches that have no note, so many at once, up to the first map."""
     left = [branch for branch in chosen if not notes.of(branch)]
-    with concurrent.futures.ThreadPoolExecutor(words.jobs or 1) as pool:
+    pool = concurrent.futures.ThreadPoolExecutor(words.jobs or 1)
+    try:
         jobs = [pool.submit(decide, ask, notes, words.task, rounds, branch, solver, words.seconds) for branch in left]
         for job in concurrent.futures.as_completed(jobs):
             if job.result() == "map":
-                pool.shutdown(wait=False, cancel_futures=True)
                 break
+    except KeyboardInterrupt:
+        ask.stop()
+        raise
+    finally:
+        pool.shutdown(cancel_futures=True)
 
 
 def told(notes):
@@ -97,6 +115,8 @@ def told(notes):
     known = notes.all()
     maps = [branch for branch, note in known.items() if note.startswith("map")]
     nones = len(known) - len(maps)
+    if not notes.count:
+        return "none: the question has no branch", "none"
     if maps:
         return f"map, in branch {min(maps)} of {notes.count}", "map"
     if nones == notes.count:
@@ -126,28 +146,28 @@ def joined(ask, notes, words, rounds):
 
 def array(words, rounds, count):
     """The script of an array of jobs, one for each branch."""
-    here, program = pathlib.Path.cwd(), pathlib.Path(sys.argv[0])
-    command = f"{program} {words.task} {rounds} --keep {words.keep} --seconds {words.seconds:g}" + (f" --solver '{words.solver}'" if words.solver else "")
+    command = [sys.argv[0], words.task, rounds, "--keep", words.keep, "--seconds", f"{words.seconds:g}"]
+    command += ["--solver", words.solver] if words.solver else []
     return "\n".join([
         "#!/bin/sh",
-        f"#SBATCH --job-name={words.task.stem}-{rounds}",
+        f"#SBATCH --job-name={re.sub('[^a-zA-Z0-9_-]', '-', words.task.stem)}-{rounds}",
         f"#SBATCH --array=0-{count - 1}",
-        f"cd {here} || exit 1",
-        f'exec {command} --branch "$SLURM_ARRAY_TASK_ID"',
+        f"cd {shlex.quote(str(pathlib.Path.cwd()))} || exit 2",
+        f'exec {shlex.join(map(str, command))} --branch "$SLURM_ARRAY_TASK_ID"',
     ])
 
 
 def main(ask, words, solver):
     rounds = words.rounds[0]
-    if len(words.rounds) > 1:
-        sys.exit("branches are those of one number of rounds")
-    count = branch_count(ask.PROGRAM, words.task, rounds)
+    count = branch_count(ask, words.task, rounds)
+    if words.array and not count:
+        ask.refuse("there is no branch, so no array is needed: ask without --array")
     if words.array:
         print(array(words, rounds, count))
         return 0
     if words.branch is not None and not 0 <= words.branch < count:
-        sys.exit(f"there are {count} branches, numbered from 0")
-    notes = Notes(words.keep, words.task, rounds, count)
+        ask.refuse(f"there are {count} branches, numbered from 0")
+    notes = Notes(ask, words.keep, words.task, rounds, count)
     chosen = range(count) if words.branch is None else [words.branch]
     print(f"{words.task.stem} after {rounds} {'round' if rounds == 1 else 'rounds'}, {count} branches, {len(notes.all())} of them known:", flush=True)
     run_jobs(ask, notes, words, rounds, solver, chosen)

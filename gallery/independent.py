@@ -1,3 +1,4 @@
+#!/usr/bin/env python3
 """What further commands have to write, found from the definitions of second_opinion.py: the list of executions, lifted maps,
 branches, and what a search of one branch writes, or of the whole.
 
@@ -13,10 +14,10 @@ branches, and what a search of one branch writes, or of the whole.
 It shares nothing with the program, and is slow.
 """
 import itertools
-import json
 import sys
 
 import formula
+import lint
 import reports
 import second_opinion as opinion
 
@@ -197,26 +198,53 @@ def parts(task, rounds, form):
     return "".join(found)
 
 
+def task_in(file):
+    with open(file, "rb") as it:
+        return lint.read(it.read())[0]
+
+
+def report_in(file):
+    with open(file, newline="") as it:
+        return it.read()
+
+
+def number(word):
+    if not (word.isascii() and word.isdigit()):
+        raise ValueError(f"{word!r} is no number")
+    return int(word)
+
+
+def one_or_all(word):
+    return None if word == "all" else number(word)
+
+
+def form_named(word):
+    if word not in ("full", "verdict", "least"):
+        raise ValueError(f"{word!r} is not full, verdict or least")
+    return word
+
+
+# by the first word: what is made of the words behind it, and what each of these is
+MADE = {
+    "executions": (executions, task_in, number), "lift": (lift, task_in, report_in, number),
+    "branches": (branches, task_in, number), "cnf": (cnf, task_in, number, number),
+    "solve": (solve, task_in, number, one_or_all, form_named), "parts": (parts, task_in, number, form_named),
+}
+
+
 def main():
-    if sys.argv[1:2] == ["solve"] and len(sys.argv) == 6:
-        with open(sys.argv[2]) as file:
-            return solve(json.load(file), int(sys.argv[3]), None if sys.argv[4] == "all" else int(sys.argv[4]), sys.argv[5])
-    if sys.argv[1:2] == ["parts"] and len(sys.argv) == 5:
-        with open(sys.argv[2]) as file:
-            return parts(json.load(file), int(sys.argv[3]), sys.argv[4])
-    if sys.argv[1:2] == ["branches"] and len(sys.argv) == 4:
-        with open(sys.argv[2]) as file:
-            return branches(json.load(file), int(sys.argv[3]))
-    if sys.argv[1:2] == ["cnf"] and len(sys.argv) == 5:
-        with open(sys.argv[2]) as file:
-            return cnf(json.load(file), int(sys.argv[3]), int(sys.argv[4]))
-    if sys.argv[1:2] == ["executions"] and len(sys.argv) == 4:
-        with open(sys.argv[2]) as file:
-            return executions(json.load(file), int(sys.argv[3]))
-    if sys.argv[1:2] == ["lift"] and len(sys.argv) == 5:
-        with open(sys.argv[2]) as file, open(sys.argv[3]) as report:
-            return lift(json.load(file), report.read(), int(sys.argv[4]))
-    sys.exit(__doc__)
+    name, *words = sys.argv[1:] or [""]
+    make, *kinds = MADE.get(name, [None])
+    if not make or len(words) != len(kinds):
+        sys.exit(__doc__)
+    try:
+        return make(*(kind(word) for kind, word in zip(kinds, words)))
+    except lint.Refused as refused:
+        sys.exit(f"the task is refused, {refused.line}: {refused.words}")
+    except (OSError, ValueError, reports.Unreadable) as fault:
+        sys.exit(f"independent.py: {fault}")
+    except IndexError:
+        sys.exit("independent.py: there is no such branch, or the report has no map of this task and of no more rounds")
 
 
 if __name__ == "__main__":

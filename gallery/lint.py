@@ -6,7 +6,7 @@ Of a file that is accepted it names what the definitions allow, but hardly anybo
 
   - a rule that allows nothing: then there is no decision map for any number of rounds;
   - in a symmetric task two simplices with the same values, rank by rank, and different rules;
-  - processes that no input has, and outputs that no rule uses;
+  - processes that no input has, outputs that no rule uses, and keys that are written twice, of which the last counts;
 
 and as a `note` what many tasks of the literature have on purpose:
 
@@ -47,6 +47,8 @@ def value_of(text):
     """The JSON value of a text of bytes."""
     if len(text) > LONGEST:
         raise Refused("1 TooLong", f"the file has {len(text)} bytes, and {LONGEST} are read")
+    if not text.strip():
+        raise Refused("2 NotJson", "the file is empty")
     try:
         decoded = text.decode("utf-8")
         value = json.loads(decoded, parse_int=whole_or_not, parse_float=finite, parse_constant=no_json)
@@ -61,6 +63,13 @@ def value_of(text):
     if any("\ud800" <= c <= "\udfff" for found in STRING.findall(decoded) if "\\u" in found for c in json.loads(found)):
         raise Refused("2 NotJson", "half of a surrogate pair is written by \\u")
     return value
+
+
+def written_twice(text):
+    """The keys that stand twice in one object of a JSON text."""
+    found = []
+    json.loads(text, object_pairs_hook=lambda pairs: found.extend({k for at, (k, _) in enumerate(pairs) if k in dict(pairs[:at])}))
+    return found
 
 
 def finite(digits):
@@ -301,14 +310,16 @@ def main():
     words.add_argument("task")
     try:
         with open(words.parse_args().task, "rb") as file:
-            value, rules = read(file.read())
+            text = file.read()
+        value, rules = read(text)
     except OSError as error:
         print(f"lint.py: {error}", file=sys.stderr)
         return 2
     except Refused as refused:
         print(f"refused, {refused.line}: {refused.words}")
         return 2
-    found = [f"slip: {it}" for it in slips(value, rules)]
+    twice = (f'the key "{key}" is written twice in one place, and the last value counts' for key in written_twice(text))
+    found = [f"slip: {it}" for it in [*twice, *slips(value, rules)]]
     said = [*found, *(f"note: {it}" for it in notes(value, rules))]
     print("\n".join(said) or "nothing to say")
     return 1 if found else 0

@@ -2,9 +2,9 @@
 """second_opinion.py TASK REPORT: whether the report about the task holds, straight from the definitions.
 
 It shares nothing with the program: it is here to be read in ten minutes, and is slow. The task is read by lint.py, and the report's
-text by reports.py. It says `holds: map`, `holds: least`, `holds: none` or `holds: none, by the header alone` (the short form has no
-lines to check), or says in words what is wrong, or why it can't read the report, and ends with status 1. Whether a map is the least
-one it looks at where the report has the lines for it."""
+text by reports.py. It says `holds: map`, `holds: least` or `holds: none`, or says in words what is wrong, as with a report of none
+that has no lines, or why it can't read the report, and ends with status 1. Whether a map is the least one it looks at where the
+report has the lines for it."""
 import argparse
 import itertools
 import sys
@@ -146,24 +146,28 @@ def judge(task, text):
         if header[name] != it:
             return None, f"{name} should be {it}"
     if answer == "none":
-        return ("none", made.wrong_lines(steps)) if steps else ("none, by the header alone", None)
+        return answer, made.wrong_lines(steps) if steps else "it has no lines that show it, as --verdict leaves them out"
     return answer, made.wrong_map(values) or (made.wrong_lines(steps, values) if answer == "least" else None)
 
 
-def main():
+def given(name, about):
+    """The task and the report's text that a script of this name is asked about. Where they can't be read, that is the end."""
     words = argparse.ArgumentParser(
-        description=__doc__, formatter_class=argparse.RawDescriptionHelpFormatter, usage="second_opinion.py TASK REPORT")
+        description=about, formatter_class=argparse.RawDescriptionHelpFormatter, usage=f"{name} TASK REPORT")
     words.add_argument("task")
     words.add_argument("report")
     asked = words.parse_args()
     try:
         with open(asked.task, "rb") as task_file, open(asked.report, "rb") as report_file:
-            task, _ = lint.read(task_file.read())
-            answer, wrong = judge(task, report_file.read().decode("ascii", "replace"))
+            return lint.read(task_file.read())[0], report_file.read().decode("ascii", "replace")
     except OSError as error:
-        sys.exit(f"second_opinion.py: {error}")
+        sys.exit(f"{name}: {error}")
     except lint.Refused as refused:
         sys.exit(f"the task is refused, {refused.line}: {refused.words}")
+
+
+def main():
+    answer, wrong = judge(*given("second_opinion.py", __doc__))
     if wrong:
         sys.exit(f"does not hold: {wrong}")
     print(f"holds: {answer}")

@@ -76,6 +76,10 @@ def judge(name, processes, listed, values, first_block):
     """Refuses what no task file may have."""
     if type(processes) is not int or not 1 <= processes <= MOST_PROCESSES:
         raise Mistake(f"{name}: a task has 1 to {MOST_PROCESSES} processes, and not {processes!r}")
+    if not isinstance(name, str) or not name or pathlib.PurePath(name).name != name or name.endswith(".json"):
+        raise Mistake(f"{name}: a name is that of the file, without a folder and without .json")
+    if not values:
+        raise Mistake(f"{name}: there is no value that may be decided")
     if first_block is not None and (type(first_block) is not int or not 1 <= first_block <= MOST_PROCESSES):
         raise Mistake(f"{name}: a first block is 1 to {MOST_PROCESSES}, and not {first_block!r}")
     if not listed or not all(listed):

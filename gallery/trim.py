@@ -3,11 +3,10 @@
 
 It goes backwards through the lines, as proof checkers trim clausal proofs. It takes the report as it is, and nobody has proved it:
 `wfcheck verify` and `second_opinion.py` say of either report whether it holds."""
-import json
 import sys
 
 from reports import Unreadable, read
-from second_opinion import Complex
+from second_opinion import Complex, given, judge
 
 
 class Block:
@@ -94,18 +93,18 @@ def text_of(task, text):
     report = read(text)
     if report.answer != "none":
         return text
+    if not report.steps:
+        raise Unreadable("it has no lines")
     front = text.split("\n")[:6]
     return "\n".join([*front, *Trimmer(task, report).whole.text, "end\n"])
 
 
 def main():
-    if len(sys.argv) != 3:
-        sys.exit(__doc__)
-    with open(sys.argv[1]) as task, open(sys.argv[2], newline="", errors="replace") as report:
-        try:
-            sys.stdout.write(text_of(json.load(task), report.read()))
-        except (Unreadable, KeyError, IndexError, ValueError) as fault:
-            sys.exit(f"the report can't be trimmed: {fault}")
+    task, text = given("trim.py", __doc__)
+    try:
+        sys.stdout.write(text_of(task, text))
+    except (Unreadable, AttributeError, KeyError, IndexError, ValueError) as fault:
+        sys.exit(f"the report can't be trimmed: {judge(task, text)[1] or fault}")
 
 
 if __name__ == "__main__":
