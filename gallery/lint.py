@@ -66,10 +66,18 @@ def value_of(text):
 
 
 def written_twice(text):
-    """The keys that stand twice in one object of a JSON text."""
-    found = []
-    json.loads(text, object_pairs_hook=lambda pairs: found.extend({k for at, (k, _) in enumerate(pairs) if k in dict(pairs[:at])}))
-    return found
+    """The keys that stand twice in one object of a JSON text, each once."""
+    found = {}
+
+    def look(pairs):
+        seen = set()
+        for key, _ in pairs:
+            if key in seen:
+                found[key] = True
+            seen.add(key)
+
+    json.loads(text, object_pairs_hook=look)
+    return list(found)
 
 
 def finite(digits):
