@@ -14,9 +14,8 @@ use Rattle.wf_model.proofs.Covering.{one_least}
 use Rattle.wf_model.proofs.Least.{answer_least, answer_none, canonical_answers, canonical_least, root_is_box, solution_in_root}
 use Rattle.wf_model.proofs.Numbers.{listed_by_number}
 use Rattle.wf_model.proofs.WellFormed.{task_well_formed}
-use Rattle.wf_core.specs.declared.Account.{Account}
 use Rattle.wf_report.specs.declared.form.Form.{Form}
-use Rattle.wf_engine.specs.Texts.{IsSolved, map_body, none_body, text_of_report}
+use Rattle.wf_engine.specs.Texts.{IsFound, map_body, none_body, text_of_report}
 use Rattle.wf_engine.specs.declared.outcome.Outcome.{Outcome}
 use Rattle.wf_engine.specs.declared.outcome.Outcome.TheVariants as outcome
 use Rattle.wf_formula.specs.Branches.{branch_at}
@@ -98,14 +97,14 @@ module _ (t : Task) (r : ℕ) (is : IsTask t) where
   answer_by asked None = (outcome.Nothing, text_of_report t r (none_body asked (canonical (problem_of t r) (root (problem_of t r))).lines))
   answer_by asked (Some m) = (outcome.Map, text_of_report t r (map_body asked m (canonical (problem_of t r) (root (problem_of t r))).lines))
 
-  by_canonical : (asked : Form) (found : Outcome) (a : Account) (text : List ℕ) → IsSolved asked t r (found, a) text → (found, text) ≡ answer_by asked (canonical (problem_of t r) (root (problem_of t r))).map
-  by_canonical asked outcome.Map a text (m, ls, least, leads, account, same) =
+  by_canonical : (asked : Form) (found : Outcome) (text : List ℕ) → IsFound asked t r found text → (found, text) ≡ answer_by asked (canonical (problem_of t r) (root (problem_of t r))).map
+  by_canonical asked outcome.Map text (m, ls, least, leads, same) =
       (λ j. (outcome.Map, (same ∙ ap (λ x. text_of_report t r (map_body asked (listed t r m) x)) leads.canonical_lines) j)) ∙ ap (answer_by asked) (sym (whole_map m least))
-  by_canonical asked outcome.Nothing a text (ls, refuted, account, same) =
+  by_canonical asked outcome.Nothing text (ls, refuted, same) =
       (λ j. (outcome.Nothing, (same ∙ ap (λ x. text_of_report t r (none_body asked x)) refuted.canonical_lines) j)) ∙ ap (answer_by asked) (sym (whole_none refuted.no_map))
 
   -- no two searches of the whole question write other texts
-  pub one_text : (asked : Form) (found other : Outcome) (a b : Account) (text more : List ℕ) → IsSolved asked t r (found, a) text → IsSolved asked t r (other, b) more → (other ≡ found) × (more ≡ text)
-  one_text asked found other a b text more solved again =
-      let same : (other, more) ≡ (found, text) = by_canonical asked other b more again ∙ sym (by_canonical asked found a text solved) in
+  pub one_text : (asked : Form) (found other : Outcome) (text more : List ℕ) → IsFound asked t r found text → IsFound asked t r other more → (other ≡ found) × (more ≡ text)
+  one_text asked found other text more solved again =
+      let same : (other, more) ≡ (found, text) = by_canonical asked other more again ∙ sym (by_canonical asked found text solved) in
       (ap (λ (x : Outcome × List ℕ). x.0) same, ap (λ (x : Outcome × List ℕ). x.1) same)

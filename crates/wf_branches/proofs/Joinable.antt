@@ -1,5 +1,5 @@
 -- The parts of searches are joined to the text of a search of the whole question.
-use Rattle.std.proofs.Common.{◌≡◌, ◌≢◌, ◌∙◌, ◌⊎◌, inl, inr, ◌+◌, ◌-◌, ◌≤◌, ℕ, suc, List, [], ◌∷◌, ◌++◌, append-nil, length, length-append, None, Result, Ok, Err, refl, sym, ap, subst, arith}
+use Rattle.std.proofs.Common.{◌≡◌, ◌≢◌, ◌∙◌, ◌⊎◌, inl, inr, ◌+◌, ◌-◌, ◌≤◌, ℕ, suc, List, [], ◌∷◌, ◌++◌, append-nil, length, length-append, None, Some, Result, Ok, Err, refl, sym, ap, subst, arith}
 use Rattle.std.specs.List.{AllByRecursion}
 use Rattle.wf_core.specs.declared.Account.{Account}
 use Rattle.wf_model.specs.Limits.{most_number}
@@ -26,7 +26,7 @@ use Rattle.wf_engine.specs.declared.fault.RunFault.{RunFault}
 use Rattle.wf_engine.specs.declared.fault.RunFault.TheVariants.{OutOfMemory, TooManyParts}
 use Rattle.wf_engine.specs.declared.outcome.Outcome.{Outcome}
 use Rattle.wf_engine.specs.declared.outcome.Outcome.TheVariants as outcome
-use Rattle.wf_engine.proofs.Verdicts.{kept_shown, map_verdict, none_shown, none_verdict}
+use Rattle.wf_engine.proofs.Verdicts.{kept_shown, map_account, map_verdict, none_shown, none_verdict}
 use Rattle.wf_branches.specs.Branches.{HasBranch}
 use Rattle.wf_branches.specs.Solving.{IsLeastInBranch, IsRefutationIn, LeadsToMapIn, part_text}
 use Rattle.wf_branches.specs.Joining.{EndsAll, Gathered, Gathers, GathersAll, GoesOn, joined_body, with_least, with_map, without_map}
@@ -123,9 +123,11 @@ module _ (asked : Form) (shows : asked ≢ form.Verdict) (t : Task) (r : ℕ) (i
       let kept : List Line = refuting_lines (lines_kept asked) all_lines in
       record {
         account = record { branches = n; least = n; searched = n; cut = 0 };
-        solved = none_verdict t r asked kept (text_of_report t r (none (filled (outline (problem_of t r)) lists))) _ is nothing refl
-            (record { branches = refl; least = refl; searched = refl; cut = refl })
-            (ap (λ x. text_of_report t r (none x)) (sym same) ∙ ap (text_of_report t r) (sym (none_shown asked kept all_lines refl ∙ shown asked shows all_lines)));
+        solved = (
+          none_verdict t r asked kept (text_of_report t r (none (filled (outline (problem_of t r)) lists))) is nothing refl
+          (ap (λ x. text_of_report t r (none x)) (sym same) ∙ ap (text_of_report t r) (sym (none_shown asked kept all_lines refl ∙ shown asked shows all_lines))),
+          record { branches = refl; least = refl; searched = refl; cut = refl },
+        );
         clear = subst (λ x. report_fault t r (report_about t r (none x)) ≡ None) same (canonical_none_accepted t r is nothing);
       }
 
@@ -156,10 +158,14 @@ module _ (asked : Form) (shows : asked ≢ form.Verdict) (t : Task) (r : ℕ) (i
         let same : all_lines ≡ lines = ap (λ (s : Trace). s.lines) whole_map in
         let kept : List Line = map_lines (lines_kept asked) all_lines in
         let body = joined_found asked (listed t r m) (outline p) lists_all in
+        let found : (canonical p (root p)).map ≡ Some (listed t r m) = ap (λ (s : Trace). s.map) whole_map in
         record {
           account = in_order;
-          solved = map_verdict t r asked (listed t r m) kept _ in_order is (ap (λ (s : Trace). s.map) whole_map) refl has_account
-              (ap (text_of_report t r) (body ∙ ap (map_body asked (listed t r m)) (sym same) ∙ sym (kept_shown asked (listed t r m) kept all_lines refl)));
+          solved = (
+            map_verdict t r asked (listed t r m) kept _ is found refl
+            (ap (text_of_report t r) (body ∙ ap (map_body asked (listed t r m)) (sym same) ∙ sym (kept_shown asked (listed t r m) kept all_lines refl))),
+            map_account t r (listed t r m) in_order is found has_account,
+          );
           clear = subst (λ x. report_fault t r (report_about t r x) ≡ None) (sym body) (map_clear asked t r m lines is is_least.decides whole_map);
         }
 

@@ -29,7 +29,7 @@ module _ (t : Task) (r : ℕ) (asked : Form) (found : Outcome) (shows : asked �
       subst (IsWholeText asked t r found) (sym same)
       (record {
         solved = (whole.account, whole.solved);
-        one = λ other account more solved. one_text t r is asked found other whole.account account (text_of_report t r body) more whole.solved solved;
+        one = λ other more finds. one_text t r is asked found other (text_of_report t r body) more whole.solved.0 finds;
       })
 
   -- what the parts came to

@@ -10,7 +10,7 @@ use Rattle.wf_core.specs.declared.Account.{Account}
 use Rattle.wf_report.specs.Reports.{AreNumbered}
 use Rattle.wf_report.specs.declared.form.Form.{Form}
 use Rattle.wf_report.specs.declared.fault.CertFault.TheVariants as amiss
-use Rattle.wf_engine.specs.Texts.{IsSolved, text_of_report}
+use Rattle.wf_engine.specs.Texts.{IsFound, IsSolved, text_of_report}
 use Rattle.wf_engine.specs.declared.outcome.Outcome.{Outcome}
 use Rattle.wf_engine.specs.declared.outcome.Outcome.TheVariants as outcome
 use Rattle.wf_engine.specs.declared.fault.PartFault.TheVariants as part
@@ -38,7 +38,7 @@ HasPartsOf asked t r outcome.Nothing text =
 -- it is the text of a search of the whole question, and no search of it writes another one
 pub record IsWholeText (asked : Form) (t : Task) (r : ℕ) (found : Outcome) (text : List ℕ) : Type 0 where
   pub solved : (account : Account) × IsSolved asked t r (found, account) text
-  pub one : (other : Outcome) (account : Account) (whole : List ℕ) → IsSolved asked t r (other, account) whole → (other ≡ found) × (whole ≡ text)
+  pub one : (other : Outcome) (whole : List ℕ) → IsFound asked t r other whole → (other ≡ found) × (whole ≡ text)
 
 -- Why such parts are not joined: memory ran out; the report that a search of the whole question
 -- writes has more values and lines than can be numbered; or the report in the part of a branch has

@@ -7,7 +7,6 @@ use Rattle.wf_model.specs.Problem.{problem_of}
 use Rattle.wf_model.specs.Box.{root}
 use Rattle.wf_model.specs.Refutation.{Line}
 use Rattle.wf_model.specs.Closing.{canonical}
-use Rattle.wf_core.specs.declared.Account.{Account}
 use Rattle.wf_model.specs.Report.{Report, Body, a_map, none, least, report_of, report_text, report_about}
 use Rattle.wf_model.specs.Check.{Refusal, report_fault}
 use Rattle.wf_model.proofs.Least.{answer_least}
@@ -28,7 +27,7 @@ use Rattle.wf_report.specs.declared.form.Form.TheVariants as form
 use Rattle.wf_engine.specs.declared.fault.RunFault.{RunFault}
 use Rattle.wf_engine.specs.declared.fault.RunFault.TheVariants as run
 use Rattle.wf_engine.specs.Run.{HasComplex}
-use Rattle.wf_engine.specs.Texts.{IsRefutation, IsSolved, LeadsToMap, text_of_report}
+use Rattle.wf_engine.specs.Texts.{IsFound, IsRefutation, LeadsToMap, text_of_report}
 use Rattle.wf_engine.specs.Verify.{ChecksText, IsAccepted, IsVerified, IsVerifiedFor, accepted_of}
 use Rattle.wf_engine.specs.Headline.{AreAsked}
 use Rattle.wf_engine.specs.Laws.{Accepts, accepted_as}
@@ -128,15 +127,15 @@ module _ (t : Task) (r : ℕ) where
       body_accepted None (least (listed t r m) lines) text answer tt (least_within t r task within m decides shape.0 same shape.2) within
       (subst (λ x. report_fault t r (report_about t r (least (listed t r m) x)) ≡ None) same (least_tree_accepted t r m shape.0 task decides shape.2)) written short checks
 
-pub solved_accepted : (t : Task) (r : ℕ) (asked : Form) (found : Outcome × Account) (text : List ℕ) (answer : Result (Accepted × List ℕ) RunFault)
-    → IsTask t → HasComplex t r → asked ≢ form.Verdict → IsSolved asked t r found text → length text ≤ most_bytes
-    → ChecksText None t text answer → Accepts (accepted_as asked found.0) answer
-solved_accepted t r form.Full (outcome.Map, a) text answer task within shows (m, ls, is_least, leads, account, is) short checks =
+pub found_accepted : (t : Task) (r : ℕ) (asked : Form) (found : Outcome) (text : List ℕ) (answer : Result (Accepted × List ℕ) RunFault)
+    → IsTask t → HasComplex t r → asked ≢ form.Verdict → IsFound asked t r found text → length text ≤ most_bytes
+    → ChecksText None t text answer → Accepts (accepted_as asked found) answer
+found_accepted t r form.Full outcome.Map text answer task within shows (m, ls, is_least, leads, is) short checks =
     map_text_accepted t r None m text answer tt task within is_least.decides is short checks
-solved_accepted t r form.Least (outcome.Map, a) text answer task within shows (m, ls, is_least, leads, account, is) short checks =
+found_accepted t r form.Least outcome.Map text answer task within shows (m, ls, is_least, leads, is) short checks =
     least_text_accepted t r m ls text answer task within is_least.decides leads is short checks
-solved_accepted t r form.Full (outcome.Nothing, a) text answer task within shows (ls, refuted, account, is) short checks =
+found_accepted t r form.Full outcome.Nothing text answer task within shows (ls, refuted, is) short checks =
     none_text_accepted t r ls text answer task within refuted is short checks
-solved_accepted t r form.Least (outcome.Nothing, a) text answer task within shows (ls, refuted, account, is) short checks =
+found_accepted t r form.Least outcome.Nothing text answer task within shows (ls, refuted, is) short checks =
     none_text_accepted t r ls text answer task within refuted is short checks
-solved_accepted t r form.Verdict found text answer task within shows solved short checks = absurd (shows refl)
+found_accepted t r form.Verdict found text answer task within shows solved short checks = absurd (shows refl)

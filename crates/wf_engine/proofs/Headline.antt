@@ -4,7 +4,6 @@ use Rattle.wf_model.specs.Limits.{most_bytes}
 use Rattle.wf_model.specs.Task.{Task}
 use Rattle.wf_model.specs.Report.{Report, report_about, report_of, report_text}
 use Rattle.wf_model.proofs.WholeReports.{numbers}
-use Rattle.wf_core.specs.declared.Account.{Account}
 use Rattle.wf_io.specs.Seen.{Reading, Writing}
 use Rattle.wf_io.specs.Texts.{Gave, ReadsText, Wrote}
 use Rattle.wf_io.specs.declared.source.ReadFault.{ReadFault}
@@ -15,7 +14,7 @@ use Rattle.wf_engine.specs.declared.outcome.Outcome.{Outcome}
 use Rattle.wf_engine.specs.declared.outcome.Outcome.TheVariants as outcome
 use Rattle.wf_engine.specs.declared.fault.RunFault.{RunFault}
 use Rattle.wf_engine.specs.Run.{Answers, Asks, Hands, IsTaskOf, Judged, Next, Reads}
-use Rattle.wf_engine.specs.Texts.{IsSolved, text_of_report}
+use Rattle.wf_engine.specs.Texts.{IsFound, text_of_report}
 use Rattle.wf_engine.specs.Verify.{AreDecisions, Checks, ChecksFor, IsAccepted, IsFaultless, IsReportOf, IsVerified, IsVerifiedFor}
 use Rattle.wf_engine.specs.Headline.{AcceptancesAreTrue, AnswersAreTrue, AreAsked, DecisionsAreTrue, GaveTask, GaveTruth, Says}
 
@@ -43,27 +42,27 @@ report_read old new (Err e) t r reads judged faultless = absurd (let bad : ⊥ =
 
 -- ---- what a search says
 
-says : (form : Form) (t : Task) (r : ℕ) (found : Outcome) (a : Account) (text : List ℕ) → IsSolved form t r (found, a) text → Says form t r found text
-says form t r outcome.Map a text (m, ls, least, leads, account, is) = (m, least, (ls, is))
-says form t r outcome.Nothing a text (ls, refutation, account, is) = (refutation.no_map, (ls, is))
+says : (form : Form) (t : Task) (r : ℕ) (found : Outcome) (text : List ℕ) → IsFound form t r found text → Says form t r found text
+says form t r outcome.Map text (m, ls, least, leads, is) = (m, least, (ls, is))
+says form t r outcome.Nothing text (ls, refutation, is) = (refutation.no_map, (ls, is))
 
 module _ (rounds : ℕ) (form : Form) (source source' : Reading) (sink sink' : Writing) where
   abbrev Right : Outcome → Type 0
   Right found = (t : Task) × (text : List ℕ) × GaveTask source source' t × Says form t rounds found text × Wrote sink sink' text
 
-  of_task : (found : Outcome) (account : Account) (text : List ℕ) (task : Result Task RunFault) → Reads IsTaskOf source source' task
-      → Next (λ t. Answers (IsSolved form) t rounds) task (Ok ((found, account), text)) → Wrote sink sink' text → Right found
-  of_task found account text (Ok t) (read, reads, judged) next wrote = (t, text, task_read source source' read t reads judged, says form t rounds found account text next.1, wrote)
-  of_task found account text (Err e) reads next wrote = absurd (let bad : ⊥ = cc in bad)
+  of_task : (found : Outcome) (text : List ℕ) (task : Result Task RunFault) → Reads IsTaskOf source source' task
+      → Next (λ t. Answers (IsFound form) t rounds) task (Ok (found, text)) → Wrote sink sink' text → Right found
+  of_task found text (Ok t) (read, reads, judged) next wrote = (t, text, task_read source source' read t reads judged, says form t rounds found text next.1, wrote)
+  of_task found text (Err e) reads next wrote = absurd (let bad : ⊥ = cc in bad)
 
-  of_answer : (found : Outcome) (account : Account) (answer : Result ((Outcome × Account) × List ℕ) RunFault)
-      → Asks (IsSolved form) rounds source source' answer → Hands sink sink' answer (Ok (found, account)) → Right found
-  of_answer found account (Ok (x, text)) (task, reads, next) (same, wrote) =
-      of_task found account text task reads (subst (λ y. Next (λ t. Answers (IsSolved form) t rounds) task (Ok (y, text))) (sym same) next) wrote
-  of_answer found account (Err e) asks hands = absurd (let bad : ⊥ = cc in bad)
+  of_answer : (found : Outcome) (answer : Result (Outcome × List ℕ) RunFault)
+      → Asks (IsFound form) rounds source source' answer → Hands sink sink' answer (Ok found) → Right found
+  of_answer found (Ok (x, text)) (task, reads, next) (same, wrote) =
+      of_task found text task reads (subst (λ y. Next (λ t. Answers (IsFound form) t rounds) task (Ok (y, text))) (sym same) next) wrote
+  of_answer found (Err e) asks hands = absurd (let bad : ⊥ = cc in bad)
 
 pub answers_true : AnswersAreTrue
-answers_true rounds form source source' sink sink' found account (answer, asks, hands) = of_answer rounds form source source' sink sink' found account answer asks hands
+answers_true rounds form source source' sink sink' found (answer, asks, hands) = of_answer rounds form source source' sink sink' found answer asks hands
 
 -- ---- what a check accepts
 

@@ -6,7 +6,6 @@ use Rattle.wf_model.specs.DecisionMap.{HasNoDecisionMap, IsDecisionMap, IsLeast,
 use Rattle.wf_model.specs.Refutation.{Line}
 use Rattle.wf_model.specs.Report.{Body, a_map, none}
 use Rattle.wf_model.specs.PointsText.{points_text}
-use Rattle.wf_core.specs.declared.Account.{Account}
 use Rattle.wf_io.specs.Seen.{Reading, Writing}
 use Rattle.wf_io.specs.Texts.{Gave, Wrote}
 use Rattle.wf_task.specs.Judge.{text_of}
@@ -15,7 +14,7 @@ use Rattle.wf_check.specs.Truth.{HoldsOf}
 use Rattle.wf_engine.specs.declared.outcome.Outcome.{Outcome}
 use Rattle.wf_engine.specs.declared.outcome.Outcome.TheVariants.{Map, Nothing}
 use Rattle.wf_engine.specs.declared.outcome.Accepted.{Accepted}
-use Rattle.wf_engine.specs.Texts.{Solves, map_body, none_body, text_of_report}
+use Rattle.wf_engine.specs.Texts.{Finds, map_body, none_body, text_of_report}
 use Rattle.wf_engine.specs.Models.{Models}
 use Rattle.wf_engine.specs.Proofs.{Refutes}
 use Rattle.wf_engine.specs.Verify.{Decides, Verifies, accepted_of, accepted_text, values_of}
@@ -38,8 +37,8 @@ Says form t r Nothing text = HasNoDecisionMap t r × ((ls : List Line) × (text 
 -- took, whole, a text that is true of it
 abbrev pub AnswersAreTrue : Type 0
 AnswersAreTrue =
-    (rounds : ℕ) (form : Form) (source source' : Reading) (sink sink' : Writing) (found : Outcome) (account : Account)
-    → Solves rounds form source source' sink sink' (Ok (found, account))
+    (rounds : ℕ) (form : Form) (source source' : Reading) (sink sink' : Writing) (found : Outcome)
+    → Finds rounds form source source' sink sink' (Ok found)
     → (t : Task) × (text : List ℕ) × GaveTask source source' t × Says form t rounds found text × Wrote sink sink' text
 
 -- ---- what a check accepts

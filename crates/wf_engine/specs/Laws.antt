@@ -16,7 +16,7 @@ use Rattle.wf_engine.specs.declared.fault.RunFault.TheVariants.{OutOfMemory, Wri
 use Rattle.wf_preset.specs.declared.named.Preset.{Preset}
 use Rattle.wf_engine.specs.Run.{HasComplex, by_result, failed_reads, failed_writes}
 use Rattle.wf_engine.specs.Presets.{WritesPreset}
-use Rattle.wf_engine.specs.Texts.{IsSolved, Solves, Lists}
+use Rattle.wf_engine.specs.Texts.{Finds, IsFound, Solves, Lists, outcome_of}
 use Rattle.wf_engine.specs.Verify.{ChecksText, Decides, Verifies}
 use Rattle.wf_engine.specs.Models.{Models}
 use Rattle.wf_engine.specs.Proofs.{Refutes, most_proof_bytes}
@@ -34,6 +34,17 @@ abbrev pub SolvingIsCounted : Type 0
 SolvingIsCounted =
     (rounds : ℕ) (form : Form) (source source' : Reading) (sink sink' : Writing) (result : Result (Outcome × Account) RunFault)
     → Solves rounds form source source' sink sink' result → IsCounted source source' sink sink' result
+
+-- what is written where an account is kept is what is found
+abbrev pub SolvingIsFinding : Type 0
+SolvingIsFinding =
+    (rounds : ℕ) (form : Form) (source source' : Reading) (sink sink' : Writing) (result : Result (Outcome × Account) RunFault)
+    → Solves rounds form source source' sink sink' result → Finds rounds form source source' sink sink' (outcome_of result)
+
+abbrev pub FindingIsCounted : Type 0
+FindingIsCounted =
+    (rounds : ℕ) (form : Form) (source source' : Reading) (sink sink' : Writing) (result : Result Outcome RunFault)
+    → Finds rounds form source source' sink sink' result → IsCounted source source' sink sink' result
 
 abbrev pub ListingIsCounted : Type 0
 ListingIsCounted =
@@ -106,9 +117,9 @@ accepted_as f outcome.Nothing = accepted.Nothing
 -- bytes as a text may have, is accepted.
 abbrev pub SolvedReportsAreAccepted : Type 0
 SolvedReportsAreAccepted =
-    (t : Task) (r : ℕ) (asked : Form) (found : Outcome × Account) (text : List ℕ) (answer : Result (Accepted × List ℕ) RunFault)
-    → IsTask t → HasComplex t r → asked ≢ form.Verdict → IsSolved asked t r found text → length text ≤ most_bytes
-    → ChecksText None t text answer → Accepts (accepted_as asked found.0) answer
+    (t : Task) (r : ℕ) (asked : Form) (found : Outcome) (text : List ℕ) (answer : Result (Accepted × List ℕ) RunFault)
+    → IsTask t → HasComplex t r → asked ≢ form.Verdict → IsFound asked t r found text → length text ≤ most_bytes
+    → ChecksText None t text answer → Accepts (accepted_as asked found) answer
 
 -- What is written of a solver's model is the text of a report, of which a check that asks for these
 -- rounds says that it is accepted, where it has at most as many bytes as a text may have.

@@ -1,5 +1,5 @@
 -- The texts of the answers, and the runs that write them.
-use Rattle.std.specs.Prelude.{◌≡◌, ◌+◌, ℕ, List, [], Result, IfOk}
+use Rattle.std.specs.Prelude.{◌≡◌, ◌+◌, ℕ, List, [], Result, Ok, Err, IfOk}
 use Rattle.wf_model.specs.Task.{Task}
 use Rattle.wf_model.specs.View.{View}
 use Rattle.wf_model.specs.DecisionMap.{HasNoDecisionMap, IsLeast, listed}
@@ -60,16 +60,23 @@ map_body form.Full m ls = a_map m
 map_body form.Verdict m ls = a_map m
 map_body form.Least m ls = least m ls
 
--- What a search of a task answers and writes: the least decision map over the points, or none by a
--- refutation; and the account of the branches.
-abbrev pub IsSolved : Form → Task → ℕ → Outcome × Account → List ℕ → Type 0
-IsSolved form t r (outcome.Map, a) text =
+-- What a search of a task finds and writes: the least decision map over the points, or none by a
+-- refutation.
+abbrev pub IsFound : Form → Task → ℕ → Outcome → List ℕ → Type 0
+IsFound form t r outcome.Map text =
     (m : View → ℕ) × (ls : List Line) × IsLeast t r m × LeadsToMap t r (listed t r m) ls
-    × HasAccountOfMap (problem_of t r) (listed t r m) a
     × (text ≡ text_of_report t r (map_body form (listed t r m) ls))
-IsSolved form t r (outcome.Nothing, a) text =
-    (ls : List Line) × IsRefutation t r ls × HasAccountOfNone (problem_of t r) a
-    × (text ≡ text_of_report t r (none_body form ls))
+IsFound form t r outcome.Nothing text =
+    (ls : List Line) × IsRefutation t r ls × (text ≡ text_of_report t r (none_body form ls))
+
+-- the account of a search that goes through the branches and finds this
+abbrev pub IsAccountOf : Task → ℕ → Outcome → Account → Type 0
+IsAccountOf t r outcome.Map a = (m : View → ℕ) × IsLeast t r m × HasAccountOfMap (problem_of t r) (listed t r m) a
+IsAccountOf t r outcome.Nothing a = HasAccountOfNone (problem_of t r) a
+
+-- what such a search answers and writes: what is found, and the account of the branches
+abbrev pub IsSolved : Form → Task → ℕ → Outcome × Account → List ℕ → Type 0
+IsSolved form t r (found, a) text = IsFound form t r found text × IsAccountOf t r found a
 
 -- one worker searches the branches in order, up to the first with a map
 abbrev pub IsInOrder : Outcome × Account → Type 0
@@ -77,9 +84,19 @@ IsInOrder (outcome.Map, a) = a.searched ≡ a.least + 1
 IsInOrder (outcome.Nothing, a) = a.searched ≡ a.branches
 
 -- the source's task was decided for r rounds
+abbrev pub Finds : ℕ → Form → Reading → Reading → Writing → Writing → Result Outcome RunFault → Type 0
+Finds r form source source' sink sink' result =
+    Ran (Asks (IsFound form) r source source') sink sink' result
+
+-- the same, with the account of the branches
 abbrev pub Solves : ℕ → Form → Reading → Reading → Writing → Writing → Result (Outcome × Account) RunFault → Type 0
 Solves r form source source' sink sink' result =
     Ran (Asks (IsSolved form) r source source') sink sink' result
+
+-- what is found, without the account
+abbrev pub outcome_of : Result (Outcome × Account) RunFault → Result Outcome RunFault
+outcome_of (Ok found) = Ok found.0
+outcome_of (Err e) = Err e
 
 abbrev pub SearchesInOrder : Result (Outcome × Account) RunFault → Type 0
 SearchesInOrder result = IfOk result IsInOrder

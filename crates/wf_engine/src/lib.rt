@@ -1,8 +1,10 @@
 //! The engines: from the bytes of a reader to the bytes of a writer.
 //!
 //! - [`run_solve_one`], [`run_solve`]: a task's text in, and the report of its least decision map
-//!   or of none out, by one worker or by up to [`MAX_WORKERS`]. [`run_solve_watched`] is
-//!   `run_solve` with a gate, which is told of the workers.
+//!   or of none out, by one worker or by up to [`MAX_WORKERS`], with an account of the branches.
+//!   [`run_solve_watched`] is `run_solve` with a gate, which is told of the workers.
+//! - [`run_find`], [`run_find_watched`], [`run_find_one`]: the same without an account. One worker
+//!   that no gate watches then searches the whole question, which is not cut into branches.
 //! - [`run_views`]: a task's text in, and the list of the points of its protocol complex out.
 //! - [`run_points`]: a task's text in, and its points in words out.
 //! - [`run_cnf`]: a task's text in, and the question whether it has a
@@ -31,6 +33,7 @@
 mod cnf;
 mod decisions;
 mod fault;
+mod find;
 mod laws;
 mod model;
 mod outcome;
@@ -45,11 +48,12 @@ mod views;
 pub use cnf::run_cnf;
 pub use decisions::run_decisions;
 pub use fault::{PartFault, RunFault};
+pub use find::{run_find, run_find_one, run_find_watched};
 pub use laws::{
     acceptances_are_true, answers_are_true, deciding_is_counted, decisions_are_true,
-    listing_is_counted, modelling_is_counted, models_are_accepted, models_are_true,
-    presets_are_counted, proving_is_counted, refutations_are_true, solved_reports_are_accepted,
-    solving_is_counted, verifying_is_counted,
+    finding_is_counted, listing_is_counted, modelling_is_counted, models_are_accepted,
+    models_are_true, presets_are_counted, proving_is_counted, refutations_are_true,
+    solved_reports_are_accepted, solving_is_counted, solving_is_finding, verifying_is_counted,
 };
 pub use model::run_model;
 pub use outcome::{Accepted, Outcome};

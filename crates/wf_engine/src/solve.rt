@@ -10,7 +10,7 @@ ghost use Rattle.wf_pool.specs.Answers as pool;
 ghost use Rattle.wf_report.specs.Reports.{body_of};
 ghost use Rattle.wf_engine.specs.Run.{Answers, Asks, answered};
 ghost use Rattle.wf_engine.specs.Heads.{IsHead, Poses};
-ghost use Rattle.wf_engine.specs.Texts.{IsInOrder, IsSolved, SearchesInOrder, Solves, lines_kept, map_body, text_of_report};
+ghost use Rattle.wf_engine.specs.Texts.{IsAccountOf, IsFound, IsInOrder, IsSolved, SearchesInOrder, Solves, lines_kept, map_body, text_of_report};
 
 use crate::fault::RunFault;
 use crate::outcome::Outcome;
@@ -160,7 +160,8 @@ fn solve_task_one<G: Gate>(
 {
     let (header, problem) = pose_problem(alloc, task, rounds, gate)?;
     let (answer, account) = solve_one_watched(alloc, &problem, lines_kept(form), gate)?;
-    Ok(with_text(alloc, task, rounds, header, answer, account, form)?)
+    let (outcome, text) = with_text(alloc, task, rounds, header, answer, form)?;
+    Ok(((outcome, account), text))
 }
 
 /// The answer for a task, with the text of its report, by some workers.
@@ -179,7 +180,8 @@ fn solve_task<T: Threads + Sync, G: Gate>(
     let (header, problem) = pose_problem(alloc, task, rounds, gate)?;
     let kept = lines_kept(form);
     let (answer, account) = solve::<T, Branches, G>(rt, alloc, &problem, workers, kept, gate)?;
-    Ok(with_text(alloc, task, rounds, header, answer, account, form)?)
+    let (outcome, text) = with_text(alloc, task, rounds, header, answer, form)?;
+    Ok(((outcome, account), text))
 }
 
 /// The header of the report about a task, and the problem to solve for it. The complex, of which
@@ -209,31 +211,32 @@ pub fn lines_kept(form: Form) -> KeptLines
     }
 }
 
-/// What a search answers, with the text of the report about it. Where there is no map the report
-/// has the lines that the search kept: in the verdict form none.
-fn with_text(
+/// What a search found, with the text of the report about it. Where there is no map the report has
+/// the lines that the search kept: in the verdict form none.
+pub(crate) fn with_text(
     alloc: Global,
     task: &Task,
     rounds: u32,
     header: Header,
     answer: Answer,
-    account: Account,
     form: Form,
-) -> Result<((Outcome, Account), Vec<u8>), AllocError>
+) -> Result<(Outcome, Vec<u8>), AllocError>
     requires header { IsHead task.now rounds header }
     requires answer { IsAnswer (problem_of task.now rounds) (lines_kept form) answer }
-    requires account { HasAccount (problem_of task.now rounds) answer account }
-    ensures solved { IfOk result (λ r. IsSolved form task.now rounds r.0 r.1.items) }
-    ensures in_order { pool.IsInOrder answer account → IfOk result (λ r. IsInOrder r.0) }
+    ensures found { IfOk result (λ r. IsFound form task.now rounds r.0 r.1.items) }
+    ensures account { (a : Account) → HasAccount (problem_of task.now rounds) answer a
+        → IfOk result (λ r. IsAccountOf task.now rounds r.0 a) }
+    ensures in_order { (a : Account) → pool.IsInOrder answer a
+        → IfOk result (λ r. IsInOrder (r.0, a)) }
 {
     match answer {
         Answer::Map(values, lines) => {
             let text = report_text(alloc, task, rounds, header, map_body(form, values, lines))?;
-            Ok(((Outcome::Map, account), text))
+            Ok((Outcome::Map, text))
         }
         Answer::Nothing(lines) => {
             let text = report_text(alloc, task, rounds, header, Body::Nothing(lines))?;
-            Ok(((Outcome::Nothing, account), text))
+            Ok((Outcome::Nothing, text))
         }
     }
 }

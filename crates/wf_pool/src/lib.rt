@@ -4,7 +4,8 @@
 //! workers share them out; each worker has a seat at the board, where it sees the
 //! least branch that has a map so far, and a share of the handout. Both answer what
 //! the canonical search of the whole problem finds: its least map, or none; and its
-//! lines, if such lines are kept. [`solve_branch`] searches one branch alone.
+//! lines, if such lines are kept; and so does [`solve_root`], which searches the whole problem at
+//! once, where nobody asks for an account of branches. [`solve_branch`] searches one branch alone.
 //!
 //! - `gate`: what a caller may watch and hold of the workers.
 //! - `worker`: a seat, what the worker keeps of what it found, and what
@@ -42,4 +43,4 @@ mod worker;
 pub use answer::{Answer, BranchAnswer, KeptLines};
 pub use gate::{Gate, Moment, Open};
 pub use laws::{a_problem_has_one_answer, searches_have_most_workers};
-pub use solving::{MAX_WORKERS, solve, solve_branch, solve_one, solve_one_watched};
+pub use solving::{MAX_WORKERS, solve, solve_branch, solve_one, solve_one_watched, solve_root};

@@ -23,11 +23,11 @@ use crate::worker::{Finds, Worker};
 use std::alloc::{AllocError, Global};
 use std::thread::Threads;
 use wf_board::{Board, BoardSeat};
-use wf_box::{Answers, Problem};
+use wf_box::{Answers, Box0, Problem};
 use wf_core::Account;
 use wf_handout::Handout;
 use wf_lines::Lines;
-use wf_search::{Cover, Found, split_with};
+use wf_search::{Cover, Found, Never, split_with};
 
 /// The most workers that [`solve`] takes.
 pub const MAX_WORKERS: u32 = 64;
@@ -123,6 +123,21 @@ pub fn solve_one_watched<G: Gate>(
         cut: 0,
     };
     Ok((Answer::Nothing(lines), account))
+}
+
+/// The answer about a problem by one search of its root, which is not cut into branches: what
+/// [`solve_one`] answers, without an account. It starts no thread, and returns. Refused out of
+/// memory alone.
+pub fn solve_root(alloc: Global, problem: &Problem, kept: KeptLines) -> Result<Answer, AllocError>
+    ensures { IfOk result (IsAnswer problem.now kept) }
+{
+    let root = Box0::root(alloc, problem)?;
+    let mut answers = Answers::new(alloc);
+    match find(alloc, problem, kept, root, &mut Never, &mut answers)? {
+        Found::Map(map, lines) => Ok(Answer::Map(map, lines)),
+        Found::Refuted(lines) => Ok(Answer::Nothing(lines)),
+        Found::Stopped => unreachable!(),
+    }
 }
 
 /// What the branch of this number has, from 0: the least of its decision maps, or none. No other

@@ -18,7 +18,7 @@ use Rattle.wf_engine.specs.declared.fault.RunFault.{RunFault}
 use Rattle.wf_engine.specs.declared.fault.RunFault.TheVariants as run
 use Rattle.wf_engine.specs.Faults.{fault_text}
 use Rattle.wf_engine.specs.Run.{Ran}
-use Rattle.wf_engine.specs.Texts.{Solves, Lists, SearchesInOrder, undecided_points}
+use Rattle.wf_engine.specs.Texts.{Finds, Solves, Lists, SearchesInOrder, undecided_points}
 use Rattle.wf_engine.specs.Verify.{Verifies, Decides}
 use Rattle.wf_engine.specs.Models.{Models}
 use Rattle.wf_engine.specs.Proofs.{Refutes}
@@ -98,14 +98,10 @@ abbrev pub outcome_status : Outcome → ℕ
 outcome_status Map = 0
 outcome_status Nothing = 1
 
--- an account that is asked for
-abbrev pub asked_for : Bool → Account → Option Account
-asked_for true a = Some a
-asked_for false a = None
-
-abbrev pub solved : Bool → Result (Outcome × Account) RunFault → Result Done Refusal
-solved tells (Ok (outcome, a)) = Ok (record { status = outcome_status outcome; account = asked_for tells a })
-solved tells (Err e) = Err (Run e)
+-- a search whose account is told, and one without an account
+abbrev pub solved : Result (Outcome × Account) RunFault → Result Done Refusal
+solved (Ok (outcome, a)) = Ok (record { status = outcome_status outcome; account = Some a })
+solved (Err e) = Err (Run e)
 
 abbrev pub searched : Result Outcome RunFault → Result Done Refusal
 searched (Ok outcome) = Ok (record { status = outcome_status outcome; account = None })
@@ -167,9 +163,12 @@ ListsOf text_of rounds folder folder' source source' sink sink' done =
 -- what a job asks for was done, its file among those that may be opened under
 -- its path; without one no file was asked for
 abbrev pub Does : {F : Type 0} → Opens → Job → Filing F → Filing F → Reading → Reading → Writing → Writing → Result Done Refusal → Type 0
-Does opens (Solve rounds workers form account progress) folder folder' source source' sink sink' done =
+Does opens (Solve rounds workers form true progress) folder folder' source source' sink sink' done =
     (result : Result (Outcome × Account) RunFault) × Solves rounds form source source' sink sink' result
-    × (workers ≡ 1 → SearchesInOrder result) × (folder' ≡ folder) × (done ≡ solved account result)
+    × (workers ≡ 1 → SearchesInOrder result) × (folder' ≡ folder) × (done ≡ solved result)
+Does opens (Solve rounds workers form false progress) folder folder' source source' sink sink' done =
+    (result : Result Outcome RunFault) × Finds rounds form source source' sink sink' result
+    × (folder' ≡ folder) × (done ≡ searched result)
 Does opens (SolveBranch rounds branch form progress) folder folder' source source' sink sink' done =
     (result : Result Outcome RunFault) × SolvesBranch rounds branch form source source' sink sink' result
     × (folder' ≡ folder) × (done ≡ searched result)

@@ -50,23 +50,20 @@ pub(crate) fn after_verifying(found: Result<Accepted, RunFault>) -> Result<Done,
     }
 }
 
-/// What is answered after a search, and whether its account is told.
-pub(crate) fn after_solving(
-    found: Result<(Outcome, Account), RunFault>,
-    tells: bool,
-) -> Result<Done, Refusal>
-    ensures { result ≡ solved tells found }
+/// What is answered after a search whose account is told.
+pub(crate) fn after_solving(found: Result<(Outcome, Account), RunFault>) -> Result<Done, Refusal>
+    ensures { result ≡ solved found }
 {
     match found {
         Ok((outcome, account)) => Ok(Done {
             status: status_of(outcome),
-            account: if tells { Some(account) } else { None },
+            account: Some(account),
         }),
         Err(fault) => Err(Refusal::Run(fault)),
     }
 }
 
-/// What is answered after a search of one branch.
+/// What is answered after a search without an account.
 pub(crate) fn after_searching(found: Result<Outcome, RunFault>) -> Result<Done, Refusal>
     ensures { result ≡ searched found }
 {

@@ -4,7 +4,7 @@ ghost use Rattle.std.specs.Prelude.{IfOk, ◌≡◌, ◌<◌, ◌≤◌};
 ghost use Rattle.wf_model.specs.Limits.{most_workers};
 ghost use Rattle.wf_io.specs.Ends.{CanCount, CanWrite};
 ghost use Rattle.wf_io.specs.Texts.{Tells};
-ghost use Rattle.wf_engine.specs.Texts.{SearchesInOrder, Solves};
+ghost use Rattle.wf_engine.specs.Texts.{Finds, SearchesInOrder, Solves};
 ghost use Rattle.wf_branches.specs.Solving.{SolvesBranch};
 ghost use Rattle.wf_args.specs.Job.{CanBeDone};
 ghost use Rattle.wf_program.specs.Files.{CanAsk};
@@ -24,8 +24,8 @@ use wf_args::{Job, WordsFault, read_words};
 use wf_branches::{run_branches, run_cnf_branch, run_solve_branch, run_solve_branch_watched};
 use wf_core::Account;
 use wf_engine::{
-    Form, Outcome, RunFault, hand_out, run_cnf, run_points, run_preset, run_solve,
-    run_solve_watched, run_views,
+    Form, Outcome, RunFault, hand_out, run_cnf, run_find, run_find_watched, run_points, run_preset,
+    run_solve, run_solve_watched, run_views,
 };
 use wf_io::{Sink, Source};
 use wf_pool::Gate;
@@ -96,8 +96,13 @@ fn do_job<T: Threads + Sync, F: Files, G: Gate, R: Read, W: Write>(
             progress,
         } => {
             let gate = if *progress { Some(gate) } else { None };
-            let found = solve_source(rt, alloc, gate, source, sink, *rounds, *workers, *form);
-            after_solving(found, *account)
+            if *account {
+                after_solving(solve_source(rt, alloc, gate, source, sink, *rounds, *workers, *form))
+            } else {
+                after_searching(find_source(
+                    rt, alloc, gate, source, sink, *rounds, *workers, *form,
+                ))
+            }
         }
         Job::SolveBranch {
             rounds,
@@ -152,7 +157,7 @@ fn do_job<T: Threads + Sync, F: Files, G: Gate, R: Read, W: Write>(
     }
 }
 
-/// Decides the source's task. If there is a gate, it is told of the workers.
+/// Decides the source's task, and keeps an account. If there is a gate, it is told of the workers.
 fn solve_source<T: Threads + Sync, G: Gate, R: Read, W: Write>(
     rt: &T,
     alloc: Global,
@@ -171,6 +176,27 @@ fn solve_source<T: Threads + Sync, G: Gate, R: Read, W: Write>(
     match gate {
         Some(gate) => { run_solve_watched(rt, alloc, source, sink, rounds, workers, form, gate) }
         None => run_solve(rt, alloc, source, sink, rounds, workers, form),
+    }
+}
+
+/// Decides the source's task, without an account. If there is a gate, it is told of the workers.
+fn find_source<T: Threads + Sync, G: Gate, R: Read, W: Write>(
+    rt: &T,
+    alloc: Global,
+    gate: Option<&G>,
+    source: &mut Source<R>,
+    sink: &mut Sink<W>,
+    rounds: u32,
+    workers: u32,
+    form: Form,
+) -> Result<Outcome, RunFault>
+    requires ends { CanCount source.old sink.old }
+    requires workers { (0 < workers) × (workers ≤ most_workers) }
+    ensures { Finds rounds form source.old source.new sink.old sink.new result }
+{
+    match gate {
+        Some(gate) => run_find_watched(rt, alloc, source, sink, rounds, workers, form, gate),
+        None => run_find(rt, alloc, source, sink, rounds, workers, form),
     }
 }
 

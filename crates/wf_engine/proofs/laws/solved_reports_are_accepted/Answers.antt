@@ -1,5 +1,5 @@
-use Rattle.wf_engine.proofs.Acceptance.{solved_accepted}
+use Rattle.wf_engine.proofs.Acceptance.{found_accepted}
 use Rattle.wf_engine.proofs.laws.solved_reports_are_accepted.Goals as goal
 
 pub returns : goal.returns
-returns c = solved_accepted
+returns c = found_accepted

@@ -3,25 +3,33 @@ use Rattle.wf_model.specs.Problem.{problem_of}
 use Rattle.wf_lines.specs.Lines.{line_of}
 use Rattle.wf_pool.specs.Answers.{IsAnswer, HasAccount}
 use Rattle.wf_engine.specs.Texts.{text_of_report, lines_kept}
-use Rattle.wf_engine.proofs.Verdicts.{map_verdict, none_verdict}
+use Rattle.wf_engine.proofs.Verdicts.{map_account, map_verdict, none_verdict}
 use Rattle.wf_engine.proofs.solve.with_text.Goals as goal
 
-pub returns-in_ok-text-in-Map-clause-solved : goal.returns-in_ok-text-in-Map-clause-solved
-returns-in_ok-text-in-Map-clause-solved c =
+pub returns-in_ok-text-in-Map-clause-found : goal.returns-in_ok-text-in-Map-clause-found
+returns-in_ok-text-in-Map-clause-found c =
     let t = c.args.task.now in
     let r = c.args.rounds in
     let answer = subst (IsAnswer (problem_of t r) (lines_kept c.args.form)) c.in-Map.is c.requires.answer in
-    let account = subst (λ a. HasAccount (problem_of t r) a c.args.account) c.in-Map.is c.requires.account in
     let lines = map line_of c.in-Map.lines.items in
-    map_verdict t r c.args.form c.in-Map.values.items lines _ c.args.account c.requires.header.task answer.0 answer.1 account
+    map_verdict t r c.args.form c.in-Map.values.items lines _ c.requires.header.task answer.0 answer.1
     (c.in_ok-text-in-Map.ensures ∙ ap (text_of_report t r) c.map_body.ensures)
 
-pub returns-in_ok-text-in-Nothing-clause-solved : goal.returns-in_ok-text-in-Nothing-clause-solved
-returns-in_ok-text-in-Nothing-clause-solved c =
+pub returns-in_ok-text-in-Nothing-clause-found : goal.returns-in_ok-text-in-Nothing-clause-found
+returns-in_ok-text-in-Nothing-clause-found c =
     let t = c.args.task.now in
     let r = c.args.rounds in
     let answer = subst (IsAnswer (problem_of t r) (lines_kept c.args.form)) c.in-Nothing.is c.requires.answer in
-    let account = subst (λ a. HasAccount (problem_of t r) a c.args.account) c.in-Nothing.is c.requires.account in
     let lines = map line_of c.in-Nothing.lines.items in
-    none_verdict t r c.args.form lines _ c.args.account c.requires.header.task answer.0 answer.1 account
+    none_verdict t r c.args.form lines _ c.requires.header.task answer.0 answer.1
     c.in_ok-text-in-Nothing.ensures
+
+pub returns-in_ok-text-in-Map-clause-account : goal.returns-in_ok-text-in-Map-clause-account
+returns-in_ok-text-in-Map-clause-account c a account =
+    let t = c.args.task.now in
+    let r = c.args.rounds in
+    let answer = subst (IsAnswer (problem_of t r) (lines_kept c.args.form)) c.in-Map.is c.requires.answer in
+    map_account t r c.in-Map.values.items a c.requires.header.task answer.0 (subst (λ x. HasAccount (problem_of t r) x a) c.in-Map.is account)
+
+pub returns-in_ok-text-in-Nothing-clause-account : goal.returns-in_ok-text-in-Nothing-clause-account
+returns-in_ok-text-in-Nothing-clause-account c a account = subst (λ x. HasAccount (problem_of c.args.task.now c.args.rounds) x a) c.in-Nothing.is account
