@@ -9,8 +9,6 @@
 #[cfg(test)]
 mod complexes;
 #[cfg(test)]
-mod oracle;
-#[cfg(test)]
 mod simplices;
 #[cfg(test)]
 mod supports;

@@ -1,13 +1,6 @@
 //! Tests of reports and of their checker.
 
-ghost use Rattle.std.specs.Prelude.{◌<◌};
-ghost use Rattle.wf_complex.specs.Protocol.{IsProtocol};
-
-use crate::changes::{CHANGES, Change, changed, line_count};
-use crate::full::{Full, LARGE, SMALL};
-use crate::plain::plain_task;
 use crate::rows::ROWS;
-use crate::{checking, reading};
 use std::alloc::{AllocError, Global};
 use std::fmt::Write;
 use std::test::Fail;
@@ -16,7 +9,6 @@ use wf_check::check;
 use wf_complex::Protocol;
 use wf_examples::PATH_3;
 use wf_lines::{Line, Lines};
-use wf_oracle::{Problem, problem_of};
 use wf_report::{
     Body, CertFault, Header, LONGEST, Report, read_report, reports_are_read_as_written,
     reports_are_written_as_read, write_report,
@@ -26,20 +18,6 @@ use wf_task::Task;
 /// A full report's text.
 const PATH_3_REPORT: &str =
     "wfcheck report 1\nprocesses 2\nrounds 1\npoints 4\nexecutions 5\nanswer map\nm 0\nm 3\nm 2\nm 1\nend\n";
-
-/// What is answered about a text on a task's complex.
-fn answer<R: Threads + Sync>(
-    rt: &R,
-    alloc: Global,
-    task: &Task,
-    protocol: &Protocol,
-    text: &str,
-) -> Result<(), CertFault>
-    requires { IsProtocol task.now protocol.now.rounds protocol.now }
-{
-    let report = read_report(alloc, text.as_bytes())?;
-    check(rt, alloc, task, protocol, &report)
-}
 
 /// What is answered about a text on the complex of the task after the rounds that the text names.
 fn verdict<R: Threads + Sync>(
@@ -65,96 +43,6 @@ fn reports_are_answered(rt: HostRuntime) -> Result<(), Fail> {
         let task = Task::read_text(rt.alloc(), row.task.as_bytes())?;
         let answer = verdict(&rt, rt.alloc(), &task, row.text)?;
         assert_eq!(rt; answer.as_str(), row.answer, "{:?}", row.text);
-    }
-    Ok(())
-}
-
-/// What the plain reader and the plain checker answer about a text.
-fn plain_answer(
-    alloc: Global,
-    processes: u32,
-    rounds: u32,
-    problem: &Problem,
-    text: &str,
-) -> Result<(), CertFault> {
-    let report = reading::read(alloc, text)?;
-    checking::check(alloc, processes, rounds, problem, &report)
-}
-
-/// Whether a text is answered, on the complex of a full report, as by the
-/// plain reader and the plain checker.
-fn is_answered_alike<R: Threads + Sync>(
-    rt: &R,
-    alloc: Global,
-    full: Full,
-    text: &str,
-) -> Result<bool, Fail> {
-    let task = Task::read_text(alloc, full.task.as_bytes())?;
-    let protocol = Protocol::build(alloc, &task, full.rounds)?;
-    let problem = problem_of(alloc, &plain_task(alloc, &task)?, full.rounds as usize)?;
-    let found = answer(rt, alloc, &task, &protocol, text);
-    let processes = u32::from(task.processes());
-    Ok(found == plain_answer(alloc, processes, full.rounds, &problem, text))
-}
-
-/// The first change of a line of a full report that is answered otherwise
-/// than by the plain checker.
-fn difference<R: Threads + Sync>(
-    rt: &R,
-    alloc: Global,
-    full: Full,
-    at: usize,
-) -> Result<Option<Change>, Fail> {
-    for change in &CHANGES {
-        let text = changed(alloc, full.text, at, *change)?;
-        if !is_answered_alike(rt, alloc, full, &text)? {
-            return Ok(Some(*change));
-        }
-    }
-    Ok(None)
-}
-
-/// The first of every so many lines of a full report of which a change is answered otherwise.
-fn differing_line<R: Threads + Sync>(
-    rt: &R,
-    alloc: Global,
-    full: Full,
-    every: usize,
-) -> Result<Option<usize>, Fail>
-    requires { 0 < every }
-{
-    for at in (0..line_count(full.text)).filter(|at| at % every == 0) {
-        if difference(rt, alloc, full, at)?.is_some() {
-            return Ok(Some(at));
-        }
-    }
-    Ok(None)
-}
-
-#[test]
-fn changed_reports_are_answered_as_by_the_plain_checker(rt: HostRuntime) -> Result<(), Fail> {
-    for full in &SMALL {
-        assert_eq!(rt;
-            differing_line(&rt, rt.alloc(), *full, 1)?,
-            None,
-            "{}",
-            full.text
-        );
-    }
-    Ok(())
-}
-
-#[test]
-fn changes_of_large_reports_are_answered_as_by_the_plain_checker(
-    rt: HostRuntime,
-) -> Result<(), Fail> {
-    for full in &LARGE {
-        assert_eq!(rt;
-            differing_line(&rt, rt.alloc(), *full, 150)?,
-            None,
-            "{}",
-            full.task
-        );
     }
     Ok(())
 }

@@ -1,1 +1,0 @@
-//! Task files, as they are read.
