@@ -11,8 +11,8 @@ use wf_cnf::ModelFault;
 use wf_complex::BuildFault;
 use wf_core::Account;
 use wf_engine::{
-    Form, MAX_WORKERS, Outcome, RunFault, run_cnf, run_decisions, run_model, run_points, run_proof,
-    run_solve, run_solve_one, run_verify, run_views,
+    Form, MAX_WORKERS, Outcome, RunFault, run_cnf, run_decisions, run_find, run_model, run_points,
+    run_proof, run_solve, run_solve_one, run_verify, run_views,
 };
 use wf_examples::{PATH_2, RENAMING_2_2};
 use wf_io::{Sink, Source};
@@ -59,6 +59,8 @@ const REFUTED: &str = "accepted none at 1 round\n";
 pub enum Engine {
     /// The search, by so many workers.
     Solve(u32, Form),
+    /// The search without an account, by so many workers.
+    Find(u32, Form),
     Views,
     Points,
     Cnf,
@@ -86,6 +88,10 @@ impl Engine {
             Engine::Solve(workers, form) => {
                 let workers = workers.clamp(1, MAX_WORKERS);
                 run_solve(rt, alloc, task, sink, rounds, workers, form).err()
+            }
+            Engine::Find(workers, form) => {
+                let workers = workers.clamp(1, MAX_WORKERS);
+                run_find(rt, alloc, task, sink, rounds, workers, form).err()
             }
             Engine::Views => run_views(alloc, task, sink, rounds).err(),
             Engine::Points => run_points(alloc, task, sink, rounds).err(),
@@ -169,10 +175,11 @@ pub(crate) fn run(
 /// What an engine is asked: a task, a text about it or none, and the number of rounds.
 pub(crate) type Asked = (Engine, &'static str, &'static str, u32);
 
-/// One of each engine that is tried with calls that fail, and what it writes: a search by one
-/// worker, one by three, the two listings, the question as a formula, and the check of a proof.
+/// One of each engine that is tried with calls that fail, and what it writes: a search of the root
+/// by one worker, one by three, the two listings, the question as a formula, and the check of a
+/// proof.
 pub(crate) static ENGINES: [(Asked, &str); 6] = [
-    ((Engine::Solve(1, Form::Verdict), ONE, "", 8), REPORT),
+    ((Engine::Find(1, Form::Verdict), ONE, "", 8), REPORT),
     ((Engine::Solve(3, Form::Full), ONE, "", 8), REPORT),
     ((Engine::Views, ONE, "", 8), LIST),
     ((Engine::Points, ONE, "", 8), TOLD),
@@ -183,8 +190,11 @@ pub(crate) static ENGINES: [(Asked, &str); 6] = [
 ];
 
 /// What else engines write of a task.
-static ANSWERED: [(Asked, &str); 7] = [
+static ANSWERED: [(Asked, &str); 10] = [
+    ((Engine::Solve(1, Form::Full), ONE, "", 8), REPORT),
     ((Engine::Solve(1, Form::Least), PATH_2, "", 1), LEAST),
+    ((Engine::Find(1, Form::Least), PATH_2, "", 1), LEAST),
+    ((Engine::Find(2, Form::Least), PATH_2, "", 1), LEAST),
     ((Engine::Solve(2, Form::Least), PATH_2, "", 1), LEAST),
     ((Engine::Verify(None), PATH_2, LEAST, 1), "accepted least\n"),
     (
@@ -279,7 +289,7 @@ fn a_task_is_refused_before_another_text_is_read(rt: HostRuntime) -> Result<(), 
     let json = RunFault::Task(TaskFault::NotJson);
     for (task, rounds, fault) in [(ONE, 9, rounds), ("{", 1, json), ("", 1, json)] {
         for engine in [
-            Engine::Solve(1, Form::Verdict),
+            Engine::Find(1, Form::Verdict),
             Engine::Solve(3, Form::Full),
             Engine::Views,
             Engine::Points,
