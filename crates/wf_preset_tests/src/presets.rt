@@ -9,6 +9,67 @@ use std::test::Fail;
 use wf_preset::{Inputs, renaming, set_agreement};
 use wf_task::{Limit, TaskFault};
 
+/// Processes and k of set agreement tasks, with their inputs and their texts.
+static AGREEMENT_TEXTS: [(u32, u32, Inputs, &str); 4] = [
+    (2, 1, Inputs::Own, CONSENSUS_OF_TWO),
+    (2, 1, Inputs::All(2), CONSENSUS_OF_TWO_ON_BITS),
+    (3, 2, Inputs::Own, TWO_SET_AGREEMENT),
+    (3, 3, Inputs::Own, THREE_SET_AGREEMENT),
+];
+
+/// Processes and names of renaming tasks, with their texts.
+static RENAMING_TEXTS: [(u32, u32, &str); 3] = [
+    (2, 2, TWO_NAMES),
+    (2, 1, ONE_NAME),
+    (3, 6, SIX_NAMES),
+];
+
+const VERTICES: TaskFault = TaskFault::TooMany(Limit::Vertices);
+
+const SIMPLICES: TaskFault = TaskFault::TooMany(Limit::Simplices);
+
+const OUTPUTS: TaskFault = TaskFault::TooMany(Limit::Outputs);
+
+const TUPLES: TaskFault = TaskFault::TooMany(Limit::Tuples);
+
+/// How set agreement is refused: numbers out of bounds, and too many inputs or tuples.
+static AGREEMENTS: [(u32, u32, Inputs, Option<TaskFault>); 17] = [
+    (0, 1, Inputs::Own, Some(TaskFault::Processes)),
+    (5, 1, Inputs::Own, Some(TaskFault::Processes)),
+    (5, 0, Inputs::All(0), Some(TaskFault::Processes)),
+    (2, 0, Inputs::Own, Some(TaskFault::Value)),
+    (2, 1, Inputs::All(0), Some(TaskFault::Value)),
+    (2, 1, Inputs::All(65), Some(TaskFault::Value)),
+    (1, 1, Inputs::All(64), None),
+    (2, 2, Inputs::All(32), None),
+    (2, 1, Inputs::All(33), Some(VERTICES)),
+    (4, 1, Inputs::All(64), Some(VERTICES)),
+    (4, 1, Inputs::All(17), Some(VERTICES)),
+    (4, 1, Inputs::All(16), Some(SIMPLICES)),
+    (3, 3, Inputs::All(16), Some(SIMPLICES)),
+    (3, 3, Inputs::All(22), Some(VERTICES)),
+    (4, 1, Inputs::All(8), Some(SIMPLICES)),
+    (4, 4, Inputs::All(7), Some(TUPLES)),
+    (3, 4_294_967_295, Inputs::All(14), Some(TUPLES)),
+];
+
+/// How renaming is refused: numbers out of bounds, and too many outputs or tuples. Two processes
+/// may have all names, and four of them sixteen.
+static RENAMINGS: [(u32, u32, Option<TaskFault>); 12] = [
+    (0, 1, Some(TaskFault::Processes)),
+    (5, 65, Some(TaskFault::Processes)),
+    (2, 0, Some(TaskFault::Value)),
+    (2, 65, Some(TaskFault::Value)),
+    (3, 42, Some(OUTPUTS)),
+    (4, 18, Some(OUTPUTS)),
+    (4, 64, Some(OUTPUTS)),
+    (3, 41, Some(TUPLES)),
+    (4, 17, Some(TUPLES)),
+    (1, 64, None),
+    (2, 64, None),
+    (4, 16, None),
+];
+
 /// The text of a set agreement task.
 fn agreement_text(
     alloc: Global,
@@ -28,14 +89,8 @@ fn renaming_text(alloc: Global, processes: u32, names: u32) -> Result<Vec<u8>, T
 
 #[test]
 fn set_agreement_tasks_have_their_texts(rt: HostRuntime) -> Result<(), Fail> {
-    let rows = [
-        (2, 1, Inputs::Own, CONSENSUS_OF_TWO),
-        (2, 1, Inputs::All(2), CONSENSUS_OF_TWO_ON_BITS),
-        (3, 2, Inputs::Own, TWO_SET_AGREEMENT),
-        (3, 3, Inputs::Own, THREE_SET_AGREEMENT),
-    ];
-    for (processes, k, inputs, text) in rows {
-        let written = agreement_text(rt.alloc(), processes, k, inputs)?;
+    for (processes, k, inputs, text) in &AGREEMENT_TEXTS {
+        let written = agreement_text(rt.alloc(), *processes, *k, *inputs)?;
         assert_eq!(rt; written.as_slice(), text.as_bytes());
     }
     Ok(())
@@ -43,106 +98,27 @@ fn set_agreement_tasks_have_their_texts(rt: HostRuntime) -> Result<(), Fail> {
 
 #[test]
 fn renaming_tasks_have_their_texts(rt: HostRuntime) -> Result<(), Fail> {
-    let rows = [(2, 2, TWO_NAMES), (2, 1, ONE_NAME), (3, 6, SIX_NAMES)];
-    for (processes, names, text) in rows {
-        let written = renaming_text(rt.alloc(), processes, names)?;
+    for (processes, names, text) in &RENAMING_TEXTS {
+        let written = renaming_text(rt.alloc(), *processes, *names)?;
         assert_eq!(rt; written.as_slice(), text.as_bytes());
     }
     Ok(())
 }
 
 #[test]
-fn numbers_out_of_bounds_are_refused(rt: HostRuntime) {
-    let alloc = rt.alloc();
-    let agreements = [
-        (0, 1, Inputs::Own, TaskFault::Processes),
-        (5, 1, Inputs::Own, TaskFault::Processes),
-        (5, 0, Inputs::All(0), TaskFault::Processes),
-        (2, 0, Inputs::Own, TaskFault::Value),
-        (2, 1, Inputs::All(0), TaskFault::Value),
-        (2, 1, Inputs::All(65), TaskFault::Value),
-    ];
-    for (processes, k, inputs, fault) in agreements {
-        assert_eq!(rt;
-            set_agreement(alloc, processes, k, inputs).err(),
-            Some(fault)
-        );
-    }
-    let renamings = [
-        (0, 1, TaskFault::Processes),
-        (5, 65, TaskFault::Processes),
-        (2, 0, TaskFault::Value),
-        (2, 65, TaskFault::Value),
-    ];
-    for (processes, names, fault) in renamings {
-        assert_eq!(rt; renaming(alloc, processes, names).err(), Some(fault));
-    }
-}
-
-/// The refusal of set agreement where each process has any of so many values.
-fn agreement_fault(alloc: Global, processes: u32, k: u32, values: u32) -> Option<TaskFault> {
-    set_agreement(alloc, processes, k, Inputs::All(values)).err()
-}
-
-#[test]
-fn set_agreement_is_judged_by_its_inputs(rt: HostRuntime) {
-    let rows = [
-        (1, 1, 64, None),
-        (2, 2, 32, None),
-        (2, 1, 33, Some(Limit::Vertices)),
-        (4, 1, 64, Some(Limit::Vertices)),
-        (4, 1, 17, Some(Limit::Vertices)),
-        (4, 1, 16, Some(Limit::Simplices)),
-        (3, 3, 16, Some(Limit::Simplices)),
-        (3, 3, 22, Some(Limit::Vertices)),
-    ];
-    for (processes, k, values, limit) in rows {
-        let fault = limit.map(TaskFault::TooMany);
-        assert_eq!(rt;
-            agreement_fault(rt.alloc(), processes, k, values),
-            fault,
-            "at {processes} {k} {values}"
-        );
+fn set_agreement_is_judged_by_its_numbers(rt: HostRuntime) {
+    for (processes, k, inputs, fault) in &AGREEMENTS {
+        let found = set_agreement(rt.alloc(), *processes, *k, *inputs).err();
+        assert_eq!(rt; found, *fault, "at {processes} {k} {inputs:?}");
     }
 }
 
 #[test]
-fn set_agreement_of_four_on_eight_values_has_too_many_simplices(rt: HostRuntime) {
-    let fault = Some(TaskFault::TooMany(Limit::Simplices));
-    assert_eq!(rt; agreement_fault(rt.alloc(), 4, 1, 8), fault);
-}
-
-#[test]
-fn set_agreement_is_judged_by_its_tuples(rt: HostRuntime) {
-    let fault = Some(TaskFault::TooMany(Limit::Tuples));
-    assert_eq!(rt; agreement_fault(rt.alloc(), 4, 4, 7), fault);
-    assert_eq!(rt; agreement_fault(rt.alloc(), 3, 4_294_967_295, 14), fault);
-}
-
-#[test]
-fn renaming_is_judged_by_its_outputs(rt: HostRuntime) {
-    let fault = Some(TaskFault::TooMany(Limit::Outputs));
-    assert_eq!(rt; renaming(rt.alloc(), 3, 42).err(), fault);
-    assert_eq!(rt; renaming(rt.alloc(), 4, 18).err(), fault);
-    assert_eq!(rt; renaming(rt.alloc(), 4, 64).err(), fault);
-}
-
-#[test]
-fn renaming_is_judged_by_its_tuples(rt: HostRuntime) {
-    let fault = Some(TaskFault::TooMany(Limit::Tuples));
-    assert_eq!(rt; renaming(rt.alloc(), 3, 41).err(), fault);
-    assert_eq!(rt; renaming(rt.alloc(), 4, 17).err(), fault);
-}
-
-#[test]
-fn renaming_of_two_processes_may_have_all_names(rt: HostRuntime) {
-    assert_eq!(rt; renaming(rt.alloc(), 1, 64).err(), None);
-    assert_eq!(rt; renaming(rt.alloc(), 2, 64).err(), None);
-}
-
-#[test]
-fn renaming_of_four_processes_may_have_sixteen_names(rt: HostRuntime) {
-    assert_eq!(rt; renaming(rt.alloc(), 4, 16).err(), None);
+fn renaming_is_judged_by_its_numbers(rt: HostRuntime) {
+    for (processes, names, fault) in &RENAMINGS {
+        let found = renaming(rt.alloc(), *processes, *names).err();
+        assert_eq!(rt; found, *fault, "at {processes} {names}");
+    }
 }
 
 #[test]
