@@ -1,0 +1,29 @@
+//! Tasks on their protocol complexes, and the texts of their questions.
+
+ghost use Rattle.std.specs.Prelude.{IfOk};
+ghost use Rattle.wf_complex.specs.Protocol.{IsProtocol};
+
+use std::alloc::Global;
+use std::test::Fail;
+use wf_cnf::Question;
+use wf_complex::Protocol;
+use wf_io::Sink;
+use wf_task::Task;
+
+/// The task of a text, and its complex after some rounds.
+pub(crate) fn joined(alloc: Global, text: &str, rounds: u32) -> Result<(Task, Protocol), Fail>
+    ensures { IfOk result (λ r. IsProtocol r.0 r.1.rounds r.1) }
+{
+    let task = Task::read_text(alloc, text.as_bytes())?;
+    let protocol = Protocol::build(alloc, &task, rounds)?;
+    Ok((task, protocol))
+}
+
+/// Whether a question is written, and has this text.
+pub(crate) fn has_text(alloc: Global, question: Question<'_>, text: &str) -> bool {
+    let mut written = Vec::new(alloc);
+    let mut sink = Sink::new(&mut written);
+    let is_whole = question.write(&mut sink).is_ok();
+    drop(sink);
+    is_whole && written.as_slice() == text.as_bytes()
+}
