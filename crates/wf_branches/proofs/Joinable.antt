@@ -125,7 +125,7 @@ module _ (asked : Form) (shows : asked ≢ form.Verdict) (t : Task) (r : ℕ) (i
         account = record { branches = n; least = n; searched = n; cut = 0 };
         solved = (
           none_verdict t r asked kept (text_of_report t r (none (filled (outline (problem_of t r)) lists))) is nothing refl
-          (ap (λ x. text_of_report t r (none x)) (sym same) ∙ ap (text_of_report t r) (sym (none_shown asked kept all_lines refl ∙ shown asked shows all_lines))),
+              (ap (λ x. text_of_report t r (none x)) (sym same) ∙ ap (text_of_report t r) (sym (none_shown asked kept all_lines refl ∙ shown asked shows all_lines))),
           record { branches = refl; least = refl; searched = refl; cut = refl },
         );
         clear = subst (λ x. report_fault t r (report_about t r (none x)) ≡ None) same (canonical_none_accepted t r is nothing);
@@ -163,7 +163,7 @@ module _ (asked : Form) (shows : asked ≢ form.Verdict) (t : Task) (r : ℕ) (i
           account = in_order;
           solved = (
             map_verdict t r asked (listed t r m) kept _ is found refl
-            (ap (text_of_report t r) (body ∙ ap (map_body asked (listed t r m)) (sym same) ∙ sym (kept_shown asked (listed t r m) kept all_lines refl))),
+                (ap (text_of_report t r) (body ∙ ap (map_body asked (listed t r m)) (sym same) ∙ sym (kept_shown asked (listed t r m) kept all_lines refl))),
             map_account t r (listed t r m) in_order is found has_account,
           );
           clear = subst (λ x. report_fault t r (report_about t r x) ≡ None) (sym body) (map_clear asked t r m lines is is_least.decides whole_map);
