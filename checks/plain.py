@@ -1,5 +1,5 @@
 #!/usr/bin/env python3
-"""verdict.py TASK [--rounds R] < REPORT: what is said of a report about a task, straight from docs/FORMAT.md.
+"""plain.py TASK [--rounds R] < REPORT: what is said of a report about a task, straight from docs/FORMAT.md.
 
 What `wfcheck verify` answers, byte for byte, and slowly: it shares nothing with the program, and is here to be read. A line is cut
 at its spaces. A box is a set of values for each point, each box that is left is copied, and each tuple is tried for each value. The
@@ -153,7 +153,7 @@ def accepted(task, text, rounds=None):
     return f"accepted {answer}" if rounds is None else f"accepted {answer} at {rounds} round{'s' if rounds != 1 else ''}"
 
 
-def verdict(task, text, rounds=None):
+def judged(task, text, rounds=None):
     """What `verify` writes, what it tells, and its status, of the bytes of a task's file and of a report."""
     try:
         return f"{accepted(lint.read(task)[0], text, rounds)}\n".encode(), b"", 0
@@ -169,7 +169,7 @@ def main():
     script.add_argument("task", type=pathlib.Path, metavar="TASK")
     script.add_argument("--rounds", type=int, metavar="R", help="the rounds that the report has to be about")
     asked = script.asked()
-    written, told, status = verdict(asked.task.read_bytes(), sys.stdin.buffer.read(), asked.rounds)
+    written, told, status = judged(asked.task.read_bytes(), sys.stdin.buffer.read(), asked.rounds)
     sys.stdout.write(written.decode())
     sys.stderr.write(told.decode())
     return status
