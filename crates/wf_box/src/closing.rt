@@ -10,23 +10,25 @@ ghost use Rattle.wf_box.specs.Changes.{KeepsTrack, sets_in};
 ghost use Rattle.wf_box.specs.Marks.{KeepsBitsBut, bit_of};
 ghost use Rattle.wf_box.specs.Quiet.{EmptiesNoneSince, IsUntouchedSince, MarksTell, StoodClosed};
 ghost use Rattle.wf_set.specs.Sets.{box_of};
-ghost use Rattle.wf_box.specs.Problems.{IsNetwork, constraint_in, constraints_in};
+ghost use Rattle.wf_lane.specs.Table.{HasSupported};
+ghost use Rattle.wf_box.specs.Problems.{IsNetwork, constraint_in, constraints_in, rule_in};
 ghost use Rattle.wf_box.specs.Steps.{ClosesTo, NamesAll, NamesAt, NamesIn, NamesLost, Reaches, SweepsTo, TakesEach, box_in, point_if, revision};
 ghost use Rattle.wf_box.specs.Closes.{AddsClosing, AreFew, IsEmptied, IsSupported, KeepsSolutions, Leaves, LosesNamed, Takes, emptied_by, sweeps_to_close};
-ghost use Rattle.wf_box.specs.Revising.{AreSame, found_at};
+ghost use Rattle.wf_box.specs.Revising.{AreSame, found_at, found_in, widened};
 ghost use Rattle.wf_box.specs.Working.{AreMarked, AreSilent, IsQuietAt, IsWorkingFor, IsWorkingOn, LeavesOthersUntouched, LeavesUntouched, ProceedsFor, ProceedsOn};
 
 use crate::boxed::Box0;
 use crate::marks::Marks;
 use crate::problem::{Network, PackedExecution, Problem};
-use crate::revising::{candidates_at, supported_at};
+use crate::revising::{candidates_at, narrowed, supported_narrow, supported_sets, widened};
 use crate::taking::{Occurrence, put, take_each};
 use crate::tracked::Tracked;
 use crate::workspace::Workspace;
 use std::alloc::{AllocError, Global};
 use wf_lane::first_empty;
 use wf_lines::{Line, Lines};
-use wf_set::{Mask, difference, is_empty};
+use wf_set::part::{self, Part};
+use wf_set::{Mask, difference, is_empty, of_part};
 
 /// How closing ended.
 #[derive(Clone, Copy, Debug, PartialEq, Eq)]
@@ -274,13 +276,147 @@ fn revise(
     ensures named { NamesIn network.now number lines.old workspace.old lines.new workspace.new }
 {
     let execution = network.executions[number as usize];
-    let rule = &network.rules[execution.rule as usize];
-    let sets = &workspace.tracked.words;
-    let Some(supported) = supported_at(number, sets, network, &mut workspace.memo) else {
+    let found = candidates_at(execution, &workspace.tracked.words);
+    match narrowed(found) {
+        Some(parts) => revise_parts(number, parts, network, workspace, lines),
+        None => revise_sets(number, found, network, workspace, lines),
+    }
+}
+
+/// The same, with these candidates, all of them below 64.
+fn revise_parts(
+    number: u32,
+    found: [Part; 4],
+    network: &Network,
+    workspace: &mut Workspace,
+    lines: &mut Lines,
+) -> Option<u32>
+    requires network { IsNetwork network.now }
+    requires number { number < length network.now.executions.items }
+    requires working { IsWorkingOn network.now lines.old workspace.old }
+    requires long { length found ≡ 4 }
+    requires found { widened found
+        ≡ found_in network.now number workspace.old.tracked.words.items }
+    ensures step { Reaches (revision number (constraint_in network.now number))
+        lines.old workspace.old lines.new workspace.new result }
+    ensures proceeds { ProceedsOn network.now
+        lines.old workspace.old lines.new workspace.new result }
+    ensures untouched { LeavesOthersUntouched network.now number workspace.old workspace.new }
+    ensures quiet { IfNone result (IsQuietAt network.now number workspace.new) }
+    ensures named { NamesIn network.now number lines.old workspace.old lines.new workspace.new }
+{
+    let Some(supported) = supported_narrow(number, found, network, &mut workspace.memo) else {
         // what most executions lose is nothing
         return None;
     };
-    let found = candidates_at(execution, &workspace.tracked.words);
+    take_parts(number, found, supported, network, workspace, lines)
+}
+
+/// The same, where these of them are supported.
+fn take_parts(
+    number: u32,
+    found: [Part; 4],
+    supported: [Part; 4],
+    network: &Network,
+    workspace: &mut Workspace,
+    lines: &mut Lines,
+) -> Option<u32>
+    requires network { IsNetwork network.now }
+    requires number { number < length network.now.executions.items }
+    requires working { IsWorkingOn network.now lines.old workspace.old }
+    requires found { widened found
+        ≡ found_in network.now number workspace.old.tracked.words.items }
+    requires long { length found ≡ 4 }
+    requires supported_long { length supported ≡ 4 }
+    requires supported { HasSupported (widened supported)
+        (rule_in network.now number).table (widened found) }
+    ensures step { Reaches (revision number (constraint_in network.now number))
+        lines.old workspace.old lines.new workspace.new result }
+    ensures proceeds { ProceedsOn network.now
+        lines.old workspace.old lines.new workspace.new result }
+    ensures untouched { LeavesOthersUntouched network.now number workspace.old workspace.new }
+    ensures quiet { IfNone result (IsQuietAt network.now number workspace.new) }
+    ensures named { NamesIn network.now number lines.old workspace.old lines.new workspace.new }
+{
+    let execution = network.executions[number as usize];
+    let rule = &network.rules[execution.rule as usize];
+    let processes = rule.simplex.colours();
+    'places: for place in 0..processes {
+        let lost = part::difference(found[place as usize], supported[place as usize]);
+        if part::is_empty(lost) {
+            continue;
+        }
+        let at = Occurrence {
+            execution: number,
+            process: rule.simplex.colour(place),
+            point: execution.points[place as usize],
+        };
+        if take_place(of_part(lost), at, network, workspace, lines) {
+            return Some(at.point);
+        }
+    }
+    let sets = &workspace.tracked.words;
+    unmark(
+        number,
+        processes,
+        execution,
+        sets,
+        widened(supported),
+        &mut workspace.marks,
+    );
+    None
+}
+
+/// The same, with these candidates, of which one is 64 or more.
+fn revise_sets(
+    number: u32,
+    found: [Mask; 4],
+    network: &Network,
+    workspace: &mut Workspace,
+    lines: &mut Lines,
+) -> Option<u32>
+    requires network { IsNetwork network.now }
+    requires number { number < length network.now.executions.items }
+    requires working { IsWorkingOn network.now lines.old workspace.old }
+    requires long { length found ≡ 4 }
+    requires found { found ≡ found_in network.now number workspace.old.tracked.words.items }
+    ensures step { Reaches (revision number (constraint_in network.now number))
+        lines.old workspace.old lines.new workspace.new result }
+    ensures proceeds { ProceedsOn network.now
+        lines.old workspace.old lines.new workspace.new result }
+    ensures untouched { LeavesOthersUntouched network.now number workspace.old workspace.new }
+    ensures quiet { IfNone result (IsQuietAt network.now number workspace.new) }
+    ensures named { NamesIn network.now number lines.old workspace.old lines.new workspace.new }
+{
+    let supported = supported_sets(number, found, network, &mut workspace.memo);
+    take_sets(number, found, supported, network, workspace, lines)
+}
+
+/// The same, where these of them are supported.
+fn take_sets(
+    number: u32,
+    found: [Mask; 4],
+    supported: [Mask; 4],
+    network: &Network,
+    workspace: &mut Workspace,
+    lines: &mut Lines,
+) -> Option<u32>
+    requires network { IsNetwork network.now }
+    requires number { number < length network.now.executions.items }
+    requires working { IsWorkingOn network.now lines.old workspace.old }
+    requires found { found ≡ found_in network.now number workspace.old.tracked.words.items }
+    requires long { length found ≡ 4 }
+    requires supported { HasSupported supported (rule_in network.now number).table found }
+    ensures step { Reaches (revision number (constraint_in network.now number))
+        lines.old workspace.old lines.new workspace.new result }
+    ensures proceeds { ProceedsOn network.now
+        lines.old workspace.old lines.new workspace.new result }
+    ensures untouched { LeavesOthersUntouched network.now number workspace.old workspace.new }
+    ensures quiet { IfNone result (IsQuietAt network.now number workspace.new) }
+    ensures named { NamesIn network.now number lines.old workspace.old lines.new workspace.new }
+{
+    let execution = network.executions[number as usize];
+    let rule = &network.rules[execution.rule as usize];
     let processes = rule.simplex.colours();
     'places: for place in 0..processes {
         let lost = difference(found[place as usize], supported[place as usize]);
