@@ -14,21 +14,21 @@ ghost use Rattle.wf_lane.specs.Table.{HasSupported};
 ghost use Rattle.wf_box.specs.Problems.{IsNetwork, constraint_in, constraints_in, rule_in};
 ghost use Rattle.wf_box.specs.Steps.{ClosesTo, NamesAll, NamesAt, NamesIn, NamesLost, Reaches, SweepsTo, TakesEach, box_in, point_if, revision};
 ghost use Rattle.wf_box.specs.Closes.{AddsClosing, AreFew, IsEmptied, IsSupported, KeepsSolutions, Leaves, LosesNamed, Takes, emptied_by, sweeps_to_close};
-ghost use Rattle.wf_box.specs.Revising.{AreSame, found_at, found_in, widened};
+ghost use Rattle.wf_box.specs.Revising.{AreSame, found_at, found_in, wide_set, widened};
 ghost use Rattle.wf_box.specs.Working.{AreMarked, AreSilent, IsQuietAt, IsWorkingFor, IsWorkingOn, LeavesOthersUntouched, LeavesUntouched, ProceedsFor, ProceedsOn};
 
 use crate::boxed::Box0;
 use crate::marks::Marks;
 use crate::problem::{Network, PackedExecution, Problem};
 use crate::revising::{candidates_at, narrowed, supported_narrow, supported_sets, widened};
-use crate::taking::{Occurrence, put, take_each};
+use crate::taking::{Occurrence, put, take_each, take_each_part};
 use crate::tracked::Tracked;
 use crate::workspace::Workspace;
 use std::alloc::{AllocError, Global};
 use wf_lane::first_empty;
 use wf_lines::{Line, Lines};
 use wf_set::part::{self, Part};
-use wf_set::{Mask, difference, is_empty, of_part};
+use wf_set::{Mask, difference, is_empty};
 
 /// How closing ended.
 #[derive(Clone, Copy, Debug, PartialEq, Eq)]
@@ -351,7 +351,7 @@ fn take_parts(
             process: rule.simplex.colour(place),
             point: execution.points[place as usize],
         };
-        if take_place(of_part(lost), at, network, workspace, lines) {
+        if take_part(lost, at, network, workspace, lines) {
             return Some(at.point);
         }
     }
@@ -518,5 +518,36 @@ fn take_place(
     }
     workspace.tracked.note(place.point, before);
     workspace.marks.mark_each(network.users_of(place.point));
+    emptied
+}
+
+/// The same of values below 64.
+fn take_part(
+    lost: Part,
+    place: Occurrence,
+    network: &Network,
+    workspace: &mut Workspace,
+    lines: &mut Lines,
+) -> bool
+    requires network { IsNetwork network.now }
+    requires point { place.point < network.now.points }
+    requires working { IsWorkingOn network.now lines.old workspace.old }
+    ensures step { TakesEach (wide_set lost) place lines.old workspace.old.tracked.words.items
+        lines.new workspace.new.tracked.words.items result }
+    ensures proceeds { ProceedsOn network.now
+        lines.old workspace.old lines.new workspace.new (point_if result place.point) }
+    ensures untouched { LeavesUntouched network.now workspace.old workspace.new }
+    ensures silent { AreSilent network.now place.point workspace.old workspace.new }
+    ensures named { NamesAt place lines.old workspace.old.tracked.words.items
+        lines.new workspace.new.tracked.words.items }
+{
+    let before = workspace.tracked.words[place.point as usize];
+    let emptied = take_each_part(lost, place, &mut workspace.tracked.words, lines);
+    if workspace.tracked.words[place.point as usize] == before {
+        return emptied;
+    }
+    workspace.tracked.note(place.point, before);
+    let users = network.users_of(place.point);
+    workspace.marks.mark_each(users);
     emptied
 }

@@ -30,50 +30,50 @@ places-init c = (
   λ none. refl,
 )
 
-pub take_place-requires-clause-point : goal.take_place-requires-clause-point
-take_place-requires-clause-point c =
+pub take_part-requires-clause-point : goal.take_part-requires-clause-point
+take_part-requires-clause-point c =
     let within = execution_within c.args.network.now c.args.number c.index.result.now c.requires.network c.requires.number c.index.ensures in
     within.points_within c.places.place 0 (omega (arith, c.places-test.true, c.colours-processes.ensures.few, within.long))
 
-pub take_place-requires-clause-working : goal.take_place-requires-clause-working
-take_place-requires-clause-working c = still_working _ _ _ _ _ _ c.places.invariant.2
+pub take_part-requires-clause-working : goal.take_part-requires-clause-working
+take_part-requires-clause-working c = still_working _ _ _ _ _ _ c.places.invariant.2
 
-pub returns-then-take_place-clause-named : goal.returns-then-take_place-clause-named
-returns-then-take_place-clause-named c =
+pub returns-then-take_part-clause-named : goal.returns-then-take_part-clause-named
+returns-then-take_part-clause-named c =
     let n = c.args.network.now in
     let x = c.index.result.now in
     let rule = c.index-rule.result.now in
     let words = c.args.workspace.now.tracked.words.items in
     let inside = execution_within n c.args.number x c.requires.network c.requires.number c.index.ensures in
     let known = known_at n.rules.items n.points x rule inside c.requires.network.wide c.index-rule.ensures in
-    let named : (p : Problem) → constraint_at p c.args.number ≡ constraint_seen n.rules.items x → NamesLost p c.args.lines.now c.args.workspace.now c.take_place.new.lines c.take_place.new.workspace = λ p at.
+    let named : (p : Problem) → constraint_at p c.args.number ≡ constraint_seen n.rules.items x → NamesLost p c.args.lines.now c.args.workspace.now c.take_part.new.lines c.take_part.new.workspace = λ p at.
     named_then p _ _ _ _ _ _ (c.places.invariant.0 p at)
-    (c.take_place.ensures.named p (point_of_place p n.rules.items x rule n.points c.args.number c.places.place c.colour.result known inside c.colours-processes.ensures.simplex
+    (c.take_part.ensures.named p (point_of_place p n.rules.items x rule n.points c.args.number c.places.place c.colour.result known inside c.colours-processes.ensures.simplex
     (omega (arith, c.colours-processes.ensures.count, c.colours-processes.ensures.few)) (omega (arith, c.colours-processes.ensures.count, c.places-test.true)) c.colour.ensures at)) in
     let seen : constraint_in n c.args.number ≡ constraint_seen n.rules.items x = ap (constraint_seen n.rules.items) (execution_is n c.args.number x c.requires.number c.index.ensures) in
     λ p at. named p (at ∙ seen)
 
-pub returns-then-take_place-clause-step : goal.returns-then-take_place-clause-step
-returns-then-take_place-clause-step c =
+pub returns-then-take_part-clause-step : goal.returns-then-take_part-clause-step
+returns-then-take_part-clause-step c =
     let n = c.args.network.now in
     let x = c.index.result.now in
     let rule = c.index-rule.result.now in
     let words = c.args.workspace.now.tracked.words.items in
     let inside = execution_within n c.args.number x c.requires.network c.requires.number c.index.ensures in
     let known = known_at n.rules.items n.points x rule inside c.requires.network.wide c.index-rule.ensures in
-    let step = ap (λ b. reached c.take_place.new.lines.items (point_if b (get_or x.points c.places.place 0)) c.take_place.new.workspace.tracked.words.items) (sym c.if-take_place.true) ∙ c.take_place.ensures.step in
-    let done = place_done n.rules.items x rule words (widened c.args.found) (widened c.args.supported) c.args.number c.places.place c.colour.result c.of_part.result
+    let step = ap (λ b. reached c.take_part.new.lines.items (point_if b (get_or x.points c.places.place 0)) c.take_part.new.workspace.tracked.words.items) (sym c.if-take_part.true) ∙ c.take_part.ensures.step in
+    let done = place_done n.rules.items x rule words (widened c.args.found) (widened c.args.supported) c.args.number c.places.place c.colour.result (wide_set c.difference-lost.result)
     (reached c.places.lines.items None c.places.workspace.tracked.words.items) _ known (subst (λ m. IsWithin (length n.rules.items) m x) (sym c.requires.working.long) inside) (omega (arith, c.colours-processes.ensures.count, c.colours-processes.ensures.few)) (omega (arith, c.colours-processes.ensures.count, c.places-test.true))
-    (found_now n c.args.number x words (widened c.args.found) c.requires.number c.index.ensures c.requires.found) (supported_now n c.args.number x words (widened c.args.found) (widened c.args.supported) c.requires.number c.index.ensures c.requires.found c.requires.supported) c.colour.ensures (c.of_part.ensures ∙ (parts_lacked c.args.found c.args.supported c.difference-lost.result c.places.place (omega (arith, c.places-test.true, c.colours-processes.ensures.few, c.requires.long)) (omega (arith, c.places-test.true, c.colours-processes.ensures.few, c.requires.supported_long)) c.difference-lost.ensures)) step
+    (found_now n c.args.number x words (widened c.args.found) c.requires.number c.index.ensures c.requires.found) (supported_now n c.args.number x words (widened c.args.found) (widened c.args.supported) c.requires.number c.index.ensures c.requires.found c.requires.supported) c.colour.ensures (values_of_part c.difference-lost.result ∙ (parts_lacked c.args.found c.args.supported c.difference-lost.result c.places.place (omega (arith, c.places-test.true, c.colours-processes.ensures.few, c.requires.long)) (omega (arith, c.places-test.true, c.colours-processes.ensures.few, c.requires.supported_long)) c.difference-lost.ensures)) step
     ∙ c.places.invariant.1 in
     let seen : constraint_in n c.args.number ≡ constraint_seen n.rules.items x = ap (constraint_seen n.rules.items) (execution_is n c.args.number x c.requires.number c.index.ensures) in
     done ∙ ap (λ k. and_then (reached c.args.lines.now.items None words) (revision c.args.number k)) (sym seen)
 
-pub returns-then-take_place-clause-proceeds : goal.returns-then-take_place-clause-proceeds
-returns-then-take_place-clause-proceeds c = proceeds_then _ _ _ _ _ _ c.places.workspace _ _ c.places.invariant.2 c.if-take_place.ensures.proceeds
+pub returns-then-take_part-clause-proceeds : goal.returns-then-take_part-clause-proceeds
+returns-then-take_part-clause-proceeds c = proceeds_then _ _ _ _ _ _ c.places.workspace _ _ c.places.invariant.2 c.if-take_part.ensures.proceeds
 
-pub returns-then-take_place-clause-untouched : goal.returns-then-take_place-clause-untouched
-returns-then-take_place-clause-untouched c = λ e other none. untouched_then c.args.network.now.users _ _ _ _ _ _ c.places.invariant.3 c.take_place.ensures.untouched e none
+pub returns-then-take_part-clause-untouched : goal.returns-then-take_part-clause-untouched
+returns-then-take_part-clause-untouched c = λ e other none. untouched_then c.args.network.now.users _ _ _ _ _ _ c.places.invariant.3 c.take_part.ensures.untouched e none
 
 -- a place that loses nothing is passed over
 pub places-preserved-then-is_empty : goal.places-preserved-then-is_empty
@@ -101,19 +101,19 @@ places-preserved c =
     let words = c.args.workspace.now.tracked.words.items in
     let inside = execution_within n c.args.number x c.requires.network c.requires.number c.index.ensures in
     let known = known_at n.rules.items n.points x rule inside c.requires.network.wide c.index-rule.ensures in
-    let step = ap (λ b. reached c.take_place.new.lines.items (point_if b (get_or x.points c.places.place 0)) c.take_place.new.workspace.tracked.words.items) (sym c.if-take_place.false) ∙ c.take_place.ensures.step in
-    let done = place_done n.rules.items x rule words (widened c.args.found) (widened c.args.supported) c.args.number c.places.place c.colour.result c.of_part.result
+    let step = ap (λ b. reached c.take_part.new.lines.items (point_if b (get_or x.points c.places.place 0)) c.take_part.new.workspace.tracked.words.items) (sym c.if-take_part.false) ∙ c.take_part.ensures.step in
+    let done = place_done n.rules.items x rule words (widened c.args.found) (widened c.args.supported) c.args.number c.places.place c.colour.result (wide_set c.difference-lost.result)
     (reached c.places.lines.items None c.places.workspace.tracked.words.items) _ known (subst (λ m. IsWithin (length n.rules.items) m x) (sym c.requires.working.long) inside) (omega (arith, c.colours-processes.ensures.count, c.colours-processes.ensures.few)) (omega (arith, c.colours-processes.ensures.count, c.places-test.true))
-    (found_now n c.args.number x words (widened c.args.found) c.requires.number c.index.ensures c.requires.found) (supported_now n c.args.number x words (widened c.args.found) (widened c.args.supported) c.requires.number c.index.ensures c.requires.found c.requires.supported) c.colour.ensures (c.of_part.ensures ∙ (parts_lacked c.args.found c.args.supported c.difference-lost.result c.places.place (omega (arith, c.places-test.true, c.colours-processes.ensures.few, c.requires.long)) (omega (arith, c.places-test.true, c.colours-processes.ensures.few, c.requires.supported_long)) c.difference-lost.ensures)) step
+    (found_now n c.args.number x words (widened c.args.found) c.requires.number c.index.ensures c.requires.found) (supported_now n c.args.number x words (widened c.args.found) (widened c.args.supported) c.requires.number c.index.ensures c.requires.found c.requires.supported) c.colour.ensures (values_of_part c.difference-lost.result ∙ (parts_lacked c.args.found c.args.supported c.difference-lost.result c.places.place (omega (arith, c.places-test.true, c.colours-processes.ensures.few, c.requires.long)) (omega (arith, c.places-test.true, c.colours-processes.ensures.few, c.requires.supported_long)) c.difference-lost.ensures)) step
     ∙ c.places.invariant.1 in
-    let named : (p : Problem) → constraint_at p c.args.number ≡ constraint_seen n.rules.items x → NamesLost p c.args.lines.now c.args.workspace.now c.take_place.new.lines c.take_place.new.workspace = λ p at.
+    let named : (p : Problem) → constraint_at p c.args.number ≡ constraint_seen n.rules.items x → NamesLost p c.args.lines.now c.args.workspace.now c.take_part.new.lines c.take_part.new.workspace = λ p at.
     named_then p _ _ _ _ _ _ (c.places.invariant.0 p at)
-    (c.take_place.ensures.named p (point_of_place p n.rules.items x rule n.points c.args.number c.places.place c.colour.result known inside c.colours-processes.ensures.simplex
+    (c.take_part.ensures.named p (point_of_place p n.rules.items x rule n.points c.args.number c.places.place c.colour.result known inside c.colours-processes.ensures.simplex
     (omega (arith, c.colours-processes.ensures.count, c.colours-processes.ensures.few)) (omega (arith, c.colours-processes.ensures.count, c.places-test.true)) c.colour.ensures at)) in
     let user = execution_told n c.args.number x c.requires.network c.requires.number c.index.ensures c.places.place (omega (arith, c.places-test.true, c.colours-processes.ensures.few)) in
-    let silent : IsSilent c.args.number c.args.workspace.now c.take_place.new.workspace = λ none.
-    c.take_place.ensures.silent c.args.number user none ∙ c.places.invariant.4 ((c.take_place.ensures.untouched c.args.number none).0) in
-    (named, done, proceeds_then _ _ _ _ _ _ c.places.workspace _ _ c.places.invariant.2 c.if-take_place.ensures.proceeds, untouched_then n.users _ _ _ _ _ _ c.places.invariant.3 c.take_place.ensures.untouched, silent)
+    let silent : IsSilent c.args.number c.args.workspace.now c.take_part.new.workspace = λ none.
+    c.take_part.ensures.silent c.args.number user none ∙ c.places.invariant.4 ((c.take_part.ensures.untouched c.args.number none).0) in
+    (named, done, proceeds_then _ _ _ _ _ _ c.places.workspace _ _ c.places.invariant.2 c.if-take_part.ensures.proceeds, untouched_then n.users _ _ _ _ _ _ c.places.invariant.3 c.take_part.ensures.untouched, silent)
 
 pub returns-clause-step : goal.returns-clause-step
 returns-clause-step c =
