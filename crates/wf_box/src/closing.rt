@@ -20,7 +20,7 @@ ghost use Rattle.wf_box.specs.Working.{AreMarked, AreSilent, IsQuietAt, IsWorkin
 use crate::boxed::Box0;
 use crate::marks::Marks;
 use crate::problem::{Network, PackedExecution, Problem};
-use crate::revising::{candidates_at, narrowed, supported_narrow, supported_sets, widened};
+use crate::revising::{candidates_at, narrowed, supported_narrow, supported_sets};
 use crate::taking::{Occurrence, put, take_each, take_each_part};
 use crate::tracked::Tracked;
 use crate::workspace::Workspace;
@@ -356,12 +356,12 @@ fn take_parts(
         }
     }
     let sets = &workspace.tracked.words;
-    unmark(
+    unmark_parts(
         number,
         processes,
         execution,
         sets,
-        widened(supported),
+        supported,
         &mut workspace.marks,
     );
     None
@@ -469,6 +469,30 @@ fn unmark(
     }
 }
 
+/// The same of candidates below 64.
+fn unmark_parts(
+    number: u32,
+    places: u8,
+    execution: PackedExecution,
+    sets: &[Mask],
+    supported: [Part; 4],
+    marks: &mut Marks,
+)
+    requires number { number < 64 * length marks.old.words.items }
+    requires places { places ≤ 4 }
+    requires long { length execution.points ≡ 4 }
+    requires within { All (λ v. v < length sets.now) execution.points }
+    ensures others { KeepsBitsBut marks.old.words.items marks.new.words.items number }
+    ensures same { bit_of marks.new.words.items number ≡ 0
+        → AreSame places (found_at execution sets.now) (widened supported)
+        ⊎ (bit_of marks.old.words.items number ≡ 0) }
+    ensures long { length marks.new.words.items ≡ length marks.old.words.items }
+{
+    if are_parts_left(places, execution, sets, supported) {
+        marks.take(number);
+    }
+}
+
 /// Whether the first points of an execution, so many of them, have just these sets.
 fn are_left(count: u8, execution: PackedExecution, sets: &[Mask], supported: [Mask; 4]) -> bool
     requires count { count ≤ 4 }
@@ -483,6 +507,41 @@ fn are_left(count: u8, execution: PackedExecution, sets: &[Mask], supported: [Ma
         }
     }
     true
+}
+
+/// Whether the first points of an execution, so many of them, have just the values of these parts.
+fn are_parts_left(
+    count: u8,
+    execution: PackedExecution,
+    sets: &[Mask],
+    supported: [Part; 4],
+) -> bool
+    requires count { count ≤ 4 }
+    requires long { length execution.points ≡ 4 }
+    requires within { All (λ v. v < length sets.now) execution.points }
+    ensures { OnTrue result
+        (AreSame count (found_at execution sets.now) (widened supported)) }
+{
+    let found = candidates_at(execution, sets);
+    is_part(found[0], supported[0])
+        & is_part_below(1, count, found[1], supported[1])
+        & is_part_below(2, count, found[2], supported[2])
+        & is_part_below(3, count, found[3], supported[3])
+}
+
+/// Whether the set has just the values of the part, or the place is past the places.
+fn is_part_below(place: u8, places: u8, set: Mask, part: Part) -> bool
+    ensures { OnTrue result (place < places → set ≡ wide_set part) }
+{
+    (place >= places) | is_part(set, part)
+}
+
+/// Whether the set has just the values of the part.
+fn is_part(set: Mask, part: Part) -> bool
+    ensures { OnTrue result (set ≡ wide_set part) }
+{
+    let [a, b, c, d] = set;
+    (a == part) & (b == 0) & (c == 0) & (d == 0)
 }
 
 /// Takes those of the values out that are still there, ascending, with their

@@ -6,7 +6,7 @@ use Rattle.wf_model.specs.Closing.{Step, and_then, lost}
 use Rattle.wf_lane.specs.Table.{HasSupported}
 use Rattle.wf_set.specs.Sets.{box_of, values_in}
 use Rattle.wf_box.specs.Problems.{IsWithin, constraint_in, constraint_seen}
-use Rattle.wf_box.specs.Revising.{AreSame, found_at, wide_set, widened}
+use Rattle.wf_box.specs.Revising.{found_at, wide_set, widened}
 use Rattle.wf_set.proofs.SetLaws.{values_of_part}
 use Rattle.wf_box.specs.Steps.{NamesLost, loss, point_if, reached, revision, take_present}
 use Rattle.wf_box.specs.Working.{IsSilent}
@@ -138,19 +138,19 @@ returns-clause-named c =
     let seen : constraint_in n c.args.number ≡ constraint_seen n.rules.items x = ap (constraint_seen n.rules.items) (execution_is n c.args.number x c.requires.number c.index.ensures) in
     λ p at. c.places.invariant.0 p (at ∙ seen)
 
-pub unmark-requires-clause-within : goal.unmark-requires-clause-within
-unmark-requires-clause-within c =
+pub unmark_parts-requires-clause-within : goal.unmark_parts-requires-clause-within
+unmark_parts-requires-clause-within c =
     let inside = execution_within c.args.network.now c.args.number c.index.result.now c.requires.network c.requires.number c.index.ensures in
     λ i d low. omega (arith, inside.points_within i d low, c.places.invariant.2.long, ap length c.deref.ensures.value)
 
-pub unmark-requires-clause-number : goal.unmark-requires-clause-number
-unmark-requires-clause-number c = omega (arith, c.requires.number, c.places.invariant.2.marks_long)
+pub unmark_parts-requires-clause-number : goal.unmark_parts-requires-clause-number
+unmark_parts-requires-clause-number c = omega (arith, c.requires.number, c.places.invariant.2.marks_long)
 
 pub returns-clause-proceeds : goal.returns-clause-proceeds
-returns-clause-proceeds c = proceeds_marked _ _ _ _ _ c.places.workspace _ _ c.unmark.ensures.long c.places.invariant.2
+returns-clause-proceeds c = proceeds_marked _ _ _ _ _ c.places.workspace _ _ c.unmark_parts.ensures.long c.places.invariant.2
 
 pub returns-clause-untouched : goal.returns-clause-untouched
-returns-clause-untouched c = λ e other none. c.places.invariant.3 e (sym (c.unmark.ensures.others e other) ∙ none)
+returns-clause-untouched c = λ e other none. c.places.invariant.3 e (sym (c.unmark_parts.ensures.others e other) ∙ none)
 
 pub returns-clause-quiet : goal.returns-clause-quiet
 returns-clause-quiet c = λ none.
@@ -177,11 +177,11 @@ returns-clause-quiet c = λ none.
     subst (λ (r : Rule). HasSupported (widened c.args.supported) r.table (widened c.args.found)) known.is
     (supported_now n c.args.number x words (widened c.args.found) (widened c.args.supported) c.requires.number c.index.ensures c.requires.found c.requires.supported) in
     ap (lost (box_of fewer)) seen
-    ∙ elim (c.unmark.ensures.same none) [
+    ∙ elim (c.unmark_parts.ensures.same none) [
       | inl same ↦
           loses_nothing n.rules.items x rule fewer left known (subst (λ m. IsWithin (length n.rules.items) m x) (sym done.long) inside) few left_here
           (left_supports rule.table (widened c.args.supported) (widened c.args.found) left (omega (arith, known.wide, few, (length-map c.args.found wide_set ∙ c.requires.long))) (omega (arith, known.wide, few, left_long)) right
-          (λ i low. (subst (AreSame c.colours-processes.result left) c.widened.ensures same) i (omega (arith, low, known.wide, c.colours-processes.ensures.count))))
+          (λ i low. same i (omega (arith, low, known.wide, c.colours-processes.ensures.count))))
       | inr before ↦
           (let kept = c.places.invariant.4 before in
           nothing_lost (constraint_seen n.rules.items x) c.args.lines.now.items c.places.lines.items words fewer c.args.number kept
