@@ -44,6 +44,10 @@ HasTable simplex tuples rules number = (get_or rules number no_rule).table ≡ r
 abbrev pub rule_of : List Rule → PackedExecution → Rule
 rule_of rules e = get_or rules e.rule no_rule
 
+-- the execution names the rule that its own rule names
+abbrev pub IsLike : List Rule → PackedExecution → Type 0
+IsLike rules e = e.like ≡ (rule_of rules e).like
+
 -- the processes of the execution's simplex, each with its point, and the tuples of that simplex
 abbrev pub constraint_seen : List Rule → PackedExecution → Constraint
 constraint_seen rules e = record { scope = zip (processes_of (rule_of rules e).simplex) e.points; tuples = (rule_of rules e).table.rows }
@@ -93,6 +97,7 @@ pub record IsNetwork (n : Network) : Type 0 where
   pub wide : All IsWide n.rules.items
   pub narrow : All IsNarrow n.rules.items
   pub alike : AreAlike n.rules.items
+  pub like : All (IsLike n.rules.items) n.executions.items
   pub within : All (IsWithin (length n.rules.items) n.points) n.executions.items
   pub users : AreUsers n.users n.points (length n.executions.items)
   pub told : AreTold n.users n.executions.items

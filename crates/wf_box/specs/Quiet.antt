@@ -56,7 +56,7 @@ EmptiesNoneSince n t = (v : ℕ) → values_in (get_or t.words.items v []) ≡ [
 
 -- no execution
 abbrev pub no_execution : PackedExecution
-no_execution = record { rule = 0; points = [] }
+no_execution = record { rule = 0; like = 0; points = [] }
 
 -- each of its four points knows an execution
 abbrev pub AreTold : Users → List PackedExecution → Type 0

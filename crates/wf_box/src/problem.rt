@@ -6,7 +6,7 @@ ghost use Rattle.wf_model.specs.Problem.{IsWellFormed, problem_of};
 ghost use Rattle.wf_complex.specs.Protocol.{IsProtocol};
 ghost use Rattle.wf_model.specs.Split.{most_values};
 ghost use Rattle.wf_model.specs.Limits.{most_executions, most_points};
-ghost use Rattle.wf_box.specs.Problems.{AreExecutionsOf, AreWithin, AreAlike, HasTable, IsNarrow, IsNetwork, IsRuleOf, IsWide, rule_in, rule_seen};
+ghost use Rattle.wf_box.specs.Problems.{AreExecutionsOf, AreWithin, AreAlike, HasTable, IsLike, IsNarrow, IsNetwork, IsRuleOf, IsWide, rule_in, rule_seen};
 ghost use Rattle.wf_box.specs.Quiet.{users_of};
 
 use crate::users::Users;
@@ -54,11 +54,13 @@ impl Rule {
     }
 }
 
-/// An execution: the number of its input simplex, and the points of its processes. The points past
-/// their number are that of the first process, and are not used.
+/// An execution: the number of its input simplex, which is that of its rule, the number of a rule
+/// that has the same table, and the points of its processes. The points past their number are that
+/// of the first process, and are not used.
 #[derive(Clone, Copy, Debug)]
 pub(crate) struct PackedExecution {
     pub(crate) rule: u32,
+    pub(crate) like: u32,
     pub(crate) points: [u32; 4],
 }
 
@@ -79,7 +81,7 @@ impl Network {
         requires execution { execution < length self.now.executions.items }
         ensures { result ≡ (rule_in self.now execution).like }
     {
-        self.rules[self.executions[execution].rule as usize].like
+        self.executions[execution].like
     }
 
     /// The executions in which a point stands.
@@ -203,13 +205,16 @@ fn executions(
         (λ executions. AreExecutionsOf task.now protocol.now.rounds rules.now executions.items) }
     ensures within { IfOk result
         (λ executions. AreWithin rules.now (length protocol.now.points) executions.items) }
+    ensures like { IfOk result (λ executions. All (IsLike rules.now) executions.items) }
     ensures few { IfOk result (λ executions. length executions.items ≤ most_executions) }
 {
     let count = protocol.executions();
     let mut executions = Vec::with_capacity(alloc, count as usize)?;
     for number in 0..count {
+        let rule = protocol.simplex_of(number);
         executions.push(PackedExecution {
-            rule: protocol.simplex_of(number),
+            rule,
+            like: rules[rule as usize].like,
             points: four(protocol.points_of(number)),
         })?;
     }
