@@ -10,7 +10,8 @@ use Rattle.wf_box.specs.Changes.{sets_in}
 use Rattle.wf_box.specs.Closes.{EndsAt, IsEmptied, emptied_by}
 use Rattle.wf_lane.specs.Table.{HasSupported}
 use Rattle.wf_box.specs.Problems.{IsNetwork, IsWithin, no_rule, rule_in, rule_of}
-use Rattle.wf_box.specs.Quiet.{IsUser, no_execution}
+use Rattle.wf_box.specs.Quiet.{no_execution}
+use Rattle.wf_box.specs.Users.{IsUser}
 use Rattle.wf_box.specs.Revising.{AreKnown, answers_in, found_at, found_in}
 use Rattle.wf_box.specs.Steps.{HasRoom, IsPaid, IsSpent, point_if}
 use Rattle.wf_box.specs.Working.{Ends, IsWorking, Proceeds}

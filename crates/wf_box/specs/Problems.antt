@@ -5,7 +5,8 @@ use Rattle.wf_model.specs.Task as task
 use Rattle.wf_model.specs.Problem.{Problem, Constraint, IsWellFormed, problem_of}
 use Rattle.wf_set.specs.Sets.{values_in}
 use Rattle.wf_model.specs.Limits.{most_executions, most_points}
-use Rattle.wf_box.specs.Quiet.{AreTold, AreUsers, no_execution}
+use Rattle.wf_box.specs.Quiet.{AreTold, no_execution}
+use Rattle.wf_box.specs.Users.{AreUsers}
 use Rattle.wf_box.specs.declared.problem.Rule.{Rule}
 use Rattle.wf_box.specs.declared.problem.PackedExecution.{PackedExecution}
 use Rattle.wf_box.specs.declared.problem.Network.{Network}

@@ -7,9 +7,9 @@ ghost use Rattle.wf_complex.specs.Protocol.{IsProtocol};
 ghost use Rattle.wf_model.specs.Split.{most_values};
 ghost use Rattle.wf_model.specs.Limits.{most_executions, most_points};
 ghost use Rattle.wf_box.specs.Problems.{AreExecutionsOf, AreWithin, AreAlike, HasTable, IsLike, IsNarrow, IsNetwork, IsRuleOf, IsWide, rule_in, rule_seen};
-ghost use Rattle.wf_box.specs.Quiet.{users_of};
+ghost use Rattle.wf_box.specs.Users.{AreWordsBelow, users_of};
 
-use crate::users::Users;
+use crate::users::{UserWord, Users};
 use std::alloc::{AllocError, Global};
 use std::marker::Model;
 use wf_complex::Protocol;
@@ -85,11 +85,11 @@ impl Network {
     }
 
     /// The executions in which a point stands.
-    pub(crate) fn users_of(&self, point: u32) -> &[u32]
+    pub(crate) fn users_of(&self, point: u32) -> &[UserWord]
         requires network { IsNetwork self.now }
         requires point { point < self.now.points }
         ensures users { result.now ≡ users_of self.now.users point }
-        ensures below { All (λ e. e < length self.now.executions.items) result.now }
+        ensures below { AreWordsBelow (length self.now.executions.items) result.now }
     {
         self.users
             .of(point, self.points, self.executions.len() as u32)
