@@ -1,5 +1,5 @@
 -- Executions without a mark.
-use Rattle.std.proofs.Common.{◌≡◌, ◌≢◌, ℕ, zero, suc, ◌+◌, ◌-◌, ◌<◌, ◌≤◌, ◌/◌, ◌%◌, Bool, true, false, not, List, [], ◌∷◌, ◌++◌, map, zip, filter, flat_map, length, get_or, slice_index, take, drop, Option, Some, None, All, refl, sym, ap, ◌∙◌, subst, arith, inl, inr, ⊎_elim, length-append, length-drop, length-set, length-take}
+use Rattle.std.proofs.Common.{◌≡◌, ◌≢◌, ℕ, zero, suc, ◌+◌, ◌-◌, ◌<◌, ◌≤◌, ◌/◌, ◌%◌, Bool, true, false, not, List, [], ◌∷◌, ◌++◌, map, zip, filter, flat_map, length, get_or, slice_index, drop, Option, Some, None, All, refl, sym, ap, ◌∙◌, subst, arith, inl, inr, ⊎_elim, length-append, length-drop, length-set, length-take}
 use Rattle.std.specs.Bool.{OnTrue}
 use Rattle.std.specs.List.{enumerate_from}
 use Rattle.std.proofs.lemmas.Bool.{cases_eq, cases_lt, false≢true}

@@ -9,7 +9,7 @@ use Rattle.wf_lines.specs.declared.line.Line.{Line}
 use Rattle.wf_box.specs.Changes.{sets_in}
 use Rattle.wf_box.specs.Closes.{EndsAt, IsEmptied, emptied_by}
 use Rattle.wf_lane.specs.Table.{HasSupported}
-use Rattle.wf_box.specs.Problems.{IsNetwork, IsWithin, no_rule, rule_in, rule_of}
+use Rattle.wf_box.specs.Problems.{IsNetwork, IsWithin, KeepsProcesses, no_rule, rule_in, rule_of}
 use Rattle.wf_box.specs.Quiet.{no_execution}
 use Rattle.wf_box.specs.Users.{IsUser}
 use Rattle.wf_box.specs.Revising.{AreKnown, answers_in, found_at, found_in}
@@ -21,6 +21,7 @@ use Rattle.wf_box.specs.declared.marks.Marks.{Marks}
 use Rattle.wf_box.specs.declared.memo.Memo.{Memo}
 use Rattle.wf_box.specs.declared.problem.PackedExecution.{PackedExecution}
 use Rattle.wf_box.specs.declared.problem.Network.{Network}
+use Rattle.wf_box.specs.declared.problem.Rule.{Rule}
 use Rattle.wf_box.specs.declared.tracked.Tracked.{Tracked}
 use Rattle.wf_box.specs.declared.workspace.Workspace.{Workspace}
 use Rattle.wf_box.proofs.ChangeLemmas.{grown_none, grown_then}
@@ -113,7 +114,11 @@ execution_told n e x network low here place small = subst (λ (y : PackedExecuti
 
 -- there are four processes at most
 pub few_at : (n : Network) (e : ℕ) → IsNetwork n → e < length n.executions.items → length (rule_in n e).simplex ≤ 4
-few_at n e network low = network.narrow (get_or n.executions.items e no_execution).rule no_rule (network.within e no_execution low).rule
+few_at n e network low = (network.processes (get_or n.executions.items e no_execution).rule no_rule (network.within e no_execution low).rule).narrow
+
+-- the rule keeps its processes
+pub processes_kept : (n : Network) (e : ℕ) (x : PackedExecution) (rule : Rule) → IsNetwork n → e < length n.executions.items → x ≡ slice_index_or n.executions.items e x → rule ≡ slice_index_or n.rules.items x.rule rule → KeepsProcesses rule
+processes_kept n e x rule network low here is = subst KeepsProcesses (sym is) (network.processes x.rule rule (execution_within n e x network low here).rule)
 
 -- what is found at its points
 pub found_is : (n : Network) (e : ℕ) (x : PackedExecution) (sets words : List (List ℕ)) → e < length n.executions.items → x ≡ slice_index_or n.executions.items e x → sets ≡ words → found_in n e sets ≡ found_at x words

@@ -1,6 +1,7 @@
 -- What a clause sees of the program's problems, and what each of them keeps.
-use Rattle.std.specs.Prelude.{◌≡◌, ◌<◌, ◌≤◌, ℕ, List, [], map, zip, length, get_or, All}
+use Rattle.std.specs.Prelude.{◌≡◌, ◌<◌, ◌≤◌, ℕ, List, [], map, zip, length, get_or, slice_index, All}
 use Rattle.wf_model.specs.Simplex.{Simplex, processes_of}
+use Rattle.wf_model.specs.Task.{IsTaskSimplex}
 use Rattle.wf_model.specs.Task as task
 use Rattle.wf_model.specs.Problem.{Problem, Constraint, IsWellFormed, problem_of}
 use Rattle.wf_set.specs.Sets.{values_in}
@@ -14,7 +15,7 @@ use Rattle.wf_box.specs.declared.problem.Problem.TheInside.{Inside}
 
 -- no input simplex at all
 abbrev pub no_rule : Rule
-no_rule = record { simplex = []; table = record { width = 0; rows = [] }; like = 0 }
+no_rule = record { simplex = []; places = 0; processes = []; table = record { width = 0; rows = [] }; like = 0 }
 
 -- the rule as the definitions have it
 abbrev pub rule_seen : Rule → task.Rule
@@ -24,9 +25,13 @@ rule_seen rule = record { input = rule.simplex; tuples = rule.table.rows }
 abbrev pub IsWide : Rule → Type 0
 IsWide rule = rule.table.width ≡ length rule.simplex
 
--- there are four processes at most
-abbrev pub IsNarrow : Rule → Type 0
-IsNarrow rule = length rule.simplex ≤ 4
+-- it keeps how many processes its simplex has, four at most, and which ones
+pub record KeepsProcesses (rule : Rule) : Type 0 where
+  pub simplex : IsTaskSimplex rule.simplex
+  pub narrow : length rule.simplex ≤ 4
+  pub places : rule.places ≡ length rule.simplex
+  pub long : length rule.processes ≡ 4
+  pub processes : (i : ℕ) → i < length rule.simplex → slice_index rule.processes i ≡ slice_index (processes_of rule.simplex) i
 
 -- it names a rule that has the same table
 pub record IsAlike (rules : List Rule) (rule : Rule) : Type 0 where
@@ -96,7 +101,7 @@ pub record IsNetwork (n : Network) : Type 0 where
   pub few_points : n.points ≤ most_points
   pub few_executions : length n.executions.items ≤ most_executions
   pub wide : All IsWide n.rules.items
-  pub narrow : All IsNarrow n.rules.items
+  pub processes : All KeepsProcesses n.rules.items
   pub alike : AreAlike n.rules.items
   pub like : All (IsLike n.rules.items) n.executions.items
   pub within : All (IsWithin (length n.rules.items) n.points) n.executions.items

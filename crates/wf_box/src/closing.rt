@@ -340,7 +340,7 @@ fn take_parts(
 {
     let execution = network.executions[number as usize];
     let rule = &network.rules[execution.rule as usize];
-    let processes = rule.simplex.colours();
+    let processes = rule.colours();
     'places: for place in 0..processes {
         let lost = part::difference(found[place as usize], supported[place as usize]);
         if part::is_empty(lost) {
@@ -348,7 +348,7 @@ fn take_parts(
         }
         let at = Occurrence {
             execution: number,
-            process: rule.simplex.colour(place),
+            process: rule.colour(place),
             point: execution.points[place as usize],
         };
         if take_part(lost, at, network, workspace, lines) {
@@ -417,7 +417,7 @@ fn take_sets(
 {
     let execution = network.executions[number as usize];
     let rule = &network.rules[execution.rule as usize];
-    let processes = rule.simplex.colours();
+    let processes = rule.colours();
     'places: for place in 0..processes {
         let lost = difference(found[place as usize], supported[place as usize]);
         if is_empty(lost) {
@@ -425,7 +425,7 @@ fn take_sets(
         }
         let at = Occurrence {
             execution: number,
-            process: rule.simplex.colour(place),
+            process: rule.colour(place),
             point: execution.points[place as usize],
         };
         if take_place(lost, at, network, workspace, lines) {

@@ -1,12 +1,13 @@
 //! The constraint problem of a task and its protocol complex.
 
-ghost use Rattle.std.specs.Prelude.{◌≡◌, ◌<◌, ◌≤◌, ◌^◌, ℕ, All, length, map, take, IfOk};
-ghost use Rattle.wf_model.specs.Task.{IsTask};
+ghost use Rattle.std.specs.Prelude.{◌≡◌, ◌<◌, ◌≤◌, ◌^◌, ℕ, All, length, map, slice_index, take, IfOk};
+ghost use Rattle.wf_model.specs.Simplex.{processes_of};
+ghost use Rattle.wf_model.specs.Task.{IsTask, IsTaskSimplex};
 ghost use Rattle.wf_model.specs.Problem.{IsWellFormed, problem_of};
 ghost use Rattle.wf_complex.specs.Protocol.{IsProtocol};
 ghost use Rattle.wf_model.specs.Split.{most_values};
 ghost use Rattle.wf_model.specs.Limits.{most_executions, most_points};
-ghost use Rattle.wf_box.specs.Problems.{AreExecutionsOf, AreWithin, AreAlike, HasTable, IsLike, IsNarrow, IsNetwork, IsRuleOf, IsWide, rule_in, rule_seen};
+ghost use Rattle.wf_box.specs.Problems.{AreExecutionsOf, AreWithin, AreAlike, HasTable, IsLike, IsNetwork, IsRuleOf, IsWide, KeepsProcesses, rule_in, rule_seen};
 ghost use Rattle.wf_box.specs.Users.{AreWordsBelow, users_of};
 
 use crate::users::{UserWord, Users};
@@ -25,6 +26,9 @@ const NEAR: usize = 64;
 #[derive(Drop)]
 pub(crate) struct Rule {
     pub(crate) simplex: Simplex,
+    // how many processes the simplex has, and which ones
+    pub(crate) places: u8,
+    pub(crate) processes: [u8; 4],
     pub(crate) table: TupleTable,
     // the number of a rule with the same table
     pub(crate) like: u32,
@@ -42,16 +46,50 @@ impl Rule {
         requires few { length tuples.now < 2 ^ 32 }
         ensures rule { IfOk result (IsRuleOf simplex tuples.now) }
         ensures wide { IfOk result IsWide }
-        ensures narrow { IfOk result IsNarrow }
+        ensures processes { IfOk result KeepsProcesses }
         ensures like { IfOk result (λ rule. rule.like ≡ like) }
     {
         let table = TupleTable::build(alloc, tuples, simplex.colours())?;
         Ok(Rule {
             simplex,
+            places: simplex.colours(),
+            processes: processes(simplex),
             table,
             like,
         })
     }
+
+    /// How many processes its simplex has.
+    pub(crate) fn colours(&self) -> u8
+        requires kept { KeepsProcesses self.now }
+        ensures count { result ≡ length self.now.simplex }
+        ensures few { result ≤ 4 }
+        ensures simplex { IsTaskSimplex self.now.simplex }
+    {
+        self.places
+    }
+
+    /// The process of its simplex at a place.
+    pub(crate) fn colour(&self, place: u8) -> u8
+        requires kept { KeepsProcesses self.now }
+        requires place { place < length self.now.simplex }
+        ensures { result ≡ slice_index (processes_of self.now.simplex) place }
+    {
+        self.processes[place as usize]
+    }
+}
+
+/// The processes of a simplex, ascending, and then 0.
+fn processes(simplex: Simplex) -> [u8; 4]
+    ensures long { length result ≡ 4 }
+    ensures processes { (i : ℕ) → i < length simplex
+        → slice_index result i ≡ slice_index (processes_of simplex) i }
+{
+    let mut processes = [0; 4];
+    for place in 0..simplex.colours() {
+        processes[place as usize] = simplex.colour(place);
+    }
+    processes
 }
 
 /// An execution: the number of its input simplex, which is that of its rule, the number of a rule
@@ -157,7 +195,7 @@ impl Problem {
 fn rules(alloc: Global, task: &Task) -> Result<Vec<Rule>, AllocError>
     ensures rules { IfOk result (λ rules. map rule_seen rules.items ≡ task.now.delta) }
     ensures wide { IfOk result (λ rules. All IsWide rules.items) }
-    ensures narrow { IfOk result (λ rules. All IsNarrow rules.items) }
+    ensures processes { IfOk result (λ rules. All KeepsProcesses rules.items) }
     ensures alike { IfOk result (λ rules. AreAlike rules.items) }
     ensures task { IsTask task.now }
 {

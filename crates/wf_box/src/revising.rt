@@ -96,7 +96,7 @@ fn revise_word(
     let rule = &network.rules[network.executions[number as usize].rule as usize];
     let candidates = unpacked(word);
     let masks = rule.table.revise(widened(candidates)).masks;
-    let parts = up_to(rule.simplex.colours(), first_parts(masks), candidates);
+    let parts = up_to(rule.colours(), first_parts(masks), candidates);
     let Some(supported) = packed(parts) else {
         return Some(parts);
     };
@@ -194,7 +194,7 @@ fn revise_parts(
 {
     let rule = &network.rules[network.executions[number as usize].rule as usize];
     let masks = rule.table.revise(widened(candidates)).masks;
-    let supported = up_to(rule.simplex.colours(), first_parts(masks), candidates);
+    let supported = up_to(rule.colours(), first_parts(masks), candidates);
     memo.keep_narrow(
         slot,
         RevisedParts {
