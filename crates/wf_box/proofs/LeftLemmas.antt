@@ -20,7 +20,7 @@ at_alive (s ∷ sets) [] i a at h = absurd (false≢true at)
 at_alive (s ∷ sets) (x ∷ t) zero a at h = subst (λ b. has s b ≡ true) (eqb-true x a at) (and_parts _ _ h).0
 at_alive (s ∷ sets) (x ∷ t) (suc i) a at h = at_alive sets t i a at (and_parts _ _ h).1
 
-supported_there : (rows : List Tuple) (sets : List (List ℕ)) (i a : ℕ) → is_supported rows sets i a ≡ true → has (get_or sets i []) a ≡ true
+pub supported_there : (rows : List Tuple) (sets : List (List ℕ)) (i a : ℕ) → is_supported rows sets i a ≡ true → has (get_or sets i []) a ≡ true
 supported_there [] sets i a h = absurd (false≢true h)
 supported_there (t ∷ ts) sets i a h =
     elim (or_cases (has_at t i a && is_alive sets t) (is_supported ts sets i a) h) [
@@ -74,7 +74,7 @@ taken_length (suc n) (m ∷ masks) low = ap suc (taken_length n masks (omega (ar
 sets_length : (n : ℕ) (masks : List (List ℕ)) → n ≤ length masks → length (sets_of n masks) ≡ n
 sets_length n masks low = length-map (take n masks) values_in ∙ taken_length n masks low
 
-sets_at : (n i : ℕ) (masks : List (List ℕ)) → n ≤ length masks → i < n → get_or (sets_of n masks) i [] ≡ values_in (get_or masks i [])
+pub sets_at : (n i : ℕ) (masks : List (List ℕ)) → n ≤ length masks → i < n → get_or (sets_of n masks) i [] ≡ values_in (get_or masks i [])
 sets_at n i masks long low = get_or-map values_in (take n masks) i [] [] (omega (arith, low, taken_length n masks long)) ∙ ap values_in (taken_at n i masks low)
 
 -- where each place has what was supported there, all of it is supported

@@ -17,5 +17,6 @@ pub mod JoinLemmas
 pub mod SeenLemmas
 pub mod MemoLemmas
 pub mod StandLemmas
+pub mod UserLemmas
 pub mod KeptLemmas
 pub mod Lemmas

@@ -1,15 +1,19 @@
 -- What is kept of the kernel's answers.
-use Rattle.std.proofs.Common.{◌≡◌, ℕ, zero, suc, ◌<◌, ◌≤◌, List, [], ◌∷◌, ◌++◌, map, length, zip, get_or, slice_index, ◌↔◌, true, All, Option, Some, None, refl, sym, ap, ◌∙◌, subst, arith}
+use Rattle.std.proofs.Common.{◌≡◌, ℕ, zero, suc, ◌<◌, ◌≤◌, List, [], ◌∷◌, ◌++◌, map, length, zip, get_or, slice_index, filter, nat_lt, ◌&&◌, true, All, Option, Some, None, refl, sym, ap, ◌∙◌, subst, inl, inr, arith}
 use Rattle.std.proofs.lemmas.List.{get_or-map, length-map}
 use Rattle.std.proofs.lemmas.List.Elements.{All-append, All-map}
+use Rattle.std.proofs.lemmas.Bool.{and_from, and_parts, cases_lt, false≢true, lt-ltb}
 use Rattle.wf_model.specs.Simplex.{processes_of}
 use Rattle.wf_model.specs.Problem.{Constraint, no_constraint}
-use Rattle.wf_lane.specs.Table.{HasSupported, Table, sets_of}
+use Rattle.wf_lane.specs.Table.{AreFirstParts, HasSupported, Table, sets_of}
 use Rattle.wf_box.specs.Problems.{IsNetwork, IsWide, constraint_seen, constraints_in, no_rule, rule_in, rule_of}
 use Rattle.wf_box.specs.Quiet.{no_execution}
+use Rattle.wf_set.specs.Parts.{part_limit, part_values}
 use Rattle.wf_set.specs.Sets.{values_in}
+use Rattle.wf_set.proofs.Lemmas.{has_large, in_four}
+use Rattle.wf_set.proofs.SetLaws.{values_of_part}
 use Rattle.wf_model.specs.Lists.{has}
-use Rattle.wf_model.specs.Box.{is_supported}
+use Rattle.wf_model.proofs.Basics.{has-filter}
 use Rattle.wf_box.specs.Revising.{AreKnown, IsKnown, IsKnownParts, IsKnownWord, answer_seen, answers_in, table_seen, wide_set, widened, word_seen}
 use Rattle.wf_box.specs.declared.memo.Memo.{Memo}
 use Rattle.wf_box.specs.declared.memo.Revised.{Revised}
@@ -19,6 +23,7 @@ use Rattle.wf_box.specs.declared.problem.PackedExecution.{PackedExecution}
 use Rattle.wf_box.specs.declared.problem.Network.{Network}
 use Rattle.wf_box.specs.declared.problem.Rule.{Rule}
 use Rattle.wf_box.proofs.WorkLemmas.{few_at}
+use Rattle.wf_box.proofs.LeftLemmas.{sets_at, supported_there}
 
 -- ---- answers of all kinds
 
@@ -106,12 +111,27 @@ known_now n e candidates supported network low few right = λ inside. subst (λ 
 
 -- ---- parts
 
-same_set : (parts others : List ℕ) (i : ℕ) → i < length parts → i < length others → slice_index parts i ≡ slice_index others i → get_or (widened parts) i [] ≡ get_or (widened others) i []
-same_set parts others i low inside same = get_or-map wide_set parts i 0 [] low ∙ ap wide_set same ∙ sym (get_or-map wide_set others i 0 [] inside)
+below_64 : (part v : ℕ) → has (part_values part) v ≡ true → nat_lt v part_limit ≡ true
+below_64 part v there = elim (cases_lt v 64) [
+  | inl low ↦ lt-ltb v 64 low
+  | inr large ↦ absurd (false≢true (sym (has_large part v (λ low. absurd (let none : ⊥ = omega (arith, low, large) in none))) ∙ there))
+]
 
--- parts that are the same up to the width of a table support the same
-pub supported_up_to : (masks candidates : List (List ℕ)) (parts up : List ℕ) (table : Table) → length up ≡ 4 → length parts ≡ 4 → table.width ≤ 4 → widened parts ≡ masks → ((i : ℕ) → i < table.width → slice_index up i ≡ slice_index parts i)
-    → HasSupported masks table candidates → HasSupported (widened up) table candidates
-supported_up_to masks candidates parts up table up_long long narrow is same right place v low =
-    let here : get_or (widened up) place [] ≡ get_or masks place [] = same_set up parts place (omega (arith, low, narrow, up_long)) (omega (arith, low, narrow, long)) (same place low) ∙ ap (λ ms. get_or ms place []) is in
-    subst (λ set. (has (values_in set) v ≡ true) ↔ (is_supported table.rows (sets_of table.width candidates) place v ≡ true)) (sym here) (right place v low)
+-- the values below 64 that are supported are all that are, where the candidates are below 64
+pub first_supported : (masks : List (List ℕ)) (candidates parts up : List ℕ) (table : Table) → length up ≡ 4 → length candidates ≡ 4 → table.width ≤ 4 → AreFirstParts parts masks → ((i : ℕ) → i < table.width → slice_index up i ≡ slice_index parts i)
+    → HasSupported masks table (widened candidates) → HasSupported (widened up) table (widened candidates)
+first_supported masks candidates parts up table up_long long narrow firsts same right place v low =
+    let mask = get_or masks place [] in
+    let sets = sets_of table.width (widened candidates) in
+    let here : values_in (get_or (widened up) place []) ≡ filter (λ a. nat_lt a part_limit) (values_in mask) =
+    ap values_in (get_or-map wide_set up place 0 [] (omega (arith, low, narrow, up_long))) ∙ values_of_part (slice_index up place) ∙ ap part_values (same place low)
+    ∙ in_four (λ k. part_values (slice_index parts k) ≡ filter (λ a. nat_lt a part_limit) (values_in (get_or masks k []))) firsts.first firsts.second firsts.third firsts.fourth place (omega (arith, low, narrow)) in
+    let has_here : has (values_in (get_or (widened up) place [])) v ≡ (nat_lt v part_limit && has (values_in mask) v) = ap (λ vs. has vs v) here ∙ has-filter (λ a. nat_lt a part_limit) (values_in mask) v in (
+      λ there. (right place v low).0 (and_parts (nat_lt v part_limit) (has (values_in mask) v) (sym has_here ∙ there)).1,
+      λ supported.
+          let found : has (part_values (slice_index candidates place)) v ≡ true =
+          ap (λ vs. has vs v) (sym (values_of_part (slice_index candidates place)) ∙ ap values_in (sym (get_or-map wide_set candidates place 0 [] (omega (arith, low, narrow, long))))
+          ∙ sym (sets_at table.width place (widened candidates) (omega (arith, narrow, long, length-map candidates wide_set)) low))
+          ∙ supported_there table.rows sets place v supported in
+          has_here ∙ and_from (nat_lt v part_limit) (has (values_in mask) v) (below_64 (slice_index candidates place) v found) ((right place v low).1 supported),
+    )

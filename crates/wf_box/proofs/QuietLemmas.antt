@@ -1,10 +1,10 @@
 -- Executions without a mark.
-use Rattle.std.proofs.Common.{◌≡◌, ◌≢◌, ℕ, zero, suc, ◌+◌, ◌-◌, ◌<◌, ◌≤◌, ◌/◌, ◌%◌, Bool, true, false, not, List, [], ◌∷◌, ◌++◌, map, zip, filter, flat_map, length, get_or, slice_index, drop, Option, Some, None, All, refl, sym, ap, ◌∙◌, arith, inl, inr, ⊎_elim, length-append, length-set}
+use Rattle.std.proofs.Common.{◌≡◌, ◌≢◌, ℕ, zero, suc, ◌+◌, ◌-◌, ◌<◌, ◌≤◌, ◌/◌, ◌%◌, Bool, true, false, not, List, [], ◌∷◌, ◌++◌, map, zip, filter, flat_map, length, get_or, slice_index, drop, Option, Some, None, All, refl, sym, ap, ◌∙◌, subst, arith, inl, inr, ⊎_elim, length-append, length-drop, length-set, length-take}
 use Rattle.std.specs.Bool.{OnTrue}
 use Rattle.std.specs.List.{enumerate_from}
 use Rattle.std.proofs.lemmas.Bool.{cases_eq, cases_lt, false≢true}
-use Rattle.std.proofs.lemmas.List.{at_drop_more, drop_all, get_or-set_other, get_or-map, length-map, nil_from_length}
-use Rattle.std.proofs.lemmas.Nat.Bits.{bit_at-lt}
+use Rattle.std.proofs.lemmas.List.{at_drop_more, drop_all, get_or-drop, get_or-set_other, get_or-map, get_or-take, length-map, nil_from_length}
+use Rattle.std.proofs.lemmas.Nat.Bits.{bit_at-lt, bit_at-zero}
 use Rattle.wf_box.specs.Changes.{taken_back, words_after}
 use Rattle.wf_box.specs.declared.tracked.Change.{Change}
 use Rattle.wf_model.specs.Problem.{Constraint, no_constraint}
@@ -12,9 +12,11 @@ use Rattle.wf_model.specs.Box.{Box, candidates, first_empty, is_supported, sets_
 use Rattle.wf_model.specs.Closing.{Step, Loss, and_then, lost, lost_at, places, same_candidate, sweep_from, take_out_each, taken_out}
 use Rattle.wf_model.specs.Lists.{distinct}
 use Rattle.wf_set.specs.Sets.{box_of, values_in}
-use Rattle.wf_box.specs.Marks.{bit_of, IsMore, IsNext}
+use Rattle.wf_box.specs.Marks.{bit_of, IsMore, IsNext, MarksEach}
 use Rattle.wf_box.specs.Problems.{IsWithin, constraint_seen}
-use Rattle.wf_box.specs.Quiet.{AreTold, IsQuiet, IsQuietBut, IsUntouched, IsUntouchedBut, IsUser, no_execution, users_of}
+use Rattle.wf_box.specs.Quiet.{AreTold, IsQuiet, IsQuietBut, IsUntouched, IsUntouchedBut, no_execution}
+use Rattle.wf_box.specs.Users.{HasBit, IsUser, no_word, users_of}
+use Rattle.wf_box.specs.declared.users.UserWord.{UserWord}
 use Rattle.wf_box.specs.Steps.{reached}
 use Rattle.wf_box.specs.declared.problem.Rule.{Rule}
 use Rattle.wf_box.specs.declared.problem.PackedExecution.{PackedExecution}
@@ -29,12 +31,26 @@ use Rattle.wf_model.proofs.Solved.{sweep_nothing}
 use Rattle.wf_box.proofs.CloseLemmas.{empty_there, point_there}
 use Rattle.wf_set.proofs.Lemmas.{set_at}
 
+-- a word with an execution is there
+word_there : (ws : List UserWord) (k e : ℕ) → HasBit (get_or ws k no_word) e → k < length ws
+word_there [] k e has = absurd (let bad : ⊥ = omega (arith, has.1, bit_at-zero (e % 64)) in bad)
+word_there (w ∷ ws) zero e has = omega arith
+word_there (w ∷ ws) (suc k) e has = omega (arith, word_there ws k e has)
+
 -- the executions of a point are marked
-pub marked_user : (u : Users) (v e : ℕ) (numbers marks : List ℕ) → numbers ≡ users_of u v → ((i : ℕ) → i < length numbers → bit_of marks (slice_index numbers i) ≡ 1) → bit_of marks e ≡ 0 → IsUser u v e → ⊥
-marked_user u v e numbers marks is marked none user =
-    let there = marked user.0 (omega (arith, user.1, ap length is)) in
-    let same : slice_index numbers user.0 ≡ e = ap (λ ns. slice_index ns user.0) is ∙ user.2 in
-    omega (arith, there, none, ap (bit_of marks) same)
+pub user_marked : (u : Users) (v e : ℕ) (ws : List UserWord) (marks : List ℕ) → ws ≡ users_of u v → MarksEach marks ws → IsUser u v e → bit_of marks e ≡ 1
+user_marked u v e ws marks is marked user =
+    let from = slice_index u.starts.items v in
+    let to = slice_index u.starts.items (v + 1) in
+    let all = u.words.items in
+    let k = user.0 in
+    let back : from + (k - from) ≡ k = omega (arith, user.1) in
+    let low : k - from < to - from = omega (arith, user.1, user.2) in
+    let at : get_or ws (k - from) no_word ≡ get_or all k no_word = ap (λ xs. get_or xs (k - from) no_word) is ∙ get_or-take (to - from) (drop from all) (k - from) no_word low ∙ get_or-drop from all (k - from) no_word ∙ ap (λ n. get_or all n no_word) back in
+    marked (k - from) (omega (arith, ap length is, length-take (to - from) (drop from all), length-drop from all, user.1, low, word_there all k e user.3)) e (subst (λ w. HasBit w e) (sym at) user.3)
+
+pub marked_user : (u : Users) (v e : ℕ) (ws : List UserWord) (marks : List ℕ) → ws ≡ users_of u v → MarksEach marks ws → bit_of marks e ≡ 0 → IsUser u v e → ⊥
+marked_user u v e ws marks is marked none user = omega (arith, none, user_marked u v e ws marks is marked user)
 
 -- ---- what is lost hangs on the candidates of the execution's points alone
 
@@ -163,10 +179,6 @@ quiet_again rules es u number words marks fewer more within told long quiet unto
     ]
 
 -- ---- the executions of the points that changed
-
-pub user_marked : (u : Users) (v e : ℕ) (numbers marks : List ℕ) → numbers ≡ users_of u v → ((i : ℕ) → i < length numbers → bit_of marks (slice_index numbers i) ≡ 1) → IsUser u v e → bit_of marks e ≡ 1
-user_marked u v e numbers marks is marked user =
-    sym (ap (bit_of marks) (ap (λ ns. slice_index ns user.0) is ∙ user.2)) ∙ marked user.0 (omega (arith, user.1, ap length is))
 
 pub stays_marked : (marks more : List ℕ) (e : ℕ) → IsMore marks more → bit_of marks e ≡ 1 → bit_of more e ≡ 1
 stays_marked marks more e kept there =

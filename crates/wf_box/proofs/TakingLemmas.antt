@@ -1,19 +1,26 @@
 -- One candidate is taken out, and then each of some values.
-use Rattle.std.proofs.Common.{◌≡◌, ℕ, zero, suc, ◌<◌, ◌==◌, true, not, List, [], ◌∷◌, ◌++◌, map, filter, length, get_or, Some, None, refl, sym, ap, ◌∙◌, subst, append_assoc, arith, false, eqb-true}
-use Rattle.std.specs.List.{slice_set}
+use Rattle.std.proofs.Common.{◌≡◌, ℕ, zero, suc, ◌<◌, ◌==◌, ◌&&◌, true, not, nat_lt, All, inl, inr, List, [], ◌∷◌, ◌++◌, map, filter, length, get_or, Some, None, refl, sym, ap, ◌∙◌, subst, append_assoc, arith, false, eqb-true}
+use Rattle.std.specs.List.{AllByRecursion, slice_set}
 use Rattle.std.proofs.lemmas.List.{map-set, map-append, nil_from_length}
-use Rattle.std.proofs.lemmas.Bool.{eq-eqb, false≢true}
+use Rattle.std.proofs.lemmas.Bool.{cases_Bool, eq-eqb, false≢true, lt-ltb}
+use Rattle.std.proofs.lemmas.List.Elements.{All-head, All-tail}
 use Rattle.wf_model.specs.Lists.{has}
 use Rattle.wf_model.specs.Box.{Box, candidates, without, count}
 use Rattle.wf_model.specs.Refutation as refutation
 use Rattle.wf_model.specs.Closing.{Step, Loss, and_then, taken_out, take_out}
+use Rattle.wf_model.proofs.Basics.{has-filter}
 use Rattle.wf_model.proofs.Fuel.{count_set_less}
 use Rattle.wf_model.proofs.Stable.{filter_less}
+use Rattle.wf_set.specs.Parts.{part_values}
 use Rattle.wf_set.specs.Sets.{box_of, values_in}
+use Rattle.wf_set.proofs.PartLaws.{values_small}
+use Rattle.wf_set.proofs.SetLaws.{values_of_part}
 use Rattle.wf_lines.specs.Lines.{line_of}
 use Rattle.wf_lines.specs.declared.line.Line.{Line}
 use Rattle.wf_lines.specs.declared.line.Line.TheVariants as line
-use Rattle.wf_box.specs.Steps.{reached, loss}
+use Rattle.wf_box.specs.Revising.{wide_set}
+use Rattle.wf_box.specs.Steps.{reached, removals, loss}
+use Rattle.wf_box.specs.declared.taking.Occurrence.{Occurrence}
 use Rattle.wf_set.proofs.Lemmas.{set_at}
 
 -- the box without a candidate is that of the sets with one set changed
@@ -82,3 +89,35 @@ set_then words more last v first then = then ∙ ap (λ ws. slice_set ws v (get_
     set_again [] v a b = refl
     set_again (w ∷ words) zero a b = refl
     set_again (w ∷ words) (suc v) a b = ap (λ ws. w ∷ ws) (set_again words v a b)
+
+-- ---- values below 64
+
+pub no_part : (part : ℕ) → true ≡ (length (part_values part) == 0) → part_values part ≡ []
+no_part part is = nil_from_length (part_values part) (eqb-true _ 0 (sym is))
+
+pub some_part : (part : ℕ) → false ≡ (length (part_values part) == 0) → part_values part ≡ [] → ⊥
+some_part part is none = false≢true (is ∙ eq-eqb _ 0 (ap length none))
+
+-- those below 64 that a set has are those that the set has
+small_met : (xs ys : List ℕ) → AllByRecursion (λ y. y < 64) ys → filter (has (filter (λ v. nat_lt v 64) xs)) ys ≡ filter (has xs) ys
+small_met xs [] small = refl
+small_met xs (y ∷ ys) small =
+    let here : has (filter (λ v. nat_lt v 64) xs) y ≡ has xs y = has-filter (λ v. nat_lt v 64) xs y ∙ ap (λ b. b && has xs y) (lt-ltb y 64 small.0) in
+    elim (cases_Bool (has xs y)) [
+      | inl there ↦ rw (here ∙ there, there) (ap (λ zs. y ∷ zs) (small_met xs ys small.1))
+      | inr none ↦ rw (here ∙ none, none) (small_met xs ys small.1)
+    ]
+
+all_small : (ys : List ℕ) → All (λ v. v < 64) ys → AllByRecursion (λ v. v < 64) ys
+all_small [] small = tt
+all_small (y ∷ ys) small = (All-head (λ v. v < 64) y ys small, all_small ys (All-tail (λ v. v < 64) y ys small))
+
+-- what a set has of a part
+pub gone_part : (values first gone : ℕ) (here : List ℕ) → part_values first ≡ filter (λ v. nat_lt v 64) (values_in here) → part_values gone ≡ filter (has (part_values first)) (part_values values)
+    → values_in (wide_set gone) ≡ filter (has (values_in here)) (values_in (wide_set values))
+gone_part values first gone here is met =
+    values_of_part gone ∙ met ∙ ap (λ xs. filter (has xs) (part_values values)) is ∙ small_met (values_in here) (part_values values) (all_small (part_values values) (values_small values))
+    ∙ ap (filter (has (values_in here))) (sym (values_of_part values))
+
+pub named_part : (at : Occurrence) (lines more : List Line) (gone : ℕ) → more ≡ lines ++ removals at (part_values gone) → more ≡ lines ++ removals at (values_in (wide_set gone))
+named_part at lines more gone is = is ∙ ap (λ vs. lines ++ removals at vs) (sym (values_of_part gone))

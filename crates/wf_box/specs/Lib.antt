@@ -12,4 +12,5 @@ pub mod Revising
 pub mod Marks
 pub mod Quiet
 pub mod Stands
+pub mod Users
 pub mod Working

@@ -1,11 +1,13 @@
 -- What a clause sees of the program's problems, and what each of them keeps.
-use Rattle.std.specs.Prelude.{◌≡◌, ◌<◌, ◌≤◌, ℕ, List, [], map, zip, length, get_or, All}
+use Rattle.std.specs.Prelude.{◌≡◌, ◌<◌, ◌≤◌, ℕ, List, [], map, zip, length, get_or, slice_index, All}
 use Rattle.wf_model.specs.Simplex.{Simplex, processes_of}
+use Rattle.wf_model.specs.Task.{IsTaskSimplex}
 use Rattle.wf_model.specs.Task as task
 use Rattle.wf_model.specs.Problem.{Problem, Constraint, IsWellFormed, problem_of}
 use Rattle.wf_set.specs.Sets.{values_in}
 use Rattle.wf_model.specs.Limits.{most_executions, most_points}
-use Rattle.wf_box.specs.Quiet.{AreTold, AreUsers, no_execution}
+use Rattle.wf_box.specs.Quiet.{AreTold, no_execution}
+use Rattle.wf_box.specs.Users.{AreUsers}
 use Rattle.wf_box.specs.declared.problem.Rule.{Rule}
 use Rattle.wf_box.specs.declared.problem.PackedExecution.{PackedExecution}
 use Rattle.wf_box.specs.declared.problem.Network.{Network}
@@ -13,7 +15,7 @@ use Rattle.wf_box.specs.declared.problem.Problem.TheInside.{Inside}
 
 -- no input simplex at all
 abbrev pub no_rule : Rule
-no_rule = record { simplex = []; table = record { width = 0; rows = [] }; like = 0 }
+no_rule = record { simplex = []; places = 0; processes = []; table = record { width = 0; rows = [] }; like = 0 }
 
 -- the rule as the definitions have it
 abbrev pub rule_seen : Rule → task.Rule
@@ -23,9 +25,13 @@ rule_seen rule = record { input = rule.simplex; tuples = rule.table.rows }
 abbrev pub IsWide : Rule → Type 0
 IsWide rule = rule.table.width ≡ length rule.simplex
 
--- there are four processes at most
-abbrev pub IsNarrow : Rule → Type 0
-IsNarrow rule = length rule.simplex ≤ 4
+-- it keeps how many processes its simplex has, four at most, and which ones
+pub record KeepsProcesses (rule : Rule) : Type 0 where
+  pub simplex : IsTaskSimplex rule.simplex
+  pub narrow : length rule.simplex ≤ 4
+  pub places : rule.places ≡ length rule.simplex
+  pub long : length rule.processes ≡ 4
+  pub processes : (i : ℕ) → i < length rule.simplex → slice_index rule.processes i ≡ slice_index (processes_of rule.simplex) i
 
 -- it names a rule that has the same table
 pub record IsAlike (rules : List Rule) (rule : Rule) : Type 0 where
@@ -43,6 +49,10 @@ HasTable simplex tuples rules number = (get_or rules number no_rule).table ≡ r
 -- the rule of an execution
 abbrev pub rule_of : List Rule → PackedExecution → Rule
 rule_of rules e = get_or rules e.rule no_rule
+
+-- the execution names the rule that its own rule names
+abbrev pub IsLike : List Rule → PackedExecution → Type 0
+IsLike rules e = e.like ≡ (rule_of rules e).like
 
 -- the processes of the execution's simplex, each with its point, and the tuples of that simplex
 abbrev pub constraint_seen : List Rule → PackedExecution → Constraint
@@ -91,8 +101,9 @@ pub record IsNetwork (n : Network) : Type 0 where
   pub few_points : n.points ≤ most_points
   pub few_executions : length n.executions.items ≤ most_executions
   pub wide : All IsWide n.rules.items
-  pub narrow : All IsNarrow n.rules.items
+  pub processes : All KeepsProcesses n.rules.items
   pub alike : AreAlike n.rules.items
+  pub like : All (IsLike n.rules.items) n.executions.items
   pub within : All (IsWithin (length n.rules.items) n.points) n.executions.items
   pub users : AreUsers n.users n.points (length n.executions.items)
   pub told : AreTold n.users n.executions.items

@@ -1,5 +1,5 @@
 -- What executions without a mark keep.
-use Rattle.std.specs.Prelude.{◌≡◌, ◌≢◌, ◌<◌, ◌≤◌, ◌+◌, ◌-◌, ℕ, List, [], length, get_or, slice_index, take, drop, All, None}
+use Rattle.std.specs.Prelude.{◌≡◌, ◌≢◌, ◌<◌, ◌≤◌, ℕ, List, [], length, get_or, slice_index, None}
 use Rattle.wf_model.specs.Problem.{Problem, Constraint, no_constraint}
 use Rattle.wf_model.specs.Box.{Box, first_empty}
 use Rattle.wf_model.specs.Closing.{lost, sweep}
@@ -11,6 +11,7 @@ use Rattle.wf_box.specs.declared.tracked.Tracked.{Tracked}
 use Rattle.wf_box.specs.declared.marks.Marks.{Marks}
 use Rattle.wf_box.specs.declared.problem.PackedExecution.{PackedExecution}
 use Rattle.wf_box.specs.declared.users.Users.{Users}
+use Rattle.wf_box.specs.Users.{IsUser}
 
 -- an execution without a mark has lost nothing
 abbrev pub IsQuiet : List Constraint → List ℕ → Box → Type 0
@@ -23,20 +24,6 @@ MarksTell ks marks t = IsQuiet ks marks.words.items (sets_in t)
 -- and this one may have
 abbrev pub IsQuietBut : ℕ → List Constraint → List ℕ → Box → Type 0
 IsQuietBut number ks marks box = (e : ℕ) → e ≢ number → e < length ks → bit_of marks e ≡ 0 → lost box (get_or ks e no_constraint) ≡ []
-
--- the executions in which a point stands
-abbrev pub users_of : Users → ℕ → List ℕ
-users_of u v = take (slice_index u.starts.items (v + 1) - slice_index u.starts.items v) (drop (slice_index u.starts.items v) u.executions.items)
-
-abbrev pub IsUser : Users → ℕ → ℕ → Type 0
-IsUser u v e = (i : ℕ) × (i < length (users_of u v)) × (slice_index (users_of u v) i ≡ e)
-
--- so many points and executions have users
-pub record AreUsers (u : Users) (points executions : ℕ) : Type 0 where
-  pub long : length u.starts.items ≡ points + 1
-  pub ordered : (v : ℕ) → v < points → slice_index u.starts.items v ≤ slice_index u.starts.items (v + 1)
-  pub within : (v : ℕ) → v < points → slice_index u.starts.items (v + 1) ≤ length u.executions.items
-  pub below : All (λ e. e < executions) u.executions.items
 
 -- an execution without a mark had none before, and its points have the sets that they had
 abbrev pub IsUntouched : Users → List (List ℕ) → List ℕ → List (List ℕ) → List ℕ → Type 0
@@ -56,7 +43,7 @@ EmptiesNoneSince n t = (v : ℕ) → values_in (get_or t.words.items v []) ≡ [
 
 -- no execution
 abbrev pub no_execution : PackedExecution
-no_execution = record { rule = 0; points = [] }
+no_execution = record { rule = 0; like = 0; points = [] }
 
 -- each of its four points knows an execution
 abbrev pub AreTold : Users → List PackedExecution → Type 0

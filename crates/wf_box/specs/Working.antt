@@ -7,7 +7,8 @@ use Rattle.wf_box.specs.Changes.{GrowsTo, KeepsTrack, sets_in}
 use Rattle.wf_box.specs.Closes.{EndsAt}
 use Rattle.wf_box.specs.Marks.{bit_of}
 use Rattle.wf_box.specs.Problems.{constraint_in, constraints_in}
-use Rattle.wf_box.specs.Quiet.{IsUntouched, IsUntouchedBut, IsUser, MarksTell}
+use Rattle.wf_box.specs.Quiet.{IsUntouched, IsUntouchedBut, MarksTell}
+use Rattle.wf_box.specs.Users.{IsUser}
 use Rattle.wf_box.specs.Revising.{AreKnown, answers_in}
 use Rattle.wf_box.specs.Steps.{HasRoom, IsPaid}
 use Rattle.wf_box.specs.declared.problem.Network.{Network}

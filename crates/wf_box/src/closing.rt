@@ -10,22 +10,24 @@ ghost use Rattle.wf_box.specs.Changes.{KeepsTrack, sets_in};
 ghost use Rattle.wf_box.specs.Marks.{KeepsBitsBut, bit_of};
 ghost use Rattle.wf_box.specs.Quiet.{EmptiesNoneSince, IsUntouchedSince, MarksTell, StoodClosed};
 ghost use Rattle.wf_set.specs.Sets.{box_of};
-ghost use Rattle.wf_box.specs.Problems.{IsNetwork, constraint_in, constraints_in};
+ghost use Rattle.wf_lane.specs.Table.{HasSupported};
+ghost use Rattle.wf_box.specs.Problems.{IsNetwork, constraint_in, constraints_in, rule_in};
 ghost use Rattle.wf_box.specs.Steps.{ClosesTo, NamesAll, NamesAt, NamesIn, NamesLost, Reaches, SweepsTo, TakesEach, box_in, point_if, revision};
 ghost use Rattle.wf_box.specs.Closes.{AddsClosing, AreFew, IsEmptied, IsSupported, KeepsSolutions, Leaves, LosesNamed, Takes, emptied_by, sweeps_to_close};
-ghost use Rattle.wf_box.specs.Revising.{AreSame, found_at};
+ghost use Rattle.wf_box.specs.Revising.{AreSame, found_at, found_in, wide_set, widened};
 ghost use Rattle.wf_box.specs.Working.{AreMarked, AreSilent, IsQuietAt, IsWorkingFor, IsWorkingOn, LeavesOthersUntouched, LeavesUntouched, ProceedsFor, ProceedsOn};
 
 use crate::boxed::Box0;
 use crate::marks::Marks;
 use crate::problem::{Network, PackedExecution, Problem};
-use crate::revising::{candidates_at, supported_at};
-use crate::taking::{Occurrence, put, take_each};
+use crate::revising::{candidates_at, narrowed, supported_narrow, supported_sets};
+use crate::taking::{Occurrence, put, take_each, take_each_part};
 use crate::tracked::Tracked;
 use crate::workspace::Workspace;
 use std::alloc::{AllocError, Global};
 use wf_lane::first_empty;
 use wf_lines::{Line, Lines};
+use wf_set::part::{self, Part};
 use wf_set::{Mask, difference, is_empty};
 
 /// How closing ended.
@@ -274,14 +276,148 @@ fn revise(
     ensures named { NamesIn network.now number lines.old workspace.old lines.new workspace.new }
 {
     let execution = network.executions[number as usize];
-    let rule = &network.rules[execution.rule as usize];
-    let sets = &workspace.tracked.words;
-    let Some(supported) = supported_at(number, sets, network, &mut workspace.memo) else {
+    let found = candidates_at(execution, &workspace.tracked.words);
+    match narrowed(found) {
+        Some(parts) => revise_parts(number, parts, network, workspace, lines),
+        None => revise_sets(number, found, network, workspace, lines),
+    }
+}
+
+/// The same, with these candidates, all of them below 64.
+fn revise_parts(
+    number: u32,
+    found: [Part; 4],
+    network: &Network,
+    workspace: &mut Workspace,
+    lines: &mut Lines,
+) -> Option<u32>
+    requires network { IsNetwork network.now }
+    requires number { number < length network.now.executions.items }
+    requires working { IsWorkingOn network.now lines.old workspace.old }
+    requires long { length found ≡ 4 }
+    requires found { widened found
+        ≡ found_in network.now number workspace.old.tracked.words.items }
+    ensures step { Reaches (revision number (constraint_in network.now number))
+        lines.old workspace.old lines.new workspace.new result }
+    ensures proceeds { ProceedsOn network.now
+        lines.old workspace.old lines.new workspace.new result }
+    ensures untouched { LeavesOthersUntouched network.now number workspace.old workspace.new }
+    ensures quiet { IfNone result (IsQuietAt network.now number workspace.new) }
+    ensures named { NamesIn network.now number lines.old workspace.old lines.new workspace.new }
+{
+    let Some(supported) = supported_narrow(number, found, network, &mut workspace.memo) else {
         // what most executions lose is nothing
         return None;
     };
-    let found = candidates_at(execution, &workspace.tracked.words);
-    let processes = rule.simplex.colours();
+    take_parts(number, found, supported, network, workspace, lines)
+}
+
+/// The same, where these of them are supported.
+fn take_parts(
+    number: u32,
+    found: [Part; 4],
+    supported: [Part; 4],
+    network: &Network,
+    workspace: &mut Workspace,
+    lines: &mut Lines,
+) -> Option<u32>
+    requires network { IsNetwork network.now }
+    requires number { number < length network.now.executions.items }
+    requires working { IsWorkingOn network.now lines.old workspace.old }
+    requires found { widened found
+        ≡ found_in network.now number workspace.old.tracked.words.items }
+    requires long { length found ≡ 4 }
+    requires supported_long { length supported ≡ 4 }
+    requires supported { HasSupported (widened supported)
+        (rule_in network.now number).table (widened found) }
+    ensures step { Reaches (revision number (constraint_in network.now number))
+        lines.old workspace.old lines.new workspace.new result }
+    ensures proceeds { ProceedsOn network.now
+        lines.old workspace.old lines.new workspace.new result }
+    ensures untouched { LeavesOthersUntouched network.now number workspace.old workspace.new }
+    ensures quiet { IfNone result (IsQuietAt network.now number workspace.new) }
+    ensures named { NamesIn network.now number lines.old workspace.old lines.new workspace.new }
+{
+    let execution = network.executions[number as usize];
+    let rule = &network.rules[execution.rule as usize];
+    let processes = rule.colours();
+    'places: for place in 0..processes {
+        let lost = part::difference(found[place as usize], supported[place as usize]);
+        if part::is_empty(lost) {
+            continue;
+        }
+        let at = Occurrence {
+            execution: number,
+            process: rule.colour(place),
+            point: execution.points[place as usize],
+        };
+        if take_part(lost, at, network, workspace, lines) {
+            return Some(at.point);
+        }
+    }
+    let sets = &workspace.tracked.words;
+    unmark_parts(
+        number,
+        processes,
+        execution,
+        sets,
+        supported,
+        &mut workspace.marks,
+    );
+    None
+}
+
+/// The same, with these candidates, of which one is 64 or more.
+fn revise_sets(
+    number: u32,
+    found: [Mask; 4],
+    network: &Network,
+    workspace: &mut Workspace,
+    lines: &mut Lines,
+) -> Option<u32>
+    requires network { IsNetwork network.now }
+    requires number { number < length network.now.executions.items }
+    requires working { IsWorkingOn network.now lines.old workspace.old }
+    requires long { length found ≡ 4 }
+    requires found { found ≡ found_in network.now number workspace.old.tracked.words.items }
+    ensures step { Reaches (revision number (constraint_in network.now number))
+        lines.old workspace.old lines.new workspace.new result }
+    ensures proceeds { ProceedsOn network.now
+        lines.old workspace.old lines.new workspace.new result }
+    ensures untouched { LeavesOthersUntouched network.now number workspace.old workspace.new }
+    ensures quiet { IfNone result (IsQuietAt network.now number workspace.new) }
+    ensures named { NamesIn network.now number lines.old workspace.old lines.new workspace.new }
+{
+    let supported = supported_sets(number, found, network, &mut workspace.memo);
+    take_sets(number, found, supported, network, workspace, lines)
+}
+
+/// The same, where these of them are supported.
+fn take_sets(
+    number: u32,
+    found: [Mask; 4],
+    supported: [Mask; 4],
+    network: &Network,
+    workspace: &mut Workspace,
+    lines: &mut Lines,
+) -> Option<u32>
+    requires network { IsNetwork network.now }
+    requires number { number < length network.now.executions.items }
+    requires working { IsWorkingOn network.now lines.old workspace.old }
+    requires found { found ≡ found_in network.now number workspace.old.tracked.words.items }
+    requires long { length found ≡ 4 }
+    requires supported { HasSupported supported (rule_in network.now number).table found }
+    ensures step { Reaches (revision number (constraint_in network.now number))
+        lines.old workspace.old lines.new workspace.new result }
+    ensures proceeds { ProceedsOn network.now
+        lines.old workspace.old lines.new workspace.new result }
+    ensures untouched { LeavesOthersUntouched network.now number workspace.old workspace.new }
+    ensures quiet { IfNone result (IsQuietAt network.now number workspace.new) }
+    ensures named { NamesIn network.now number lines.old workspace.old lines.new workspace.new }
+{
+    let execution = network.executions[number as usize];
+    let rule = &network.rules[execution.rule as usize];
+    let processes = rule.colours();
     'places: for place in 0..processes {
         let lost = difference(found[place as usize], supported[place as usize]);
         if is_empty(lost) {
@@ -289,7 +425,7 @@ fn revise(
         }
         let at = Occurrence {
             execution: number,
-            process: rule.simplex.colour(place),
+            process: rule.colour(place),
             point: execution.points[place as usize],
         };
         if take_place(lost, at, network, workspace, lines) {
@@ -333,6 +469,30 @@ fn unmark(
     }
 }
 
+/// The same of candidates below 64.
+fn unmark_parts(
+    number: u32,
+    places: u8,
+    execution: PackedExecution,
+    sets: &[Mask],
+    supported: [Part; 4],
+    marks: &mut Marks,
+)
+    requires number { number < 64 * length marks.old.words.items }
+    requires places { places ≤ 4 }
+    requires long { length execution.points ≡ 4 }
+    requires within { All (λ v. v < length sets.now) execution.points }
+    ensures others { KeepsBitsBut marks.old.words.items marks.new.words.items number }
+    ensures same { bit_of marks.new.words.items number ≡ 0
+        → AreSame places (found_at execution sets.now) (widened supported)
+        ⊎ (bit_of marks.old.words.items number ≡ 0) }
+    ensures long { length marks.new.words.items ≡ length marks.old.words.items }
+{
+    if are_parts_left(places, execution, sets, supported) {
+        marks.take(number);
+    }
+}
+
 /// Whether the first points of an execution, so many of them, have just these sets.
 fn are_left(count: u8, execution: PackedExecution, sets: &[Mask], supported: [Mask; 4]) -> bool
     requires count { count ≤ 4 }
@@ -347,6 +507,41 @@ fn are_left(count: u8, execution: PackedExecution, sets: &[Mask], supported: [Ma
         }
     }
     true
+}
+
+/// Whether the first points of an execution, so many of them, have just the values of these parts.
+fn are_parts_left(
+    count: u8,
+    execution: PackedExecution,
+    sets: &[Mask],
+    supported: [Part; 4],
+) -> bool
+    requires count { count ≤ 4 }
+    requires long { length execution.points ≡ 4 }
+    requires within { All (λ v. v < length sets.now) execution.points }
+    ensures { OnTrue result
+        (AreSame count (found_at execution sets.now) (widened supported)) }
+{
+    let found = candidates_at(execution, sets);
+    is_part(found[0], supported[0])
+        & is_part_below(1, count, found[1], supported[1])
+        & is_part_below(2, count, found[2], supported[2])
+        & is_part_below(3, count, found[3], supported[3])
+}
+
+/// Whether the set has just the values of the part, or the place is past the places.
+fn is_part_below(place: u8, places: u8, set: Mask, part: Part) -> bool
+    ensures { OnTrue result (place < places → set ≡ wide_set part) }
+{
+    (place >= places) | is_part(set, part)
+}
+
+/// Whether the set has just the values of the part.
+fn is_part(set: Mask, part: Part) -> bool
+    ensures { OnTrue result (set ≡ wide_set part) }
+{
+    let [a, b, c, d] = set;
+    (a == part) & (b == 0) & (c == 0) & (d == 0)
 }
 
 /// Takes those of the values out that are still there, ascending, with their
@@ -382,5 +577,36 @@ fn take_place(
     }
     workspace.tracked.note(place.point, before);
     workspace.marks.mark_each(network.users_of(place.point));
+    emptied
+}
+
+/// The same of values below 64.
+fn take_part(
+    lost: Part,
+    place: Occurrence,
+    network: &Network,
+    workspace: &mut Workspace,
+    lines: &mut Lines,
+) -> bool
+    requires network { IsNetwork network.now }
+    requires point { place.point < network.now.points }
+    requires working { IsWorkingOn network.now lines.old workspace.old }
+    ensures step { TakesEach (wide_set lost) place lines.old workspace.old.tracked.words.items
+        lines.new workspace.new.tracked.words.items result }
+    ensures proceeds { ProceedsOn network.now
+        lines.old workspace.old lines.new workspace.new (point_if result place.point) }
+    ensures untouched { LeavesUntouched network.now workspace.old workspace.new }
+    ensures silent { AreSilent network.now place.point workspace.old workspace.new }
+    ensures named { NamesAt place lines.old workspace.old.tracked.words.items
+        lines.new workspace.new.tracked.words.items }
+{
+    let before = workspace.tracked.words[place.point as usize];
+    let emptied = take_each_part(lost, place, &mut workspace.tracked.words, lines);
+    if workspace.tracked.words[place.point as usize] == before {
+        return emptied;
+    }
+    workspace.tracked.note(place.point, before);
+    let users = network.users_of(place.point);
+    workspace.marks.mark_each(users);
     emptied
 }

@@ -3,8 +3,9 @@
 ghost use Rattle.std.specs.Prelude.{◌≡◌, ◌<◌, ◌≤◌, ◌*◌, ◌/◌, ◌^◌, All, length, slice_index, OnOk, IfSome, IfNone};
 ghost use Rattle.wf_model.specs.Limits.{most_executions};
 ghost use Rattle.wf_box.specs.Limits.{most_words};
-ghost use Rattle.wf_box.specs.Marks.{AreSet, AreSetBelow, IsLast, IsLastHere, IsMore, IsNext, KeepsBitsBut, KeepsWordsBut, TopsTell, bit_of};
+ghost use Rattle.wf_box.specs.Marks.{AreSetBelow, IsLast, IsLastHere, IsMore, IsNext, KeepsBitsBut, KeepsWordsBut, MarksEach, MarksWord, TopsTell, bit_of};
 
+use crate::users::UserWord;
 use std::alloc::{AllocError, Global};
 
 /// Marks on executions, of which the next one is found fast.
@@ -45,30 +46,27 @@ impl Marks {
         Ok(())
     }
 
-    /// Marks an execution.
-    pub(crate) fn mark(&mut self, number: u32)
-        requires { number < 64 * length self.old.words.items }
-        ensures marked { bit_of self.new.words.items number ≡ 1 }
+    /// Marks the executions of these words.
+    pub(crate) fn mark_each(&mut self, words: &[UserWord])
+        requires { All (λ w. w.word < length self.old.words.items) words.now }
+        ensures marked { MarksEach self.new.words.items words.now }
         ensures kept { IsMore self.old.words.items self.new.words.items }
         ensures long { length self.new.words.items ≡ length self.old.words.items }
     {
-        // what most words have already
-        if self.words[number as usize / 64] == 0 {
-            add_bit(&mut self.tops, number as usize / 64);
+        for word in words {
+            self.mark(*word);
         }
-        add_bit(&mut self.words, number as usize);
     }
 
-    /// Marks these executions.
-    pub(crate) fn mark_each(&mut self, numbers: &[u32])
-        requires { All (λ n. n < 64 * length self.old.words.items) numbers.now }
-        ensures marked { AreSet self.new.words.items numbers.now }
+    /// Marks the executions of a word.
+    fn mark(&mut self, users: UserWord)
+        requires { users.word < length self.old.words.items }
+        ensures marked { MarksWord self.new.words.items users }
         ensures kept { IsMore self.old.words.items self.new.words.items }
         ensures long { length self.new.words.items ≡ length self.old.words.items }
     {
-        for number in numbers {
-            self.mark(*number);
-        }
+        add_bit(&mut self.tops, users.word as usize);
+        add_users(&mut self.words, users);
     }
 
     /// Marks all executions.
@@ -180,6 +178,17 @@ fn add_bit(words: &mut Vec<u64>, bit: usize)
     ensures words { KeepsWordsBut words.old.items words.new.items (bit / 64) }
 {
     words[bit / 64] |= 1 << (bit % 64);
+}
+
+/// Sets the bits of these executions.
+fn add_users(words: &mut Vec<u64>, users: UserWord)
+    requires { users.word < length words.old.items }
+    ensures marked { MarksWord words.new.items users }
+    ensures kept { IsMore words.old.items words.new.items }
+    ensures long { length words.new.items ≡ length words.old.items }
+    ensures words { KeepsWordsBut words.old.items words.new.items users.word }
+{
+    words[users.word as usize] |= users.bits;
 }
 
 /// Takes a bit away.

@@ -1,15 +1,16 @@
 //! The constraint problem of a task and its protocol complex.
 
-ghost use Rattle.std.specs.Prelude.{◌≡◌, ◌<◌, ◌≤◌, ◌^◌, ℕ, All, length, map, take, IfOk};
-ghost use Rattle.wf_model.specs.Task.{IsTask};
+ghost use Rattle.std.specs.Prelude.{◌≡◌, ◌<◌, ◌≤◌, ◌^◌, ℕ, All, length, map, slice_index, take, IfOk};
+ghost use Rattle.wf_model.specs.Simplex.{processes_of};
+ghost use Rattle.wf_model.specs.Task.{IsTask, IsTaskSimplex};
 ghost use Rattle.wf_model.specs.Problem.{IsWellFormed, problem_of};
 ghost use Rattle.wf_complex.specs.Protocol.{IsProtocol};
 ghost use Rattle.wf_model.specs.Split.{most_values};
 ghost use Rattle.wf_model.specs.Limits.{most_executions, most_points};
-ghost use Rattle.wf_box.specs.Problems.{AreExecutionsOf, AreWithin, AreAlike, HasTable, IsNarrow, IsNetwork, IsRuleOf, IsWide, rule_in, rule_seen};
-ghost use Rattle.wf_box.specs.Quiet.{users_of};
+ghost use Rattle.wf_box.specs.Problems.{AreExecutionsOf, AreWithin, AreAlike, HasTable, IsLike, IsNetwork, IsRuleOf, IsWide, KeepsProcesses, rule_in, rule_seen};
+ghost use Rattle.wf_box.specs.Users.{AreWordsBelow, users_of};
 
-use crate::users::Users;
+use crate::users::{UserWord, Users};
 use std::alloc::{AllocError, Global};
 use std::marker::Model;
 use wf_complex::Protocol;
@@ -25,6 +26,9 @@ const NEAR: usize = 64;
 #[derive(Drop)]
 pub(crate) struct Rule {
     pub(crate) simplex: Simplex,
+    // how many processes the simplex has, and which ones
+    pub(crate) places: u8,
+    pub(crate) processes: [u8; 4],
     pub(crate) table: TupleTable,
     // the number of a rule with the same table
     pub(crate) like: u32,
@@ -42,23 +46,59 @@ impl Rule {
         requires few { length tuples.now < 2 ^ 32 }
         ensures rule { IfOk result (IsRuleOf simplex tuples.now) }
         ensures wide { IfOk result IsWide }
-        ensures narrow { IfOk result IsNarrow }
+        ensures processes { IfOk result KeepsProcesses }
         ensures like { IfOk result (λ rule. rule.like ≡ like) }
     {
         let table = TupleTable::build(alloc, tuples, simplex.colours())?;
         Ok(Rule {
             simplex,
+            places: simplex.colours(),
+            processes: processes(simplex),
             table,
             like,
         })
     }
+
+    /// How many processes its simplex has.
+    pub(crate) fn colours(&self) -> u8
+        requires kept { KeepsProcesses self.now }
+        ensures count { result ≡ length self.now.simplex }
+        ensures few { result ≤ 4 }
+        ensures simplex { IsTaskSimplex self.now.simplex }
+    {
+        self.places
+    }
+
+    /// The process of its simplex at a place.
+    pub(crate) fn colour(&self, place: u8) -> u8
+        requires kept { KeepsProcesses self.now }
+        requires place { place < length self.now.simplex }
+        ensures { result ≡ slice_index (processes_of self.now.simplex) place }
+    {
+        self.processes[place as usize]
+    }
 }
 
-/// An execution: the number of its input simplex, and the points of its processes. The points past
-/// their number are that of the first process, and are not used.
+/// The processes of a simplex, ascending, and then 0.
+fn processes(simplex: Simplex) -> [u8; 4]
+    ensures long { length result ≡ 4 }
+    ensures processes { (i : ℕ) → i < length simplex
+        → slice_index result i ≡ slice_index (processes_of simplex) i }
+{
+    let mut processes = [0; 4];
+    for place in 0..simplex.colours() {
+        processes[place as usize] = simplex.colour(place);
+    }
+    processes
+}
+
+/// An execution: the number of its input simplex, which is that of its rule, the number of a rule
+/// that has the same table, and the points of its processes. The points past their number are that
+/// of the first process, and are not used.
 #[derive(Clone, Copy, Debug)]
 pub(crate) struct PackedExecution {
     pub(crate) rule: u32,
+    pub(crate) like: u32,
     pub(crate) points: [u32; 4],
 }
 
@@ -79,15 +119,15 @@ impl Network {
         requires execution { execution < length self.now.executions.items }
         ensures { result ≡ (rule_in self.now execution).like }
     {
-        self.rules[self.executions[execution].rule as usize].like
+        self.executions[execution].like
     }
 
     /// The executions in which a point stands.
-    pub(crate) fn users_of(&self, point: u32) -> &[u32]
+    pub(crate) fn users_of(&self, point: u32) -> &[UserWord]
         requires network { IsNetwork self.now }
         requires point { point < self.now.points }
         ensures users { result.now ≡ users_of self.now.users point }
-        ensures below { All (λ e. e < length self.now.executions.items) result.now }
+        ensures below { AreWordsBelow (length self.now.executions.items) result.now }
     {
         self.users
             .of(point, self.points, self.executions.len() as u32)
@@ -155,7 +195,7 @@ impl Problem {
 fn rules(alloc: Global, task: &Task) -> Result<Vec<Rule>, AllocError>
     ensures rules { IfOk result (λ rules. map rule_seen rules.items ≡ task.now.delta) }
     ensures wide { IfOk result (λ rules. All IsWide rules.items) }
-    ensures narrow { IfOk result (λ rules. All IsNarrow rules.items) }
+    ensures processes { IfOk result (λ rules. All KeepsProcesses rules.items) }
     ensures alike { IfOk result (λ rules. AreAlike rules.items) }
     ensures task { IsTask task.now }
 {
@@ -203,13 +243,16 @@ fn executions(
         (λ executions. AreExecutionsOf task.now protocol.now.rounds rules.now executions.items) }
     ensures within { IfOk result
         (λ executions. AreWithin rules.now (length protocol.now.points) executions.items) }
+    ensures like { IfOk result (λ executions. All (IsLike rules.now) executions.items) }
     ensures few { IfOk result (λ executions. length executions.items ≤ most_executions) }
 {
     let count = protocol.executions();
     let mut executions = Vec::with_capacity(alloc, count as usize)?;
     for number in 0..count {
+        let rule = protocol.simplex_of(number);
         executions.push(PackedExecution {
-            rule: protocol.simplex_of(number),
+            rule,
+            like: rules[rule as usize].like,
             points: four(protocol.points_of(number)),
         })?;
     }

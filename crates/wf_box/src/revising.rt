@@ -2,41 +2,17 @@
 
 ghost use Rattle.std.specs.Prelude.{◌≡◌, ◌<◌, ◌∷◌, [], ℕ, All, length, slice_index, IfSome};
 ghost use Rattle.std.specs.Bool.{OnTrue};
-ghost use Rattle.wf_lane.specs.Table.{HasSupported};
+ghost use Rattle.wf_lane.specs.Table.{AreFirstParts, HasSupported};
 ghost use Rattle.wf_box.specs.Problems.{IsNetwork, constraints_in, rule_in};
-ghost use Rattle.wf_box.specs.Revising.{AreKnown, answers_in, found_at, found_in, left_of, parts_in, widened};
+ghost use Rattle.wf_box.specs.Revising.{AreKnown, answers_in, found_at, left_of, parts_in, widened};
 
 use crate::memo::{Memo, Revised, RevisedParts, RevisedWord, slot_of};
 use crate::problem::{Network, PackedExecution};
-use wf_set::Mask;
 use wf_set::part::Part;
+use wf_set::{Mask, first_part};
 
 /// Parts of values below 16 are below this one.
 const SMALL_LIMIT: u64 = 65_536;
-
-/// The values that the rule of an execution supports at each place for the candidates of its
-/// points; none where those are all that the candidates have. Answers are kept, since many
-/// executions of a simplex have the same candidates, and have them again.
-pub(crate) fn supported_at(
-    number: u32,
-    sets: &[Mask],
-    network: &Network,
-    memo: &mut Memo,
-) -> Option<[Mask; 4]>
-    requires network { IsNetwork network.now }
-    requires number { number < length network.now.executions.items }
-    requires long { length sets.now ≡ network.now.points }
-    requires known { AreKnown (constraints_in network.now) (answers_in memo.old) }
-    ensures supported { HasSupported (left_of (found_in network.now number sets.now) result)
-        (rule_in network.now number).table (found_in network.now number sets.now) }
-    ensures known { AreKnown (constraints_in network.now) (answers_in memo.new) }
-{
-    let execution = network.executions[number as usize];
-    match narrowed(candidates_at(execution, sets)) {
-        Some(parts) => supported_narrow(number, parts, network, memo),
-        None => Some(supported_sets(number, candidates_at(execution, sets), network, memo)),
-    }
-}
 
 /// The candidates of the points of an execution; past their number those of the first point.
 pub(crate) fn candidates_at(execution: PackedExecution, sets: &[Mask]) -> [Mask; 4]
@@ -54,18 +30,22 @@ pub(crate) fn candidates_at(execution: PackedExecution, sets: &[Mask]) -> [Mask;
     ]
 }
 
-/// The same for candidates below 64.
-fn supported_narrow(
+/// The values that the rule of an execution supports at each place for some candidates below 64;
+/// none where those are all that the candidates have. Answers are kept, since many executions of a
+/// simplex have the same candidates, and have them again.
+pub(crate) fn supported_narrow(
     number: u32,
     candidates: [Part; 4],
     network: &Network,
     memo: &mut Memo,
-) -> Option<[Mask; 4]>
+) -> Option<[Part; 4]>
     requires network { IsNetwork network.now }
     requires number { number < length network.now.executions.items }
+    requires long { length candidates ≡ 4 }
     requires known { AreKnown (constraints_in network.now) (answers_in memo.old) }
-    ensures supported { HasSupported (left_of (widened candidates) result)
+    ensures supported { HasSupported (widened (left_of candidates result))
         (rule_in network.now number).table (widened candidates) }
+    ensures long { IfSome result (λ parts. length parts ≡ 4) }
     ensures known { AreKnown (constraints_in network.now) (answers_in memo.new) }
 {
     match packed(candidates) {
@@ -75,12 +55,13 @@ fn supported_narrow(
 }
 
 /// The same for candidates below 16, in one word.
-fn supported_word(number: u32, word: u64, network: &Network, memo: &mut Memo) -> Option<[Mask; 4]>
+fn supported_word(number: u32, word: u64, network: &Network, memo: &mut Memo) -> Option<[Part; 4]>
     requires network { IsNetwork network.now }
     requires number { number < length network.now.executions.items }
     requires known { AreKnown (constraints_in network.now) (answers_in memo.old) }
-    ensures supported { HasSupported (left_of (widened (parts_in word)) result)
+    ensures supported { HasSupported (widened (left_of (parts_in word) result))
         (rule_in network.now number).table (widened (parts_in word)) }
+    ensures long { IfSome result (λ parts. length parts ≡ 4) }
     ensures known { AreKnown (constraints_in network.now) (answers_in memo.new) }
 {
     let like = network.like_at(number as usize);
@@ -103,22 +84,21 @@ fn revise_word(
     word: u64,
     network: &Network,
     memo: &mut Memo,
-) -> Option<[Mask; 4]>
+) -> Option<[Part; 4]>
     requires network { IsNetwork network.now }
     requires number { number < length network.now.executions.items }
     requires known { AreKnown (constraints_in network.now) (answers_in memo.old) }
-    ensures supported { HasSupported (left_of (widened (parts_in word)) result)
+    ensures supported { HasSupported (widened (left_of (parts_in word) result))
         (rule_in network.now number).table (widened (parts_in word)) }
+    ensures long { IfSome result (λ parts. length parts ≡ 4) }
     ensures known { AreKnown (constraints_in network.now) (answers_in memo.new) }
 {
     let rule = &network.rules[network.executions[number as usize].rule as usize];
     let candidates = unpacked(word);
     let masks = rule.table.revise(widened(candidates)).masks;
-    let Some(parts) = narrowed(masks) else {
-        return Some(masks);
-    };
-    let Some(supported) = packed(up_to(rule.simplex.colours(), parts, candidates)) else {
-        return Some(masks);
+    let parts = up_to(rule.colours(), first_parts(masks), candidates);
+    let Some(supported) = packed(parts) else {
+        return Some(parts);
     };
     memo.keep_small(
         slot,
@@ -131,14 +111,15 @@ fn revise_word(
     changed_word(word, supported)
 }
 
-/// The sets that are packed in the other word, where it is not the first one.
-fn changed_word(word: u64, other: u64) -> Option<[Mask; 4]>
-    ensures { left_of (widened (parts_in word)) result ≡ widened (parts_in other) }
+/// The parts in the other word, where it is not the first one.
+fn changed_word(word: u64, other: u64) -> Option<[Part; 4]>
+    ensures parts { left_of (parts_in word) result ≡ parts_in other }
+    ensures long { IfSome result (λ parts. length parts ≡ 4) }
 {
     if word == other {
         return None;
     }
-    Some(widened(unpacked(other)))
+    Some(unpacked(other))
 }
 
 /// The parts in one word, 16 bits each, where each value is below 16.
@@ -171,12 +152,14 @@ fn supported_parts(
     candidates: [Part; 4],
     network: &Network,
     memo: &mut Memo,
-) -> Option<[Mask; 4]>
+) -> Option<[Part; 4]>
     requires network { IsNetwork network.now }
     requires number { number < length network.now.executions.items }
+    requires long { length candidates ≡ 4 }
     requires known { AreKnown (constraints_in network.now) (answers_in memo.old) }
-    ensures supported { HasSupported (left_of (widened candidates) result)
+    ensures supported { HasSupported (widened (left_of candidates result))
         (rule_in network.now number).table (widened candidates) }
+    ensures long { IfSome result (λ parts. length parts ≡ 4) }
     ensures known { AreKnown (constraints_in network.now) (answers_in memo.new) }
 {
     let like = network.like_at(number as usize);
@@ -199,20 +182,19 @@ fn revise_parts(
     candidates: [Part; 4],
     network: &Network,
     memo: &mut Memo,
-) -> Option<[Mask; 4]>
+) -> Option<[Part; 4]>
     requires network { IsNetwork network.now }
     requires number { number < length network.now.executions.items }
+    requires long { length candidates ≡ 4 }
     requires known { AreKnown (constraints_in network.now) (answers_in memo.old) }
-    ensures supported { HasSupported (left_of (widened candidates) result)
+    ensures supported { HasSupported (widened (left_of candidates result))
         (rule_in network.now number).table (widened candidates) }
+    ensures long { IfSome result (λ parts. length parts ≡ 4) }
     ensures known { AreKnown (constraints_in network.now) (answers_in memo.new) }
 {
     let rule = &network.rules[network.executions[number as usize].rule as usize];
     let masks = rule.table.revise(widened(candidates)).masks;
-    let Some(parts) = narrowed(masks) else {
-        return Some(masks);
-    };
-    let supported = up_to(rule.simplex.colours(), parts, candidates);
+    let supported = up_to(rule.colours(), first_parts(masks), candidates);
     memo.keep_narrow(
         slot,
         RevisedParts {
@@ -224,14 +206,25 @@ fn revise_parts(
     changed(candidates, supported)
 }
 
-/// The sets of the other parts, where they are not the first ones.
-fn changed(parts: [Part; 4], others: [Part; 4]) -> Option<[Mask; 4]>
-    ensures { left_of (widened parts) result ≡ widened others }
+/// The other parts, where they are not the first ones.
+fn changed(parts: [Part; 4], others: [Part; 4]) -> Option<[Part; 4]>
+    ensures parts { left_of parts result ≡ others }
+    ensures long { IfSome result (λ parts. length parts ≡ 4) }
 {
     if parts == others {
         return None;
     }
-    Some(widened(others))
+    let [a, b, c, d] = others;
+    Some([a, b, c, d])
+}
+
+/// The values below 64 of each set.
+fn first_parts(sets: [Mask; 4]) -> [Part; 4]
+    ensures parts { AreFirstParts result sets }
+    ensures long { length result ≡ 4 }
+{
+    let [a, b, c, d] = sets;
+    [first_part(a), first_part(b), first_part(c), first_part(d)]
 }
 
 /// The first parts up to a place, and then the others.
@@ -255,7 +248,7 @@ fn part_if(test: bool, part: Part, other: Part) -> Part
 }
 
 /// The sets of these parts.
-fn widened(parts: [Part; 4]) -> [Mask; 4]
+pub(crate) fn widened(parts: [Part; 4]) -> [Mask; 4]
     ensures { result ≡ widened parts }
 {
     let [a, b, c, d] = parts;
@@ -263,7 +256,7 @@ fn widened(parts: [Part; 4]) -> [Mask; 4]
 }
 
 /// The parts of these sets, where each value is below 64.
-fn narrowed(sets: [Mask; 4]) -> Option<[Part; 4]>
+pub(crate) fn narrowed(sets: [Mask; 4]) -> Option<[Part; 4]>
     ensures parts { IfSome result (λ parts. widened parts ≡ sets) }
     ensures long { IfSome result (λ parts. length parts ≡ 4) }
 {
@@ -285,7 +278,7 @@ fn is_low(set: Mask) -> bool
 
 /// The values that the rule of an execution supports at each place for some
 /// candidates, of which one is 64 or more.
-fn supported_sets(
+pub(crate) fn supported_sets(
     number: u32,
     candidates: [Mask; 4],
     network: &Network,

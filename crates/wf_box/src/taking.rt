@@ -5,12 +5,15 @@ ghost use Rattle.std.specs.Bool.{OnFalse, OnTrue};
 ghost use Rattle.wf_model.specs.Lists.{has};
 ghost use Rattle.std.specs.List.{slice_set};
 ghost use Rattle.wf_model.specs.Box.{candidates, count};
+ghost use Rattle.wf_set.specs.Parts.{part_values};
 ghost use Rattle.wf_set.specs.Sets.{box_of, values_in};
+ghost use Rattle.wf_box.specs.Revising.{wide_set};
 ghost use Rattle.wf_box.specs.Closes.{EndsAt};
 ghost use Rattle.wf_box.specs.Steps.{HasRoom, IsSpent, NamesAt, TakesEach, TakesOut, removals};
 
 use wf_lines::{Line, Lines};
-use wf_set::{Mask, difference, holds, is_empty, meet, split_first, without};
+use wf_set::part::{self, Part};
+use wf_set::{Mask, difference, first_part, holds, is_empty, meet, split_first, without};
 
 /// A process of an execution, and its point.
 #[derive(Clone, Copy, Debug)]
@@ -49,6 +52,40 @@ pub(crate) fn take_each(values: Mask, at: Occurrence, sets: &mut [Mask], lines: 
     false
 }
 
+/// The same of values below 64.
+pub(crate) fn take_each_part(
+    values: Part,
+    at: Occurrence,
+    sets: &mut [Mask],
+    lines: &mut Lines,
+) -> bool
+    requires point { at.point < length sets.old }
+    requires room { HasRoom lines.old sets.old }
+    ensures step { TakesEach (wide_set values) at lines.old sets.old lines.new sets.new result }
+    ensures long { length sets.new ≡ length sets.old }
+    ensures others { sets.new ≡ slice_set sets.old at.point (get_or sets.new at.point []) }
+    ensures fewer { count (box_of sets.new) ≤ count (box_of sets.old) }
+    ensures same { count (box_of sets.new) ≡ count (box_of sets.old) → sets.new ≡ sets.old }
+    ensures emptied { OnTrue result (EndsAt lines.new.items (box_of sets.new) at.point) }
+    ensures named { NamesAt at lines.old sets.old lines.new sets.new }
+    ensures room { OnFalse result (HasRoom lines.new sets.new) }
+    ensures spent { OnFalse result (IsSpent lines.old sets.old lines.new sets.new) }
+{
+    let point = at.point as usize;
+    let set = sets[point];
+    let left = difference(set, [values, 0, 0, 0]);
+    if is_empty(left) {
+        return take_in_turn([values, 0, 0, 0], at, sets, lines);
+    }
+    let gone = part::meet(values, first_part(set));
+    if part::is_empty(gone) {
+        return false;
+    }
+    name_part(gone, at, lines);
+    sets[point] = left;
+    false
+}
+
 /// Adds a line for each of the values, ascending, for which there is room.
 fn name_each(values: Mask, at: Occurrence, lines: &mut Lines)
     requires { vec_len lines.old + length (values_in values) ≤ vec_capacity lines.old }
@@ -71,7 +108,29 @@ fn name_each(values: Mask, at: Occurrence, lines: &mut Lines)
     }
 }
 
-/// The same, one value after another.
+/// The same of values below 64.
+fn name_part(values: Part, at: Occurrence, lines: &mut Lines)
+    requires { vec_len lines.old + length (part_values values) ≤ vec_capacity lines.old }
+    ensures lines { lines.new.items ≡ lines.old.items ++ removals at (part_values values) }
+    ensures len { vec_len lines.new ≡ vec_len lines.old + length (part_values values) }
+    ensures room { vec_capacity lines.old ≤ vec_capacity lines.new }
+{
+    let mut left = values;
+    'values: while let Some(next) = part::split_first(left) {
+        let (value, rest) = next;
+        left = rest;
+        put(
+            lines,
+            Line::Remove {
+                execution: at.execution,
+                process: at.process,
+                value,
+            },
+        );
+    }
+}
+
+/// Takes those of the values out that are still there, one after another.
 fn take_in_turn(values: Mask, at: Occurrence, sets: &mut [Mask], lines: &mut Lines) -> bool
     requires point { at.point < length sets.old }
     requires room { HasRoom lines.old sets.old }

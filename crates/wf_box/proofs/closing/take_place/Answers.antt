@@ -4,7 +4,7 @@ use Rattle.std.specs.List.{slice_set}
 use Rattle.std.specs.Cmp.Lexicographic.{bytes_decides, pointwise}
 use Rattle.std.proofs.lemmas.Bool.{cases_eq, false≢true}
 use Rattle.std.proofs.lemmas.List.{with_items_is, get_or-set_other}
-use Rattle.wf_box.specs.Quiet.{IsUser}
+use Rattle.wf_box.specs.Users.{IsUser}
 use Rattle.wf_box.specs.Steps.{IsNamed}
 use Rattle.wf_box.specs.Changes.{IsGrown, IsTracked}
 use Rattle.wf_box.proofs.QuietLemmas.{marked_user}
@@ -96,3 +96,6 @@ returns-clause-untouched c = λ e none.
             ∙ ap (λ ws. get_or ws v []) c.deref_mut.ensures.value
       ],
     )
+
+pub returns-clause-silent : goal.returns-clause-silent
+returns-clause-silent c = λ e user none. absurd (marked_user c.args.network.now.users c.args.place.point e c.users_of.result.now c.mark_each.new.self.words.items c.users_of.ensures.users c.mark_each.ensures.marked none user)

@@ -3,7 +3,7 @@ use Rattle.wf_lane.specs.Table.{HasSupported}
 use Rattle.wf_box.specs.Problems.{constraints_in, rule_in, rule_of}
 use Rattle.wf_box.specs.Revising.{widened}
 use Rattle.wf_box.specs.declared.problem.Rule.{Rule}
-use Rattle.wf_box.proofs.MemoLemmas.{known_now, supported_up_to}
+use Rattle.wf_box.proofs.MemoLemmas.{known_now, first_supported}
 use Rattle.wf_box.proofs.ProblemLemmas.{known_at}
 use Rattle.wf_box.proofs.WorkLemmas.{execution_is, execution_within, few_at}
 use Rattle.wf_box.proofs.revising.revise_parts.Goals as goal
@@ -20,12 +20,12 @@ new_answer c =
     let raw : HasSupported c.revise.result.masks rule.table (widened c.args.candidates) = subst (HasSupported c.revise.result.masks rule.table) c.widened.ensures c.revise.ensures.supported in
     let wide : rule.table.width ≡ c.colours.result = known.wide ∙ sym c.colours.ensures.count in
     subst (λ (r : Rule). HasSupported (widened c.up_to-supported.result) r.table (widened c.args.candidates)) (sym is)
-    (supported_up_to c.revise.result.masks (widened c.args.candidates) c.in-Some.parts c.up_to-supported.result rule.table c.up_to-supported.ensures.long c.in-Some.ensures.long
-    (omega (arith, wide, c.colours.ensures.few)) c.in-Some.ensures.parts (λ i low. c.up_to-supported.ensures.firsts i (omega (arith, low, wide))) raw)
+    (first_supported c.revise.result.masks c.args.candidates c.first_parts.result c.up_to-supported.result rule.table c.up_to-supported.ensures.long c.requires.long
+    (omega (arith, wide, c.colours.ensures.few)) c.first_parts.ensures.parts (λ i low. c.up_to-supported.ensures.firsts i (omega (arith, low, wide))) raw)
 
 pub returns-clause-supported : goal.returns-clause-supported
 returns-clause-supported c =
-    subst (λ masks. HasSupported masks (rule_in c.args.network.now c.args.number).table (widened c.args.candidates)) (sym c.changed.ensures) (new_answer c)
+    subst (λ parts. HasSupported (widened parts) (rule_in c.args.network.now c.args.number).table (widened c.args.candidates)) (sym c.changed.ensures.parts) (new_answer c)
 
 pub returns-clause-known : goal.returns-clause-known
 returns-clause-known c =

@@ -21,5 +21,5 @@ returns-clause-supported c =
     let serves : HasSupported (widened known.supported) (rule_in n c.args.number).table (widened known.candidates) =
     known_serves n c.args.number (record { execution = known.execution; candidates = widened known.candidates; supported = widened known.supported }) c.requires.network c.requires.number inside
     (same_table n known.execution c.args.number c.requires.network inside c.requires.number same_like) right in
-    subst (λ masks. HasSupported masks (rule_in n c.args.number).table (widened c.args.candidates)) (sym c.changed.ensures)
+    subst (λ ps. HasSupported (widened ps) (rule_in n c.args.number).table (widened c.args.candidates)) (sym c.changed.ensures.parts)
     (subst (λ parts. HasSupported (widened known.supported) (rule_in n c.args.number).table (widened parts)) same serves)

@@ -20,5 +20,5 @@ returns-clause-supported c =
     let serves : HasSupported (widened (parts_in known.supported)) (rule_in n c.args.number).table (widened (parts_in known.candidates)) =
     known_serves n c.args.number (record { execution = known.execution; candidates = widened (parts_in known.candidates); supported = widened (parts_in known.supported) }) c.requires.network c.requires.number inside
     (same_table n known.execution c.args.number c.requires.network inside c.requires.number same_like) right in
-    subst (λ masks. HasSupported masks (rule_in n c.args.number).table (widened (parts_in c.args.word))) (sym c.changed_word.ensures)
+    subst (λ ps. HasSupported (widened ps) (rule_in n c.args.number).table (widened (parts_in c.args.word))) (sym c.changed_word.ensures.parts)
     (subst (λ w. HasSupported (widened (parts_in known.supported)) (rule_in n c.args.number).table (widened (parts_in w))) same serves)

@@ -5,8 +5,8 @@ use Rattle.wf_model.specs.Problem.{Problem, constraint_at}
 use Rattle.wf_model.specs.Closing.{Step, and_then, lost}
 use Rattle.wf_lane.specs.Table.{HasSupported}
 use Rattle.wf_set.specs.Sets.{box_of, values_in}
-use Rattle.wf_box.specs.Problems.{IsWithin, constraint_in, constraint_seen, no_rule, rule_in, rule_of}
-use Rattle.wf_box.specs.Revising.{found_at, found_in, left_of}
+use Rattle.wf_box.specs.Problems.{IsWithin, constraint_in, constraint_seen}
+use Rattle.wf_box.specs.Revising.{found_at}
 use Rattle.wf_box.specs.Steps.{NamesLost, loss, point_if, reached, revision, take_present}
 use Rattle.wf_box.specs.Working.{IsSilent}
 use Rattle.wf_box.specs.declared.problem.Rule.{Rule}
@@ -14,57 +14,17 @@ use Rattle.wf_box.proofs.ProblemLemmas.{known_at}
 use Rattle.wf_box.proofs.StepLemmas.{lost_in_turn, then_keeps}
 use Rattle.wf_box.proofs.NameLemmas.{named_none, named_then, point_of_place}
 use Rattle.wf_box.proofs.QuietLemmas.{nothing_lost, untouched_none, untouched_then}
-use Rattle.wf_box.proofs.PlaceLemmas.{keeps_all, loses_nothing, place_done, no_place_more}
-use Rattle.wf_box.proofs.WorkLemmas.{execution_is, execution_told, execution_within, found_is, proceeds_known, proceeds_marked, proceeds_then, still_working, supported_here}
+use Rattle.wf_box.proofs.PlaceLemmas.{loses_nothing, place_done, no_place_more}
+use Rattle.wf_box.proofs.WorkLemmas.{execution_is, execution_told, execution_within, found_now, proceeds_marked, proceeds_none, proceeds_then, still_working, supported_now}
 use Rattle.wf_model.specs.Box.{count}
 use Rattle.wf_box.proofs.LeftLemmas.{left_supports}
-use Rattle.wf_box.proofs.closing.revise.Goals as goal
-
-pub returns-in_default-clause-step : goal.returns-in_default-clause-step
-returns-in_default-clause-step c =
-    let n = c.args.network.now in
-    let x = c.index.result.now in
-    let rule = c.index-rule.result.now in
-    let words = c.args.workspace.now.tracked.words.items in
-    let sets = c.deref.result.now in
-    let inside = execution_within n c.args.number x c.requires.network c.requires.number c.index.ensures in
-    let known = known_at n.rules.items n.points x rule inside c.requires.network.wide c.index-rule.ensures in
-    let seen : constraint_in n c.args.number ≡ constraint_seen n.rules.items x = ap (constraint_seen n.rules.items) (execution_is n c.args.number x c.requires.number c.index.ensures) in
-    let few : length rule.simplex ≤ 4 = omega (arith, ap (λ (r : Rule). length r.simplex) known.is, c.requires.network.narrow x.rule no_rule inside.rule) in
-    let is : found_in n c.args.number sets ≡ found_at x words = found_is n c.args.number x sets words c.requires.number c.index.ensures c.deref.ensures.value in
-    let all : HasSupported (found_at x words) (rule_of n.rules.items x).table (found_at x words) =
-    supported_here n c.args.number x sets words (found_at x words) (found_at x words) c.requires.number c.index.ensures c.deref.ensures.value refl
-    (subst (λ found. HasSupported found (rule_in n c.args.number).table (found_in n c.args.number sets)) is
-    (subst (λ o. HasSupported (left_of (found_in n c.args.number sets) o) (rule_in n c.args.number).table (found_in n c.args.number sets)) c.in_default.is c.supported_at.ensures.supported)) in
-    keeps_all n.rules.items x rule words (found_at x words) c.args.number c.args.lines.now.items known (subst (λ m. IsWithin (length n.rules.items) m x) (sym c.requires.working.long) inside) few
-    refl (subst (λ (r : Rule). HasSupported (found_at x words) r.table (found_at x words)) known.is all)
-    ∙ ap (λ k. and_then (reached c.args.lines.now.items None words) (revision c.args.number k)) (sym seen)
-
-pub returns-in_default-clause-quiet : goal.returns-in_default-clause-quiet
-returns-in_default-clause-quiet c = λ none.
-    let n = c.args.network.now in
-    let x = c.index.result.now in
-    let rule = c.index-rule.result.now in
-    let words = c.args.workspace.now.tracked.words.items in
-    let sets = c.deref.result.now in
-    let inside = execution_within n c.args.number x c.requires.network c.requires.number c.index.ensures in
-    let known = known_at n.rules.items n.points x rule inside c.requires.network.wide c.index-rule.ensures in
-    let seen : constraint_in n c.args.number ≡ constraint_seen n.rules.items x = ap (constraint_seen n.rules.items) (execution_is n c.args.number x c.requires.number c.index.ensures) in
-    let few : length rule.simplex ≤ 4 = omega (arith, ap (λ (r : Rule). length r.simplex) known.is, c.requires.network.narrow x.rule no_rule inside.rule) in
-    let is : found_in n c.args.number sets ≡ found_at x words = found_is n c.args.number x sets words c.requires.number c.index.ensures c.deref.ensures.value in
-    let all : HasSupported (found_at x words) (rule_of n.rules.items x).table (found_at x words) =
-    supported_here n c.args.number x sets words (found_at x words) (found_at x words) c.requires.number c.index.ensures c.deref.ensures.value refl
-    (subst (λ found. HasSupported found (rule_in n c.args.number).table (found_in n c.args.number sets)) is
-    (subst (λ o. HasSupported (left_of (found_in n c.args.number sets) o) (rule_in n c.args.number).table (found_in n c.args.number sets)) c.in_default.is c.supported_at.ensures.supported)) in
-    ap (lost (box_of words)) seen
-    ∙ loses_nothing n.rules.items x rule words (found_at x words) known (subst (λ m. IsWithin (length n.rules.items) m x) (sym c.requires.working.long) inside) few
-    refl (subst (λ (r : Rule). HasSupported (found_at x words) r.table (found_at x words)) known.is all)
+use Rattle.wf_box.proofs.closing.take_sets.Goals as goal
 
 pub places-init : goal.places-init
 places-init c = (
   λ p at. named_none p c.args.lines.now.items c.args.workspace.now.tracked.words.items,
   ap (λ (s : Step). and_then (reached c.args.lines.now.items None c.args.workspace.now.tracked.words.items) (λ _. s)) (sym (lost_in_turn c.args.number (constraint_seen c.args.network.now.rules.items c.index.result.now) (box_of c.args.workspace.now.tracked.words.items))),
-  proceeds_known _ _ _ c.args.workspace.now _ c.supported_at.ensures.known c.requires.working,
+  proceeds_none _ _ _ _ c.requires.working,
   untouched_none c.args.network.now.users c.args.workspace.now.tracked.words.items c.args.workspace.now.marks.words.items,
   λ none. refl,
 )
@@ -101,10 +61,9 @@ returns-then-take_place-clause-step c =
     let inside = execution_within n c.args.number x c.requires.network c.requires.number c.index.ensures in
     let known = known_at n.rules.items n.points x rule inside c.requires.network.wide c.index-rule.ensures in
     let step = ap (λ b. reached c.take_place.new.lines.items (point_if b (get_or x.points c.places.place 0)) c.take_place.new.workspace.tracked.words.items) (sym c.if-take_place.true) ∙ c.take_place.ensures.step in
-    let done = place_done n.rules.items x rule words c.candidates_at-found.result c.in-Some.supported c.args.number c.places.place c.colour.result c.difference-lost.result
+    let done = place_done n.rules.items x rule words c.args.found c.args.supported c.args.number c.places.place c.colour.result c.difference-lost.result
     (reached c.places.lines.items None c.places.workspace.tracked.words.items) _ known (subst (λ m. IsWithin (length n.rules.items) m x) (sym c.requires.working.long) inside) (omega (arith, c.colours-processes.ensures.count, c.colours-processes.ensures.few)) (omega (arith, c.colours-processes.ensures.count, c.places-test.true))
-    (c.candidates_at-found.ensures.candidates ∙ ap (found_at x) c.deref-2.ensures.value) (supported_here n c.args.number x c.deref.result.now words c.candidates_at-found.result c.in-Some.supported c.requires.number c.index.ensures c.deref.ensures.value (c.candidates_at-found.ensures.candidates ∙ ap (found_at x) c.deref-2.ensures.value)
-    (subst (λ o. HasSupported (left_of (found_in n c.args.number c.deref.result.now) o) (rule_in n c.args.number).table (found_in n c.args.number c.deref.result.now)) c.in-Some.is c.supported_at.ensures.supported)) c.colour.ensures c.difference-lost.ensures step
+    (found_now n c.args.number x words c.args.found c.requires.number c.index.ensures c.requires.found) (supported_now n c.args.number x words c.args.found c.args.supported c.requires.number c.index.ensures c.requires.found c.requires.supported) c.colour.ensures c.difference-lost.ensures step
     ∙ c.places.invariant.1 in
     let seen : constraint_in n c.args.number ≡ constraint_seen n.rules.items x = ap (constraint_seen n.rules.items) (execution_is n c.args.number x c.requires.number c.index.ensures) in
     done ∙ ap (λ k. and_then (reached c.args.lines.now.items None words) (revision c.args.number k)) (sym seen)
@@ -128,10 +87,9 @@ places-preserved-then-is_empty c =
     let none : values_in c.difference-lost.result ≡ [] = nil_from_length _ (eqb-true _ 0 (sym c.is_empty.ensures ∙ c.if-is_empty.true)) in
     let step : now ≡ and_then now (take_present c.args.number (map (loss (get_or (processes_of rule.simplex) c.places.place 0) (get_or x.points c.places.place 0)) (values_in c.difference-lost.result))) =
     sym (then_keeps now) ∙ ap (λ vs. and_then now (take_present c.args.number (map (loss (get_or (processes_of rule.simplex) c.places.place 0) (get_or x.points c.places.place 0)) vs))) (sym none) in
-    let done = place_done n.rules.items x rule words c.candidates_at-found.result c.in-Some.supported c.args.number c.places.place (get_or (processes_of rule.simplex) c.places.place 0) c.difference-lost.result
+    let done = place_done n.rules.items x rule words c.args.found c.args.supported c.args.number c.places.place (get_or (processes_of rule.simplex) c.places.place 0) c.difference-lost.result
     now _ known (subst (λ m. IsWithin (length n.rules.items) m x) (sym c.requires.working.long) inside) (omega (arith, c.colours-processes.ensures.count, c.colours-processes.ensures.few)) (omega (arith, c.colours-processes.ensures.count, c.places-test.true))
-    (c.candidates_at-found.ensures.candidates ∙ ap (found_at x) c.deref-2.ensures.value) (supported_here n c.args.number x c.deref.result.now words c.candidates_at-found.result c.in-Some.supported c.requires.number c.index.ensures c.deref.ensures.value (c.candidates_at-found.ensures.candidates ∙ ap (found_at x) c.deref-2.ensures.value)
-    (subst (λ o. HasSupported (left_of (found_in n c.args.number c.deref.result.now) o) (rule_in n c.args.number).table (found_in n c.args.number c.deref.result.now)) c.in-Some.is c.supported_at.ensures.supported)) refl c.difference-lost.ensures step in
+    (found_now n c.args.number x words c.args.found c.requires.number c.index.ensures c.requires.found) (supported_now n c.args.number x words c.args.found c.args.supported c.requires.number c.index.ensures c.requires.found c.requires.supported) refl c.difference-lost.ensures step in
     (c.places.invariant.0, done ∙ c.places.invariant.1, c.places.invariant.2, c.places.invariant.3, c.places.invariant.4)
 
 pub places-preserved : goal.places-preserved
@@ -143,10 +101,9 @@ places-preserved c =
     let inside = execution_within n c.args.number x c.requires.network c.requires.number c.index.ensures in
     let known = known_at n.rules.items n.points x rule inside c.requires.network.wide c.index-rule.ensures in
     let step = ap (λ b. reached c.take_place.new.lines.items (point_if b (get_or x.points c.places.place 0)) c.take_place.new.workspace.tracked.words.items) (sym c.if-take_place.false) ∙ c.take_place.ensures.step in
-    let done = place_done n.rules.items x rule words c.candidates_at-found.result c.in-Some.supported c.args.number c.places.place c.colour.result c.difference-lost.result
+    let done = place_done n.rules.items x rule words c.args.found c.args.supported c.args.number c.places.place c.colour.result c.difference-lost.result
     (reached c.places.lines.items None c.places.workspace.tracked.words.items) _ known (subst (λ m. IsWithin (length n.rules.items) m x) (sym c.requires.working.long) inside) (omega (arith, c.colours-processes.ensures.count, c.colours-processes.ensures.few)) (omega (arith, c.colours-processes.ensures.count, c.places-test.true))
-    (c.candidates_at-found.ensures.candidates ∙ ap (found_at x) c.deref-2.ensures.value) (supported_here n c.args.number x c.deref.result.now words c.candidates_at-found.result c.in-Some.supported c.requires.number c.index.ensures c.deref.ensures.value (c.candidates_at-found.ensures.candidates ∙ ap (found_at x) c.deref-2.ensures.value)
-    (subst (λ o. HasSupported (left_of (found_in n c.args.number c.deref.result.now) o) (rule_in n c.args.number).table (found_in n c.args.number c.deref.result.now)) c.in-Some.is c.supported_at.ensures.supported)) c.colour.ensures c.difference-lost.ensures step
+    (found_now n c.args.number x words c.args.found c.requires.number c.index.ensures c.requires.found) (supported_now n c.args.number x words c.args.found c.args.supported c.requires.number c.index.ensures c.requires.found c.requires.supported) c.colour.ensures c.difference-lost.ensures step
     ∙ c.places.invariant.1 in
     let named : (p : Problem) → constraint_at p c.args.number ≡ constraint_seen n.rules.items x → NamesLost p c.args.lines.now c.args.workspace.now c.take_place.new.lines c.take_place.new.workspace = λ p at.
     named_then p _ _ _ _ _ _ (c.places.invariant.0 p at)
@@ -183,7 +140,7 @@ returns-clause-named c =
 pub unmark-requires-clause-within : goal.unmark-requires-clause-within
 unmark-requires-clause-within c =
     let inside = execution_within c.args.network.now c.args.number c.index.result.now c.requires.network c.requires.number c.index.ensures in
-    λ i d low. omega (arith, inside.points_within i d low, c.places.invariant.2.long, ap length c.deref-3.ensures.value)
+    λ i d low. omega (arith, inside.points_within i d low, c.places.invariant.2.long, ap length c.deref.ensures.value)
 
 pub unmark-requires-clause-number : goal.unmark-requires-clause-number
 unmark-requires-clause-number c = omega (arith, c.requires.number, c.places.invariant.2.marks_long)
@@ -212,19 +169,17 @@ returns-clause-quiet c = λ none.
     sym (no_place_more (reached c.places.lines.items None fewer) c.args.number (box_of words) (constraint_seen n.rules.items x) c.places.place ps x.points known.scope
     (omega (arith, many, c.colours-processes.ensures.count, c.places-test.false)) (omega (arith, many, c.colours-processes.ensures.count, c.colours-processes.ensures.few, inside.long)))
     ∙ c.places.invariant.1 in
-    let found_here : c.candidates_at-found.result ≡ found_at x words = c.candidates_at-found.ensures.candidates ∙ ap (found_at x) c.deref-2.ensures.value in
-    let left = found_at x c.deref-3.result.now in
-    let left_here : left ≡ found_at x fewer = ap (found_at x) c.deref-3.ensures.value in
-    let left_long : length left ≡ 4 = length-map x.points (λ v. get_or c.deref-3.result.now v []) ∙ inside.long in
-    let right : HasSupported c.in-Some.supported rule.table c.candidates_at-found.result =
-    subst (λ (r : Rule). HasSupported c.in-Some.supported r.table c.candidates_at-found.result) known.is
-    (supported_here n c.args.number x c.deref.result.now words c.candidates_at-found.result c.in-Some.supported c.requires.number c.index.ensures c.deref.ensures.value found_here
-    (subst (λ o. HasSupported (left_of (found_in n c.args.number c.deref.result.now) o) (rule_in n c.args.number).table (found_in n c.args.number c.deref.result.now)) c.in-Some.is c.supported_at.ensures.supported)) in
+    let left = found_at x c.deref.result.now in
+    let left_here : left ≡ found_at x fewer = ap (found_at x) c.deref.ensures.value in
+    let left_long : length left ≡ 4 = length-map x.points (λ v. get_or c.deref.result.now v []) ∙ inside.long in
+    let right : HasSupported c.args.supported rule.table c.args.found =
+    subst (λ (r : Rule). HasSupported c.args.supported r.table c.args.found) known.is
+    (supported_now n c.args.number x words c.args.found c.args.supported c.requires.number c.index.ensures c.requires.found c.requires.supported) in
     ap (lost (box_of fewer)) seen
     ∙ elim (c.unmark.ensures.same none) [
       | inl same ↦
           loses_nothing n.rules.items x rule fewer left known (subst (λ m. IsWithin (length n.rules.items) m x) (sym done.long) inside) few left_here
-          (left_supports rule.table c.in-Some.supported c.candidates_at-found.result left (omega (arith, known.wide, few, c.candidates_at-found.ensures.long)) (omega (arith, known.wide, few, left_long)) right
+          (left_supports rule.table c.args.supported c.args.found left (omega (arith, known.wide, few, c.requires.long)) (omega (arith, known.wide, few, left_long)) right
           (λ i low. same i (omega (arith, low, known.wide, c.colours-processes.ensures.count))))
       | inr before ↦
           (let kept = c.places.invariant.4 before in
