@@ -1,5 +1,8 @@
 //! Each run on its happy path, and where it refuses.
 
+ghost use Rattle.std.specs.Prelude.{◌≡◌, Ok};
+ghost use Rattle.wf_complex.specs.Protocol.{Builds};
+
 use std::alloc::Global;
 use std::test::Fail;
 use std::thread::Threads;
@@ -78,7 +81,6 @@ const OWN_LATER: &str =
     "wfcheck report 1\nprocesses 3\nrounds 1\npoints 12\nexecutions 25\nanswer map\nm 0\nm 1\nm 2\nm 0\nm 1\nm 0\nm 2\nm 1\nm 2\nm 0\nm 1\nm 2\nend\n";
 
 /// What is asked, and what has to be written.
-#[derive(Clone, Copy)]
 struct Row {
     task: &'static str,
     report: &'static str,
@@ -87,7 +89,6 @@ struct Row {
 }
 
 /// What is asked, and how it has to be refused.
-#[derive(Clone, Copy)]
 struct Refused {
     task: &'static str,
     report: &'static str,
@@ -95,7 +96,7 @@ struct Refused {
     fault: RunFault,
 }
 
-const LIFTED: [Row; 8] = [
+static LIFTED: [Row; 8] = [
     Row {
         task: PATH_3,
         report: PATH,
@@ -147,7 +148,7 @@ const LIFTED: [Row; 8] = [
 ];
 
 /// The refusals, each with one that would come after it.
-const REFUSED: [Refused; 8] = [
+static REFUSED: [Refused; 8] = [
     Refused {
         task: "",
         report: "",
@@ -213,60 +214,94 @@ fn lift<T: Threads + Sync>(
     run_lift(rt, alloc, &mut task, &mut report, &mut sink, rounds)
 }
 
-#[test]
-fn maps_are_lifted(rt: HostRuntime) -> Result<(), Fail> {
-    for Row {
-        task,
-        report,
-        rounds,
-        text,
-    } in LIFTED {
-        let mut written = Vec::new(rt.alloc());
-        let answer = lift(&rt, rt.alloc(), task, report, rounds, &mut written);
-        assert_eq!(rt; answer, Ok(()), "{report}");
-        assert_eq!(rt; written.as_slice(), text.as_bytes(), "{report}");
+/// The kind of answer of a report that is accepted for the task.
+fn verify<T: Threads + Sync>(
+    rt: &T,
+    alloc: Global,
+    task: &str,
+    report: &str,
+) -> Result<Accepted, RunFault> {
+    let mut task = Source::new(task.as_bytes());
+    let mut report = Source::new(report.as_bytes());
+    let mut sink = Sink::new(Vec::new(alloc));
+    run_verify(rt, alloc, &mut task, &mut report, &mut sink, None)
+}
+
+/// The values of a task without a round, lifted to its complex after some rounds; none where it has
+/// not so many points.
+fn lifted(
+    alloc: Global,
+    task: &Task,
+    before: &Protocol,
+    rounds: u32,
+    values: &[u8],
+) -> Result<Vec<u8>, Fail>
+    requires before { Builds task.now before.now.rounds (Ok before.now) }
+    requires first { before.now.rounds ≡ 0 }
+{
+    let after = Protocol::build(alloc, task, rounds)?;
+    if before.points() as usize != values.len() {
+        return Ok(Vec::new(alloc));
     }
-    Ok(())
+    Ok(lift_values(alloc, task, before, &after, values)?)
+}
+
+/// Whether values of path 3 without a round are lifted to these values after so many rounds.
+fn lifts_to(alloc: Global, rounds: u32, values: &[u8], wanted: &[u8]) -> Result<bool, Fail> {
+    let task = Task::read_text(alloc, PATH_3.as_bytes())?;
+    let before = Protocol::build(alloc, &task, 0)?;
+    let found = lifted(alloc, &task, &before, rounds, values)?;
+    Ok(found.as_slice() == wanted)
 }
 
 #[test]
-fn what_gives_no_lifted_map_is_refused(rt: HostRuntime) -> Result<(), Fail> {
-    for Refused {
-        task,
-        report,
-        rounds,
-        fault,
-    } in REFUSED {
+fn maps_are_lifted(rt: HostRuntime) {
+    for (place, row) in LIFTED.iter().enumerate() {
         let mut written = Vec::new(rt.alloc());
-        let answer = lift(&rt, rt.alloc(), task, report, rounds, &mut written);
-        assert_eq!(rt; answer, Err(fault), "{report}");
-        assert!(rt; written.is_empty(), "{report}");
+        let answer = lift(
+            &rt,
+            rt.alloc(),
+            row.task,
+            row.report,
+            row.rounds,
+            &mut written,
+        );
+        assert!(rt; answer == Ok(()), "at {place}");
+        assert!(rt; written.as_slice() == row.text.as_bytes(), "at {place}");
     }
-    Ok(())
 }
 
 #[test]
-fn lifted_maps_are_accepted(rt: HostRuntime) -> Result<(), Fail> {
-    for row in LIFTED {
-        let mut task = Source::new(row.task.as_bytes());
-        let mut report = Source::new(row.text.as_bytes());
-        let mut sink = Sink::new(Vec::new(rt.alloc()));
-        let found = run_verify(&rt, rt.alloc(), &mut task, &mut report, &mut sink, None);
-        assert_eq!(rt; found, Ok(Accepted::Map), "{}", row.text);
+fn what_gives_no_lifted_map_is_refused(rt: HostRuntime) {
+    for (place, row) in REFUSED.iter().enumerate() {
+        let mut written = Vec::new(rt.alloc());
+        let answer = lift(
+            &rt,
+            rt.alloc(),
+            row.task,
+            row.report,
+            row.rounds,
+            &mut written,
+        );
+        assert!(rt;
+            answer == Err(row.fault) && written.is_empty(),
+            "at {place}"
+        );
     }
-    Ok(())
+}
+
+#[test]
+fn lifted_maps_are_accepted(rt: HostRuntime) {
+    for (place, row) in LIFTED.iter().enumerate() {
+        let found = verify(&rt, rt.alloc(), row.task, row.text);
+        assert!(rt; found == Ok(Accepted::Map), "at {place}");
+    }
 }
 
 #[test]
 fn values_are_lifted(rt: HostRuntime) -> Result<(), Fail> {
-    let task = Task::read_text(rt.alloc(), PATH_3.as_bytes())?;
-    let before = Protocol::build(rt.alloc(), &task, 0)?;
-    assert_eq!(rt; before.points(), 2);
-    let after = Protocol::build(rt.alloc(), &task, 1)?;
     // alone or not, the processes decide what they decide without a round
-    let lifted = lift_values(rt.alloc(), &task, &before, &after, &[4, 7])?;
-    assert_eq!(rt; lifted.as_slice(), [4, 7, 4, 7].as_slice());
-    let same = lift_values(rt.alloc(), &task, &before, &before, &[4, 7])?;
-    assert_eq!(rt; same.as_slice(), [4, 7].as_slice());
+    assert!(rt; lifts_to(rt.alloc(), 1, &[4, 7], &[4, 7, 4, 7])?);
+    assert!(rt; lifts_to(rt.alloc(), 0, &[4, 7], &[4, 7])?);
     Ok(())
 }
