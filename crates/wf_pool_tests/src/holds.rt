@@ -58,10 +58,11 @@ fn count(counts: &[AtomicU64; BRANCHES], branch: u32) {
 }
 
 impl Hold {
-    pub(crate) fn new(rule: Rule) -> Hold {
+    /// A gate by which a rule holds workers, and some may not start.
+    pub(crate) fn new(rule: Rule, barred: Barred) -> Hold {
         Hold {
             rule,
-            barred: Barred::Nobody,
+            barred,
             asked: AtomicU64::new(0),
             tellings: AtomicU64::new(0),
             branches: AtomicU64::new(0),
@@ -73,40 +74,35 @@ impl Hold {
         }
     }
 
-    /// A gate by which these workers may not start.
-    pub(crate) fn without(barred: Barred) -> Hold {
-        let mut hold = Hold::new(Rule::Nobody);
-        hold.barred = barred;
-        hold
-    }
-
-    /// Whether a worker was held until it gave up.
-    pub(crate) fn has_given_up(&self) -> bool {
-        self.given_up.load(SeqCst) > 0
-    }
-
-    /// How many workers were to be started.
-    pub(crate) fn starts(&self) -> u64 {
-        self.asked.load(SeqCst)
-    }
-
-    /// How often it was told how many branches there are, before any was
-    /// taken, and how many there are.
-    pub(crate) fn branches_told(&self) -> (u64, u64) {
-        (self.tellings.load(SeqCst), self.branches.load(SeqCst))
-    }
-
-    /// How many branches were settled.
-    pub(crate) fn settled(&self) -> u64 {
-        self.settled.load(SeqCst)
+    /// Whether a worker was held until it gave up, as a number; how many workers were to be
+    /// started; how often it was told how many branches there are, before any was taken; how many
+    /// there are, and how many were settled.
+    pub(crate) fn counts(&self) -> [u64; 5] {
+        [
+            self.given_up.load(SeqCst),
+            self.asked.load(SeqCst),
+            self.tellings.load(SeqCst),
+            self.branches.load(SeqCst),
+            self.settled.load(SeqCst),
+        ]
     }
 
     /// Whether a turn was taken at this branch.
-    pub(crate) fn had_turn(&self, branch: usize) -> bool {
+    fn had_turn(&self, branch: usize) -> bool {
         match self.turns.get(branch) {
             Some(n) => n.load(SeqCst) > 0,
             None => false,
         }
+    }
+
+    /// Whether a turn was taken at this branch or a later one.
+    pub(crate) fn had_turn_from(&self, first: usize) -> bool {
+        for branch in first..BRANCHES {
+            if self.had_turn(branch) {
+                return true;
+            }
+        }
+        false
     }
 
     /// Whether a worker that was held when so many branches were settled may go on.

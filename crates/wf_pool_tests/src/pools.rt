@@ -4,7 +4,7 @@ ghost use Rattle.std.specs.Prelude.{◌<◌, ◌≤◌};
 
 use crate::holds::{Barred, Hold, Rule};
 use crate::tasks::problem_of;
-use std::alloc::Global;
+use std::alloc::{AllocError, Global};
 use std::process::Abort;
 use std::test::Fail;
 use std::thread::Threads;
@@ -12,44 +12,31 @@ use wf_box::Problem;
 use wf_core::Account;
 use wf_examples::{AGREEMENT_3_2, CONSENSUS_2, PATH_2};
 use wf_handout::{Counter, Handout, Stealing};
-use wf_lines::Line;
-use wf_pool::{Answer, KeptLines, MAX_WORKERS, Open, solve, solve_one};
+use wf_lines::{Line, Lines};
+use wf_pool::{Answer, Gate, KeptLines, MAX_WORKERS, Open, solve, solve_one};
+
+/// The line of a value that is lost.
+macro_rules! lost {
+    ($execution:literal, $process:literal, $value:literal) => {
+        Line::Remove {
+            execution: $execution,
+            process: $process,
+            value: $value,
+        }
+    };
+}
 
 /// The least map of `PATH_2` after one round.
-const MAP: [u8; 4] = [0, 2, 1, 0];
+const MAP: &[u8] = &[0, 2, 1, 0];
 
 /// The lines that lead to it.
-const MAP_LINES: [Line; 9] = [
-    Line::Remove {
-        execution: 0,
-        process: 0,
-        value: 1,
-    },
-    Line::Remove {
-        execution: 0,
-        process: 0,
-        value: 2,
-    },
-    Line::Remove {
-        execution: 1,
-        process: 1,
-        value: 0,
-    },
-    Line::Remove {
-        execution: 1,
-        process: 1,
-        value: 1,
-    },
-    Line::Remove {
-        execution: 3,
-        process: 1,
-        value: 2,
-    },
-    Line::Remove {
-        execution: 4,
-        process: 0,
-        value: 0,
-    },
+const MAP_LINES: &[Line] = &[
+    lost!(0, 0, 1),
+    lost!(0, 0, 2),
+    lost!(1, 1, 0),
+    lost!(1, 1, 1),
+    lost!(3, 1, 2),
+    lost!(4, 0, 0),
     Line::Branch { point: 2 },
     Line::Branch { point: 3 },
     Line::Found,
@@ -63,6 +50,21 @@ const FIRST_ALONE: Account = Account {
     cut: 2,
 };
 
+/// The lines that refute `CONSENSUS_2` without a round, whose root has no branches.
+const CONSENSUS_LINES: &[Line] = &[
+    lost!(0, 0, 1),
+    lost!(1, 1, 0),
+    lost!(2, 0, 0),
+    Line::Empty { point: 0 },
+];
+
+const NO_BRANCHES: Account = Account {
+    branches: 0,
+    least: 0,
+    searched: 0,
+    cut: 0,
+};
+
 /// How many lines refute `AGREEMENT_3_2` after one round, and its branches.
 const AGREEMENT_LINES: usize = 714;
 
@@ -73,103 +75,134 @@ const AGREEMENT_ACCOUNT: Account = Account {
     cut: 0,
 };
 
-/// Whether the answer is `MAP`, with the lines that lead to it if they are kept.
-fn is_map(answer: &Answer, kept: KeptLines) -> bool {
-    let wanted: &[Line] = match kept {
-        KeptLines::All => &MAP_LINES,
-        KeptLines::Refuting | KeptLines::Neither => &[],
-    };
+/// The values of a map, and the lines; none of what there isn't.
+fn parts_of(alloc: Global, answer: Answer) -> (Vec<u8>, Lines) {
     match answer {
-        Answer::Map(map, lines) => map.as_slice() == MAP.as_slice() && lines.as_slice() == wanted,
-        Answer::Nothing(_) => false,
+        Answer::Map(values, lines) => (values, lines),
+        Answer::Nothing(lines) => (Vec::new(alloc), lines),
     }
 }
 
-/// The lines that refute, or none where the answer is a map.
-fn lines_of(answer: &Answer) -> &[Line] {
-    match answer {
-        Answer::Map(_, _) => &[],
-        Answer::Nothing(lines) => lines.as_slice(),
-    }
+/// A task, rounds and the lines that are kept, and what one worker answers: the values of a map, if
+/// any, and the lines; and what it did.
+static ALONE: [(&str, u32, KeptLines, &[u8], &[Line], Account); 5] = [
+    (PATH_2, 1, KeptLines::All, MAP, MAP_LINES, FIRST_ALONE),
+    (PATH_2, 1, KeptLines::Refuting, MAP, &[], FIRST_ALONE),
+    (PATH_2, 1, KeptLines::Neither, MAP, &[], FIRST_ALONE),
+    (
+        CONSENSUS_2,
+        0,
+        KeptLines::All,
+        &[],
+        CONSENSUS_LINES,
+        NO_BRANCHES,
+    ),
+    (
+        AGREEMENT_3_2,
+        1,
+        KeptLines::Neither,
+        &[],
+        &[],
+        AGREEMENT_ACCOUNT,
+    ),
+];
+
+/// What one worker answers: the values of a map, if any, and the lines; and what it did.
+fn run_alone(
+    alloc: Global,
+    task: &str,
+    rounds: u32,
+    kept: KeptLines,
+) -> Result<(Vec<u8>, Lines, Account), Fail> {
+    let problem = problem_of(alloc, task, rounds)?;
+    let (answer, account) = solve_one(alloc, &problem, kept)?;
+    let (values, lines) = parts_of(alloc, answer);
+    Ok((values, lines, account))
 }
 
+/// It stops at the first map.
 #[test]
-fn one_worker_stops_at_the_first_map(rt: HostRuntime) -> Result<(), Fail> {
-    let problem = problem_of(rt.alloc(), PATH_2, 1)?;
-    for kept in [KeptLines::All, KeptLines::Refuting, KeptLines::Neither] {
-        let (answer, account) = solve_one(rt.alloc(), &problem, kept)?;
-        assert!(rt; is_map(&answer, kept));
-        assert_eq!(rt; account, FIRST_ALONE);
+fn one_worker_alone(rt: HostRuntime) -> Result<(), Fail> {
+    for (task, rounds, kept, values, lines, wanted) in ALONE {
+        let (found_values, found_lines, account) = run_alone(rt.alloc(), task, rounds, kept)?;
+        assert_eq!(rt;
+            (found_values.as_slice(), found_lines.as_slice(), account),
+            (values, lines, wanted),
+            "{task} {kept:?}"
+        );
     }
     Ok(())
+}
+
+/// A run by several workers: the values of a map, if any, the lines, and what the workers did.
+fn run<R: Threads + Sync, H: Handout, G: Gate>(
+    rt: &R,
+    alloc: Global,
+    problem: &Problem,
+    workers: u32,
+    kept: KeptLines,
+    gate: &G,
+) -> Result<(Vec<u8>, Lines, Account), AllocError>
+    requires { (0 < workers) × (workers ≤ MAX_WORKERS) }
+{
+    let (answer, account) = solve::<R, H, G>(rt, alloc, problem, workers, kept, gate)?;
+    let (values, lines) = parts_of(alloc, answer);
+    Ok((values, lines, account))
 }
 
 #[test]
 fn a_root_without_branches(rt: HostRuntime) -> Result<(), Fail> {
     let problem = problem_of(rt.alloc(), CONSENSUS_2, 0)?;
-    let (answer, account) = solve_one(rt.alloc(), &problem, KeptLines::All)?;
-    let wanted = [
-        Line::Remove {
-            execution: 0,
-            process: 0,
-            value: 1,
-        },
-        Line::Remove {
-            execution: 1,
-            process: 1,
-            value: 0,
-        },
-        Line::Remove {
-            execution: 2,
-            process: 0,
-            value: 0,
-        },
-        Line::Empty { point: 0 },
-    ];
-    assert_eq!(rt; lines_of(&answer), wanted.as_slice());
-    let none = Account {
-        branches: 0,
-        least: 0,
-        searched: 0,
-        cut: 0,
-    };
-    assert_eq!(rt; account, none);
-    let (answer, account) = solve::<_, Stealing, _>(
+    let kept = KeptLines::Refuting;
+    let (_, lines, account) = run::<_, Stealing, _>(
         &rt,
         rt.alloc(),
         &problem,
         MAX_WORKERS,
-        KeptLines::Refuting,
+        kept,
         &Open,
     )?;
-    assert_eq!(rt; lines_of(&answer), wanted.as_slice());
-    assert_eq!(rt; account, none);
+    assert_eq!(rt; (lines.as_slice(), account), (CONSENSUS_LINES, NO_BRANCHES));
     Ok(())
 }
 
-/// How many workers, and what lines are kept: those that refute in each.
-const RUNS: [(u32, KeptLines); 6] = [
-    (1, KeptLines::All),
-    (1, KeptLines::Refuting),
-    (2, KeptLines::All),
-    (2, KeptLines::Refuting),
-    (8, KeptLines::All),
-    (8, KeptLines::Refuting),
+/// How many workers there are, what lines are kept, and which workers may not start.
+static REFUTALS: [(u32, KeptLines, Barred); 12] = [
+    (1, KeptLines::All, Barred::Nobody),
+    (1, KeptLines::Refuting, Barred::Nobody),
+    (1, KeptLines::Neither, Barred::Nobody),
+    (2, KeptLines::All, Barred::Nobody),
+    (2, KeptLines::Refuting, Barred::Nobody),
+    (2, KeptLines::Neither, Barred::Nobody),
+    (8, KeptLines::All, Barred::Nobody),
+    (8, KeptLines::Refuting, Barred::Nobody),
+    (8, KeptLines::Neither, Barred::Nobody),
+    (3, KeptLines::Refuting, Barred::Worker(1)),
+    (3, KeptLines::Refuting, Barred::Worker(2)),
+    (3, KeptLines::Refuting, Barred::All),
 ];
 
-/// The same answers in each of these runs: these lines, and nothing is cut;
-/// and the least map of another problem.
+/// The same answers in each of these runs: these lines where they are kept, and nothing is cut. The
+/// main thread is one of the workers, and does the work of each that may not start.
 fn refutes<R: Threads + Sync + Abort, H: Handout>(
     rt: &R,
     alloc: Global,
     problem: &Problem,
     wanted: &[Line],
 ) -> Result<(), Fail> {
-    for (workers, kept) in RUNS {
-        let (answer, account) = solve::<R, H, Open>(rt, alloc, problem, workers, kept, &Open)?;
-        assert_eq!(rt; lines_of(&answer), wanted);
-        assert_eq!(rt; account, AGREEMENT_ACCOUNT);
-        account_under::<R, H>(rt, alloc, workers, kept, &Hold::new(Rule::Nobody))?;
+    for (workers, kept, barred) in &REFUTALS {
+        let workers = (*workers).clamp(1, MAX_WORKERS);
+        let gate = Hold::new(Rule::Nobody, *barred);
+        let (values, lines, account) = run::<R, H, Hold>(
+            rt, alloc, problem, workers, *kept, &gate,
+        )?;
+        let is_right = match kept {
+            KeptLines::All | KeptLines::Refuting => lines.as_slice() == wanted,
+            KeptLines::Neither => lines.is_empty(),
+        };
+        assert!(rt; is_right && values.is_empty());
+        let starts = u64::from(workers - 1);
+        assert_eq!(rt; (account, gate.counts()[1]), (AGREEMENT_ACCOUNT, starts));
     }
     Ok(())
 }
@@ -178,212 +211,178 @@ fn refutes<R: Threads + Sync + Abort, H: Handout>(
 fn lines_are_the_same_for_any_number_of_workers(rt: HostRuntime) -> Result<(), Fail> {
     let problem = problem_of(rt.alloc(), AGREEMENT_3_2, 1)?;
     let (answer, account) = solve_one(rt.alloc(), &problem, KeptLines::All)?;
-    let lines = lines_of(&answer);
-    assert_eq!(rt; account, AGREEMENT_ACCOUNT);
-    assert_eq!(rt; lines.len(), AGREEMENT_LINES);
-    refutes::<_, Counter>(&rt, rt.alloc(), &problem, lines)?;
-    refutes::<_, Stealing>(&rt, rt.alloc(), &problem, lines)
+    let (_, lines) = parts_of(rt.alloc(), answer);
+    assert_eq!(rt;
+        (lines.len(), account),
+        (AGREEMENT_LINES, AGREEMENT_ACCOUNT)
+    );
+    refutes::<_, Counter>(&rt, rt.alloc(), &problem, &lines)?;
+    refutes::<_, Stealing>(&rt, rt.alloc(), &problem, &lines)
 }
 
-/// The account of a run in which the answer is the map and nobody was held to the end.
-fn account_under<R: Threads + Sync + Abort, H: Handout>(
-    rt: &R,
-    alloc: Global,
-    workers: u32,
-    kept: KeptLines,
-    gate: &Hold,
-) -> Result<Account, Fail>
-    requires { (0 < workers) × (workers ≤ MAX_WORKERS) }
-{
-    let problem = problem_of(alloc, PATH_2, 1)?;
-    let (answer, account) = solve::<R, H, Hold>(rt, alloc, &problem, workers, kept, gate)?;
-    assert!(rt; is_map(&answer, kept));
-    assert!(rt; !gate.has_given_up());
-    assert_eq!(rt; gate.branches_told(), (1, 3));
-    assert_eq!(rt; gate.settled(), 3);
-    Ok(account)
-}
+/// A run in which the least map of `PATH_2` is found: how many workers there are, what lines are
+/// kept, who is held and which workers may not start; how many branches are searched at least and
+/// at most, and the first branch from which on none has a turn.
+type Run = (u32, KeptLines, (Rule, Barred), (u32, u32), usize);
 
-/// One worker cuts what lies above the first map. A worker goes on while
-/// another one is held at its first branch.
-fn goes_on_beside_one_that_is_held<R: Threads + Sync + Abort, H: Handout>(
-    rt: &R,
-    alloc: Global,
-) -> Result<(), Fail> {
-    let account = account_under::<R, H>(
-        rt,
-        alloc,
-        1,
-        KeptLines::Refuting,
-        &Hold::new(Rule::Nobody),
-    )?;
-    assert_eq!(rt; account, FIRST_ALONE);
-    let account = account_under::<R, H>(
-        rt,
-        alloc,
+/// Nobody is held, and each worker may start.
+const FREE: (Rule, Barred) = (Rule::Nobody, Barred::Nobody);
+
+/// Any number of workers finds the map, whatever lines are kept.
+static ANYHOW: [Run; 9] = [
+    (1, KeptLines::All, FREE, (1, 3), 3),
+    (1, KeptLines::Refuting, FREE, (1, 3), 3),
+    (1, KeptLines::Neither, FREE, (1, 3), 3),
+    (2, KeptLines::All, FREE, (1, 3), 3),
+    (2, KeptLines::Refuting, FREE, (1, 3), 3),
+    (2, KeptLines::Neither, FREE, (1, 3), 3),
+    (8, KeptLines::All, FREE, (1, 3), 3),
+    (8, KeptLines::Refuting, FREE, (1, 3), 3),
+    (8, KeptLines::Neither, FREE, (1, 3), 3),
+];
+
+/// One worker cuts what lies above the first map. A worker goes on while another one is held at its
+/// first branch.
+static BESIDE_ONE: [Run; 2] = [
+    (1, KeptLines::Refuting, FREE, (1, 1), 3),
+    (
         2,
         KeptLines::All,
-        &Hold::new(Rule::FirstTaker),
-    )?;
-    assert_eq!(rt; account.branches, 3);
+        (Rule::FirstTaker, Barred::Nobody),
+        (1, 3),
+        3,
+    ),
+];
+
+/// Branches are cut whose workers see a lower one posted before their first turn.
+static LOOKING: [Run; 1] = [(
+    3,
+    KeptLines::All,
+    (Rule::LaterBranches, Barred::Nobody),
+    (1, 1),
+    1,
+)];
+
+/// Both workers are at a turn before either goes on, so each searches a branch, and the third is
+/// cut.
+static AT_ONCE: [Run; 1] = [(
+    2,
+    KeptLines::All,
+    (Rule::FirstTurns, Barred::Nobody),
+    (2, 2),
+    2,
+)];
+
+/// The main thread does the work of each worker that may not start.
+static WITHOUT_THREADS: [Run; 2] = [
+    (
+        3,
+        KeptLines::Refuting,
+        (Rule::Nobody, Barred::All),
+        (1, 1),
+        3,
+    ),
+    (
+        MAX_WORKERS,
+        KeptLines::Refuting,
+        (Rule::Nobody, Barred::All),
+        (1, 1),
+        3,
+    ),
+];
+
+/// Of three workers one or two may not start; the first works in the main thread.
+static WITHOUT_SOME: [Run; 3] = [
+    (
+        3,
+        KeptLines::All,
+        (Rule::Nobody, Barred::Worker(1)),
+        (1, 3),
+        3,
+    ),
+    (
+        3,
+        KeptLines::All,
+        (Rule::Nobody, Barred::Worker(2)),
+        (1, 3),
+        3,
+    ),
+    (3, KeptLines::All, (Rule::Nobody, Barred::All), (1, 3), 3),
+];
+
+/// Whether it is an account of three branches, of which the first has a map, and so many were
+/// searched, at least and at most.
+fn is_of_path(account: Account, searched: (u32, u32)) -> bool {
+    let (least, most) = searched;
+    let sum = account.searched.saturating_add(account.cut);
+    (account.branches, account.least, sum) == (3, 0, 3)
+        && least <= account.searched
+        && account.searched <= most
+}
+
+/// The answer is the map in each of these runs, and nobody is held to the end. No more workers are
+/// used than there are branches, and the main thread is one of them.
+fn finds_the_map<R: Threads + Sync + Abort, H: Handout>(
+    rt: &R,
+    alloc: Global,
+    problem: &Problem,
+    runs: &[Run],
+) -> Result<(), Fail> {
+    for (workers, kept, (rule, barred), searched, idle) in runs {
+        let workers = (*workers).clamp(1, MAX_WORKERS);
+        let gate = Hold::new(*rule, *barred);
+        let (values, lines, account) = run::<R, H, Hold>(
+            rt, alloc, problem, workers, *kept, &gate,
+        )?;
+        let wanted = match kept {
+            KeptLines::All => MAP_LINES,
+            KeptLines::Refuting | KeptLines::Neither => &[],
+        };
+        let is_right = is_of_path(account, *searched) && !gate.had_turn_from(*idle);
+        let starts = u64::from(workers.min(3)).saturating_sub(1);
+        assert_eq!(rt;
+            (values.as_slice(), lines.as_slice(), gate.counts(), is_right),
+            (MAP, wanted, [0, starts, 1, 3, 3], true)
+        );
+    }
     Ok(())
+}
+
+/// The same by either handout.
+fn finds_it<R: Threads + Sync + Abort>(rt: &R, alloc: Global, runs: &[Run]) -> Result<(), Fail> {
+    let problem = problem_of(alloc, PATH_2, 1)?;
+    finds_the_map::<R, Counter>(rt, alloc, &problem, runs)?;
+    finds_the_map::<R, Stealing>(rt, alloc, &problem, runs)
+}
+
+#[test]
+fn the_map_is_found_by_any_number_of_workers(rt: HostRuntime) -> Result<(), Fail> {
+    finds_it(&rt, rt.alloc(), &ANYHOW)
 }
 
 #[test]
 fn a_worker_goes_on_beside_one_that_is_held(rt: HostRuntime) -> Result<(), Fail> {
-    goes_on_beside_one_that_is_held::<_, Counter>(&rt, rt.alloc())?;
-    goes_on_beside_one_that_is_held::<_, Stealing>(&rt, rt.alloc())
-}
-
-/// Whether the answer is none, without lines.
-fn is_none_without_lines(answer: &Answer) -> bool {
-    match answer {
-        Answer::Map(_, _) => false,
-        Answer::Nothing(lines) => lines.is_empty(),
-    }
-}
-
-/// Where no lines are kept the answers and the accounts are the same: the least map of a problem,
-/// and none of another one.
-fn answers_without_lines<R: Threads + Sync + Abort, H: Handout>(
-    rt: &R,
-    alloc: Global,
-    refuted: &Problem,
-) -> Result<(), Fail> {
-    for workers in [1, 2, 8] {
-        let gate = Hold::new(Rule::Nobody);
-        let account = account_under::<R, H>(rt, alloc, workers, KeptLines::Neither, &gate)?;
-        assert_eq!(rt; (account.branches, account.least), (3, 0));
-        let (answer, account) = solve::<R, H, Open>(
-            rt,
-            alloc,
-            refuted,
-            workers,
-            KeptLines::Neither,
-            &Open,
-        )?;
-        assert!(rt; is_none_without_lines(&answer));
-        assert_eq!(rt; account, AGREEMENT_ACCOUNT);
-    }
-    Ok(())
-}
-
-#[test]
-fn no_lines_where_none_are_kept(rt: HostRuntime) -> Result<(), Fail> {
-    let mapped = problem_of(rt.alloc(), PATH_2, 1)?;
-    let (answer, account) = solve_one(rt.alloc(), &mapped, KeptLines::Neither)?;
-    assert!(rt; is_map(&answer, KeptLines::Neither));
-    assert_eq!(rt; account, FIRST_ALONE);
-    let refuted = problem_of(rt.alloc(), AGREEMENT_3_2, 1)?;
-    let (answer, account) = solve_one(rt.alloc(), &refuted, KeptLines::Neither)?;
-    assert!(rt; is_none_without_lines(&answer));
-    assert_eq!(rt; account, AGREEMENT_ACCOUNT);
-    answers_without_lines::<_, Counter>(&rt, rt.alloc(), &refuted)?;
-    answers_without_lines::<_, Stealing>(&rt, rt.alloc(), &refuted)
-}
-
-/// Branches are cut whose workers see a lower one posted before their first turn.
-fn cuts_without_a_turn<R: Threads + Sync + Abort, H: Handout>(
-    rt: &R,
-    alloc: Global,
-) -> Result<(), Fail> {
-    let gate = Hold::new(Rule::LaterBranches);
-    let account = account_under::<R, H>(rt, alloc, 3, KeptLines::All, &gate)?;
-    assert_eq!(rt; account, FIRST_ALONE);
-    assert!(rt; !gate.had_turn(1) && !gate.had_turn(2));
-    Ok(())
+    finds_it(&rt, rt.alloc(), &BESIDE_ONE)
 }
 
 #[test]
 fn a_worker_looks_before_its_first_turn(rt: HostRuntime) -> Result<(), Fail> {
-    cuts_without_a_turn::<_, Counter>(&rt, rt.alloc())?;
-    cuts_without_a_turn::<_, Stealing>(&rt, rt.alloc())
-}
-
-/// Both workers are at a turn before either goes on, so each searches a
-/// branch, and the third is cut.
-fn searches_two_at_once<R: Threads + Sync + Abort, H: Handout>(
-    rt: &R,
-    alloc: Global,
-) -> Result<(), Fail> {
-    let gate = Hold::new(Rule::FirstTurns);
-    let account = account_under::<R, H>(rt, alloc, 2, KeptLines::All, &gate)?;
-    let wanted = Account {
-        branches: 3,
-        least: 0,
-        searched: 2,
-        cut: 1,
-    };
-    assert_eq!(rt; account, wanted);
-    assert!(rt; !gate.had_turn(2));
-    Ok(())
+    finds_it(&rt, rt.alloc(), &LOOKING)
 }
 
 #[test]
 fn two_workers_search_at_once(rt: HostRuntime) -> Result<(), Fail> {
-    searches_two_at_once::<_, Counter>(&rt, rt.alloc())?;
-    searches_two_at_once::<_, Stealing>(&rt, rt.alloc())
-}
-
-/// The main thread does the work of each worker that may not start. No more workers are used than
-/// there are branches, and the main thread is one of them.
-fn needs_no_thread<R: Threads + Sync + Abort, H: Handout>(
-    rt: &R,
-    alloc: Global,
-) -> Result<(), Fail> {
-    for workers in [3, MAX_WORKERS] {
-        let gate = Hold::without(Barred::All);
-        let account = account_under::<R, H>(rt, alloc, workers, KeptLines::Refuting, &gate)?;
-        assert_eq!(rt; account, FIRST_ALONE);
-        assert_eq!(rt; gate.starts(), 2);
-    }
-    Ok(())
+    finds_it(&rt, rt.alloc(), &AT_ONCE)
 }
 
 #[test]
 fn workers_that_may_not_start(rt: HostRuntime) -> Result<(), Fail> {
-    needs_no_thread::<_, Counter>(&rt, rt.alloc())?;
-    needs_no_thread::<_, Stealing>(&rt, rt.alloc())
-}
-
-/// Of three workers one or two may not start (the first works in the main thread), and the answers
-/// are those of one worker: the least map, and these lines.
-fn needs_no_worker<R: Threads + Sync + Abort, H: Handout>(
-    rt: &R,
-    alloc: Global,
-    refuted: &Problem,
-    lines: &[Line],
-) -> Result<(), Fail> {
-    for barred in [Barred::Worker(1), Barred::Worker(2), Barred::All] {
-        let gate = Hold::without(barred);
-        let account = account_under::<R, H>(rt, alloc, 3, KeptLines::All, &gate)?;
-        assert_eq!(rt; (account.branches, account.least), (3, 0));
-        assert!(rt; account.searched > 0 && account.searched <= 3);
-        assert_eq!(rt; account.cut, 3 - account.searched);
-        assert_eq!(rt; gate.starts(), 2);
-        let (answer, account) = solve::<R, H, Hold>(
-            rt,
-            alloc,
-            refuted,
-            3,
-            KeptLines::Refuting,
-            &gate,
-        )?;
-        assert_eq!(rt; lines_of(&answer), lines);
-        assert_eq!(rt; account, AGREEMENT_ACCOUNT);
-        assert_eq!(rt; gate.starts(), 4);
-    }
-    Ok(())
+    finds_it(&rt, rt.alloc(), &WITHOUT_THREADS)
 }
 
 #[test]
 fn some_workers_that_may_not_start(rt: HostRuntime) -> Result<(), Fail> {
-    let problem = problem_of(rt.alloc(), AGREEMENT_3_2, 1)?;
-    let (answer, _) = solve_one(rt.alloc(), &problem, KeptLines::All)?;
-    let lines = lines_of(&answer);
-    assert_eq!(rt; lines.len(), AGREEMENT_LINES);
-    needs_no_worker::<_, Counter>(&rt, rt.alloc(), &problem, lines)?;
-    needs_no_worker::<_, Stealing>(&rt, rt.alloc(), &problem, lines)
+    finds_it(&rt, rt.alloc(), &WITHOUT_SOME)
 }
 
 /// The same map and lines a thousand times, by three workers and by as many as may be asked for.
@@ -394,18 +393,18 @@ fn finds_the_least_map<R: Threads + Sync + Abort, H: Handout>(
     let problem = problem_of(alloc, PATH_2, 1)?;
     for turn in 0..1000u32 {
         let workers = if turn % 100 == 0 { MAX_WORKERS } else { 3 };
-        let (answer, account) = solve::<R, H, Open>(
-            rt,
-            alloc,
-            &problem,
-            workers,
-            KeptLines::All,
-            &Open,
+        let kept = KeptLines::All;
+        let (values, lines, account) = run::<R, H, Open>(
+            rt, alloc, &problem, workers, kept, &Open,
         )?;
-        assert!(rt; is_map(&answer, KeptLines::All));
-        assert_eq!(rt; (account.branches, account.least), (3, 0));
-        assert!(rt; account.searched > 0 && account.searched <= 3);
-        assert_eq!(rt; account.cut, 3 - account.searched);
+        assert_eq!(rt;
+            (
+                values.as_slice(),
+                lines.as_slice(),
+                is_of_path(account, (1, 3))
+            ),
+            (MAP, MAP_LINES, true)
+        );
     }
     Ok(())
 }
