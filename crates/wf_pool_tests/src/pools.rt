@@ -13,7 +13,7 @@ use wf_core::Account;
 use wf_examples::{AGREEMENT_3_2, CONSENSUS_2, PATH_2};
 use wf_handout::{Counter, Handout, Stealing};
 use wf_lines::{Line, Lines};
-use wf_pool::{Answer, Gate, KeptLines, MAX_WORKERS, Open, solve, solve_one};
+use wf_pool::{Answer, Gate, KeptLines, MAX_WORKERS, Open, solve, solve_one, solve_root};
 
 /// The line of a value that is lost.
 macro_rules! lost {
@@ -128,6 +128,31 @@ fn one_worker_alone(rt: HostRuntime) -> Result<(), Fail> {
         assert_eq!(rt;
             (found_values.as_slice(), found_lines.as_slice(), account),
             (values, lines, wanted),
+            "{task} {kept:?}"
+        );
+    }
+    Ok(())
+}
+
+/// What a search of the root at once answers: the values of a map, if any, and the lines.
+fn search_root(
+    alloc: Global,
+    task: &str,
+    rounds: u32,
+    kept: KeptLines,
+) -> Result<(Vec<u8>, Lines), Fail> {
+    let problem = problem_of(alloc, task, rounds)?;
+    let answer = solve_root(alloc, &problem, kept)?;
+    Ok(parts_of(alloc, answer))
+}
+
+#[test]
+fn a_root_at_once(rt: HostRuntime) -> Result<(), Fail> {
+    for (task, rounds, kept, values, lines, _) in ALONE {
+        let (found_values, found_lines) = search_root(rt.alloc(), task, rounds, kept)?;
+        assert_eq!(rt;
+            (found_values.as_slice(), found_lines.as_slice()),
+            (values, lines),
             "{task} {kept:?}"
         );
     }
