@@ -1,6 +1,6 @@
 //! Tests of whole arguments.
 
-use crate::texts::{CONSENSUS_2_ARGUMENT, PATH_3_ARGUMENT, RENAMING_2_2_ARGUMENT};
+use crate::argument_texts::{CONSENSUS_2_ARGUMENT, PATH_3_ARGUMENT, RENAMING_2_2_ARGUMENT};
 use std::alloc::Global;
 use std::test::Fail;
 use wf_argument::write_argument;

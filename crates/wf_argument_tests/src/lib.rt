@@ -1,7 +1,0 @@
-//! Tests of arguments in words.
-#![tactic(auto)]
-
-#[cfg(test)]
-mod arguments;
-#[cfg(test)]
-mod texts;

@@ -1,5 +1,0 @@
-//! Tests of listing executions.
-#![tactic(auto)]
-
-#[cfg(test)]
-mod executions;
