@@ -29,12 +29,13 @@ ghost use Rattle.wf_task.specs.Canonical.{
   tuple_data,
   rule_data,
   keyed,
+  version_of,
 };
 ghost use Rattle.wf_task.specs.Shape.{rule_of};
 ghost use Rattle.wf_task.specs.TaskSeen.{rules_seen};
 
 use crate::row::Row;
-use serde_json::{Value, json};
+use serde_json::{Map, Value, json, put};
 use std::alloc::{AllocError, Global};
 use wf_simplex::{Complex, Simplex};
 
@@ -184,9 +185,10 @@ pub(crate) fn list<T: Shown>(alloc: Global, values: &[T]) -> Result<Value, Alloc
 fn entry(alloc: Global, simplex: &Simplex, rows: &[Row]) -> Result<Value, AllocError>
     ensures { IfOk result (λ v. view v ≡ rule_data (rule_of simplex.now rows.now)) }
 {
-    let input = simplex.to_json(alloc)?;
-    let tuples = list(alloc, rows)?;
-    json!(in alloc; {"in": input, "out": tuples})
+    let mut members = Map::new(alloc);
+    put(&mut members, alloc, "out", list(alloc, rows)?)?;
+    put(&mut members, alloc, "in", simplex.to_json(alloc)?)?;
+    Ok(Value::Object(members))
 }
 
 /// The entries of all input simplices.
@@ -206,6 +208,16 @@ pub(crate) fn entries(
     Ok(Value::Array(entries))
 }
 
+/// The version of a task's text.
+fn version_shown(least_block: Option<u8>) -> Value
+    ensures { view result ≡ number_data (version_of least_block) }
+{
+    match least_block {
+        None => Value::from(1u64),
+        Some(_) => Value::from(2u64),
+    }
+}
+
 /// The value of a task, its keys in alphabetical order.
 pub(crate) fn task_value(
     alloc: Global,
@@ -219,23 +231,16 @@ pub(crate) fn task_value(
     ensures { IfOk result (λ v. view v ≡
         keyed least_block processes symmetric (view inputs) (view outputs) (view delta)) }
 {
-    match least_block {
-        None => json!(in alloc; {
-            "version": 1u64,
-            "processes": processes,
-            "symmetric": symmetric,
-            "inputs": inputs,
-            "outputs": outputs,
-            "delta": delta,
-        }),
-        Some(first_block) => json!(in alloc; {
-            "version": 2u64,
-            "first_block": first_block,
-            "processes": processes,
-            "symmetric": symmetric,
-            "inputs": inputs,
-            "outputs": outputs,
-            "delta": delta,
-        }),
+    // from the last key on, so that each goes in front of those that are there
+    let mut members = Map::new(alloc);
+    put(&mut members, alloc, "version", version_shown(least_block))?;
+    put(&mut members, alloc, "symmetric", Value::Bool(symmetric))?;
+    put(&mut members, alloc, "processes", Value::from(processes))?;
+    put(&mut members, alloc, "outputs", outputs)?;
+    put(&mut members, alloc, "inputs", inputs)?;
+    if let Some(first_block) = least_block {
+        put(&mut members, alloc, "first_block", Value::from(first_block))?;
     }
+    put(&mut members, alloc, "delta", delta)?;
+    Ok(Value::Object(members))
 }
