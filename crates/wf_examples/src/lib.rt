@@ -77,10 +77,6 @@ pub const AGREEMENT_3_3: &str = concat!(
 pub const AGREEMENT_2_2: &str =
     r#"{"version":1,"processes":2,"symmetric":false,"inputs":[[[0,0],[1,1]]],"outputs":[[[0,0],[1,0]],[[0,0],[1,1]],[[0,1],[1,0]],[[0,1],[1,1]]],"delta":[{"in":[[0,0]],"out":[[0]]},{"in":[[1,1]],"out":[[1]]},{"in":[[0,0],[1,1]],"out":[[0,0],[0,1],[1,0],[1,1]]}]}"#;
 
-/// Three processes told apart by rank: processes 0 and 2 together, and process 1 alone.
-pub const SYMMETRIC_GAP: &str =
-    r#"{"version":1,"processes":3,"symmetric":true,"inputs":[[[0,0],[2,0]],[[1,0]]],"outputs":[],"delta":[{"in":[[0,0]],"out":[]},{"in":[[1,0]],"out":[]},{"in":[[2,0]],"out":[]},{"in":[[0,0],[2,0]],"out":[]}]}"#;
-
 /// Four processes with inputs of their own, without outputs.
 pub const OWN_4: &str = concat!(
     r#"{"version":1,"processes":4,"symmetric":false,"inputs":[[[0,0],[1,1],[2,2],[3,3]]],"#,
@@ -90,18 +86,6 @@ pub const OWN_4: &str = concat!(
     r#"{"in":[[1,1],[3,3]],"out":[]},{"in":[[2,2],[3,3]],"out":[]},{"in":[[0,0],[1,1],[2,"#,
     r#"2]],"out":[]},{"in":[[0,0],[1,1],[3,3]],"out":[]},{"in":[[0,0],[2,2],[3,3]],"#,
     r#""out":[]},{"in":[[1,1],[2,2],[3,3]],"out":[]},{"in":[[0,0],[1,1],[2,2],[3,3]],"#,
-    r#""out":[]}]}"#,
-);
-
-/// Four processes told apart by rank, with one input, without outputs.
-pub const SYMMETRIC_4: &str = concat!(
-    r#"{"version":1,"processes":4,"symmetric":true,"inputs":[[[0,0],[1,0],[2,0],[3,0]]],"#,
-    r#""outputs":[],"delta":[{"in":[[0,0]],"out":[]},{"in":[[1,0]],"out":[]},{"in":[[2,"#,
-    r#"0]],"out":[]},{"in":[[3,0]],"out":[]},{"in":[[0,0],[1,0]],"out":[]},{"in":[[0,0],"#,
-    r#"[2,0]],"out":[]},{"in":[[0,0],[3,0]],"out":[]},{"in":[[1,0],[2,0]],"out":[]},"#,
-    r#"{"in":[[1,0],[3,0]],"out":[]},{"in":[[2,0],[3,0]],"out":[]},{"in":[[0,0],[1,0],[2,"#,
-    r#"0]],"out":[]},{"in":[[0,0],[1,0],[3,0]],"out":[]},{"in":[[0,0],[2,0],[3,0]],"#,
-    r#""out":[]},{"in":[[1,0],[2,0],[3,0]],"out":[]},{"in":[[0,0],[1,0],[2,0],[3,0]],"#,
     r#""out":[]}]}"#,
 );
 
