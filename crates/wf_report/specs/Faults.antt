@@ -1,5 +1,5 @@
 -- What is printed of a refusal.
-use Rattle.std.specs.Prelude.{ℕ, List, ◌++◌, codes, decimal}
+use Rattle.std.specs.Prelude.{ℕ, List, ◌++◌, Option, None, Some, codes, decimal}
 use Rattle.wf_report.specs.declared.fault.CertFault.{CertFault}
 use Rattle.wf_report.specs.declared.fault.CertFault.TheVariants.{TooLong, Syntax, Header, MapLength, Violates, NoSuch, Unsound, NotEmpty, NotOpen, Unfinished, Trailing, NotFirst, NotTheMap, OutOfMemory}
 
@@ -18,3 +18,8 @@ fault_text (Trailing k) = codes "29 Trailing " ++ decimal k
 fault_text (NotFirst k) = codes "34 NotFirst " ++ decimal k
 fault_text (NotTheMap k) = codes "35 NotTheMap " ++ decimal k
 fault_text OutOfMemory = codes "15 OutOfMemory"
+
+-- a name, and the number that stands behind it
+abbrev pub printed : List ℕ → Option ℕ → List ℕ
+printed name None = name
+printed name (Some place) = name ++ codes " " ++ decimal place

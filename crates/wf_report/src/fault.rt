@@ -1,7 +1,7 @@
 //! Why a report is refused.
 
 ghost use Rattle.std.specs.Prelude.{◌≡◌, Some};
-ghost use Rattle.wf_report.specs.Faults.{fault_text};
+ghost use Rattle.wf_report.specs.Faults.{fault_text, printed};
 ghost use Rattle.wf_report.specs.declared.fault.CertFault.TheVariants.{OutOfMemory};
 
 use std::alloc::AllocError;
@@ -41,25 +41,37 @@ pub enum CertFault {
     OutOfMemory,
 }
 
+impl CertFault {
+    /// Its number and its name, and the number that stands behind them.
+    fn words(self) -> (&'static str, Option<u32>)
+        ensures { printed result.0.now result.1 ≡ fault_text self }
+    {
+        match self {
+            CertFault::TooLong => ("1 TooLong", None),
+            CertFault::Syntax(line) => ("20 Syntax", Some(line)),
+            CertFault::Header(line) => ("21 Header", Some(line)),
+            CertFault::MapLength => ("22 MapLength", None),
+            CertFault::Violates(execution) => ("23 Violates", Some(execution)),
+            CertFault::NoSuch(line) => ("24 NoSuch", Some(line)),
+            CertFault::Unsound(line) => ("25 Unsound", Some(line)),
+            CertFault::NotEmpty(line) => ("26 NotEmpty", Some(line)),
+            CertFault::NotOpen(line) => ("27 NotOpen", Some(line)),
+            CertFault::Unfinished => ("28 Unfinished", None),
+            CertFault::Trailing(line) => ("29 Trailing", Some(line)),
+            CertFault::NotFirst(line) => ("34 NotFirst", Some(line)),
+            CertFault::NotTheMap(line) => ("35 NotTheMap", Some(line)),
+            CertFault::OutOfMemory => ("15 OutOfMemory", None),
+        }
+    }
+}
+
 impl fmt::Display for CertFault {
     ghost output = { λ f. Some (fault_text f) };
 
     fn fmt<W: fmt::Write>(&self, f: &mut fmt::Formatter<W>) -> fmt::Result {
-        match self {
-            CertFault::TooLong => write!(f, "1 TooLong"),
-            CertFault::Syntax(line) => write!(f, "20 Syntax {line}"),
-            CertFault::Header(line) => write!(f, "21 Header {line}"),
-            CertFault::MapLength => write!(f, "22 MapLength"),
-            CertFault::Violates(execution) => write!(f, "23 Violates {execution}"),
-            CertFault::NoSuch(line) => write!(f, "24 NoSuch {line}"),
-            CertFault::Unsound(line) => write!(f, "25 Unsound {line}"),
-            CertFault::NotEmpty(line) => write!(f, "26 NotEmpty {line}"),
-            CertFault::NotOpen(line) => write!(f, "27 NotOpen {line}"),
-            CertFault::Unfinished => write!(f, "28 Unfinished"),
-            CertFault::Trailing(line) => write!(f, "29 Trailing {line}"),
-            CertFault::NotFirst(line) => write!(f, "34 NotFirst {line}"),
-            CertFault::NotTheMap(line) => write!(f, "35 NotTheMap {line}"),
-            CertFault::OutOfMemory => write!(f, "15 OutOfMemory"),
+        match self.words() {
+            (name, Some(place)) => write!(f, "{name} {place}"),
+            (name, None) => write!(f, "{name}"),
         }
     }
 }
