@@ -1,14 +1,15 @@
 -- Sets of rows as words, a bit a row, and the columns that keep them.
-use Rattle.std.specs.Prelude.{◌≡◌, ℕ, ◌+◌, ◌*◌, ◌<◌, ◌≤◌, ◌==◌, ◌&&◌, Bool, true, not, List, map, length, slice_index, bit_and, count_by}
+use Rattle.std.specs.Prelude.{◌≡◌, ℕ, ◌+◌, ◌*◌, ◌<◌, ◌≤◌, ◌==◌, ◌&&◌, Bool, true, not, List, [], map, length, slice_index, bit_and, count_by}
 use Rattle.std.specs.List.{range_with_len}
 use Rattle.std.specs.Simd.Lanes.{chunk, mask_l, zip2}
 use Rattle.wf_model.specs.Lists.{has}
 use Rattle.wf_model.specs.Task.{Tuple}
-use Rattle.wf_set.specs.Parts.{part_values}
+use Rattle.wf_set.specs.Parts.{part_limit, part_values}
 use Rattle.wf_lane.specs.Words.{Words, is_live, joined_words, ors, rows_of}
 use Rattle.wf_lane.specs.Table.{IsKept, Table, table_of, value_of, word_at}
 use Rattle.wf_lane.specs.declared.column.Column.{Column}
 use Rattle.wf_lane.specs.declared.column.Columns.{Columns}
+use Rattle.wf_lane.specs.declared.column.Places.{Places}
 
 -- ---- sets of rows
 
@@ -63,6 +64,27 @@ pub record IsCut (c : Column) : Type 0 where
   pub starts : 0 < c.blocks → length c.starts.items ≡ 64
   pub within : (v : ℕ) → has (part_values c.values) v ≡ true → slice_index c.starts.items v + block_words * c.blocks ≤ length c.sets.items
   pub marked : (v : ℕ) → has (part_values c.values) v ≡ true → chunk (slice_index c.starts.items v) (block_words * c.blocks) c.sets.items ≡ row_sets (is_value v) c.words.items 0 (block_words * c.blocks)
+
+-- no row was cut yet
+pub record IsWhole (c : Column) : Type 0 where
+  pub none : c.blocks ≡ 0
+  pub whole : c.values ≡ ors c.words.items
+  pub empty : c.starts.items ≡ []
+
+-- of the values below this one, each that occurs has so many words from its start on
+pub record AreApart (next values words : ℕ) (starts : List ℕ) (end : ℕ) : Type 0 where
+  pub count : length starts ≡ next
+  pub few : end ≤ next * words
+  pub within : (v : ℕ) → v < next → has (part_values values) v ≡ true → slice_index starts v + words ≤ end
+  pub apart : (u v : ℕ) → u < v → v < next → has (part_values values) u ≡ true → slice_index starts u + words ≤ slice_index starts v
+
+-- the same for all values of a word
+abbrev pub ArePlaces : ℕ → Places → Type 0
+ArePlaces values p = AreApart part_limit values p.words p.starts.items p.end
+
+-- each of these sets has the rows with its value
+abbrev pub AreMarked : ℕ → Places → List ℕ → List ℕ → Type 0
+AreMarked values p rows sets = (v k : ℕ) → has (part_values values) v ≡ true → k < p.words → slice_index sets (slice_index p.starts.items v + k) ≡ row_set (is_value v) rows (64 * k)
 
 -- the values all occur in the column
 abbrev pub OccurIn : Column → ℕ → Type 0

@@ -1,12 +1,12 @@
 //! The values of a table's rows at one place: a word a row, and of a large
 //! table also the set of rows of each value.
 
-ghost use Rattle.std.specs.Prelude.{◌≡◌, ◌<◌, ◌≤◌, ◌+◌, ◌*◌, ◌++◌, [], cond, IfOk, OnOk};
+ghost use Rattle.std.specs.Prelude.{◌≡◌, ◌<◌, ◌≤◌, ◌+◌, ◌*◌, cond, length, IfOk};
 ghost use Rattle.std.specs.List.{All};
 ghost use Rattle.wf_set.specs.Parts.{part_limit};
 ghost use Rattle.wf_lane.specs.Words.{ors};
 ghost use Rattle.wf_lane.specs.Table.{IsOneHot};
-ghost use Rattle.wf_lane.specs.Rows.{IsCut, block_limit, block_words, is_value, row_set, rows_of_value};
+ghost use Rattle.wf_lane.specs.Rows.{AreMarked, ArePlaces, IsCut, IsWhole, block_limit, block_rows, block_words};
 
 use std::alloc::{AllocError, Global};
 use wf_set::part::{Part, holds};
@@ -53,62 +53,64 @@ fn join_all(words: &[u64]) -> u64
     joined
 }
 
-/// The rows from start on that have a value, of the next 64 at most.
-fn row_set(words: &[u64], value: u8, start: usize) -> u64
-    requires value { value < part_limit }
-    requires one_hot { All IsOneHot words.now }
-    requires few { start ≤ 64 * (block_words * block_limit) }
-    ensures { result ≡ row_set (is_value value) words.now start }
-{
-    let mut set = 0;
-    let mut i = words.len().min(start + 64);
-    'rows: while i > start {
-        i -= 1;
-        set = 2 * set + u64::from(holds(words[i], value));
-    }
-    set
+/// Where the sets of the values that occur lie, one after the other.
+#[derive(Drop)]
+struct Places {
+    // how many words a set has
+    words: usize,
+    // where the set of each value begins
+    starts: Vec<usize>,
+    // where the last one ends
+    end: usize,
 }
 
-/// Adds the words of the rows that have a value.
-fn push_rows(words: &[u64], value: u8, blocks: usize, sets: &mut Vec<u64>) -> Result<(), AllocError>
-    requires value { value < part_limit }
-    requires one_hot { All IsOneHot words.now }
-    requires few { blocks ≤ block_limit }
-    ensures { OnOk result (sets.new.items
-        ≡ sets.old.items ++ rows_of_value value words.now blocks) }
+/// Where a set ends that begins here, which has no words where its value does not occur.
+fn end_of(start: usize, words: usize, occurs: bool) -> usize
+    requires { start + words ≤ part_limit * (block_words * block_limit) }
+    ensures { result ≡ start + cond occurs words 0 }
 {
-    for k in 0..BLOCK_WORDS * blocks {
-        sets.push(row_set(words, value, 64 * k))?;
-    }
-    Ok(())
+    if occurs { start + words } else { start }
 }
 
-/// The same where the value occurs, and else nothing.
-fn push_value(
-    words: &[u64],
-    occurs: bool,
-    value: u8,
-    blocks: usize,
-    sets: &mut Vec<u64>,
-) -> Result<(), AllocError>
-    requires value { value < part_limit }
-    requires one_hot { All IsOneHot words.now }
-    requires few { blocks ≤ block_limit }
-    ensures { OnOk result (sets.new.items
-        ≡ sets.old.items ++ cond occurs (rows_of_value value words.now blocks) []) }
-{
-    if occurs {
-        return push_rows(words, value, blocks, sets);
+impl Places {
+    /// The places of the sets of these values, of so many words each.
+    fn of(alloc: Global, values: Part, words: usize) -> Result<Places, AllocError>
+        requires { words ≤ block_words * block_limit }
+        ensures words { IfOk result (λ places. places.words ≡ words) }
+        ensures apart { IfOk result (ArePlaces values) }
+    {
+        let mut starts = Vec::with_capacity(alloc, 64)?;
+        let mut end: usize = 0;
+        'values: for value in 0..64u8 {
+            starts.push_reserved(end);
+            end = end_of(end, words, holds(values, value));
+        }
+        Ok(Places { words, starts, end })
     }
-    Ok(())
+
+    /// The set of the rows of each value that occurs.
+    fn sets_of(&self, alloc: Global, words: &[u64]) -> Result<Vec<u64>, AllocError>
+        requires one_hot { All IsOneHot words.now }
+        requires apart { ArePlaces (ors words.now) self.now }
+        requires room { length words.now ≤ 64 * self.now.words }
+        ensures long { IfOk result (λ sets. length sets.items ≡ self.now.end) }
+        ensures marked { IfOk result
+            (λ sets. AreMarked (ors words.now) self.now words.now sets.items) }
+    {
+        let mut sets = vec![in alloc; 0; self.end]?;
+        for row in 0..words.len() {
+            let start = self.starts[words[row].trailing_zeros() as usize];
+            sets[start + row / 64] |= 1 << (row % 64);
+        }
+        Ok(sets)
+    }
 }
 
 impl Column {
     /// These rows, uncut.
     pub(crate) fn whole(alloc: Global, words: Vec<u64>) -> Column
         ensures words { result.words.items ≡ words.items }
-        ensures blocks { result.blocks ≡ 0 }
-        ensures cut { IsCut result }
+        ensures whole { IsWhole result }
     {
         let values = join_all(&words);
         Column {
@@ -120,27 +122,33 @@ impl Column {
         }
     }
 
-    /// These rows, cut into so many blocks.
-    pub(crate) fn cut(alloc: Global, words: Vec<u64>, blocks: usize) -> Result<Column, AllocError>
-        requires one_hot { All IsOneHot words.items }
+    /// How many values occur.
+    pub(crate) fn count_values(&self) -> usize
+        ensures { result ≤ part_limit }
+    {
+        self.values.count_ones() as usize
+    }
+
+    /// The same rows, cut into so many blocks.
+    pub(crate) fn cut(self, alloc: Global, blocks: usize) -> Result<Column, AllocError>
+        requires whole { IsWhole self }
+        requires one_hot { All IsOneHot self.words.items }
         requires few { blocks ≤ block_limit }
-        ensures words { IfOk result (λ column. column.words.items ≡ words.items) }
+        requires all { 0 < blocks → length self.words.items ≤ block_rows * blocks }
+        ensures words { IfOk result (λ column. column.words.items ≡ self.words.items) }
         ensures blocks { IfOk result (λ column. column.blocks ≡ blocks) }
         ensures cut { IfOk result IsCut }
     {
-        let values = join_all(&words);
-        let mut starts = Vec::new(alloc);
-        let mut sets = Vec::new(alloc);
-        'values: for value in 0..64u8 {
-            starts.push(sets.len())?;
-            push_value(&words, holds(values, value), value, blocks, &mut sets)?;
+        if blocks == 0 {
+            return Ok(self);
         }
+        let places = Places::of(alloc, self.values, BLOCK_WORDS * blocks)?;
+        let sets = places.sets_of(alloc, &self.words)?;
         Ok(Column {
-            words,
-            values,
             blocks,
-            starts,
+            starts: places.starts,
             sets,
+            ..self
         })
     }
 }

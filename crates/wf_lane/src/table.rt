@@ -5,7 +5,7 @@ ghost use Rattle.wf_model.specs.Box.{is_alive};
 ghost use Rattle.wf_set.specs.Parts.{part_limit, part_values};
 ghost use Rattle.wf_set.specs.Sets.{values_in};
 ghost use Rattle.wf_lane.specs.Table.{AreFirstParts, AreNarrow, AreOneHot, HasSupported, IsOneHot, closed, opened, sets_of, word_at};
-ghost use Rattle.wf_lane.specs.Rows.{AreCut, AreJoined, HasColumns, IsCut, IsStored, block_limit, block_rows, rows_in, table_in};
+ghost use Rattle.wf_lane.specs.Rows.{AreCut, AreJoined, HasColumns, IsStored, IsWhole, block_limit, block_rows, rows_in, table_in};
 
 use crate::column::{BLOCK_WORDS, Column, Columns};
 use crate::lanes::{PartSupport, revise_columns, word_or};
@@ -69,18 +69,6 @@ fn word_at(row: &Row, place: u8) -> u64
     }
 }
 
-/// How many values occur at the place.
-fn count_values(rows: &[Row], place: u8) -> usize
-    requires { AreNarrow rows.now }
-    ensures { result ≤ 64 }
-{
-    let mut values = 0;
-    for row in rows {
-        values |= word_at(row, place);
-    }
-    values.count_ones() as usize
-}
-
 /// In how many blocks so many rows are cut, with so many values in all places together: none where
 /// going through the rows is faster.
 fn blocks_of(rows: usize, values: usize) -> usize
@@ -105,24 +93,20 @@ fn words_at(alloc: Global, rows: &[Row], place: u8) -> Result<Vec<u64>, AllocErr
 {
     let mut words = Vec::with_capacity(alloc, rows.len())?;
     for row in rows {
-        words.push(word_at(row, place))?;
+        words.push_reserved(word_at(row, place));
     }
     Ok(words)
 }
 
-/// The rows at the place, cut into so many blocks.
-fn column(alloc: Global, rows: &[Row], place: u8, blocks: usize) -> Result<Column, AllocError>
-    requires few { blocks ≤ block_limit }
+/// The rows at the place, uncut.
+fn column(alloc: Global, rows: &[Row], place: u8) -> Result<Column, AllocError>
     requires narrow { AreNarrow rows.now }
     ensures words { IfOk result (λ column. column.words.items ≡ map (word_at place) rows.now) }
-    ensures blocks { IfOk result (λ column. column.blocks ≡ blocks) }
-    ensures cut { IfOk result IsCut }
+    ensures one_hot { IfOk result (λ column. All IsOneHot column.words.items) }
+    ensures whole { IfOk result IsWhole }
 {
     let words = words_at(alloc, rows, place)?;
-    if blocks == 0 {
-        return Ok(Column::whole(alloc, words));
-    }
-    Column::cut(alloc, words, blocks)
+    Ok(Column::whole(alloc, words))
 }
 
 /// The values below 64 of each set. No row has another one.
@@ -201,20 +185,20 @@ fn columns_of(alloc: Global, rows: &[Row]) -> Result<Columns, AllocError>
     requires narrow { AreNarrow rows.now }
     ensures { IfOk result (HasColumns rows.now) }
 {
-    let values = count_values(rows, 0)
-        + count_values(rows, 1)
-        + count_values(rows, 2)
-        + count_values(rows, 3);
+    let first = column(alloc, rows, 0)?;
+    let second = column(alloc, rows, 1)?;
+    let third = column(alloc, rows, 2)?;
+    let fourth = column(alloc, rows, 3)?;
+    let values = first.count_values()
+        + second.count_values()
+        + third.count_values()
+        + fourth.count_values();
     let blocks = blocks_of(rows.len(), values);
-    let first = column(alloc, rows, 0, blocks)?;
-    let second = column(alloc, rows, 1, blocks)?;
-    let third = column(alloc, rows, 2, blocks)?;
-    let fourth = column(alloc, rows, 3, blocks)?;
     Ok(Columns {
-        first,
-        second,
-        third,
-        fourth,
+        first: first.cut(alloc, blocks)?,
+        second: second.cut(alloc, blocks)?,
+        third: third.cut(alloc, blocks)?,
+        fourth: fourth.cut(alloc, blocks)?,
     })
 }
 

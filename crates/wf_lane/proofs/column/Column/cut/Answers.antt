@@ -1,18 +1,16 @@
-use Rattle.std.proofs.Common.{◌≡◌, ◌++◌, [], ◌*◌, cond, ap, subst, ◌∙◌, arith}
+use Rattle.std.proofs.Common.{refl, sym, subst}
 use Rattle.wf_lane.specs.Words.{ors}
-use Rattle.wf_lane.specs.Rows.{is_value, row_sets}
-use Rattle.wf_lane.proofs.ColumnLemmas.{AreMarked, one_marked, all_cut}
+use Rattle.wf_lane.specs.Rows.{AreMarked}
+use Rattle.wf_lane.proofs.ColumnLemmas.{all_cut, none_cut}
 use Rattle.wf_lane.proofs.column.Column.cut.Goals as goal
 
-pub values-preserved : goal.values-preserved
-values-preserved c =
-    let words = c.args.words.items in
-    record {
-      kept = one_marked c.values.value c.join_all-values.result c.args.blocks c.values.starts.items c.values.sets.items words _ _ c.len.result c.holds.result c.values.invariant.kept (omega (arith, c.len.ensures, c.values.sets.ok.0)) c.in_ok-push.ensures.items c.holds.ensures.has
-          (c.in_ok-push_value.ensures ∙ ap (λ ws. c.values.sets.items ++ cond c.holds.result (row_sets (is_value c.values.value) ws 0 (8 * c.args.blocks)) []) c.deref-in-values.ensures.value);
-    }
+pub returns-then-blocks-eq0-clause-cut : goal.returns-then-blocks-eq0-clause-cut
+returns-then-blocks-eq0-clause-cut c = none_cut c.args.self c.requires.whole
 
 pub returns-clause-cut : goal.returns-clause-cut
 returns-clause-cut c =
-    let at_end : c.values.value ≡ 64 = omega arith in
-    all_cut _ c.requires.few (c.join_all-values.ensures ∙ ap ors c.deref.ensures.value) (subst (λ n. AreMarked n c.join_all-values.result c.args.blocks c.values.starts.items c.values.sets.items c.args.words.items) at_end c.values.invariant.kept)
+    let p = c.in_ok-places.places in
+    let words = c.args.self.words.items in
+    all_cut _ p c.in_ok-places.ensures.apart c.in_ok-places.ensures.words refl
+    (c.in_ok-sets.ensures.long) c.requires.few c.requires.whole.whole
+    (subst (λ n. AreMarked n p words c.in_ok-sets.sets.items) (sym c.requires.whole.whole) (subst (λ ws. AreMarked (ors ws) p ws c.in_ok-sets.sets.items) c.deref.ensures.value c.in_ok-sets.ensures.marked))
