@@ -1,5 +1,5 @@
 -- How the refusals of the parts become those of a run, and the number and the name of each.
-use Rattle.std.specs.Prelude.{ℕ, List, ◌++◌, codes, decimal}
+use Rattle.std.specs.Prelude.{ℕ, List, ◌++◌, None, Some, codes, decimal}
 use Rattle.wf_io.specs.declared.source.ReadFault.{ReadFault}
 use Rattle.wf_io.specs.declared.source.ReadFault.TheVariants as read
 use Rattle.wf_task.specs.declared.fault.TaskFault.{TaskFault}
@@ -17,6 +17,8 @@ use Rattle.wf_rup.specs.declared.proof.ProofFault.{ProofFault}
 use Rattle.wf_rup.specs.declared.proof.ProofFault.TheVariants as proof
 use Rattle.wf_engine.specs.declared.fault.PartFault.{PartFault}
 use Rattle.wf_engine.specs.declared.fault.PartFault.TheVariants as part
+use Rattle.wf_engine.specs.declared.fault.Printed.{Printed}
+use Rattle.wf_engine.specs.declared.fault.Printed.TheVariants as printed
 use Rattle.wf_engine.specs.declared.fault.RunFault.{RunFault}
 use Rattle.wf_engine.specs.declared.fault.RunFault.TheVariants.{TooLong, Task, Build, Cert, Model, Proof, OtherRounds, NoMap, NoBranch, OtherPart, NotInBranch, NoPart, InPart, TooManyParts, OutOfMemory, Read, Write}
 
@@ -88,3 +90,12 @@ fault_text (InPart branch e) = codes "48 InPart " ++ (decimal branch ++ (codes "
 fault_text (TooManyParts branches) = codes "49 TooManyParts " ++ decimal branches
 fault_text Read = codes "30 Read"
 fault_text Write = codes "31 Write"
+
+-- what is printed of a refusal, by what the code makes of it
+abbrev pub printed_text : Printed → List ℕ
+printed_text (printed.Task e) = task_text.fault_text e
+printed_text (printed.Build e) = build_text.fault_text e
+printed_text (printed.Cert e) = report_faults.fault_text e
+printed_text (printed.InPart branch e) = codes "48 InPart " ++ (decimal branch ++ (codes ": " ++ part_fault_text e))
+printed_text (printed.Words name None) = name.now
+printed_text (printed.Words name (Some number)) = name.now ++ (codes " " ++ decimal number)

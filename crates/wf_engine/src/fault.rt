@@ -1,7 +1,7 @@
 //! Why a run is refused.
 
 ghost use Rattle.std.specs.Prelude.{◌≡◌, Some};
-ghost use Rattle.wf_engine.specs.Faults.{of_read, of_task, of_build, of_report_fault, of_model, of_proof, fault_text, part_fault_text};
+ghost use Rattle.wf_engine.specs.Faults.{of_read, of_task, of_build, of_report_fault, of_model, of_proof, fault_text, model_text, part_fault_text, printed_text, proof_text};
 ghost use Rattle.wf_engine.specs.declared.fault.RunFault.TheVariants.{OutOfMemory, Write};
 
 use std::alloc::AllocError;
@@ -87,48 +87,90 @@ impl fmt::Display for PartFault {
     }
 }
 
+/// What is printed of a refusal: what another one says, or a name and the number behind it.
+enum Printed {
+    Task(TaskFault),
+    Build(BuildFault),
+    Cert(CertFault),
+    InPart(u32, PartFault),
+    Words(&'static str, Option<u64>),
+}
+
+impl RunFault {
+    /// What is printed of it.
+    fn printed(&self) -> Printed
+        ensures { printed_text result ≡ fault_text self.now }
+    {
+        match *self {
+            RunFault::Task(fault) => Printed::Task(fault),
+            RunFault::Build(fault) => Printed::Build(fault),
+            RunFault::Cert(fault) => Printed::Cert(fault),
+            RunFault::InPart { branch, fault } => Printed::InPart(branch, fault),
+            RunFault::Model(fault) => printed_model(fault),
+            RunFault::Proof(fault) => printed_proof(fault),
+            RunFault::OtherRounds => Printed::Words("36 OtherRounds", None),
+            RunFault::NoMap => Printed::Words("43 NoMap", None),
+            RunFault::NoBranch { branches } => Printed::Words(
+                "44 NoBranch",
+                Some(u64::from(branches)),
+            ),
+            RunFault::OtherPart => Printed::Words("45 OtherPart", None),
+            RunFault::NotInBranch => Printed::Words("46 NotInBranch", None),
+            RunFault::NoPart { branch } => Printed::Words("47 NoPart", Some(u64::from(branch))),
+            RunFault::TooManyParts { branches } => Printed::Words(
+                "49 TooManyParts",
+                Some(u64::from(branches)),
+            ),
+            RunFault::TooLong => Printed::Task(TaskFault::TooLong),
+            RunFault::OutOfMemory => Printed::Task(TaskFault::OutOfMemory),
+            RunFault::Read => Printed::Words("30 Read", None),
+            RunFault::Write => Printed::Words("31 Write", None),
+        }
+    }
+}
+
+/// What is printed of a solver's text that gives no map.
+fn printed_model(fault: ModelFault) -> Printed
+    ensures { printed_text result ≡ model_text fault }
+{
+    match fault {
+        ModelFault::NoModel { line } => Printed::Words("37 NoModel", Some(u64::from(line))),
+        ModelFault::NotALiteral { line } => Printed::Words("38 NotALiteral", Some(u64::from(line))),
+        ModelFault::NoSuchVariable { line } => Printed::Words(
+            "39 NoSuchVariable",
+            Some(u64::from(line)),
+        ),
+        ModelFault::OutOfMemory => Printed::Task(TaskFault::OutOfMemory),
+    }
+}
+
+/// What is printed of a clausal proof that is not accepted.
+fn printed_proof(fault: ProofFault) -> Printed
+    ensures { printed_text result ≡ proof_text fault }
+{
+    match fault {
+        ProofFault::NotALiteral { line } => Printed::Words("38 NotALiteral", Some(line)),
+        ProofFault::NoSuchVariable { line } => Printed::Words("39 NoSuchVariable", Some(line)),
+        ProofFault::NotImplied { line } => Printed::Words("40 NotImplied", Some(line)),
+        ProofFault::NoContradiction { line } => Printed::Words("41 NoContradiction", Some(line)),
+        ProofFault::Binary => {
+            Printed::Words("42 Binary: ask the solver for text by --no-binary", None)
+        }
+        ProofFault::OutOfMemory => Printed::Task(TaskFault::OutOfMemory),
+    }
+}
+
 impl fmt::Display for RunFault {
     ghost output = { λ f. Some (fault_text f) };
 
     fn fmt<W: fmt::Write>(&self, f: &mut fmt::Formatter<W>) -> fmt::Result {
-        match self {
-            RunFault::TooLong => write!(f, "{}", TaskFault::TooLong),
-            RunFault::Task(fault) => write!(f, "{fault}"),
-            RunFault::Build(fault) => write!(f, "{fault}"),
-            RunFault::Cert(fault) => write!(f, "{fault}"),
-            RunFault::Model(ModelFault::NoModel { line }) => write!(f, "37 NoModel {line}"),
-            RunFault::Model(ModelFault::NotALiteral { line }) => {
-                write!(f, "38 NotALiteral {line}")
-            }
-            RunFault::Model(ModelFault::NoSuchVariable { line }) => {
-                write!(f, "39 NoSuchVariable {line}")
-            }
-            RunFault::Model(ModelFault::OutOfMemory) => { write!(f, "{}", TaskFault::OutOfMemory) }
-            RunFault::Proof(ProofFault::NotALiteral { line }) => {
-                write!(f, "38 NotALiteral {line}")
-            }
-            RunFault::Proof(ProofFault::NoSuchVariable { line }) => {
-                write!(f, "39 NoSuchVariable {line}")
-            }
-            RunFault::Proof(ProofFault::NotImplied { line }) => write!(f, "40 NotImplied {line}"),
-            RunFault::Proof(ProofFault::NoContradiction { line }) => {
-                write!(f, "41 NoContradiction {line}")
-            }
-            RunFault::Proof(ProofFault::Binary) => {
-                write!(f, "42 Binary: ask the solver for text by --no-binary")
-            }
-            RunFault::Proof(ProofFault::OutOfMemory) => { write!(f, "{}", TaskFault::OutOfMemory) }
-            RunFault::OtherRounds => write!(f, "36 OtherRounds"),
-            RunFault::NoMap => write!(f, "43 NoMap"),
-            RunFault::NoBranch { branches } => write!(f, "44 NoBranch {branches}"),
-            RunFault::OtherPart => write!(f, "45 OtherPart"),
-            RunFault::NotInBranch => write!(f, "46 NotInBranch"),
-            RunFault::NoPart { branch } => write!(f, "47 NoPart {branch}"),
-            RunFault::InPart { branch, fault } => write!(f, "48 InPart {branch}: {fault}"),
-            RunFault::TooManyParts { branches } => write!(f, "49 TooManyParts {branches}"),
-            RunFault::OutOfMemory => write!(f, "{}", TaskFault::OutOfMemory),
-            RunFault::Read => write!(f, "30 Read"),
-            RunFault::Write => write!(f, "31 Write"),
+        match self.printed() {
+            Printed::Task(fault) => write!(f, "{fault}"),
+            Printed::Build(fault) => write!(f, "{fault}"),
+            Printed::Cert(fault) => write!(f, "{fault}"),
+            Printed::InPart(branch, fault) => write!(f, "48 InPart {branch}: {fault}"),
+            Printed::Words(name, Some(number)) => write!(f, "{name} {number}"),
+            Printed::Words(name, None) => write!(f, "{name}"),
         }
     }
 }
