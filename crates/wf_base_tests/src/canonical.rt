@@ -1,6 +1,6 @@
 //! Tests of canonical texts.
 
-use crate::texts::{CONSENSUS_OF_TWO, PATH_3, SIX_NAMES, TWO_NAMES, TWO_SET_AGREEMENT};
+use crate::named_tasks::{CONSENSUS_OF_TWO, PATH_3, SIX_NAMES, TWO_NAMES, TWO_SET_AGREEMENT};
 use std::alloc::Global;
 use std::test::Fail;
 use wf_task::{Task, TaskFault};

@@ -12,6 +12,8 @@ mod canonical;
 #[cfg(test)]
 mod complexes;
 #[cfg(test)]
+mod named_tasks;
+#[cfg(test)]
 mod presets;
 #[cfg(test)]
 mod simplices;

@@ -1,6 +1,6 @@
 //! Tests of presets.
 
-use crate::texts::{
+use crate::named_tasks::{
     CONSENSUS_OF_TWO, CONSENSUS_OF_TWO_ON_BITS, ONE_NAME, SIX_NAMES, THREE_SET_AGREEMENT,
     TWO_NAMES, TWO_SET_AGREEMENT,
 };

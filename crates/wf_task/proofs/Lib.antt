@@ -1,5 +1,8 @@
 pub mod Filled
 pub mod Lists
+pub mod Converted
+pub mod Taken
+pub mod Slotted
 pub mod Texts
 pub mod Sizes
 pub mod Judged

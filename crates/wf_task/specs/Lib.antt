@@ -1,6 +1,7 @@
 -- What contracts say, here and in the crates above.
 pub mod FaultText
 pub mod Shape
+pub mod Plain
 pub mod Draft
 pub mod Text
 pub mod Slots
@@ -14,4 +15,5 @@ pub mod DraftSeen
 pub mod Tuples
 pub mod Faultless
 pub mod Parts
+pub mod Members
 pub mod Borders

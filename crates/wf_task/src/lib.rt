@@ -15,6 +15,8 @@ mod draft;
 pub mod fault;
 mod judge;
 pub mod limits;
+mod members;
+mod plain;
 pub mod row;
 mod rows;
 mod shape;

@@ -1,7 +1,8 @@
 //! From a JSON value to a draft, or to what of it has the wrong shape.
 
-ghost use Rattle.std.specs.Prelude.{◌≡◌, ℕ, List, map, vec_len, ◌<◌, Option, option_map, option_and_then, IfOk};
+ghost use Rattle.std.specs.Prelude.{◌≡◌, ℕ, Bool, List, map, vec_len, ◌<◌, Option, option_map, option_and_then, IfOk};
 ghost use Rattle.serde_json.specs.Data.{Data};
+ghost use Rattle.serde_json.specs.Find.{as_bool};
 ghost use Rattle.serde_json.specs.View.{view, items_view};
 ghost use Rattle.wf_model.specs.Task.{Rule};
 ghost use Rattle.wf_task.specs.Shape.{whole_of, pair_of, list_of, simplex_of, entry_of, rule_of, each, list_seen};
@@ -35,6 +36,18 @@ impl Shape for u64 {
 
     fn shape(_alloc: Global, value: &Value) -> Result<Option<u64>, AllocError> {
         Ok(value.as_u64())
+    }
+}
+
+impl Shape for bool {
+    ghost Seen = { Bool };
+
+    ghost seen = { λ b. b };
+
+    ghost reading = { as_bool };
+
+    fn shape(_alloc: Global, value: &Value) -> Result<Option<bool>, AllocError> {
+        Ok(value.as_bool())
     }
 }
 

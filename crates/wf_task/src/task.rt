@@ -21,7 +21,7 @@ use crate::judge::{judge_first_block, judge_numbers};
 use crate::row::Row;
 use crate::rows::{all_rows, mask};
 use crate::slots::{Slot, judge_entries, slots};
-use crate::text::json;
+use crate::text::draft_in;
 use crate::tuples::judge_tuples;
 use serde_json::Value;
 use std::alloc::{AllocError, Global};
@@ -70,9 +70,7 @@ impl Task {
         if bytes.len() > LONGEST {
             return Err(TaskFault::TooLong);
         }
-        let value = json(alloc, bytes)?;
-        let draft = Draft::of(alloc, &value)?;
-        drop(value);
+        let draft = draft_in(alloc, bytes)?;
         judge(alloc, &draft)
     }
 
