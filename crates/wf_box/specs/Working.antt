@@ -5,13 +5,13 @@ use Rattle.wf_model.specs.Closing.{lost}
 use Rattle.wf_lines.specs.declared.line.Line.{Line}
 use Rattle.wf_box.specs.Changes.{GrowsTo, KeepsTrack, sets_in}
 use Rattle.wf_box.specs.Closes.{EndsAt}
-use Rattle.wf_box.specs.Marks.{bit_of}
-use Rattle.wf_box.specs.Problems.{constraint_in, constraints_in}
+use Rattle.wf_network.specs.Marks.{bit_of}
+use Rattle.wf_network.specs.Problems.{constraint_in, constraints_in}
 use Rattle.wf_box.specs.Quiet.{IsUntouched, IsUntouchedBut, MarksTell}
-use Rattle.wf_box.specs.Users.{IsUser}
-use Rattle.wf_box.specs.Revising.{AreKnown, answers_in}
+use Rattle.wf_network.specs.Users.{IsUser}
+use Rattle.wf_memo.specs.Revising.{AreKnown, answers_in}
 use Rattle.wf_box.specs.Steps.{HasRoom, IsPaid}
-use Rattle.wf_box.specs.declared.problem.Network.{Network}
+use Rattle.wf_network.specs.declared.problem.Network.{Network}
 use Rattle.wf_box.specs.declared.tracked.Tracked.{Tracked}
 use Rattle.wf_box.specs.declared.workspace.Workspace.{Workspace}
 

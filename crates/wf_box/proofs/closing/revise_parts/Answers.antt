@@ -1,9 +1,9 @@
 use Rattle.std.proofs.Common.{refl, subst}
 use Rattle.wf_lane.specs.Table.{HasSupported}
-use Rattle.wf_box.specs.Problems.{rule_in}
-use Rattle.wf_box.specs.Revising.{found_in, left_of, widened}
+use Rattle.wf_network.specs.Problems.{rule_in}
+use Rattle.wf_memo.specs.Revising.{found_in, left_of, widened}
 use Rattle.wf_box.proofs.PlaceLemmas.{keeps_all, loses_nothing}
-use Rattle.wf_box.proofs.WorkLemmas.{few_at, rule_known, within_now}
+use Rattle.wf_network.proofs.Lemmas.{few_at, rule_known, within_now}
 use Rattle.wf_box.proofs.closing.revise_parts.Goals as goal
 
 -- all candidates are supported

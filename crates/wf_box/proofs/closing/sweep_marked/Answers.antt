@@ -1,7 +1,8 @@
 use Rattle.std.proofs.Common.{◌<◌, None, Some, length, refl, arith, sym, ◌∙◌, subst, All}
 use Rattle.std.proofs.lemmas.List.{length-map}
-use Rattle.wf_box.specs.Problems.{IsWithin, constraint_seen, constraints_in}
-use Rattle.wf_box.specs.Quiet.{IsQuietBut, no_execution}
+use Rattle.wf_network.specs.Problems.{IsWithin, constraint_seen, constraints_in}
+use Rattle.wf_box.specs.Quiet.{IsQuietBut}
+use Rattle.wf_network.specs.Users.{no_execution}
 use Rattle.wf_set.specs.Sets.{box_of}
 use Rattle.wf_box.proofs.NameLemmas.{named_none, named_then, seen_at}
 use Rattle.wf_box.proofs.QuietLemmas.{next_turn, pass_all, quiet_again}

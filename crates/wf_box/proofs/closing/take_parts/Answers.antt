@@ -5,20 +5,20 @@ use Rattle.wf_model.specs.Problem.{Problem, constraint_at}
 use Rattle.wf_model.specs.Closing.{Step, and_then, lost}
 use Rattle.wf_lane.specs.Table.{HasSupported}
 use Rattle.wf_set.specs.Sets.{box_of, values_in}
-use Rattle.wf_box.specs.Problems.{IsWithin, constraint_in, constraint_seen}
-use Rattle.wf_box.specs.Revising.{found_at, wide_set, widened}
+use Rattle.wf_network.specs.Problems.{IsWithin, constraint_in, constraint_seen}
+use Rattle.wf_memo.specs.Revising.{found_at, wide_set, widened}
 use Rattle.wf_set.proofs.SetLaws.{values_of_part}
 use Rattle.wf_box.specs.Steps.{NamesLost, loss, point_if, reached, revision, take_present}
 use Rattle.wf_box.specs.Working.{IsSilent}
-use Rattle.wf_box.specs.declared.problem.Rule.{Rule}
-use Rattle.wf_box.proofs.ProblemLemmas.{known_at}
+use Rattle.wf_network.specs.declared.problem.Rule.{Rule}
 use Rattle.wf_box.proofs.StepLemmas.{lost_in_turn, then_keeps}
 use Rattle.wf_box.proofs.NameLemmas.{named_none, named_then, point_of_place}
 use Rattle.wf_box.proofs.QuietLemmas.{nothing_lost, untouched_none, untouched_then}
 use Rattle.wf_box.proofs.PlaceLemmas.{loses_nothing, parts_lacked, place_done, no_place_more}
-use Rattle.wf_box.proofs.WorkLemmas.{execution_is, execution_told, execution_within, found_now, proceeds_marked, proceeds_none, proceeds_then, still_working, supported_now}
+use Rattle.wf_box.proofs.WorkLemmas.{found_now, proceeds_marked, proceeds_none, proceeds_then, still_working, supported_now}
 use Rattle.wf_model.specs.Box.{count}
-use Rattle.wf_box.proofs.LeftLemmas.{left_supports}
+use Rattle.wf_memo.proofs.Lemmas.{left_supports}
+use Rattle.wf_network.proofs.Lemmas.{execution_is, execution_told, execution_within, known_at}
 use Rattle.wf_box.proofs.closing.take_parts.Goals as goal
 
 pub places-init : goal.places-init
@@ -33,7 +33,7 @@ places-init c = (
 pub take_part-requires-clause-point : goal.take_part-requires-clause-point
 take_part-requires-clause-point c =
     let within = execution_within c.args.network.now c.args.number c.index.result.now c.requires.network c.requires.number c.index.ensures in
-    within.points_within c.places.place 0 (omega (arith, c.places-test.true, c.colours-processes.ensures.few, within.long))
+    within.points_within c.places.place 0 (omega (arith, c.places-test.true, c.places-processes.ensures.few, within.long))
 
 pub take_part-requires-clause-working : goal.take_part-requires-clause-working
 take_part-requires-clause-working c = still_working _ _ _ _ _ _ c.places.invariant.2
@@ -48,8 +48,8 @@ returns-then-take_part-clause-named c =
     let known = known_at n.rules.items n.points x rule inside c.requires.network.wide c.index-rule.ensures in
     let named : (p : Problem) → constraint_at p c.args.number ≡ constraint_seen n.rules.items x → NamesLost p c.args.lines.now c.args.workspace.now c.take_part.new.lines c.take_part.new.workspace = λ p at.
     named_then p _ _ _ _ _ _ (c.places.invariant.0 p at)
-    (c.take_part.ensures.named p (point_of_place p n.rules.items x rule n.points c.args.number c.places.place c.colour.result known inside c.colours-processes.ensures.simplex
-    (omega (arith, c.colours-processes.ensures.count, c.colours-processes.ensures.few)) (omega (arith, c.colours-processes.ensures.count, c.places-test.true)) c.colour.ensures at)) in
+    (c.take_part.ensures.named p (point_of_place p n.rules.items x rule n.points c.args.number c.places.place c.process_at.result known inside c.places-processes.ensures.simplex
+    (omega (arith, c.places-processes.ensures.count, c.places-processes.ensures.few)) (omega (arith, c.places-processes.ensures.count, c.places-test.true)) c.process_at.ensures at)) in
     let seen : constraint_in n c.args.number ≡ constraint_seen n.rules.items x = ap (constraint_seen n.rules.items) (execution_is n c.args.number x c.requires.number c.index.ensures) in
     λ p at. named p (at ∙ seen)
 
@@ -62,9 +62,9 @@ returns-then-take_part-clause-step c =
     let inside = execution_within n c.args.number x c.requires.network c.requires.number c.index.ensures in
     let known = known_at n.rules.items n.points x rule inside c.requires.network.wide c.index-rule.ensures in
     let step = ap (λ b. reached c.take_part.new.lines.items (point_if b (get_or x.points c.places.place 0)) c.take_part.new.workspace.tracked.words.items) (sym c.if-take_part.true) ∙ c.take_part.ensures.step in
-    let done = place_done n.rules.items x rule words (widened c.args.found) (widened c.args.supported) c.args.number c.places.place c.colour.result (wide_set c.difference-lost.result)
-    (reached c.places.lines.items None c.places.workspace.tracked.words.items) _ known (subst (λ m. IsWithin (length n.rules.items) m x) (sym c.requires.working.long) inside) (omega (arith, c.colours-processes.ensures.count, c.colours-processes.ensures.few)) (omega (arith, c.colours-processes.ensures.count, c.places-test.true))
-    (found_now n c.args.number x words (widened c.args.found) c.requires.number c.index.ensures c.requires.found) (supported_now n c.args.number x words (widened c.args.found) (widened c.args.supported) c.requires.number c.index.ensures c.requires.found c.requires.supported) c.colour.ensures (values_of_part c.difference-lost.result ∙ (parts_lacked c.args.found c.args.supported c.difference-lost.result c.places.place (omega (arith, c.places-test.true, c.colours-processes.ensures.few, c.requires.long)) (omega (arith, c.places-test.true, c.colours-processes.ensures.few, c.requires.supported_long)) c.difference-lost.ensures)) step
+    let done = place_done n.rules.items x rule words (widened c.args.found) (widened c.args.supported) c.args.number c.places.place c.process_at.result (wide_set c.difference-lost.result)
+    (reached c.places.lines.items None c.places.workspace.tracked.words.items) _ known (subst (λ m. IsWithin (length n.rules.items) m x) (sym c.requires.working.long) inside) (omega (arith, c.places-processes.ensures.count, c.places-processes.ensures.few)) (omega (arith, c.places-processes.ensures.count, c.places-test.true))
+    (found_now n c.args.number x words (widened c.args.found) c.requires.number c.index.ensures c.requires.found) (supported_now n c.args.number x words (widened c.args.found) (widened c.args.supported) c.requires.number c.index.ensures c.requires.found c.requires.supported) c.process_at.ensures (values_of_part c.difference-lost.result ∙ (parts_lacked c.args.found c.args.supported c.difference-lost.result c.places.place (omega (arith, c.places-test.true, c.places-processes.ensures.few, c.requires.long)) (omega (arith, c.places-test.true, c.places-processes.ensures.few, c.requires.supported_long)) c.difference-lost.ensures)) step
     ∙ c.places.invariant.1 in
     let seen : constraint_in n c.args.number ≡ constraint_seen n.rules.items x = ap (constraint_seen n.rules.items) (execution_is n c.args.number x c.requires.number c.index.ensures) in
     done ∙ ap (λ k. and_then (reached c.args.lines.now.items None words) (revision c.args.number k)) (sym seen)
@@ -89,8 +89,8 @@ places-preserved-then-is_empty c =
     let step : now ≡ and_then now (take_present c.args.number (map (loss (get_or (processes_of rule.simplex) c.places.place 0) (get_or x.points c.places.place 0)) (values_in (wide_set c.difference-lost.result)))) =
     sym (then_keeps now) ∙ ap (λ vs. and_then now (take_present c.args.number (map (loss (get_or (processes_of rule.simplex) c.places.place 0) (get_or x.points c.places.place 0)) vs))) (sym none) in
     let done = place_done n.rules.items x rule words (widened c.args.found) (widened c.args.supported) c.args.number c.places.place (get_or (processes_of rule.simplex) c.places.place 0) (wide_set c.difference-lost.result)
-    now _ known (subst (λ m. IsWithin (length n.rules.items) m x) (sym c.requires.working.long) inside) (omega (arith, c.colours-processes.ensures.count, c.colours-processes.ensures.few)) (omega (arith, c.colours-processes.ensures.count, c.places-test.true))
-    (found_now n c.args.number x words (widened c.args.found) c.requires.number c.index.ensures c.requires.found) (supported_now n c.args.number x words (widened c.args.found) (widened c.args.supported) c.requires.number c.index.ensures c.requires.found c.requires.supported) refl (values_of_part c.difference-lost.result ∙ (parts_lacked c.args.found c.args.supported c.difference-lost.result c.places.place (omega (arith, c.places-test.true, c.colours-processes.ensures.few, c.requires.long)) (omega (arith, c.places-test.true, c.colours-processes.ensures.few, c.requires.supported_long)) c.difference-lost.ensures)) step in
+    now _ known (subst (λ m. IsWithin (length n.rules.items) m x) (sym c.requires.working.long) inside) (omega (arith, c.places-processes.ensures.count, c.places-processes.ensures.few)) (omega (arith, c.places-processes.ensures.count, c.places-test.true))
+    (found_now n c.args.number x words (widened c.args.found) c.requires.number c.index.ensures c.requires.found) (supported_now n c.args.number x words (widened c.args.found) (widened c.args.supported) c.requires.number c.index.ensures c.requires.found c.requires.supported) refl (values_of_part c.difference-lost.result ∙ (parts_lacked c.args.found c.args.supported c.difference-lost.result c.places.place (omega (arith, c.places-test.true, c.places-processes.ensures.few, c.requires.long)) (omega (arith, c.places-test.true, c.places-processes.ensures.few, c.requires.supported_long)) c.difference-lost.ensures)) step in
     (c.places.invariant.0, done ∙ c.places.invariant.1, c.places.invariant.2, c.places.invariant.3, c.places.invariant.4)
 
 pub places-preserved : goal.places-preserved
@@ -102,15 +102,15 @@ places-preserved c =
     let inside = execution_within n c.args.number x c.requires.network c.requires.number c.index.ensures in
     let known = known_at n.rules.items n.points x rule inside c.requires.network.wide c.index-rule.ensures in
     let step = ap (λ b. reached c.take_part.new.lines.items (point_if b (get_or x.points c.places.place 0)) c.take_part.new.workspace.tracked.words.items) (sym c.if-take_part.false) ∙ c.take_part.ensures.step in
-    let done = place_done n.rules.items x rule words (widened c.args.found) (widened c.args.supported) c.args.number c.places.place c.colour.result (wide_set c.difference-lost.result)
-    (reached c.places.lines.items None c.places.workspace.tracked.words.items) _ known (subst (λ m. IsWithin (length n.rules.items) m x) (sym c.requires.working.long) inside) (omega (arith, c.colours-processes.ensures.count, c.colours-processes.ensures.few)) (omega (arith, c.colours-processes.ensures.count, c.places-test.true))
-    (found_now n c.args.number x words (widened c.args.found) c.requires.number c.index.ensures c.requires.found) (supported_now n c.args.number x words (widened c.args.found) (widened c.args.supported) c.requires.number c.index.ensures c.requires.found c.requires.supported) c.colour.ensures (values_of_part c.difference-lost.result ∙ (parts_lacked c.args.found c.args.supported c.difference-lost.result c.places.place (omega (arith, c.places-test.true, c.colours-processes.ensures.few, c.requires.long)) (omega (arith, c.places-test.true, c.colours-processes.ensures.few, c.requires.supported_long)) c.difference-lost.ensures)) step
+    let done = place_done n.rules.items x rule words (widened c.args.found) (widened c.args.supported) c.args.number c.places.place c.process_at.result (wide_set c.difference-lost.result)
+    (reached c.places.lines.items None c.places.workspace.tracked.words.items) _ known (subst (λ m. IsWithin (length n.rules.items) m x) (sym c.requires.working.long) inside) (omega (arith, c.places-processes.ensures.count, c.places-processes.ensures.few)) (omega (arith, c.places-processes.ensures.count, c.places-test.true))
+    (found_now n c.args.number x words (widened c.args.found) c.requires.number c.index.ensures c.requires.found) (supported_now n c.args.number x words (widened c.args.found) (widened c.args.supported) c.requires.number c.index.ensures c.requires.found c.requires.supported) c.process_at.ensures (values_of_part c.difference-lost.result ∙ (parts_lacked c.args.found c.args.supported c.difference-lost.result c.places.place (omega (arith, c.places-test.true, c.places-processes.ensures.few, c.requires.long)) (omega (arith, c.places-test.true, c.places-processes.ensures.few, c.requires.supported_long)) c.difference-lost.ensures)) step
     ∙ c.places.invariant.1 in
     let named : (p : Problem) → constraint_at p c.args.number ≡ constraint_seen n.rules.items x → NamesLost p c.args.lines.now c.args.workspace.now c.take_part.new.lines c.take_part.new.workspace = λ p at.
     named_then p _ _ _ _ _ _ (c.places.invariant.0 p at)
-    (c.take_part.ensures.named p (point_of_place p n.rules.items x rule n.points c.args.number c.places.place c.colour.result known inside c.colours-processes.ensures.simplex
-    (omega (arith, c.colours-processes.ensures.count, c.colours-processes.ensures.few)) (omega (arith, c.colours-processes.ensures.count, c.places-test.true)) c.colour.ensures at)) in
-    let user = execution_told n c.args.number x c.requires.network c.requires.number c.index.ensures c.places.place (omega (arith, c.places-test.true, c.colours-processes.ensures.few)) in
+    (c.take_part.ensures.named p (point_of_place p n.rules.items x rule n.points c.args.number c.places.place c.process_at.result known inside c.places-processes.ensures.simplex
+    (omega (arith, c.places-processes.ensures.count, c.places-processes.ensures.few)) (omega (arith, c.places-processes.ensures.count, c.places-test.true)) c.process_at.ensures at)) in
+    let user = execution_told n c.args.number x c.requires.network c.requires.number c.index.ensures c.places.place (omega (arith, c.places-test.true, c.places-processes.ensures.few)) in
     let silent : IsSilent c.args.number c.args.workspace.now c.take_part.new.workspace = λ none.
     c.take_part.ensures.silent c.args.number user none ∙ c.places.invariant.4 ((c.take_part.ensures.untouched c.args.number none).0) in
     (named, done, proceeds_then _ _ _ _ _ _ c.places.workspace _ _ c.places.invariant.2 c.if-take_part.ensures.proceeds, untouched_then n.users _ _ _ _ _ _ c.places.invariant.3 c.take_part.ensures.untouched, silent)
@@ -127,7 +127,7 @@ returns-clause-step c =
     let ps = processes_of rule.simplex in
     let count : length ps ≡ length rule.simplex = length-map rule.simplex (λ v. v.0) in
     sym (no_place_more (reached c.places.lines.items None c.places.workspace.tracked.words.items) c.args.number (box_of words) (constraint_seen n.rules.items x) c.places.place ps x.points known.scope
-    (omega (arith, count, c.colours-processes.ensures.count, c.places-test.false)) (omega (arith, count, c.colours-processes.ensures.count, c.colours-processes.ensures.few, inside.long)))
+    (omega (arith, count, c.places-processes.ensures.count, c.places-test.false)) (omega (arith, count, c.places-processes.ensures.count, c.places-processes.ensures.few, inside.long)))
     ∙ c.places.invariant.1
     ∙ ap (λ k. and_then (reached c.args.lines.now.items None words) (revision c.args.number k)) (sym seen)
 
@@ -163,12 +163,12 @@ returns-clause-quiet c = λ none.
     let inside = execution_within n c.args.number x c.requires.network c.requires.number c.index.ensures in
     let known = known_at n.rules.items n.points x rule inside c.requires.network.wide c.index-rule.ensures in
     let seen : constraint_in n c.args.number ≡ constraint_seen n.rules.items x = ap (constraint_seen n.rules.items) (execution_is n c.args.number x c.requires.number c.index.ensures) in
-    let few : length rule.simplex ≤ 4 = omega (arith, c.colours-processes.ensures.count, c.colours-processes.ensures.few) in
+    let few : length rule.simplex ≤ 4 = omega (arith, c.places-processes.ensures.count, c.places-processes.ensures.few) in
     let ps = processes_of rule.simplex in
     let many : length ps ≡ length rule.simplex = length-map rule.simplex (λ v. v.0) in
     let step : reached c.places.lines.items None fewer ≡ and_then (reached c.args.lines.now.items None words) (revision c.args.number (constraint_seen n.rules.items x)) =
     sym (no_place_more (reached c.places.lines.items None fewer) c.args.number (box_of words) (constraint_seen n.rules.items x) c.places.place ps x.points known.scope
-    (omega (arith, many, c.colours-processes.ensures.count, c.places-test.false)) (omega (arith, many, c.colours-processes.ensures.count, c.colours-processes.ensures.few, inside.long)))
+    (omega (arith, many, c.places-processes.ensures.count, c.places-test.false)) (omega (arith, many, c.places-processes.ensures.count, c.places-processes.ensures.few, inside.long)))
     ∙ c.places.invariant.1 in
     let left = found_at x c.deref.result.now in
     let left_here : left ≡ found_at x fewer = ap (found_at x) c.deref.ensures.value in
@@ -181,7 +181,7 @@ returns-clause-quiet c = λ none.
       | inl same ↦
           loses_nothing n.rules.items x rule fewer left known (subst (λ m. IsWithin (length n.rules.items) m x) (sym done.long) inside) few left_here
           (left_supports rule.table (widened c.args.supported) (widened c.args.found) left (omega (arith, known.wide, few, (length-map c.args.found wide_set ∙ c.requires.long))) (omega (arith, known.wide, few, left_long)) right
-          (λ i low. same i (omega (arith, low, known.wide, c.colours-processes.ensures.count))))
+          (λ i low. same i (omega (arith, low, known.wide, c.places-processes.ensures.count))))
       | inr before ↦
           (let kept = c.places.invariant.4 before in
           nothing_lost (constraint_seen n.rules.items x) c.args.lines.now.items c.places.lines.items words fewer c.args.number kept

@@ -4,12 +4,12 @@ use Rattle.std.specs.List.{slice_set}
 use Rattle.std.specs.Cmp.Lexicographic.{bytes_decides, pointwise}
 use Rattle.std.proofs.lemmas.Bool.{cases_eq, false≢true}
 use Rattle.std.proofs.lemmas.List.{with_items_is, get_or-set_other}
-use Rattle.wf_box.specs.Users.{IsUser}
+use Rattle.wf_network.specs.Users.{IsUser}
 use Rattle.wf_box.specs.Steps.{IsNamed}
 use Rattle.wf_box.specs.Changes.{IsGrown, IsTracked}
 use Rattle.wf_box.proofs.QuietLemmas.{marked_user}
 use Rattle.wf_box.proofs.ChangeLemmas.{grown_none, grown_one, less_from, same_again}
-use Rattle.wf_box.proofs.WorkLemmas.{ends_if, proceeds_none}
+use Rattle.wf_box.proofs.WorkLemmas.{ends_if}
 use Rattle.wf_box.proofs.closing.take_place.Goals as goal
 
 -- sets that a test finds different
@@ -23,9 +23,6 @@ unchanged c =
     let t = c.take_each-emptied.ensures in
     let same : c.index-2.result.now ≡ c.index.result.now = (bytes_decides c.index-2.result.now c.index.result.now).0 (sym c.eq.ensures ∙ c.if-eq.true) in
     same_again c.args.workspace.now.tracked.words.items c.deref_mut.result.now c.take_each-emptied.new.sets _ c.args.place.point c.index.result.now c.index-2.result.now c.deref_mut.ensures.value now (omega (arith, c.requires.point, c.requires.working.long)) t.long t.others c.index.ensures c.index-2.ensures same
-
-pub returns-then-is_empty-clause-proceeds : goal.returns-then-is_empty-clause-proceeds
-returns-then-is_empty-clause-proceeds c = proceeds_none _ _ _ _ c.requires.working
 
 pub returns-then-eq-clause-proceeds : goal.returns-then-eq-clause-proceeds
 returns-then-eq-clause-proceeds c =
