@@ -18,11 +18,6 @@ marked-init c = (
   omega arith,
 )
 
-pub revise-requires-clause-working : goal.revise-requires-clause-working
-revise-requires-clause-working c =
-    let done = c.marked.invariant.2 in
-    record { kept = done.kept; long = done.long; marks_long = omega (arith, done.marks_long, c.in-Some.ensures.long); room = done.ends.0; known = done.known }
-
 pub returns-then-number-len-clause-step : goal.returns-then-number-len-clause-step
 returns-then-number-len-clause-step c =
     let n = c.args.network.now in
@@ -80,3 +75,12 @@ returns-then-number-len-clause-marked c =
     let n = c.args.network.now in
     λ e inside none.
     c.marked.invariant.3 e inside (sym (c.in-Some.ensures.others e (λ same. let bad : ⊥ = omega (arith, same, inside, c.if-number-len.true, c.len.ensures, n.executions.ok.0, length-map n.executions.items (constraint_seen n.rules.items)) in bad)) ∙ none)
+
+pub revise-requires : goal.revise-requires
+revise-requires c = record {
+  network = c.requires.network;
+  number = omega (arith, c.if-number-len.false, c.len.ensures, c.args.network.now.executions.ok.0);
+  working =
+      let done = c.marked.invariant.2 in
+      record { kept = done.kept; long = done.long; marks_long = omega (arith, done.marks_long, c.in-Some.ensures.long); room = done.ends.0; known = done.known };
+}
