@@ -12,15 +12,15 @@ use Rattle.wf_model.specs.Box.{Box, candidates, first_empty, is_supported, sets_
 use Rattle.wf_model.specs.Closing.{Step, Loss, and_then, lost, lost_at, places, same_candidate, sweep_from, take_out_each, taken_out}
 use Rattle.wf_model.specs.Lists.{distinct}
 use Rattle.wf_set.specs.Sets.{box_of, values_in}
-use Rattle.wf_box.specs.Marks.{bit_of, IsMore, IsNext, MarksEach}
-use Rattle.wf_box.specs.Problems.{IsWithin, constraint_seen}
-use Rattle.wf_box.specs.Quiet.{AreTold, IsQuiet, IsQuietBut, IsUntouched, IsUntouchedBut, no_execution}
-use Rattle.wf_box.specs.Users.{HasBit, IsUser, no_word, users_of}
-use Rattle.wf_box.specs.declared.users.UserWord.{UserWord}
+use Rattle.wf_network.specs.Marks.{bit_of, IsMore, IsNext, MarksEach}
+use Rattle.wf_network.specs.Problems.{IsWithin, constraint_seen}
+use Rattle.wf_box.specs.Quiet.{IsQuiet, IsQuietBut, IsUntouched, IsUntouchedBut}
+use Rattle.wf_network.specs.Users.{AreTold, HasBit, IsUser, no_execution, no_word, users_of}
+use Rattle.wf_network.specs.declared.users.UserWord.{UserWord}
 use Rattle.wf_box.specs.Steps.{reached}
-use Rattle.wf_box.specs.declared.problem.Rule.{Rule}
-use Rattle.wf_box.specs.declared.problem.PackedExecution.{PackedExecution}
-use Rattle.wf_box.specs.declared.users.Users.{Users}
+use Rattle.wf_network.specs.declared.problem.Rule.{Rule}
+use Rattle.wf_network.specs.declared.problem.PackedExecution.{PackedExecution}
+use Rattle.wf_network.specs.declared.users.Users.{Users}
 use Rattle.wf_lines.specs.Lines.{line_of}
 use Rattle.wf_lines.specs.declared.line.Line.{Line}
 use Rattle.wf_box.proofs.StepLemmas.{then_keeps, then_then}

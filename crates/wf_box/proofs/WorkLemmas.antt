@@ -1,31 +1,27 @@
 -- One part of a closing after another.
-use Rattle.std.proofs.Common.{◌≡◌, ◌<◌, ◌≤◌, ◌∙◌, ℕ, List, length, get_or, slice_index, Vec, Option, Some, None, Bool, true, false, arith, ap, refl, sym, subst}
+use Rattle.std.proofs.Common.{◌≡◌, ◌<◌, ◌∙◌, ℕ, List, length, Vec, Option, Some, None, Bool, true, false, arith, ap, refl, subst}
 use Rattle.std.specs.Bool.{OnFalse, OnTrue}
 use Rattle.std.specs.List.{slice_index_or}
-use Rattle.std.proofs.lemmas.List.{get_or_default}
 use Rattle.wf_model.specs.Problem.{Constraint}
 use Rattle.wf_set.specs.Sets.{box_of}
 use Rattle.wf_lines.specs.declared.line.Line.{Line}
 use Rattle.wf_box.specs.Changes.{sets_in}
 use Rattle.wf_box.specs.Closes.{EndsAt, IsEmptied, emptied_by}
 use Rattle.wf_lane.specs.Table.{HasSupported}
-use Rattle.wf_box.specs.Problems.{IsNetwork, IsWithin, KeepsProcesses, no_rule, rule_in, rule_of}
-use Rattle.wf_box.specs.Quiet.{no_execution}
-use Rattle.wf_box.specs.Users.{IsUser}
-use Rattle.wf_box.specs.Revising.{AreKnown, answers_in, found_at, found_in}
+use Rattle.wf_network.specs.Problems.{rule_in, rule_of}
+use Rattle.wf_memo.specs.Revising.{AreKnown, answers_in, found_at, found_in}
 use Rattle.wf_box.specs.Steps.{HasRoom, IsPaid, IsSpent, point_if}
 use Rattle.wf_box.specs.Working.{Ends, IsWorking, Proceeds}
 use Rattle.wf_box.specs.declared.closing.Closed.{Closed}
 use Rattle.wf_box.specs.declared.closing.Closed.TheVariants.{Empty, Open}
-use Rattle.wf_box.specs.declared.marks.Marks.{Marks}
-use Rattle.wf_box.specs.declared.memo.Memo.{Memo}
-use Rattle.wf_box.specs.declared.problem.PackedExecution.{PackedExecution}
-use Rattle.wf_box.specs.declared.problem.Network.{Network}
-use Rattle.wf_box.specs.declared.problem.Rule.{Rule}
+use Rattle.wf_network.specs.declared.marks.Marks.{Marks}
+use Rattle.wf_memo.specs.declared.memo.Memo.{Memo}
+use Rattle.wf_network.specs.declared.problem.PackedExecution.{PackedExecution}
+use Rattle.wf_network.specs.declared.problem.Network.{Network}
 use Rattle.wf_box.specs.declared.tracked.Tracked.{Tracked}
 use Rattle.wf_box.specs.declared.workspace.Workspace.{Workspace}
 use Rattle.wf_box.proofs.ChangeLemmas.{grown_none, grown_then}
-use Rattle.wf_box.proofs.ProblemLemmas.{Known}
+use Rattle.wf_network.proofs.Lemmas.{execution_is}
 
 -- nothing was done yet
 pub proceeds_none : {A : Type 0} {ks : List Constraint} (points executions : ℕ) (lines : Vec Line A) (w : Workspace) → IsWorking points executions ks lines w → Proceeds points executions ks lines w.tracked lines w None
@@ -101,24 +97,7 @@ pub emptied_so : {A : Type 0} (lines more : Vec Line A) (old new : Tracked) (clo
 emptied_so lines more old new (Empty v) ends = ends
 emptied_so lines more old new (Open n) ends = tt
 
--- ---- an execution of a network
-
-pub execution_is : (n : Network) (e : ℕ) (x : PackedExecution) → e < length n.executions.items → x ≡ slice_index_or n.executions.items e x → get_or n.executions.items e no_execution ≡ x
-execution_is n e x low here = get_or_default n.executions.items e no_execution x low ∙ sym here
-
-pub execution_within : (n : Network) (e : ℕ) (x : PackedExecution) → IsNetwork n → e < length n.executions.items → x ≡ slice_index_or n.executions.items e x → IsWithin (length n.rules.items) n.points x
-execution_within n e x network low here = subst (IsWithin (length n.rules.items) n.points) (execution_is n e x low here) (network.within e no_execution low)
-
-pub execution_told : (n : Network) (e : ℕ) (x : PackedExecution) → IsNetwork n → e < length n.executions.items → x ≡ slice_index_or n.executions.items e x → (place : ℕ) → place < 4 → IsUser n.users (slice_index x.points place) e
-execution_told n e x network low here place small = subst (λ (y : PackedExecution). IsUser n.users (slice_index y.points place) e) (execution_is n e x low here) (network.told e place low small)
-
--- there are four processes at most
-pub few_at : (n : Network) (e : ℕ) → IsNetwork n → e < length n.executions.items → length (rule_in n e).simplex ≤ 4
-few_at n e network low = (network.processes (get_or n.executions.items e no_execution).rule no_rule (network.within e no_execution low).rule).narrow
-
--- the rule keeps its processes
-pub processes_kept : (n : Network) (e : ℕ) (x : PackedExecution) (rule : Rule) → IsNetwork n → e < length n.executions.items → x ≡ slice_index_or n.executions.items e x → rule ≡ slice_index_or n.rules.items x.rule rule → KeepsProcesses rule
-processes_kept n e x rule network low here is = subst KeepsProcesses (sym is) (network.processes x.rule rule (execution_within n e x network low here).rule)
+-- ---- what is found at an execution
 
 -- what is found at its points
 pub found_is : (n : Network) (e : ℕ) (x : PackedExecution) (sets words : List (List ℕ)) → e < length n.executions.items → x ≡ slice_index_or n.executions.items e x → sets ≡ words → found_in n e sets ≡ found_at x words
@@ -132,16 +111,3 @@ pub supported_now : (n : Network) (e : ℕ) (x : PackedExecution) (words found s
     → HasSupported supported (rule_in n e).table found → HasSupported supported (rule_of n.rules.items x).table found
 supported_now n e x words found supported low here is right =
     subst (λ (y : PackedExecution). HasSupported supported (rule_of n.rules.items y).table found) (execution_is n e x low here) right
-
--- the rule of an execution
-pub rule_known : (n : Network) (e : ℕ) → IsNetwork n → e < length n.executions.items → Known n.rules.items (get_or n.executions.items e no_execution) (rule_in n e)
-rule_known n e network low = record {
-  is = refl;
-  scope = refl;
-  tuples = refl;
-  wide = network.wide (get_or n.executions.items e no_execution).rule no_rule (network.within e no_execution low).rule;
-}
-
--- its points are there
-pub within_now : (n : Network) (e : ℕ) (words : List (List ℕ)) → IsNetwork n → e < length n.executions.items → length words ≡ n.points → IsWithin (length n.rules.items) (length words) (get_or n.executions.items e no_execution)
-within_now n e words network low long = subst (λ m. IsWithin (length n.rules.items) m (get_or n.executions.items e no_execution)) (sym long) (network.within e no_execution low)

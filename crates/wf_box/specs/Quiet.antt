@@ -1,17 +1,16 @@
 -- What executions without a mark keep.
-use Rattle.std.specs.Prelude.{◌≡◌, ◌≢◌, ◌<◌, ◌≤◌, ℕ, List, [], length, get_or, slice_index, None}
+use Rattle.std.specs.Prelude.{◌≡◌, ◌≢◌, ◌<◌, ◌≤◌, ℕ, List, [], length, get_or, None}
 use Rattle.wf_model.specs.Problem.{Problem, Constraint, no_constraint}
 use Rattle.wf_model.specs.Box.{Box, first_empty}
 use Rattle.wf_model.specs.Closing.{lost, sweep}
-use Rattle.wf_box.specs.Marks.{bit_of}
+use Rattle.wf_network.specs.Marks.{bit_of}
 use Rattle.wf_set.specs.Sets.{box_of, values_in}
 use Rattle.wf_box.specs.Changes.{sets_in, words_after, words_at}
 use Rattle.wf_box.specs.declared.tracked.Change.{Change}
 use Rattle.wf_box.specs.declared.tracked.Tracked.{Tracked}
-use Rattle.wf_box.specs.declared.marks.Marks.{Marks}
-use Rattle.wf_box.specs.declared.problem.PackedExecution.{PackedExecution}
-use Rattle.wf_box.specs.declared.users.Users.{Users}
-use Rattle.wf_box.specs.Users.{IsUser}
+use Rattle.wf_network.specs.declared.marks.Marks.{Marks}
+use Rattle.wf_network.specs.declared.users.Users.{Users}
+use Rattle.wf_network.specs.Users.{IsUser}
 
 -- an execution without a mark has lost nothing
 abbrev pub IsQuiet : List Constraint → List ℕ → Box → Type 0
@@ -40,14 +39,6 @@ IsUntouchedSince n u t marks = (e : ℕ) → bit_of marks.words.items e ≡ 0 �
 -- a point without a candidate had none after so many changes
 abbrev pub EmptiesNoneSince : ℕ → Tracked → Type 0
 EmptiesNoneSince n t = (v : ℕ) → values_in (get_or t.words.items v []) ≡ [] → values_in (get_or (words_at n t) v []) ≡ []
-
--- no execution
-abbrev pub no_execution : PackedExecution
-no_execution = record { rule = 0; like = 0; points = [] }
-
--- each of its four points knows an execution
-abbrev pub AreTold : Users → List PackedExecution → Type 0
-AreTold u es = (e place : ℕ) → e < length es → place < 4 → IsUser u (slice_index (get_or es e no_execution).points place) e
 
 -- after so many changes the sets were those of a closed box without an empty point
 pub record WasClosed (p : Problem) (trail : List Change) (words : List (List ℕ)) (n : ℕ) : Type 0 where

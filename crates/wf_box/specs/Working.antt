@@ -1,17 +1,18 @@
 -- What closing works on, and what each part of it keeps.
-use Rattle.std.specs.Prelude.{◌≡◌, ◌≤◌, ◌*◌, ℕ, List, [], Vec, length, Option, Some, None}
+use Rattle.std.specs.Prelude.{◌≡◌, ◌<◌, ◌≤◌, ◌*◌, ℕ, Bool, List, [], Vec, length, Option, Some, None, IfNone}
 use Rattle.wf_model.specs.Problem.{Constraint, Problem}
 use Rattle.wf_model.specs.Closing.{lost}
 use Rattle.wf_lines.specs.declared.line.Line.{Line}
 use Rattle.wf_box.specs.Changes.{GrowsTo, KeepsTrack, sets_in}
 use Rattle.wf_box.specs.Closes.{EndsAt}
-use Rattle.wf_box.specs.Marks.{bit_of}
-use Rattle.wf_box.specs.Problems.{constraint_in, constraints_in}
+use Rattle.wf_network.specs.Marks.{bit_of}
+use Rattle.wf_network.specs.Problems.{IsNetwork, constraint_in, constraints_in}
 use Rattle.wf_box.specs.Quiet.{IsUntouched, IsUntouchedBut, MarksTell}
-use Rattle.wf_box.specs.Users.{IsUser}
-use Rattle.wf_box.specs.Revising.{AreKnown, answers_in}
-use Rattle.wf_box.specs.Steps.{HasRoom, IsPaid}
-use Rattle.wf_box.specs.declared.problem.Network.{Network}
+use Rattle.wf_network.specs.Users.{IsUser}
+use Rattle.wf_memo.specs.Revising.{AreKnown, answers_in}
+use Rattle.wf_box.specs.Steps.{HasRoom, IsPaid, NamesAt, NamesIn, Reaches, TakesEach, point_if, revision}
+use Rattle.wf_box.specs.declared.taking.Occurrence.{Occurrence}
+use Rattle.wf_network.specs.declared.problem.Network.{Network}
 use Rattle.wf_box.specs.declared.tracked.Tracked.{Tracked}
 use Rattle.wf_box.specs.declared.workspace.Workspace.{Workspace}
 
@@ -77,3 +78,33 @@ IsSilent e old new = bit_of new.marks.words.items e ≡ 0 → new.tracked.words.
 -- where an execution of the point is not marked, no candidate was taken out
 abbrev pub AreSilent : Network → ℕ → Workspace → Workspace → Type 0
 AreSilent n v old new = (e : ℕ) → IsUser n.users v e → IsSilent e old new
+
+-- ---- an execution, and a place of it
+
+-- it is an execution of the network, whose points closing works on
+pub record IsRevising {A : Type 0} (n : Network) (e : ℕ) (lines : Vec Line A) (w : Workspace) : Type 0 where
+  pub network : IsNetwork n
+  pub number : e < length n.executions.items
+  pub working : IsWorkingOn n lines w
+
+-- what the execution has lost is taken out, up to this point, if it empties one
+pub record Revises {A : Type 0} (n : Network) (e : ℕ) (lines : Vec Line A) (old : Workspace) (more : Vec Line A) (new : Workspace) (emptied : Option ℕ) : Type 0 where
+  pub step : Reaches (revision e (constraint_in n e)) lines old more new emptied
+  pub proceeds : ProceedsOn n lines old more new emptied
+  pub untouched : LeavesOthersUntouched n e old new
+  pub quiet : IfNone emptied (IsQuietAt n e new)
+  pub named : NamesIn n e lines old more new
+
+-- the place's point is one of the network's, which closing works on
+pub record IsTakingAt {A : Type 0} (n : Network) (place : Occurrence) (lines : Vec Line A) (w : Workspace) : Type 0 where
+  pub network : IsNetwork n
+  pub point : place.point < n.points
+  pub working : IsWorkingOn n lines w
+
+-- those of the values that the place's point still has are taken out; whether that empties it
+pub record TakesAt {A : Type 0} (n : Network) (set : List ℕ) (place : Occurrence) (lines : Vec Line A) (old : Workspace) (more : Vec Line A) (new : Workspace) (emptied : Bool) : Type 0 where
+  pub step : TakesEach set place lines old.tracked.words.items more new.tracked.words.items emptied
+  pub proceeds : ProceedsOn n lines old more new (point_if emptied place.point)
+  pub untouched : LeavesUntouched n old new
+  pub silent : AreSilent n place.point old new
+  pub named : NamesAt place lines old.tracked.words.items more new.tracked.words.items

@@ -5,10 +5,10 @@ ghost use Rattle.wf_model.specs.Problem.{Problem};
 ghost use Rattle.wf_box.specs.Boxes.{IsFor, ServeFor, with_known};
 
 use crate::boxed::Box0;
-use crate::memo::Memo;
 use std::alloc::Global;
 use std::marker::Model;
 use std::mem;
+use wf_memo::Memo;
 
 /// What closing has found out about a problem: a box keeps it, and may leave it to the next box of
 /// the same problem. No result rests on it, and it saves time alone.
@@ -21,8 +21,8 @@ pub struct Answers {
 
 impl Model for Answers {
     ghost use Rattle.std.specs.Prelude.{List, Option};
-    ghost use Rattle.wf_box.specs.Revising.{answers_in};
-    ghost use Rattle.wf_box.specs.declared.memo.Revised.{Revised};
+    ghost use Rattle.wf_memo.specs.Revising.{answers_in};
+    ghost use Rattle.wf_memo.specs.declared.memo.Revised.{Revised};
 
     ghost Value = { List (Option Revised) };
 

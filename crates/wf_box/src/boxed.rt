@@ -11,14 +11,13 @@ ghost use Rattle.wf_box.specs.Least.{least_values};
 ghost use Rattle.wf_model.specs.Limits.{most_points};
 
 use crate::kept::KeptSets;
-use crate::marks::Marks;
-use crate::memo::Memo;
-use crate::problem::Problem;
 use crate::snapshot::Snapshot;
 use crate::tracked::Tracked;
 use crate::workspace::Workspace;
 use std::alloc::{AllocError, Global};
 use std::marker::Model;
+use wf_memo::Memo;
+use wf_network::{Marks, Problem};
 use wf_set::{Mask, first};
 
 /// A box: a set of values, its candidates, for each point. It keeps a trail of its changes, so that
@@ -63,7 +62,7 @@ impl Box0 {
         ensures open { IfOk result (λ boxed. boxed.closed ≡ None) }
         ensures well_formed { IsWellFormed problem.now }
     {
-        let words = vec![in alloc; problem.values; problem.network.points as usize]?;
+        let words = vec![in alloc; problem.values(); problem.points() as usize]?;
         Ok(Box0 {
             workspace: Workspace {
                 tracked: Tracked::new(alloc, words)?,

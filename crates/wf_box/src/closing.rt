@@ -7,26 +7,25 @@ ghost use Rattle.std.specs.Bool.{OnTrue};
 ghost use Rattle.wf_model.specs.Limits.{most_points};
 ghost use Rattle.wf_box.specs.Boxes.{Grows, IsClosedNow, IsFor};
 ghost use Rattle.wf_box.specs.Changes.{KeepsTrack, sets_in};
-ghost use Rattle.wf_box.specs.Marks.{KeepsBitsBut, bit_of};
+ghost use Rattle.wf_network.specs.Marks.{KeepsBitsBut, bit_of};
 ghost use Rattle.wf_box.specs.Quiet.{EmptiesNoneSince, IsUntouchedSince, MarksTell, StoodClosed};
 ghost use Rattle.wf_set.specs.Sets.{box_of};
 ghost use Rattle.wf_lane.specs.Table.{HasSupported};
-ghost use Rattle.wf_box.specs.Problems.{IsNetwork, constraint_in, constraints_in, rule_in};
-ghost use Rattle.wf_box.specs.Steps.{ClosesTo, NamesAll, NamesAt, NamesIn, NamesLost, Reaches, SweepsTo, TakesEach, box_in, point_if, revision};
+ghost use Rattle.wf_network.specs.Problems.{IsNetwork, constraints_in, rule_in};
+ghost use Rattle.wf_box.specs.Steps.{ClosesTo, NamesAll, NamesLost, Reaches, SweepsTo, box_in};
 ghost use Rattle.wf_box.specs.Closes.{AddsClosing, AreFew, IsEmptied, IsSupported, KeepsSolutions, Leaves, LosesNamed, Takes, emptied_by, sweeps_to_close};
-ghost use Rattle.wf_box.specs.Revising.{AreSame, found_at, found_in, wide_set, widened};
-ghost use Rattle.wf_box.specs.Working.{AreMarked, AreSilent, IsQuietAt, IsWorkingFor, IsWorkingOn, LeavesOthersUntouched, LeavesUntouched, ProceedsFor, ProceedsOn};
+ghost use Rattle.wf_memo.specs.Revising.{AreSame, found_at, found_in, wide_set, widened};
+ghost use Rattle.wf_box.specs.Working.{AreMarked, IsRevising, IsTakingAt, IsWorkingFor, IsWorkingOn, ProceedsFor, ProceedsOn, Revises, TakesAt};
 
 use crate::boxed::Box0;
-use crate::marks::Marks;
-use crate::problem::{Network, PackedExecution, Problem};
-use crate::revising::{candidates_at, narrowed, supported_narrow, supported_sets};
 use crate::taking::{Occurrence, put, take_each, take_each_part};
 use crate::tracked::Tracked;
 use crate::workspace::Workspace;
 use std::alloc::{AllocError, Global};
 use wf_lane::first_empty;
 use wf_lines::{Line, Lines};
+use wf_memo::{candidates_at, narrowed, supported_narrow, supported_sets};
+use wf_network::{Marks, Network, PackedExecution, Problem};
 use wf_set::part::{self, Part};
 use wf_set::{Mask, difference, is_empty};
 
@@ -72,10 +71,11 @@ pub fn close(
     ensures refused_box { OnErr result (boxed.new ≡ boxed.old) }
 {
     lines.reserve(boxed.workspace.tracked.room() + 1)?;
-    let executions = problem.network.executions.len() as u32;
+    let network = problem.network();
+    let executions = network.executions.len() as u32;
     boxed.workspace.marks.reserve(alloc, executions)?;
     // no call after this one is refused
-    boxed.workspace.memo.grow(alloc, &problem.network);
+    boxed.workspace.memo.grow(alloc, network);
     let closed = close_tracked(problem, boxed.closed, &mut boxed.workspace, lines);
     boxed.closed = match closed {
         Closed::Open { .. } => Some(boxed.workspace.tracked.trail.len() as u32),
@@ -152,7 +152,7 @@ fn mark_problem(
             marks.mark_all();
             false
         }
-        Some(changes) => mark_changed(&problem.network, changes as usize, tracked, marks),
+        Some(changes) => mark_changed(problem.network(), changes as usize, tracked, marks),
     }
 }
 
@@ -226,7 +226,7 @@ fn sweep(problem: &Problem, workspace: &mut Workspace, lines: &mut Lines) -> Opt
     ensures marked { IfNone result (AreMarked problem.now.constraints workspace.new) }
     ensures named { NamesLost problem.now lines.old workspace.old lines.new workspace.new }
 {
-    sweep_marked(&problem.network, workspace, lines)
+    sweep_marked(problem.network(), workspace, lines)
 }
 
 /// Takes out of each execution in turn that is marked what is not supported there. The point that
@@ -264,16 +264,9 @@ fn revise(
     workspace: &mut Workspace,
     lines: &mut Lines,
 ) -> Option<u32>
-    requires network { IsNetwork network.now }
-    requires number { number < length network.now.executions.items }
-    requires working { IsWorkingOn network.now lines.old workspace.old }
-    ensures step { Reaches (revision number (constraint_in network.now number))
+    requires { IsRevising network.now number lines.old workspace.old }
+    ensures { Revises network.now number
         lines.old workspace.old lines.new workspace.new result }
-    ensures proceeds { ProceedsOn network.now
-        lines.old workspace.old lines.new workspace.new result }
-    ensures untouched { LeavesOthersUntouched network.now number workspace.old workspace.new }
-    ensures quiet { IfNone result (IsQuietAt network.now number workspace.new) }
-    ensures named { NamesIn network.now number lines.old workspace.old lines.new workspace.new }
 {
     let execution = network.executions[number as usize];
     let found = candidates_at(execution, &workspace.tracked.words);
@@ -291,19 +284,12 @@ fn revise_parts(
     workspace: &mut Workspace,
     lines: &mut Lines,
 ) -> Option<u32>
-    requires network { IsNetwork network.now }
-    requires number { number < length network.now.executions.items }
-    requires working { IsWorkingOn network.now lines.old workspace.old }
+    requires revising { IsRevising network.now number lines.old workspace.old }
     requires long { length found ≡ 4 }
     requires found { widened found
         ≡ found_in network.now number workspace.old.tracked.words.items }
-    ensures step { Reaches (revision number (constraint_in network.now number))
+    ensures { Revises network.now number
         lines.old workspace.old lines.new workspace.new result }
-    ensures proceeds { ProceedsOn network.now
-        lines.old workspace.old lines.new workspace.new result }
-    ensures untouched { LeavesOthersUntouched network.now number workspace.old workspace.new }
-    ensures quiet { IfNone result (IsQuietAt network.now number workspace.new) }
-    ensures named { NamesIn network.now number lines.old workspace.old lines.new workspace.new }
 {
     let Some(supported) = supported_narrow(number, found, network, &mut workspace.memo) else {
         // what most executions lose is nothing
@@ -321,26 +307,19 @@ fn take_parts(
     workspace: &mut Workspace,
     lines: &mut Lines,
 ) -> Option<u32>
-    requires network { IsNetwork network.now }
-    requires number { number < length network.now.executions.items }
-    requires working { IsWorkingOn network.now lines.old workspace.old }
+    requires revising { IsRevising network.now number lines.old workspace.old }
     requires found { widened found
         ≡ found_in network.now number workspace.old.tracked.words.items }
     requires long { length found ≡ 4 }
     requires supported_long { length supported ≡ 4 }
     requires supported { HasSupported (widened supported)
         (rule_in network.now number).table (widened found) }
-    ensures step { Reaches (revision number (constraint_in network.now number))
+    ensures { Revises network.now number
         lines.old workspace.old lines.new workspace.new result }
-    ensures proceeds { ProceedsOn network.now
-        lines.old workspace.old lines.new workspace.new result }
-    ensures untouched { LeavesOthersUntouched network.now number workspace.old workspace.new }
-    ensures quiet { IfNone result (IsQuietAt network.now number workspace.new) }
-    ensures named { NamesIn network.now number lines.old workspace.old lines.new workspace.new }
 {
     let execution = network.executions[number as usize];
     let rule = &network.rules[execution.rule as usize];
-    let processes = rule.colours();
+    let processes = rule.places();
     'places: for place in 0..processes {
         let lost = part::difference(found[place as usize], supported[place as usize]);
         if part::is_empty(lost) {
@@ -348,7 +327,7 @@ fn take_parts(
         }
         let at = Occurrence {
             execution: number,
-            process: rule.colour(place),
+            process: rule.process_at(place),
             point: execution.points[place as usize],
         };
         if take_part(lost, at, network, workspace, lines) {
@@ -375,18 +354,11 @@ fn revise_sets(
     workspace: &mut Workspace,
     lines: &mut Lines,
 ) -> Option<u32>
-    requires network { IsNetwork network.now }
-    requires number { number < length network.now.executions.items }
-    requires working { IsWorkingOn network.now lines.old workspace.old }
+    requires revising { IsRevising network.now number lines.old workspace.old }
     requires long { length found ≡ 4 }
     requires found { found ≡ found_in network.now number workspace.old.tracked.words.items }
-    ensures step { Reaches (revision number (constraint_in network.now number))
+    ensures { Revises network.now number
         lines.old workspace.old lines.new workspace.new result }
-    ensures proceeds { ProceedsOn network.now
-        lines.old workspace.old lines.new workspace.new result }
-    ensures untouched { LeavesOthersUntouched network.now number workspace.old workspace.new }
-    ensures quiet { IfNone result (IsQuietAt network.now number workspace.new) }
-    ensures named { NamesIn network.now number lines.old workspace.old lines.new workspace.new }
 {
     let supported = supported_sets(number, found, network, &mut workspace.memo);
     take_sets(number, found, supported, network, workspace, lines)
@@ -401,23 +373,16 @@ fn take_sets(
     workspace: &mut Workspace,
     lines: &mut Lines,
 ) -> Option<u32>
-    requires network { IsNetwork network.now }
-    requires number { number < length network.now.executions.items }
-    requires working { IsWorkingOn network.now lines.old workspace.old }
+    requires revising { IsRevising network.now number lines.old workspace.old }
     requires found { found ≡ found_in network.now number workspace.old.tracked.words.items }
     requires long { length found ≡ 4 }
     requires supported { HasSupported supported (rule_in network.now number).table found }
-    ensures step { Reaches (revision number (constraint_in network.now number))
+    ensures { Revises network.now number
         lines.old workspace.old lines.new workspace.new result }
-    ensures proceeds { ProceedsOn network.now
-        lines.old workspace.old lines.new workspace.new result }
-    ensures untouched { LeavesOthersUntouched network.now number workspace.old workspace.new }
-    ensures quiet { IfNone result (IsQuietAt network.now number workspace.new) }
-    ensures named { NamesIn network.now number lines.old workspace.old lines.new workspace.new }
 {
     let execution = network.executions[number as usize];
     let rule = &network.rules[execution.rule as usize];
-    let processes = rule.colours();
+    let processes = rule.places();
     'places: for place in 0..processes {
         let lost = difference(found[place as usize], supported[place as usize]);
         if is_empty(lost) {
@@ -425,7 +390,7 @@ fn take_sets(
         }
         let at = Occurrence {
             execution: number,
-            process: rule.colour(place),
+            process: rule.process_at(place),
             point: execution.points[place as usize],
         };
         if take_place(lost, at, network, workspace, lines) {
@@ -554,22 +519,10 @@ fn take_place(
     workspace: &mut Workspace,
     lines: &mut Lines,
 ) -> bool
-    requires network { IsNetwork network.now }
-    requires point { place.point < network.now.points }
-    requires working { IsWorkingOn network.now lines.old workspace.old }
-    ensures step { TakesEach lost place lines.old workspace.old.tracked.words.items
-        lines.new workspace.new.tracked.words.items result }
-    ensures proceeds { ProceedsOn network.now
-        lines.old workspace.old lines.new workspace.new (point_if result place.point) }
-    ensures untouched { LeavesUntouched network.now workspace.old workspace.new }
-    ensures silent { AreSilent network.now place.point workspace.old workspace.new }
-    ensures named { NamesAt place lines.old workspace.old.tracked.words.items
-        lines.new workspace.new.tracked.words.items }
+    requires { IsTakingAt network.now place lines.old workspace.old }
+    ensures { TakesAt network.now lost place
+        lines.old workspace.old lines.new workspace.new result }
 {
-    // what most places lose
-    if is_empty(lost) {
-        return false;
-    }
     let before = workspace.tracked.words[place.point as usize];
     let emptied = take_each(lost, place, &mut workspace.tracked.words, lines);
     if workspace.tracked.words[place.point as usize] == before {
@@ -588,17 +541,9 @@ fn take_part(
     workspace: &mut Workspace,
     lines: &mut Lines,
 ) -> bool
-    requires network { IsNetwork network.now }
-    requires point { place.point < network.now.points }
-    requires working { IsWorkingOn network.now lines.old workspace.old }
-    ensures step { TakesEach (wide_set lost) place lines.old workspace.old.tracked.words.items
-        lines.new workspace.new.tracked.words.items result }
-    ensures proceeds { ProceedsOn network.now
-        lines.old workspace.old lines.new workspace.new (point_if result place.point) }
-    ensures untouched { LeavesUntouched network.now workspace.old workspace.new }
-    ensures silent { AreSilent network.now place.point workspace.old workspace.new }
-    ensures named { NamesAt place lines.old workspace.old.tracked.words.items
-        lines.new workspace.new.tracked.words.items }
+    requires { IsTakingAt network.now place lines.old workspace.old }
+    ensures { TakesAt network.now (wide_set lost) place
+        lines.old workspace.old lines.new workspace.new result }
 {
     let before = workspace.tracked.words[place.point as usize];
     let emptied = take_each_part(lost, place, &mut workspace.tracked.words, lines);

@@ -5,12 +5,12 @@ ghost use Rattle.wf_model.specs.Box.{first_open};
 
 use crate::boxed::Box0;
 use crate::kept::KeptSets;
-use crate::marks::Marks;
-use crate::memo::Memo;
 use crate::tracked::Tracked;
 use crate::workspace::Workspace;
 use std::alloc::{AllocError, Global};
 use std::marker::Model;
+use wf_memo::Memo;
+use wf_network::Marks;
 
 /// The candidates of a box at one moment, which change no more. It takes less memory than the box,
 /// and the box can be made of it again: [`Box0::keep`] and [`Snapshot::to_box`].

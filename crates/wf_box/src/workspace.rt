@@ -1,8 +1,8 @@
 //! What closing works on.
 
-use crate::marks::Marks;
-use crate::memo::Memo;
 use crate::tracked::Tracked;
+use wf_memo::Memo;
+use wf_network::Marks;
 
 /// The candidates of each point, marks on the executions in which something
 /// may be lost, and answers of the kernel.

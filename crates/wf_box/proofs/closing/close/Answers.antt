@@ -2,14 +2,13 @@ use Rattle.std.proofs.Common.{◌≡◌, sym, subst, arith, ap, length, ◌∙�
 use Rattle.std.proofs.lemmas.List.{length-map}
 use Rattle.std.proofs.lemmas.Grind.{common_steps}
 use Rattle.wf_model.specs.Laws.{IsBoxOf}
-use Rattle.wf_model.specs.Problem.{IsWellFormed, Problem}
 use Rattle.wf_model.specs.Closing.{closing}
 use Rattle.wf_set.specs.Sets.{box_of, values_in}
 use Rattle.wf_box.specs.Boxes.{Grows, IsFor, Tracked}
 use Rattle.wf_box.specs.Closes.{KeepsSolutions, Leaves}
-use Rattle.wf_box.specs.Problems.{constraint_seen}
+use Rattle.wf_network.specs.Problems.{constraint_seen}
 use Rattle.wf_box.specs.Quiet as quiet
-use Rattle.wf_box.specs.Revising.{AreKnown, answers_in}
+use Rattle.wf_memo.specs.Revising.{AreKnown, answers_in}
 use Rattle.wf_box.proofs.ChangeLemmas.{room_now}
 use Rattle.wf_box.proofs.CloseLemmas.{is_box, left_of, solutions_kept, supported_there, was_closed}
 use Rattle.wf_box.proofs.SeenLemmas.{grown_seen, if_was, tracked_seen, was_seen}
@@ -35,9 +34,9 @@ returns-clause-grown c =
 pub close_tracked-closed-requires-clause-working : goal.close_tracked-closed-requires-clause-working
 close_tracked-closed-requires-clause-working c =
     let t = c.boxed.inside.workspace.tracked in
-    let n = c.problem.inside.network in
+    let n = c.network-network.result.now in
     let is : IsBoxOf c.args.problem.now (box_of t.words.items) = subst (λ (b : Tracked). IsBoxOf c.args.problem.now b.sets) (sym c.boxed.view_is) c.requires.is_box in
-    let executions : length n.executions.items ≡ length c.args.problem.now.constraints = sym (length-map n.executions.items (constraint_seen n.rules.items)) ∙ ap (λ (p : Problem). length p.constraints) c.problem.view_is in
+    let executions : length n.executions.items ≡ length c.args.problem.now.constraints = sym (length-map n.executions.items (constraint_seen n.rules.items)) ∙ ap length c.network-network.ensures.constraints in
     record {
       kept = c.boxed.invariant.tracked;
       long = sym (length-map t.words.items values_in) ∙ is.long;
@@ -74,8 +73,7 @@ returns-clause-solutions c =
     let p = c.args.problem.now in
     let before = c.boxed.inside.workspace.tracked.words.items in
     let left : Leaves (closing p (box_of before)).left (box_of t.words.items) c.close_tracked-closed.result = left_of p c.reserve.new.self.items c.close_tracked-closed.new.lines.items before t.words.items c.close_tracked-closed.result e.step in
-    let well = subst IsWellFormed c.problem.view_is c.problem.invariant.well_formed in
-    subst (λ (b : Tracked). KeepsSolutions p b.sets (box_of t.words.items)) c.boxed.view_is (solutions_kept p (box_of before) (box_of t.words.items) c.close_tracked-closed.result well left)
+    subst (λ (b : Tracked). KeepsSolutions p b.sets (box_of t.words.items)) c.boxed.view_is (solutions_kept p (box_of before) (box_of t.words.items) c.close_tracked-closed.result c.network-network.ensures.well_formed left)
 
 pub returns-clause-supported : goal.returns-clause-supported
 returns-clause-supported c =

@@ -3,7 +3,7 @@ use Rattle.std.specs.Bool.{OnTrue}
 use Rattle.std.proofs.lemmas.Bool.{cases_lt}
 use Rattle.std.proofs.lemmas.List.{get_or_default, get_or_read}
 use Rattle.wf_set.specs.Sets.{values_in}
-use Rattle.wf_box.specs.Users.{IsUser}
+use Rattle.wf_network.specs.Users.{IsUser}
 use Rattle.wf_box.specs.declared.tracked.Change.{Change}
 use Rattle.wf_box.proofs.TakingLemmas.{some_value}
 use Rattle.wf_box.proofs.QuietLemmas.{on_true, stays_marked, unchanged, user_marked}

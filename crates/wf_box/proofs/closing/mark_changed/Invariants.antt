@@ -1,8 +1,8 @@
 use Rattle.std.proofs.Common.{◌≡◌, ℕ, ◌<◌, ◌≤◌, length, get_or, []}
 use Rattle.std.specs.Bool.{OnTrue}
 use Rattle.wf_set.specs.Sets.{values_in}
-use Rattle.wf_box.specs.Marks.{bit_of}
-use Rattle.wf_box.specs.Users.{IsUser}
+use Rattle.wf_network.specs.Marks.{bit_of}
+use Rattle.wf_network.specs.Users.{IsUser}
 use Rattle.wf_box.specs.declared.tracked.Change.{Change}
 use Rattle.wf_box.proofs.closing.mark_changed.Given as goal
 

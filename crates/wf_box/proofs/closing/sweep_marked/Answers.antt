@@ -1,7 +1,8 @@
 use Rattle.std.proofs.Common.{◌<◌, None, Some, length, refl, arith, sym, ◌∙◌, subst, All}
 use Rattle.std.proofs.lemmas.List.{length-map}
-use Rattle.wf_box.specs.Problems.{IsWithin, constraint_seen, constraints_in}
-use Rattle.wf_box.specs.Quiet.{IsQuietBut, no_execution}
+use Rattle.wf_network.specs.Problems.{IsWithin, constraint_seen, constraints_in}
+use Rattle.wf_box.specs.Quiet.{IsQuietBut}
+use Rattle.wf_network.specs.Users.{no_execution}
 use Rattle.wf_set.specs.Sets.{box_of}
 use Rattle.wf_box.proofs.NameLemmas.{named_none, named_then, seen_at}
 use Rattle.wf_box.proofs.QuietLemmas.{next_turn, pass_all, quiet_again}
@@ -16,11 +17,6 @@ marked-init c = (
   c.requires.marked,
   omega arith,
 )
-
-pub revise-requires-clause-working : goal.revise-requires-clause-working
-revise-requires-clause-working c =
-    let done = c.marked.invariant.2 in
-    record { kept = done.kept; long = done.long; marks_long = omega (arith, done.marks_long, c.in-Some.ensures.long); room = done.ends.0; known = done.known }
 
 pub returns-then-number-len-clause-step : goal.returns-then-number-len-clause-step
 returns-then-number-len-clause-step c =
@@ -79,3 +75,12 @@ returns-then-number-len-clause-marked c =
     let n = c.args.network.now in
     λ e inside none.
     c.marked.invariant.3 e inside (sym (c.in-Some.ensures.others e (λ same. let bad : ⊥ = omega (arith, same, inside, c.if-number-len.true, c.len.ensures, n.executions.ok.0, length-map n.executions.items (constraint_seen n.rules.items)) in bad)) ∙ none)
+
+pub revise-requires : goal.revise-requires
+revise-requires c = record {
+  network = c.requires.network;
+  number = omega (arith, c.if-number-len.false, c.len.ensures, c.args.network.now.executions.ok.0);
+  working =
+      let done = c.marked.invariant.2 in
+      record { kept = done.kept; long = done.long; marks_long = omega (arith, done.marks_long, c.in-Some.ensures.long); room = done.ends.0; known = done.known };
+}

@@ -1,6 +1,6 @@
 use Rattle.std.proofs.Common.{◌≡◌, ◌≤◌, ◌-◌, None, length, drop}
 use Rattle.wf_model.specs.Closing.{and_then, sweep_from}
-use Rattle.wf_box.specs.Problems.{constraints_in}
+use Rattle.wf_network.specs.Problems.{constraints_in}
 use Rattle.wf_box.specs.Steps.{NamesAll, reached}
 use Rattle.wf_box.specs.Working.{AreMarked, ProceedsOn}
 use Rattle.wf_box.proofs.closing.sweep_marked.Given as goal

@@ -1,7 +1,7 @@
 use Rattle.std.proofs.Common.{◌≡◌, None, flat_map, drop}
 use Rattle.wf_model.specs.Problem.{Problem, constraint_at}
 use Rattle.wf_model.specs.Closing.{and_then, lost, lost_at, places, take_out_each}
-use Rattle.wf_box.specs.Problems.{constraint_seen}
+use Rattle.wf_network.specs.Problems.{constraint_seen}
 use Rattle.wf_set.specs.Sets.{box_of}
 use Rattle.wf_box.specs.Steps.{NamesLost, reached, take_present}
 use Rattle.wf_box.specs.Working.{IsSilent, LeavesUntouched, ProceedsOn}

@@ -1,0 +1,2 @@
+-- What contracts say, here and in the crates above.
+pub mod Revising

@@ -1,0 +1,263 @@
+//! Answers of the kernel that a box keeps.
+
+ghost use Rattle.std.specs.Prelude.{◌≡◌, [], All, List, Some};
+ghost use Rattle.wf_model.specs.Problem.{Constraint};
+ghost use Rattle.wf_network.specs.Problems.{IsNetwork};
+ghost use Rattle.wf_memo.specs.Revising.{AreKnown, IsKnown, IsKnownParts, IsKnownWord, answers_in};
+
+use std::alloc::Global;
+use wf_network::Network;
+use wf_set::Mask;
+use wf_set::part::Part;
+
+/// How many places for answers there are at first.
+const FEWEST: usize = 64;
+
+/// How many there are at most for candidates of which one is 64 or more.
+const MOST_WIDE: usize = 4096;
+
+/// How many there are at most for candidates below 16, and for others below 64.
+const MOST_NARROW: usize = 65536;
+
+/// The places become so many times as many.
+const GROWTH: usize = 4;
+
+/// What the rule of an execution supports at each place for some candidates.
+#[derive(Clone, Copy, Debug)]
+pub struct Revised {
+    /// An execution with this rule.
+    pub execution: usize,
+    /// The candidates at each place.
+    pub candidates: [Mask; 4],
+    /// Those of them that the rule supports.
+    pub supported: [Mask; 4],
+}
+
+/// The same for candidates below 64, in a quarter of the memory. Past the places of the rule what
+/// is supported is said to be the candidates, so that both are the same where nothing is lost.
+#[derive(Clone, Copy, Debug)]
+pub struct RevisedParts {
+    /// An execution with this rule.
+    pub execution: usize,
+    /// The candidates at each place.
+    pub candidates: [Part; 4],
+    /// Those of them that the rule supports.
+    pub supported: [Part; 4],
+}
+
+/// The same for candidates below 16, in a machine word each: 16 bits for each place, those of the
+/// first one lowest. Most problems have no others, and more of these lie near each other.
+#[derive(Clone, Copy, Debug)]
+pub struct RevisedWord {
+    /// An execution with this rule.
+    pub execution: usize,
+    /// The candidates at each place.
+    pub candidates: u64,
+    /// Those of them that the rule supports.
+    pub supported: u64,
+}
+
+/// Answers of the kernel. Each has its place by its rule and its candidates,
+/// and stays there until another one comes.
+#[derive(Drop)]
+pub struct Memo {
+    /// Those for candidates below 16.
+    pub small: Vec<Option<RevisedWord>>,
+    /// How many of these were not there, since it has so many places for them.
+    pub small_misses: u32,
+    /// Those for others below 64.
+    pub narrow: Vec<Option<RevisedParts>>,
+    /// How many of these were not there.
+    pub narrow_misses: u32,
+    /// Those for others.
+    pub wide: Vec<Option<Revised>>,
+    /// How many of these were not there.
+    pub wide_misses: u32,
+}
+
+impl Memo {
+    /// No answer, and no place for one.
+    pub fn new(alloc: Global) -> Memo
+        ensures { answers_in result ≡ [] }
+    {
+        Memo {
+            small: Vec::new(alloc),
+            small_misses: 0,
+            narrow: Vec::new(alloc),
+            narrow_misses: 0,
+            wide: Vec::new(alloc),
+            wide_misses: 0,
+        }
+    }
+
+    /// Makes more places where too many answers were not there. Those for candidates below 64 are
+    /// kept, and the others are forgotten. Where memory for that is refused it stays as it was: an
+    /// answer that is not there costs time alone.
+    pub fn grow(&mut self, alloc: Global, network: &Network)
+        requires { IsNetwork network.now }
+        ensures { (ks : List Constraint) → AreKnown ks (answers_in self.old)
+            → AreKnown ks (answers_in self.new) }
+    {
+        self.grow_small(alloc, network);
+        self.grow_narrow(alloc, network);
+        self.grow_wide(alloc);
+    }
+
+    /// The same for candidates below 16.
+    fn grow_small(&mut self, alloc: Global, network: &Network)
+        requires { IsNetwork network.now }
+        ensures { (ks : List Constraint) → AreKnown ks (answers_in self.old)
+            → AreKnown ks (answers_in self.new) }
+    {
+        let places = places_wanted(self.small.len(), self.small_misses, MOST_NARROW);
+        if places > self.small.len()
+            && let Ok(small) = vec![in alloc; None; places]
+        {
+            let mut more = small;
+            keep_words(&mut more, &self.small, network);
+            self.small = more;
+            self.small_misses = 0;
+        }
+    }
+
+    /// The same for others below 64.
+    fn grow_narrow(&mut self, alloc: Global, network: &Network)
+        requires { IsNetwork network.now }
+        ensures { (ks : List Constraint) → AreKnown ks (answers_in self.old)
+            → AreKnown ks (answers_in self.new) }
+    {
+        let places = places_wanted(self.narrow.len(), self.narrow_misses, MOST_NARROW);
+        if places > self.narrow.len()
+            && let Ok(narrow) = vec![in alloc; None; places]
+        {
+            let mut more = narrow;
+            keep_each(&mut more, &self.narrow, network);
+            self.narrow = more;
+            self.narrow_misses = 0;
+        }
+    }
+
+    /// The same for others.
+    fn grow_wide(&mut self, alloc: Global)
+        ensures { (ks : List Constraint) → AreKnown ks (answers_in self.old)
+            → AreKnown ks (answers_in self.new) }
+    {
+        let places = places_wanted(self.wide.len(), self.wide_misses, MOST_WIDE);
+        // most problems have none of these
+        if self.wide_misses > 0
+            && places > self.wide.len()
+            && let Ok(wide) = vec![in alloc; None; places]
+        {
+            self.wide = wide;
+            self.wide_misses = 0;
+        }
+    }
+
+    /// Keeps an answer for candidates below 16 at this place, where there is
+    /// one, and forgets the one that was there.
+    pub(crate) fn keep_small(&mut self, place: usize, answer: RevisedWord)
+        ensures { (ks : List Constraint) → IsKnownWord ks (Some answer)
+            → AreKnown ks (answers_in self.old) → AreKnown ks (answers_in self.new) }
+    {
+        self.small_misses = self.small_misses.saturating_add(1);
+        if place < self.small.len() {
+            self.small[place] = Some(answer);
+        }
+    }
+
+    /// The same for others below 64.
+    pub(crate) fn keep_narrow(&mut self, place: usize, answer: RevisedParts)
+        ensures { (ks : List Constraint) → IsKnownParts ks (Some answer)
+            → AreKnown ks (answers_in self.old) → AreKnown ks (answers_in self.new) }
+    {
+        self.narrow_misses = self.narrow_misses.saturating_add(1);
+        if place < self.narrow.len() {
+            self.narrow[place] = Some(answer);
+        }
+    }
+
+    /// The same for others.
+    pub(crate) fn keep_wide(&mut self, place: usize, answer: Revised)
+        ensures { (ks : List Constraint) → IsKnown ks (Some answer)
+            → AreKnown ks (answers_in self.old) → AreKnown ks (answers_in self.new) }
+    {
+        self.wide_misses = self.wide_misses.saturating_add(1);
+        if place < self.wide.len() {
+            self.wide[place] = Some(answer);
+        }
+    }
+}
+
+/// Keeps these answers for candidates below 16 at their places, each of which forgets the one that
+/// was there.
+fn keep_words(
+    places: &mut Vec<Option<RevisedWord>>,
+    answers: &[Option<RevisedWord>],
+    network: &Network,
+)
+    requires { IsNetwork network.now }
+    ensures { (ks : List Constraint) → All (IsKnownWord ks) answers.now
+        → All (IsKnownWord ks) places.old.items → All (IsKnownWord ks) places.new.items }
+{
+    for answer in answers {
+        if let Some(kept) = answer
+            && kept.execution < network.executions.len()
+        {
+            let like = network.like_at(kept.execution);
+            let place = slot_of(like, [kept.candidates, 0, 0, 0], places.len());
+            if place < places.len() {
+                places[place] = Some(*kept);
+            }
+        }
+    }
+}
+
+/// The same for others below 64.
+fn keep_each(
+    places: &mut Vec<Option<RevisedParts>>,
+    answers: &[Option<RevisedParts>],
+    network: &Network,
+)
+    requires { IsNetwork network.now }
+    ensures { (ks : List Constraint) → All (IsKnownParts ks) answers.now
+        → All (IsKnownParts ks) places.old.items → All (IsKnownParts ks) places.new.items }
+{
+    for answer in answers {
+        if let Some(known) = answer
+            && known.execution < network.executions.len()
+        {
+            let like = network.like_at(known.execution);
+            let place = slot_of(like, known.candidates, places.len());
+            if place < places.len() {
+                places[place] = Some(*known);
+            }
+        }
+    }
+}
+
+/// How many places would serve, where there are so many and so many answers were not there.
+fn places_wanted(places: usize, misses: u32, most: usize) -> usize {
+    if places < FEWEST {
+        FEWEST
+    } else if places < most && misses as usize > places / 4 {
+        GROWTH * places
+    } else {
+        places
+    }
+}
+
+/// Where among so many places, a power of two, the answer for a rule and these candidates is, by
+/// those of them that are below 64. With none at all it is 0.
+///
+/// Any place would be right.
+pub(crate) fn slot_of(rule: u32, candidates: [Part; 4], places: usize) -> usize {
+    let [a, b, c, d] = candidates;
+    // apart where each candidate is below 10, and a product's high bits tell all of it apart
+    let joined = a
+        ^ b.rotate_left(21)
+        ^ c.rotate_left(42)
+        ^ d.rotate_left(11)
+        ^ u64::from(rule).rotate_left(53);
+    let mixed = (joined ^ joined >> 32).wrapping_mul(0x9e37_79b9_7f4a_7c15);
+    (mixed >> 48) as usize & places.saturating_sub(1)
+}

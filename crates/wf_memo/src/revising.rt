@@ -1,0 +1,314 @@
+//! What the rules of executions support.
+
+ghost use Rattle.std.specs.Prelude.{◌≡◌, ◌<◌, ◌∷◌, [], ℕ, All, length, slice_index, IfSome};
+ghost use Rattle.std.specs.Bool.{OnTrue};
+ghost use Rattle.wf_lane.specs.Table.{AreFirstParts, HasSupported};
+ghost use Rattle.wf_network.specs.Problems.{IsNetwork, constraints_in, rule_in};
+ghost use Rattle.wf_memo.specs.Revising.{AreKnown, answers_in, found_at, left_of, parts_in, widened};
+
+use crate::memo::{Memo, Revised, RevisedParts, RevisedWord, slot_of};
+use wf_network::{Network, PackedExecution};
+use wf_set::part::Part;
+use wf_set::{Mask, first_part};
+
+/// Parts of values below 16 are below this one.
+const SMALL_LIMIT: u64 = 65_536;
+
+/// The candidates of the points of an execution; past their number those of the first point.
+pub fn candidates_at(execution: PackedExecution, sets: &[Mask]) -> [Mask; 4]
+    requires long { length execution.points ≡ 4 }
+    requires within { All (λ v. v < length sets.now) execution.points }
+    ensures candidates { result ≡ found_at execution sets.now }
+    ensures long { length result ≡ 4 }
+{
+    let [first, second, third, fourth] = execution.points;
+    [
+        sets[first as usize],
+        sets[second as usize],
+        sets[third as usize],
+        sets[fourth as usize],
+    ]
+}
+
+/// The values that the rule of an execution supports at each place for some candidates below 64;
+/// none where those are all that the candidates have. Answers are kept, since many executions of a
+/// simplex have the same candidates, and have them again.
+pub fn supported_narrow(
+    number: u32,
+    candidates: [Part; 4],
+    network: &Network,
+    memo: &mut Memo,
+) -> Option<[Part; 4]>
+    requires network { IsNetwork network.now }
+    requires number { number < length network.now.executions.items }
+    requires long { length candidates ≡ 4 }
+    requires known { AreKnown (constraints_in network.now) (answers_in memo.old) }
+    ensures supported { HasSupported (widened (left_of candidates result))
+        (rule_in network.now number).table (widened candidates) }
+    ensures long { IfSome result (λ parts. length parts ≡ 4) }
+    ensures known { AreKnown (constraints_in network.now) (answers_in memo.new) }
+{
+    match packed(candidates) {
+        Some(word) => supported_word(number, word, network, memo),
+        None => supported_parts(number, candidates, network, memo),
+    }
+}
+
+/// The same for candidates below 16, in one word.
+fn supported_word(number: u32, word: u64, network: &Network, memo: &mut Memo) -> Option<[Part; 4]>
+    requires network { IsNetwork network.now }
+    requires number { number < length network.now.executions.items }
+    requires known { AreKnown (constraints_in network.now) (answers_in memo.old) }
+    ensures supported { HasSupported (widened (left_of (parts_in word) result))
+        (rule_in network.now number).table (widened (parts_in word)) }
+    ensures long { IfSome result (λ parts. length parts ≡ 4) }
+    ensures known { AreKnown (constraints_in network.now) (answers_in memo.new) }
+{
+    let like = network.like_at(number as usize);
+    let slot = slot_of(like, [word, 0, 0, 0], memo.small.len());
+    if slot < memo.small.len()
+        && let Some(answer) = &memo.small[slot]
+        && answer.candidates == word
+        && answer.execution < network.executions.len()
+        && network.like_at(answer.execution) == like
+    {
+        return changed_word(word, answer.supported);
+    }
+    revise_word(number, slot, word, network, memo)
+}
+
+/// The same, where no answer is kept.
+fn revise_word(
+    number: u32,
+    slot: usize,
+    word: u64,
+    network: &Network,
+    memo: &mut Memo,
+) -> Option<[Part; 4]>
+    requires network { IsNetwork network.now }
+    requires number { number < length network.now.executions.items }
+    requires known { AreKnown (constraints_in network.now) (answers_in memo.old) }
+    ensures supported { HasSupported (widened (left_of (parts_in word) result))
+        (rule_in network.now number).table (widened (parts_in word)) }
+    ensures long { IfSome result (λ parts. length parts ≡ 4) }
+    ensures known { AreKnown (constraints_in network.now) (answers_in memo.new) }
+{
+    let rule = &network.rules[network.executions[number as usize].rule as usize];
+    let candidates = unpacked(word);
+    let masks = rule.table.revise(widened(candidates)).masks;
+    let parts = up_to(rule.places(), first_parts(masks), candidates);
+    let Some(supported) = packed(parts) else {
+        return Some(parts);
+    };
+    memo.keep_small(
+        slot,
+        RevisedWord {
+            execution: number as usize,
+            candidates: word,
+            supported,
+        },
+    );
+    changed_word(word, supported)
+}
+
+/// The parts in the other word, where it is not the first one.
+fn changed_word(word: u64, other: u64) -> Option<[Part; 4]>
+    ensures parts { left_of (parts_in word) result ≡ parts_in other }
+    ensures long { IfSome result (λ parts. length parts ≡ 4) }
+{
+    if word == other {
+        return None;
+    }
+    Some(unpacked(other))
+}
+
+/// The parts in one word, 16 bits each, where each value is below 16.
+fn packed(parts: [Part; 4]) -> Option<u64>
+    ensures { IfSome result (λ word. parts_in word ≡ parts) }
+{
+    let [a, b, c, d] = parts;
+    if (a < SMALL_LIMIT) & (b < SMALL_LIMIT) & (c < SMALL_LIMIT) & (d < SMALL_LIMIT) {
+        Some(a + SMALL_LIMIT * (b + SMALL_LIMIT * (c + SMALL_LIMIT * d)))
+    } else {
+        None
+    }
+}
+
+/// The parts that are packed in a word.
+fn unpacked(word: u64) -> [Part; 4]
+    ensures { result ≡ parts_in word }
+{
+    [
+        word % SMALL_LIMIT,
+        word / SMALL_LIMIT % SMALL_LIMIT,
+        word / (SMALL_LIMIT * SMALL_LIMIT) % SMALL_LIMIT,
+        word / (SMALL_LIMIT * SMALL_LIMIT * SMALL_LIMIT),
+    ]
+}
+
+/// The same for other candidates below 64.
+fn supported_parts(
+    number: u32,
+    candidates: [Part; 4],
+    network: &Network,
+    memo: &mut Memo,
+) -> Option<[Part; 4]>
+    requires network { IsNetwork network.now }
+    requires number { number < length network.now.executions.items }
+    requires long { length candidates ≡ 4 }
+    requires known { AreKnown (constraints_in network.now) (answers_in memo.old) }
+    ensures supported { HasSupported (widened (left_of candidates result))
+        (rule_in network.now number).table (widened candidates) }
+    ensures long { IfSome result (λ parts. length parts ≡ 4) }
+    ensures known { AreKnown (constraints_in network.now) (answers_in memo.new) }
+{
+    let like = network.like_at(number as usize);
+    let slot = slot_of(like, candidates, memo.narrow.len());
+    if slot < memo.narrow.len()
+        && let Some(known) = &memo.narrow[slot]
+        && known.candidates == candidates
+        && known.execution < network.executions.len()
+        && network.like_at(known.execution) == like
+    {
+        return changed(candidates, known.supported);
+    }
+    revise_parts(number, slot, candidates, network, memo)
+}
+
+/// The same, where no answer is kept.
+fn revise_parts(
+    number: u32,
+    slot: usize,
+    candidates: [Part; 4],
+    network: &Network,
+    memo: &mut Memo,
+) -> Option<[Part; 4]>
+    requires network { IsNetwork network.now }
+    requires number { number < length network.now.executions.items }
+    requires long { length candidates ≡ 4 }
+    requires known { AreKnown (constraints_in network.now) (answers_in memo.old) }
+    ensures supported { HasSupported (widened (left_of candidates result))
+        (rule_in network.now number).table (widened candidates) }
+    ensures long { IfSome result (λ parts. length parts ≡ 4) }
+    ensures known { AreKnown (constraints_in network.now) (answers_in memo.new) }
+{
+    let rule = &network.rules[network.executions[number as usize].rule as usize];
+    let masks = rule.table.revise(widened(candidates)).masks;
+    let supported = up_to(rule.places(), first_parts(masks), candidates);
+    memo.keep_narrow(
+        slot,
+        RevisedParts {
+            execution: number as usize,
+            candidates,
+            supported,
+        },
+    );
+    changed(candidates, supported)
+}
+
+/// The other parts, where they are not the first ones.
+fn changed(parts: [Part; 4], others: [Part; 4]) -> Option<[Part; 4]>
+    ensures parts { left_of parts result ≡ others }
+    ensures long { IfSome result (λ parts. length parts ≡ 4) }
+{
+    if parts == others {
+        return None;
+    }
+    let [a, b, c, d] = others;
+    Some([a, b, c, d])
+}
+
+/// The values below 64 of each set.
+fn first_parts(sets: [Mask; 4]) -> [Part; 4]
+    ensures parts { AreFirstParts result sets }
+    ensures long { length result ≡ 4 }
+{
+    let [a, b, c, d] = sets;
+    [first_part(a), first_part(b), first_part(c), first_part(d)]
+}
+
+/// The first parts up to a place, and then the others.
+fn up_to(place: u8, parts: [Part; 4], others: [Part; 4]) -> [Part; 4]
+    ensures firsts { (i : ℕ) → i < place → slice_index result i ≡ slice_index parts i }
+    ensures long { length result ≡ 4 }
+{
+    [
+        part_if(0 < place, parts[0], others[0]),
+        part_if(1 < place, parts[1], others[1]),
+        part_if(2 < place, parts[2], others[2]),
+        part_if(3 < place, parts[3], others[3]),
+    ]
+}
+
+/// The part, or another one where the test is false.
+fn part_if(test: bool, part: Part, other: Part) -> Part
+    ensures { OnTrue test (result ≡ part) }
+{
+    if test { part } else { other }
+}
+
+/// The sets of these parts.
+fn widened(parts: [Part; 4]) -> [Mask; 4]
+    ensures { result ≡ widened parts }
+{
+    let [a, b, c, d] = parts;
+    [[a, 0, 0, 0], [b, 0, 0, 0], [c, 0, 0, 0], [d, 0, 0, 0]]
+}
+
+/// The parts of these sets, where each value is below 64.
+pub fn narrowed(sets: [Mask; 4]) -> Option<[Part; 4]>
+    ensures parts { IfSome result (λ parts. widened parts ≡ sets) }
+    ensures long { IfSome result (λ parts. length parts ≡ 4) }
+{
+    let [a, b, c, d] = sets;
+    if is_low(a) & is_low(b) & is_low(c) & is_low(d) {
+        Some([a[0], b[0], c[0], d[0]])
+    } else {
+        None
+    }
+}
+
+/// Whether the words past the first are 0.
+fn is_low(set: Mask) -> bool
+    ensures { OnTrue result (set ≡ slice_index set 0 ∷ 0 ∷ 0 ∷ 0 ∷ []) }
+{
+    let [_, b, c, d] = set;
+    (b == 0) & (c == 0) & (d == 0)
+}
+
+/// The values that the rule of an execution supports at each place for some
+/// candidates, of which one is 64 or more.
+pub fn supported_sets(
+    number: u32,
+    candidates: [Mask; 4],
+    network: &Network,
+    memo: &mut Memo,
+) -> [Mask; 4]
+    requires network { IsNetwork network.now }
+    requires number { number < length network.now.executions.items }
+    requires known { AreKnown (constraints_in network.now) (answers_in memo.old) }
+    ensures supported { HasSupported result (rule_in network.now number).table candidates }
+    ensures known { AreKnown (constraints_in network.now) (answers_in memo.new) }
+{
+    let rule = network.executions[number as usize].rule;
+    let [[a, ..], [b, ..], [c, ..], [d, ..]] = candidates;
+    let slot = slot_of(rule, [a, b, c, d], memo.wide.len());
+    if slot < memo.wide.len()
+        && let Some(answer) = memo.wide[slot]
+        && answer.candidates == candidates
+        && answer.execution < network.executions.len()
+        && network.executions[answer.execution].rule == rule
+    {
+        return answer.supported;
+    }
+    let supported = network.rules[rule as usize].table.revise(candidates).masks;
+    memo.keep_wide(
+        slot,
+        Revised {
+            execution: number as usize,
+            candidates,
+            supported,
+        },
+    );
+    supported
+}

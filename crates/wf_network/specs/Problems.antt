@@ -1,0 +1,112 @@
+-- What a clause sees of the program's problems, and what each of them keeps.
+use Rattle.std.specs.Prelude.{◌≡◌, ◌<◌, ◌≤◌, ℕ, List, [], map, zip, length, get_or, slice_index, All}
+use Rattle.wf_model.specs.Simplex.{Simplex, processes_of}
+use Rattle.wf_model.specs.Task.{IsTaskSimplex}
+use Rattle.wf_model.specs.Task as task
+use Rattle.wf_model.specs.Problem.{Problem, Constraint, IsWellFormed, problem_of}
+use Rattle.wf_set.specs.Sets.{values_in}
+use Rattle.wf_model.specs.Limits.{most_executions, most_points}
+use Rattle.wf_network.specs.Users.{AreTold, AreUsers, no_execution}
+use Rattle.wf_network.specs.declared.problem.Rule.{Rule}
+use Rattle.wf_network.specs.declared.problem.PackedExecution.{PackedExecution}
+use Rattle.wf_network.specs.declared.problem.Network.{Network}
+use Rattle.wf_network.specs.declared.problem.Problem.TheInside.{Inside}
+
+-- no input simplex at all
+abbrev pub no_rule : Rule
+no_rule = record { simplex = []; places = 0; processes = []; table = record { width = 0; rows = [] }; like = 0 }
+
+-- the rule as the definitions have it
+abbrev pub rule_seen : Rule → task.Rule
+rule_seen rule = record { input = rule.simplex; tuples = rule.table.rows }
+
+-- the table is as wide as the simplex has processes
+abbrev pub IsWide : Rule → Type 0
+IsWide rule = rule.table.width ≡ length rule.simplex
+
+-- it keeps how many processes its simplex has, four at most, and which ones
+pub record KeepsProcesses (rule : Rule) : Type 0 where
+  pub simplex : IsTaskSimplex rule.simplex
+  pub narrow : length rule.simplex ≤ 4
+  pub places : rule.places ≡ length rule.simplex
+  pub long : length rule.processes ≡ 4
+  pub processes : (i : ℕ) → i < length rule.simplex → slice_index rule.processes i ≡ slice_index (processes_of rule.simplex) i
+
+-- it names a rule that has the same table
+pub record IsAlike (rules : List Rule) (rule : Rule) : Type 0 where
+  pub there : rule.like < length rules
+  pub same : (get_or rules rule.like no_rule).table ≡ rule.table
+
+-- so does each of them
+abbrev pub AreAlike : List Rule → Type 0
+AreAlike rules = All (IsAlike rules) rules
+
+-- the rule of this number has the table of these tuples of a simplex
+abbrev pub HasTable : Simplex → List task.Tuple → List Rule → ℕ → Type 0
+HasTable simplex tuples rules number = (get_or rules number no_rule).table ≡ record { width = length simplex; rows = tuples }
+
+-- the rule of an execution
+abbrev pub rule_of : List Rule → PackedExecution → Rule
+rule_of rules e = get_or rules e.rule no_rule
+
+-- the execution names the rule that its own rule names
+abbrev pub IsLike : List Rule → PackedExecution → Type 0
+IsLike rules e = e.like ≡ (rule_of rules e).like
+
+-- the processes of the execution's simplex, each with its point, and the tuples of that simplex
+abbrev pub constraint_seen : List Rule → PackedExecution → Constraint
+constraint_seen rules e = record { scope = zip (processes_of (rule_of rules e).simplex) e.points; tuples = (rule_of rules e).table.rows }
+
+-- the same of each execution in turn
+abbrev pub constraints_seen : List Rule → List PackedExecution → List Constraint
+constraints_seen rules es = map (constraint_seen rules) es
+
+abbrev pub problem_seen : Inside → Problem
+problem_seen p = record { points = p.network.points; values = values_in p.values; constraints = map (constraint_seen p.network.rules.items) p.network.executions.items }
+
+-- an execution with a rule that is there and four points that are there, of
+-- which those past its size are not used
+pub record IsWithin (rules points : ℕ) (e : PackedExecution) : Type 0 where
+  pub rule : e.rule < rules
+  pub long : length e.points ≡ 4
+  pub points_within : All (λ v. v < points) e.points
+
+-- each execution has a rule that is there and points that are there
+abbrev pub AreWithin : List Rule → ℕ → List PackedExecution → Type 0
+AreWithin rules points es = All (IsWithin (length rules) points) es
+
+-- the rule is that of the simplex, with these tuples
+abbrev pub IsRuleOf : Simplex → List task.Tuple → Rule → Type 0
+IsRuleOf simplex tuples rule = rule_seen rule ≡ record { input = simplex; tuples = tuples }
+
+-- with these rules the executions are those of the task after so many rounds
+abbrev pub AreExecutionsOf : task.Task → ℕ → List Rule → List PackedExecution → Type 0
+AreExecutionsOf t rounds rules es = map (constraint_seen rules) es ≡ (problem_of t rounds).constraints
+
+-- the rule of an execution
+abbrev pub rule_in : Network → ℕ → Rule
+rule_in n e = rule_of n.rules.items (get_or n.executions.items e no_execution)
+
+-- the constraint of an execution
+abbrev pub constraint_in : Network → ℕ → Constraint
+constraint_in n e = constraint_seen n.rules.items (get_or n.executions.items e no_execution)
+
+-- the constraints of all executions
+abbrev pub constraints_in : Network → List Constraint
+constraints_in n = constraints_seen n.rules.items n.executions.items
+
+-- each execution has a rule and points that are there, and each of its points knows it
+pub record IsNetwork (n : Network) : Type 0 where
+  pub few_points : n.points ≤ most_points
+  pub few_executions : length n.executions.items ≤ most_executions
+  pub wide : All IsWide n.rules.items
+  pub processes : All KeepsProcesses n.rules.items
+  pub alike : AreAlike n.rules.items
+  pub like : All (IsLike n.rules.items) n.executions.items
+  pub within : All (IsWithin (length n.rules.items) n.points) n.executions.items
+  pub users : AreUsers n.users n.points (length n.executions.items)
+  pub told : AreTold n.users n.executions.items
+
+pub record IsKept (p : Inside) : Type 0 where
+  pub network : IsNetwork p.network
+  pub well_formed : IsWellFormed (problem_seen p)

@@ -1,0 +1,204 @@
+//! Marks on executions.
+
+ghost use Rattle.std.specs.Prelude.{◌≡◌, ◌<◌, ◌≤◌, ◌*◌, ◌/◌, ◌^◌, All, length, slice_index, OnOk, IfSome, IfNone};
+ghost use Rattle.wf_model.specs.Limits.{most_executions};
+ghost use Rattle.wf_network.specs.Limits.{most_words};
+ghost use Rattle.wf_network.specs.Marks.{AreSetBelow, IsLast, IsLastHere, IsMore, IsNext, KeepsBitsBut, KeepsWordsBut, MarksEach, MarksWord, TopsTell, bit_of};
+
+use crate::users::UserWord;
+use std::alloc::{AllocError, Global};
+
+/// Marks on executions, of which the next one is found fast.
+#[derive(Drop)]
+pub struct Marks {
+    /// Bit n % 64 of word n / 64 is set where execution n is marked.
+    pub words: Vec<u64>,
+    /// Bit n % 64 of word n / 64 is set where the words' word n is not 0.
+    pub tops: Vec<u64>,
+    ghost few: { length words.items ≤ most_words },
+    ghost few_tops: { length tops.items ≤ most_words },
+    ghost tops_within: { length words.items ≤ 64 * length tops.items },
+    ghost tops_tell: { TopsTell words.items tops.items },
+}
+
+impl Marks {
+    /// No marks, and room for none.
+    pub fn new(alloc: Global) -> Marks {
+        Marks {
+            words: Vec::new(alloc),
+            tops: Vec::new(alloc),
+        }
+    }
+
+    /// Makes room for the marks of so many executions. Where there was too
+    /// little, none is marked then.
+    pub fn reserve(&mut self, alloc: Global, executions: u32) -> Result<(), AllocError>
+        requires { executions ≤ most_executions }
+        ensures { OnOk result (executions ≤ 64 * length self.new.words.items) }
+    {
+        let words = executions as usize / 64 + 1;
+        if self.words.len() < words {
+            *self = Marks {
+                words: vec![in alloc; 0; words]?,
+                tops: vec![in alloc; 0; words / 64 + 1]?,
+            };
+        }
+        Ok(())
+    }
+
+    /// Marks the executions of these words.
+    pub fn mark_each(&mut self, words: &[UserWord])
+        requires { All (λ w. w.word < length self.old.words.items) words.now }
+        ensures marked { MarksEach self.new.words.items words.now }
+        ensures kept { IsMore self.old.words.items self.new.words.items }
+        ensures long { length self.new.words.items ≡ length self.old.words.items }
+    {
+        for word in words {
+            self.mark(*word);
+        }
+    }
+
+    /// Marks the executions of a word.
+    fn mark(&mut self, users: UserWord)
+        requires { users.word < length self.old.words.items }
+        ensures marked { MarksWord self.new.words.items users }
+        ensures kept { IsMore self.old.words.items self.new.words.items }
+        ensures long { length self.new.words.items ≡ length self.old.words.items }
+    {
+        add_bit(&mut self.tops, users.word as usize);
+        add_users(&mut self.words, users);
+    }
+
+    /// Marks all executions.
+    pub fn mark_all(&mut self)
+        ensures marked { AreSetBelow (64 * length self.old.words.items) self.new.words.items }
+        ensures long { length self.new.words.items ≡ length self.old.words.items }
+    {
+        self.words.fill(u64::MAX);
+        self.tops.fill(u64::MAX);
+    }
+
+    /// Takes all marks away.
+    pub fn clear(&mut self)
+        ensures long { length self.new.words.items ≡ length self.old.words.items }
+    {
+        let mut next = 0;
+        'words: while let Some(word) = next_bit(&self.tops, next) {
+            if word >= self.words.len() {
+                return;
+            }
+            self.words[word] = 0;
+            take_bit(&mut self.tops, word);
+            next = word + 1;
+        }
+    }
+
+    /// Takes the mark of the first marked execution from this one on away.
+    pub fn take_next(&mut self, from: u32) -> Option<u32>
+        ensures next { IfSome result (IsNext self.old.words.items from) }
+        ensures others { IfSome result (KeepsBitsBut self.old.words.items self.new.words.items) }
+        ensures last { IfNone result (IsLast self.old.words.items from) }
+        ensures same { IfNone result (self.new.words.items ≡ self.old.words.items) }
+        ensures long { length self.new.words.items ≡ length self.old.words.items }
+    {
+        let number = self.next(from as usize)? as u32;
+        self.take(number);
+        Some(number)
+    }
+
+    /// Takes the mark of an execution away.
+    pub fn take(&mut self, number: u32)
+        requires { number < 64 * length self.old.words.items }
+        ensures others { KeepsBitsBut self.old.words.items self.new.words.items number }
+        ensures long { length self.new.words.items ≡ length self.old.words.items }
+    {
+        let number = number as usize;
+        take_bit(&mut self.words, number);
+        if self.words[number / 64] == 0 {
+            take_bit(&mut self.tops, number / 64);
+        }
+    }
+
+    /// The first marked execution from this one on.
+    fn next(&self, from: usize) -> Option<usize>
+        requires { from < 2 ^ 32 }
+        ensures next { IfSome result (IsNext self.now.words.items from) }
+        ensures last { IfNone result (IsLast self.now.words.items from) }
+    {
+        let mut from = from;
+        'words: while from / 64 < self.words.len() {
+            let found = first_here(&self.words, from);
+            if found.is_some() {
+                return found;
+            }
+            from = 64 * next_bit(&self.tops, from / 64 + 1)?;
+        }
+        None
+    }
+}
+
+/// The first bit that is set, from this one on.
+fn next_bit(words: &[u64], from: usize) -> Option<usize>
+    requires few { length words.now ≤ most_words }
+    requires low { from < 2 ^ 33 }
+    ensures next { IfSome result (IsNext words.now from) }
+    ensures last { IfNone result (IsLast words.now from) }
+{
+    let mut from = from;
+    'words: while from / 64 < words.len() {
+        let found = first_here(words, from);
+        if found.is_some() {
+            return found;
+        }
+        from = (from / 64 + 1) * 64;
+    }
+    None
+}
+
+/// The first bit that is set in the word of this one, from this one on.
+fn first_here(words: &[u64], from: usize) -> Option<usize>
+    requires within { from / 64 < length words.now }
+    requires low { from < 2 ^ 34 }
+    ensures next { IfSome result (IsNext words.now from) }
+    ensures last { IfNone result (IsLastHere words.now from) }
+{
+    let here = words[from / 64] >> (from % 64);
+    if here == 0 {
+        return None;
+    }
+    Some(from + here.trailing_zeros() as usize)
+}
+
+/// Sets a bit.
+fn add_bit(words: &mut Vec<u64>, bit: usize)
+    requires { bit < 64 * length words.old.items }
+    ensures added { bit_of words.new.items bit ≡ 1 }
+    ensures others { KeepsBitsBut words.old.items words.new.items bit }
+    ensures long { length words.new.items ≡ length words.old.items }
+    ensures words { KeepsWordsBut words.old.items words.new.items (bit / 64) }
+{
+    words[bit / 64] |= 1 << (bit % 64);
+}
+
+/// Sets the bits of these executions.
+fn add_users(words: &mut Vec<u64>, users: UserWord)
+    requires { users.word < length words.old.items }
+    ensures marked { MarksWord words.new.items users }
+    ensures kept { IsMore words.old.items words.new.items }
+    ensures long { length words.new.items ≡ length words.old.items }
+    ensures words { KeepsWordsBut words.old.items words.new.items users.word }
+{
+    words[users.word as usize] |= users.bits;
+}
+
+/// Takes a bit away.
+fn take_bit(words: &mut Vec<u64>, bit: usize)
+    requires { bit < 64 * length words.old.items }
+    ensures taken { bit_of words.new.items bit ≡ 0 }
+    ensures less { slice_index words.new.items (bit / 64) ≤ slice_index words.old.items (bit / 64) }
+    ensures others { KeepsBitsBut words.old.items words.new.items bit }
+    ensures long { length words.new.items ≡ length words.old.items }
+    ensures words { KeepsWordsBut words.old.items words.new.items (bit / 64) }
+{
+    words[bit / 64] &= !(1 << (bit % 64));
+}

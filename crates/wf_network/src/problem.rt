@@ -1,0 +1,303 @@
+//! The constraint problem of a task and its protocol complex.
+
+ghost use Rattle.std.specs.Prelude.{◌≡◌, ◌<◌, ◌≤◌, ◌^◌, ℕ, All, length, map, slice_index, take, IfOk};
+ghost use Rattle.wf_model.specs.Simplex.{processes_of};
+ghost use Rattle.wf_model.specs.Task.{IsTask, IsTaskSimplex};
+ghost use Rattle.wf_model.specs.Problem.{IsWellFormed, problem_of};
+ghost use Rattle.wf_complex.specs.Protocol.{IsProtocol};
+ghost use Rattle.wf_model.specs.Split.{most_values};
+ghost use Rattle.wf_model.specs.Limits.{most_executions, most_points};
+ghost use Rattle.wf_set.specs.Sets.{values_in};
+ghost use Rattle.wf_network.specs.Problems.{AreExecutionsOf, AreWithin, AreAlike, HasTable, IsLike, IsNetwork, IsRuleOf, IsWide, KeepsProcesses, constraints_in, rule_in, rule_seen};
+ghost use Rattle.wf_network.specs.Users.{AreWordsBelow, users_of};
+
+use crate::users::{UserWord, Users};
+use std::alloc::{AllocError, Global};
+use std::marker::Model;
+use wf_complex::Protocol;
+use wf_lane::TupleTable;
+use wf_set::Mask;
+use wf_simplex::Simplex;
+use wf_task::{Row, Task};
+
+/// So many rules before one are looked at for the same tuples.
+const NEAR: usize = 64;
+
+/// What an input simplex allows: its processes, and its tuples as a table.
+#[derive(Drop)]
+pub struct Rule {
+    /// The input simplex.
+    pub simplex: Simplex,
+    /// How many processes the simplex has.
+    pub places: u8,
+    /// Which ones, ascending, and then 0.
+    pub processes: [u8; 4],
+    /// The tuples of the simplex.
+    pub table: TupleTable,
+    /// The number of a rule with the same table.
+    pub like: u32,
+}
+
+impl Rule {
+    /// The rule of a simplex with these tuples, of which the rule of this number has the table too.
+    pub(crate) fn of(
+        alloc: Global,
+        simplex: Simplex,
+        tuples: &[Row],
+        like: u32,
+    ) -> Result<Rule, AllocError>
+        requires long { All (λ tuple. length tuple ≡ length simplex) tuples.now }
+        requires few { length tuples.now < 2 ^ 32 }
+        ensures rule { IfOk result (IsRuleOf simplex tuples.now) }
+        ensures wide { IfOk result IsWide }
+        ensures processes { IfOk result KeepsProcesses }
+        ensures like { IfOk result (λ rule. rule.like ≡ like) }
+    {
+        let table = TupleTable::build(alloc, tuples, simplex.colours())?;
+        Ok(Rule {
+            simplex,
+            places: simplex.colours(),
+            processes: processes(simplex),
+            table,
+            like,
+        })
+    }
+
+    /// How many processes its simplex has. It takes no memory.
+    pub fn places(&self) -> u8
+        requires kept { KeepsProcesses self.now }
+        ensures count { result ≡ length self.now.simplex }
+        ensures few { result ≤ 4 }
+        ensures simplex { IsTaskSimplex self.now.simplex }
+    {
+        self.places
+    }
+
+    /// The process of its simplex at a place. It takes no memory.
+    pub fn process_at(&self, place: u8) -> u8
+        requires kept { KeepsProcesses self.now }
+        requires place { place < length self.now.simplex }
+        ensures { result ≡ slice_index (processes_of self.now.simplex) place }
+    {
+        self.processes[place as usize]
+    }
+}
+
+/// The processes of a simplex, ascending, and then 0.
+fn processes(simplex: Simplex) -> [u8; 4]
+    ensures long { length result ≡ 4 }
+    ensures processes { (i : ℕ) → i < length simplex
+        → slice_index result i ≡ slice_index (processes_of simplex) i }
+{
+    let mut processes = [0; 4];
+    for place in 0..simplex.colours() {
+        processes[place as usize] = simplex.colour(place);
+    }
+    processes
+}
+
+/// An execution: the number of its input simplex, which is that of its rule, the number of a rule
+/// that has the same table, and the points of its processes. The points past their number are that
+/// of the first process, and are not used.
+#[derive(Clone, Copy, Debug)]
+pub struct PackedExecution {
+    /// The number of its rule.
+    pub rule: u32,
+    /// The number of a rule that has the table of its rule.
+    pub like: u32,
+    /// The points of its processes.
+    pub points: [u32; 4],
+}
+
+/// The constraints of a problem as they are kept: a rule for each input simplex, the executions,
+/// and the executions of each point.
+#[derive(Drop)]
+pub struct Network {
+    /// How many points there are.
+    pub points: u32,
+    /// The rule of each input simplex.
+    pub rules: Vec<Rule>,
+    /// The executions.
+    pub executions: Vec<PackedExecution>,
+    /// The executions of each point.
+    pub users: Users,
+}
+
+impl Network {
+    /// The number of a rule that has the table of an execution's rule. It takes no memory.
+    pub fn like_at(&self, execution: usize) -> u32
+        requires network { IsNetwork self.now }
+        requires execution { execution < length self.now.executions.items }
+        ensures { result ≡ (rule_in self.now execution).like }
+    {
+        self.executions[execution].like
+    }
+
+    /// The executions in which a point stands. It takes no memory.
+    pub fn users_of(&self, point: u32) -> &[UserWord]
+        requires network { IsNetwork self.now }
+        requires point { point < self.now.points }
+        ensures users { result.now ≡ users_of self.now.users point }
+        ensures below { AreWordsBelow (length self.now.executions.items) result.now }
+    {
+        self.users
+            .of(point, self.points, self.executions.len() as u32)
+    }
+}
+
+/// The constraint problem of a task after some rounds: a decision map gives each point a value, so
+/// that in each execution the values at its points are a tuple that the task allows.
+///
+/// Points and executions have the numbers of the protocol complex. The tuples
+/// of an input simplex are kept once.
+#[derive(Drop)]
+pub struct Problem {
+    // those that occur in the outputs
+    values: Mask,
+    network: Network,
+}
+
+impl Model for Problem {
+    ghost use Rattle.wf_model.specs.Problem.{Problem};
+
+    ghost Value = { Problem };
+
+    ghost use Rattle.wf_model.specs.Limits.{most_executions, most_points};
+    ghost use Rattle.wf_network.specs.Problems.{problem_seen, IsKept};
+
+    ghost view = { problem_seen };
+
+    ghost invariant = { IsKept };
+}
+
+impl Problem {
+    /// The problem of a task on its protocol complex. The protocol has to be that of the task.
+    pub fn join(alloc: Global, task: &Task, protocol: &Protocol) -> Result<Problem, AllocError>
+        requires built { IsProtocol task.now protocol.now.rounds protocol.now }
+        ensures { IfOk result (λ problem. problem ≡ problem_of task.now protocol.now.rounds) }
+    {
+        let rules = rules(alloc, task)?;
+        let executions = executions(alloc, task, protocol, &rules)?;
+        let points = protocol.points();
+        let users = Users::of_points(alloc, points, &executions)?;
+        Ok(Problem {
+            values: task.values(),
+            network: Network {
+                points,
+                rules,
+                executions,
+                users,
+            },
+        })
+    }
+
+    /// How many points it has. It takes no memory.
+    pub fn points(&self) -> u32
+        ensures points { result ≡ self.now.points }
+        ensures few { result ≤ most_points }
+        ensures few_values { length self.now.values ≤ most_values }
+        ensures well_formed { IsWellFormed self.now }
+    {
+        self.network.points
+    }
+
+    /// Its values, those that occur in the outputs of the task. It takes no memory.
+    pub fn values(&self) -> Mask
+        ensures { values_in result ≡ self.now.values }
+    {
+        self.values
+    }
+
+    /// Its constraints as they are kept. It takes no memory.
+    pub fn network(&self) -> &Network
+        ensures network { IsNetwork result.now }
+        ensures points { result.now.points ≡ self.now.points }
+        ensures constraints { constraints_in result.now ≡ self.now.constraints }
+        ensures well_formed { IsWellFormed self.now }
+    {
+        &self.network
+    }
+}
+
+/// The rule of each input simplex.
+fn rules(alloc: Global, task: &Task) -> Result<Vec<Rule>, AllocError>
+    ensures rules { IfOk result (λ rules. map rule_seen rules.items ≡ task.now.delta) }
+    ensures wide { IfOk result (λ rules. All IsWide rules.items) }
+    ensures processes { IfOk result (λ rules. All KeepsProcesses rules.items) }
+    ensures alike { IfOk result (λ rules. AreAlike rules.items) }
+    ensures task { IsTask task.now }
+{
+    let inputs = task.inputs().simplices();
+    let mut rules = Vec::with_capacity(alloc, inputs.len())?;
+    for (number, simplex) in inputs.iter().enumerate() {
+        let tuples = task.tuples(number as u32);
+        let like = like_of(task, &rules, *simplex, tuples);
+        rules.push(Rule::of(alloc, *simplex, tuples, like)?)?;
+    }
+    Ok(rules)
+}
+
+/// The number of a rule with this table, where one of the last few has it,
+/// and else the number of the next one.
+fn like_of(task: &Task, rules: &[Rule], simplex: Simplex, tuples: &[Row]) -> u32
+    requires rules { map rule_seen rules.now ≡ take (length rules.now) task.now.delta }
+    requires wide { All IsWide rules.now }
+    requires alike { AreAlike rules.now }
+    requires within { length rules.now ≤ length task.now.delta }
+    requires few { length rules.now < 2 ^ 32 }
+    ensures within { result ≤ length rules.now }
+    ensures same { result < length rules.now → HasTable simplex tuples.now rules.now result }
+{
+    let count = rules.len();
+    for number in count.saturating_sub(NEAR)..count {
+        let rule = &rules[number];
+        if rule.simplex.colours() == simplex.colours() && task.tuples(number as u32) == tuples {
+            return rule.like;
+        }
+    }
+    count as u32
+}
+
+/// The executions of a protocol complex, whose input simplices have these rules.
+fn executions(
+    alloc: Global,
+    task: &Task,
+    protocol: &Protocol,
+    rules: &[Rule],
+) -> Result<Vec<PackedExecution>, AllocError>
+    requires built { IsProtocol task.now protocol.now.rounds protocol.now }
+    requires rules { map rule_seen rules.now ≡ task.now.delta }
+    ensures constraints { IfOk result
+        (λ executions. AreExecutionsOf task.now protocol.now.rounds rules.now executions.items) }
+    ensures within { IfOk result
+        (λ executions. AreWithin rules.now (length protocol.now.points) executions.items) }
+    ensures like { IfOk result (λ executions. All (IsLike rules.now) executions.items) }
+    ensures few { IfOk result (λ executions. length executions.items ≤ most_executions) }
+{
+    let count = protocol.executions();
+    let mut executions = Vec::with_capacity(alloc, count as usize)?;
+    for number in 0..count {
+        let rule = protocol.simplex_of(number);
+        executions.push(PackedExecution {
+            rule,
+            like: rules[rule as usize].like,
+            points: four(protocol.points_of(number)),
+        })?;
+    }
+    Ok(executions)
+}
+
+/// These points, and the first of them again where there are fewer than four.
+fn four(points: &[u32]) -> [u32; 4]
+    requires some { 0 < length points.now }
+    requires few { length points.now ≤ 4 }
+    ensures points { take (length points.now) result ≡ points.now }
+    ensures long { length result ≡ 4 }
+    ensures among { (n : ℕ) → All (λ v. v < n) points.now → All (λ v. v < n) result }
+{
+    let mut four = [points[0]; 4];
+    for (place, point) in points.iter().enumerate() {
+        four[place] = *point;
+    }
+    four
+}
