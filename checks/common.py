@@ -12,11 +12,6 @@ ROOT = pathlib.Path(__file__).resolve().parent.parent
 BUILT = ROOT / "bin/wfcheck"
 
 
-def files_of_edits(crate):
-    """The files of a crate's changes of meaning: those that the gate tries, and those that are left to checks/edits."""
-    return [*sorted((crate / "must-fail").glob("*.edit")), *sorted((crate / "must-fail").glob("*.md"))]
-
-
 class Program:
     """The program that a script runs: bin/wfcheck, or what its option `--program` names."""
     path = BUILT
