@@ -9,8 +9,8 @@ use wf_task::{Key, Task, TaskFault};
 const CANONICAL: &str =
     r#"{"delta":[{"in":[[0,7]],"out":[[5],[63]]}],"inputs":[[[0,7]]],"outputs":[[[0,5]],[[0,63]]],"processes":1,"symmetric":true,"version":1}"#;
 
-/// Texts of one task: its keys in other orders, written with escapes or more than once, with spaces,
-/// and a tuple twice. The last value of a key stays.
+/// Texts of one task: its keys in other orders, written with escapes or more than once, with
+/// spaces, and a tuple twice. The last value of a key stays.
 static ALIKE: [&str; 10] = [
     r#"{"version":1,"processes":1,"symmetric":true,"inputs":[[[0,7]]],"outputs":[[[0,63]],[[0,5]]],"delta":[{"in":[[0,7]],"out":[[63],[5]]}]}"#,
     r#"{"delta":[{"in":[[0,7]],"out":[[5],[63]]}],"inputs":[[[0,7]]],"outputs":[[[0,5]],[[0,63]]],"processes":1,"symmetric":true,"version":1}"#,

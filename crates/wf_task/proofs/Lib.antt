@@ -2,7 +2,7 @@ pub mod Filled
 pub mod Lists
 pub mod Converted
 pub mod Taken
-pub mod Slotted
+pub mod Fields
 pub mod Texts
 pub mod Sizes
 pub mod Judged

@@ -1,14 +1,16 @@
 -- Tokens that a value was read from: each form of value, from its parts.
-use Rattle.std.proofs.Common.{◌≡◌, ℕ, suc, ◌-◌, ◌<◌, ◌≤◌, Bool, List, [], ◌∷◌, ◌++◌, length, Option, Some, None, IfSome, SomeIff, get_or, false, ◌==◌, ◌^◌, option_map, Result, Ok, Err, refl, sym, ap, ◌∙◌, subst, arith, map, IfOk, lt-ltb}
+use Rattle.std.proofs.Common.{◌≡◌, ◌+◌, ℕ, suc, ◌-◌, ◌<◌, ◌≤◌, Bool, List, [], ◌∷◌, ◌++◌, length, Option, Some, None, IfSome, SomeIff, get_or, false, ◌==◌, ◌^◌, option_map, Result, Ok, Err, refl, sym, ap, ◌∙◌, subst, arith, map, IfOk, lt-ltb}
 use Rattle.std.specs.Result.{result_ok}
+use Rattle.std.proofs.lemmas.Fmt.{decimal_digit}
 use Rattle.fast_float.specs.Text.{scan, digits_of, IsInteger}
 use Rattle.json.specs.Token.{Token}
 use Rattle.json.specs.Json as json
-use Rattle.json.specs.Json.{Parse, parse_map, after_end_array, read_key, value, items, members}
+use Rattle.json.specs.Json.{parse_map, after_end_array, read_key, value, items, members}
 use Rattle.json.proofs.Grammar.{left, value_is, value-begin_array, value-begin_object, skip_value-shorter, read_key-shorter}
 use Rattle.serde_json.specs.Data.{Data, array, object, unsigned, Items, no_items, item, Members, no_members, put}
 use Rattle.serde_json.specs.Find.{as_bool}
 use Rattle.serde_json.specs.Read.{number_of, of_json, of_items, of_members, converted}
+use Rattle.serde_json.proofs.Numbers.{number_of-decimal}
 use Rattle.wf_task.proofs.Converted.{converted_some, converted-array, converted-object, item_read, items_over, member_read, members_over}
 use Rattle.wf_task.specs.Shape.{whole_of, pair_of, with_first, each, all_of, list_of}
 use Rattle.wf_task.specs.Plain.{data_at, Takes, TakesItems, Adds, TakesMembers}
@@ -60,6 +62,10 @@ pub number-plain : (s : List ℕ) (o : Option ℕ) → (get_or s 0 0 == 45) ≡ 
 unfolding number_of
 number-plain s None sign h = tt
 number-plain s (Some n) sign h = rw (sign, lt-ltb _ _ h.0.0.0, h.0.0.1, h.0.0.2, lt-ltb _ _ h.0.1) (ap (λ m. Some (unsigned m)) (sym h.1))
+
+-- a lone digit
+pub number-digit : (s : List ℕ) (n : ℕ) → n < 10 → s ≡ (48 + n) ∷ [] → number_of s ≡ Some (unsigned n)
+number-digit s n low is = ap number_of (is ∙ sym (decimal_digit n low)) ∙ number_of-decimal n (omega (arith, low))
 
 pub takes-bool : (b : Bool) (new : List Token) → Takes as_bool 0 (Token.boolean b ∷ new) b new
 takes-bool b new depth enough = ap (λ o. converted as_bool (converted of_json o)) (value_is depth (Token.boolean b ∷ new))
@@ -131,23 +137,23 @@ takes-pair ts r s new x y first second end depth enough =
 
 -- ---- an object
 
-adds-shorter : {S : Type 0} (IsOf : S → Members → Type 0) (deep : ℕ) (key : List ℕ) (before : S) (old : List Token) (after : S) (new : List Token) → Adds IsOf deep key before old after new → length new < length old
-adds-shorter IsOf deep key before old after new t = let d = t deep (omega arith) in data_shorter deep old new d.0 d.1
+adds-shorter : {S : Type 0} (hold : S → Members → Type 0) (deep : ℕ) (key : List ℕ) (before : S) (old : List Token) (after : S) (new : List Token) → Adds hold deep key before old after new → length new < length old
+adds-shorter hold deep key before old after new t = let d = t deep (omega arith) in data_shorter deep old new d.0 d.1
 
--- of the tokens `start` some members were put into the slots, and `now` are the tokens after them
+-- of the tokens `start` some members were put into the fields, and `now` are the tokens after them
 abbrev pub HasRead : {S : Type 0} → (S → Members → Type 0) → ℕ → List Token → S → List Token → Type 0
-HasRead IsOf deep start slots now =
+HasRead hold deep start fields now =
     (depth : ℕ) → deep ≤ depth → (n : ℕ) × (length now ≤ n) × (found : Members)
-    × (converted (λ ms. of_members ms no_members) (members (value depth) (length start) start) ≡ converted (λ ms. of_members ms found) (members (value depth) n now)) × IsOf slots found
+    × (converted (λ ms. of_members ms no_members) (members (value depth) (length start) start) ≡ converted (λ ms. of_members ms found) (members (value depth) n now)) × hold fields found
 
-module _ {S : Type 0} (IsOf : S → Members → Type 0) (deep : ℕ) (start : List Token) where
-  pub read-none : (slots : S) → IsOf slots no_members → HasRead IsOf deep start slots start
-  read-none slots none depth enough = (length start, omega arith, no_members, refl, none)
+module _ {S : Type 0} (hold : S → Members → Type 0) (deep : ℕ) (start : List Token) where
+  pub read-none : (fields : S) → hold fields no_members → HasRead hold deep start fields start
+  read-none fields none depth enough = (length start, omega arith, no_members, refl, none)
 
-  pub more-shorter : (before after : S) (now s new : List Token) (k : List ℕ) → read_key now ≡ Some (Some k, s) → Adds IsOf deep k before s after new → length new < length now
-  more-shorter before after now s new k key added = omega (arith, read_key-shorter now (Some k) s key, adds-shorter IsOf deep k before s after new added)
+  pub more-shorter : (before after : S) (now s new : List Token) (k : List ℕ) → read_key now ≡ Some (Some k, s) → Adds hold deep k before s after new → length new < length now
+  more-shorter before after now s new k key added = omega (arith, read_key-shorter now (Some k) s key, adds-shorter hold deep k before s after new added)
 
-  pub read-more : (before after : S) (now s new : List Token) (k : List ℕ) → HasRead IsOf deep start before now → read_key now ≡ Some (Some k, s) → Adds IsOf deep k before s after new → HasRead IsOf deep start after new
+  pub read-more : (before after : S) (now s new : List Token) (k : List ℕ) → HasRead hold deep start before now → read_key now ≡ Some (Some k, s) → Adds hold deep k before s after new → HasRead hold deep start after new
   read-more before after now s new k done key added depth enough =
       let so = done depth enough in
       let d = added depth enough in
@@ -159,20 +165,20 @@ module _ {S : Type 0} (IsOf : S → Members → Type 0) (deep : ℕ) (start : Li
         d.2 so.2 so.4,
       )
 
-  pub read-all : (slots : S) (now new : List Token) → HasRead IsOf deep start slots now → read_key now ≡ Some (None, new) → TakesMembers IsOf deep start slots new
-  read-all slots now new done end depth enough =
+  pub read-all : (fields : S) (now new : List Token) → HasRead hold deep start fields now → read_key now ≡ Some (None, new) → TakesMembers hold deep start fields new
+  read-all fields now new done end depth enough =
       let so = done depth enough in (so.2, so.3 ∙ members_over (value depth) so.0 now so.2 new so.1 end, so.4)
 
-pub takes-object : {S X : Type 0} (IsOf : S → Members → Type 0) (deep : ℕ) (f : Data → Option X) (ts : List Token) (slots : S) (x : X) (new : List Token) → TakesMembers IsOf deep ts slots new
-    → ((ms : Members) → IsOf slots ms → f (object ms) ≡ Some x) → Takes f (suc deep) (Token.begin_object ∷ ts) x new
-takes-object IsOf deep f ts slots x new t known depth enough =
+pub takes-object : {S X : Type 0} (hold : S → Members → Type 0) (deep : ℕ) (f : Data → Option X) (ts : List Token) (fields : S) (x : X) (new : List Token) → TakesMembers hold deep ts fields new
+    → ((ms : Members) → hold fields ms → f (object ms) ≡ Some x) → Takes f (suc deep) (Token.begin_object ∷ ts) x new
+takes-object hold deep f ts fields x new t known depth enough =
     let all = t (depth - 1) (omega (arith, enough)) in
     ap (λ o. converted f (converted of_json o)) (value-begin_object depth ts (omega (arith, enough)))
     ∙ ap (converted f) (converted-object (members (value (depth - 1)) (length ts) ts) ∙ ap (parse_map object) all.1)
     ∙ ap (option_map (λ y. (y, new))) (known all.0 all.2)
 
-pub takes-object-if : {S X V : Type 0} (IsOf : S → Members → Type 0) (deep : ℕ) (f : Data → Option X) (seen : V → X) (found : Option V) (old ts : List Token) (slots : S) (new : List Token) → old ≡ Token.begin_object ∷ ts
-    → TakesMembers IsOf deep ts slots new → IfSome found (λ v. (ms : Members) → IsOf slots ms → f (object ms) ≡ Some (seen v)) → IfSome found (λ v. Takes f (suc deep) old (seen v) new)
-takes-object-if IsOf deep f seen None old ts slots new is t known = known
-takes-object-if IsOf deep f seen (Some v) old ts slots new is t known =
-    subst (λ before. Takes f (suc deep) before (seen v) new) (sym is) (takes-object IsOf deep f ts slots (seen v) new t known)
+pub takes-object-if : {S X V : Type 0} (hold : S → Members → Type 0) (deep : ℕ) (f : Data → Option X) (seen : V → X) (found : Option V) (old ts : List Token) (fields : S) (new : List Token) → old ≡ Token.begin_object ∷ ts
+    → TakesMembers hold deep ts fields new → IfSome found (λ v. (ms : Members) → hold fields ms → f (object ms) ≡ Some (seen v)) → IfSome found (λ v. Takes f (suc deep) old (seen v) new)
+takes-object-if hold deep f seen None old ts fields new is t known = known
+takes-object-if hold deep f seen (Some v) old ts fields new is t known =
+    subst (λ before. Takes f (suc deep) before (seen v) new) (sym is) (takes-object hold deep f ts fields (seen v) new t known)

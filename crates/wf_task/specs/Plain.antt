@@ -30,25 +30,25 @@ TakesItems f deep old xs new = (depth : ℕ) → deep ≤ depth → (n : ℕ) �
 
 -- ---- objects
 
--- a slot has what is read under a key, and is empty where there is no such key
+-- a field has what is read under a key, and is empty where there is no such key
 abbrev pub Stands : {T X : Type 0} → (Data → Option X) → (T → X) → List ℕ → Members → Option T → Type 0
-Stands f seen key ms slot = option_map f (get_member key ms) ≡ option_map (λ x. Some (seen x)) slot
+Stands f seen key ms field = option_map f (get_member key ms) ≡ option_map (λ x. Some (seen x)) field
 
--- how many members a slot has
-abbrev pub filled : {T : Type 0} → Option T → ℕ
-filled None = 0
-filled (Some x) = 1
+-- how many members a field has
+abbrev pub held : {T : Type 0} → Option T → ℕ
+held None = 0
+held (Some x) = 1
 
--- an empty slot took the value that comes first
+-- an empty field took the value that comes first
 abbrev pub Fills : {T X : Type 0} → (Data → Option X) → (T → X) → ℕ → Option T → List Token → Option T → List Token → Type 0
 Fills f seen deep before old after new = (before ≡ None) × IsSomeAnd after (λ x. Takes f deep old (seen x) new)
 
--- the slots took one member more: this key, and the value that comes first
+-- the fields took one member more: this key, and the value that comes first
 abbrev pub Adds : {S : Type 0} → (S → Members → Type 0) → ℕ → List ℕ → S → List Token → S → List Token → Type 0
-Adds IsOf deep key before old after new =
-    (depth : ℕ) → deep ≤ depth → (d : Data) × (data_at depth old ≡ Some (d, new)) × ((ms : Members) → IsOf before ms → IsOf after (put key d ms))
+Adds hold deep key before old after new =
+    (depth : ℕ) → deep ≤ depth → (d : Data) × (data_at depth old ≡ Some (d, new)) × ((ms : Members) → hold before ms → hold after (put key d ms))
 
--- the slots took the members of an object, with the brace that closes it
+-- the fields took the members of an object, with the brace that closes it
 abbrev pub TakesMembers : {S : Type 0} → (S → Members → Type 0) → ℕ → List Token → S → List Token → Type 0
-TakesMembers IsOf deep old slots new =
-    (depth : ℕ) → deep ≤ depth → (ms : Members) × (converted (λ ms. of_members ms no_members) (members (value depth) (length old) old) ≡ Some (ms, new)) × IsOf slots ms
+TakesMembers hold deep old fields new =
+    (depth : ℕ) → deep ≤ depth → (ms : Members) × (converted (λ ms. of_members ms no_members) (members (value depth) (length old) old) ≡ Some (ms, new)) × hold fields ms

@@ -13,16 +13,16 @@ use crate::shape::{Entry, ListedSimplex};
 use json::{Reader, Token};
 use std::alloc::{AllocError, Global};
 
-/// The members of an object, a slot for each key.
-trait Slots: Sized {
-    // the slots have the members, and there is no other
+/// The members of an object, a field for each key.
+trait Fields: Sized {
+    // the fields have the members, and there is no other
     ghost hold: { Self → Members → Type 0 };
 
     // how deep the arrays and objects under the keys nest
     ghost deep: { ℕ };
 
-    /// Puts the next value of the reader into the slot of the key, where the slot is empty and the
-    /// value surely of its shape, and tells whether it did.
+    /// Puts the next value of the reader into the field of the key, where the field is empty and
+    /// the value surely of its shape, and tells whether it did.
     fn fill(
         &mut self,
         alloc: Global,
@@ -33,39 +33,39 @@ trait Slots: Sized {
             → Adds hold deep key.now self.old reader.old self.new reader.new) };
 }
 
-/// Puts the next value of the reader into the slot, where the slot is empty and the value surely of
-/// its shape, and tells whether it did.
+/// Puts the next value of the reader into the field, where the field is empty and the value surely
+/// of its shape, and tells whether it did.
 fn fill<T: Plain + Drop>(
     alloc: Global,
-    slot: &mut Option<T>,
+    field: &mut Option<T>,
     reader: &mut Reader<'_>,
 ) -> Result<bool, AllocError>
     ensures { IfOk result (λ sure. IsTrue sure
-        → Fills T.reading T.seen T.deep slot.old reader.old slot.new reader.new) }
+        → Fills T.reading T.seen T.deep field.old reader.old field.new reader.new) }
 {
-    if slot.is_some() {
+    if field.is_some() {
         return Ok(false);
     }
-    *slot = T::plain(alloc, reader)?;
-    Ok(slot.is_some())
+    *field = T::plain(alloc, reader)?;
+    Ok(field.is_some())
 }
 
-/// Puts the members of an object up to its closing brace into empty slots, where each key has a
-/// slot, comes once and surely has a value of its shape; tells whether it did.
-fn members<S: Slots>(
+/// Puts the members of an object up to its closing brace into empty fields, where each key has a
+/// field, comes once and surely has a value of its shape; tells whether it did.
+fn members<S: Fields>(
     alloc: Global,
-    slots: &mut S,
+    fields: &mut S,
     reader: &mut Reader<'_>,
 ) -> Result<bool, AllocError>
-    requires { S.hold slots.old no_members }
+    requires { S.hold fields.old no_members }
     ensures { IfOk result (λ sure. IsTrue sure
-        → TakesMembers S.hold S.deep reader.old slots.new reader.new) }
+        → TakesMembers S.hold S.deep reader.old fields.new reader.new) }
 {
     'members: while let Ok(next) = reader.next_key() {
         let Some(key) = next else {
             return Ok(true);
         };
-        if !slots.fill(alloc, key, reader)? {
+        if !fields.fill(alloc, key, reader)? {
             return Ok(false);
         }
     }
@@ -76,12 +76,12 @@ fn members<S: Slots>(
 
 /// The members of an entry.
 #[derive(Drop)]
-pub(crate) struct EntrySlots {
+pub(crate) struct EntryFields {
     input: Option<ListedSimplex>,
     tuples: Option<Vec<Vec<u64>>>,
 }
 
-impl Slots for EntrySlots {
+impl Fields for EntryFields {
     ghost use Rattle.wf_task.specs.Members.{HoldEntry};
 
     ghost hold = { HoldEntry };
@@ -102,7 +102,7 @@ impl Slots for EntrySlots {
     }
 }
 
-impl EntrySlots {
+impl EntryFields {
     ghost use Rattle.wf_task.specs.Shape.{entry_of};
     ghost use Rattle.wf_task.specs.DraftSeen.{entry_seen};
     ghost use Rattle.wf_task.specs.Members.{HoldEntry};
@@ -112,7 +112,7 @@ impl EntrySlots {
         ensures { IfSome result (λ entry. (ms : Members) → HoldEntry self ms
             → entry_of (object ms) ≡ Some (entry_seen entry)) }
     {
-        let EntrySlots { input, tuples } = self;
+        let EntryFields { input, tuples } = self;
         Some(Entry {
             input: input?,
             tuples: tuples?,
@@ -127,14 +127,14 @@ impl Plain for Entry {
         let Some(Token::BeginObject) = reader.next() else {
             return Ok(None);
         };
-        let mut slots = EntrySlots {
+        let mut fields = EntryFields {
             input: None,
             tuples: None,
         };
-        if !members(alloc, &mut slots, reader)? {
+        if !members(alloc, &mut fields, reader)? {
             return Ok(None);
         }
-        Ok(slots.entry())
+        Ok(fields.entry())
     }
 }
 
@@ -142,7 +142,7 @@ impl Plain for Entry {
 
 /// The members of a draft.
 #[derive(Drop)]
-pub(crate) struct DraftSlots {
+pub(crate) struct DraftFields {
     version: Option<u64>,
     least_block: Option<u64>,
     processes: Option<u64>,
@@ -152,7 +152,7 @@ pub(crate) struct DraftSlots {
     delta: Option<Vec<Entry>>,
 }
 
-impl Slots for DraftSlots {
+impl Fields for DraftFields {
     ghost use Rattle.wf_task.specs.Members.{HoldDraft};
 
     ghost hold = { HoldDraft };
@@ -188,14 +188,14 @@ fn names_block_rightly(version: u64, least_block: Option<u64>) -> bool
     }
 }
 
-impl DraftSlots {
+impl DraftFields {
     ghost use Rattle.wf_task.specs.Members.{HoldDraft};
 
-    /// Slots that are empty.
-    fn empty() -> DraftSlots
+    /// Fields that are empty.
+    fn empty() -> DraftFields
         ensures { HoldDraft result no_members }
     {
-        DraftSlots {
+        DraftFields {
             version: None,
             least_block: None,
             processes: None,
@@ -211,7 +211,7 @@ impl DraftSlots {
         ensures { IfSome result (λ draft. (ms : Members) → HoldDraft self ms
             → draft_of (object ms) ≡ Ok (draft_seen draft)) }
     {
-        let DraftSlots {
+        let DraftFields {
             version,
             least_block,
             processes,
@@ -247,9 +247,9 @@ pub(crate) fn plain_draft(
     let Some(Token::BeginObject) = reader.next() else {
         return Ok(None);
     };
-    let mut slots = DraftSlots::empty();
-    if !members(alloc, &mut slots, reader)? {
+    let mut fields = DraftFields::empty();
+    if !members(alloc, &mut fields, reader)? {
         return Ok(None);
     }
-    Ok(slots.draft())
+    Ok(fields.draft())
 }

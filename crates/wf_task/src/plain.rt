@@ -1,9 +1,9 @@
 //! From the tokens of a text to a draft, with no JSON value between.
 //!
-//! A text of the usual form is read so. Where a reading is in doubt it gives `None`, and the text is
-//! read over its JSON value: which texts are refused, and why, is decided there alone.
+//! A text of the usual form is read so. Where a reading is in doubt it gives `None`, and the text
+//! is read over its JSON value: which texts are refused, and why, is decided there alone.
 
-ghost use Rattle.std.specs.Prelude.{◌≡◌, ℕ, suc, map, Some, IfOk, IfSome};
+ghost use Rattle.std.specs.Prelude.{◌≡◌, ℕ, suc, ◌+◌, ◌<◌, [], ◌∷◌, map, Some, IfOk, IfSome};
 ghost use Rattle.serde_json.specs.Data.{unsigned};
 ghost use Rattle.serde_json.specs.Read.{number_of};
 ghost use Rattle.wf_task.specs.Plain.{Takes, TakesItems};
@@ -35,15 +35,28 @@ impl Plain for u64 {
     }
 }
 
-/// The whole number below 2^64 that a token writes with digits alone.
+/// The whole number below 2^64 that a token writes with digits alone: mostly one.
 fn number(text: &str) -> Option<u64>
     ensures { IfSome result (λ n. number_of text.now ≡ Some (unsigned n)) }
 {
     let bytes = text.as_bytes();
+    if let Some(value) = digit(bytes) {
+        return Some(value);
+    }
     if bytes.is_empty() || bytes[0] == b'-' {
         return None;
     }
     Numeral::scan(bytes).to_u64()
+}
+
+/// The value of a lone digit.
+fn digit(bytes: &[u8]) -> Option<u64>
+    ensures { IfSome result (λ n. (n < 10) × (bytes.now ≡ (48 + n) ∷ [])) }
+{
+    match bytes {
+        [only] if only.is_ascii_digit() => Some(u64::from(*only - b'0')),
+        _ => None,
+    }
 }
 
 impl Plain for bool {

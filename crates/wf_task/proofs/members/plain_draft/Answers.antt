@@ -12,5 +12,5 @@ pub returns : goal.returns
 returns c =
     let opens = c.in-Some-BeginObject in
     let begun = opens.ensures.value ∙ ap (λ t. token_of t ∷ c.next.new.self) opens.field-0-is in
-    takes-object-if HoldDraft 4 (λ d. result_ok (draft_of d)) draft_seen c.draft.result c.args.reader.now c.next.new.self c.members.new.slots c.members.new.reader begun (c.in_ok-members.ensures (grind arith))
+    takes-object-if HoldDraft 4 (λ d. result_ok (draft_of d)) draft_seen c.draft.result c.args.reader.now c.next.new.self c.members.new.fields c.members.new.reader begun (c.in_ok-members.ensures (grind arith))
     (IfSome_then c.draft.result c.draft.ensures (λ draft known ms hold. ap result_ok (known ms hold)))

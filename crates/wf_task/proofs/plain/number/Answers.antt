@@ -1,9 +1,12 @@
-use Rattle.std.proofs.Common.{◌≡◌, ◌==◌, false, get_or, ◌<◌, ◌^◌, IfSome, Some, SomeIff, subst, ne_eqb}
+use Rattle.std.proofs.Common.{◌≡◌, ◌==◌, false, get_or, ◌<◌, ◌^◌, IfSome, Some, SomeIff, sym, ap, ◌∙◌, subst, ne_eqb}
 use Rattle.fast_float.specs.Text.{digits_of, IsInteger}
 use Rattle.serde_json.specs.Data.{unsigned}
 use Rattle.serde_json.specs.Read.{number_of}
-use Rattle.wf_task.proofs.Taken.{number-plain}
+use Rattle.wf_task.proofs.Taken.{number-digit, number-plain}
 use Rattle.wf_task.proofs.plain.number.Goals as goal
+
+pub returns-in-Some : goal.returns-in-Some
+returns-in-Some c = ap number_of (sym c.as_bytes-bytes.ensures.value) ∙ number-digit c.as_bytes-bytes.result.now c.in-Some.value c.in-Some.ensures.0 c.in-Some.ensures.1
 
 pub returns : goal.returns
 returns c =

@@ -10,4 +10,4 @@ pub returns : goal.returns
 returns c =
     let opens = c.in-Some-BeginObject in
     let begun = opens.ensures.value ∙ ap (λ t. token_of t ∷ c.next.new.self) opens.field-0-is in
-    takes-object-if HoldEntry 2 entry_of entry_seen c.entry.result c.args.reader.now c.next.new.self c.members.new.slots c.members.new.reader begun (c.in_ok-members.ensures (grind arith)) c.entry.ensures
+    takes-object-if HoldEntry 2 entry_of entry_seen c.entry.result c.args.reader.now c.next.new.self c.members.new.fields c.members.new.reader begun (c.in_ok-members.ensures (grind arith)) c.entry.ensures

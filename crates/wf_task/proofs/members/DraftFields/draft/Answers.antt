@@ -1,7 +1,7 @@
 use Rattle.std.proofs.Common.{◌≡◌, ◌==◌, is_some, Some, arith}
 use Rattle.wf_task.specs.declared.draft.Draft.{Draft}
-use Rattle.wf_task.proofs.Slotted.{draft-found}
-use Rattle.wf_task.proofs.members.DraftSlots.draft.Goals as goal
+use Rattle.wf_task.proofs.Fields.{draft-found}
+use Rattle.wf_task.proofs.members.DraftFields.draft.Goals as goal
 
 pub returns : goal.returns
 returns c ms hold =

@@ -1,4 +1,4 @@
--- Slots that take one member more, and what full slots stand for.
+-- Fields that take one member more, and what full fields stand for.
 use Rattle.std.proofs.Common.{◌≡◌, ℕ, suc, ◌+◌, ◌≤◌, ◌==◌, Bool, true, false, is_some, List, map, Option, Some, None, option_map, Result, Ok, Err, Vec, Global, codes, refl, sym, ap, ◌∙◌, subst, arith, eq-eqb}
 use Rattle.std.specs.Ordering.{nat_cmp, match_ordering}
 use Rattle.std.specs.declared.cmp.Ordering.{Ordering}
@@ -19,12 +19,12 @@ use Rattle.wf_task.specs.declared.fault.TaskFault.TheVariants as fault
 use Rattle.wf_task.specs.declared.draft.Draft.{Draft}
 use Rattle.wf_task.specs.declared.shape.Entry.{Entry}
 use Rattle.wf_task.specs.declared.shape.ListedSimplex.{ListedSimplex}
-use Rattle.wf_task.specs.declared.members.EntrySlots.{EntrySlots}
-use Rattle.wf_task.specs.declared.members.DraftSlots.{DraftSlots}
+use Rattle.wf_task.specs.declared.members.EntryFields.{EntryFields}
+use Rattle.wf_task.specs.declared.members.DraftFields.{DraftFields}
 use Rattle.wf_task.specs.Shape.{whole_of, each, list_of, simplex_of, tuples_of, entry_of}
 use Rattle.wf_task.specs.Draft.{or_fault, value_at, least_block_at, key_count, placed, list_at, draft_of}
 use Rattle.wf_task.specs.DraftSeen.{pairs_seen, entry_seen, draft_seen}
-use Rattle.wf_task.specs.Plain.{data_at, Takes, Stands, filled, Fills, Adds}
+use Rattle.wf_task.specs.Plain.{data_at, Takes, Stands, held, Fills, Adds}
 use Rattle.wf_task.specs.Members.{HoldEntry, HoldDraft}
 use Rattle.wf_task.proofs.Lists.{numbers_seen}
 use Rattle.wf_task.proofs.Converted.{converted_some}
@@ -56,12 +56,12 @@ members_len-put k d (member l e ms) none = by (slice_cmp nat_cmp k l) (λ g. mem
     by Equal deeper g = cc
     by Greater deeper g = ap suc (deeper g)
 
--- what a slot that was filled tells of the members with one more
+-- what a field that was filled tells of the members with one more
 record Filled {T X : Type 0} (f : Data → Option X) (seen : T → X) (before after : Option T) (d : Data) : Type 0 where
   more : (k : List ℕ) (ms : Members) → Stands f seen k (put k d ms) after
   longer : (k : List ℕ) (ms : Members) → Stands f seen k ms before → members_len (put k d ms) ≡ suc (members_len ms)
-  none : filled before ≡ 0
-  one : filled after ≡ 1
+  none : held before ≡ 0
+  one : held after ≡ 1
 
 fill : {T X : Type 0} (f : Data → Option X) (seen : T → X) (deep : ℕ) (before after : Option T) (old new : List Token) → Fills f seen deep before old after new
     → (depth : ℕ) → deep ≤ depth → (d : Data) × (data_at depth old ≡ Some (d, new)) × Filled f seen before after d
@@ -80,33 +80,33 @@ fill f seen deep None (Some x) old new t depth enough =
     )
 
 -- what stands under another key stays
-other : {T X : Type 0} (f : Data → Option X) (seen : T → X) (q k : List ℕ) (d : Data) (ms : Members) (slot : Option T) → bytes_eq q k ≡ false → Stands f seen q ms slot → Stands f seen q (put k d ms) slot
-other f seen q k d ms slot differ h = ap (option_map f) (get_member-put_other q k d ms (apart q k differ)) ∙ h
+other : {T X : Type 0} (f : Data → Option X) (seen : T → X) (q k : List ℕ) (d : Data) (ms : Members) (field : Option T) → bytes_eq q k ≡ false → Stands f seen q ms field → Stands f seen q (put k d ms) field
+other f seen q k d ms field differ h = ap (option_map f) (get_member-put_other q k d ms (apart q k differ)) ∙ h
 
--- ---- the slots of an entry
+-- ---- the fields of an entry
 
-pub entry-input : (s : EntrySlots) (slot : Option ListedSimplex) (old new : List Token) (key : List ℕ) → key ≡ codes "in" → Fills simplex_of pairs_seen 2 s.input old slot new
-    → Adds HoldEntry 2 key s old (record { input = slot; tuples = s.tuples }) new
-entry-input s slot old new key is t depth enough =
+pub entry-input : (s : EntryFields) (field : Option ListedSimplex) (old new : List Token) (key : List ℕ) → key ≡ codes "in" → Fills simplex_of pairs_seen 2 s.input old field new
+    → Adds HoldEntry 2 key s old (record { input = field; tuples = s.tuples }) new
+entry-input s field old new key is t depth enough =
     let k = codes "in" in
-    let d = fill simplex_of pairs_seen 2 s.input slot old new t depth (omega (arith, enough)) in (
+    let d = fill simplex_of pairs_seen 2 s.input field old new t depth (omega (arith, enough)) in (
       d.0,
       d.1,
-      λ ms h. subst (λ name. HoldEntry (record { input = slot; tuples = s.tuples }) (put name d.0 ms)) (sym is) (record {
+      λ ms h. subst (λ name. HoldEntry (record { input = field; tuples = s.tuples }) (put name d.0 ms)) (sym is) (record {
         input = d.2.more k ms;
         tuples = other tuples_of (λ v. map (λ t. t.items) v.items) (codes "out") k d.0 ms s.tuples refl h.tuples;
         count = omega (arith, d.2.longer k ms h.input, h.count, d.2.none, d.2.one);
       }),
     )
 
-pub entry-tuples : (s : EntrySlots) (slot : Option (Vec (Vec ℕ Global) Global)) (old new : List Token) (key : List ℕ) → key ≡ codes "out" → Fills tuples_of (λ v. map (λ t. t.items) v.items) 2 s.tuples old slot new
-    → Adds HoldEntry 2 key s old (record { input = s.input; tuples = slot }) new
-entry-tuples s slot old new key is t depth enough =
+pub entry-tuples : (s : EntryFields) (field : Option (Vec (Vec ℕ Global) Global)) (old new : List Token) (key : List ℕ) → key ≡ codes "out" → Fills tuples_of (λ v. map (λ t. t.items) v.items) 2 s.tuples old field new
+    → Adds HoldEntry 2 key s old (record { input = s.input; tuples = field }) new
+entry-tuples s field old new key is t depth enough =
     let k = codes "out" in
-    let d = fill tuples_of (λ v. map (λ t. t.items) v.items) 2 s.tuples slot old new t depth (omega (arith, enough)) in (
+    let d = fill tuples_of (λ v. map (λ t. t.items) v.items) 2 s.tuples field old new t depth (omega (arith, enough)) in (
       d.0,
       d.1,
-      λ ms h. subst (λ name. HoldEntry (record { input = s.input; tuples = slot }) (put name d.0 ms)) (sym is) (record {
+      λ ms h. subst (λ name. HoldEntry (record { input = s.input; tuples = field }) (put name d.0 ms)) (sym is) (record {
         input = other simplex_of pairs_seen (codes "in") k d.0 ms s.input refl h.input;
         tuples = d.2.more k ms;
         count = omega (arith, d.2.longer k ms h.tuples, h.count, d.2.none, d.2.one);
@@ -119,16 +119,16 @@ pub tuples_seen : (before after : Option (Vec (Vec ℕ Global) Global)) (old new
 tuples_seen before None old new t = absurd t.1
 tuples_seen before (Some v) old new t = (t.0, subst (λ xs. Takes tuples_of 2 old xs new) (numbers_seen v.items) t.1)
 
--- ---- the slots of a draft
+-- ---- the fields of a draft
 
-pub draft-version : (s : DraftSlots) (slot : Option ℕ) (old new : List Token) (key : List ℕ) → key ≡ codes "version" → Fills whole_of (λ n. n) 0 s.version old slot new
-    → Adds HoldDraft 4 key s old (record { version = slot; least_block = s.least_block; processes = s.processes; symmetric = s.symmetric; inputs = s.inputs; outputs = s.outputs; delta = s.delta }) new
-draft-version s slot old new key is t depth enough =
+pub draft-version : (s : DraftFields) (field : Option ℕ) (old new : List Token) (key : List ℕ) → key ≡ codes "version" → Fills whole_of (λ n. n) 0 s.version old field new
+    → Adds HoldDraft 4 key s old (record { version = field; least_block = s.least_block; processes = s.processes; symmetric = s.symmetric; inputs = s.inputs; outputs = s.outputs; delta = s.delta }) new
+draft-version s field old new key is t depth enough =
     let k = codes "version" in
-    let d = fill whole_of (λ n. n) 0 s.version slot old new t depth (omega (arith, enough)) in (
+    let d = fill whole_of (λ n. n) 0 s.version field old new t depth (omega (arith, enough)) in (
       d.0,
       d.1,
-      λ ms h. subst (λ name. HoldDraft (record { version = slot; least_block = s.least_block; processes = s.processes; symmetric = s.symmetric; inputs = s.inputs; outputs = s.outputs; delta = s.delta }) (put name d.0 ms)) (sym is) (record {
+      λ ms h. subst (λ name. HoldDraft (record { version = field; least_block = s.least_block; processes = s.processes; symmetric = s.symmetric; inputs = s.inputs; outputs = s.outputs; delta = s.delta }) (put name d.0 ms)) (sym is) (record {
         version = d.2.more k ms;
         least_block = other whole_of (λ n. n) (codes "first_block") k d.0 ms s.least_block refl h.least_block;
         processes = other whole_of (λ n. n) (codes "processes") k d.0 ms s.processes refl h.processes;
@@ -140,14 +140,14 @@ draft-version s slot old new key is t depth enough =
       }),
     )
 
-pub draft-least_block : (s : DraftSlots) (slot : Option ℕ) (old new : List Token) (key : List ℕ) → key ≡ codes "first_block" → Fills whole_of (λ n. n) 0 s.least_block old slot new
-    → Adds HoldDraft 4 key s old (record { version = s.version; least_block = slot; processes = s.processes; symmetric = s.symmetric; inputs = s.inputs; outputs = s.outputs; delta = s.delta }) new
-draft-least_block s slot old new key is t depth enough =
+pub draft-least_block : (s : DraftFields) (field : Option ℕ) (old new : List Token) (key : List ℕ) → key ≡ codes "first_block" → Fills whole_of (λ n. n) 0 s.least_block old field new
+    → Adds HoldDraft 4 key s old (record { version = s.version; least_block = field; processes = s.processes; symmetric = s.symmetric; inputs = s.inputs; outputs = s.outputs; delta = s.delta }) new
+draft-least_block s field old new key is t depth enough =
     let k = codes "first_block" in
-    let d = fill whole_of (λ n. n) 0 s.least_block slot old new t depth (omega (arith, enough)) in (
+    let d = fill whole_of (λ n. n) 0 s.least_block field old new t depth (omega (arith, enough)) in (
       d.0,
       d.1,
-      λ ms h. subst (λ name. HoldDraft (record { version = s.version; least_block = slot; processes = s.processes; symmetric = s.symmetric; inputs = s.inputs; outputs = s.outputs; delta = s.delta }) (put name d.0 ms)) (sym is) (record {
+      λ ms h. subst (λ name. HoldDraft (record { version = s.version; least_block = field; processes = s.processes; symmetric = s.symmetric; inputs = s.inputs; outputs = s.outputs; delta = s.delta }) (put name d.0 ms)) (sym is) (record {
         version = other whole_of (λ n. n) (codes "version") k d.0 ms s.version refl h.version;
         least_block = d.2.more k ms;
         processes = other whole_of (λ n. n) (codes "processes") k d.0 ms s.processes refl h.processes;
@@ -159,14 +159,14 @@ draft-least_block s slot old new key is t depth enough =
       }),
     )
 
-pub draft-processes : (s : DraftSlots) (slot : Option ℕ) (old new : List Token) (key : List ℕ) → key ≡ codes "processes" → Fills whole_of (λ n. n) 0 s.processes old slot new
-    → Adds HoldDraft 4 key s old (record { version = s.version; least_block = s.least_block; processes = slot; symmetric = s.symmetric; inputs = s.inputs; outputs = s.outputs; delta = s.delta }) new
-draft-processes s slot old new key is t depth enough =
+pub draft-processes : (s : DraftFields) (field : Option ℕ) (old new : List Token) (key : List ℕ) → key ≡ codes "processes" → Fills whole_of (λ n. n) 0 s.processes old field new
+    → Adds HoldDraft 4 key s old (record { version = s.version; least_block = s.least_block; processes = field; symmetric = s.symmetric; inputs = s.inputs; outputs = s.outputs; delta = s.delta }) new
+draft-processes s field old new key is t depth enough =
     let k = codes "processes" in
-    let d = fill whole_of (λ n. n) 0 s.processes slot old new t depth (omega (arith, enough)) in (
+    let d = fill whole_of (λ n. n) 0 s.processes field old new t depth (omega (arith, enough)) in (
       d.0,
       d.1,
-      λ ms h. subst (λ name. HoldDraft (record { version = s.version; least_block = s.least_block; processes = slot; symmetric = s.symmetric; inputs = s.inputs; outputs = s.outputs; delta = s.delta }) (put name d.0 ms)) (sym is) (record {
+      λ ms h. subst (λ name. HoldDraft (record { version = s.version; least_block = s.least_block; processes = field; symmetric = s.symmetric; inputs = s.inputs; outputs = s.outputs; delta = s.delta }) (put name d.0 ms)) (sym is) (record {
         version = other whole_of (λ n. n) (codes "version") k d.0 ms s.version refl h.version;
         least_block = other whole_of (λ n. n) (codes "first_block") k d.0 ms s.least_block refl h.least_block;
         processes = d.2.more k ms;
@@ -178,14 +178,14 @@ draft-processes s slot old new key is t depth enough =
       }),
     )
 
-pub draft-symmetric : (s : DraftSlots) (slot : Option Bool) (old new : List Token) (key : List ℕ) → key ≡ codes "symmetric" → Fills as_bool (λ b. b) 0 s.symmetric old slot new
-    → Adds HoldDraft 4 key s old (record { version = s.version; least_block = s.least_block; processes = s.processes; symmetric = slot; inputs = s.inputs; outputs = s.outputs; delta = s.delta }) new
-draft-symmetric s slot old new key is t depth enough =
+pub draft-symmetric : (s : DraftFields) (field : Option Bool) (old new : List Token) (key : List ℕ) → key ≡ codes "symmetric" → Fills as_bool (λ b. b) 0 s.symmetric old field new
+    → Adds HoldDraft 4 key s old (record { version = s.version; least_block = s.least_block; processes = s.processes; symmetric = field; inputs = s.inputs; outputs = s.outputs; delta = s.delta }) new
+draft-symmetric s field old new key is t depth enough =
     let k = codes "symmetric" in
-    let d = fill as_bool (λ b. b) 0 s.symmetric slot old new t depth (omega (arith, enough)) in (
+    let d = fill as_bool (λ b. b) 0 s.symmetric field old new t depth (omega (arith, enough)) in (
       d.0,
       d.1,
-      λ ms h. subst (λ name. HoldDraft (record { version = s.version; least_block = s.least_block; processes = s.processes; symmetric = slot; inputs = s.inputs; outputs = s.outputs; delta = s.delta }) (put name d.0 ms)) (sym is) (record {
+      λ ms h. subst (λ name. HoldDraft (record { version = s.version; least_block = s.least_block; processes = s.processes; symmetric = field; inputs = s.inputs; outputs = s.outputs; delta = s.delta }) (put name d.0 ms)) (sym is) (record {
         version = other whole_of (λ n. n) (codes "version") k d.0 ms s.version refl h.version;
         least_block = other whole_of (λ n. n) (codes "first_block") k d.0 ms s.least_block refl h.least_block;
         processes = other whole_of (λ n. n) (codes "processes") k d.0 ms s.processes refl h.processes;
@@ -197,14 +197,14 @@ draft-symmetric s slot old new key is t depth enough =
       }),
     )
 
-pub draft-inputs : (s : DraftSlots) (slot : Option (Vec ListedSimplex Global)) (old new : List Token) (key : List ℕ) → key ≡ codes "inputs" → Fills (list_of simplex_of) (λ v. map pairs_seen v.items) 3 s.inputs old slot new
-    → Adds HoldDraft 4 key s old (record { version = s.version; least_block = s.least_block; processes = s.processes; symmetric = s.symmetric; inputs = slot; outputs = s.outputs; delta = s.delta }) new
-draft-inputs s slot old new key is t depth enough =
+pub draft-inputs : (s : DraftFields) (field : Option (Vec ListedSimplex Global)) (old new : List Token) (key : List ℕ) → key ≡ codes "inputs" → Fills (list_of simplex_of) (λ v. map pairs_seen v.items) 3 s.inputs old field new
+    → Adds HoldDraft 4 key s old (record { version = s.version; least_block = s.least_block; processes = s.processes; symmetric = s.symmetric; inputs = field; outputs = s.outputs; delta = s.delta }) new
+draft-inputs s field old new key is t depth enough =
     let k = codes "inputs" in
-    let d = fill (list_of simplex_of) (λ v. map pairs_seen v.items) 3 s.inputs slot old new t depth (omega (arith, enough)) in (
+    let d = fill (list_of simplex_of) (λ v. map pairs_seen v.items) 3 s.inputs field old new t depth (omega (arith, enough)) in (
       d.0,
       d.1,
-      λ ms h. subst (λ name. HoldDraft (record { version = s.version; least_block = s.least_block; processes = s.processes; symmetric = s.symmetric; inputs = slot; outputs = s.outputs; delta = s.delta }) (put name d.0 ms)) (sym is) (record {
+      λ ms h. subst (λ name. HoldDraft (record { version = s.version; least_block = s.least_block; processes = s.processes; symmetric = s.symmetric; inputs = field; outputs = s.outputs; delta = s.delta }) (put name d.0 ms)) (sym is) (record {
         version = other whole_of (λ n. n) (codes "version") k d.0 ms s.version refl h.version;
         least_block = other whole_of (λ n. n) (codes "first_block") k d.0 ms s.least_block refl h.least_block;
         processes = other whole_of (λ n. n) (codes "processes") k d.0 ms s.processes refl h.processes;
@@ -216,14 +216,14 @@ draft-inputs s slot old new key is t depth enough =
       }),
     )
 
-pub draft-outputs : (s : DraftSlots) (slot : Option (Vec ListedSimplex Global)) (old new : List Token) (key : List ℕ) → key ≡ codes "outputs" → Fills (list_of simplex_of) (λ v. map pairs_seen v.items) 3 s.outputs old slot new
-    → Adds HoldDraft 4 key s old (record { version = s.version; least_block = s.least_block; processes = s.processes; symmetric = s.symmetric; inputs = s.inputs; outputs = slot; delta = s.delta }) new
-draft-outputs s slot old new key is t depth enough =
+pub draft-outputs : (s : DraftFields) (field : Option (Vec ListedSimplex Global)) (old new : List Token) (key : List ℕ) → key ≡ codes "outputs" → Fills (list_of simplex_of) (λ v. map pairs_seen v.items) 3 s.outputs old field new
+    → Adds HoldDraft 4 key s old (record { version = s.version; least_block = s.least_block; processes = s.processes; symmetric = s.symmetric; inputs = s.inputs; outputs = field; delta = s.delta }) new
+draft-outputs s field old new key is t depth enough =
     let k = codes "outputs" in
-    let d = fill (list_of simplex_of) (λ v. map pairs_seen v.items) 3 s.outputs slot old new t depth (omega (arith, enough)) in (
+    let d = fill (list_of simplex_of) (λ v. map pairs_seen v.items) 3 s.outputs field old new t depth (omega (arith, enough)) in (
       d.0,
       d.1,
-      λ ms h. subst (λ name. HoldDraft (record { version = s.version; least_block = s.least_block; processes = s.processes; symmetric = s.symmetric; inputs = s.inputs; outputs = slot; delta = s.delta }) (put name d.0 ms)) (sym is) (record {
+      λ ms h. subst (λ name. HoldDraft (record { version = s.version; least_block = s.least_block; processes = s.processes; symmetric = s.symmetric; inputs = s.inputs; outputs = field; delta = s.delta }) (put name d.0 ms)) (sym is) (record {
         version = other whole_of (λ n. n) (codes "version") k d.0 ms s.version refl h.version;
         least_block = other whole_of (λ n. n) (codes "first_block") k d.0 ms s.least_block refl h.least_block;
         processes = other whole_of (λ n. n) (codes "processes") k d.0 ms s.processes refl h.processes;
@@ -235,14 +235,14 @@ draft-outputs s slot old new key is t depth enough =
       }),
     )
 
-pub draft-delta : (s : DraftSlots) (slot : Option (Vec Entry Global)) (old new : List Token) (key : List ℕ) → key ≡ codes "delta" → Fills (list_of entry_of) (λ v. map entry_seen v.items) 4 s.delta old slot new
-    → Adds HoldDraft 4 key s old (record { version = s.version; least_block = s.least_block; processes = s.processes; symmetric = s.symmetric; inputs = s.inputs; outputs = s.outputs; delta = slot }) new
-draft-delta s slot old new key is t depth enough =
+pub draft-delta : (s : DraftFields) (field : Option (Vec Entry Global)) (old new : List Token) (key : List ℕ) → key ≡ codes "delta" → Fills (list_of entry_of) (λ v. map entry_seen v.items) 4 s.delta old field new
+    → Adds HoldDraft 4 key s old (record { version = s.version; least_block = s.least_block; processes = s.processes; symmetric = s.symmetric; inputs = s.inputs; outputs = s.outputs; delta = field }) new
+draft-delta s field old new key is t depth enough =
     let k = codes "delta" in
-    let d = fill (list_of entry_of) (λ v. map entry_seen v.items) 4 s.delta slot old new t depth (omega (arith, enough)) in (
+    let d = fill (list_of entry_of) (λ v. map entry_seen v.items) 4 s.delta field old new t depth (omega (arith, enough)) in (
       d.0,
       d.1,
-      λ ms h. subst (λ name. HoldDraft (record { version = s.version; least_block = s.least_block; processes = s.processes; symmetric = s.symmetric; inputs = s.inputs; outputs = s.outputs; delta = slot }) (put name d.0 ms)) (sym is) (record {
+      λ ms h. subst (λ name. HoldDraft (record { version = s.version; least_block = s.least_block; processes = s.processes; symmetric = s.symmetric; inputs = s.inputs; outputs = s.outputs; delta = field }) (put name d.0 ms)) (sym is) (record {
         version = other whole_of (λ n. n) (codes "version") k d.0 ms s.version refl h.version;
         least_block = other whole_of (λ n. n) (codes "first_block") k d.0 ms s.least_block refl h.least_block;
         processes = other whole_of (λ n. n) (codes "processes") k d.0 ms s.processes refl h.processes;
@@ -254,7 +254,7 @@ draft-delta s slot old new key is t depth enough =
       }),
     )
 
--- ---- full slots
+-- ---- full fields
 
 under_key : {X : Type 0} (f : Data → Option X) (found : Option Data) (x : X) → option_map f found ≡ Some (Some x) → (d : Data) × (found ≡ Some d) × (f d ≡ Some x)
 under_key f None x e = cc
@@ -285,17 +285,17 @@ block-found : (version : ℕ) (found : Option Data) (least_block : Option ℕ) �
 block-found version found None named e = rw named refl
 block-found version found (Some m) named e = rw (named, value-found FirstBlock whole_of found m e) refl
 
-count-found : (least_block : Option ℕ) (n : ℕ) → n ≡ 6 + filled least_block → (n == key_count least_block) ≡ true
+count-found : (least_block : Option ℕ) (n : ℕ) → n ≡ 6 + held least_block → (n == key_count least_block) ≡ true
 count-found None n e = eq-eqb n 6 e
 count-found (Some m) n e = eq-eqb n 7 e
 
--- the draft of the members that full slots hold
-pub draft-found : (s : DraftSlots) (draft : Draft) (ms : Members) → HoldDraft s ms → (draft.version == 2) ≡ is_some draft.least_block
+-- the draft of the members that full fields hold
+pub draft-found : (s : DraftFields) (draft : Draft) (ms : Members) → HoldDraft s ms → (draft.version == 2) ≡ is_some draft.least_block
     → s ≡ record { version = Some draft.version; least_block = draft.least_block; processes = Some draft.processes; symmetric = Some draft.symmetric; inputs = Some draft.inputs; outputs = Some draft.outputs; delta = Some draft.delta }
     → draft_of (object ms) ≡ Ok (draft_seen draft)
 unfolding draft_of
 draft-found s draft ms any named is =
-    let h = subst (λ slots. HoldDraft slots ms) is any in
+    let h = subst (λ fields. HoldDraft fields ms) is any in
     rw (value-found Version whole_of (get_member (codes "version") ms) draft.version h.version)
     (rw (block-found draft.version (get_member (codes "first_block") ms) draft.least_block named h.least_block)
     (rw (value-found Processes whole_of (get_member (codes "processes") ms) draft.processes h.processes)
