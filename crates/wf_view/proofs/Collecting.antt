@@ -1,12 +1,10 @@
 -- The views inside a view, collected from the greatest number down.
-use Rattle.std.proofs.Common.{◌≡◌, ◌<◌, ◌≤◌, ◌==◌, ◌||◌, ℕ, Bool, true, false, nat_lt, List, [], ◌∷◌, ◌++◌, map, length, reverse, All, fold, sym, refl, ap, ◌∙◌, subst, inl, inr, arith, ltb-true, eqb-true, eq-eqb, append_assoc}
+use Rattle.std.proofs.Common.{◌≡◌, ◌<◌, ◌≤◌, ◌+◌, ◌==◌, ◌&&◌, ◌||◌, ℕ, zero, suc, take, drop, get_or, ⊎_elim, Bool, true, false, nat_lt, List, [], ◌∷◌, ◌++◌, map, length, reverse, All, fold, sym, refl, ap, ◌∙◌, subst, inl, inr, arith, ltb-true, eqb-true, eq-eqb, append_assoc}
 use Rattle.std.specs.BTreeSet.{insert_key}
-use Rattle.std.specs.BTreeMap.Range.{IsLtBy}
-use Rattle.std.specs.List.{list_any, AllByRecursion}
+use Rattle.std.specs.List.{list_any, AllByRecursion, insert}
 use Rattle.std.specs.Ordering.{nat_cmp}
-use Rattle.std.specs.declared.cmp.Ordering.TheVariants.{Less, Equal, Greater}
-use Rattle.std.proofs.lemmas.Bool.{cases_Bool, or_cases, or_left, or_right, false≢true}
-use Rattle.std.proofs.lemmas.List.{length-map, map-append, reverse-append}
+use Rattle.std.proofs.lemmas.Bool.{cases_Bool, cases_lt, cases_order, eqb-false, and_from, and_parts, le-ltb, lt-ltb, ltb-false, ne_eqb, or_cases, or_left, or_right, false≢true}
+use Rattle.std.proofs.lemmas.List.{drop_all, drop_more, length-map, map-append, reverse-append, take-append-drop}
 use Rattle.std.proofs.lemmas.List.Elements.{recursion_from_All, All-from_recursion}
 use Rattle.std.proofs.lemmas.Map.Views.{All-insert_key}
 use Rattle.wf_model.specs.Lists.{has}
@@ -66,15 +64,72 @@ among_put f ys (n ∷ ns) = (
   among_put f (insert_key nat_cmp ys n) ns,
 )
 
-less_is : (x y : ℕ) → nat_cmp x y ≡ Less → x < y
-less_is x y h =
-    elim (cases_Bool (nat_lt x y)) [
-      | inl less ↦ ltb-true x y less
-      | inr more ↦ absurd (elim (cases_Bool (x == y)) [
-        | inl same ↦ (let e : Equal ≡ Less = (rw same at (rw more at h)) in let none : ⊥ = cc in none)
-        | inr other ↦ (let e : Greater ≡ Less = (rw other at (rw more at h)) in let none : ⊥ = cc in none)
+-- a number past all that are lower
+put_past : (p : ℕ) (xs : List ℕ) (n : ℕ) → AllByRecursion (λ k. k < n) (take p xs) → insert_key nat_cmp xs n ≡ take p xs ++ insert_key nat_cmp (drop p xs) n
+put_past zero xs n h = refl
+put_past (suc p) [] n h = refl
+put_past (suc p) (x ∷ xs) n h =
+    let less : x < n = h.0 in
+    rw (le-ltb n x (omega (arith, less))) (rw (ne_eqb n x (λ (e : n ≡ x). absurd (omega (arith, e, less)))) (ap (λ l. x ∷ l) (put_past p xs n h.1)))
+
+put_first : (n y : ℕ) (ys : List ℕ) → n < y → insert_key nat_cmp (y ∷ ys) n ≡ n ∷ y ∷ ys
+put_first n y ys less = rw (lt-ltb n y less) refl
+
+put_same : (n y : ℕ) (ys : List ℕ) → y ≡ n → insert_key nat_cmp (y ∷ ys) n ≡ y ∷ ys
+put_same n y ys same = rw (le-ltb n y (omega (arith, same))) (rw (eq-eqb n y (sym same)) refl)
+
+put_new : (p : ℕ) (xs : List ℕ) (n : ℕ) → p ≤ length xs → AllByRecursion (λ k. k < n) (take p xs) → (p < length xs → n < get_or xs p 0) → insert xs p n ≡ insert_key nat_cmp xs n
+put_new p xs n within lower first =
+    ⊎_elim
+    (λ (lt : p < length xs).
+    let e = drop_more xs p 0 lt in
+    sym (put_past p xs n lower ∙ ap (λ l. take p xs ++ insert_key nat_cmp l n) e ∙ ap (λ l. take p xs ++ l) (put_first n (get_or xs p 0) (drop (p + 1) xs) (first lt)) ∙ ap (λ l. take p xs ++ n ∷ l) (sym e)))
+    (λ (all : length xs ≤ p).
+    let e = drop_all p xs all in
+    sym (put_past p xs n lower ∙ ap (λ l. take p xs ++ insert_key nat_cmp l n) e ∙ ap (λ l. take p xs ++ n ∷ l) (sym e)))
+    (cases_lt p (length xs))
+
+put_old : (p : ℕ) (xs : List ℕ) (n : ℕ) → p < length xs → AllByRecursion (λ k. k < n) (take p xs) → get_or xs p 0 ≡ n → xs ≡ insert_key nat_cmp xs n
+put_old p xs n lt lower same =
+    let e = drop_more xs p 0 lt in
+    sym (put_past p xs n lower ∙ ap (λ l. take p xs ++ insert_key nat_cmp l n) e ∙ ap (λ l. take p xs ++ l) (put_same n (get_or xs p 0) (drop (p + 1) xs) same) ∙ ap (λ l. take p xs ++ l) (sym e) ∙ take-append-drop p xs)
+
+-- whether the number stands at its place
+module _ (p : ℕ) (xs : List ℕ) (n : ℕ) (b : Bool) (lower : All (λ k. k < n) (take p xs)) (is : b ≡ (nat_lt p (length xs) && get_or xs p 0 == n)) where
+  pub put_here : b ≡ true → xs ≡ insert_key nat_cmp xs n
+  put_here stands =
+      let both = and_parts (nat_lt p (length xs)) (get_or xs p 0 == n) (sym is ∙ stands) in
+      put_old p xs n (ltb-true p (length xs) both.0) (recursion_from_All (λ k. k < n) (take p xs) lower) (eqb-true (get_or xs p 0) n both.1)
+
+  pub put_there : b ≡ false → p ≤ length xs → (p < length xs → n ≤ get_or xs p 0) → insert xs p n ≡ insert_key nat_cmp xs n
+  put_there lacks within first =
+      put_new p xs n within (recursion_from_All (λ k. k < n) (take p xs) lower)
+      (λ lt. let other = (λ (e : get_or xs p 0 ≡ n). absurd (false≢true (sym lacks ∙ is ∙ and_from (nat_lt p (length xs)) (get_or xs p 0 == n) (lt-ltb p (length xs) lt) (eq-eqb (get_or xs p 0) n e)))) in strictly n (get_or xs p 0) (first lt) other)
+    where
+      strictly : (m k : ℕ) → m ≤ k → (k ≡ m → ⊥) → m < k
+      strictly m k le ne = ⊎_elim (λ (e : m ≡ k). absurd (ne (sym e))) (λ e. ⊎_elim (λ (l : m < k). l) (λ (g : k < m). absurd (omega (arith, g, le))) e) (cases_order m k)
+
+ascends_put : (xs : List ℕ) (n : ℕ) → Ascends xs → Ascends (insert_key nat_cmp xs n)
+ascends_put [] n h = (tt, tt)
+ascends_put (x ∷ xs) n h =
+    elim (cases_Bool (nat_lt n x)) [
+      | inl less ↦ rw less ((ltb-true n x less, weaker (λ z. x < z) (λ z. n < z) (λ z low. let k = ltb-true n x less in omega (arith, low, k)) xs h.0), h)
+      | inr more ↦ rw more (elim (cases_Bool (n == x)) [
+        | inl same ↦ rw same h
+        | inr other ↦ rw other (
+          recursion_from_All (λ z. x < z) (insert_key nat_cmp xs n)
+              (All-insert_key nat_cmp n (λ z. x < z) xs (All-from_recursion (λ z. x < z) xs h.0) (above n x more other)),
+          ascends_put xs n h.1,
+        )
       ])
     ]
+  where
+    above : (n x : ℕ) → nat_lt n x ≡ false → (n == x) ≡ false → x < n
+    above n x more other = ⊎_elim (λ (e : n ≡ x). absurd (eqb-false n x other e)) (λ e. ⊎_elim (λ (l : n < x). absurd (let k = ltb-false n x more in omega (arith, k, l))) (λ (g : x < n). g) e) (cases_order n x)
+
+ascends_all : (xs ns : List ℕ) → Ascends xs → Ascends (fold (insert_key nat_cmp) xs ns)
+ascends_all xs [] h = h
+ascends_all xs (n ∷ ns) h = ascends_all (insert_key nat_cmp xs n) ns (ascends_put xs n h)
 
 -- ---- one number more at the end
 
@@ -85,6 +140,14 @@ each_last P (y ∷ xs) x h = each_last P xs x h.1
 each_front : (P : ℕ → Type 0) (xs : List ℕ) (x : ℕ) → AllByRecursion P (xs ++ x ∷ []) → AllByRecursion P xs
 each_front P [] x h = tt
 each_front P (y ∷ xs) x h = (h.0, each_front P xs x h.1)
+
+last_above : (xs : List ℕ) (x : ℕ) → Ascends (xs ++ x ∷ []) → AllByRecursion (λ k. k < x) xs
+last_above [] x h = tt
+last_above (y ∷ xs) x h = (each_last (λ z. y < z) xs x h.0, last_above xs x h.1)
+
+front_ascends : (xs : List ℕ) (x : ℕ) → Ascends (xs ++ x ∷ []) → Ascends xs
+front_ascends [] x h = tt
+front_ascends (y ∷ xs) x h = (each_front (λ z. y < z) xs x h.0, front_ascends xs x h.1)
 
 saw_among_more : (vs : List View) (a b : List ℕ) → ((w : View) → Among (map (view_at vs) a) w → Among (map (view_at vs) b) w) → (id : ℕ) → SawAmong vs id a → SawAmong vs id b
 saw_among_more vs a b f id h =
@@ -113,6 +176,7 @@ first_of n (x ∷ xs) = x
 -- the numbers that are open, and those that are done
 pub record IsCollecting (vs : List View) (id : ℕ) (open_ done : List ℕ) : Type 0 where
   pub ascends : Ascends done
+  pub sorted : Ascends open_
   pub low : AllByRecursion (λ k. k < first_of (length vs) done) open_
   pub below : first_of (length vs) done ≤ length vs
   pub numbers : AllByRecursion (λ k. k < length vs) done
@@ -124,6 +188,7 @@ pub record IsCollecting (vs : List View) (id : ℕ) (open_ done : List ℕ) : Ty
 pub collecting_none : (vs : List View) (id : ℕ) → id < length vs → IsCollecting vs id (id ∷ []) []
 collecting_none vs id h = record {
   ascends = tt;
+  sorted = (tt, tt);
   low = (h, tt);
   below = omega arith;
   numbers = tt;
@@ -151,9 +216,9 @@ ascends_before n x [] h k = (tt, tt)
 ascends_before n x (y ∷ xs) h k = ((h, weaker (λ z. y < z) (λ z. x < z) (λ z low. omega (arith, low, h)) xs k.0), k)
 
 -- the greatest of the open numbers is done, and its parts are put among the open ones
-pub collecting_more : (vs : List View) (id : ℕ) (all left_ after done ps : List ℕ) (x : ℕ) → IsCollecting vs id all done → all ≡ left_ ++ x ∷ [] → All (λ q. IsLtBy nat_cmp q x) left_ →
+pub collecting_more : (vs : List View) (id : ℕ) (all left_ after done ps : List ℕ) (x : ℕ) → IsCollecting vs id all done → all ≡ left_ ++ x ∷ [] →
     map (view_at vs) ps ≡ inner_views (view_at vs x) → All (λ k. k < x) ps → after ≡ fold (insert_key nat_cmp) left_ ps → IsCollecting vs id after (x ∷ done)
-collecting_more vs id all left_ after done ps x is split lower seen_ earlier put =
+collecting_more vs id all left_ after done ps x is split seen_ earlier put =
     let now : IsCollecting vs id (left_ ++ x ∷ []) done = subst (λ ks. IsCollecting vs id ks done) split is in
     let high : x < first_of (length vs) done = each_last (λ k. k < first_of (length vs) done) left_ x now.low in
     let here : x < length vs = omega (arith, high, now.below) in
@@ -161,7 +226,8 @@ collecting_more vs id all left_ after done ps x is split lower seen_ earlier put
     let x_within = each_last (λ k. Among (views_within (view_at vs id)) (view_at vs k)) left_ x now.open_within in
     subst (λ ks. IsCollecting vs id ks (x ∷ done)) (sym put) (record {
       ascends = ascends_before (length vs) x done high now.ascends;
-      low = recursion_from_All (λ k. k < x) (fold (insert_key nat_cmp) left_ ps) (each_put (λ k. k < x) left_ ps (below_x left_ x lower) (recursion_from_All (λ k. k < x) ps earlier));
+      sorted = ascends_all left_ ps (front_ascends left_ x now.sorted);
+      low = recursion_from_All (λ k. k < x) (fold (insert_key nat_cmp) left_ ps) (each_put (λ k. k < x) left_ ps (All-from_recursion (λ k. k < x) left_ (last_above left_ x now.sorted)) (recursion_from_All (λ k. k < x) ps earlier));
       below = omega (arith, here);
       numbers = (here, now.numbers);
       itself =
@@ -181,9 +247,6 @@ collecting_more vs id all left_ after done ps x is split lower seen_ earlier put
           (each_of_map (Among (views_within (view_at vs id))) (view_at vs) ps (subst (AllByRecursion (Among (views_within (view_at vs id)))) (sym seen_) (within_within v (view_at vs x) x_within))));
       done_within = (x_within, now.done_within);
     })
-  where
-    below_x : (ks : List ℕ) (m : ℕ) → All (λ q. IsLtBy nat_cmp q m) ks → All (λ k. k < m) ks
-    below_x ks m h = All-from_recursion (λ k. k < m) ks (weaker (λ q. nat_cmp q m ≡ Less) (λ k. k < m) (λ k e. less_is k m e) ks (recursion_from_All (λ q. nat_cmp q m ≡ Less) ks h))
 
 -- ---- collected
 

@@ -1,6 +1,6 @@
 //! The table of views.
 
-ghost use Rattle.std.specs.Prelude.{◌≡◌, ◌<◌, ◌≤◌, ◌^◌, bit_or, true, [], ◌+◌, length, take, All, map, is_ok, OnOk, IfOk, IfSome, Some, slice_get};
+ghost use Rattle.std.specs.Prelude.{◌≡◌, ◌==◌, ◌&&◌, nat_lt, slice_index, ◌<◌, ◌≤◌, ◌^◌, bit_or, true, [], ◌+◌, length, take, All, map, is_ok, OnOk, IfOk, IfSome, Some, slice_get};
 ghost use Rattle.std.specs.HashMap.{get};
 ghost use Rattle.std.specs.BTreeSet.{insert_key};
 ghost use Rattle.std.specs.List.{fold};
@@ -16,7 +16,7 @@ ghost use Rattle.wf_view.specs.Renaming.{rank_in, renamed_at, SawAmong, AreInsid
 
 use crate::node::{Node, input, number_beside, renumber, snapshot};
 use std::alloc::{AllocError, Global};
-use std::collections::{BTreeSet, HashMap};
+use std::collections::HashMap;
 use std::marker::Model;
 
 /// Views under numbers from 0 on, each once. In contracts a table is the list of its views.
@@ -31,6 +31,9 @@ pub struct Views {
 
 /// How many entries that were numbered lately are looked at first.
 const RECENT: usize = 256;
+
+/// Room is made for so many views inside a view, and more where there are more.
+const ROOM: usize = 16;
 
 impl Model for Views {
     ghost use Rattle.std.specs.Prelude.{List};
@@ -176,10 +179,10 @@ impl Views {
         requires { id < length self.now }
         ensures { IfOk result (λ ids. AreInside self.now id ids.items) }
     {
-        let mut open = BTreeSet::new(*self.nodes.allocator());
-        let mut inside = Vec::new(*self.nodes.allocator());
-        open.insert(id)?;
-        while let Some(greatest) = open.pop_last() {
+        let mut open = Vec::with_capacity(*self.nodes.allocator(), ROOM)?;
+        let mut inside = Vec::with_capacity(*self.nodes.allocator(), ROOM)?;
+        open.push_reserved(id);
+        while let Some(greatest) = open.pop() {
             inside.push(greatest)?;
             put_all(&mut open, self.parts(greatest))?;
         }
@@ -295,14 +298,50 @@ fn process_bits_seen(bits: &[u8], process: u8, ids: &[u32]) -> u8
     all
 }
 
-/// Puts these numbers into the set.
-fn put_all(set: &mut BTreeSet<u32>, numbers: &[u32]) -> Result<(), AllocError>
-    ensures { OnOk result (set.new.keys ≡ fold (insert_key nat_cmp) set.old.keys numbers.now) }
+/// Puts these numbers among others that ascend, each once. There are few others: of the views
+/// inside a view of an execution at most four a round.
+fn put_all(among: &mut Vec<u32>, numbers: &[u32]) -> Result<(), AllocError>
+    ensures { OnOk result
+        (among.new.items ≡ fold (insert_key nat_cmp) among.old.items numbers.now) }
 {
     for number in numbers {
-        set.insert(*number)?;
+        put(among, *number)?;
     }
     Ok(())
+}
+
+/// Puts a number before the first that is no lower, unless it stands there.
+fn put(among: &mut Vec<u32>, number: u32) -> Result<(), AllocError>
+    ensures { OnOk result (among.new.items ≡ insert_key nat_cmp among.old.items number) }
+{
+    let place = place_of(among, number);
+    if stands_at(among, place, number) {
+        return Ok(());
+    }
+    among.insert(place, number)?;
+    Ok(())
+}
+
+/// The place of the first number that is no lower than this one.
+fn place_of(numbers: &[u32], number: u32) -> usize
+    ensures within { result ≤ length numbers.now }
+    ensures lower { All (λ n. n < number) (take result numbers.now) }
+    ensures first { result < length numbers.now → number ≤ slice_index numbers.now result }
+{
+    for place in 0..numbers.len() {
+        if numbers[place] >= number {
+            return place;
+        }
+    }
+    numbers.len()
+}
+
+/// Whether the number stands at the place.
+fn stands_at(numbers: &[u32], place: usize, number: u32) -> bool
+    ensures { result ≡ (nat_lt place (length numbers.now)
+        && slice_index numbers.now place == number) }
+{
+    place < numbers.len() && numbers[place] == number
 }
 
 /// How many processes of a set are below this one: bit p is set where process p is in the set.

@@ -7,6 +7,6 @@ use Rattle.wf_view.proofs.views.put_all.Goals as goal
 
 pub loop-number-preserved : goal.loop-number-preserved
 loop-number-preserved c =
-    ap (λ ks. fold (insert_key nat_cmp) ks (drop (c.loop-number.number-index + 1) c.args.numbers.now)) c.in_ok-insert.ensures.keys
-    ∙ ap (fold (insert_key nat_cmp) c.loop-number.set.keys) (sym (drop_more c.args.numbers.now c.loop-number.number-index 0 c.loop-number-test.true))
+    ap (λ ks. fold (insert_key nat_cmp) ks (drop (c.loop-number.number-index + 1) c.args.numbers.now)) c.in_ok-put.ensures
+    ∙ ap (fold (insert_key nat_cmp) c.loop-number.among.items) (sym (drop_more c.args.numbers.now c.loop-number.number-index 0 c.loop-number-test.true))
     ∙ c.loop-number.invariant

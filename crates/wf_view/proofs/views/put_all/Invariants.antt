@@ -5,4 +5,4 @@ use Rattle.std.specs.Ordering.{nat_cmp}
 use Rattle.wf_view.proofs.views.put_all.Given as goal
 
 abbrev pub invariant-loop-number : goal.invariant-loop-number
-invariant-loop-number l = fold (insert_key nat_cmp) l.set.keys (drop l.number-index l.numbers) ≡ fold (insert_key nat_cmp) l.initial.set.keys l.numbers
+invariant-loop-number l = fold (insert_key nat_cmp) l.among.items (drop l.number-index l.numbers) ≡ fold (insert_key nat_cmp) l.initial.among.items l.numbers
