@@ -51,10 +51,6 @@ is_among sets r = is_one_of (slice_index sets 0) r.first && is_one_of (slice_ind
 abbrev pub is_met : List ℕ → List ℕ → ℕ → ℕ → Bool
 is_met live words start v = not (ors (zip2 bit_and live (row_sets (is_value v) words start block_words)) == 0)
 
--- the set of the rows that have a value, over so many blocks
-abbrev pub rows_of_value : ℕ → List ℕ → ℕ → List ℕ
-rows_of_value v words blocks = row_sets (is_value v) words 0 (block_words * blocks)
-
 -- ---- columns
 
 -- where the rows are cut into blocks, the set of rows of each value that occurs stands at its start
