@@ -5,10 +5,11 @@ ghost use Rattle.clap.specs.Words.{app_of};
 ghost use Rattle.wf_args.specs.CommandLine as line;
 ghost use Rattle.wf_args.specs.Building.{Adds, IsLeaf, IsOption, with_first};
 
+use crate::limits::MOST_WORKERS;
 use crate::version::VERSION;
 use clap::{Arg, ArgAction, Command, value_parser};
 use std::alloc::{AllocError, Global};
-use wf_pool::MAX_WORKERS;
+
 /// What the help of `preset` says of the kinds.
 const KINDS: &str =
     "Kinds:\n  set-agreement  Each process decides the input of some participant, and at most K different values are\n                 decided (k-set agreement: Chaudhuri 1993)\n  renaming       The processes decide different names (Attiya, Bar-Noy, Dolev, Peleg and Reischuk 1990)";
@@ -57,7 +58,7 @@ fn rounds<'a>(alloc: Global) -> Arg<'a>
 fn workers<'a>(alloc: Global) -> Arg<'a>
     ensures { IsOption (line.required line.workers_option) result }
 {
-    let most = MAX_WORKERS as i64;
+    let most = MOST_WORKERS as i64;
     number(
         alloc,
         "workers",

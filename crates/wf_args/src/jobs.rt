@@ -9,11 +9,11 @@ ghost use Rattle.wf_args.specs.declared.slip.Slip.TheVariants as slip;
 ghost use Rattle.wf_args.specs.Asked.{Answers, this_or_slip, asked_in, asked_of, branch_job, branches_asked, cnf_asked, executions_asked, explain_asked, has_flag, join_asked, lift_asked, model_asked, number_of, points_asked, preset_job_asked, proof_asked, solve_asked, trim_asked, verify_asked, verify_branch, verify_whole, views_asked, workers_of};
 
 use crate::forms::form_of;
+use crate::limits::MOST_WORKERS;
 use crate::presets::Options;
 use crate::{Job, Piece, Slip, WordsFault};
 use clap::ArgMatches;
 use std::alloc::Global;
-use wf_pool::MAX_WORKERS;
 use wf_report::Form;
 
 /// The number of an option, if it is given.
@@ -36,7 +36,7 @@ fn workers(found: &ArgMatches<'_>) -> Option<u32>
     ensures limits { IfSome result (λ w. (0 < w) × (w ≤ most_workers)) }
 {
     let workers = number(found, "workers")?;
-    if 0 < workers && workers <= MAX_WORKERS {
+    if 0 < workers && workers <= MOST_WORKERS {
         Some(workers)
     } else {
         None

@@ -11,6 +11,7 @@ ghost use Rattle.wf_args.specs.Job.{CanBeDone};
 mod command;
 mod forms;
 mod jobs;
+mod limits;
 mod presets;
 mod slip;
 mod version;
@@ -33,7 +34,7 @@ pub enum Job {
     Solve {
         /// How many rounds.
         rounds: u32,
-        /// How many workers, from 1 to [`wf_pool::MAX_WORKERS`].
+        /// How many workers, from 1 to 64.
         workers: u32,
         /// How much of what is found is written.
         form: Form,

@@ -3,8 +3,8 @@
 ghost use Rattle.std.specs.Prelude.{Some};
 ghost use Rattle.wf_args.specs.Slips.{piece_text, slip_text};
 
+use crate::limits::MOST_WORKERS;
 use std::fmt;
-use wf_pool::MAX_WORKERS;
 
 /// A piece of the command line that a slip names. Its text is the piece as it is written there.
 #[derive(Clone, Copy, Debug, PartialEq, Eq)]
@@ -100,7 +100,7 @@ impl fmt::Display for Slip {
                 write!(f, "the argument '{one}' cannot be used with '{other}'")
             }
             Slip::OtherKind => write!(f, "a preset is 'set-agreement' or 'renaming'"),
-            Slip::Workers => write!(f, "'--workers' takes a number from 1 to {MAX_WORKERS}"),
+            Slip::Workers => write!(f, "'--workers' takes a number from 1 to {MOST_WORKERS}"),
         }
     }
 }
