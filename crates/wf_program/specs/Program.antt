@@ -154,56 +154,54 @@ abbrev pub ListsQuestion : Option ℕ → ℕ → Reading → Reading → Writin
 ListsQuestion None rounds source source' sink sink' result = Lists question_text rounds source source' sink sink' result
 ListsQuestion (Some branch) rounds source source' sink sink' result = ListsBranch branch_text rounds branch source source' sink sink' result
 
--- a text of the source's task after so many rounds was written, and no file was asked for
-abbrev pub ListsOf : {F : Type 0} → (Task → ℕ → List ℕ) → ℕ → Filing F → Filing F → Reading → Reading → Writing → Writing → Result Done Refusal → Type 0
-ListsOf text_of rounds folder folder' source source' sink sink' done =
-    (result : Result (Unit {0}) RunFault) × Lists text_of rounds source source' sink sink' result
-    × (folder' ≡ folder) × (done ≡ written result)
+-- a text of the source's task after so many rounds was written
+abbrev pub ListsOf : (Task → ℕ → List ℕ) → ℕ → Reading → Reading → Writing → Writing → Result Done Refusal → Type 0
+ListsOf text_of rounds source source' sink sink' done =
+    (result : Result (Unit {0}) RunFault) × Lists text_of rounds source source' sink sink' result × (done ≡ written result)
 
--- what a job asks for was done, its file among those that may be opened under
--- its path; without one no file was asked for
-abbrev pub Does : {F : Type 0} → Opens → Job → Filing F → Filing F → Reading → Reading → Writing → Writing → Result Done Refusal → Type 0
-Does opens (Solve rounds workers form true progress) folder folder' source source' sink sink' done =
+-- what a job without a file does
+abbrev pub DoesAlone : Job → Reading → Reading → Writing → Writing → Result Done Refusal → Type 0
+DoesAlone (Solve rounds workers form true progress) source source' sink sink' done =
     (result : Result (Outcome × Account) RunFault) × Solves rounds form source source' sink sink' result
-    × (workers ≡ 1 → SearchesInOrder result) × (folder' ≡ folder) × (done ≡ solved result)
-Does opens (Solve rounds workers form false progress) folder folder' source source' sink sink' done =
-    (result : Result Outcome RunFault) × Finds rounds form source source' sink sink' result
-    × (folder' ≡ folder) × (done ≡ searched result)
-Does opens (SolveBranch rounds branch form progress) folder folder' source source' sink sink' done =
-    (result : Result Outcome RunFault) × SolvesBranch rounds branch form source source' sink sink' result
-    × (folder' ≡ folder) × (done ≡ searched result)
-Does opens (Executions rounds) folder folder' source source' sink sink' done =
-    ListsOf executions_text rounds folder folder' source source' sink sink' done
-Does opens (Verify task rounds) folder folder' source source' sink sink' done =
-    WithFile (opens (string_bytes task)) (DoesWithFile (filed.Verify rounds)) folder folder' source source' sink sink' done
-Does opens (VerifyBranch task rounds branch) folder folder' source source' sink sink' done =
-    WithFile (opens (string_bytes task)) (DoesWithFile (filed.VerifyBranch rounds branch)) folder folder' source source' sink sink' done
-Does opens (Views rounds) folder folder' source source' sink sink' done =
-    ListsOf views_text rounds folder folder' source source' sink sink' done
-Does opens (Points rounds) folder folder' source source' sink sink' done =
-    ListsOf undecided_points rounds folder folder' source source' sink sink' done
-Does opens (Branches rounds) folder folder' source source' sink sink' done =
-    ListsOf branches_text rounds folder folder' source source' sink sink' done
-Does opens (Join task rounds) folder folder' source source' sink sink' done =
-    WithFile (opens (string_bytes task)) (DoesWithFile (filed.Join rounds)) folder folder' source source' sink sink' done
-Does opens (Cnf rounds branch) folder folder' source source' sink sink' done =
-    (result : Result (Unit {0}) RunFault) × ListsQuestion branch rounds source source' sink sink' result
-    × (folder' ≡ folder) × (done ≡ written result)
-Does opens (Model task rounds) folder folder' source source' sink sink' done =
-    WithFile (opens (string_bytes task)) (DoesWithFile (filed.Model rounds)) folder folder' source source' sink sink' done
-Does opens (Proof task rounds branch) folder folder' source source' sink sink' done =
-    WithFile (opens (string_bytes task)) (DoesWithFile (filed.Proof rounds branch)) folder folder' source source' sink sink' done
-Does opens (Decisions task) folder folder' source source' sink sink' done =
-    WithFile (opens (string_bytes task)) (DoesWithFile filed.Decisions) folder folder' source source' sink sink' done
-Does opens (Trim task) folder folder' source source' sink sink' done =
-    WithFile (opens (string_bytes task)) (DoesWithFile filed.Trim) folder folder' source source' sink sink' done
-Does opens (Explain task) folder folder' source source' sink sink' done =
-    WithFile (opens (string_bytes task)) (DoesWithFile filed.Explain) folder folder' source source' sink sink' done
-Does opens (Lift task rounds) folder folder' source source' sink sink' done =
-    WithFile (opens (string_bytes task)) (DoesWithFile (filed.Lift rounds)) folder folder' source source' sink sink' done
-Does opens (Preset preset) folder folder' source source' sink sink' done =
-    (result : Result (Unit {0}) RunFault) × WritesPreset preset sink sink' result × (source' ≡ source)
-    × (folder' ≡ folder) × (done ≡ written result)
+    × (workers ≡ 1 → SearchesInOrder result) × (done ≡ solved result)
+DoesAlone (Solve rounds workers form false progress) source source' sink sink' done =
+    (result : Result Outcome RunFault) × Finds rounds form source source' sink sink' result × (done ≡ searched result)
+DoesAlone (SolveBranch rounds branch form progress) source source' sink sink' done =
+    (result : Result Outcome RunFault) × SolvesBranch rounds branch form source source' sink sink' result × (done ≡ searched result)
+DoesAlone (Views rounds) source source' sink sink' done = ListsOf views_text rounds source source' sink sink' done
+DoesAlone (Points rounds) source source' sink sink' done = ListsOf undecided_points rounds source source' sink sink' done
+DoesAlone (Branches rounds) source source' sink sink' done = ListsOf branches_text rounds source source' sink sink' done
+DoesAlone (Executions rounds) source source' sink sink' done = ListsOf executions_text rounds source source' sink sink' done
+DoesAlone (Cnf rounds branch) source source' sink sink' done =
+    (result : Result (Unit {0}) RunFault) × ListsQuestion branch rounds source source' sink sink' result × (done ≡ written result)
+DoesAlone (Preset preset) source source' sink sink' done =
+    (result : Result (Unit {0}) RunFault) × WritesPreset preset sink sink' result × (source' ≡ source) × (done ≡ written result)
+DoesAlone job source source' sink sink' done = ⊥
+
+-- what a job does with the task in its file, and the file's path; none where it has no file
+abbrev pub filed_of : Job → Option (Filed × List ℕ)
+filed_of (Verify task rounds) = Some (filed.Verify rounds, string_bytes task)
+filed_of (VerifyBranch task rounds branch) = Some (filed.VerifyBranch rounds branch, string_bytes task)
+filed_of (Join task rounds) = Some (filed.Join rounds, string_bytes task)
+filed_of (Model task rounds) = Some (filed.Model rounds, string_bytes task)
+filed_of (Proof task rounds branch) = Some (filed.Proof rounds branch, string_bytes task)
+filed_of (Decisions task) = Some (filed.Decisions, string_bytes task)
+filed_of (Trim task) = Some (filed.Trim, string_bytes task)
+filed_of (Explain task) = Some (filed.Explain, string_bytes task)
+filed_of (Lift task rounds) = Some (filed.Lift rounds, string_bytes task)
+filed_of job = None
+
+-- it was done with the task in the file, which is among those that may be opened under its path; or
+-- without one, and no file was asked for
+abbrev pub DoesBy : {F : Type 0} → Opens → Option (Filed × List ℕ) → Job → Filing F → Filing F → Reading → Reading → Writing → Writing → Result Done Refusal → Type 0
+DoesBy opens (Some (what, path)) job folder folder' source source' sink sink' done =
+    WithFile (opens path) (DoesWithFile what) folder folder' source source' sink sink' done
+DoesBy opens None job folder folder' source source' sink sink' done =
+    (folder' ≡ folder) × DoesAlone job source source' sink sink' done
+
+-- what a job asks for was done
+abbrev pub Does : {F : Type 0} → Opens → Job → Filing F → Filing F → Reading → Reading → Writing → Writing → Result Done Refusal → Type 0
+Does opens job folder folder' source source' sink sink' done = DoesBy opens (filed_of job) job folder folder' source source' sink sink' done
 
 -- the words ask neither for help nor for the version
 abbrev pub IsMistake : Error → Type 0

@@ -1,9 +1,10 @@
 //! What is done with the task in a file and with what the source gives about it.
 
+ghost use Rattle.std.specs.Prelude.{◌≡◌, option_map};
 ghost use Rattle.wf_engine.specs.Verify.{CanVerify};
 ghost use Rattle.wf_io.specs.Ends.{CanCount};
 ghost use Rattle.wf_program.specs.Files.{CanAsk};
-ghost use Rattle.wf_program.specs.Program.{DoesWithFile, WithFile};
+ghost use Rattle.wf_program.specs.Program.{DoesWithFile, WithFile, filed_of};
 
 use crate::done::{Done, after_verifying, after_writing};
 use crate::files::{Files, Folder};
@@ -11,6 +12,7 @@ use crate::refusal::Refusal;
 use std::alloc::Global;
 use std::io::{Read, Write};
 use std::thread::Threads;
+use wf_args::Job;
 use wf_branches::{run_join, run_proof_branch, run_verify_branch};
 use wf_engine::{RunFault, run_decisions, run_model, run_proof, run_verify};
 use wf_io::{Sink, Source};
@@ -41,6 +43,43 @@ pub(crate) enum Filed {
 }
 
 impl Filed {
+    /// What a job does with the task in its file, and the file's path; none where it has no file.
+    pub(crate) fn of(job: &Job) -> Option<(Filed, &str)>
+        ensures { option_map (λ f. (f.0, f.1.now)) result ≡ filed_of job.now }
+    {
+        let (filed, task) = match job {
+            Job::Verify { task, rounds } => (Filed::Verify(*rounds), task),
+            Job::VerifyBranch {
+                task,
+                rounds,
+                branch,
+            } => {
+                let (rounds, branch) = (*rounds, *branch);
+                (Filed::VerifyBranch { rounds, branch }, task)
+            }
+            Job::Join { task, rounds } => (Filed::Join(*rounds), task),
+            Job::Model { task, rounds } => (Filed::Model(*rounds), task),
+            Job::Proof {
+                task,
+                rounds,
+                branch,
+            } => (Filed::Proof(*rounds, *branch), task),
+            Job::Decisions { task } => (Filed::Decisions, task),
+            Job::Trim { task } => (Filed::Trim, task),
+            Job::Explain { task } => (Filed::Explain, task),
+            Job::Lift { task, rounds } => (Filed::Lift(*rounds), task),
+            Job::Solve { .. }
+            | Job::SolveBranch { .. }
+            | Job::Views { .. }
+            | Job::Points { .. }
+            | Job::Branches { .. }
+            | Job::Cnf { .. }
+            | Job::Executions { .. }
+            | Job::Preset(_) => return None,
+        };
+        Some((filed, task.as_str()))
+    }
+
     /// Does it with the task in the file under a path, whose source is kept. A file that can't be
     /// opened is a failed read.
     pub(crate) fn with_file<T: Threads + Sync, F: Files, R: Read, W: Write>(

@@ -1,6 +1,6 @@
 //! From the words of a command line to the exit status.
 
-ghost use Rattle.std.specs.Prelude.{IfOk, ◌≡◌, ◌<◌, ◌≤◌};
+ghost use Rattle.std.specs.Prelude.{IfOk, None, ◌≡◌, ◌<◌, ◌≤◌};
 ghost use Rattle.wf_model.specs.Limits.{most_workers};
 ghost use Rattle.wf_io.specs.Ends.{CanCount, CanWrite};
 ghost use Rattle.wf_io.specs.Texts.{Tells};
@@ -8,7 +8,7 @@ ghost use Rattle.wf_engine.specs.Texts.{Finds, SearchesInOrder, Solves};
 ghost use Rattle.wf_branches.specs.Solving.{SolvesBranch};
 ghost use Rattle.wf_args.specs.Job.{CanBeDone};
 ghost use Rattle.wf_program.specs.Files.{CanAsk};
-ghost use Rattle.wf_program.specs.Program.{CanServe, Declines, Does, Ends, IsAsked, ListsQuestion, Serves, Shows};
+ghost use Rattle.wf_program.specs.Program.{CanServe, Declines, Does, DoesAlone, Ends, IsAsked, ListsQuestion, Serves, Shows, filed_of};
 
 use crate::done::{AccountLine, Done, after_searching, after_solving, after_writing};
 use crate::filed::Filed;
@@ -87,6 +87,26 @@ fn do_job<T: Threads + Sync, F: Files, G: Gate, R: Read, W: Write>(
     ensures { Does (F.opens folder.old.files) job.now folder.old folder.new source.old source.new
         sink.old sink.new result }
 {
+    match Filed::of(job) {
+        Some((filed, path)) => filed.with_file(rt, alloc, folder, path, source, sink),
+        None => do_alone(rt, alloc, gate, source, sink, job),
+    }
+}
+
+/// Does what a job without a file asks for.
+fn do_alone<T: Threads + Sync, G: Gate, R: Read, W: Write>(
+    rt: &T,
+    alloc: Global,
+    gate: &G,
+    source: &mut Source<R>,
+    sink: &mut Sink<W>,
+    job: &Job,
+) -> Result<Done, Refusal>
+    requires ends { CanCount source.old sink.old }
+    requires limits { CanBeDone job.now }
+    requires alone { filed_of job.now ≡ None }
+    ensures { DoesAlone job.now source.old source.new sink.old sink.new result }
+{
     match job {
         Job::Solve {
             rounds,
@@ -113,47 +133,25 @@ fn do_job<T: Threads + Sync, F: Files, G: Gate, R: Read, W: Write>(
             let gate = if *progress { Some(gate) } else { None };
             after_searching(search_source(alloc, gate, source, sink, *rounds, *branch, *form))
         }
-        Job::Verify { task, rounds } => {
-            Filed::Verify(*rounds).with_file(rt, alloc, folder, task, source, sink)
-        }
-        Job::VerifyBranch {
-            task,
-            rounds,
-            branch,
-        } => Filed::VerifyBranch {
-            rounds: *rounds,
-            branch: *branch,
-        }
-        .with_file(rt, alloc, folder, task, source, sink),
         Job::Views { rounds } => after_writing(run_views(alloc, source, sink, *rounds)),
         Job::Points { rounds } => after_writing(run_points(alloc, source, sink, *rounds)),
         Job::Branches { rounds } => after_writing(run_branches(alloc, source, sink, *rounds)),
-        Job::Join { task, rounds } => {
-            Filed::Join(*rounds).with_file(rt, alloc, folder, task, source, sink)
-        }
         Job::Cnf { rounds, branch } => {
             after_writing(ask_source(alloc, source, sink, *rounds, *branch))
-        }
-        Job::Model { task, rounds } => {
-            Filed::Model(*rounds).with_file(rt, alloc, folder, task, source, sink)
-        }
-        Job::Proof {
-            task,
-            rounds,
-            branch,
-        } => Filed::Proof(*rounds, *branch).with_file(rt, alloc, folder, task, source, sink),
-        Job::Decisions { task } => {
-            Filed::Decisions.with_file(rt, alloc, folder, task, source, sink)
-        }
-        Job::Trim { task } => Filed::Trim.with_file(rt, alloc, folder, task, source, sink),
-        Job::Explain { task } => Filed::Explain.with_file(rt, alloc, folder, task, source, sink),
-        Job::Lift { task, rounds } => {
-            Filed::Lift(*rounds).with_file(rt, alloc, folder, task, source, sink)
         }
         Job::Executions { rounds } => {
             after_writing(run_executions(alloc, source, sink, *rounds))
         }
         Job::Preset(preset) => after_writing(run_preset(alloc, sink, *preset)),
+        Job::Verify { .. }
+        | Job::VerifyBranch { .. }
+        | Job::Join { .. }
+        | Job::Model { .. }
+        | Job::Proof { .. }
+        | Job::Decisions { .. }
+        | Job::Trim { .. }
+        | Job::Explain { .. }
+        | Job::Lift { .. } => unreachable!(),
     }
 }
 
