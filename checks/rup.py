@@ -44,7 +44,7 @@ class Kept:
         return self.is_refuted or not self.spread(set(self.held), [-it for it in lemma])
 
     def add(self, clause):
-        clause = tuple(sorted(clause))
+        clause = tuple(sorted(set(clause)))
         self.many[clause] += 1
         for literal in clause:
             self.users[literal].add(clause)
@@ -53,7 +53,7 @@ class Kept:
             self.is_refuted |= not left or not self.spread(self.held, left)
 
     def delete(self, clause):
-        clause = tuple(sorted(clause))
+        clause = tuple(sorted(set(clause)))
         if self.many[clause] > 0:
             self.many[clause] -= 1
             if self.many[clause] == 0:
