@@ -6,8 +6,8 @@ use Rattle.wf_io.specs.Texts.{IsText}
 use Rattle.wf_io.specs.Texts as io
 use Rattle.wf_io.specs.declared.source.ReadFault.{ReadFault}
 use Rattle.wf_io.specs.declared.source.ReadFault.TheVariants as read
-use Rattle.wf_task.specs.declared.fault.TaskFault.{TaskFault}
-use Rattle.wf_task.specs.declared.fault.TaskFault.TheVariants as task
+use Rattle.wf_draft.specs.declared.fault.TaskFault.{TaskFault}
+use Rattle.wf_draft.specs.declared.fault.TaskFault.TheVariants as task
 use Rattle.wf_model.specs.Limits.{most_bytes}
 use Rattle.wf_engine.specs.declared.fault.RunFault.{RunFault}
 use Rattle.wf_engine.specs.declared.fault.RunFault.TheVariants as run

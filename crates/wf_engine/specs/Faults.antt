@@ -1,10 +1,10 @@
 -- How the refusals of the parts become those of a run, and the number and the name of each.
-use Rattle.std.specs.Prelude.{ℕ, List, ◌++◌, None, Some, codes, decimal}
+use Rattle.std.specs.Prelude.{ℕ, List, ◌++◌, codes, decimal}
 use Rattle.wf_io.specs.declared.source.ReadFault.{ReadFault}
 use Rattle.wf_io.specs.declared.source.ReadFault.TheVariants as read
-use Rattle.wf_task.specs.declared.fault.TaskFault.{TaskFault}
-use Rattle.wf_task.specs.declared.fault.TaskFault.TheVariants as task
-use Rattle.wf_task.specs.FaultText as task_text
+use Rattle.wf_draft.specs.declared.fault.TaskFault.{TaskFault}
+use Rattle.wf_draft.specs.declared.fault.TaskFault.TheVariants as task
+use Rattle.wf_draft.specs.FaultText as task_text
 use Rattle.wf_complex.specs.declared.fault.BuildFault.{BuildFault}
 use Rattle.wf_complex.specs.declared.fault.BuildFault.TheVariants as build
 use Rattle.wf_complex.specs.Faults as build_text
@@ -97,5 +97,4 @@ printed_text (printed.Task e) = task_text.fault_text e
 printed_text (printed.Build e) = build_text.fault_text e
 printed_text (printed.Cert e) = report_faults.fault_text e
 printed_text (printed.InPart branch e) = codes "48 InPart " ++ (decimal branch ++ (codes ": " ++ part_fault_text e))
-printed_text (printed.Words name None) = name.now
-printed_text (printed.Words name (Some number)) = name.now ++ (codes " " ++ decimal number)
+printed_text (printed.Words name number) = report_faults.printed name.now number

@@ -1,7 +1,7 @@
 -- A run with no source: the canonical text of a task that has a name.
 use Rattle.std.specs.Prelude.{◌≡◌, ℕ, List, [], ◌∷◌, ◌++◌, Result, Ok, Err}
 use Rattle.wf_model.specs.Task.{Task}
-use Rattle.wf_task.specs.declared.fault.TaskFault.{TaskFault}
+use Rattle.wf_draft.specs.declared.fault.TaskFault.{TaskFault}
 use Rattle.wf_task.specs.Canonical.{canonical_text}
 use Rattle.wf_preset.specs.Preset.{preset_task}
 use Rattle.wf_preset.specs.declared.named.Preset.{Preset}

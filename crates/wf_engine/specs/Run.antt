@@ -7,7 +7,7 @@ use Rattle.wf_io.specs.Seen.{Reading, Writing}
 use Rattle.wf_io.specs.Texts.{ReadsText, Wrote, TookBeginning}
 use Rattle.wf_io.specs.declared.source.ReadFault.{ReadFault}
 use Rattle.wf_task.specs.Judge.{text_of}
-use Rattle.wf_task.specs.declared.fault.TaskFault.{TaskFault}
+use Rattle.wf_draft.specs.declared.fault.TaskFault.{TaskFault}
 use Rattle.wf_complex.specs.Protocol.{Built, Builds}
 use Rattle.wf_complex.specs.declared.fault.BuildFault.TheVariants as build
 use Rattle.wf_engine.specs.Faults.{of_read, of_task}

@@ -14,6 +14,9 @@ use wf_set::part::{Part, holds};
 /// How many words the rows of a block have: a bit a row, so that a block has 512 rows.
 pub(crate) const BLOCK_WORDS: usize = 8;
 
+/// How many values there are: a word has a bit for each.
+const VALUES: u8 = 64;
+
 /// The values of rows at one place.
 ///
 /// Where the rows are cut into blocks, each value that occurs has the set of
@@ -79,9 +82,9 @@ impl Places {
         ensures words { IfOk result (λ places. places.words ≡ words) }
         ensures apart { IfOk result (ArePlaces values) }
     {
-        let mut starts = Vec::with_capacity(alloc, 64)?;
+        let mut starts = Vec::with_capacity(alloc, usize::from(VALUES))?;
         let mut end: usize = 0;
-        'values: for value in 0..64u8 {
+        'values: for value in 0..VALUES {
             starts.push_reserved(end);
             end = end_of(end, words, holds(values, value));
         }

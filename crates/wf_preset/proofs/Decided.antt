@@ -10,8 +10,8 @@ use Rattle.wf_model.specs.Simplex.{Simplex, values_of, complex_of}
 use Rattle.wf_model.specs.Task.{Task, Rule, Tuple}
 use Rattle.wf_simplex.specs.Order.{nat_cmp-Equal}
 use Rattle.wf_simplex.proofs.Lemmas.{Has, has_at_place, has-in_order, in_order-has, sorted-in_order, has_of_all, all_of_has}
-use Rattle.wf_task.specs.declared.fault.TaskFault.{TaskFault}
-use Rattle.wf_task.specs.Draft.{◌>>=◌}
+use Rattle.wf_draft.specs.declared.fault.TaskFault.{TaskFault}
+use Rattle.wf_draft.specs.Draft.{◌>>=◌}
 use Rattle.wf_task.proofs.Lemmas.{Differ, length-among, has-map, contains-has}
 use Rattle.wf_preset.specs.declared.preset.Inputs.{Inputs}
 use Rattle.wf_preset.specs.Laws.{HasAtMost, IsAgreement, IsRenaming, Allows}

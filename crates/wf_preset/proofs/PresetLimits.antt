@@ -10,11 +10,11 @@ use Rattle.wf_model.specs.Presets.{input_facets, input_values, namings}
 use Rattle.wf_model.specs.Simplex.{Simplex, Vertex, processes_of, values_of, is_nonempty, is_ascending, complex_of}
 use Rattle.wf_model.specs.Task.{Task, IsTask, IsSimplexWithin, inputs}
 use Rattle.wf_simplex.proofs.Lemmas.{Has, complex_of-complex_of, all_of_has, complex_within}
-use Rattle.wf_task.specs.declared.fault.Limit.TheVariants as limit
-use Rattle.wf_task.specs.declared.fault.TaskFault.{TaskFault}
-use Rattle.wf_task.specs.declared.fault.TaskFault.TheVariants as fault
+use Rattle.wf_draft.specs.declared.fault.Limit.TheVariants as limit
+use Rattle.wf_draft.specs.declared.fault.TaskFault.{TaskFault}
+use Rattle.wf_draft.specs.declared.fault.TaskFault.TheVariants as fault
 use Rattle.wf_preset.specs.declared.family.Family.TheVariants.{Agreement, Naming}
-use Rattle.wf_task.specs.Draft.{◌>>=◌, Fails}
+use Rattle.wf_draft.specs.Draft.{◌>>=◌, Fails}
 use Rattle.wf_task.specs.Judge.{refused_if, sizes_judged}
 use Rattle.wf_task.specs.Canonical.{facets, HasFewFacets}
 use Rattle.wf_preset.specs.Family.{tuples_for, images_of, at_most, task_for}

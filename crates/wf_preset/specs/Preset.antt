@@ -4,14 +4,14 @@ use Rattle.wf_model.specs.Limits.{most_inputs, most_vertices}
 use Rattle.wf_model.specs.Presets as model
 use Rattle.wf_model.specs.Simplex.{Simplex, complex_of}
 use Rattle.wf_model.specs.Task.{Task, inputs}
-use Rattle.wf_task.specs.declared.fault.Limit.TheVariants as limit
-use Rattle.wf_task.specs.declared.fault.TaskFault.{TaskFault}
-use Rattle.wf_task.specs.declared.fault.TaskFault.TheVariants as fault
+use Rattle.wf_draft.specs.declared.fault.Limit.TheVariants as limit
+use Rattle.wf_draft.specs.declared.fault.TaskFault.{TaskFault}
+use Rattle.wf_draft.specs.declared.fault.TaskFault.TheVariants as fault
 use Rattle.wf_preset.specs.declared.preset.Inputs.{Inputs}
 use Rattle.wf_preset.specs.declared.preset.Inputs.TheVariants.{Own, All}
 use Rattle.wf_preset.specs.declared.named.Preset.{Preset}
 use Rattle.wf_preset.specs.declared.named.Preset.TheVariants.{SetAgreement, Renaming}
-use Rattle.wf_task.specs.Draft.{◌>>=◌}
+use Rattle.wf_draft.specs.Draft.{◌>>=◌}
 use Rattle.wf_task.specs.Judge.{refused_if, sizes_judged}
 use Rattle.wf_task.specs.Canonical.{listed_of}
 

@@ -1,6 +1,6 @@
 //! A task that has a name.
 
-ghost use Rattle.wf_task.specs.Draft.{Gives};
+ghost use Rattle.wf_draft.specs.Draft.{Gives};
 ghost use Rattle.wf_preset.specs.Preset.{preset_task};
 
 use crate::preset::{Inputs, renaming, set_agreement};

@@ -9,7 +9,7 @@ ghost use Rattle.wf_model.specs.Presets.{input_facets};
 ghost use Rattle.wf_model.specs.Simplex.{processes_of, complex_of};
 ghost use Rattle.wf_model.specs.Task.{IsTask};
 ghost use Rattle.wf_task.specs.Canonical.{HasFewFacets};
-ghost use Rattle.wf_task.specs.Draft.{Gives};
+ghost use Rattle.wf_draft.specs.Draft.{Gives};
 ghost use Rattle.wf_preset.specs.Family.{IsFamily, AreFew, all_on, tuples_for, images_of, task_for};
 ghost use Rattle.wf_preset.specs.Preset.{inputs_seen, input_complex_of, has_processes, has_values, has_input_values, inputs_judged, set_agreement_of, renaming_of};
 

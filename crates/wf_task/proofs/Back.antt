@@ -22,13 +22,13 @@ use Rattle.wf_model.proofs.Tasks.{inputs_within, outputs_within, inputs_are}
 use Rattle.wf_simplex.specs.Faces.{IsComplex}
 use Rattle.wf_simplex.specs.Order.{same_simplex, same_simplex-decides, simplex_cmp-total}
 use Rattle.wf_simplex.proofs.Lemmas.{Has, has-filter, complex_of-sorted, has_of_all, all_of_has, length-within, contains-has, map-has, has-map}
-use Rattle.wf_task.specs.declared.fault.TaskFault.{TaskFault}
-use Rattle.wf_task.specs.Shape.{each, whole_of, pair_of, simplex_of, tuples_of, rule_of, entry_of, list_of}
-use Rattle.wf_task.specs.Draft.{Listed, ◌>>=◌, draft_of}
+use Rattle.wf_draft.specs.declared.fault.TaskFault.{TaskFault}
+use Rattle.wf_draft.specs.Shape.{each, whole_of, pair_of, simplex_of, tuples_of, rule_of, entry_of, list_of}
+use Rattle.wf_draft.specs.Draft.{Listed, ◌>>=◌, draft_of}
 use Rattle.wf_task.specs.Slots.{entries_in}
 use Rattle.wf_task.specs.Judge.{is_first_block, is_large, has_large, rule_has_large, some_large, names_processes, all_processes_named, is_among, tuples_for, wrong_length, no_output, first_answer, numbers_judged, sizes_judged, entries_judged, tuples_judged, rule_for, drafted, judged, task_of, text_of}
 use Rattle.wf_task.specs.declared.task.TheConstants.{LONGEST}
-use Rattle.wf_task.proofs.Texts.{json_of-some}
+use Rattle.wf_draft.proofs.Lemmas.{json_of-some}
 use Rattle.wf_task.specs.Canonical.{is_inner, facets, IsListable, version_of, listed_of, number_data, list_data, vertex_data, simplex_data, tuple_data, rule_data, task_data}
 use Rattle.wf_task.proofs.Judged.{limit-few}
 use Rattle.wf_task.proofs.Drafted.{within_more}

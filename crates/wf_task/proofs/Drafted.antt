@@ -18,13 +18,14 @@ use Rattle.wf_simplex.proofs.Lemmas.{Has, has-in_order, in_order-in_order, lengt
 use Rattle.std.proofs.lemmas.Bool.{and_parts, or_parts, not-false}
 use Rattle.wf_task.specs.declared.slots.Slot.{Slot}
 use Rattle.wf_task.specs.declared.slots.Slot.TheVariants.{Missing, Once, Twice}
-use Rattle.wf_task.specs.declared.fault.TaskFault.{TaskFault}
-use Rattle.wf_task.specs.declared.fault.TaskFault.TheVariants as fault
-use Rattle.wf_task.specs.Shape.{rule_of}
-use Rattle.wf_task.specs.Draft.{Listed, ◌>>=◌}
+use Rattle.wf_draft.specs.declared.fault.TaskFault.{TaskFault}
+use Rattle.wf_draft.specs.declared.fault.TaskFault.TheVariants as fault
+use Rattle.wf_draft.specs.Shape.{rule_of}
+use Rattle.wf_draft.specs.Draft.{Listed, ◌>>=◌}
 use Rattle.wf_task.specs.Slots.{entries_in, Means, AreOf, IsOnly, AreOnly}
 use Rattle.wf_task.specs.Judge.{is_first_block, has_large, rule_has_large, names_processes, is_among, tuples_for, wrong_length, no_output, first_answer, refused_at, entries_judged, sizes_judged, tuples_judged, numbers_judged, rule_for, drafted}
-use Rattle.wf_task.specs.Faultless.{ListsVertices, IsFaultless}
+use Rattle.wf_draft.specs.Listed.{ListsVertices}
+use Rattle.wf_task.specs.Faultless.{IsFaultless}
 use Rattle.wf_task.specs.Tuples.{IsTupleOf, AreTuples, IsRow, NamesRows, rows_at}
 use Rattle.wf_task.specs.TaskSeen.{rules_seen}
 use Rattle.wf_task.proofs.Judged.{AreJudged, are_judged, passed, passed_last, within, limit_of, limit-few, inputs_within, outputs_within}

@@ -12,13 +12,13 @@ use Rattle.std.proofs.lemmas.Option.{get_or_from_slice_get, slice_get_within}
 use Rattle.wf_model.specs.Simplex.{Simplex, simplex_cmp}
 use Rattle.wf_model.specs.Task.{Rule, IsSimplexWithin}
 use Rattle.wf_simplex.proofs.Lemmas.{Has, has_at_place}
-use Rattle.wf_task.specs.declared.shape.Entry.{Entry}
-use Rattle.wf_task.specs.DraftSeen.{entry_seen}
+use Rattle.wf_draft.specs.declared.shape.Entry.{Entry}
+use Rattle.wf_draft.specs.DraftSeen.{entry_seen}
 use Rattle.wf_task.specs.Judge.{is_among}
 use Rattle.wf_simplex.specs.Order.{same_simplex, same_simplex-decides, simplex_cmp-total}
 use Rattle.wf_task.specs.declared.slots.Slot.{Slot}
 use Rattle.wf_task.specs.declared.slots.Slot.TheVariants.{Missing, Once, Twice}
-use Rattle.wf_task.specs.Shape.{rule_of}
+use Rattle.wf_draft.specs.Shape.{rule_of}
 use Rattle.wf_task.specs.Slots.{with_entry, entries_in, Means, AreOf, is_missing, is_twice}
 
 entries-push : (rules : List Rule) (e : Rule) (s : Simplex) → entries_in (rules ++ (e ∷ [])) s ≡ entries_in rules s ++ entries_in (e ∷ []) s

@@ -1,9 +1,4 @@
 pub mod Filled
-pub mod Lists
-pub mod Converted
-pub mod Taken
-pub mod Fields
-pub mod Texts
 pub mod Sizes
 pub mod Judged
 pub mod TaskSeen
@@ -11,10 +6,7 @@ pub mod TaskValues
 pub mod EntrySlots
 pub mod TupleLemmas
 pub mod RowLemmas
-pub mod Vertices
 pub mod Drafted
-pub mod Counts
-pub mod Few
 pub mod Bounds
 pub mod Listings
 pub mod Differing

@@ -9,8 +9,8 @@ use Rattle.wf_simplex.specs.Order.{same_simplex}
 use Rattle.std.proofs.lemmas.Bool.{and_parts, and_from, or_parts, not-false}
 use Rattle.wf_task.specs.declared.slots.Slot.{Slot}
 use Rattle.wf_task.specs.declared.slots.Slot.TheVariants.{Missing, Once, Twice}
-use Rattle.wf_task.specs.Draft.{Listed}
-use Rattle.wf_task.specs.Shape.{rule_of}
+use Rattle.wf_draft.specs.Draft.{Listed}
+use Rattle.wf_draft.specs.Shape.{rule_of}
 use Rattle.wf_task.specs.Slots.{entries_in, lists_at, IsOnly, IsOnceBelow, AreOnly}
 use Rattle.wf_task.specs.Judge.{is_large, has_large, rule_has_large, some_large, is_among, tuples_for, wrong_length, no_output, answer_or, first_answer}
 use Rattle.wf_task.specs.Tuples.{IsTupleOf, AreTuples}

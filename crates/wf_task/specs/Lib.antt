@@ -1,9 +1,4 @@
 -- What contracts say, here and in the crates above.
-pub mod FaultText
-pub mod Shape
-pub mod Plain
-pub mod Draft
-pub mod Text
 pub mod Slots
 pub mod Judge
 pub mod Mask
@@ -11,9 +6,6 @@ pub mod TaskSeen
 pub mod Canonical
 -- What only this crate's own code and proofs use.
 pub mod Filled
-pub mod DraftSeen
 pub mod Tuples
 pub mod Faultless
-pub mod Parts
-pub mod Members
 pub mod Borders

@@ -5,7 +5,7 @@ use Rattle.wf_model.specs.Task.{Rule, Tuple}
 use Rattle.wf_simplex.specs.Order.{same_simplex}
 use Rattle.wf_task.specs.declared.slots.Slot.{Slot}
 use Rattle.wf_task.specs.declared.slots.Slot.TheVariants.{Missing, Once, Twice}
-use Rattle.wf_task.specs.Shape.{rule_of}
+use Rattle.wf_draft.specs.Shape.{rule_of}
 
 -- the slot with one more entry
 abbrev pub with_entry : Slot → ℕ → Slot

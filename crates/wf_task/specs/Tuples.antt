@@ -7,7 +7,7 @@ use Rattle.wf_model.specs.Lists.{in_order}
 use Rattle.wf_model.specs.Task.{Rule, Tuple, IsTaskSimplex}
 use Rattle.wf_task.specs.declared.slots.Slot.{Slot}
 use Rattle.wf_task.specs.Slots.{IsOnceBelow, lists_at}
-use Rattle.wf_task.specs.Draft.{Listed}
+use Rattle.wf_draft.specs.Draft.{Listed}
 use Rattle.wf_task.specs.Judge.{tuples_for}
 
 -- so many values, each at most 255

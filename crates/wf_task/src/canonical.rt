@@ -31,7 +31,7 @@ ghost use Rattle.wf_task.specs.Canonical.{
   keyed,
   version_of,
 };
-ghost use Rattle.wf_task.specs.Shape.{rule_of};
+ghost use Rattle.wf_draft.specs.Shape.{rule_of};
 ghost use Rattle.wf_task.specs.TaskSeen.{rules_seen};
 
 use crate::row::Row;

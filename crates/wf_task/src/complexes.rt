@@ -4,15 +4,13 @@ ghost use Rattle.std.specs.Prelude.{◌≡◌, ◌==◌, ◌<◌, ◌≤◌, All
 ghost use Rattle.wf_model.specs.Limits.{most_bytes};
 ghost use Rattle.wf_model.specs.Simplex.{complex_of};
 ghost use Rattle.wf_model.specs.Task.{IsTaskSimplex};
-ghost use Rattle.wf_task.specs.Draft.{Gives};
-ghost use Rattle.wf_task.specs.DraftSeen.{draft_seen, pairs_seen, entry_seen};
+ghost use Rattle.wf_draft.specs.Draft.{Gives};
+ghost use Rattle.wf_draft.specs.DraftSeen.{draft_seen, pairs_seen, entry_seen};
 ghost use Rattle.wf_task.specs.Judge.{sizes_judged, tuple_total};
 
-use crate::draft::Draft;
-use crate::fault::{Limit, TaskFault};
 use crate::limits::{MOST_INPUTS, MOST_OUTPUTS, MOST_TUPLES, MOST_VERTICES};
-use crate::shape::{Entry, ListedSimplex};
 use std::alloc::{AllocError, Global};
+use wf_draft::{Draft, Entry, Limit, ListedSimplex, TaskFault};
 use wf_simplex::{Complex, Simplex};
 
 /// The simplex of pairs that were judged.

@@ -3,13 +3,11 @@
 ghost use Rattle.std.specs.Prelude.{◌≡◌, ◌<◌, map, ◌&&◌};
 ghost use Rattle.std.specs.List.{list_any, list_all};
 ghost use Rattle.wf_model.specs.Task.{largest_value};
-ghost use Rattle.wf_task.specs.Draft.{Gives};
-ghost use Rattle.wf_task.specs.DraftSeen.{draft_seen, entry_seen};
+ghost use Rattle.wf_draft.specs.Draft.{Gives};
+ghost use Rattle.wf_draft.specs.DraftSeen.{draft_seen, entry_seen};
 ghost use Rattle.wf_task.specs.Judge.{is_large, has_large, rule_has_large, is_first_block, names_processes, rule_names_processes, first_block_judged, numbers_judged};
 
-use crate::draft::{Draft, FIRST_VERSION, SECOND_VERSION};
-use crate::fault::TaskFault;
-use crate::shape::{Entry, ListedSimplex};
+use wf_draft::{Draft, Entry, FIRST_VERSION, ListedSimplex, SECOND_VERSION, TaskFault};
 
 /// The largest value where all words are allowed, and where some are not.
 const LARGEST: u64 = 63;

@@ -1,4 +1,4 @@
-//! Decision tasks, and the texts that they are read from.
+//! Decision tasks, what texts list judged and kept, and their canonical texts.
 //!
 //! - [`Task`]: input and output simplices, and for each input simplex the tuples that its processes
 //!   may decide. [`Task::read_text`] reads one, or says what is wrong with the text.
@@ -11,21 +11,15 @@
 
 mod canonical;
 mod complexes;
-mod draft;
-pub mod fault;
 mod judge;
 pub mod limits;
-mod members;
-mod plain;
 pub mod row;
 mod rows;
-mod shape;
 mod slots;
 pub mod task;
-mod text;
 mod tuples;
 
-pub use fault::{Key, Limit, TaskFault};
 pub use limits::{MOST_INPUTS, MOST_OUTPUTS, MOST_TUPLES, MOST_VERTICES, texts_have_most_bytes};
 pub use row::Row;
 pub use task::{LONGEST, Task};
+pub use wf_draft::{Key, Limit, TaskFault};

@@ -5,15 +5,15 @@ ghost use Rattle.std.specs.Ordering.{nat_cmp};
 ghost use Rattle.std.specs.Cmp.Lexicographic.{slice_cmp};
 ghost use Rattle.wf_model.specs.Lists.{in_order};
 ghost use Rattle.wf_model.specs.Simplex.{values_of};
-ghost use Rattle.wf_task.specs.DraftSeen.{entry_seen};
+ghost use Rattle.wf_draft.specs.DraftSeen.{entry_seen};
 ghost use Rattle.wf_task.specs.Mask.{HasMore, IsMaskOf};
 ghost use Rattle.wf_task.specs.Tuples.{IsRow, NamesRows, rows_at};
 
 use crate::row::Row;
-use crate::shape::Entry;
 use crate::slots::Slot;
 use crate::tuples::lists_at;
 use std::alloc::{AllocError, Global};
+use wf_draft::Entry;
 use wf_set::{Mask, nothing, with};
 use wf_simplex::Simplex;
 

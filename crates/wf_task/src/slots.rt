@@ -3,17 +3,15 @@
 ghost use Rattle.std.specs.Prelude.{◌≡◌, ◌≤◌, map, length, IfOk};
 ghost use Rattle.std.specs.List.{position_from};
 ghost use Rattle.wf_model.specs.Limits.{most_bytes, most_inputs};
-ghost use Rattle.wf_task.specs.Draft.{Gives};
-ghost use Rattle.wf_task.specs.DraftSeen.{entry_seen, draft_seen};
+ghost use Rattle.wf_draft.specs.Draft.{Gives};
+ghost use Rattle.wf_draft.specs.DraftSeen.{entry_seen, draft_seen};
 ghost use Rattle.wf_task.specs.Judge.{entries_judged, first_stray};
 ghost use Rattle.wf_task.specs.Slots.{AreOf, with_entry, no_entry, is_missing, is_twice};
 ghost use Rattle.wf_task.specs.Tuples.{HaveSmallInputs};
 
 use crate::complexes::simplex_of;
-use crate::draft::Draft;
-use crate::fault::TaskFault;
-use crate::shape::Entry;
 use std::alloc::{AllocError, Global};
+use wf_draft::{Draft, Entry, TaskFault};
 use wf_simplex::{Complex, Simplex};
 
 /// Which entries an input simplex has.

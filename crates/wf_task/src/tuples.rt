@@ -4,17 +4,15 @@ ghost use Rattle.std.specs.Prelude.{◌≡◌, ◌==◌, ◌≤◌, false, All, 
 ghost use Rattle.std.specs.List.{position_from};
 ghost use Rattle.wf_model.specs.Limits.{most_inputs, most_tuples};
 ghost use Rattle.wf_model.specs.Simplex.{processes_of, complex_of};
-ghost use Rattle.wf_task.specs.Draft.{Gives};
-ghost use Rattle.wf_task.specs.DraftSeen.{draft_seen, entry_seen, pairs_seen};
+ghost use Rattle.wf_draft.specs.Draft.{Gives};
+ghost use Rattle.wf_draft.specs.DraftSeen.{draft_seen, entry_seen, pairs_seen};
 ghost use Rattle.wf_task.specs.Judge.{is_image_in, tuple_total, wrong_length, no_output, first_answer, some_large, tuples_judged};
 ghost use Rattle.wf_task.specs.Slots.{AreOnly, IsOnceBelow, lists_at};
 ghost use Rattle.wf_task.specs.Tuples.{IsTupleOf, AreTuples};
 
 use crate::complexes::simplex_of;
-use crate::draft::Draft;
-use crate::fault::TaskFault;
-use crate::shape::Entry;
 use crate::slots::Slot;
+use wf_draft::{Draft, Entry, TaskFault};
 use wf_simplex::{Complex, Simplex};
 
 /// The value lists of the entry that the slot names.

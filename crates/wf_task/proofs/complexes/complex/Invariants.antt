@@ -1,5 +1,5 @@
 use Rattle.std.proofs.Common.{◌≡◌, map, take}
-use Rattle.wf_task.specs.DraftSeen.{pairs_seen}
+use Rattle.wf_draft.specs.DraftSeen.{pairs_seen}
 use Rattle.wf_task.proofs.complexes.complex.Given as goal
 
 abbrev pub invariant-loop-simplex : goal.invariant-loop-simplex

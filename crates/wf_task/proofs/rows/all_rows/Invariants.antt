@@ -1,5 +1,5 @@
 use Rattle.std.proofs.Common.{◌≡◌, map, take, vec_items}
-use Rattle.wf_task.specs.DraftSeen.{entry_seen}
+use Rattle.wf_draft.specs.DraftSeen.{entry_seen}
 use Rattle.wf_task.specs.Tuples.{rows_at}
 use Rattle.wf_task.proofs.rows.all_rows.Given as goal
 

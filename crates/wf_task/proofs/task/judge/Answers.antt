@@ -4,8 +4,8 @@ use Rattle.std.proofs.lemmas.List.{length-map}
 use Rattle.wf_model.specs.Simplex.{Simplex, complex_of}
 use Rattle.wf_model.specs.Task.{IsSimplexWithin}
 use Rattle.wf_task.specs.declared.slots.Slot.{Slot}
-use Rattle.wf_task.specs.declared.fault.TaskFault.TheVariants as fault
-use Rattle.wf_task.specs.DraftSeen.{draft_seen, pairs_seen, entry_seen}
+use Rattle.wf_draft.specs.declared.fault.TaskFault.TheVariants as fault
+use Rattle.wf_draft.specs.DraftSeen.{draft_seen, pairs_seen, entry_seen}
 use Rattle.wf_task.specs.Judge.{is_first_block, sizes_judged, tuples_judged}
 use Rattle.wf_task.specs.Slots.{AreOf, AreOnly}
 use Rattle.wf_task.proofs.Judged.{passed_last, are_judged, inputs_within, outputs_within}

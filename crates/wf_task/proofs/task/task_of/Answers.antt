@@ -2,7 +2,7 @@ use Rattle.std.proofs.Common.{◌≡◌, All, map, flat_map, vec_items, sym, ap,
 use Rattle.wf_model.specs.Simplex.{values_of, complex_of}
 use Rattle.wf_model.specs.Task.{IsTask}
 use Rattle.wf_task.specs.Canonical.{HasFewFacets}
-use Rattle.wf_task.specs.DraftSeen.{draft_seen, entry_seen}
+use Rattle.wf_draft.specs.DraftSeen.{draft_seen, entry_seen}
 use Rattle.wf_task.specs.Mask.{IsMaskOf}
 use Rattle.wf_task.specs.TaskSeen.{rules_seen, task_with_block}
 use Rattle.wf_task.specs.Tuples.{NamesRows, rows_at}

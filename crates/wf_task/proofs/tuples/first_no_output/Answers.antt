@@ -1,7 +1,7 @@
 use Rattle.std.proofs.Common.{[], All, List, Some, length, map, sym, ap, ◌∙◌, subst₂, slice_index_or}
 use Rattle.wf_model.specs.Simplex.{Simplex}
 use Rattle.wf_model.specs.Task.{Tuple}
-use Rattle.wf_task.specs.DraftSeen.{draft_seen, entry_seen}
+use Rattle.wf_draft.specs.DraftSeen.{draft_seen, entry_seen}
 use Rattle.wf_task.specs.Judge.{no_output}
 use Rattle.wf_task.specs.Tuples.{IsTupleOf}
 use Rattle.wf_task.proofs.TupleLemmas.{lists_here, simplex_here, not_some, no_output_is, answer_here, answer_later}

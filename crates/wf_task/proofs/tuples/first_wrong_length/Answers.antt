@@ -1,5 +1,5 @@
 use Rattle.std.proofs.Common.{[], Some, map, ap, ◌∙◌, slice_index_or}
-use Rattle.wf_task.specs.DraftSeen.{draft_seen, entry_seen}
+use Rattle.wf_draft.specs.DraftSeen.{draft_seen, entry_seen}
 use Rattle.wf_task.specs.Judge.{wrong_length}
 use Rattle.wf_task.proofs.TupleLemmas.{lists_here, simplex_here, not_some, wrong_is, answer_here, answer_later}
 use Rattle.wf_task.proofs.tuples.first_wrong_length.Goals as goal

@@ -1,0 +1,10 @@
+pub mod Lists
+pub mod Converted
+pub mod Taken
+pub mod Fields
+pub mod Texts
+pub mod Counts
+pub mod Vertices
+pub mod Few
+pub mod Listed
+pub mod Lemmas

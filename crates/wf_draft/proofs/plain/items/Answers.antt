@@ -1,0 +1,35 @@
+use Rattle.std.proofs.Common.{◌≡◌, [], ◌∷◌, length, map, IfSome, None, Some, ap, subst, arith, append-nil}
+use Rattle.json.specs.Json.{after_end_array}
+use Rattle.wf_draft.specs.Plain.{Takes, TakesItems}
+use Rattle.wf_draft.proofs.Taken.{takes-shorter, items-over, items-more, push-seen}
+use Rattle.wf_draft.proofs.plain.items.Goals as goal
+
+pub items-smaller : goal.items-smaller
+items-smaller g c =
+    let f = g.T.Shape.reading in
+    let deep = g.T.Plain.deep in
+    let one = subst (λ o. IfSome o (λ x. Takes f deep c.take_end_array.new.self (g.T.Shape.seen x) c.plain.new.reader)) c.in-Some.is c.in_ok-item.ensures in
+    let going : (after_end_array c.items.reader ≡ None) × (c.take_end_array.new.self ≡ c.items.reader) = grind arith in
+    omega (arith, takes-shorter f deep c.take_end_array.new.self (g.T.Shape.seen c.in-Some.item) c.plain.new.reader one, ap length going.1)
+
+pub items-preserved : goal.items-preserved
+items-preserved g c xs new rest =
+    let f = g.T.Shape.reading in
+    let deep = g.T.Plain.deep in
+    let seen = g.T.Shape.seen in
+    let x = seen c.in-Some.item in
+    let found = c.items.found.items in
+    let going : (after_end_array c.items.reader ≡ None) × (c.take_end_array.new.self ≡ c.items.reader) = grind arith in
+    let one = subst (λ o. IfSome o (λ y. Takes f deep c.take_end_array.new.self (seen y) c.plain.new.reader)) c.in-Some.is c.in_ok-item.ensures in
+    let here = subst (λ ts. Takes f deep ts x c.plain.new.reader) going.1 one in
+    let before = c.items.invariant (x ∷ xs) new (items-more f deep c.items.reader x c.plain.new.reader xs new here going.0 rest) in
+    subst (λ ys. TakesItems f deep c.args.reader.now ys new) (push-seen seen found c.in-Some.item c.push.new.self.items xs c.in_ok-push.ensures.items) before
+
+pub returns : goal.returns
+returns g c =
+    let f = g.T.Shape.reading in
+    let deep = g.T.Plain.deep in
+    let new = c.take_end_array.new.self in
+    let found = map g.T.Shape.seen c.items.found.items in
+    let end : after_end_array c.items.reader ≡ Some new = grind arith in
+    subst (λ ys. TakesItems f deep c.args.reader.now ys new) (append-nil found) (c.items.invariant [] new (items-over f deep c.items.reader new end))

@@ -1,0 +1,11 @@
+-- What contracts say, here and in the crates above.
+pub mod FaultText
+pub mod Shape
+pub mod Plain
+pub mod Draft
+pub mod DraftSeen
+pub mod Text
+pub mod Listed
+-- What only this crate's own code and proofs use.
+pub mod Parts
+pub mod Members

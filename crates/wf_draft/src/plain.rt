@@ -1,0 +1,131 @@
+//! From the tokens of a text to a draft, with no JSON value between.
+//!
+//! A text of the usual form is read so. Where a reading is in doubt it gives `None`, and the text
+//! is read over its JSON value: which texts are refused, and why, is decided there alone.
+
+ghost use Rattle.std.specs.Prelude.{◌≡◌, ℕ, suc, ◌+◌, ◌<◌, [], ◌∷◌, map, Some, IfOk, IfSome};
+ghost use Rattle.serde_json.specs.Data.{unsigned};
+ghost use Rattle.serde_json.specs.Read.{number_of};
+ghost use Rattle.wf_draft.specs.Plain.{Takes, TakesItems};
+
+use crate::shape::{ListedSimplex, Shape};
+use fast_float::Numeral;
+use json::{Reader, Token};
+use std::alloc::{AllocError, Global};
+
+/// A type whose values are read from tokens.
+pub(crate) trait Plain: Shape {
+    // how deep its arrays and objects nest
+    ghost deep: { ℕ };
+
+    /// The next value of the reader, where it is surely of this shape.
+    fn plain(alloc: Global, reader: &mut Reader<'_>) -> Result<Option<Self>, AllocError>
+        ensures { IfOk result (λ found. IfSome found
+            (λ x. Takes Self.reading deep reader.old (Self.seen x) reader.new)) };
+}
+
+impl Plain for u64 {
+    ghost deep = { 0 };
+
+    fn plain(_alloc: Global, reader: &mut Reader<'_>) -> Result<Option<u64>, AllocError> {
+        match reader.next() {
+            Some(Token::Number(text)) => Ok(number(text)),
+            _ => Ok(None),
+        }
+    }
+}
+
+/// The whole number below 2^64 that a token writes with digits alone: mostly one.
+fn number(text: &str) -> Option<u64>
+    ensures { IfSome result (λ n. number_of text.now ≡ Some (unsigned n)) }
+{
+    let bytes = text.as_bytes();
+    if let Some(value) = digit(bytes) {
+        return Some(value);
+    }
+    if bytes.is_empty() || bytes[0] == b'-' {
+        return None;
+    }
+    Numeral::scan(bytes).to_u64()
+}
+
+/// The value of a lone digit.
+fn digit(bytes: &[u8]) -> Option<u64>
+    ensures { IfSome result (λ n. (n < 10) × (bytes.now ≡ (48 + n) ∷ [])) }
+{
+    match bytes {
+        [only] if only.is_ascii_digit() => Some(u64::from(*only - b'0')),
+        _ => None,
+    }
+}
+
+impl Plain for bool {
+    ghost deep = { 0 };
+
+    fn plain(_alloc: Global, reader: &mut Reader<'_>) -> Result<Option<bool>, AllocError> {
+        match reader.next() {
+            Some(Token::Bool(truth)) => Ok(Some(truth)),
+            _ => Ok(None),
+        }
+    }
+}
+
+impl Plain for (u64, u64) {
+    ghost deep = { 1 };
+
+    fn plain(alloc: Global, reader: &mut Reader<'_>) -> Result<Option<(u64, u64)>, AllocError> {
+        let Some(Token::BeginArray) = reader.next() else {
+            return Ok(None);
+        };
+        let Some(first) = u64::plain(alloc, reader)? else {
+            return Ok(None);
+        };
+        let Some(second) = u64::plain(alloc, reader)? else {
+            return Ok(None);
+        };
+        if !reader.take_end_array() {
+            return Ok(None);
+        }
+        Ok(Some((first, second)))
+    }
+}
+
+impl<T: Plain + Drop> Plain for Vec<T> {
+    ghost deep = { suc T.deep };
+
+    fn plain(alloc: Global, reader: &mut Reader<'_>) -> Result<Option<Vec<T>>, AllocError> {
+        match reader.next() {
+            Some(Token::BeginArray) => items(alloc, reader),
+            _ => Ok(None),
+        }
+    }
+}
+
+/// The items of a list up to its closing bracket, where each is surely of this shape.
+fn items<T: Plain + Drop>(
+    alloc: Global,
+    reader: &mut Reader<'_>,
+) -> Result<Option<Vec<T>>, AllocError>
+    ensures { IfOk result (λ found. IfSome found
+        (λ v. TakesItems T.reading T.deep reader.old (map T.seen v.items) reader.new)) }
+{
+    let mut found = Vec::new(alloc);
+    'items: while !reader.take_end_array() {
+        let Some(item) = T::plain(alloc, reader)? else {
+            return Ok(None);
+        };
+        found.push(item)?;
+    }
+    Ok(Some(found))
+}
+
+impl Plain for ListedSimplex {
+    ghost deep = { 2 };
+
+    fn plain(alloc: Global, reader: &mut Reader<'_>) -> Result<Option<ListedSimplex>, AllocError> {
+        match Vec::plain(alloc, reader)? {
+            Some(pairs) if !pairs.is_empty() => Ok(Some(ListedSimplex { pairs })),
+            _ => Ok(None),
+        }
+    }
+}

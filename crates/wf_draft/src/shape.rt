@@ -1,0 +1,183 @@
+//! From a JSON value to a draft, or to what of it has the wrong shape.
+
+ghost use Rattle.std.specs.Prelude.{◌≡◌, ℕ, Bool, List, map, vec_len, ◌<◌, Option, option_map, option_and_then, IfOk};
+ghost use Rattle.serde_json.specs.Data.{Data};
+ghost use Rattle.serde_json.specs.Find.{as_bool};
+ghost use Rattle.serde_json.specs.View.{view, items_view};
+ghost use Rattle.wf_model.specs.Task.{Rule};
+ghost use Rattle.wf_draft.specs.Shape.{whole_of, pair_of, list_of, simplex_of, entry_of, rule_of, each, list_seen};
+
+use serde_json::Value;
+use std::alloc::{AllocError, Global};
+
+/// How many keys an entry has.
+const ENTRY_KEYS: usize = 2;
+
+/// A type that some JSON values stand for.
+pub(crate) trait Shape: Sized {
+    // what a clause sees of a value of the type
+    ghost Seen: { Type 0 };
+
+    ghost seen: { Self → Seen };
+
+    // what a JSON value stands for
+    ghost reading: { Data → Option Seen };
+
+    fn shape(alloc: Global, value: &Value) -> Result<Option<Self>, AllocError>
+        ensures { IfOk result (λ found. option_map seen found ≡ reading (view value.now)) };
+}
+
+impl Shape for u64 {
+    ghost Seen = { ℕ };
+
+    ghost seen = { λ n. n };
+
+    ghost reading = { whole_of };
+
+    fn shape(_alloc: Global, value: &Value) -> Result<Option<u64>, AllocError> {
+        Ok(value.as_u64())
+    }
+}
+
+impl Shape for bool {
+    ghost Seen = { Bool };
+
+    ghost seen = { λ b. b };
+
+    ghost reading = { as_bool };
+
+    fn shape(_alloc: Global, value: &Value) -> Result<Option<bool>, AllocError> {
+        Ok(value.as_bool())
+    }
+}
+
+impl Shape for (u64, u64) {
+    ghost Seen = { ℕ × ℕ };
+
+    ghost seen = { λ p. p };
+
+    ghost reading = { pair_of };
+
+    fn shape(_alloc: Global, value: &Value) -> Result<Option<(u64, u64)>, AllocError> {
+        Ok(pair(value))
+    }
+}
+
+/// The pair of a list of exactly two whole numbers.
+fn pair(value: &Value) -> Option<(u64, u64)>
+    ensures { result ≡ pair_of (view value.now) }
+{
+    let items = value.as_array()?;
+    match items.as_slice() {
+        [first, second] => Some((first.as_u64()?, second.as_u64()?)),
+        _ => None,
+    }
+}
+
+impl<T: Shape + Drop> Shape for Vec<T> {
+    ghost Seen = { List T.Seen };
+
+    ghost seen = { λ v. map T.seen v.items };
+
+    ghost reading = { list_of T.reading };
+
+    fn shape(alloc: Global, value: &Value) -> Result<Option<Vec<T>>, AllocError> {
+        match value.as_array() {
+            Some(items) => Ok(list(alloc, items)?.ok()),
+            None => Ok(None),
+        }
+    }
+}
+
+/// The values of a list, or the place of the first that has another shape.
+pub(crate) fn list<T: Shape + Drop>(
+    alloc: Global,
+    values: &[Value],
+) -> Result<Result<Vec<T>, usize>, AllocError>
+    ensures { IfOk result
+        (λ found. list_seen T.seen found ≡ each T.reading (items_view values.now)) }
+{
+    let mut found = Vec::new(alloc);
+    for value in values {
+        match T::shape(alloc, value)? {
+            Some(x) => found.push(x)?,
+            None => return Ok(Err(found.len())),
+        }
+    }
+    Ok(Ok(found))
+}
+
+/// A non-empty list of pairs of a process and its value.
+#[derive(Drop)]
+pub struct ListedSimplex {
+    /// The pairs, in the order of the text.
+    pub pairs: Vec<(u64, u64)>,
+    ghost some: { 0 < vec_len pairs },
+}
+
+impl Shape for ListedSimplex {
+    ghost Seen = { List (ℕ × ℕ) };
+
+    ghost seen = { λ s. s.pairs.items };
+
+    ghost reading = { simplex_of };
+
+    fn shape(alloc: Global, value: &Value) -> Result<Option<ListedSimplex>, AllocError> {
+        match Vec::shape(alloc, value)? {
+            Some(pairs) if !pairs.is_empty() => Ok(Some(ListedSimplex { pairs })),
+            _ => Ok(None),
+        }
+    }
+}
+
+/// An entry of `delta`: an input simplex and its value lists.
+#[derive(Drop)]
+pub struct Entry {
+    /// Under `in`.
+    pub input: ListedSimplex,
+    /// The value lists under `out`.
+    pub tuples: Vec<Vec<u64>>,
+}
+
+impl Shape for Entry {
+    ghost use Rattle.std.specs.Prelude.{map};
+    ghost use Rattle.wf_model.specs.Task.{Rule};
+    ghost use Rattle.wf_draft.specs.Shape.{rule_of, entry_of};
+
+    ghost Seen = { Rule };
+
+    ghost seen = { λ e. rule_of e.input.pairs.items (map (λ t. t.items) e.tuples.items) };
+
+    ghost reading = { entry_of };
+
+    #[tactic(auto, using(crate::proofs::Lists::members_count))]
+    fn shape(alloc: Global, value: &Value) -> Result<Option<Entry>, AllocError> {
+        let Some(members) = value.as_object() else {
+            return Ok(None);
+        };
+        let Some(input) = under(alloc, value.get("in"))? else {
+            return Ok(None);
+        };
+        let Some(tuples) = under(alloc, value.get("out"))? else {
+            return Ok(None);
+        };
+        if members.len() != ENTRY_KEYS {
+            return Ok(None);
+        }
+        Ok(Some(Entry { input, tuples }))
+    }
+}
+
+/// What a value stands for, if it is there.
+pub(crate) fn under<T: Shape + Drop>(
+    alloc: Global,
+    value: Option<&Value>,
+) -> Result<Option<T>, AllocError>
+    ensures { IfOk result (λ found. option_map T.seen found
+        ≡ option_and_then T.reading (option_map (λ v. view v.now) value.entry)) }
+{
+    match value {
+        Some(value) => T::shape(alloc, value),
+        None => Ok(None),
+    }
+}
