@@ -8,7 +8,7 @@ use Rattle.wf_simplex.proofs.Orders.{Has, has-append, has-append_left, has-appen
 
 -- ---- parts
 
-has_cons : {X : Type 0} (x : X) (t : List X) (ps : List (List X)) → Has t ps → Has (x ∷ t) (map (λ rest. x ∷ rest) ps)
+pub has_cons : {X : Type 0} (x : X) (t : List X) (ps : List (List X)) → Has t ps → Has (x ∷ t) (map (λ rest. x ∷ rest) ps)
 has_cons x t [] h = absurd h
 has_cons x t (p ∷ ps) (inl e) = inl (ap (λ rest. x ∷ rest) e)
 has_cons x t (p ∷ ps) (inr h) = inr (has_cons x t ps h)

@@ -1,20 +1,18 @@
 -- The key of a simplex: what stands in it, and that keys are ordered as simplices are.
-use Rattle.std.proofs.Common.{◌≡◌, ℕ, zero, suc, ◌+◌, ◌*◌, ◌/◌, ◌%◌, ◌<◌, ◌≤◌, ◌==◌, true, false, nat_lt, List, [], ◌∷◌, length, Option, None, Some, IfSome, inl, inr, refl, sym, ap, ap₂, ◌∙◌, subst, arith, ne_eqb, eq-eqb, lt-ltb}
-use Rattle.std.specs.Cmp.{ranked, nat_cmp_is}
+use Rattle.std.proofs.Common.{◌≡◌, ℕ, zero, suc, ◌+◌, ◌-◌, ◌*◌, ◌/◌, ◌%◌, ◌<◌, ◌≤◌, ◌==◌, ◌&&◌, Bool, true, false, nat_lt, List, [], ◌∷◌, ◌++◌, length, Option, None, Some, IfSome, slice_index_or, drop, drop_of_length-le, le-ltb, if◌then◌else◌, inl, inr, refl, sym, ap, ap₂, ◌∙◌, subst, arith, ne_eqb, eq-eqb, eqb-true, lt-ltb, length-append}
+use Rattle.std.specs.Cmp.{ranked, nat_cmp_is, both_ways}
 use Rattle.std.specs.Ordering.{nat_cmp, ordering_then}
 use Rattle.std.specs.declared.cmp.Ordering.{Ordering}
 use Rattle.std.specs.declared.cmp.Ordering.TheVariants.{Less, Equal, Greater}
 use Rattle.std.proofs.lemmas.Bool.{cases_lt}
 use Rattle.std.proofs.lemmas.Nat.{div-mul-add, mod-mul-add}
-use Rattle.wf_model.specs.Simplex.{Vertex, Simplex, simplex_cmp}
-use Rattle.wf_model.specs.Task.{IsSimplexWithin, IsTaskSimplex}
-use Rattle.wf_simplex.specs.Entries.{vertices_from, value_at, entries_of}
-use Rattle.wf_simplex.specs.Faces.{AreSmall}
-use Rattle.wf_simplex.specs.Keys.{digit_of, key_of, entry_of, entries_from}
-use Rattle.wf_simplex.specs.Order.{simplex_cmp-Equal}
-use Rattle.wf_simplex.proofs.SmallTables.{small_of_simplex}
-use Rattle.wf_simplex.proofs.Tables.{entry_cmp, ordered_by_entries}
-use Rattle.wf_simplex.proofs.Within.{Climbs, climbs, climbs_lower}
+use Rattle.wf_model.specs.Simplex.{Vertex, Simplex, simplex_cmp, is_face}
+use Rattle.wf_model.specs.Task.{IsTaskSimplex}
+use Rattle.wf_simplex.specs.Entries.{vertices_from, value_at, entries_of, is_within}
+use Rattle.wf_simplex.specs.Keys.{digit_of, key_of, unit_of, digit_at, entry_of, entries_from, simplex_of, IsKey}
+use Rattle.wf_simplex.specs.Order.{same_simplex, same_simplex-decides}
+use Rattle.wf_simplex.proofs.Tables.{entry_cmp, ordered_by_entries, value_of_entry, past_end, face_by_entries, nonempty_of_simplex}
+use Rattle.wf_simplex.proofs.Within.{Climbs, climbs, climbs_lower, length-within}
 
 -- ---- a simplex is its table
 
@@ -62,8 +60,20 @@ pub vertices-entries_of : (s : Simplex) → IsTaskSimplex s → vertices_from 0 
 unfolding table
 vertices-entries_of s h = tabled 4 255 4 0 s (omega arith) (climbs 4 255 s h)
 
-small_entries : (s : Simplex) → IsTaskSimplex s → AreSmall (entries_of s)
-small_entries s h = small_of_simplex (entries_of s) (subst (IsSimplexWithin 4 255) (sym (vertices-entries_of s h)) h)
+small_at : (n largest m : ℕ) (s : Simplex) → Climbs n largest m s → (p : ℕ) → IfSome (value_at s p) (λ x. x ≤ largest)
+unfolding Climbs
+small_at n largest m [] h p = tt
+small_at n largest m (v ∷ s) h p = by (v.0 == p) (small_at n largest (v.0 + 1) s h.3 p)
+  where
+    by : (here : Bool) → IfSome (value_at s p) (λ x. x ≤ largest) → IfSome (if here then Some v.1 else value_at s p) (λ x. x ≤ largest)
+    by true rest = h.2
+    by false rest = rest
+
+small_values : (s : Simplex) → IsTaskSimplex s → (p : ℕ) → IfSome (value_at s p) (λ x. x ≤ 255)
+small_values s h = small_at 4 255 0 s (climbs 4 255 s h)
+
+pub small_value : (s : Simplex) → IsTaskSimplex s → (p x : ℕ) → value_at s p ≡ Some x → x ≤ 255
+small_value s h p x is = subst (λ e. IfSome e (λ y. y ≤ 255)) is (small_values s h p)
 
 -- ---- digits
 
@@ -95,13 +105,132 @@ entries_from-digits size a b c d few_a few_b few_c few_d =
 -- a key has its simplex's table
 pub entries_from-key_of : (s : Simplex) → IsTaskSimplex s → entries_from (key_of s) ≡ entries_of s
 entries_from-key_of s h =
-    let small = small_entries s h in
+    let small = small_values s h in
     entries_from-digits (length s) (digit_of (value_at s 0)) (digit_of (value_at s 1)) (digit_of (value_at s 2)) (digit_of (value_at s 3))
     (few (value_at s 0) (small 0)) (few (value_at s 1) (small 1)) (few (value_at s 2) (small 2)) (few (value_at s 3) (small 3))
     ∙ (λ i. entry_of-digit_of (value_at s 0) (small 0) i ∷ entry_of-digit_of (value_at s 1) (small 1) i ∷ entry_of-digit_of (value_at s 2) (small 2) i ∷ entry_of-digit_of (value_at s 3) (small 3) i ∷ [])
 
-pub vertices-entries_from : (s : Simplex) (key : ℕ) → IsTaskSimplex s → key_of s ≡ key → vertices_from 0 (entries_from key) ≡ s
-vertices-entries_from s key h is = ap (λ k. vertices_from 0 (entries_from k)) (sym is) ∙ ap (vertices_from 0) (entries_from-key_of s h) ∙ vertices-entries_of s h
+pub simplex_of-key_of : (s : Simplex) → IsTaskSimplex s → simplex_of (key_of s) ≡ s
+unfolding simplex_of
+simplex_of-key_of s h = ap (vertices_from 0) (entries_from-key_of s h) ∙ vertices-entries_of s h
+
+pub simplex_of-key : (key : ℕ) (s : Simplex) → key ≡ key_of s → IsTaskSimplex s → simplex_of key ≡ s
+simplex_of-key key s is h = ap simplex_of is ∙ simplex_of-key_of s h
+
+pub is_key : (key : ℕ) (s : Simplex) → key ≡ key_of s → IsTaskSimplex s → IsKey key
+is_key key s is h = record {
+  simplex = subst IsTaskSimplex (sym (simplex_of-key key s is h)) h;
+  exact = ap key_of (simplex_of-key key s is h) ∙ sym is;
+}
+
+-- ---- what stands in a key
+
+pub entry_at : (key p : ℕ) → p < 4 → entry_of (digit_at key p) ≡ value_at (simplex_of key) p
+unfolding simplex_of
+entry_at key p h = at p h ∙ value_of_entry (entries_from key) p
+  where
+    at : (p : ℕ) → p < 4 → entry_of (digit_at key p) ≡ slice_index_or (entries_from key) p None
+    at zero h = refl
+    at (suc zero) h = refl
+    at (suc (suc zero)) h = refl
+    at (suc (suc (suc zero))) h = refl
+    at (suc (suc (suc (suc p)))) h = absurd (let none : ⊥ = omega (arith, h) in none)
+
+pub no_entry_at : (key p : ℕ) → 4 ≤ p → None ≡ value_at (simplex_of key) p
+unfolding simplex_of
+no_entry_at key p h = sym (past_end (entries_from key) p h) ∙ value_of_entry (entries_from key) p
+
+-- the vertices of the processes from p on
+unfoldable pub vertices_on : ℕ → ℕ → Simplex
+vertices_on key p = vertices_from p (drop p (entries_from key))
+
+pub all_on : (key : ℕ) → vertices_on key 0 ≡ simplex_of key
+unfolding vertices_on simplex_of
+all_on key = refl
+
+pub none_on : (key p : ℕ) → 4 ≤ p → vertices_on key p ≡ []
+unfolding vertices_on
+none_on key p h = ap (vertices_from p) (drop_of_length-le (entries_from key) h)
+
+pub on_present : (key p : ℕ) → p < 4 → digit_at key p < 256 → vertices_on key p ≡ (p, digit_at key p) ∷ vertices_on key (p + 1)
+unfolding vertices_on
+on_present key zero h low = rw (lt-ltb (digit_at key 0) 256 low) refl
+on_present key (suc zero) h low = rw (lt-ltb (digit_at key 1) 256 low) refl
+on_present key (suc (suc zero)) h low = rw (lt-ltb (digit_at key 2) 256 low) refl
+on_present key (suc (suc (suc zero))) h low = rw (lt-ltb (digit_at key 3) 256 low) refl
+on_present key (suc (suc (suc (suc p)))) h low = absurd (let none : ⊥ = omega (arith, h) in none)
+
+pub on_absent : (key p : ℕ) → p < 4 → 256 ≤ digit_at key p → vertices_on key p ≡ vertices_on key (p + 1)
+unfolding vertices_on
+on_absent key zero h high = rw (le-ltb (digit_at key 0) 256 high) refl
+on_absent key (suc zero) h high = rw (le-ltb (digit_at key 1) 256 high) refl
+on_absent key (suc (suc zero)) h high = rw (le-ltb (digit_at key 2) 256 high) refl
+on_absent key (suc (suc (suc zero))) h high = rw (le-ltb (digit_at key 3) 256 high) refl
+on_absent key (suc (suc (suc (suc p)))) h high = absurd (let none : ⊥ = omega (arith, h) in none)
+
+pub size_of_key : (s : Simplex) → IsTaskSimplex s → key_of s / 68719476736 ≡ length s
+size_of_key s h =
+    let small = small_values s h in
+    let rest = ((digit_of (value_at s 0) * 512 + digit_of (value_at s 1)) * 512 + digit_of (value_at s 2)) * 512 + digit_of (value_at s 3) in
+    let low : rest < 68719476736 = omega (arith, few (value_at s 0) (small 0), few (value_at s 1) (small 1), few (value_at s 2) (small 2), few (value_at s 3) (small 3)) in
+    let is : key_of s ≡ length s * 68719476736 + rest = omega arith in
+    ap (λ n. n / 68719476736) is ∙ div-mul-add (length s) 68719476736 rest low
+
+pub key_of-below : (s : Simplex) → IsTaskSimplex s → key_of s < 343597383680
+key_of-below s h =
+    let small = small_values s h in
+    omega (arith, length-within 4 255 s h, few (value_at s 0) (small 0), few (value_at s 1) (small 1), few (value_at s 2) (small 2), few (value_at s 3) (small 3))
+
+-- ---- one more vertex
+
+pub value_at-other : (s : Simplex) (p x q : ℕ) → (p == q) ≡ false → value_at (s ++ ((p, x) ∷ [])) q ≡ value_at s q
+value_at-other [] p x q ne = rw ne refl
+value_at-other (v ∷ s) p x q ne = ap (λ o. if v.0 == q then Some v.1 else o) (value_at-other s p x q ne)
+
+value_at-new : (s : Simplex) (p x : ℕ) → value_at s p ≡ None → value_at (s ++ ((p, x) ∷ [])) p ≡ Some x
+value_at-new [] p x h = rw (eq-eqb p p refl) refl
+value_at-new (v ∷ s) p x h = by (v.0 == p) (value_at-new s p x) h
+  where
+    by : (here : Bool) → (value_at s p ≡ None → value_at (s ++ ((p, x) ∷ [])) p ≡ Some x)
+        → (if here then Some v.1 else value_at s p) ≡ None → (if here then Some v.1 else value_at (s ++ ((p, x) ∷ [])) p) ≡ Some x
+    by true rest h = cc
+    by false rest h = rest h
+
+-- the key with one more vertex
+pub key_of-joined : (s : Simplex) (p x : ℕ) → p < 4 → x ≤ 255 → value_at s p ≡ None
+    → key_of s + 68719476736 - (256 - x) * unit_of p ≡ key_of (s ++ ((p, x) ∷ []))
+key_of-joined s p x low small free = at p low (ap digit_of free) (ap digit_of (value_at-new s p x free)) (λ q ne. ap digit_of (value_at-other s p x q ne)) (length-append s ((p, x) ∷ []))
+  where
+    Digit : Simplex → ℕ → ℕ
+    Digit t q = digit_of (value_at t q)
+
+    at : (p : ℕ) → p < 4 → Digit s p ≡ 256 → Digit (s ++ ((p, x) ∷ [])) p ≡ x → ((q : ℕ) → (p == q) ≡ false → Digit (s ++ ((p, x) ∷ [])) q ≡ Digit s q)
+        → length (s ++ ((p, x) ∷ [])) ≡ length s + 1 → key_of s + 68719476736 - (256 - x) * unit_of p ≡ key_of (s ++ ((p, x) ∷ []))
+    at zero low was is stays more = omega (arith, small, was, is, stays 1 refl, stays 2 refl, stays 3 refl, more)
+    at (suc zero) low was is stays more = omega (arith, small, was, is, stays 0 refl, stays 2 refl, stays 3 refl, more)
+    at (suc (suc zero)) low was is stays more = omega (arith, small, was, is, stays 0 refl, stays 1 refl, stays 3 refl, more)
+    at (suc (suc (suc zero))) low was is stays more = omega (arith, small, was, is, stays 0 refl, stays 1 refl, stays 2 refl, more)
+    at (suc (suc (suc (suc p)))) low was is stays more = absurd (let none : ⊥ = omega (arith, low) in none)
+
+-- a vertex at the end is of a later process
+last_is : (n largest m : ℕ) (s : Simplex) (p x : ℕ) → Climbs n largest m (s ++ ((p, x) ∷ [])) → (m ≤ p) × (p < n) × (x ≤ largest) × (value_at s p ≡ None)
+unfolding Climbs
+last_is n largest m [] p x h = (h.0, h.1, h.2, refl)
+last_is n largest m (v ∷ s) p x h =
+    let rest = last_is n largest (v.0 + 1) s p x h.3 in
+    let ne : v.0 == p ≡ false = ne_eqb v.0 p (λ e. omega (arith, rest.0, e)) in
+    let from : m ≤ p = omega (arith, h.0, rest.0) in
+    (from, rest.1, rest.2, rw ne rest.3)
+
+module _ (s : Simplex) (p x : ℕ) (h : IsTaskSimplex (s ++ ((p, x) ∷ []))) where
+  last : (0 ≤ p) × (p < 4) × (x ≤ 255) × (value_at s p ≡ None)
+  last = last_is 4 255 0 s p x (climbs 4 255 (s ++ ((p, x) ∷ [])) h)
+
+  pub last_process : p < 4
+  last_process = last.1
+
+  pub joined_key : key_of s + 68719476736 - (256 - x) * unit_of p ≡ key_of (s ++ ((p, x) ∷ []))
+  joined_key = key_of-joined s p x last.1 last.2 last.3
 
 -- ---- the order
 
@@ -131,8 +260,8 @@ digit_more r a c e f small_e small_f is =
 
 pub keys_compared : (s t : Simplex) → IsTaskSimplex s → IsTaskSimplex t → nat_cmp (key_of s) (key_of t) ≡ simplex_cmp s t
 keys_compared s t h g =
-    let small_s = small_entries s h in
-    let small_t = small_entries t g in
+    let small_s = small_values s h in
+    let small_t = small_values t g in
     let of_s = vertices-entries_of s h in
     let of_t = vertices-entries_of t g in
     let sizes : nat_cmp (length s) (length t) ≡ nat_cmp (length (vertices_from 0 (entries_of s))) (length (vertices_from 0 (entries_of t))) =
@@ -141,9 +270,24 @@ keys_compared s t h g =
     (digit_more _ _ _ (value_at s 2) (value_at t 2) (small_s 2) (small_t 2)
     (digit_more _ _ _ (value_at s 1) (value_at t 1) (small_s 1) (small_t 1)
     (digit_more (nat_cmp (length s) (length t)) (length s) (length t) (value_at s 0) (value_at t 0) (small_s 0) (small_t 0) refl))))
-    ∙ ordered_by_entries (nat_cmp (length s) (length t)) (entries_of s) (entries_of t) refl refl sizes
+    ∙ ordered_by_entries (nat_cmp (length s) (length t)) (value_at s 0) (value_at s 1) (value_at s 2) (value_at s 3) (value_at t 0) (value_at t 1) (value_at t 2) (value_at t 3) sizes
     ∙ ap₂ simplex_cmp of_s of_t
 
+pub ordered_by_keys : (k l : ℕ) → IsKey k → IsKey l → nat_cmp k l ≡ simplex_cmp (simplex_of k) (simplex_of l)
+ordered_by_keys k l h g = ap₂ nat_cmp (sym h.exact) (sym g.exact) ∙ keys_compared (simplex_of k) (simplex_of l) h.simplex g.simplex
+
 -- simplices of one key are one
-pub key_of-same : (s t : Simplex) → IsTaskSimplex s → IsTaskSimplex t → key_of s ≡ key_of t → s ≡ t
-key_of-same s t h g is = simplex_cmp-Equal s t (sym (keys_compared s t h g) ∙ sym (nat_cmp_is (key_of s) (key_of t) Equal is))
+pub same_by_keys : (k l : ℕ) → IsKey k → IsKey l → (k == l) ≡ same_simplex (simplex_of k) (simplex_of l)
+same_by_keys k l h g =
+    both_ways (k == l) (same_simplex (simplex_of k) (simplex_of l))
+    (λ e. (same_simplex-decides (simplex_of k) (simplex_of l)).1 (ap simplex_of (eqb-true k l e)))
+    (λ e. eq-eqb k l (sym h.exact ∙ ap key_of ((same_simplex-decides (simplex_of k) (simplex_of l)).0 e) ∙ g.exact))
+
+-- the test of the digits is the test of the vertices
+pub face_by_keys : (k l : ℕ) → IsKey k →
+    (is_within (entry_of (digit_at k 0)) (entry_of (digit_at l 0)) && is_within (entry_of (digit_at k 1)) (entry_of (digit_at l 1))
+    && is_within (entry_of (digit_at k 2)) (entry_of (digit_at l 2)) && is_within (entry_of (digit_at k 3)) (entry_of (digit_at l 3))) ≡ is_face (simplex_of k) (simplex_of l)
+unfolding simplex_of
+face_by_keys k l h =
+    face_by_entries (entry_of (digit_at k 0)) (entry_of (digit_at k 1)) (entry_of (digit_at k 2)) (entry_of (digit_at k 3))
+    (entry_of (digit_at l 0)) (entry_of (digit_at l 1)) (entry_of (digit_at l 2)) (entry_of (digit_at l 3)) (nonempty_of_simplex (simplex_of k) h.simplex.is_simplex)

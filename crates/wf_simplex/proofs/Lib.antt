@@ -5,7 +5,7 @@ pub mod Words
 pub mod Allowed
 pub mod Orders
 pub mod Faces
-pub mod SmallTables
+pub mod InTurn
 pub mod Search
 pub mod Within
 pub mod KeyLemmas

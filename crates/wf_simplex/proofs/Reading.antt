@@ -1,53 +1,13 @@
--- Reading pairs into a table.
-use Rattle.std.proofs.Common.{◌≡◌, ℕ, zero, suc, ◌+◌, ◌<◌, ◌≤◌, Bool, true, false, ◌&&◌, nat_lt, nat_le, List, [], ◌∷◌, ◌++◌, length, drop, Option, None, Some, is_some, slice_index_or, slice_set, refl, sym, ap, ◌∙◌, arith, add-zero, add-one, drop-cons, drop_of_length-le, le-leb, lt-ltb, leb-true, ltb-true, All, ◌==◌, ◌⊎◌, inl, inr}
+-- Reading pairs, and the faults that they may have.
+use Rattle.std.proofs.Common.{◌≡◌, ℕ, ◌+◌, ◌<◌, ◌≤◌, Bool, true, false, ◌&&◌, nat_lt, nat_le, [], ◌∷◌, length, drop, None, Some, slice_index_or, refl, sym, ap, ◌∙◌, arith, add-one, drop-cons, drop_of_length-le, le-leb, lt-ltb, leb-true, ltb-true, All, ◌==◌, ◌⊎◌, inl, inr}
 use Rattle.std.proofs.lemmas.Bool.{and_parts, and_from}
 use Rattle.std.specs.List.{list_all}
 use Rattle.wf_model.specs.Simplex.{Vertex, Simplex, processes_of, values_of, is_ascending, is_nonempty}
 use Rattle.wf_model.specs.Task.{IsSimplexWithin}
-use Rattle.wf_simplex.specs.Entries.{vertices_from, ascends_from}
+use Rattle.wf_simplex.specs.Entries.{ascends_from}
 use Rattle.wf_simplex.specs.Reading.{names_processes, read_fault}
 use Rattle.wf_simplex.specs.declared.simplex.SimplexFault.TheVariants.{Colour}
 use Rattle.wf_simplex.proofs.Ascent.{ascends_below, ascent_below, low_processes}
-
--- ---- one entry after another
-
-at_place : (es : List (Option ℕ)) (i : ℕ) → i < length es → drop i es ≡ slice_index_or es i None ∷ drop (i + 1) es
-at_place es i h = rw add-one (drop-cons es i None h)
-
-pub skipped : (es : List (Option ℕ)) (i : ℕ) → i < length es → is_some (slice_index_or es i None) ≡ false → vertices_from i (drop i es) ≡ vertices_from (i + 1) (drop (i + 1) es)
-skipped es i h k = rw (at_place es i h) (by (slice_index_or es i None) k)
-  where
-    by : (e : Option ℕ) → is_some e ≡ false → vertices_from i (e ∷ drop (i + 1) es) ≡ vertices_from (i + 1) (drop (i + 1) es)
-    by None k = refl
-    by (Some x) k = cc
-
-pub kept : (es : List (Option ℕ)) (i : ℕ) → i < length es → is_some (slice_index_or es i None) ≡ true → (x : ℕ) × (slice_index_or es i None ≡ Some x) × (vertices_from i (drop i es) ≡ (i, x) ∷ vertices_from (i + 1) (drop (i + 1) es))
-kept es i h k = rw (at_place es i h) (by (slice_index_or es i None) k)
-  where
-    by : (e : Option ℕ) → is_some e ≡ true → (x : ℕ) × (e ≡ Some x) × (vertices_from i (e ∷ drop (i + 1) es) ≡ (i, x) ∷ vertices_from (i + 1) (drop (i + 1) es))
-    by None k = cc
-    by (Some x) k = (x, refl, refl)
-
--- ---- one more vertex
-
-all_blank : (n : ℕ) (es : List (Option ℕ)) → ((k : ℕ) → slice_index_or es k None ≡ None) → vertices_from n es ≡ []
-all_blank n [] blank = refl
-all_blank n (None ∷ es) blank = all_blank (n + 1) es (λ k. blank (suc k))
-all_blank n (Some x ∷ es) blank = let e : Some x ≡ None = blank 0 in cc
-
-one_more : (n : ℕ) (es : List (Option ℕ)) (p x : ℕ) → p < length es → ((k : ℕ) → p ≤ k → slice_index_or es k None ≡ None) → vertices_from n (slice_set es p (Some x)) ≡ vertices_from n es ++ ((n + p, x) ∷ [])
-one_more n [] p x h blank = absurd (omega arith)
-one_more n (None ∷ es) zero x h blank = rw (all_blank (n + 1) es (λ k. blank (suc k) (omega arith)), add-zero) refl
-one_more n (Some y ∷ es) zero x h blank = let e : Some y ≡ None = blank 0 (omega arith) in cc
-one_more n (None ∷ es) (suc p) x h blank =
-    one_more (n + 1) es p x (omega arith) (λ k l. blank (suc k) (omega arith))
-    ∙ ap (λ m. vertices_from (n + 1) es ++ ((m, x) ∷ [])) (omega arith)
-one_more n (Some y ∷ es) (suc p) x h blank =
-    ap (λ s. (n, y) ∷ s) (one_more (n + 1) es p x (omega arith) (λ k l. blank (suc k) (omega arith))
-    ∙ ap (λ m. vertices_from (n + 1) es ++ ((m, x) ∷ [])) (omega arith))
-
-pub added : (es : List (Option ℕ)) (p x : ℕ) → p < length es → ((k : ℕ) → p ≤ k → slice_index_or es k None ≡ None) → vertices_from 0 (slice_set es p (Some x)) ≡ vertices_from 0 es ++ ((p, x) ∷ [])
-added es p x h blank = one_more 0 es p x h blank ∙ ap (λ m. vertices_from 0 es ++ ((m, x) ∷ [])) (omega arith)
 
 -- ---- ascending processes
 

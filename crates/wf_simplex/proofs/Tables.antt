@@ -1,64 +1,14 @@
 -- A simplex as a table and as a list of vertices: what the one says of the other.
-use Rattle.std.proofs.Common.{◌≡◌, ℕ, zero, suc, ◌+◌, ◌<◌, ◌≤◌, Bool, true, false, ◌&&◌, ◌==◌, List, [], ◌∷◌, length, Option, None, Some, is_some, slice_index_or, refl, sym, ap, ◌∙◌, arith, eq-eqb, eqb-true, ne_eqb}
+use Rattle.std.proofs.Common.{◌≡◌, ℕ, zero, suc, ◌+◌, ◌<◌, ◌≤◌, Bool, true, false, ◌&&◌, ◌==◌, List, [], ◌∷◌, length, Option, None, Some, slice_index_or, refl, sym, ap, ◌∙◌, arith, eq-eqb, ne_eqb}
 use Rattle.std.specs.List.{list_any, list_all}
-use Rattle.std.specs.Bool.{Decides}
-use Rattle.std.specs.Option.{option_eq}
-use Rattle.std.specs.Cmp.{both_ways, ranked, nat_cmp_is}
-use Rattle.std.specs.Cmp.Lexicographic.{slice_cmp, pointwise, pointwise_decides}
+use Rattle.std.specs.Cmp.{ranked, nat_cmp_is}
+use Rattle.std.specs.Cmp.Lexicographic.{slice_cmp}
 use Rattle.std.specs.Ordering.{nat_cmp, ordering_then}
 use Rattle.std.specs.declared.cmp.Ordering.{Ordering}
 use Rattle.std.specs.declared.cmp.Ordering.TheVariants.{Less, Equal, Greater}
 use Rattle.std.proofs.Math.Bool.{or-false}
-use mir.Val.{bool_byte}
 use Rattle.wf_model.specs.Simplex.{Vertex, Simplex, same_vertex, vertex_cmp, simplex_cmp, is_face, is_nonempty, is_simplex}
-use Rattle.wf_simplex.specs.Entries.{vertices_from, value_at, entries_of, entries_of-four, is_within}
-use Rattle.wf_simplex.specs.Order.{same_simplex, same_simplex-decides}
-
--- what holds of each table of four entries
-pub with_four : (P : List (Option ℕ) → Type 0) → ((a b c d : Option ℕ) → P (a ∷ b ∷ c ∷ d ∷ [])) → (es : List (Option ℕ)) → length es ≡ 4 → P es
-with_four P at [] h = absurd (omega arith)
-with_four P at (a ∷ []) h = absurd (omega arith)
-with_four P at (a ∷ b ∷ []) h = absurd (omega arith)
-with_four P at (a ∷ b ∷ c ∷ []) h = absurd (omega arith)
-with_four P at (a ∷ b ∷ c ∷ d ∷ []) h = at a b c d
-with_four P at (a ∷ b ∷ c ∷ d ∷ e ∷ es) h = absurd (omega arith)
-
--- ---- how many
-
-pub count : List (Option ℕ) → ℕ
-count [] = 0
-count (None ∷ es) = count es
-count (Some x ∷ es) = suc (count es)
-
-pub length-vertices_from : (n : ℕ) (es : List (Option ℕ)) → length (vertices_from n es) ≡ count es
-unfolding count
-length-vertices_from n [] = refl
-length-vertices_from n (None ∷ es) = length-vertices_from (n + 1) es
-length-vertices_from n (Some x ∷ es) = ap suc (length-vertices_from (n + 1) es)
-
-counted_four : (a b c d : Option ℕ) → bool_byte (is_some a) + bool_byte (is_some b) + bool_byte (is_some c) + bool_byte (is_some d) ≡ count (a ∷ b ∷ c ∷ d ∷ [])
-unfolding count
-counted_four None None None None = refl
-counted_four None None None (Some w) = refl
-counted_four None None (Some z) None = refl
-counted_four None None (Some z) (Some w) = refl
-counted_four None (Some y) None None = refl
-counted_four None (Some y) None (Some w) = refl
-counted_four None (Some y) (Some z) None = refl
-counted_four None (Some y) (Some z) (Some w) = refl
-counted_four (Some x) None None None = refl
-counted_four (Some x) None None (Some w) = refl
-counted_four (Some x) None (Some z) None = refl
-counted_four (Some x) None (Some z) (Some w) = refl
-counted_four (Some x) (Some y) None None = refl
-counted_four (Some x) (Some y) None (Some w) = refl
-counted_four (Some x) (Some y) (Some z) None = refl
-counted_four (Some x) (Some y) (Some z) (Some w) = refl
-
-pub counted : (es : List (Option ℕ)) → length es ≡ 4 → bool_byte (is_some (slice_index_or es 0 None)) + bool_byte (is_some (slice_index_or es 1 None)) + bool_byte (is_some (slice_index_or es 2 None)) + bool_byte (is_some (slice_index_or es 3 None)) ≡ length (vertices_from 0 es)
-counted es h =
-    with_four (λ es. bool_byte (is_some (slice_index_or es 0 None)) + bool_byte (is_some (slice_index_or es 1 None)) + bool_byte (is_some (slice_index_or es 2 None)) + bool_byte (is_some (slice_index_or es 3 None)) ≡ count es) counted_four es h
-    ∙ sym (length-vertices_from 0 es)
+use Rattle.wf_simplex.specs.Entries.{vertices_from, value_at, is_within}
 
 -- ---- the value of a process
 
@@ -127,34 +77,13 @@ within_four a b c d e f g h = by (is_within a e) (is_within b f) (is_within c g)
     by true false r s = refl
     by false q r s = refl
 
-within : (es fs : List (Option ℕ)) → length es ≡ 4 → length fs ≡ 4 →
-    (is_within (slice_index_or es 0 None) (slice_index_or fs 0 None) && is_within (slice_index_or es 1 None) (slice_index_or fs 1 None)
-    && is_within (slice_index_or es 2 None) (slice_index_or fs 2 None) && is_within (slice_index_or es 3 None) (slice_index_or fs 3 None)) ≡ all_within es fs
-within es fs h k =
-    with_four (λ es. (is_within (slice_index_or es 0 None) (slice_index_or fs 0 None) && is_within (slice_index_or es 1 None) (slice_index_or fs 1 None)
-    && is_within (slice_index_or es 2 None) (slice_index_or fs 2 None) && is_within (slice_index_or es 3 None) (slice_index_or fs 3 None)) ≡ all_within es fs)
-    (λ a b c d. with_four (λ fs. (is_within a (slice_index_or fs 0 None) && is_within b (slice_index_or fs 1 None)
-    && is_within c (slice_index_or fs 2 None) && is_within d (slice_index_or fs 3 None)) ≡ all_within (a ∷ b ∷ c ∷ d ∷ []) fs) (within_four a b c d) fs k) es h
-
 -- the test of the entries is the test of the vertices
-pub face_by_entries : (es fs : List (Option ℕ)) → length es ≡ 4 → length fs ≡ 4 → is_nonempty (vertices_from 0 es) ≡ true →
-    (is_within (slice_index_or es 0 None) (slice_index_or fs 0 None) && is_within (slice_index_or es 1 None) (slice_index_or fs 1 None)
-    && is_within (slice_index_or es 2 None) (slice_index_or fs 2 None) && is_within (slice_index_or es 3 None) (slice_index_or fs 3 None)) ≡ is_face (vertices_from 0 es) (vertices_from 0 fs)
-face_by_entries es fs h k some = within es fs h k ∙ within_all 0 es fs (h ∙ sym k) ∙ ap (λ b. b && list_all (λ v. list_any (same_vertex v) (vertices_from 0 fs)) (vertices_from 0 es)) (sym some)
-
--- ---- the test of two tables
-
-options_decided : (e f : Option ℕ) → Decides (option_eq (λ x y. x == y) e f) (e ≡ f)
-options_decided None None = (λ h. refl, λ h. refl)
-options_decided None (Some y) = (λ h. cc, λ h. cc)
-options_decided (Some x) None = (λ h. cc, λ h. cc)
-options_decided (Some x) (Some y) = (λ h. ap Some (eqb-true x y h), λ h. eq-eqb x y (let e : x ≡ y = cc in e))
-
-pub same_by_entries : (es fs : List (Option ℕ)) → length es ≡ 4 → length fs ≡ 4 → pointwise (option_eq (λ x y. x == y)) es fs ≡ same_simplex (vertices_from 0 es) (vertices_from 0 fs)
-same_by_entries es fs h k =
-    both_ways (pointwise (option_eq (λ x y. x == y)) es fs) (same_simplex (vertices_from 0 es) (vertices_from 0 fs))
-    (λ e. (same_simplex-decides (vertices_from 0 es) (vertices_from 0 fs)).1 (ap (vertices_from 0) ((pointwise_decides options_decided es fs).0 e)))
-    (λ e. (pointwise_decides options_decided es fs).1 (sym (entries_of-four es h) ∙ ap entries_of ((same_simplex-decides (vertices_from 0 es) (vertices_from 0 fs)).0 e) ∙ entries_of-four fs k))
+pub face_by_entries : (a b c d e f g h : Option ℕ) → is_nonempty (vertices_from 0 (a ∷ b ∷ c ∷ d ∷ [])) ≡ true →
+    (is_within a e && is_within b f && is_within c g && is_within d h) ≡ is_face (vertices_from 0 (a ∷ b ∷ c ∷ d ∷ [])) (vertices_from 0 (e ∷ f ∷ g ∷ h ∷ []))
+face_by_entries a b c d e f g h some =
+    let es : List (Option ℕ) = a ∷ b ∷ c ∷ d ∷ [] in
+    let fs : List (Option ℕ) = e ∷ f ∷ g ∷ h ∷ [] in
+    within_four a b c d e f g h ∙ within_all 0 es fs refl ∙ ap (λ t. t && list_all (λ v. list_any (same_vertex v) (vertices_from 0 fs)) (vertices_from 0 es)) (sym some)
 
 -- ---- the order of two tables
 
@@ -208,22 +137,15 @@ after_sizes s t Less p f e = refl
 after_sizes s t Greater p f e = refl
 after_sizes s t Equal p f e = sym (f (ranked (length s) (length t) Equal e))
 
-ordered_four : (o : Ordering) (es fs : List (Option ℕ)) → length es ≡ 4 → length fs ≡ 4 →
-    ordering_then (ordering_then (ordering_then (ordering_then o (entry_cmp (slice_index_or es 0 None) (slice_index_or fs 0 None))) (entry_cmp (slice_index_or es 1 None) (slice_index_or fs 1 None))) (entry_cmp (slice_index_or es 2 None) (slice_index_or fs 2 None))) (entry_cmp (slice_index_or es 3 None) (slice_index_or fs 3 None))
-    ≡ ordering_then o (entries_cmp es fs)
-unfolding entries_cmp
-ordered_four o es fs h k =
-    with_four (λ es. ordering_then (ordering_then (ordering_then (ordering_then o (entry_cmp (slice_index_or es 0 None) (slice_index_or fs 0 None))) (entry_cmp (slice_index_or es 1 None) (slice_index_or fs 1 None))) (entry_cmp (slice_index_or es 2 None) (slice_index_or fs 2 None))) (entry_cmp (slice_index_or es 3 None) (slice_index_or fs 3 None)) ≡ ordering_then o (entries_cmp es fs))
-    (λ a b c d. with_four (λ fs. ordering_then (ordering_then (ordering_then (ordering_then o (entry_cmp a (slice_index_or fs 0 None))) (entry_cmp b (slice_index_or fs 1 None))) (entry_cmp c (slice_index_or fs 2 None))) (entry_cmp d (slice_index_or fs 3 None)) ≡ ordering_then o (entries_cmp (a ∷ b ∷ c ∷ d ∷ []) fs))
-    (λ e f g i. then_all o (entry_cmp a e) (entry_cmp b f) (entry_cmp c g) (entry_cmp d i)) fs k) es h
-
 -- sizes first, and then the entries
-pub ordered_by_entries : (o : Ordering) (es fs : List (Option ℕ)) → length es ≡ 4 → length fs ≡ 4 → o ≡ nat_cmp (length (vertices_from 0 es)) (length (vertices_from 0 fs)) →
-    ordering_then (ordering_then (ordering_then (ordering_then o (entry_cmp (slice_index_or es 0 None) (slice_index_or fs 0 None))) (entry_cmp (slice_index_or es 1 None) (slice_index_or fs 1 None))) (entry_cmp (slice_index_or es 2 None) (slice_index_or fs 2 None))) (entry_cmp (slice_index_or es 3 None) (slice_index_or fs 3 None))
-    ≡ simplex_cmp (vertices_from 0 es) (vertices_from 0 fs)
-ordered_by_entries o es fs h k sizes =
-    ordered_four o es fs h k
-    ∙ after_sizes (vertices_from 0 es) (vertices_from 0 fs) o (entries_cmp es fs) (vertices_cmp 0 es fs (h ∙ sym k)) sizes
+pub ordered_by_entries : (o : Ordering) (a b c d e f g h : Option ℕ) → o ≡ nat_cmp (length (vertices_from 0 (a ∷ b ∷ c ∷ d ∷ []))) (length (vertices_from 0 (e ∷ f ∷ g ∷ h ∷ []))) →
+    ordering_then (ordering_then (ordering_then (ordering_then o (entry_cmp a e)) (entry_cmp b f)) (entry_cmp c g)) (entry_cmp d h) ≡ simplex_cmp (vertices_from 0 (a ∷ b ∷ c ∷ d ∷ [])) (vertices_from 0 (e ∷ f ∷ g ∷ h ∷ []))
+unfolding entries_cmp
+ordered_by_entries o a b c d e f g h sizes =
+    let es : List (Option ℕ) = a ∷ b ∷ c ∷ d ∷ [] in
+    let fs : List (Option ℕ) = e ∷ f ∷ g ∷ h ∷ [] in
+    then_all o (entry_cmp a e) (entry_cmp b f) (entry_cmp c g) (entry_cmp d h)
+    ∙ after_sizes (vertices_from 0 es) (vertices_from 0 fs) o (entries_cmp es fs) (vertices_cmp 0 es fs refl) sizes
     ∙ ap (λ p. ordering_then p (slice_cmp vertex_cmp (vertices_from 0 es) (vertices_from 0 fs))) sizes
 
 -- ---- small facts

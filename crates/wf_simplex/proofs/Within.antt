@@ -1,5 +1,5 @@
 -- The faces of a simplex within some bounds are within them.
-use Rattle.std.proofs.Common.{◌≡◌, ℕ, ◌+◌, ◌<◌, ◌≤◌, true, nat_lt, List, [], ◌∷◌, length, map, All, inl, inr, refl, subst, arith, ltb-true, lt-ltb, None}
+use Rattle.std.proofs.Common.{◌≡◌, ℕ, ◌+◌, ◌<◌, ◌≤◌, true, nat_lt, List, [], ◌∷◌, ◌++◌, length, map, All, inl, inr, refl, subst, arith, ltb-true, lt-ltb, None}
 use Rattle.std.specs.List.{AllByRecursion, list_all}
 use Rattle.std.proofs.lemmas.List.Elements.{All-nil, All-cons, All-head, All-tail, All-from_recursion}
 use Rattle.wf_model.specs.Simplex.{Simplex, processes_of, values_of, is_ascending, is_nonempty, parts_of, faces_of, complex_of}
@@ -19,6 +19,19 @@ pub climbs_lower : (n largest m k : ℕ) (s : Simplex) → k ≤ m → Climbs n 
 unfolding Climbs
 climbs_lower n largest m k [] low h = tt
 climbs_lower n largest m k (v ∷ s) low h = let first : k ≤ v.0 = omega (arith, h.0, low) in (first, h.1, h.2, h.3)
+
+pub climbs_wider : (n largest m k : ℕ) (s : Simplex) → n ≤ k → Climbs n largest m s → Climbs k largest m s
+unfolding Climbs
+climbs_wider n largest m k [] high h = tt
+climbs_wider n largest m k (v ∷ s) high h = let low : v.0 < k = omega (arith, h.1, high) in (h.0, low, h.2, climbs_wider n largest (v.0 + 1) k s high h.3)
+
+-- with one more vertex, of the next process
+pub climbs_joined : (p x largest m : ℕ) (s : Simplex) → m ≤ p → x ≤ largest → Climbs p largest m s → Climbs (p + 1) largest m (s ++ ((p, x) ∷ []))
+unfolding Climbs
+climbs_joined p x largest m [] from small h = let low : p < p + 1 = omega arith in (from, low, small, tt)
+climbs_joined p x largest m (v ∷ s) from small h =
+    let low : v.0 < p + 1 = omega (arith, h.1) in
+    (h.0, low, h.2, climbs_joined p x largest (v.0 + 1) s (omega (arith, h.1)) small h.3)
 
 climbs_part : (n largest m : ℕ) (s t : Simplex) → Climbs n largest m s → Has t (parts_of s) → Climbs n largest m t
 unfolding Climbs
@@ -48,7 +61,7 @@ climbs_ascend n largest m (v ∷ []) h = refl
 climbs_ascend n largest m (v ∷ w ∷ s) h =
     and_from (nat_lt v.0 w.0) (is_ascending (processes_of (w ∷ s))) (lt-ltb v.0 w.0 (omega (arith, h.3.0))) (climbs_ascend n largest (v.0 + 1) (w ∷ s) h.3)
 
-climbs_within : (n largest : ℕ) (s : Simplex) → is_nonempty s ≡ true → Climbs n largest 0 s → IsSimplexWithin n largest s
+pub climbs_within : (n largest : ℕ) (s : Simplex) → is_nonempty s ≡ true → Climbs n largest 0 s → IsSimplexWithin n largest s
 climbs_within n largest s some h = record {
   is_simplex = and_from (is_nonempty s) (is_ascending (processes_of s)) some (climbs_ascend n largest 0 s h);
   processes = climbs_processes n largest 0 s h;
@@ -104,9 +117,6 @@ pub complex_within : (n largest : ℕ) (facets : List Simplex) → All (IsSimple
 complex_within n largest facets h =
     all_of_has (IsSimplexWithin n largest) (complex_of facets)
     (λ t here. (let f = of_some_facet t facets here in face_within n largest f.0 t (has_of_all (IsSimplexWithin n largest) f.0 facets h f.1) f.2))
-
-pub faces_within : (n largest : ℕ) (s : Simplex) → IsSimplexWithin n largest s → All (IsSimplexWithin n largest) (faces_of s)
-faces_within n largest s h = all_of_has (IsSimplexWithin n largest) (faces_of s) (λ t here. face_within n largest s t h here)
 
 -- ---- how many vertices, and no fault
 

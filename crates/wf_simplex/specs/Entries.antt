@@ -1,6 +1,5 @@
 -- A simplex kept as a table: for each process from 0 on its value, if it takes part.
 use Rattle.std.specs.Prelude.{ℕ, ◌+◌, List, [], ◌∷◌, Option, None, Some, nat_lt, nat_le, ◌==◌, ◌&&◌, if◌then◌else◌, Bool, true, false}
-use Rattle.std.proofs.Common.{◌≡◌, length, refl, arith}
 use Rattle.wf_model.specs.Simplex.{Simplex}
 
 -- the vertices that the table lists, its first entry being that of process n
@@ -17,33 +16,6 @@ value_at (v ∷ s) p = if v.0 == p then Some v.1 else value_at s p
 -- the table of a simplex
 abbrev pub entries_of : Simplex → List (Option ℕ)
 entries_of s = value_at s 0 ∷ value_at s 1 ∷ value_at s 2 ∷ value_at s 3 ∷ []
-
--- a table of four entries is that of its vertices
-four : (a b c d : Option ℕ) → entries_of (vertices_from 0 (a ∷ b ∷ c ∷ d ∷ [])) ≡ a ∷ b ∷ c ∷ d ∷ []
-four None None None None = refl
-four None None None (Some w) = refl
-four None None (Some z) None = refl
-four None None (Some z) (Some w) = refl
-four None (Some y) None None = refl
-four None (Some y) None (Some w) = refl
-four None (Some y) (Some z) None = refl
-four None (Some y) (Some z) (Some w) = refl
-four (Some x) None None None = refl
-four (Some x) None None (Some w) = refl
-four (Some x) None (Some z) None = refl
-four (Some x) None (Some z) (Some w) = refl
-four (Some x) (Some y) None None = refl
-four (Some x) (Some y) None (Some w) = refl
-four (Some x) (Some y) (Some z) None = refl
-four (Some x) (Some y) (Some z) (Some w) = refl
-
-pub entries_of-four : (es : List (Option ℕ)) → length es ≡ 4 → entries_of (vertices_from 0 es) ≡ es
-entries_of-four [] h = absurd (omega arith)
-entries_of-four (a ∷ []) h = absurd (omega arith)
-entries_of-four (a ∷ b ∷ []) h = absurd (omega arith)
-entries_of-four (a ∷ b ∷ c ∷ []) h = absurd (omega arith)
-entries_of-four (a ∷ b ∷ c ∷ d ∷ []) h = four a b c d
-entries_of-four (a ∷ b ∷ c ∷ d ∷ e ∷ es) h = absurd (omega arith)
 
 -- an entry that is absent, or the same as the other
 abbrev pub is_within : Option ℕ → Option ℕ → Bool

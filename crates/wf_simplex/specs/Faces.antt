@@ -1,7 +1,7 @@
 -- Complexes: what each one has, and their faces one after another.
-use Rattle.std.specs.Prelude.{◌≡◌, ℕ, ◌<◌, ◌≤◌, ◌^◌, List, ◌++◌, length, map, filter, All, Option, None, slice_index_or, IfSome}
+use Rattle.std.specs.Prelude.{◌≡◌, ◌<◌, ◌^◌, List, [], ◌∷◌, ◌++◌, length, map, All}
 use Rattle.std.specs.List.Sorted.{IsStrictlySortedBy}
-use Rattle.wf_model.specs.Simplex.{Simplex, is_nonempty, parts_of, simplex_cmp, complex_of}
+use Rattle.wf_model.specs.Simplex.{Vertex, Simplex, simplex_cmp, complex_of}
 use Rattle.wf_model.specs.Task.{IsTaskSimplex}
 
 -- simplices in order, each once, with all their faces; so few that u32 numbers them
@@ -11,10 +11,19 @@ pub record IsComplex (simplices : List Simplex) : Type 0 where
   pub within : All IsTaskSimplex simplices
   pub countable : length simplices < 2 ^ 32
 
--- the faces that have all of the first vertices and some of the others
-abbrev pub faces_with : Simplex → Simplex → List Simplex
-faces_with front others = filter is_nonempty (map (λ part. front ++ part) (parts_of others))
+-- each of these with one more vertex
+abbrev pub joined : Vertex → List Simplex → List Simplex
+joined v faces = map (λ s. s ++ (v ∷ [])) faces
 
--- entries whose values are at most 255
-abbrev pub AreSmall : List (Option ℕ) → Type 0
-AreSmall entries = (k : ℕ) → IfSome (slice_index_or entries k None) (λ x. x ≤ 255)
+-- these, one more vertex alone, and each of these with it
+abbrev pub with_vertex : List Simplex → Vertex → List Simplex
+with_vertex faces v = faces ++ (v ∷ []) ∷ joined v faces
+
+-- these, and the faces that further vertices bring
+abbrev pub with_vertices : List Simplex → Simplex → List Simplex
+with_vertices faces [] = faces
+with_vertices faces (v ∷ s) = with_vertices (with_vertex faces v) s
+
+-- the faces of a simplex, one vertex after another
+abbrev pub faces_in_turn : Simplex → List Simplex
+faces_in_turn s = with_vertices [] s

@@ -1,8 +1,8 @@
 -- A number for each simplex, in the order of simplices.
-use Rattle.std.specs.Prelude.{◌≡◌, ℕ, ◌+◌, ◌*◌, ◌/◌, ◌%◌, nat_lt, List, [], ◌∷◌, length, Option, None, Some, if◌then◌else◌}
+use Rattle.std.specs.Prelude.{◌≡◌, ℕ, zero, suc, ◌+◌, ◌*◌, ◌/◌, ◌%◌, nat_lt, List, [], ◌∷◌, length, Option, None, Some, if◌then◌else◌}
 use Rattle.wf_model.specs.Simplex.{Simplex}
 use Rattle.wf_model.specs.Task.{IsTaskSimplex}
-use Rattle.wf_simplex.specs.Entries.{value_at}
+use Rattle.wf_simplex.specs.Entries.{value_at, vertices_from}
 
 -- the digit of a process that takes no part: larger than each value
 abbrev pub absent : ℕ
@@ -21,9 +21,27 @@ digit_of (Some x) = x
 abbrev pub key_of : Simplex → ℕ
 key_of s = (((length s * digits + digit_of (value_at s 0)) * digits + digit_of (value_at s 1)) * digits + digit_of (value_at s 2)) * digits + digit_of (value_at s 3)
 
--- the key of some simplex that a task may have
-abbrev pub IsKey : ℕ → Type 0
-IsKey key = (s : Simplex) × IsTaskSimplex s × (key_of s ≡ key)
+-- what one more in the size adds to a key
+abbrev pub one_vertex : ℕ
+one_vertex = 68719476736
+
+-- what one more in the digit of a process adds to a key
+abbrev pub unit_of : ℕ → ℕ
+unit_of zero = 134217728
+unit_of (suc zero) = 262144
+unit_of (suc (suc zero)) = 512
+unit_of (suc (suc (suc p))) = 1
+
+-- more than each key: that of a fifth vertex
+abbrev pub key_limit : ℕ
+key_limit = 343597383680
+
+-- the digit of a process
+abbrev pub digit_at : ℕ → ℕ → ℕ
+digit_at key zero = key / digits / digits / digits % digits
+digit_at key (suc zero) = key / digits / digits % digits
+digit_at key (suc (suc zero)) = key / digits % digits
+digit_at key (suc (suc (suc p))) = key % digits
 
 -- the entry that has this digit
 abbrev pub entry_of : ℕ → Option ℕ
@@ -31,4 +49,13 @@ entry_of digit = if nat_lt digit absent then Some digit else None
 
 -- the table that has this key
 abbrev pub entries_from : ℕ → List (Option ℕ)
-entries_from key = entry_of (key / digits / digits / digits % digits) ∷ entry_of (key / digits / digits % digits) ∷ entry_of (key / digits % digits) ∷ entry_of (key % digits) ∷ []
+entries_from key = entry_of (digit_at key 0) ∷ entry_of (digit_at key 1) ∷ entry_of (digit_at key 2) ∷ entry_of (digit_at key 3) ∷ []
+
+-- the simplex that has this key
+unfoldable pub simplex_of : ℕ → Simplex
+simplex_of key = vertices_from 0 (entries_from key)
+
+-- the key of a simplex that a task may have
+pub record IsKey (key : ℕ) : Type 0 where
+  pub simplex : IsTaskSimplex (simplex_of key)
+  pub exact : key_of (simplex_of key) ≡ key

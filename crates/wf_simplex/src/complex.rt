@@ -1,11 +1,9 @@
 //! Complexes: simplices with all their faces.
 
-ghost use Rattle.std.specs.Prelude.{All, map, ◌≡◌, ◌<◌, ◌≤◌, ◌↔◌, IfOk, IfSome, IsTrue, IsNone, Contains, length, slice_get, Some};
+ghost use Rattle.std.specs.Prelude.{◌≡◌, ◌<◌, ◌≤◌, ◌↔◌, IfOk, IfSome, IsTrue, IsNone, Contains, length, slice_get, Some};
 ghost use Rattle.wf_model.specs.Limits.{most_facets};
 ghost use Rattle.wf_model.specs.Simplex.{complex_of};
-ghost use Rattle.wf_model.specs.Task.{IsTaskSimplex};
 ghost use Rattle.wf_simplex.specs.Faces.{IsComplex};
-ghost use Rattle.wf_simplex.specs.Keys.{key_of, IsKey};
 
 use crate::simplex::Simplex;
 use std::alloc::{AllocError, Global};
@@ -33,18 +31,18 @@ impl Model for Complex {
 impl Complex {
     /// The faces of these simplices. It takes n log n steps, and memory for eight bytes a face of
     /// each facet, at most 15 of them a facet, in a vector that grows by doubling: the same face
-    /// of two facets is kept twice until all are sorted.
+    /// of two facets is kept twice until all are sorted. What is left over is then given back.
     pub fn from_facets(alloc: Global, facets: &[Simplex]) -> Result<Complex, AllocError>
         requires { length facets.now ≤ most_facets }
         ensures { IfOk result (λ c. c ≡ complex_of facets.now) }
     {
-        let mut keys = Vec::new(alloc);
+        let mut simplices = Vec::new(alloc);
         for facet in facets {
-            facet.add_keys(&mut keys)?;
+            facet.add_faces(&mut simplices)?;
         }
-        keys.sort_unstable();
-        keys.dedup();
-        let simplices = simplices_of(alloc, &keys)?;
+        simplices.sort_unstable();
+        simplices.dedup();
+        simplices.shrink_to_fit();
         Ok(Complex { simplices })
     }
 
@@ -73,17 +71,4 @@ impl Complex {
             Err(_) => None,
         }
     }
-}
-
-/// The simplices of these keys.
-fn simplices_of(alloc: Global, keys: &[u64]) -> Result<Vec<Simplex>, AllocError>
-    requires { All IsKey keys.now }
-    ensures keys { IfOk result (λ simplices. map key_of simplices.items ≡ keys.now) }
-    ensures within { IfOk result (λ simplices. All IsTaskSimplex simplices.items) }
-{
-    let mut simplices = Vec::with_capacity(alloc, keys.len())?;
-    for key in keys {
-        simplices.push(Simplex::of_key(*key))?;
-    }
-    Ok(simplices)
 }

@@ -1,18 +1,20 @@
 //! Simplices: vertices of different processes.
 
-ghost use Rattle.std.specs.Prelude.{◌≡◌, ℕ, ◌<◌, ◌≤◌, ◌++◌, map, List, length, None, Some, MatchResult, OnOk, slice_index, slice_index_or, drop};
-ghost use Rattle.wf_model.specs.Simplex.{processes_of, faces_of, is_face, simplex_cmp};
+ghost use Rattle.std.specs.Prelude.{◌≡◌, ◌+◌, ℕ, ◌<◌, ◌≤◌, ◌++◌, [], ◌∷◌, All, drop, length, None, Some, MatchResult, OnOk, slice_index, vec_len, vec_capacity};
+ghost use Rattle.wf_model.specs.Simplex.{processes_of, is_face, simplex_cmp};
 ghost use Rattle.wf_model.specs.Task.{IsTaskSimplex};
-ghost use Rattle.wf_simplex.specs.Faces.{faces_with};
-ghost use Rattle.wf_simplex.specs.Entries.{vertices_from, value_at, is_within};
-ghost use Rattle.wf_simplex.specs.Keys.{key_of, IsKey};
+ghost use Rattle.wf_simplex.specs.Faces.{faces_in_turn, joined};
+ghost use Rattle.wf_simplex.specs.Entries.{value_at};
 ghost use Rattle.wf_simplex.specs.Reading.{read_fault};
 
-use crate::keys::{entries, key};
+use crate::keys::{ABSENT, NO_VERTEX, ONE_VERTEX, digit, entry, is_within, key_with};
 use std::alloc::AllocError;
 use std::cmp::Ordering;
 use std::fmt;
 use std::marker::Model;
+
+/// How many faces a simplex of four processes has.
+const MOST_FACES: usize = 15;
 
 /// Why a list of pairs is no simplex.
 #[derive(Clone, Copy, Debug, PartialEq, Eq)]
@@ -41,29 +43,28 @@ impl fmt::Display for SimplexFault {
 /// A simplex: some of the processes 0 to 3, at least one, each with a value of at most 255.
 ///
 /// A clause sees it as the list of its vertices, the pairs of a process and its value, by ascending
-/// process. Simplices are ordered by size, and then as these lists.
+/// process. Simplices are ordered by size, and then as these lists. Each is kept as a number of
+/// eight bytes, in the same order.
 #[derive(Clone, Copy, Debug)]
 pub struct Simplex {
-    // the value of each process that takes part
-    values: [Option<u8>; 4],
+    // the size, and then a digit for each process
+    key: u64,
 }
 
 impl Model for Simplex {
-    ghost use Rattle.std.specs.Prelude.{◌≡◌, ℕ, List, length};
-    ghost use Rattle.wf_simplex.specs.Entries.{vertices_from, entries_of, entries_of-four};
-    ghost use Rattle.wf_model.specs.Task.{IsTaskSimplex};
+    ghost use Rattle.std.specs.Prelude.{ℕ, List};
     ghost use Rattle.std.proofs.Common.{ap};
+    ghost use Rattle.wf_simplex.specs.Keys.{key_of, simplex_of, IsKey};
 
     ghost Value = { List (ℕ × ℕ) };
 
-    ghost view = { λ s. vertices_from 0 s.values };
+    ghost view = { λ s. simplex_of s.key };
 
-    ghost invariant = { λ s. (length s.values ≡ 4)
-        × IsTaskSimplex (vertices_from 0 s.values) };
+    ghost invariant = { λ s. IsKey s.key };
 
-    ghost inverse = { λ s. record { values = entries_of s } };
+    ghost inverse = { λ s. record { key = key_of s } };
 
-    ghost inverse_ok = { λ s h. ap (λ es. record { values = es }) (entries_of-four s.values h.0) };
+    ghost inverse_ok = { λ s h. ap (λ k. record { key = k }) h.exact };
 }
 
 impl Simplex {
@@ -77,16 +78,16 @@ impl Simplex {
         if pairs.is_empty() {
             return Err(SimplexFault::Empty);
         }
-        let mut values = [None; 4];
+        let mut key = NO_VERTEX;
         let mut least = 0;
         for (process, value) in pairs {
             if *process < least || *process > 3 {
                 return Err(SimplexFault::Colour);
             }
-            values[*process as usize] = entry(*value);
+            key = key_with(key, *process, *value);
             least = *process + 1;
         }
-        Ok(Simplex { values })
+        Ok(Simplex { key })
     }
 
     /// How many processes take part.
@@ -96,7 +97,7 @@ impl Simplex {
         ensures few { result ≤ 4 }
         ensures simplex { IsTaskSimplex self.now }
     {
-        count(self.values)
+        (self.key / ONE_VERTEX) as u8
     }
 
     /// The process at a place, the processes ascending.
@@ -105,10 +106,10 @@ impl Simplex {
         ensures { result ≡ slice_index (processes_of self.now) place }
     {
         let mut left = place;
-        for (process, value) in self.values.iter().enumerate() {
-            if value.is_some() {
+        for process in 0..4 {
+            if digit(self.key, process) < ABSENT {
                 if left == 0 {
-                    return process as u8;
+                    return process;
                 }
                 left -= 1;
             }
@@ -121,7 +122,7 @@ impl Simplex {
         ensures { result ≡ value_at self.now process }
     {
         if process < 4 {
-            self.values[process as usize]
+            entry(digit(self.key, process))
         } else {
             None
         }
@@ -131,83 +132,67 @@ impl Simplex {
     pub fn is_face(&self, other: &Simplex) -> bool
         ensures { result ≡ is_face self.now other.now }
     {
-        let [a, b, c, d] = self.values;
-        let [e, f, g, h] = other.values;
-        is_within(a, e) & is_within(b, f) & is_within(c, g) & is_within(d, h)
+        is_within(digit(self.key, 0), digit(other.key, 0))
+            & is_within(digit(self.key, 1), digit(other.key, 1))
+            & is_within(digit(self.key, 2), digit(other.key, 2))
+            & is_within(digit(self.key, 3), digit(other.key, 3))
     }
 
-    /// Adds the key of each face.
-    pub(crate) fn add_keys(&self, keys: &mut Vec<u64>) -> Result<(), AllocError>
-        ensures added { OnOk result (keys.new.items
-            ≡ keys.old.items ++ map key_of (faces_of self.now)) }
+    /// Adds each face.
+    pub(crate) fn add_faces(&self, faces: &mut Vec<Simplex>) -> Result<(), AllocError>
+        ensures added { OnOk result (faces.new.items
+            ≡ faces.old.items ++ faces_in_turn self.now) }
         ensures simplex { IsTaskSimplex self.now }
     {
-        add_keys(keys, self.values, [None; 4], 0)
+        let _ = &self.key;
+        faces.reserve(MOST_FACES)?;
+        let start = faces.len();
+        for process in 0..4 {
+            if let Some(value) = self.value(process) {
+                add_joined(faces, start, process, value);
+            }
+        }
+        Ok(())
     }
 
-    /// The simplex of a key.
-    pub(crate) fn of_key(key: u64) -> Simplex
-        requires { IsKey key }
-        ensures key { key_of result ≡ key }
-        ensures simplex { IsTaskSimplex result }
+    /// One vertex alone.
+    fn alone(process: u8, value: u8) -> Simplex
+        requires { IsTaskSimplex ((process, value) ∷ []) }
+        ensures { result ≡ (process, value) ∷ [] }
     {
         Simplex {
-            values: entries(key),
+            key: key_with(NO_VERTEX, process, value),
+        }
+    }
+
+    /// The simplex and one more vertex, of a later process.
+    fn joined(&self, process: u8, value: u8) -> Simplex
+        requires { IsTaskSimplex (self.now ++ ((process, value) ∷ [])) }
+        ensures { result ≡ self.now ++ ((process, value) ∷ []) }
+    {
+        Simplex {
+            key: key_with(self.key, process, value),
         }
     }
 }
 
-/// The entry of a process that takes part: any `u8` is a value.
-fn entry(value: u8) -> Option<u8>
-    ensures entry { result ≡ Some value }
-    ensures small { value ≤ 255 }
+/// Adds a vertex alone, and with it each simplex from this place on.
+fn add_joined(faces: &mut Vec<Simplex>, start: usize, process: u8, value: u8)
+    requires place { start ≤ vec_len faces.old }
+    requires room { vec_len faces.old + vec_len faces.old + 1 ≤ start + vec_capacity faces.old }
+    requires alone { IsTaskSimplex ((process, value) ∷ []) }
+    requires joined { All (λ s. IsTaskSimplex (s ++ ((process, value) ∷ [])))
+        (drop start faces.old.items) }
+    ensures added { faces.new.items ≡ faces.old.items
+        ++ ((process, value) ∷ []) ∷ joined (process, value) (drop start faces.old.items) }
+    ensures count { vec_len faces.new + start ≡ vec_len faces.old + vec_len faces.old + 1 }
+    ensures capacity { vec_capacity faces.new ≡ vec_capacity faces.old }
 {
-    Some(value)
-}
-
-/// How many entries are there.
-pub(crate) fn count(values: [Option<u8>; 4]) -> u8
-    ensures { result ≡ length (vertices_from 0 values) }
-{
-    let [a, b, c, d] = values;
-    u8::from(a.is_some()) + u8::from(b.is_some()) + u8::from(c.is_some()) + u8::from(d.is_some())
-}
-
-/// Adds the keys of the faces that have the chosen entries, and of the others some of the facet's.
-fn add_keys(
-    keys: &mut Vec<u64>,
-    facet: [Option<u8>; 4],
-    chosen: [Option<u8>; 4],
-    from: usize,
-) -> Result<(), AllocError>
-    requires place { from ≤ 4 }
-    requires blank { (k : ℕ) → from ≤ k → slice_index_or chosen k None ≡ None }
-    ensures { OnOk result (keys.new.items ≡ keys.old.items ++ map key_of
-        (faces_with (vertices_from 0 chosen) (vertices_from from (drop from facet)))) }
-{
-    if from == 4 {
-        if count(chosen) > 0 {
-            keys.push(key(chosen))?;
-        }
-        return Ok(());
-    }
-    if facet[from].is_none() {
-        return add_keys(keys, facet, chosen, from + 1);
-    }
-    let mut longer = chosen;
-    longer[from] = facet[from];
-    add_keys(keys, facet, longer, from + 1)?;
-    add_keys(keys, facet, chosen, from + 1)
-}
-
-/// Whether the first entry is absent or the same as the second.
-fn is_within(entry: Option<u8>, other: Option<u8>) -> bool
-    ensures { result ≡ is_within entry other }
-{
-    match (entry, other) {
-        (None, _) => true,
-        (Some(_), None) => false,
-        (Some(x), Some(y)) => x == y,
+    let end = faces.len();
+    faces.push_reserved(Simplex::alone(process, value));
+    for place in start..end {
+        let face = faces[place].joined(process, value);
+        faces.push_reserved(face);
     }
 }
 
@@ -220,7 +205,7 @@ impl PartialEq for Simplex {
     ghost laws = { partial_equiv_from_equiv same_simplex-equivalence };
 
     fn eq(&self, other: &Simplex) -> bool {
-        self.values == other.values
+        self.key == other.key
     }
 }
 
@@ -243,7 +228,7 @@ impl Ord for Simplex {
     ghost matches_eq = { same_simplex-ties };
 
     fn cmp(&self, other: &Simplex) -> Ordering {
-        key(self.values).cmp(&key(other.values))
+        self.key.cmp(&other.key)
     }
 }
 

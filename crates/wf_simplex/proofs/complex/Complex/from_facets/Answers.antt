@@ -1,6 +1,5 @@
-use Rattle.std.proofs.Common.{All, sym, ◌∙◌, subst}
-use Rattle.wf_simplex.specs.Keys.{IsKey}
-use Rattle.wf_simplex.proofs.FromFacets.{keys_more, within_more, keys_sorted, all_are_keys, are_complex, is_complex}
+use Rattle.std.proofs.Common.{◌∙◌}
+use Rattle.wf_simplex.proofs.FromFacets.{faces_more, within_more, faces_sorted, facets_within, is_complex}
 use Rattle.wf_simplex.proofs.complex.Complex.from_facets.Goals as goal
 
 pub loop-facet-preserved : goal.loop-facet-preserved
@@ -10,29 +9,22 @@ loop-facet-preserved c =
     let f = c.facet-item.result in
     let inv = c.loop-facet.invariant in
     record {
-      keys = keys_more facets c.loop-facet.keys.items c.add_keys.new.keys.items i f c.loop-facet-test.true c.facet-item.is inv.keys c.in_ok-add_keys.ensures.added;
-      within = within_more facets i f c.loop-facet-test.true c.facet-item.is inv.within c.add_keys.ensures.simplex;
+      faces = faces_more facets c.loop-facet.simplices.items c.add_faces.new.faces.items i f c.loop-facet-test.true c.facet-item.is inv.faces c.in_ok-add_faces.ensures.added;
+      within = within_more facets i f c.loop-facet-test.true c.facet-item.is inv.within c.add_faces.ensures.simplex;
     }
-
-pub simplices_of-requires : goal.simplices_of-requires
-simplices_of-requires c =
-    let inv = c.loop-facet.invariant in
-    let sort = c.sort_unstable.ensures in
-    let h = keys_sorted c.args.facets.now c.loop-facet.facet-index _ _ _ c.loop-facet-test.false inv.keys inv.within sort.permutation sort.sorted c.dedup.ensures.filtered in
-    subst (All IsKey) (sym c.deref.ensures.value) (all_are_keys _ _ h)
-
-pub invariant_of-result : goal.invariant_of-result
-invariant_of-result c =
-    let inv = c.loop-facet.invariant in
-    let sort = c.sort_unstable.ensures in
-    let h = keys_sorted c.args.facets.now c.loop-facet.facet-index _ _ _ c.loop-facet-test.false inv.keys inv.within sort.permutation sort.sorted c.dedup.ensures.filtered in
-    let made = c.in_ok-simplices.ensures in
-    is_complex _ _ h c.in_ok-simplices.simplices.items made.within (made.keys ∙ c.deref.ensures.value) c.requires
 
 pub returns : goal.returns
 returns c =
     let inv = c.loop-facet.invariant in
     let sort = c.sort_unstable.ensures in
-    let h = keys_sorted c.args.facets.now c.loop-facet.facet-index _ _ _ c.loop-facet-test.false inv.keys inv.within sort.permutation sort.sorted c.dedup.ensures.filtered in
-    let made = c.in_ok-simplices.ensures in
-    are_complex _ _ h c.in_ok-simplices.simplices.items made.within (made.keys ∙ c.deref.ensures.value)
+    c.shrink_to_fit.ensures.items
+    ∙ faces_sorted c.args.facets.now c.loop-facet.facet-index _ _ _ c.loop-facet-test.false inv.faces sort.permutation sort.sorted c.dedup.ensures.filtered
+
+pub invariant_of-result : goal.invariant_of-result
+invariant_of-result c =
+    let inv = c.loop-facet.invariant in
+    let sort = c.sort_unstable.ensures in
+    is_complex c.args.facets.now c.shrink_to_fit.new.self.items
+    (c.shrink_to_fit.ensures.items
+    ∙ faces_sorted c.args.facets.now c.loop-facet.facet-index _ _ _ c.loop-facet-test.false inv.faces sort.permutation sort.sorted c.dedup.ensures.filtered)
+    (facets_within c.args.facets.now c.loop-facet.facet-index c.loop-facet-test.false inv.within) c.requires

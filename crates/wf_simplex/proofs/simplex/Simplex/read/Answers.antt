@@ -1,10 +1,11 @@
-use Rattle.std.proofs.Common.{All, ◌+◌, ◌≢◌, ◌<◌, ◌≤◌, length, IfSome, slice_index_or, slice_set, sym, ap, ◌∙◌, subst, arith, [], ◌∷◌, ◌++◌, inl, inr, drop, length-set, get_or-set_other, take_all}
-use Rattle.wf_model.specs.Simplex.{values_of}
-use Rattle.wf_model.specs.Task.{IsSimplexWithin}
-use Rattle.std.proofs.lemmas.List.{take_more}
-use Rattle.wf_simplex.specs.Entries.{vertices_from, ascends_from}
-use Rattle.wf_simplex.proofs.Reading.{nonempty_by_length, process_fault, no_fault, simplex_within, added, ascending_step, names_processes_at_end, at_pair}
-use Rattle.wf_simplex.proofs.SmallTables.{values_small, small_set}
+use Rattle.std.proofs.Common.{All, ◌≡◌, ◌+◌, ◌-◌, ◌*◌, ◌==◌, ◌<◌, ◌≤◌, false, slice_index_or, sym, ap, ◌∙◌, subst, arith, [], ◌∷◌, ◌++◌, inl, inr, drop, take, take_all, ne_eqb}
+use Rattle.wf_model.specs.Simplex.{Vertex, values_of}
+use Rattle.std.proofs.lemmas.List.{take_more, map-append}
+use Rattle.std.proofs.lemmas.List.Elements.{All-push}
+use Rattle.wf_simplex.specs.Entries.{value_at, ascends_from}
+use Rattle.wf_simplex.specs.Keys.{key_of, unit_of}
+use Rattle.wf_simplex.proofs.KeyLemmas.{is_key, key_of-joined, simplex_of-key, value_at-other}
+use Rattle.wf_simplex.proofs.Reading.{nonempty_by_length, process_fault, no_fault, simplex_within, ascending_step, names_processes_at_end, at_pair}
 use Rattle.wf_simplex.proofs.simplex.Simplex.read.Goals as goal
 use Rattle.wf_simplex.proofs.simplex.Simplex.read.Goals.{then-process-least-via-then-process-least, then-process-least-via-else-process-least+then-process-gt3}
 
@@ -20,32 +21,45 @@ returns-then-process-least c =
 pub loop-process-preserved : goal.loop-process-preserved
 loop-process-preserved c =
     let s = c.args.pairs.now in
-    let es = c.loop-process.values in
     let i = c.loop-process.process-index in
+    let least = c.loop-process.least in
     let inv = c.loop-process.invariant in
     let v = slice_index_or s i (0, 0) in
-    let e = c.entry.result in
-    let low : c.loop-process.least ≤ v.0 = c.if-process-least.false in
+    let taken = take i s in
+    let more : take (i + 1) s ≡ taken ++ (v ∷ []) = take_more s i (0, 0) c.loop-process-test.true in
+    let low : least ≤ v.0 = c.if-process-least.false in
     let high : v.0 < 4 = omega arith in
-    let in_table : v.0 < length es = omega (arith, inv.four) in
+    let made = c.key_with-key.ensures in
     record {
-      four = length-set es v.0 e ∙ inv.four;
-      blank = λ k h. let other : k ≢ v.0 = omega arith in rw get_or-set_other (inv.blank k (omega arith));
-      small = small_set es v.0 e inv.small (subst (λ o. IfSome o (λ x. x ≤ 255)) (sym c.entry.ensures.entry) c.entry.ensures.small);
-      taken = ap (λ o. vertices_from 0 (slice_set es v.0 o)) c.entry.ensures.entry ∙ added es v.0 v.1 in_table (λ k h. inv.blank k (omega arith)) ∙ ap (λ t. t ++ (v ∷ [])) inv.taken ∙ sym (take_more s i (0, 0) c.loop-process-test.true);
-      ascends = sym (ascending_step c.loop-process.least v (drop (i + 1) s) low high) ∙ ap (ascends_from c.loop-process.least) (sym (at_pair s i c.loop-process-test.true)) ∙ inv.ascends;
+      key = made.key ∙ ap (λ k. k + 68719476736 - (256 - v.1) * unit_of v.0) inv.key
+          ∙ key_of-joined taken v.0 v.1 high made.value (inv.absent v.0 low) ∙ ap key_of (sym more);
+      few = omega (arith, made.few, inv.few);
+      count = omega (arith, inv.count, low);
+      most = omega (arith, high);
+      absent = λ p h.
+          let other : (v.0 == p) ≡ false = ne_eqb v.0 p (λ e. omega (arith, h, e)) in
+          ap (λ t. value_at t p) more ∙ value_at-other taken v.0 v.1 p other ∙ inv.absent p (omega (arith, h, low));
+      small = subst (All (λ x. x ≤ 255)) (sym (ap values_of more ∙ map-append (λ (w : Vertex). w.1) taken (v ∷ [])))
+          (All-push (λ x. x ≤ 255) (values_of taken) v.1 inv.small made.value);
+      ascends = sym (ascending_step least v (drop (i + 1) s) low high) ∙ ap (ascends_from least) (sym (at_pair s i c.loop-process-test.true)) ∙ inv.ascends;
     }
 
 pub invariant_of-result : goal.invariant_of-result
 invariant_of-result c =
-    let some = nonempty_by_length c.args.pairs.now (sym c.is_empty.ensures ∙ c.if-is_empty.false) in
-    let named = names_processes_at_end c.args.pairs.now c.loop-process.least c.loop-process.process-index c.loop-process-test.false c.loop-process.invariant.ascends in
-    let all = c.loop-process.invariant.taken ∙ take_all c.loop-process.process-index c.args.pairs.now c.loop-process-test.false in
-    (c.loop-process.invariant.four, subst (IsSimplexWithin 4 255) (sym all) (simplex_within c.args.pairs.now some named (subst (λ s. All (λ x. x ≤ 255) (values_of s)) all (values_small 0 c.loop-process.values c.loop-process.invariant.small))))
+    let s = c.args.pairs.now in
+    let inv = c.loop-process.invariant in
+    let some = nonempty_by_length s (sym c.is_empty.ensures ∙ c.if-is_empty.false) in
+    let named = names_processes_at_end s c.loop-process.least c.loop-process.process-index c.loop-process-test.false inv.ascends in
+    let all = take_all c.loop-process.process-index s c.loop-process-test.false in
+    is_key c.loop-process.key s (inv.key ∙ ap key_of all) (simplex_within s some named (subst (λ t. All (λ x. x ≤ 255) (values_of t)) all inv.small))
 
 pub returns : goal.returns
 returns c =
-    let some = nonempty_by_length c.args.pairs.now (sym c.is_empty.ensures ∙ c.if-is_empty.false) in
-    let named = names_processes_at_end c.args.pairs.now c.loop-process.least c.loop-process.process-index c.loop-process-test.false c.loop-process.invariant.ascends in
-    let all = c.loop-process.invariant.taken ∙ take_all c.loop-process.process-index c.args.pairs.now c.loop-process-test.false in
-    (no_fault c.args.pairs.now some named, all)
+    let s = c.args.pairs.now in
+    let inv = c.loop-process.invariant in
+    let some = nonempty_by_length s (sym c.is_empty.ensures ∙ c.if-is_empty.false) in
+    let named = names_processes_at_end s c.loop-process.least c.loop-process.process-index c.loop-process-test.false inv.ascends in
+    let all = take_all c.loop-process.process-index s c.loop-process-test.false in (
+      no_fault s some named,
+      simplex_of-key c.loop-process.key s (inv.key ∙ ap key_of all) (simplex_within s some named (subst (λ t. All (λ x. x ≤ 255) (values_of t)) all inv.small)),
+    )

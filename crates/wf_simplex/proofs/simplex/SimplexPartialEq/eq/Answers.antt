@@ -1,9 +1,9 @@
-use Rattle.std.proofs.Common.{◌∙◌}
+use Rattle.std.proofs.Common.{ap₂, ◌∙◌}
 use Rattle.wf_simplex.specs.Order.{same_simplex}
-use Rattle.wf_simplex.proofs.Tables.{same_by_entries}
+use Rattle.wf_simplex.proofs.KeyLemmas.{same_by_keys}
 use Rattle.wf_simplex.proofs.simplex.SimplexPartialEq.eq.Goals as goal
 
 pub returns : goal.returns
 returns c =
-    c.eq.ensures ∙ same_by_entries c.self.inside.values c.other.inside.values c.self.invariant.0 c.other.invariant.0
-    ∙ (λ i. same_simplex (c.self.view_is i) (c.other.view_is i))
+    same_by_keys c.self.inside.key c.other.inside.key c.self.invariant c.other.invariant
+    ∙ ap₂ same_simplex c.self.view_is c.other.view_is
