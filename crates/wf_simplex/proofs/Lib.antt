@@ -9,5 +9,6 @@ pub mod InTurn
 pub mod Search
 pub mod Within
 pub mod KeyLemmas
+pub mod Adding
 pub mod FromFacets
 pub mod Lemmas

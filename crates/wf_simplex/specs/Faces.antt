@@ -1,5 +1,5 @@
 -- Complexes: what each one has, and their faces one after another.
-use Rattle.std.specs.Prelude.{◌≡◌, ◌<◌, ◌^◌, List, [], ◌∷◌, ◌++◌, length, map, All}
+use Rattle.std.specs.Prelude.{◌≡◌, ◌<◌, ◌^◌, ◌⊎◌, List, [], ◌∷◌, ◌++◌, length, map, All, Contains, Option, IfSome}
 use Rattle.std.specs.List.Sorted.{IsStrictlySortedBy}
 use Rattle.wf_model.specs.Simplex.{Vertex, Simplex, simplex_cmp, complex_of}
 use Rattle.wf_model.specs.Task.{IsTaskSimplex}
@@ -27,3 +27,15 @@ with_vertices faces (v ∷ s) = with_vertices (with_vertex faces v) s
 -- the faces of a simplex, one vertex after another
 abbrev pub faces_in_turn : Simplex → List Simplex
 faces_in_turn s = with_vertices [] s
+
+-- ---- simplices that are added to others
+
+-- the simplex, if there is one, is one of these
+abbrev pub IsAmong : List Simplex → Option Simplex → Type 0
+IsAmong simplices found = IfSome found (Contains simplices)
+
+-- each of the old ones and of those added is there, and no other
+pub record AreAdded (old added new : List Simplex) : Type 0 where
+  pub kept : (s : Simplex) → Contains old s → Contains new s
+  pub more : (s : Simplex) → Contains added s → Contains new s
+  pub only : (s : Simplex) → Contains new s → Contains old s ⊎ Contains added s

@@ -5,6 +5,7 @@ ghost use Rattle.wf_model.specs.Limits.{most_facets};
 ghost use Rattle.wf_model.specs.Simplex.{complex_of};
 ghost use Rattle.wf_simplex.specs.Faces.{IsComplex};
 
+use crate::recent::{RECENT, add_each};
 use crate::simplex::Simplex;
 use std::alloc::{AllocError, Global};
 use std::marker::Model;
@@ -30,15 +31,20 @@ impl Model for Complex {
 
 impl Complex {
     /// The faces of these simplices. It takes n log n steps, and memory for eight bytes a face of
-    /// each facet, at most 15 of them a facet, in a vector that grows by doubling: the same face
-    /// of two facets is kept twice until all are sorted. What is left over is then given back.
+    /// each facet, at most 15 of them a facet, in a vector that grows by doubling. A face of two
+    /// facets is kept twice until all are sorted, but not where it was kept lately. What is left
+    /// over is then given back.
     pub fn from_facets(alloc: Global, facets: &[Simplex]) -> Result<Complex, AllocError>
         requires { length facets.now ≤ most_facets }
         ensures { IfOk result (λ c. c ≡ complex_of facets.now) }
     {
         let mut simplices = Vec::new(alloc);
+        let mut faces = Vec::new(alloc);
+        let mut recent = [None; RECENT];
         for facet in facets {
-            facet.add_faces(&mut simplices)?;
+            faces.clear();
+            facet.add_faces(&mut faces)?;
+            add_each(&mut simplices, &mut recent, &faces)?;
         }
         simplices.sort_unstable();
         simplices.dedup();

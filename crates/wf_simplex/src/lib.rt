@@ -8,6 +8,7 @@
 
 pub mod complex;
 mod keys;
+mod recent;
 pub mod simplex;
 pub mod word;
 

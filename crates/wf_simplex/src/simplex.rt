@@ -16,6 +16,9 @@ use std::marker::Model;
 /// How many faces a simplex of four processes has.
 const MOST_FACES: usize = 15;
 
+/// What keys are mixed by: the high bits of a product tell all of a key apart.
+const MIX: u64 = 0x9e37_79b9_7f4a_7c15;
+
 /// Why a list of pairs is no simplex.
 #[derive(Clone, Copy, Debug, PartialEq, Eq)]
 pub enum SimplexFault {
@@ -90,6 +93,18 @@ impl Simplex {
         Ok(Simplex { key })
     }
 
+    /// The simplex of these pairs of a process and its value, which are those of one.
+    pub fn of_pairs(pairs: &[(u64, u64)]) -> Simplex
+        requires { IsTaskSimplex pairs.now }
+        ensures { result ≡ pairs.now }
+    {
+        let mut key = NO_VERTEX;
+        for (process, value) in pairs {
+            key = key_with(key, *process as u8, *value as u8);
+        }
+        Simplex { key }
+    }
+
     /// How many processes take part.
     pub fn colours(&self) -> u8
         ensures count { result ≡ length self.now }
@@ -153,6 +168,14 @@ impl Simplex {
             }
         }
         Ok(())
+    }
+
+    /// Where among so many places a table looks for the simplex.
+    pub(crate) fn slot(&self, places: usize) -> usize
+        requires { 0 < places }
+        ensures { result < places }
+    {
+        (self.key.wrapping_mul(MIX) >> 32) as usize % places
     }
 
     /// One vertex alone.

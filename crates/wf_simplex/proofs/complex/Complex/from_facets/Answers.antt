@@ -1,6 +1,18 @@
-use Rattle.std.proofs.Common.{◌∙◌}
+use Rattle.std.proofs.Common.{[], ◌++◌, None, refl, sym, ap, ◌∙◌, subst}
+use Rattle.std.proofs.lemmas.List.Elements.{All-nil, All-replicate}
+use Rattle.wf_model.specs.Task.{IsTaskSimplex}
+use Rattle.wf_simplex.specs.Faces.{AreAdded, IsAmong, faces_in_turn}
+use Rattle.wf_simplex.proofs.Adding.{added-none}
 use Rattle.wf_simplex.proofs.FromFacets.{faces_more, within_more, faces_sorted, facets_within, is_complex}
 use Rattle.wf_simplex.proofs.complex.Complex.from_facets.Goals as goal
+
+pub loop-facet-init : goal.loop-facet-init
+loop-facet-init c = record {
+  faces = subst (AreAdded [] []) (sym c.new-simplices.ensures.items) (added-none []);
+  within = All-nil IsTaskSimplex;
+  places = refl;
+  among = All-replicate (IsAmong c.new-simplices.result.items) 256 None tt;
+}
 
 pub loop-facet-preserved : goal.loop-facet-preserved
 loop-facet-preserved c =
@@ -9,8 +21,12 @@ loop-facet-preserved c =
     let f = c.facet-item.result in
     let inv = c.loop-facet.invariant in
     record {
-      faces = faces_more facets c.loop-facet.simplices.items c.add_faces.new.faces.items i f c.loop-facet-test.true c.facet-item.is inv.faces c.in_ok-add_faces.ensures.added;
+      faces = faces_more facets c.loop-facet.simplices.items c.add_faces.new.faces.items c.add_each.new.simplices.items i f c.loop-facet-test.true c.facet-item.is inv.faces
+          (c.in_ok-add_faces.ensures.added ∙ ap (λ fs. fs ++ faces_in_turn f) c.clear.ensures.items)
+          (subst (λ fs. AreAdded c.loop-facet.simplices.items fs c.add_each.new.simplices.items) c.deref.ensures.value c.in_ok-add_each.ensures.added);
       within = within_more facets i f c.loop-facet-test.true c.facet-item.is inv.within c.add_faces.ensures.simplex;
+      places = c.add_each.ensures.places;
+      among = c.in_ok-add_each.ensures.among;
     }
 
 pub returns : goal.returns
