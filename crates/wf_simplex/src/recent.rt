@@ -1,6 +1,6 @@
 //! Simplices that are added to others, but for those that were added lately.
 
-ghost use Rattle.std.specs.Prelude.{◌≡◌, ◌<◌, ◌+◌, [], ◌∷◌, List, All, Contains, Some, IsTrue, OnOk, length};
+ghost use Rattle.std.specs.Prelude.{◌≡◌, [], ◌∷◌, List, All, Contains, IsTrue, OnOk, length};
 ghost use Rattle.wf_model.specs.Simplex.{Simplex};
 ghost use Rattle.wf_simplex.specs.Faces.{AreAdded, IsAmong};
 
@@ -50,7 +50,8 @@ fn add(
 /// Whether the simplex was added lately.
 fn is_recent(recent: &[Option<Simplex>], simplex: Simplex) -> bool
     requires { length recent.now ≡ 256 }
-    ensures { (ss : List Simplex) → All (IsAmong ss) recent.now → IsTrue result → Contains ss simplex }
+    ensures { IsTrue result
+        → (ss : List Simplex) → All (IsAmong ss) recent.now → Contains ss simplex }
 {
     match recent[simplex.slot(RECENT)] {
         Some(known) => known == simplex,
