@@ -9,7 +9,7 @@ use Rattle.std.proofs.lemmas.Nat.{div-mul-add, mod-mul-add}
 use Rattle.wf_model.specs.Simplex.{Vertex, Simplex, simplex_cmp, is_face}
 use Rattle.wf_model.specs.Task.{IsTaskSimplex}
 use Rattle.wf_simplex.specs.Entries.{vertices_from, value_at, entries_of, is_within}
-use Rattle.wf_simplex.specs.Keys.{digit_of, key_of, unit_of, digit_at, entry_of, entries_from, simplex_of, IsKey}
+use Rattle.wf_simplex.specs.Keys.{digit_of, key_of, one_vertex, key_limit, unit_of, digit_at, entry_of, entries_from, simplex_of, IsKey}
 use Rattle.wf_simplex.specs.Order.{same_simplex, same_simplex-decides}
 use Rattle.wf_simplex.proofs.Tables.{entry_cmp, ordered_by_entries, value_of_entry, past_end, face_by_entries, nonempty_of_simplex}
 use Rattle.wf_simplex.proofs.Within.{Climbs, climbs, climbs_lower, length-within}
@@ -168,15 +168,15 @@ on_absent key (suc (suc zero)) h high = rw (le-ltb (digit_at key 2) 256 high) re
 on_absent key (suc (suc (suc zero))) h high = rw (le-ltb (digit_at key 3) 256 high) refl
 on_absent key (suc (suc (suc (suc p)))) h high = absurd (let none : ⊥ = omega (arith, h) in none)
 
-pub size_of_key : (s : Simplex) → IsTaskSimplex s → key_of s / 68719476736 ≡ length s
+pub size_of_key : (s : Simplex) → IsTaskSimplex s → key_of s / one_vertex ≡ length s
 size_of_key s h =
     let small = small_values s h in
     let rest = ((digit_of (value_at s 0) * 512 + digit_of (value_at s 1)) * 512 + digit_of (value_at s 2)) * 512 + digit_of (value_at s 3) in
-    let low : rest < 68719476736 = omega (arith, few (value_at s 0) (small 0), few (value_at s 1) (small 1), few (value_at s 2) (small 2), few (value_at s 3) (small 3)) in
-    let is : key_of s ≡ length s * 68719476736 + rest = omega arith in
-    ap (λ n. n / 68719476736) is ∙ div-mul-add (length s) 68719476736 rest low
+    let low : rest < one_vertex = omega (arith, few (value_at s 0) (small 0), few (value_at s 1) (small 1), few (value_at s 2) (small 2), few (value_at s 3) (small 3)) in
+    let is : key_of s ≡ length s * one_vertex + rest = omega arith in
+    ap (λ n. n / one_vertex) is ∙ div-mul-add (length s) one_vertex rest low
 
-pub key_of-below : (s : Simplex) → IsTaskSimplex s → key_of s < 343597383680
+pub key_of-below : (s : Simplex) → IsTaskSimplex s → key_of s < key_limit
 key_of-below s h =
     let small = small_values s h in
     omega (arith, length-within 4 255 s h, few (value_at s 0) (small 0), few (value_at s 1) (small 1), few (value_at s 2) (small 2), few (value_at s 3) (small 3))
@@ -198,14 +198,14 @@ value_at-new (v ∷ s) p x h = by (v.0 == p) (value_at-new s p x) h
 
 -- the key with one more vertex
 pub key_of-joined : (s : Simplex) (p x : ℕ) → p < 4 → x ≤ 255 → value_at s p ≡ None
-    → key_of s + 68719476736 - (256 - x) * unit_of p ≡ key_of (s ++ ((p, x) ∷ []))
+    → key_of s + one_vertex - (256 - x) * unit_of p ≡ key_of (s ++ ((p, x) ∷ []))
 key_of-joined s p x low small free = at p low (ap digit_of free) (ap digit_of (value_at-new s p x free)) (λ q ne. ap digit_of (value_at-other s p x q ne)) (length-append s ((p, x) ∷ []))
   where
     Digit : Simplex → ℕ → ℕ
     Digit t q = digit_of (value_at t q)
 
     at : (p : ℕ) → p < 4 → Digit s p ≡ 256 → Digit (s ++ ((p, x) ∷ [])) p ≡ x → ((q : ℕ) → (p == q) ≡ false → Digit (s ++ ((p, x) ∷ [])) q ≡ Digit s q)
-        → length (s ++ ((p, x) ∷ [])) ≡ length s + 1 → key_of s + 68719476736 - (256 - x) * unit_of p ≡ key_of (s ++ ((p, x) ∷ []))
+        → length (s ++ ((p, x) ∷ [])) ≡ length s + 1 → key_of s + one_vertex - (256 - x) * unit_of p ≡ key_of (s ++ ((p, x) ∷ []))
     at zero low was is stays more = omega (arith, small, was, is, stays 1 refl, stays 2 refl, stays 3 refl, more)
     at (suc zero) low was is stays more = omega (arith, small, was, is, stays 0 refl, stays 2 refl, stays 3 refl, more)
     at (suc (suc zero)) low was is stays more = omega (arith, small, was, is, stays 0 refl, stays 1 refl, stays 3 refl, more)
@@ -229,7 +229,7 @@ module _ (s : Simplex) (p x : ℕ) (h : IsTaskSimplex (s ++ ((p, x) ∷ []))) wh
   pub last_process : p < 4
   last_process = last.1
 
-  pub joined_key : key_of s + 68719476736 - (256 - x) * unit_of p ≡ key_of (s ++ ((p, x) ∷ []))
+  pub joined_key : key_of s + one_vertex - (256 - x) * unit_of p ≡ key_of (s ++ ((p, x) ∷ []))
   joined_key = key_of-joined s p x last.1 last.2 last.3
 
 -- ---- the order

@@ -1,4 +1,4 @@
--- A simplex kept as a table: for each process from 0 on its value, if it takes part.
+-- A simplex as a table: for each process from 0 on its value, if it takes part.
 use Rattle.std.specs.Prelude.{ℕ, ◌+◌, List, [], ◌∷◌, Option, None, Some, nat_lt, nat_le, ◌==◌, ◌&&◌, if◌then◌else◌, Bool, true, false}
 use Rattle.wf_model.specs.Simplex.{Simplex}
 

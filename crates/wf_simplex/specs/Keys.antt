@@ -23,18 +23,18 @@ key_of s = (((length s * digits + digit_of (value_at s 0)) * digits + digit_of (
 
 -- what one more in the size adds to a key
 abbrev pub one_vertex : ℕ
-one_vertex = 68719476736
+one_vertex = digits * digits * digits * digits
 
 -- what one more in the digit of a process adds to a key
 abbrev pub unit_of : ℕ → ℕ
-unit_of zero = 134217728
-unit_of (suc zero) = 262144
-unit_of (suc (suc zero)) = 512
+unit_of zero = digits * digits * digits
+unit_of (suc zero) = digits * digits
+unit_of (suc (suc zero)) = digits
 unit_of (suc (suc (suc p))) = 1
 
--- more than each key: that of a fifth vertex
+-- above each key, since a size is at most 4
 abbrev pub key_limit : ℕ
-key_limit = 343597383680
+key_limit = 5 * one_vertex
 
 -- the digit of a process
 abbrev pub digit_at : ℕ → ℕ → ℕ

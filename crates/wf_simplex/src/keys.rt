@@ -17,17 +17,20 @@ const DIGITS: u64 = 512;
 pub(crate) const ABSENT: u64 = 256;
 
 /// The key of no vertices: size 0, and four absent processes.
-pub(crate) const NO_VERTEX: u64 = 34_426_978_560;
+pub(crate) const NO_VERTEX: u64 = ((ABSENT * DIGITS + ABSENT) * DIGITS + ABSENT) * DIGITS + ABSENT;
 
 /// What one vertex more adds to the size.
-pub(crate) const ONE_VERTEX: u64 = 68_719_476_736;
+pub(crate) const ONE_VERTEX: u64 = DIGITS * DIGITS * DIGITS * DIGITS;
+
+/// The process with the lowest digit.
+const LAST_PROCESS: u8 = 3;
 
 /// The digit of a process.
 pub(crate) fn digit(key: u64, process: u8) -> u64
     requires { process < 4 }
     ensures { result ≡ digit_at key process }
 {
-    (key >> (DIGIT_BITS * (3 - process))) % DIGITS
+    (key >> (DIGIT_BITS * (LAST_PROCESS - process))) % DIGITS
 }
 
 /// The entry of a digit.
@@ -66,9 +69,9 @@ fn unit(process: u8) -> u64
     ensures few { result ≤ unit_of 0 }
 {
     match process {
-        0 => 134_217_728,
-        1 => 262_144,
-        2 => 512,
+        0 => DIGITS * DIGITS * DIGITS,
+        1 => DIGITS * DIGITS,
+        2 => DIGITS,
         _ => 1,
     }
 }

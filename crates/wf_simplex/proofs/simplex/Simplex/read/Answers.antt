@@ -3,7 +3,7 @@ use Rattle.wf_model.specs.Simplex.{Vertex, values_of}
 use Rattle.std.proofs.lemmas.List.{take_more, map-append}
 use Rattle.std.proofs.lemmas.List.Elements.{All-push}
 use Rattle.wf_simplex.specs.Entries.{value_at, ascends_from}
-use Rattle.wf_simplex.specs.Keys.{key_of, unit_of}
+use Rattle.wf_simplex.specs.Keys.{key_of, one_vertex, unit_of}
 use Rattle.wf_simplex.proofs.KeyLemmas.{is_key, key_of-joined, simplex_of-key, value_at-other}
 use Rattle.wf_simplex.proofs.Reading.{nonempty_by_length, process_fault, no_fault, simplex_within, ascending_step, names_processes_at_end, at_pair}
 use Rattle.wf_simplex.proofs.simplex.Simplex.read.Goals as goal
@@ -31,7 +31,7 @@ loop-process-preserved c =
     let high : v.0 < 4 = omega arith in
     let made = c.key_with-key.ensures in
     record {
-      key = made.key ∙ ap (λ k. k + 68719476736 - (256 - v.1) * unit_of v.0) inv.key
+      key = made.key ∙ ap (λ k. k + one_vertex - (256 - v.1) * unit_of v.0) inv.key
           ∙ key_of-joined taken v.0 v.1 high made.value (inv.absent v.0 low) ∙ ap key_of (sym more);
       few = omega (arith, made.few, inv.few);
       count = omega (arith, inv.count, low);
