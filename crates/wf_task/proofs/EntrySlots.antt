@@ -1,5 +1,5 @@
 -- One entry more.
-use Rattle.std.proofs.Common.{◌≡◌, ◌≢◌, ℕ, ◌+◌, ◌<◌, ◌≤◌, Bool, true, false, IsTrue, not, List, [], ◌∷◌, ◌++◌, length, map, take, cond, slice_set, slice_get, slice_index_or, Some, Contains, refl, sym, ap, ap₂, ◌∙◌, subst, subst₂, arith, append-nil, length-append, length-set, get_or-set_same, get_or-set_other, inl, inr, nat_lt, ◌==◌, zero, suc, drop, All, add-one, drop-cons, length-take-le, eqb-true, ne_eqb, ltb-true, ltb-false, lt-ltb}
+use Rattle.std.proofs.Common.{◌≡◌, ◌≢◌, ℕ, ◌+◌, ◌<◌, ◌≤◌, Bool, true, false, ◌||◌, IsTrue, not, List, [], ◌∷◌, ◌++◌, length, map, take, cond, slice_set, slice_get, slice_index_or, Some, Contains, refl, sym, ap, ap₂, ◌∙◌, subst, subst₂, arith, append-nil, length-append, length-set, get_or-set_same, get_or-set_other, inl, inr, nat_lt, ◌==◌, zero, suc, drop, All, add-one, drop-cons, length-take-le, eqb-true, ne_eqb, ltb-true, ltb-false, lt-ltb}
 use Rattle.std.proofs.lemmas.Bool.{eqb-false}
 use Rattle.std.specs.List.{position_from}
 use Rattle.std.specs.declared.cmp.Ordering.TheVariants.{Less, Equal}
@@ -11,7 +11,7 @@ use Rattle.std.proofs.lemmas.Map.Keys.{Less-from_sorted}
 use Rattle.std.proofs.lemmas.Option.{get_or_from_slice_get, slice_get_within}
 use Rattle.wf_model.specs.Simplex.{Simplex, simplex_cmp}
 use Rattle.wf_model.specs.Task.{Rule, IsSimplexWithin}
-use Rattle.wf_simplex.proofs.Lemmas.{Has, has_at_place}
+use Rattle.wf_simplex.proofs.Lemmas.{contains-has, Has, has_at_place}
 use Rattle.wf_draft.specs.declared.shape.Entry.{Entry}
 use Rattle.wf_draft.specs.DraftSeen.{entry_seen}
 use Rattle.wf_task.specs.Judge.{is_among}
@@ -150,6 +150,18 @@ among-absent inputs s none = by inputs (λ h. none (has_at_place s inputs h))
     by : (inputs : List Simplex) → (Has s inputs → ⊥) → is_among inputs s ≡ false
     by [] h = refl
     by (t ∷ ts) h = rw (different s t (λ e. h (inl (sym e)))) (by ts (λ g. h (inr g)))
+
+or_true : (b : Bool) → (b || true) ≡ true
+or_true true = refl
+or_true false = refl
+
+pub among-there : (inputs : List Simplex) (s : Simplex) → Contains inputs s → is_among inputs s ≡ true
+among-there inputs s there = by inputs (contains-has s inputs there)
+  where
+    by : (inputs : List Simplex) → Has s inputs → is_among inputs s ≡ true
+    by [] h = absurd h
+    by (t ∷ ts) (inl e) = rw ((same_simplex-decides s t).1 (sym e)) refl
+    by (t ∷ ts) (inr h) = rw (by ts h) (or_true (same_simplex s t))
 
 pub entry_within : (delta : List Entry) (i : ℕ) (e : Entry) → i < length delta → e ≡ slice_index_or delta i e → All (λ rule. IsSimplexWithin 4 255 rule.input) (map entry_seen delta) → IsSimplexWithin 4 255 (entry_seen e).input
 entry_within delta i e inside is all =

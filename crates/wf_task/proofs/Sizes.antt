@@ -3,7 +3,7 @@ use Rattle.std.proofs.Common.{◌≡◌, ℕ, zero, suc, ◌+◌, ◌<◌, ◌�
 use Rattle.std.proofs.lemmas.List.{take_more, take_more_set, get_or-map, length-map}
 use Rattle.std.proofs.lemmas.List.Elements.{All-get_or}
 use Rattle.std.proofs.lemmas.List.Sums.{sum_by-cons}
-use Rattle.wf_model.specs.Simplex.{Simplex, processes_of, values_of}
+use Rattle.wf_model.specs.Simplex.{Simplex}
 use Rattle.wf_model.specs.Task.{IsSimplexWithin}
 use Rattle.wf_draft.specs.declared.shape.ListedSimplex.{ListedSimplex}
 use Rattle.wf_draft.specs.DraftSeen.{pairs_seen}
@@ -29,20 +29,6 @@ more_than_left f g xs i x left most h is all more =
     sym (lt-ltb most (sum_by f (map g xs)) (omega (arith, below, all, more, sum_by-map f g (take i xs), sum_by-map f g xs)))
 
 -- ---- the pairs of a simplex
-
-pub process_below : (s : Simplex) (i : ℕ) → IsSimplexWithin 4 255 s → i < length s → (slice_index_or s i (0, 0)).0 < 4
-process_below s i h inside =
-    let shorter : i < length (processes_of s) = omega (arith, length-map s (λ (v : ℕ × ℕ). v.0)) in
-    let small = All-get_or (λ p. p < 4) (processes_of s) i 0 shorter h.processes in
-    let same = get_or-map (λ (v : ℕ × ℕ). v.0) s i (0, 0) 0 inside in
-    omega (arith, small, same)
-
-pub value_below : (s : Simplex) (i : ℕ) → IsSimplexWithin 4 255 s → i < length s → (slice_index_or s i (0, 0)).1 ≤ 255
-value_below s i h inside =
-    let shorter : i < length (values_of s) = omega (arith, length-map s (λ (v : ℕ × ℕ). v.1)) in
-    let small = All-get_or (λ x. x ≤ 255) (values_of s) i 0 shorter h.values in
-    let same = get_or-map (λ (v : ℕ × ℕ). v.1) s i (0, 0) 0 inside in
-    omega (arith, small, same)
 
 -- one pair more was copied
 pub copied : (small s : Simplex) (i : ℕ) → i < length small → i < length s → take i small ≡ take i s → take (i + 1) (slice_set small i ((slice_index_or s i (0, 0)).0, (slice_index_or s i (0, 0)).1)) ≡ take (i + 1) s

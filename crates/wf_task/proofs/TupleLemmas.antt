@@ -80,6 +80,12 @@ first_here p f xs i x inside is passes =
     let front : drop i xs ≡ x ∷ drop (suc i) xs = drop-cons xs i x inside ∙ ap (λ y. y ∷ drop (suc i) xs) (sym is) in
     rw front (rw passes refl)
 
+pub first_later : {X Y : Type 0} (p : Y → Bool) (f : X → Y) (xs : List X) (i : ℕ) (x : X) → i < length xs → x ≡ slice_index_or xs i x → p (f x) ≡ false
+    → position_from p (i + 1) (map f (drop (i + 1) xs)) ≡ position_from p i (map f (drop i xs))
+first_later p f xs i x inside is fails =
+    let front : drop i xs ≡ x ∷ drop (suc i) xs = drop-cons xs i x inside ∙ ap (λ y. y ∷ drop (suc i) xs) (sym is) in
+    rw front (rw (add-one, fails) refl)
+
 -- ---- the lists that the slots name
 
 pub lists-only : (slots : List Slot) (rules : List Rule) (inputs : List Simplex) (i : ℕ) → AreOnly slots rules inputs → i < length inputs

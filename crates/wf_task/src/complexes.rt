@@ -13,30 +13,15 @@ use std::alloc::{AllocError, Global};
 use wf_draft::{Draft, Entry, Limit, ListedSimplex, TaskFault};
 use wf_simplex::{Complex, Simplex};
 
-/// The simplex of pairs that were judged.
-pub(crate) fn simplex_of(pairs: &[(u64, u64)]) -> Simplex
-    requires { IsTaskSimplex pairs.now }
-    ensures { result ≡ pairs.now }
-{
-    let mut small = [(0u8, 0u8); 4];
-    for (place, (process, value)) in pairs.iter().enumerate() {
-        small[place] = (*process as u8, *value as u8);
-    }
-    match Simplex::read(&small[..pairs.len()]) {
-        Ok(simplex) => simplex,
-        Err(_) => unreachable!(),
-    }
-}
-
 /// The faces of listed simplices that were judged.
 pub(crate) fn complex(alloc: Global, listed: &[ListedSimplex]) -> Result<Complex, AllocError>
     requires within { All IsTaskSimplex (map pairs_seen listed.now) }
     requires few { length listed.now ≤ most_bytes }
     ensures { IfOk result (λ c. c ≡ complex_of (map pairs_seen listed.now)) }
 {
-    let mut facets = Vec::new(alloc);
+    let mut facets = Vec::with_capacity(alloc, listed.len())?;
     for simplex in listed {
-        facets.push(simplex_of(&simplex.pairs))?;
+        facets.push_reserved(Simplex::of_pairs(&simplex.pairs));
     }
     Complex::from_facets(alloc, &facets)
 }

@@ -54,9 +54,9 @@ pub(crate) fn all_rows(
     ensures { IfOk result (λ found. map vec_items found.items
         ≡ map (rows_at (map entry_seen delta.now)) slots.now) }
 {
-    let mut found = Vec::new(alloc);
+    let mut found = Vec::with_capacity(alloc, slots.len())?;
     for slot in slots {
-        found.push(rows(alloc, lists_at(delta, *slot))?)?;
+        found.push_reserved(rows(alloc, lists_at(delta, *slot))?);
     }
     Ok(found)
 }

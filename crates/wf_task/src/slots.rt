@@ -9,7 +9,6 @@ ghost use Rattle.wf_task.specs.Judge.{entries_judged, first_stray};
 ghost use Rattle.wf_task.specs.Slots.{AreOf, with_entry, no_entry, is_missing, is_twice};
 ghost use Rattle.wf_task.specs.Tuples.{HaveSmallInputs};
 
-use crate::complexes::simplex_of;
 use std::alloc::{AllocError, Global};
 use wf_draft::{Draft, Entry, TaskFault};
 use wf_simplex::{Complex, Simplex};
@@ -47,7 +46,7 @@ pub(crate) fn slots(
 {
     let mut slots = no_entries(alloc, inputs.simplices())?;
     for (place, entry) in delta.iter().enumerate() {
-        match inputs.index(&simplex_of(&entry.input.pairs)) {
+        match inputs.index(&Simplex::of_pairs(&entry.input.pairs)) {
             Some(home) => {
                 let home = home as usize;
                 slots[home] = slots[home].with(place);
@@ -127,7 +126,7 @@ pub(crate) fn first_stray(inputs: &Complex, delta: &[Entry]) -> Option<usize>
     ensures { result ≡ first_stray inputs.now (map entry_seen delta.now) }
 {
     for (place, entry) in delta.iter().enumerate() {
-        let stray = !inputs.contains(&simplex_of(&entry.input.pairs));
+        let stray = !inputs.contains(&Simplex::of_pairs(&entry.input.pairs));
         if stray {
             return Some(place);
         }

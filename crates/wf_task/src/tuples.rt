@@ -10,7 +10,6 @@ ghost use Rattle.wf_task.specs.Judge.{is_image_in, tuple_total, wrong_length, no
 ghost use Rattle.wf_task.specs.Slots.{AreOnly, IsOnceBelow, lists_at};
 ghost use Rattle.wf_task.specs.Tuples.{IsTupleOf, AreTuples};
 
-use crate::complexes::simplex_of;
 use crate::slots::Slot;
 use wf_draft::{Draft, Entry, TaskFault};
 use wf_simplex::{Complex, Simplex};
@@ -50,7 +49,7 @@ fn on_processes(simplex: &Simplex, values: &[u64]) -> Simplex
         let process = u64::from(simplex.colour(place));
         pairs[place as usize] = (process, values[place as usize]);
     }
-    simplex_of(&pairs[..size as usize])
+    Simplex::of_pairs(&pairs[..size as usize])
 }
 
 /// The place of the first value list that is no output simplex on the

@@ -21,8 +21,8 @@ all_made pairs s xs n i count long past upto made =
     let all : i ≡ n = omega arith in
     ap (λ k. take k pairs) (sym all) ∙ made ∙ take_all i (zip (processes_of s) xs) (omega (arith, length-zip_processes s xs long))
 
-pub simplex_of-requires : goal.simplex_of-requires
-simplex_of-requires c =
+pub of_pairs-requires : goal.of_pairs-requires
+of_pairs-requires c =
     let s = c.args.simplex.now in
     subst (IsSimplexWithin 4 255)
     (sym (all_made c.loop-place.pairs s c.args.values.now c.colours-size.result c.loop-place.place c.colours-size.ensures.count c.requires.long c.loop-place-test.false c.loop-place.auto.place-end c.loop-place.invariant.made))
@@ -30,5 +30,5 @@ simplex_of-requires c =
 
 pub returns : goal.returns
 returns c =
-    c.simplex_of.ensures
+    c.of_pairs.ensures
     ∙ all_made c.loop-place.pairs c.args.simplex.now c.args.values.now c.colours-size.result c.loop-place.place c.colours-size.ensures.count c.requires.long c.loop-place-test.false c.loop-place.auto.place-end c.loop-place.invariant.made
