@@ -278,11 +278,11 @@ fn executions(
     let mut executions = Vec::with_capacity(alloc, count as usize)?;
     for number in 0..count {
         let rule = protocol.simplex_of(number);
-        executions.push(PackedExecution {
+        executions.push_reserved(PackedExecution {
             rule,
             like: rules[rule as usize].like,
             points: four(protocol.points_of(number)),
-        })?;
+        });
     }
     Ok(executions)
 }
@@ -295,9 +295,11 @@ fn four(points: &[u32]) -> [u32; 4]
     ensures long { length result ≡ 4 }
     ensures among { (n : ℕ) → All (λ v. v < n) points.now → All (λ v. v < n) result }
 {
-    let mut four = [points[0]; 4];
-    for (place, point) in points.iter().enumerate() {
-        four[place] = *point;
+    let first = points[0];
+    match points {
+        [_, second] => [first, *second, first, first],
+        [_, second, third] => [first, *second, *third, first],
+        [_, second, third, fourth] => [first, *second, *third, *fourth],
+        _ => [first; 4],
     }
-    four
 }

@@ -38,8 +38,9 @@ loop-number-preserved c =
       points_within = c.four.ensures.among (length b.points) known.2;
     } in
     let like : IsLike rules e = ap (λ (r : Rule). r.like) (get_or_default rules c.simplex_of-rule.result c.index-rules-rule.result no_rule within.rule) in (
-      ap (map (constraint_seen rules)) c.in_ok-push.ensures.items ∙ one_more (constraint_seen rules) old e (problem_of t b.rounds).constraints n (constraint_seen rules e) c.loop-number.invariant.0 refl there,
-      subst (All (IsWithin (length rules) (length b.points))) (sym c.in_ok-push.ensures.items) (All-push (IsWithin (length rules) (length b.points)) old e c.loop-number.invariant.1 within),
-      omega (arith, ap length c.in_ok-push.ensures.items, length-append old (e ∷ []), c.loop-number.invariant.2),
-      subst (All (IsLike rules)) (sym c.in_ok-push.ensures.items) (All-push (IsLike rules) old e c.loop-number.invariant.3 like),
+      ap (map (constraint_seen rules)) c.push_reserved.ensures.items ∙ one_more (constraint_seen rules) old e (problem_of t b.rounds).constraints n (constraint_seen rules e) c.loop-number.invariant.0 refl there,
+      subst (All (IsWithin (length rules) (length b.points))) (sym c.push_reserved.ensures.items) (All-push (IsWithin (length rules) (length b.points)) old e c.loop-number.invariant.1 within),
+      omega (arith, ap length c.push_reserved.ensures.items, length-append old (e ∷ []), c.loop-number.invariant.2),
+      subst (All (IsLike rules)) (sym c.push_reserved.ensures.items) (All-push (IsLike rules) old e c.loop-number.invariant.3 like),
+      omega (arith, c.push_reserved.ensures.capacity, c.loop-number.invariant.4),
     )
