@@ -1,6 +1,6 @@
 //! Marks on executions.
 
-ghost use Rattle.std.specs.Prelude.{◌≡◌, ◌<◌, ◌≤◌, ◌*◌, ◌/◌, ◌^◌, All, length, slice_index, OnOk, IfSome, IfNone};
+ghost use Rattle.std.specs.Prelude.{◌≡◌, ◌<◌, ◌≤◌, ◌*◌, ◌/◌, ◌^◌, [], All, length, slice_index, OnOk, IfSome, IfNone};
 ghost use Rattle.wf_model.specs.Limits.{most_executions};
 ghost use Rattle.wf_network.specs.Limits.{most_words};
 ghost use Rattle.wf_network.specs.Marks.{AreSetBelow, IsLast, IsLastHere, IsMore, IsNext, KeepsBitsBut, KeepsWordsBut, MarksEach, MarksWord, TopsTell, bit_of};
@@ -23,7 +23,9 @@ pub struct Marks {
 
 impl Marks {
     /// No marks, and room for none.
-    pub fn new(alloc: Global) -> Marks {
+    pub fn new(alloc: Global) -> Marks
+        ensures none { result.words.items ≡ [] }
+    {
         Marks {
             words: Vec::new(alloc),
             tops: Vec::new(alloc),
@@ -80,6 +82,7 @@ impl Marks {
 
     /// Takes all marks away.
     pub fn clear(&mut self)
+        ensures cleared { IsLast self.new.words.items 0 }
         ensures long { length self.new.words.items ≡ length self.old.words.items }
     {
         let mut next = 0;
