@@ -1,5 +1,5 @@
 -- What a box keeps of the kernel's answers.
-use Rattle.std.specs.Prelude.{ℕ, ◌≡◌, ◌<◌, ◌*◌, ◌/◌, ◌%◌, List, [], ◌∷◌, ◌++◌, map, All, length, get_or, Option, Some, None}
+use Rattle.std.specs.Prelude.{ℕ, ◌≡◌, ◌≢◌, ◌<◌, ◌*◌, ◌/◌, ◌%◌, List, [], ◌∷◌, ◌++◌, map, All, length, get_or, Option, Some, None}
 use Rattle.wf_model.specs.Problem.{Constraint, no_constraint}
 use Rattle.wf_lane.specs.Table.{HasSupported, Table}
 use Rattle.wf_memo.specs.declared.memo.Memo.{Memo}
@@ -18,6 +18,10 @@ wide_set part = part ∷ 0 ∷ 0 ∷ 0 ∷ []
 -- the same for each part
 abbrev pub widened : List ℕ → List (List ℕ)
 widened parts = map wide_set parts
+
+-- no parts have these sets, of which one has a value of 64 or more
+abbrev pub AreWide : List (List ℕ) → Type 0
+AreWide sets = (parts : List ℕ) → widened parts ≢ sets
 
 -- the four parts that are packed in a word, the first one lowest
 abbrev pub parts_in : ℕ → List ℕ

@@ -1,10 +1,10 @@
 //! What the rules of executions support.
 
-ghost use Rattle.std.specs.Prelude.{◌≡◌, ◌<◌, ◌∷◌, [], ℕ, All, length, slice_index, IfSome};
-ghost use Rattle.std.specs.Bool.{OnTrue};
+ghost use Rattle.std.specs.Prelude.{◌≡◌, ◌≢◌, ◌<◌, ℕ, All, length, slice_index, IfSome, IfNone};
+ghost use Rattle.std.specs.Bool.{OnFalse, OnTrue};
 ghost use Rattle.wf_lane.specs.Table.{AreFirstParts, HasSupported};
 ghost use Rattle.wf_network.specs.Problems.{IsNetwork, constraints_in, rule_in};
-ghost use Rattle.wf_memo.specs.Revising.{AreKnown, answers_in, found_at, left_of, parts_in, widened};
+ghost use Rattle.wf_memo.specs.Revising.{AreKnown, AreWide, answers_in, found_at, left_of, parts_in, wide_set, widened};
 
 use crate::memo::{Memo, Revised, RevisedParts, RevisedWord, slot_of};
 use wf_network::{Network, PackedExecution};
@@ -258,6 +258,7 @@ fn widened(parts: [Part; 4]) -> [Mask; 4]
 /// The parts of these sets, where each value is below 64.
 pub fn narrowed(sets: [Mask; 4]) -> Option<[Part; 4]>
     ensures parts { IfSome result (λ parts. widened parts ≡ sets) }
+    ensures none { IfNone result (AreWide sets) }
     ensures long { IfSome result (λ parts. length parts ≡ 4) }
 {
     let [a, b, c, d] = sets;
@@ -270,7 +271,8 @@ pub fn narrowed(sets: [Mask; 4]) -> Option<[Part; 4]>
 
 /// Whether the words past the first are 0.
 fn is_low(set: Mask) -> bool
-    ensures { OnTrue result (set ≡ slice_index set 0 ∷ 0 ∷ 0 ∷ 0 ∷ []) }
+    ensures low { OnTrue result (set ≡ wide_set (slice_index set 0)) }
+    ensures wide { OnFalse result ((part : ℕ) → wide_set part ≢ set) }
 {
     let [_, b, c, d] = set;
     (b == 0) & (c == 0) & (d == 0)
