@@ -15,6 +15,7 @@ use wf_set::{Mask, first_part};
 const SMALL_LIMIT: u64 = 65_536;
 
 /// The candidates of the points of an execution; past their number those of the first point.
+#[inline]
 pub fn candidates_at(execution: PackedExecution, sets: &[Mask]) -> [Mask; 4]
     requires long { length execution.points ≡ 4 }
     requires within { All (λ v. v < length sets.now) execution.points }
@@ -256,6 +257,7 @@ fn widened(parts: [Part; 4]) -> [Mask; 4]
 }
 
 /// The parts of these sets, where each value is below 64.
+#[inline]
 pub fn narrowed(sets: [Mask; 4]) -> Option<[Part; 4]>
     ensures parts { IfSome result (λ parts. widened parts ≡ sets) }
     ensures none { IfNone result (AreWide sets) }

@@ -64,6 +64,7 @@ impl Rule {
     }
 
     /// How many processes its simplex has. It takes no memory.
+    #[inline]
     pub fn places(&self) -> u8
         requires kept { KeepsProcesses self.now }
         ensures count { result ≡ length self.now.simplex }
@@ -74,6 +75,7 @@ impl Rule {
     }
 
     /// The process of its simplex at a place. It takes no memory.
+    #[inline]
     pub fn process_at(&self, place: u8) -> u8
         requires kept { KeepsProcesses self.now }
         requires place { place < length self.now.simplex }
@@ -125,6 +127,7 @@ pub struct Network {
 
 impl Network {
     /// The number of a rule that has the table of an execution's rule. It takes no memory.
+    #[inline]
     pub fn like_at(&self, execution: usize) -> u32
         requires network { IsNetwork self.now }
         requires execution { execution < length self.now.executions.items }
@@ -134,6 +137,7 @@ impl Network {
     }
 
     /// The executions in which a point stands. It takes no memory.
+    #[inline]
     pub fn users_of(&self, point: u32) -> &[UserWord]
         requires network { IsNetwork self.now }
         requires point { point < self.now.points }
