@@ -1,9 +1,10 @@
 -- What the entries of a table say of its views.
-use Rattle.std.proofs.Common.{◌≡◌, ◌<◌, ◌≤◌, ◌^◌, ℕ, ◌+◌, true, List, [], ◌∷◌, map, length, take, get_or, All, Some, None, nat_lt, sym, refl, ap, ◌∙◌, subst, arith, ltb-true}
-use Rattle.std.specs.Int.Bits.{bit_or}
+use Rattle.std.proofs.Common.{◌≡◌, ◌<◌, ◌≤◌, ◌^◌, ℕ, ◌+◌, true, List, [], ◌∷◌, map, length, take, get_or, slice_get, All, Some, None, nat_lt, sym, refl, ap, ◌∙◌, subst, arith, ltb-true}
+use Rattle.std.specs.Int.Bits.{bit_or, or_zero_r}
 use Rattle.std.specs.List.{AllByRecursion}
 use Rattle.std.proofs.lemmas.Bool.{and_parts, false≢true}
 use Rattle.std.proofs.lemmas.List.{get_or-map, length-map}
+use Rattle.std.proofs.lemmas.Option.{get_or_from_slice_get}
 use Rattle.std.proofs.lemmas.List.Elements.{recursion_from_All, All-from_recursion}
 use Rattle.wf_model.specs.Lists.{has}
 use Rattle.wf_model.specs.Simplex.{is_ascending}
@@ -52,7 +53,7 @@ entry_input : (n : ℕ) (vs : List View) (node : Node) → IsEntry n node → no
 entry_input n vs node (is_base p x low small) none = refl
 entry_input n vs node (is_seen p ids low some few earlier) none = absurd (omega (arith, some, none))
 
-entry_small : (n : ℕ) (node : Node) → IsEntry n node → node.count ≡ 0 → get_or node.ids 0 0 ≤ 255
+pub entry_small : (n : ℕ) (node : Node) → IsEntry n node → node.count ≡ 0 → get_or node.ids 0 0 ≤ 255
 entry_small n node (is_base p x low small) none = small
 entry_small n node (is_seen p ids low some few earlier) none = absurd (omega (arith, some, none))
 
@@ -98,41 +99,38 @@ process_bits_at-views vs [] h = refl
 process_bits_at-views vs (k ∷ ids) h = λ i. bit_or (get_or-map process_bits vs k (base 0 0) 0 h.0 i) (process_bits_at-views vs ids h.1 i)
 
 -- the processes in the view of one that saw these
-pub process_bits-seen : (vs : List View) (p : ℕ) (ids : List ℕ) → All (λ k. k < length vs) ids → 0 < length ids → length ids ≤ 4 → bit_or (2 ^ p) (process_bits_at (map process_bits vs) ids) ≡ process_bits (node_view vs (seen_node p ids))
+process_bits-seen : (vs : List View) (p : ℕ) (ids : List ℕ) → All (λ k. k < length vs) ids → 0 < length ids → length ids ≤ 4 → bit_or (2 ^ p) (process_bits_at (map process_bits vs) ids) ≡ process_bits (node_view vs (seen_node p ids))
 process_bits-seen vs p ids within some few = ap (bit_or (2 ^ p)) (process_bits_at-views vs ids (recursion_from_All _ ids within)) ∙ sym (ap process_bits (node_view-seen vs p ids some few))
+
+-- the processes in the view of an entry
+pub entry_process_bits : (vs : List View) (node : Node) → IsEntry (length vs) node → bit_or (2 ^ node.process) (process_bits_at (map process_bits vs) (take node.count node.ids)) ≡ process_bits (node_view vs node)
+entry_process_bits vs node (is_base p x h small) = or_zero_r (2 ^ p)
+entry_process_bits vs node (is_seen p ids h some few earlier) =
+    ap (λ ks. bit_or (2 ^ p) (process_bits_at (map process_bits vs) ks)) (take-padded ids few) ∙ process_bits-seen vs p ids earlier some few
 
 -- ---- an entry that was read
 
-module _ (xs : List Node) (entries : AreEntriesFrom 0 xs) (vs : List View) (is : shown xs ≡ vs) (n : ℕ) (node : Node) (within : n < length vs) (read : node ≡ get_or xs n node) where
-  in_nodes : n < length xs
-  in_nodes = omega (arith, within, ap length is, length-shown xs)
+-- the entry at a place of a table
+pub entry_read : (xs : List Node) → AreEntriesFrom 0 xs → (vs : List View) → shown xs ≡ vs → (n : ℕ) (node : Node) → n < length vs → slice_get xs n ≡ Some node → IsEntry n node × (node_view vs node ≡ view_at vs n)
+entry_read xs entries vs is n node within read =
+    let low : n < length xs = omega (arith, within, ap length is, length-shown xs) in
+    let here : get_or xs n node ≡ node = get_or_from_slice_get xs n node node read in (
+      subst (IsEntry n) here (entry_at xs entries n node low),
+      subst (λ ws. node_view ws node ≡ view_at ws n) is (ap (node_view (shown xs)) (sym here) ∙ sym (view_at-shown xs entries n node low)),
+    )
 
-  pub entry_read : IsEntry n node
-  entry_read = subst (IsEntry n) (sym read) (entry_at xs entries n node in_nodes)
-
-  pub count_read : node.count ≤ 4
-  count_read = entry_count n node entry_read
-
-  pub earlier_read : All (λ k. k < n) (take node.count node.ids)
-  earlier_read = entry_earlier n node entry_read
-
-  pub view_read : node_view vs node ≡ view_at vs n
-  view_read = subst (λ ws. node_view ws node ≡ view_at ws n) is (ap (node_view (shown xs)) read ∙ sym (view_at-shown xs entries n node in_nodes))
-
+module _ (vs : List View) (n : ℕ) (node : Node) (entry : IsEntry n node) (is : node_view vs node ≡ view_at vs n) where
   pub parts_read : map (view_at vs) (take node.count node.ids) ≡ inner_views (view_at vs n)
-  parts_read = entry_parts n vs node entry_read ∙ ap inner_views view_read
+  parts_read = entry_parts n vs node entry ∙ ap inner_views is
 
   pub input_read : node.count ≡ 0 → Some (get_or node.ids 0 0) ≡ input_of (view_at vs n)
-  input_read none = sym (entry_input n vs node entry_read none) ∙ ap input_of view_read
-
-  pub small_read : node.count ≡ 0 → get_or node.ids 0 0 ≤ 255
-  small_read none = entry_small n node entry_read none
+  input_read none = sym (entry_input n vs node entry none) ∙ ap input_of is
 
   pub no_input_read : (node.count ≡ 0 → ⊥) → None ≡ input_of (view_at vs n)
-  no_input_read some = sym (entry_no_input n vs node entry_read some) ∙ ap input_of view_read
+  no_input_read some = sym (entry_no_input n vs node entry some) ∙ ap input_of is
 
   pub process_read : node.process ≡ process_of (view_at vs n)
-  process_read = sym (entry_process n vs node entry_read) ∙ ap process_of view_read
+  process_read = sym (entry_process n vs node entry) ∙ ap process_of is
 
 -- ---- an entry of one that saw these
 
@@ -151,9 +149,3 @@ module _ (xs : List Node) (entries : AreEntriesFrom 0 xs) (vs : List View) (is :
 
   pub seen_entry : (node : Node) → node ≡ seen_node p ids → p ≤ 3 → IsEntry (length vs) node
   seen_entry node e low = subst (IsEntry (length vs)) (sym e) (is_seen p ids low some few within)
-
-  pub seen_process_bits : (node : Node) → node ≡ seen_node p ids → (bits : List ℕ) → bits ≡ map process_bits (shown xs) → bit_or (2 ^ p) (process_bits_at bits ids) ≡ process_bits (node_view vs node)
-  seen_process_bits node e bits stored =
-      ap (λ cs. bit_or (2 ^ p) (process_bits_at cs ids)) (stored ∙ ap (map process_bits) is)
-      ∙ process_bits-seen vs p ids within some few
-      ∙ ap (λ n. process_bits (node_view vs n)) (sym e)

@@ -1,17 +1,16 @@
 -- One number, one view: entries that differ stand for views that differ.
-use Rattle.std.proofs.Common.{◌≡◌, ◌<◌, ◌≤◌, ℕ, zero, suc, ◌==◌, ◌&&◌, Bool, true, false, List, [], ◌∷◌, ◌++◌, map, length, get_or, cond, Option, Some, None, option_map, sym, refl, ap, ◌∙◌, subst, inl, inr, arith, eqb-true, eq-eqb, length-append}
-use Rattle.std.specs.List.{AllByRecursion, list_any}
+use Rattle.std.proofs.Common.{◌≡◌, ◌<◌, ◌≤◌, ℕ, zero, suc, ◌==◌, ◌&&◌, true, false, List, [], ◌∷◌, ◌++◌, map, length, get_or, sym, refl, ap, ◌∙◌, subst, inl, inr, arith, eqb-true, eq-eqb}
+use Rattle.std.specs.List.{AllByRecursion, list_any, IsDistinct}
 use Rattle.std.specs.Cmp.Lexicographic.{pointwise}
-use Rattle.std.proofs.Math.ListN.{get_or-append}
-use Rattle.std.proofs.lemmas.List.{get_or_push}
 use Rattle.std.proofs.lemmas.List.Elements.{recursion_from_All, All-from_recursion}
-use Rattle.std.proofs.lemmas.Bool.{cases_Bool, or_cases, or_left, or_right, and_parts, and_from, false≢true, both_ways, false_from_ne_true}
+use Rattle.std.proofs.lemmas.Bool.{cases_Bool, cases_lt, or_cases, or_left, or_right, and_parts, and_from, false≢true, both_ways, false_from_ne_true}
+use Rattle.std.proofs.lemmas.Map.Keys.{apart_from_distinct}
 use Rattle.wf_model.specs.View.{View, base, views_of, same_view}
 use Rattle.wf_model.specs.Problem.{number_of}
 use Rattle.wf_model.proofs.Bridge.{Among, same_is, same_itself, number_below, weaker}
 use Rattle.wf_view.specs.declared.node.Node.{Node}
 use Rattle.wf_view.specs.Views.{view_at, view_seen}
-use Rattle.wf_view.specs.Table.{base_node, seen_node, same_node, node_view, shown, IsEntry, is_base, is_seen, AreEntriesFrom, placed, place_in}
+use Rattle.wf_view.specs.Table.{base_node, seen_node, same_node, node_view, shown, IsEntry, is_base, is_seen, AreEntriesFrom, StandsAt}
 use Rattle.wf_view.proofs.Shown.{node_view-seen, view_at-shown, entry_at, length-shown}
 
 -- ---- equal views have equal entries
@@ -67,81 +66,31 @@ same_node-is a b h =
 pub same_node-itself : (a : Node) → same_node a a ≡ true
 same_node-itself a = and_from _ _ (eq-eqb a.process a.process refl) (and_from _ _ (eq-eqb a.count a.count refl) (numbers_same a.ids))
 
-pub place_in-is : (xs : List Node) (k : Node) (n : ℕ) (d : Node) → place_in xs k ≡ Some n → (n < length xs) × (get_or xs n d ≡ k)
-place_in-is [] k n d h = absurd (let none : ⊥ = cc in none)
-place_in-is (x ∷ xs) k n d h = by_test (λ m. place_in-is xs k m d) (same_node k x) refl h
-  where
-    by_later : ((m : ℕ) → place_in xs k ≡ Some m → (m < length xs) × (get_or xs m d ≡ k)) → (o : Option ℕ) → place_in xs k ≡ o → option_map suc o ≡ Some n → (n < length (x ∷ xs)) × (get_or (x ∷ xs) n d ≡ k)
-    by_later rest None e g = absurd (let none : ⊥ = cc in none)
-    by_later next (Some m) e g =
-        let rest = next m e in
-        let is : suc m ≡ n = cc in
-        subst (λ i. (i < length (x ∷ xs)) × (get_or (x ∷ xs) i d ≡ k)) is (omega (arith, rest.0), rest.1)
-
-    by_test : ((m : ℕ) → place_in xs k ≡ Some m → (m < length xs) × (get_or xs m d ≡ k)) → (b : Bool) → same_node k x ≡ b → placed b (place_in xs k) ≡ Some n → (n < length (x ∷ xs)) × (get_or (x ∷ xs) n d ≡ k)
-    by_test next true e g = let is : 0 ≡ n = cc in subst (λ i. (i < length (x ∷ xs)) × (get_or (x ∷ xs) i d ≡ k)) is (omega arith, sym (same_node-is k x e))
-    by_test next false e g = by_later next (place_in xs k) refl g
-
--- the places after one more entry
-abbrev place_after : Option ℕ → Bool → ℕ → Option ℕ
-place_after (Some n) b m = Some n
-place_after None true m = Some m
-place_after None false m = None
-
-place_after-suc : (o : Option ℕ) (b : Bool) (m : ℕ) → option_map suc (place_after o b m) ≡ place_after (option_map suc o) b (suc m)
-place_after-suc (Some n) b m = refl
-place_after-suc None true m = refl
-place_after-suc None false m = refl
-
-place_in-push : (xs : List Node) (x k : Node) → place_in (xs ++ x ∷ []) k ≡ place_after (place_in xs k) (same_node k x) (length xs)
-place_in-push [] x k = by_test (same_node k x)
-  where
-    by_test : (b : Bool) → placed b None ≡ place_after None b 0
-    by_test true = refl
-    by_test false = refl
-place_in-push (y ∷ xs) x k = by_test (place_in-push xs x k) (same_node k y)
-  where
-    by_test : place_in (xs ++ x ∷ []) k ≡ place_after (place_in xs k) (same_node k x) (length xs) → (b : Bool) → placed b (place_in (xs ++ x ∷ []) k) ≡ place_after (placed b (place_in xs k)) (same_node k x) (length (y ∷ xs))
-    by_test rest true = refl
-    by_test rest false = ap (option_map suc) rest ∙ place_after-suc (place_in xs k) (same_node k x) (length xs)
-
-pub place_in-push_old : (xs : List Node) (x k : Node) (n : ℕ) → place_in xs k ≡ Some n → place_in (xs ++ x ∷ []) k ≡ Some n
-place_in-push_old xs x k n h = place_in-push xs x k ∙ ap (λ o. place_after o (same_node k x) (length xs)) h
-
-pub place_in-push_new : (xs : List Node) (x : Node) → place_in xs x ≡ None → place_in (xs ++ x ∷ []) x ≡ Some (length xs)
-place_in-push_new xs x h = place_in-push xs x x ∙ (λ i. place_after (h i) (same_node-itself x i) (length xs))
-
--- what a map says after one more entry was put at its number
-pub place_in-put : (xs : List Node) (x k : Node) → place_in xs x ≡ None → cond (same_node x k) (Some (length xs)) (place_in xs k) ≡ place_in (xs ++ x ∷ []) k
-place_in-put xs x k h = by_test (same_node x k) refl
-  where
-    apart : (b : Bool) → same_node k x ≡ b → same_node x k ≡ false → place_in xs k ≡ place_in (xs ++ x ∷ []) k
-    apart true e other = absurd (both_ways _ other (subst (λ y. same_node x y ≡ true) (sym (same_node-is k x e)) (same_node-itself x)))
-    apart false e other = by_place (place_in xs k) refl
-      where
-        by_place : (o : Option ℕ) → place_in xs k ≡ o → place_in xs k ≡ place_in (xs ++ x ∷ []) k
-        by_place None g = g ∙ sym (place_in-push xs x k ∙ (λ i. place_after (g i) (e i) (length xs)))
-        by_place (Some n) g = g ∙ sym (place_in-push_old xs x k n g)
-
-    by_test : (b : Bool) → same_node x k ≡ b → cond b (Some (length xs)) (place_in xs k) ≡ place_in (xs ++ x ∷ []) k
-    by_test true e = subst (λ y. Some (length xs) ≡ place_in (xs ++ x ∷ []) y) (same_node-is x k e) (sym (place_in-push_new xs x h))
-    by_test false e = apart (same_node k x) refl e
+-- an entry that stands somewhere is found
+pub found_at : (xs : List Node) (n : ℕ) (k d : Node) → n < length xs → get_or xs n d ≡ k → list_any (same_node k) xs ≡ true
+found_at [] n k d h e = absurd (let none : ⊥ = omega (arith, h) in none)
+found_at (x ∷ xs) zero k d h e = or_left _ _ (subst (λ y. same_node k y ≡ true) (sym e) (same_node-itself k))
+found_at (x ∷ xs) (suc n) k d h e = or_right _ _ (found_at xs n k d (omega (arith, h)) e)
 
 -- ---- one number, one view
 
 abbrev pub IsOnce : List Node → Type 0
-IsOnce xs = (n : ℕ) (d : Node) → n < length xs → place_in xs (get_or xs n d) ≡ Some n
+IsOnce xs = IsDistinct same_node xs
 
-pub once-push : (xs : List Node) (x : Node) → IsOnce xs → place_in xs x ≡ None → IsOnce (xs ++ x ∷ [])
-once-push xs x once new n d below = by_place (n == length xs) refl
-  where
-    by_place : (b : Bool) → (n == length xs) ≡ b → place_in (xs ++ x ∷ []) (get_or (xs ++ x ∷ []) n d) ≡ Some n
-    by_place true e =
-        let is : length xs ≡ n = sym (eqb-true n (length xs) e) in
-        ap (place_in (xs ++ x ∷ [])) (get_or_push xs x d n is) ∙ place_in-push_new xs x new ∙ ap Some is
-    by_place false e =
-        let within : n < length xs = grind (arith, length-append xs (x ∷ []), e, below) in
-        ap (place_in (xs ++ x ∷ [])) (get_or-append xs (x ∷ []) d n within) ∙ place_in-push_old xs x (get_or xs n d) n (once n d within)
+differ : (xs : List Node) (i j : ℕ) (d : Node) → IsOnce xs → i < j → j < length xs → get_or xs i d ≡ get_or xs j d → ⊥
+differ xs i j d once before within e =
+    both_ways _ (apart_from_distinct same_node xs i j d once before within) (subst (λ x. same_node (get_or xs i d) x ≡ true) e (same_node-itself (get_or xs i d)))
+
+-- places of the same entry are the same
+pub same_places : (xs : List Node) (i j : ℕ) (d : Node) → IsOnce xs → i < length xs → j < length xs → get_or xs i d ≡ get_or xs j d → i ≡ j
+same_places xs i j d once within within' e =
+    elim (cases_Bool (i == j)) [
+      | inl same ↦ eqb-true i j same
+      | inr other ↦ elim (cases_lt i j) [
+        | inl before ↦ absurd (differ xs i j d once before within' e)
+        | inr from ↦ absurd (differ xs j i d once (grind (arith, other, from)) within (sym e))
+      ]
+    ]
 
 module _ (xs : List Node) (entries : AreEntriesFrom 0 xs) (once : IsOnce xs) (d : Node) where
   -- numbers below n that have the same view are the same
@@ -150,13 +99,11 @@ module _ (xs : List Node) (entries : AreEntriesFrom 0 xs) (once : IsOnce xs) (d 
   apart_below (suc n) h i j below below' e =
       let within : i < length xs = omega (arith, below, h) in
       let within' : j < length xs = omega (arith, below', h) in
-      let nodes : get_or xs i d ≡ get_or xs j d =
-      same_entries (shown xs) n (apart_below n (omega (arith, h))) (get_or xs i d) (get_or xs j d)
+      same_places xs i j d once within within'
+      (same_entries (shown xs) n (apart_below n (omega (arith, h))) (get_or xs i d) (get_or xs j d)
       (entry_more i n (get_or xs i d) (omega (arith, below)) (entry_at xs entries i d within))
       (entry_more j n (get_or xs j d) (omega (arith, below')) (entry_at xs entries j d within'))
-      (sym (view_at-shown xs entries i d within) ∙ e ∙ view_at-shown xs entries j d within') in
-      let places : Some i ≡ Some j = sym (once i d within) ∙ ap (place_in xs) nodes ∙ once j d within' in
-      cc
+      (sym (view_at-shown xs entries i d within) ∙ e ∙ view_at-shown xs entries j d within'))
 
   pub apart : (i j : ℕ) → i < length xs → j < length xs → view_at (shown xs) i ≡ view_at (shown xs) j → i ≡ j
   apart = apart_below (length xs) (omega arith)
@@ -186,9 +133,8 @@ number_of-push (w ∷ ws) v h =
 
 module _ (xs : List Node) (entries : AreEntriesFrom 0 xs) (once : IsOnce xs) (node : Node) where
   -- an entry that stands at n has the number n
-  pub found_number : (n : ℕ) → place_in xs node ≡ Some n → Among (shown xs) (node_view (shown xs) node) × (number_of (shown xs) (node_view (shown xs) node) ≡ n)
-  found_number n h =
-      let there = place_in-is xs node n node h in
+  pub found_number : (n : ℕ) → StandsAt xs n node → Among (shown xs) (node_view (shown xs) node) × (number_of (shown xs) (node_view (shown xs) node) ≡ n)
+  found_number n there =
       let long : length (shown xs) ≡ length xs = length-shown xs in
       let is : view_at (shown xs) n ≡ node_view (shown xs) node = view_at-shown xs entries n node there.0 ∙ ap (node_view (shown xs)) there.1 in
       let among : Among (shown xs) (node_view (shown xs) node) = subst (Among (shown xs)) is (among-at (shown xs) n (omega (arith, there.0, long))) in
@@ -197,7 +143,7 @@ module _ (xs : List Node) (entries : AreEntriesFrom 0 xs) (once : IsOnce xs) (no
       (among, apart xs entries once node number n below there.0 (view_at-number (shown xs) (node_view (shown xs) node) among ∙ sym is))
 
   -- an entry that stands nowhere has a new view
-  pub new_view : IsEntry (length xs) node → place_in xs node ≡ None → list_any (same_view (node_view (shown xs) node)) (shown xs) ≡ false
+  pub new_view : IsEntry (length xs) node → list_any (same_node node) xs ≡ false → list_any (same_view (node_view (shown xs) node)) (shown xs) ≡ false
   new_view entry h = false_from_ne_true _ (λ among. in_table among)
     where
       in_table : Among (shown xs) (node_view (shown xs) node) → ⊥
@@ -209,8 +155,7 @@ module _ (xs : List Node) (entries : AreEntriesFrom 0 xs) (once : IsOnce xs) (no
           same_entries (shown xs) (length xs) (apart xs entries once node) (get_or xs number node) node
           (entry_more number (length xs) (get_or xs number node) (omega (arith, below)) (entry_at xs entries number node below)) entry
           (sym (view_at-shown xs entries number node below) ∙ view_at-number (shown xs) v among) in
-          let clash : Some number ≡ None = sym (once number node below) ∙ ap (place_in xs) same ∙ h in
-          cc
+          both_ways _ h (found_at xs number node node below same)
 
 -- one number, one view, in the list of a table's views
 pub apart_in_table : (xs : List Node) → AreEntriesFrom 0 xs → IsOnce xs → (vs : List View) → shown xs ≡ vs → (i j : ℕ) → i < length vs → j < length vs → view_at vs i ≡ view_at vs j → i ≡ j

@@ -1,6 +1,5 @@
 -- The entry of a renamed view.
-use Rattle.std.proofs.Common.{◌≡◌, ◌<◌, ◌≤◌, ◌==◌, ◌^◌, ℕ, true, List, [], ◌∷◌, map, length, take, get_or, All, sym, refl, ap, ◌∙◌, subst, inl, inr, arith, eqb-true, eq-eqb}
-use Rattle.std.specs.Int.Bits.{bit_or, or_zero_r}
+use Rattle.std.proofs.Common.{◌≡◌, ◌<◌, ◌≤◌, ◌==◌, ℕ, true, List, [], ◌∷◌, map, length, take, slice_get, Some, All, sym, refl, ap, ◌∙◌, subst, inl, inr, arith, eqb-true, eq-eqb}
 use Rattle.std.specs.List.{list_any, AllByRecursion}
 use Rattle.std.proofs.lemmas.Bool.{cases_Bool, or_cases, or_left, or_right, both_ways, false≢true}
 use Rattle.std.proofs.lemmas.List.{length-map}
@@ -10,12 +9,12 @@ use Rattle.wf_model.specs.View.{View, seen, view, views_of, same_view, renamed, 
 use Rattle.wf_model.proofs.Bridge.{Among, same_is, weaker}
 use Rattle.wf_model.proofs.Headline.{each_map, each_of_map, both}
 use Rattle.wf_view.specs.declared.node.Node.{Node}
-use Rattle.wf_view.specs.Views.{view_at, inner_views, process_bits}
-use Rattle.wf_view.specs.Table.{seen_node, node_view, shown, IsEntry, is_base, is_seen, AreEntriesFrom, process_bits_at}
+use Rattle.wf_view.specs.Views.{view_at, inner_views}
+use Rattle.wf_view.specs.Table.{seen_node, node_view, shown, IsEntry, is_base, is_seen, AreEntriesFrom}
 use Rattle.wf_view.specs.Renaming.{rank_in, SawAmong, number_beside, AreRenamed, renumbered_node}
 use Rattle.wf_view.proofs.Shown.{node_view-seen}
 use Rattle.wf_view.proofs.Once.{IsOnce, apart_in_table}
-use Rattle.wf_view.proofs.Entries.{take-padded, process_bits-seen, entry_read, view_read, parts_read, earlier_read}
+use Rattle.wf_view.proofs.Entries.{take-padded, entry_read, entry_earlier, parts_read}
 use Rattle.wf_view.proofs.Ranks.{rank_in-low}
 use Rattle.wf_view.proofs.Beside.{each_take}
 
@@ -54,11 +53,6 @@ module _ (vs : List View) (g f : ℕ → ℕ) (low : (p : ℕ) → g p ≤ p) wh
       ∙ ap (seen (g p)) (views_renamed ids there)
       ∙ sym (ap (renamed g) (node_view-seen vs p ids some few))
 
-pub entry_process_bits : (vs : List View) (node : Node) → IsEntry (length vs) node → bit_or (2 ^ node.process) (process_bits_at (map process_bits vs) (take node.count node.ids)) ≡ process_bits (node_view vs node)
-entry_process_bits vs node (is_base p x h small) = or_zero_r (2 ^ p)
-entry_process_bits vs node (is_seen p ids h some few earlier) =
-    ap (λ ks. bit_or (2 ^ p) (process_bits_at (map process_bits vs) ks)) (take-padded ids few) ∙ process_bits-seen vs p ids earlier some few
-
 -- ---- numbers by their views
 
 has_from_among : (vs : List View) → ((i j : ℕ) → i < length vs → j < length vs → view_at vs i ≡ view_at vs j → i ≡ j) → (ids : List ℕ) (k : ℕ) →
@@ -83,8 +77,11 @@ renamed_known vs g (j ∷ old) (n ∷ new) k h known =
 
 -- ---- an entry that was read
 
-module _ (xs : List Node) (entries : AreEntriesFrom 0 xs) (once : IsOnce xs) (vs : List View) (is : shown xs ≡ vs) (id : ℕ) (node : Node) (within : id < length vs) (read : node ≡ get_or xs id node)
+module _ (xs : List Node) (entries : AreEntriesFrom 0 xs) (once : IsOnce xs) (vs : List View) (is : shown xs ≡ vs) (id : ℕ) (node : Node) (within : id < length vs) (read : slice_get xs id ≡ Some node)
     (processes : ℕ) (old new : List ℕ) (numbers : All (λ k. k < length vs) old) (parts : SawAmong vs id (take (length new) old)) where
+  known_entry : IsEntry id node × (node_view vs node ≡ view_at vs id)
+  known_entry = entry_read xs entries vs is id node within read
+
   front : AllByRecursion (λ k. k < length vs) (take (length new) old)
   front = each_take (λ k. k < length vs) (length new) old (recursion_from_All _ old numbers)
 
@@ -92,10 +89,10 @@ module _ (xs : List Node) (entries : AreEntriesFrom 0 xs) (once : IsOnce xs) (vs
   known_each =
       let ids = take node.count node.ids in
       let among : AllByRecursion (Among (map (view_at vs) (take (length new) old))) (map (view_at vs) (take node.count node.ids)) =
-      subst (AllByRecursion (Among (map (view_at vs) (take (length new) old)))) (sym (parts_read xs entries vs is id node within read)) (recursion_from_All _ (inner_views (view_at vs id)) parts) in
+      subst (AllByRecursion (Among (map (view_at vs) (take (length new) old)))) (sym (parts_read vs id node known_entry.0 known_entry.1)) (recursion_from_All _ (inner_views (view_at vs id)) parts) in
       both (λ k. k < id) (λ k. Among (map (view_at vs) (take (length new) old)) (view_at vs k)) (λ k. has (take (length new) old) k ≡ true)
       (λ k low there. has_from_among vs (apart_in_table xs entries once vs is) (take (length new) old) k front (omega (arith, low, within)) there) ids
-      (recursion_from_All _ ids (earlier_read xs entries vs is id node within read))
+      (recursion_from_All _ ids (entry_earlier id node known_entry.0))
       (each_of_map (Among (map (view_at vs) (take (length new) old))) (view_at vs) ids among)
 
   pub known : All (λ k. has (take (length new) old) k ≡ true) (take node.count node.ids)
@@ -111,10 +108,10 @@ module _ (xs : List Node) (entries : AreEntriesFrom 0 xs) (once : IsOnce xs) (vs
     pub renamed_entry : IsEntry (length vs) after
     renamed_entry =
         subst (IsEntry (length vs)) (sym made_by_rank)
-        (new_entry vs (rank_in processes) (number_beside old new) (rank_in-low processes) id node (entry_read xs entries vs is id node within read) is_new)
+        (new_entry vs (rank_in processes) (number_beside old new) (rank_in-low processes) id node known_entry.0 is_new)
 
     pub renamed_view : node_view vs after ≡ renamed (rank_in processes) (view_at vs id)
     renamed_view =
         ap (node_view vs) made_by_rank
-        ∙ new_view vs (rank_in processes) (number_beside old new) (rank_in-low processes) id node (entry_read xs entries vs is id node within read) is_new
-        ∙ ap (renamed (rank_in processes)) (view_read xs entries vs is id node within read)
+        ∙ new_view vs (rank_in processes) (number_beside old new) (rank_in-low processes) id node known_entry.0 is_new
+        ∙ ap (renamed (rank_in processes)) known_entry.1

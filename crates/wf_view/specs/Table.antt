@@ -1,7 +1,8 @@
 -- The entries of a table, and the views that they stand for.
-use Rattle.std.specs.Prelude.{◌≡◌, ◌<◌, ◌≤◌, ◌==◌, ◌&&◌, ℕ, zero, suc, Bool, true, false, List, [], ◌∷◌, ◌++◌, length, map, take, get_or, bit_or, All, Option, Some, None, option_map}
+use Rattle.std.specs.Prelude.{◌≡◌, ◌<◌, ◌≤◌, ◌==◌, ◌&&◌, ◌+◌, ◌*◌, ℕ, zero, suc, Bool, List, [], ◌∷◌, ◌++◌, length, map, take, get_or, slice_index, bit_or, All}
 use Rattle.std.specs.Cmp.Lexicographic.{pointwise}
-use Rattle.std.specs.HashMap.{HashMap, get}
+use Rattle.std.specs.Hash.{u8, u64}
+use Rattle.std.specs.List.{IsDistinct}
 use Rattle.wf_model.specs.Limits.{most_value}
 use Rattle.wf_model.specs.View.{View, base}
 use Rattle.wf_view.specs.declared.node.Node.{Node}
@@ -9,6 +10,14 @@ use Rattle.wf_view.specs.Views.{view_seen, process_bits}
 
 abbrev pub same_node : Node → Node → Bool
 same_node x y = (x.process == y.process) && ((x.count == y.count) && pointwise (λ a b. a == b) x.ids y.ids)
+
+-- two numbers below 2 ^ 32 as one
+abbrev pub joined : ℕ → ℕ → ℕ
+joined a b = a + 4294967296 * b
+
+-- what an entry is hashed by
+abbrev pub hash_writes : Node → List (List ℕ)
+hash_writes node = u64 (joined (slice_index node.ids 0) (slice_index node.ids 1)) ++ u64 (joined (slice_index node.ids 2) (slice_index node.ids 3)) ++ u8 node.process
 
 abbrev pub base_node : ℕ → ℕ → Node
 base_node p x = record { process = p; count = 0; ids = x ∷ 0 ∷ 0 ∷ 0 ∷ [] }
@@ -49,25 +58,15 @@ abbrev pub AreEntriesFrom : ℕ → List Node → Type 0
 AreEntriesFrom n [] = Unit {0}
 AreEntriesFrom n (node ∷ nodes) = IsEntry n node × AreEntriesFrom (suc n) nodes
 
-abbrev pub placed : Bool → Option ℕ → Option ℕ
-placed true later = Some 0
-placed false later = option_map suc later
-
--- the first place of an entry
-abbrev pub place_in : List Node → Node → Option ℕ
-place_in [] k = None
-place_in (node ∷ nodes) k = placed (same_node k node) (place_in nodes k)
-
 -- the entry has this place
 abbrev pub StandsAt : List Node → ℕ → Node → Type 0
 StandsAt nodes n node = (n < length nodes) × (get_or nodes n node ≡ node)
 
--- what the table keeps: an entry for each number, none twice, the processes in each, and its number
-pub record IsTable {S : Type 0} (nodes : List Node) (bits : List ℕ) (numbers : HashMap Node ℕ S) : Type 0 where
+-- what the table keeps: an entry for each number, none twice, and the processes in each
+pub record IsTable (nodes : List Node) (bits : List ℕ) : Type 0 where
   pub entries : AreEntriesFrom 0 nodes
-  pub once : (n : ℕ) (node : Node) → n < length nodes → place_in nodes (get_or nodes n node) ≡ Some n
+  pub once : IsDistinct same_node nodes
   pub bits_shown : bits ≡ map process_bits (shown nodes)
-  pub numbered : (k : Node) → get same_node numbers k ≡ place_in nodes k
   pub few : length nodes < 4294967296
 
 -- the processes of these views together

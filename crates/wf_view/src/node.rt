@@ -1,18 +1,50 @@
 //! An entry of the table.
 
-ghost use Rattle.std.specs.Prelude.{◌≡◌, ◌≤◌, true, length, take};
+ghost use Rattle.std.specs.Prelude.{◌≡◌, ◌≤◌, ◌+◌, ◌*◌, true, length, take};
+ghost use Rattle.std.specs.Cmp.Rules.{hashing};
+ghost use Rattle.std.proofs.Common.{rules};
 ghost use Rattle.wf_model.specs.Lists.{has};
 ghost use Rattle.wf_model.specs.Simplex.{is_ascending};
-ghost use Rattle.wf_view.specs.Table.{base_node, seen_node};
+ghost use Rattle.wf_view.specs.Table.{base_node, seen_node, hash_writes};
 ghost use Rattle.wf_view.specs.Renaming.{HaveNewNumbers, number_beside, renumbered_node};
+
+use std::hash::{Hash, Hasher};
 
 /// A view, with the views inside it by their numbers. An input has the count 0, and its value in
 /// the first place. Places past the last are 0, so that equal views are equal entries.
-#[derive(Clone, Copy, PartialEq, Eq, Hash)]
+#[derive(Clone, Copy, PartialEq, Eq)]
 pub struct Node {
     pub process: u8,
     pub count: u8,
     pub ids: [u32; 4],
+}
+
+impl Node {
+    /// The numbers of the views inside it.
+    pub fn parts(&self) -> &[u32]
+        requires { self.now.count ≤ 4 }
+        ensures { result.now ≡ take self.now.count self.now.ids }
+    {
+        &self.ids[..usize::from(self.count)]
+    }
+}
+
+/// How many numbers there are.
+const NUMBERS: u64 = 1 << 32;
+
+/// Two numbers are hashed as one, which is less work. The count is left out: entries with the same
+/// numbers seldom differ in it alone.
+impl Hash for Node {
+    ghost hash_input = { hash_writes };
+
+    ghost respects_eq = { Prim.search (hashing, rules) };
+
+    fn hash<H: Hasher>(&self, state: &mut H) {
+        let [a, b, c, d] = self.ids;
+        state.write_u64(u64::from(a) + NUMBERS * u64::from(b));
+        state.write_u64(u64::from(c) + NUMBERS * u64::from(d));
+        state.write_u8(self.process);
+    }
 }
 
 /// The entry of an input.

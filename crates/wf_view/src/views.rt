@@ -1,7 +1,6 @@
 //! The table of views.
 
 ghost use Rattle.std.specs.Prelude.{◌≡◌, ◌==◌, ◌&&◌, nat_lt, slice_index, ◌<◌, ◌≤◌, ◌^◌, bit_or, true, [], ◌+◌, length, take, All, map, is_ok, OnOk, IfOk, IfSome, Some, slice_get};
-ghost use Rattle.std.specs.HashMap.{get};
 ghost use Rattle.std.specs.BTreeSet.{insert_key};
 ghost use Rattle.std.specs.List.{fold};
 ghost use Rattle.std.specs.Ordering.{nat_cmp};
@@ -11,20 +10,21 @@ ghost use Rattle.wf_model.specs.Simplex.{is_ascending};
 ghost use Rattle.wf_model.specs.View.{base, process_of, same_view, normal};
 ghost use Rattle.wf_model.specs.Problem.{number_of};
 ghost use Rattle.wf_view.specs.Views.{view_at, view_seen, processes_at, with_view_if, input_of, inner_views, process_bits, count_within, GrowsByAtMost};
-ghost use Rattle.wf_view.specs.Table.{StandsAt, same_node, process_bits_at};
+ghost use Rattle.wf_view.specs.Table.{StandsAt, process_bits_at};
 ghost use Rattle.wf_view.specs.Renaming.{rank_in, renamed_at, SawAmong, AreInside, AreRenamed};
 
 use crate::node::{Node, input, number_beside, renumber, snapshot};
+use indexmap::IndexSet;
 use std::alloc::{AllocError, Global};
-use std::collections::HashMap;
 use std::marker::Model;
 
 /// Views under numbers from 0 on, each once. In contracts a table is the list of its views.
 #[derive(Drop)]
 pub struct Views {
-    nodes: Vec<Node>,
+    // the entry of each view, in the order of their numbers
+    nodes: IndexSet<Node>,
+    // the processes that occur in each view
     bits: Vec<u8>,
-    numbers: HashMap<Node, u32>,
     // for some entries that were numbered lately their numbers, and else anything
     recent: [u32; RECENT],
 }
@@ -45,9 +45,9 @@ impl Model for Views {
 
     ghost coded = { view_list_code };
 
-    ghost view = { λ t. shown t.nodes.items };
+    ghost view = { λ t. shown t.nodes.keys };
 
-    ghost invariant = { λ t. IsTable t.nodes.items t.bits.items t.numbers };
+    ghost invariant = { λ t. IsTable t.nodes.keys t.bits.items };
 }
 
 impl Views {
@@ -58,9 +58,8 @@ impl Views {
         ensures { result ≡ [] }
     {
         Views {
-            nodes: Vec::new(alloc),
+            nodes: IndexSet::new(alloc),
             bits: Vec::new(alloc),
-            numbers: HashMap::new(alloc),
             recent: [0; RECENT],
         }
     }
@@ -84,7 +83,7 @@ impl Views {
         ensures number { IfOk result (λ n. n ≡ number_of self.new (base process value)) }
         ensures stands { IfOk result (λ n. slice_get self.new n ≡ Some (base process value)) }
     {
-        self.number(input(process, value), 1 << process)
+        self.number(input(process, value))
     }
 
     /// The number of the view of a process that saw these views, named by their numbers in the
@@ -105,8 +104,9 @@ impl Views {
         ensures stands { IfOk result
             (λ n. slice_get self.new n ≡ Some (view_seen self.old process parts.now)) }
     {
-        let bits = process_bits_seen(&self.bits, process, parts);
-        self.number(snapshot(process, parts), bits)
+        // for the proof alone, which reads of the table that at most four processes have views
+        let _ = &self.nodes;
+        self.number(snapshot(process, parts))
     }
 
     /// The process of a view.
@@ -114,7 +114,7 @@ impl Views {
         requires { id < length self.now }
         ensures process { result ≡ process_of (view_at self.now id) }
     {
-        self.nodes[id as usize].process
+        self.entry(id).process
     }
 
     /// The value of an input; `None` for the view of a process that saw views.
@@ -122,7 +122,7 @@ impl Views {
         requires { id < length self.now }
         ensures value { result ≡ input_of (view_at self.now id) }
     {
-        let node = &self.nodes[id as usize];
+        let node = self.entry(id);
         if node.count == 0 {
             Some(node.ids[0] as u8)
         } else {
@@ -145,8 +145,7 @@ impl Views {
         ensures views { map (view_at self.now) result.now ≡ inner_views (view_at self.now id) }
         ensures earlier { All (λ k. k < id) result.now }
     {
-        let node = &self.nodes[id as usize];
-        &node.ids[..node.count as usize]
+        self.entry(id).parts()
     }
 
     /// The number of a view with each process replaced by its rank among
@@ -214,39 +213,51 @@ impl Views {
             (λ n. slice_get self.new n ≡ Some (renamed_at self.old (rank_in processes) id)) }
     {
         let node = self.nodes[id as usize];
-        let entry = renumber(node, rank(processes, node.process), old, new);
-        let bits = process_bits_seen(
-            &self.bits,
-            entry.process,
-            &entry.ids[..entry.count as usize],
-        );
-        self.number(entry, bits)
+        self.number(renumber(node, rank(processes, node.process), old, new))
+    }
+
+    /// The entry of the view of this number.
+    fn entry(&self, id: u32) -> &Node
+        requires { id < length self.now }
+        ensures entry { IsEntry id result.now }
+        ensures view { node_view self.now result.now ≡ view_at self.now id }
+    {
+        &self.nodes[id as usize]
     }
 
     /// The number of an entry's view. A new view gets the next number.
-    fn number(&mut self, node: Node, bits: u8) -> Result<u32, AllocError>
+    fn number(&mut self, node: Node) -> Result<u32, AllocError>
         requires room { length self.old < most_number }
         requires entry { IsEntry (length self.old) node }
-        requires bits { bits ≡ process_bits (node_view self.old node) }
         ensures table { self.new ≡ with_view_if (is_ok result) self.old (node_view self.old node) }
         ensures number { IfOk result (λ n. n ≡ number_of self.new (node_view self.old node)) }
         ensures stands { IfOk result (λ n. slice_get self.new n ≡ Some (node_view self.old node)) }
     {
         let slot = slot_of(node);
-        if let Some(number) = recent_number(&self.nodes, self.recent[slot], node) {
+        if let Some(number) = recent_number(self.nodes.as_slice(), self.recent[slot], node) {
             return Ok(number);
         }
-        if let Some(number) = known_number(&self.numbers, node) {
-            self.recent[slot] = number;
-            return Ok(number);
-        }
-        let number = self.nodes.len() as u32;
-        self.nodes.reserve(1)?;
-        self.bits.reserve(1)?;
-        self.numbers.insert(node, number)?;
-        self.nodes.push_reserved(node);
-        self.bits.push_reserved(bits);
+        let number = self.number_by_hash(node)?;
         self.recent[slot] = number;
+        Ok(number)
+    }
+
+    /// The same, but for a look at the recent numbers. An entry is hashed once, be it new or old.
+    fn number_by_hash(&mut self, node: Node) -> Result<u32, AllocError>
+        requires room { length self.old < most_number }
+        requires entry { IsEntry (length self.old) node }
+        ensures table { self.new ≡ with_view_if (is_ok result) self.old (node_view self.old node) }
+        ensures number { IfOk result (λ n. n ≡ number_of self.new (node_view self.old node)) }
+        ensures stands { IfOk result (λ n. slice_get self.new n ≡ Some (node_view self.old node)) }
+    {
+        self.bits.reserve(1)?;
+        let (place, is_new) = self.nodes.insert_full(node)?;
+        let number = place as u32;
+        if !is_new {
+            return Ok(number);
+        }
+        let bits = process_bits_seen(&self.bits, node.process, node.parts());
+        self.bits.push_reserved(bits);
         Ok(number)
     }
 }
@@ -276,13 +287,6 @@ fn slot_of(node: Node) -> usize
         .wrapping_add(16 * u32::from(node.process))
         .wrapping_mul(0x9e37_79b1);
     (mixed >> 20) as usize % RECENT
-}
-
-/// The number of an entry that stands in the table.
-fn known_number(numbers: &HashMap<Node, u32>, node: Node) -> Option<u32>
-    ensures { result ≡ get same_node numbers.now node }
-{
-    numbers.get(&node).copied()
 }
 
 /// The processes that occur in the view of one that saw these.

@@ -32,5 +32,5 @@ pub returns : goal.returns
 returns c =
     let none : c.loop-greatest.open.items ≡ [] = empty_from c.loop-greatest.open.items (λ h. false≢true (c.in_default.ensures.variant.1 (omega (arith, h, c.loop-greatest.open.ok.0)))) in
     subst (AreInside c.args.self.now c.args.id) (sym c.reverse.ensures.items)
-    (collected c.args.self.now (apart_in_table c.self.inside.nodes.items c.self.invariant.entries c.self.invariant.once c.args.self.now c.self.view_is)
+    (collected c.args.self.now (apart_in_table c.self.inside.nodes.keys c.self.invariant.entries c.self.invariant.once c.args.self.now c.self.view_is)
     c.args.id c.loop-greatest.open.items (reverse c.loop-greatest.inside.items) c.loop-greatest.invariant none)

@@ -5,7 +5,7 @@ use Rattle.wf_view.proofs.Within.{distinct-apart, apart_by_place}
 use Rattle.wf_view.proofs.views.Views.len.Goals as goal
 
 pub returns-clause-count : goal.returns-clause-count
-returns-clause-count c = grind (arith, length-shown c.self.inside.nodes.items, c.self.view_is)
+returns-clause-count c = grind (arith, length-shown c.self.inside.nodes.keys, c.self.view_is)
 
 pub returns-clause-once : goal.returns-clause-once
-returns-clause-once c = distinct-apart c.args.self.now (apart_by_place c.args.self.now (apart_in_table c.self.inside.nodes.items c.self.invariant.entries c.self.invariant.once c.args.self.now c.self.view_is))
+returns-clause-once c = distinct-apart c.args.self.now (apart_by_place c.args.self.now (apart_in_table c.self.inside.nodes.keys c.self.invariant.entries c.self.invariant.once c.args.self.now c.self.view_is))

@@ -13,7 +13,7 @@ pub loop-old-init : goal.loop-old-init
 loop-old-init c =
     subst (λ ns. IsRenaming c.args.self.now c.args.self.now c.colours_in-processes.result c.deref-old-items.result.now ns 0) (sym c.in_ok-numbers.ensures.items)
     (renaming_none c.args.self.now c.colours_in-processes.result c.deref-old-items.result.now
-    (apart_by_place c.args.self.now (apart_in_table c.self.inside.nodes.items c.self.invariant.entries c.self.invariant.once c.args.self.now c.self.view_is)))
+    (apart_by_place c.args.self.now (apart_in_table c.self.inside.nodes.keys c.self.invariant.entries c.self.invariant.once c.args.self.now c.self.view_is)))
 
 pub put_renamed-requires-clause-id : goal.put_renamed-requires-clause-id
 put_renamed-requires-clause-id c =
