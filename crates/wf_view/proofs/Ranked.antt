@@ -3,21 +3,22 @@ use Rattle.std.proofs.Common.{◌≡◌, ◌<◌, ◌≤◌, ◌==◌, ◌||◌,
 use Rattle.std.specs.Int.{bit_at}
 use Rattle.std.specs.List.{list_any, AllByRecursion}
 use Rattle.std.proofs.Math.ListN.{get_or-append}
-use Rattle.std.proofs.lemmas.Bool.{cases_Bool, or_parts, both_ways}
+use Rattle.std.proofs.lemmas.Bool.{cases_Bool, or_parts, or_left, or_right, both_ways}
 use Rattle.std.proofs.lemmas.Nat.Bits.{bit_at_or, bit_at-zero, bit_at-lt, bit_at-pow_same, bit_at-pow_other}
 use Rattle.std.proofs.lemmas.List.{take_all}
 use Rattle.std.proofs.lemmas.Option.{slice_get_within, get_or_from_slice_get}
 use Rattle.std.proofs.lemmas.List.Elements.{recursion_from_All, All-from_recursion, All-get_or}
 use Rattle.wf_model.specs.Lists.{below, has}
-use Rattle.wf_model.specs.View.{View, base, seen, Views, no_views, view, same_view, occurs, occurs_in, renamed, rank, normal}
+use Rattle.wf_model.specs.View.{View, base, seen, Views, no_views, view, same_view, occurs, occurs_in, renamed, renamed_each, rank, normal}
 use Rattle.wf_model.specs.Problem.{number_of}
 use Rattle.wf_model.proofs.Bridge.{Among, same_itself, weaker}
 use Rattle.wf_model.proofs.Headline.{each_append}
 use Rattle.wf_model.proofs.Numbers.{Apart, other_way}
 use Rattle.wf_view.specs.Views.{view_at, with_view, inner_views, process_bits, process_bits_of_each, count_within}
-use Rattle.wf_view.specs.Renaming.{rank_in, SawAmong, SawEarlier, AreInside, number_beside, AreRenamed}
+use Rattle.wf_view.specs.Renaming.{rank_in, are_lowest, SawAmong, SawEarlier, AreInside, number_beside, AreRenamed}
 use Rattle.wf_view.proofs.Shown.{views_at_front}
 use Rattle.wf_view.proofs.Steps.{slice_get-at}
+use Rattle.wf_view.proofs.Ranks.{own_rank}
 use Rattle.wf_view.proofs.Beside.{each_take}
 use Rattle.wf_view.proofs.Renamed.{renamed_known}
 
@@ -60,6 +61,22 @@ ranked v p = λ i. length (filter (λ q. occurs_by_bit v q i) (below p))
 pub renamed-normal : (v : View) → renamed (rank_in (process_bits v)) v ≡ normal v
 renamed-normal v = λ i. renamed (λ p. ranked v p i) v
 
+-- ---- views that are normal
+
+mutual
+  renamed_same : (f : ℕ → ℕ) (v : View) → ((q : ℕ) → occurs q v ≡ true → f q ≡ q) → renamed f v ≡ v
+  renamed_same f (base p x) h = λ i. base (h p (eq-eqb p p refl) i) x
+  renamed_same f (seen p vs) h = λ i. seen (h p (or_left _ _ (eq-eqb p p refl)) i) (renamed_each_same f vs (λ q there. h q (or_right _ _ there)) i)
+
+  renamed_each_same : (f : ℕ → ℕ) (vs : Views) → ((q : ℕ) → occurs_in q vs ≡ true → f q ≡ q) → renamed_each f vs ≡ vs
+  renamed_each_same f no_views h = refl
+  renamed_each_same f (view v vs) h = λ i. view (renamed_same f v (λ q there. h q (or_left _ _ there)) i) (renamed_each_same f vs (λ q there. h q (or_right _ _ there)) i)
+
+own_normal : (v : View) → are_lowest (process_bits v) ≡ true → normal v ≡ v
+own_normal v h =
+    sym (renamed-normal v)
+    ∙ renamed_same (rank_in (process_bits v)) v (λ q there. own_rank (process_bits v) q h (eqb-true (bit_at (process_bits v) q) 1 (occurs_by_bit v q ∙ there)))
+
 -- ---- tables in which no view stands twice
 
 apart_push : (ws : List View) (v : View) → Apart ws → list_any (same_view v) ws ≡ false → Apart (ws ++ v ∷ [])
@@ -75,6 +92,13 @@ number_of-at (w ∷ ws) zero h k = rw (same_itself w) refl
 number_of-at (w ∷ ws) (suc n) h k =
     let low : n < length ws = omega (arith, k) in
     rw (other_way w (view_at ws n) (All-get_or (λ x. same_view w x ≡ false) ws n (base 0 0) low (All-from_recursion _ ws h.0))) (ap suc (number_of-at ws n h.1 low))
+
+-- the number of a normal view
+pub normal_at : (ws : List View) (n : ℕ) → Apart ws → n < length ws → are_lowest (process_bits (view_at ws n)) ≡ true →
+    (n ≡ number_of ws (normal (view_at ws n))) × (slice_get ws n ≡ Some (normal (view_at ws n)))
+normal_at ws n once within lowest =
+    let own = own_normal (view_at ws n) lowest in
+    (sym (number_of-at ws n once within) ∙ ap (number_of ws) (sym own), slice_get-at ws n (normal (view_at ws n)) within (sym own))
 
 -- ---- one view more
 

@@ -1,5 +1,5 @@
 -- The views inside a view, and the entries that they get with their processes renamed.
-use Rattle.std.specs.Prelude.{◌≡◌, ◌<◌, ◌≤◌, ◌==◌, ℕ, true, List, [], ◌∷◌, ◌++◌, map, filter, length, take, drop, All, if◌then◌else◌}
+use Rattle.std.specs.Prelude.{◌≡◌, ◌<◌, ◌≤◌, ◌==◌, ◌||◌, ℕ, Bool, true, List, [], ◌∷◌, ◌++◌, map, filter, length, take, drop, All, if◌then◌else◌}
 use Rattle.std.specs.Int.{bit_at}
 use Rattle.std.specs.List.{list_any}
 use Rattle.wf_model.specs.Lists.{below, has}
@@ -11,6 +11,10 @@ use Rattle.wf_view.specs.Views.{view_at, inner_views, count_within}
 -- how many processes of a set are below p: bit q is set where process q is in the set
 abbrev pub rank_in : ℕ → ℕ → ℕ
 rank_in processes p = length (filter (λ q. bit_at processes q == 1) (below p))
+
+-- whether a set leaves no process out below another
+abbrev pub are_lowest : ℕ → Bool
+are_lowest processes = (processes == 1) || ((processes == 3) || ((processes == 7) || (processes == 15)))
 
 -- the views that the view of this number saw stand under some of these numbers
 abbrev pub SawAmong : List View → ℕ → List ℕ → Type 0

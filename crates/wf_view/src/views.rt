@@ -11,7 +11,7 @@ ghost use Rattle.wf_model.specs.View.{base, process_of, same_view, normal};
 ghost use Rattle.wf_model.specs.Problem.{number_of};
 ghost use Rattle.wf_view.specs.Views.{view_at, view_seen, processes_at, with_view_if, input_of, inner_views, process_bits, count_within, GrowsByAtMost};
 ghost use Rattle.wf_view.specs.Table.{StandsAt, process_bits_at};
-ghost use Rattle.wf_view.specs.Renaming.{rank_in, renamed_at, SawAmong, AreInside, AreRenamed};
+ghost use Rattle.wf_view.specs.Renaming.{rank_in, are_lowest, renamed_at, SawAmong, AreInside, AreRenamed};
 
 use crate::node::{Node, input, number_beside, renumber, snapshot};
 use indexmap::IndexSet;
@@ -148,12 +148,13 @@ impl Views {
         self.entry(id).parts()
     }
 
-    /// The number of a view with each process replaced by its rank among
-    /// those that occur in it, at every depth.
+    /// The number of a view with each process replaced by its rank among those that occur in it, at
+    /// every depth. Where no process is left out below another that is the view itself, which is
+    /// seen at once.
     ///
-    /// The views inside it, renamed alike, get numbers too: at most one new view for each different
-    /// view inside. Refused where memory runs out, which leaves each number with its view; some of
-    /// the new views may stand then.
+    /// Else the views inside it, renamed alike, get numbers too: at most one new view for each
+    /// different view inside. Refused where memory runs out, which leaves each number with its
+    /// view; some of the new views may stand then.
     pub fn normal(&mut self, id: u32) -> Result<u32, AllocError>
         requires id { id < length self.old }
         requires room { length self.old + count_within (view_at self.old id) ≤ most_number }
@@ -163,9 +164,13 @@ impl Views {
         ensures stands { IfOk result
             (λ n. slice_get self.new n ≡ Some (normal (view_at self.old id))) }
     {
+        let alloc = *self.nodes.allocator();
         let processes = self.colours_in(id);
+        if are_lowest(processes) {
+            return Ok(id);
+        }
         let inside = self.inside(id)?;
-        let mut numbers = Vec::with_capacity(*self.nodes.allocator(), inside.len())?;
+        let mut numbers = Vec::with_capacity(alloc, inside.len())?;
         for old in &inside {
             let number = self.put_renamed(*old, processes, &inside, &numbers)?;
             numbers.push(number)?;
@@ -346,6 +351,14 @@ fn stands_at(numbers: &[u32], place: usize, number: u32) -> bool
         && slice_index numbers.now place == number) }
 {
     place < numbers.len() && numbers[place] == number
+}
+
+/// Whether a set of processes leaves none out below another, so that each is its own rank: bit p is
+/// set where process p is in the set.
+fn are_lowest(processes: u8) -> bool
+    ensures { result ≡ are_lowest processes }
+{
+    matches!(processes, 0b1 | 0b11 | 0b111 | 0b1111)
 }
 
 /// How many processes of a set are below this one: bit p is set where process p is in the set.

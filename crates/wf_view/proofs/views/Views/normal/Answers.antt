@@ -3,11 +3,24 @@ use Rattle.wf_model.specs.Lists.{has}
 use Rattle.wf_model.specs.View.{normal}
 use Rattle.wf_model.specs.Problem.{number_of}
 use Rattle.wf_view.specs.Views.{view_at, count_within}
-use Rattle.wf_view.specs.Renaming.{rank_in, number_beside, SawAmong, AreInside, AreRenamed}
+use Rattle.wf_view.specs.Renaming.{rank_in, are_lowest, number_beside, SawAmong, AreInside, AreRenamed}
 use Rattle.wf_view.proofs.Once.{apart_in_table}
 use Rattle.wf_view.proofs.Within.{apart_by_place}
-use Rattle.wf_view.proofs.Ranked.{IsRenaming, renaming_none, renaming_more, renaming_all, all_there, this_there, room_left, parts_known, grows, itself_known}
+use Rattle.wf_view.proofs.Ranked.{IsRenaming, normal_at, renaming_none, renaming_more, renaming_all, all_there, this_there, room_left, parts_known, grows, itself_known}
 use Rattle.wf_view.proofs.views.Views.normal.Goals as goal
+use Rattle.wf_view.proofs.views.Views.normal.Goals.{Then-are_lowest}
+
+normal_already : (c : Then-are_lowest) → (c.args.id ≡ number_of c.args.self.now (normal (view_at c.args.self.now c.args.id))) × (slice_get c.args.self.now c.args.id ≡ Some (normal (view_at c.args.self.now c.args.id)))
+normal_already c =
+    let vs = c.args.self.now in
+    normal_at vs c.args.id (apart_by_place vs (apart_in_table c.self.inside.nodes.keys c.self.invariant.entries c.self.invariant.once vs c.self.view_is)) c.requires.id
+    (ap are_lowest (sym c.colours_in-processes.ensures.bits) ∙ sym c.are_lowest.ensures ∙ c.if-are_lowest.true)
+
+pub returns-then-are_lowest-clause-number : goal.returns-then-are_lowest-clause-number
+returns-then-are_lowest-clause-number c = (normal_already c).0
+
+pub returns-then-are_lowest-clause-stands : goal.returns-then-are_lowest-clause-stands
+returns-then-are_lowest-clause-stands c = (normal_already c).1
 
 pub loop-old-init : goal.loop-old-init
 loop-old-init c =
