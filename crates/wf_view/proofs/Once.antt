@@ -63,11 +63,11 @@ same_node-is a b h =
     let rest = and_parts (a.count == b.count) (pointwise (λ x y. x == y) a.ids b.ids) first.1 in
     λ i. record { process = eqb-true a.process b.process first.0 i; count = eqb-true a.count b.count rest.0 i; ids = same_numbers a.ids b.ids rest.1 i }
 
-pub same_node-itself : (a : Node) → same_node a a ≡ true
+same_node-itself : (a : Node) → same_node a a ≡ true
 same_node-itself a = and_from _ _ (eq-eqb a.process a.process refl) (and_from _ _ (eq-eqb a.count a.count refl) (numbers_same a.ids))
 
 -- an entry that stands somewhere is found
-pub found_at : (xs : List Node) (n : ℕ) (k d : Node) → n < length xs → get_or xs n d ≡ k → list_any (same_node k) xs ≡ true
+found_at : (xs : List Node) (n : ℕ) (k d : Node) → n < length xs → get_or xs n d ≡ k → list_any (same_node k) xs ≡ true
 found_at [] n k d h e = absurd (let none : ⊥ = omega (arith, h) in none)
 found_at (x ∷ xs) zero k d h e = or_left _ _ (subst (λ y. same_node k y ≡ true) (sym e) (same_node-itself k))
 found_at (x ∷ xs) (suc n) k d h e = or_right _ _ (found_at xs n k d (omega (arith, h)) e)

@@ -1,8 +1,8 @@
 -- What a table is after one view was asked for.
-use Rattle.std.proofs.Common.{true, Bool, not, ◌≡◌, ◌<◌, ℕ, zero, suc, ◌+◌, false, List, [], ◌∷◌, ◌++◌, length, slice_get, Some, sym, refl, ap, ◌∙◌, subst, arith, length-append, map}
+use Rattle.std.proofs.Common.{◌≡◌, ◌<◌, ℕ, zero, suc, ◌+◌, false, List, [], ◌∷◌, ◌++◌, length, slice_get, Some, sym, refl, ap, ◌∙◌, subst, arith, length-append, map, true, Bool, not}
 use Rattle.std.specs.List.{list_any, IsDistinct}
 use Rattle.std.proofs.lemmas.List.{get_or_push, map-append}
-use Rattle.std.proofs.lemmas.Bool.{false≢true}
+use Rattle.std.proofs.lemmas.Bool.{not-false, not-true}
 use Rattle.std.proofs.lemmas.Option.{slice_get_within, get_or_from_slice_get}
 use Rattle.indexmap.specs.IndexSet.{insert_key}
 use Rattle.wf_model.specs.View.{View, base, same_view}
@@ -59,13 +59,13 @@ module _ (xs : List Node) (bits : List ℕ) (is_table : IsTable xs bits) (node :
           stands = rw more (slice_get-at (shown xs ++ v ∷ []) (length xs) v within (get_or_push (shown xs) v (base 0 0) (length xs) long));
         }
 
-    pub added : (n : ℕ) → IsDistinct same_node (xs ++ node ∷ []) → StandsAt (xs ++ node ∷ []) n node → IsNumbered (shown xs) (shown (xs ++ node ∷ [])) (node_view (shown xs) node) n
+    added : (n : ℕ) → IsDistinct same_node (xs ++ node ∷ []) → StandsAt (xs ++ node ∷ []) n node → IsNumbered (shown xs) (shown (xs ++ node ∷ [])) (node_view (shown xs) node) n
     added n once stands =
         let next : length xs < length (xs ++ node ∷ []) = omega (arith, length-append xs (node ∷ [])) in
         let last : length xs ≡ n = same_places (xs ++ node ∷ []) (length xs) n node once next stands.0 (get_or_push xs node node (length xs) refl ∙ sym stands.1) in
         subst (IsNumbered (shown xs) (shown (xs ++ node ∷ [])) (node_view (shown xs) node)) last added_last
 
-    pub is_table_after : IsDistinct same_node (xs ++ node ∷ []) → length xs < 4294967295 → IsTable (xs ++ node ∷ []) (bits ++ process_bits (node_view (shown xs) node) ∷ [])
+    is_table_after : IsDistinct same_node (xs ++ node ∷ []) → length xs < 4294967295 → IsTable (xs ++ node ∷ []) (bits ++ process_bits (node_view (shown xs) node) ∷ [])
     is_table_after once room = record {
       entries = AreEntriesFrom-push 0 xs node is_table.entries (let e : 0 + length xs ≡ length xs = omega arith in subst (λ n. IsEntry n node) (sym e) here);
       once = once;
@@ -76,22 +76,14 @@ module _ (xs : List Node) (bits : List ℕ) (is_table : IsTable xs bits) (node :
       few = omega (arith, length-append xs (node ∷ []), room);
     }
 
--- ---- what a set is after an entry was put in
-
-opposite_true : (b : Bool) → not b ≡ true → b ≡ false
-opposite_true true h = absurd (false≢true h)
-opposite_true false h = refl
-
-opposite_false : (b : Bool) → not b ≡ false → b ≡ true
-opposite_false true h = refl
-opposite_false false h = absurd (false≢true (sym h))
+-- ---- a table after an entry was put in its set
 
 module _ (xs ys : List Node) (bits : List ℕ) (vs : List View) (is : shown xs ≡ vs) (is_table : IsTable xs bits) (node : Node) (n : ℕ) (is_new : Bool)
     (new : is_new ≡ not (list_any (same_node node) xs)) (put : ys ≡ insert_key same_node xs node) (stands : StandsAt ys n node) where
   -- the entry stood there
   pub stood : is_new ≡ false → IsNumbered vs (shown ys) (node_view vs node) n
   stood h =
-      let same : ys ≡ xs = put ∙ rw (opposite_false (list_any (same_node node) xs) (sym new ∙ h)) refl in
+      let same : ys ≡ xs = put ∙ rw (not-false (list_any (same_node node) xs) (sym new ∙ h)) refl in
       subst (λ us. IsNumbered us (shown ys) (node_view us node) n) is
       (subst (λ zs. IsNumbered (shown xs) (shown zs) (node_view (shown xs) node) n) (sym same)
       (found xs bits is_table node n (subst (λ zs. StandsAt zs n node) same stands)))
@@ -99,7 +91,7 @@ module _ (xs ys : List Node) (bits : List ℕ) (vs : List View) (is : shown xs �
   -- the entry is new
   module _ (h : is_new ≡ true) (once : IsDistinct same_node ys) (entry : IsEntry (length vs) node) where
     absent : list_any (same_node node) xs ≡ false
-    absent = opposite_true (list_any (same_node node) xs) (sym new ∙ h)
+    absent = not-true (list_any (same_node node) xs) (sym new ∙ h)
 
     last : ys ≡ xs ++ node ∷ []
     last = put ∙ rw absent refl
