@@ -1,9 +1,8 @@
 -- One number, one view: entries that differ stand for views that differ.
-use Rattle.std.proofs.Common.{◌≡◌, ◌<◌, ◌≤◌, ℕ, zero, suc, ◌==◌, ◌&&◌, true, false, List, [], ◌∷◌, ◌++◌, map, length, get_or, sym, refl, ap, ◌∙◌, subst, inl, inr, arith, eqb-true, eq-eqb}
+use Rattle.std.proofs.Common.{◌≡◌, ◌<◌, ◌≤◌, ℕ, zero, suc, ◌==◌, true, false, List, [], ◌∷◌, ◌++◌, map, length, get_or, sym, refl, ap, ◌∙◌, subst, inl, inr, arith, eqb-true}
 use Rattle.std.specs.List.{AllByRecursion, list_any, IsDistinct}
-use Rattle.std.specs.Cmp.Lexicographic.{pointwise}
 use Rattle.std.proofs.lemmas.List.Elements.{recursion_from_All, All-from_recursion}
-use Rattle.std.proofs.lemmas.Bool.{cases_Bool, cases_lt, or_cases, or_left, or_right, and_parts, and_from, false≢true, both_ways, false_from_ne_true}
+use Rattle.std.proofs.lemmas.Bool.{cases_Bool, cases_lt, or_cases, or_left, or_right, false≢true, both_ways, false_from_ne_true}
 use Rattle.std.proofs.lemmas.Map.Keys.{apart_from_distinct}
 use Rattle.wf_model.specs.View.{View, base, views_of, same_view}
 use Rattle.wf_model.specs.Problem.{number_of}
@@ -11,6 +10,7 @@ use Rattle.wf_model.proofs.Bridge.{Among, same_is, same_itself, number_below, we
 use Rattle.wf_view.specs.declared.node.Node.{Node}
 use Rattle.wf_view.specs.Views.{view_at, view_seen}
 use Rattle.wf_view.specs.Table.{base_node, seen_node, same_node, node_view, shown, IsEntry, is_base, is_seen, AreEntriesFrom, StandsAt}
+use Rattle.wf_view.specs.Same.{same_node-itself}
 use Rattle.wf_view.proofs.Shown.{node_view-seen, view_at-shown, entry_at, length-shown}
 
 -- ---- equal views have equal entries
@@ -44,27 +44,6 @@ module _ (vs : List View) (n : ℕ) (apart : (i j : ℕ) → i < n → j < n →
       λ i. seen_node (ps i) (same i)
 
 -- ---- places
-
-same_numbers : (xs ys : List ℕ) → pointwise (λ a b. a == b) xs ys ≡ true → xs ≡ ys
-same_numbers [] [] h = refl
-same_numbers [] (y ∷ ys) h = absurd (false≢true h)
-same_numbers (x ∷ xs) [] h = absurd (false≢true h)
-same_numbers (x ∷ xs) (y ∷ ys) h =
-    let b = and_parts (x == y) (pointwise (λ a b. a == b) xs ys) h in
-    λ i. eqb-true x y b.0 i ∷ same_numbers xs ys b.1 i
-
-numbers_same : (xs : List ℕ) → pointwise (λ a b. a == b) xs xs ≡ true
-numbers_same [] = refl
-numbers_same (x ∷ xs) = and_from _ _ (eq-eqb x x refl) (numbers_same xs)
-
-pub same_node-is : (a b : Node) → same_node a b ≡ true → a ≡ b
-same_node-is a b h =
-    let first = and_parts (a.process == b.process) ((a.count == b.count) && pointwise (λ x y. x == y) a.ids b.ids) h in
-    let rest = and_parts (a.count == b.count) (pointwise (λ x y. x == y) a.ids b.ids) first.1 in
-    λ i. record { process = eqb-true a.process b.process first.0 i; count = eqb-true a.count b.count rest.0 i; ids = same_numbers a.ids b.ids rest.1 i }
-
-same_node-itself : (a : Node) → same_node a a ≡ true
-same_node-itself a = and_from _ _ (eq-eqb a.process a.process refl) (and_from _ _ (eq-eqb a.count a.count refl) (numbers_same a.ids))
 
 -- an entry that stands somewhere is found
 found_at : (xs : List Node) (n : ℕ) (k d : Node) → n < length xs → get_or xs n d ≡ k → list_any (same_node k) xs ≡ true

@@ -11,8 +11,9 @@ use Rattle.wf_model.proofs.Bridge.{number_below}
 use Rattle.wf_view.specs.declared.node.Node.{Node}
 use Rattle.wf_view.specs.Views.{view_at, with_view, process_bits}
 use Rattle.wf_view.specs.Table.{same_node, node_view, shown, IsEntry, StandsAt, IsTable}
+use Rattle.wf_view.specs.Same.{same_node-is}
 use Rattle.wf_view.proofs.Shown.{shown-push, length-shown, AreEntriesFrom-push}
-use Rattle.wf_view.proofs.Once.{same_node-is, same_places, found_number, new_view, number_of-push, view_at-number}
+use Rattle.wf_view.proofs.Once.{same_places, found_number, new_view, number_of-push, view_at-number}
 
 -- the number of a view, in the table that has it
 pub record IsNumbered (old new : List View) (v : View) (n : ℕ) : Type 0 where

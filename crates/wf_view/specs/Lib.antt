@@ -3,3 +3,4 @@ pub mod Views
 -- What only this crate's own code and proofs use.
 pub mod Table
 pub mod Renaming
+pub mod Same

@@ -1,11 +1,10 @@
 //! An entry of the table.
 
 ghost use Rattle.std.specs.Prelude.{◌≡◌, ◌≤◌, ◌+◌, ◌*◌, true, length, take};
-ghost use Rattle.std.specs.Cmp.Rules.{hashing};
-ghost use Rattle.std.proofs.Common.{rules};
 ghost use Rattle.wf_model.specs.Lists.{has};
 ghost use Rattle.wf_model.specs.Simplex.{is_ascending};
 ghost use Rattle.wf_view.specs.Table.{base_node, seen_node, hash_writes};
+ghost use Rattle.wf_view.specs.Same.{hashed_alike};
 ghost use Rattle.wf_view.specs.Renaming.{HaveNewNumbers, number_beside, renumbered_node};
 
 use std::hash::{Hash, Hasher};
@@ -37,7 +36,7 @@ const NUMBERS: u64 = 1 << 32;
 impl Hash for Node {
     ghost hash_input = { hash_writes };
 
-    ghost respects_eq = { Prim.search (hashing, rules) };
+    ghost respects_eq = { hashed_alike };
 
     fn hash<H: Hasher>(&self, state: &mut H) {
         let [a, b, c, d] = self.ids;
