@@ -8,7 +8,7 @@ use Rattle.std.proofs.lemmas.List.{get_or-set_same, get_or-set_other, get_or-rep
 use Rattle.std.proofs.lemmas.Bool.{cases_eq, cases_lt, false≢true}
 use Rattle.std.proofs.Math.Nat.{div-div-eq-div-mul, div-le_self}
 use Rattle.std.proofs.lemmas.Nat.Bits.{bit_at-trailing_zeros, bit_at-zero, bit_at_ones, bit_at_above, bit_at-lt, bit_at_or}
-use Rattle.wf_network.specs.Marks.{bit_of, IsLast, IsMore, IsNext, MarksWord, TopsTell}
+use Rattle.wf_network.specs.Marks.{bit_of, IsLast, IsMore, IsNext, MarksOnlyWord, MarksWord, TopsTell}
 use Rattle.wf_network.specs.declared.users.UserWord.{UserWord}
 
 -- two bits in one word are told apart by their places
@@ -45,6 +45,19 @@ bits_more words old w within is n none = elim (cases_eq (n / 64) w.word) [
       let was : bit_of words n ≡ bit_at old (n % 64) = ap (λ i. bit_at (slice_index words i) (n % 64)) here ∙ ap (λ x. bit_at x (n % 64)) (sym is) in
       omega (arith, was, now, none, bit_at_or old w.bits (n % 64))
   | inr other ↦ sym (ap (λ x. bit_at x (n % 64)) (get_or-set_other words w.word (n / 64) (bit_or old w.bits) 0 other)) ∙ none
+]
+
+pub bits_only : (words : List ℕ) (old : ℕ) (w : UserWord) → w.word < length words → old ≡ slice_index words w.word → MarksOnlyWord words w (slice_set words w.word (bit_or old w.bits))
+bits_only words old w within is e set = elim (cases_eq (e / 64) w.word) [
+  | inl here ↦
+      let now = ap (λ i. bit_at (slice_index (slice_set words w.word (bit_or old w.bits)) i) (e % 64)) here ∙ ap (λ x. bit_at x (e % 64)) (get_or-set_same words w.word (bit_or old w.bits) 0 within) in
+      let was : bit_of words e ≡ bit_at old (e % 64) = ap (λ i. bit_at (slice_index words i) (e % 64)) here ∙ ap (λ x. bit_at x (e % 64)) (sym is) in
+      let joined : bit_at (bit_or old w.bits) (e % 64) ≡ 1 = sym now ∙ set in
+      elim (cases_lt (bit_at old (e % 64)) 1) [
+        | inl none ↦ inr (sym here, omega (arith, bit_at_or old w.bits (e % 64), joined, none, bit_at-lt w.bits (e % 64)))
+        | inr one ↦ inl (omega (arith, was, one, bit_at-lt old (e % 64)))
+      ]
+  | inr other ↦ inl (sym (ap (λ x. bit_at x (e % 64)) (get_or-set_other words w.word (e / 64) (bit_or old w.bits) 0 other)) ∙ set)
 ]
 
 -- ---- the first bit that is set

@@ -1,12 +1,16 @@
 -- Marks, a bit each.
-use Rattle.std.specs.Prelude.{◌≡◌, ◌≢◌, ◌<◌, ◌≤◌, ◌*◌, ◌/◌, ◌%◌, ℕ, List, length, get_or, slice_index}
+use Rattle.std.specs.Prelude.{◌≡◌, ◌≢◌, ◌<◌, ◌≤◌, ◌⊎◌, ◌*◌, ◌/◌, ◌%◌, ℕ, List, length, get_or, slice_index}
 use Rattle.std.specs.Int.{bit_at}
-use Rattle.wf_network.specs.Users.{HasBit, no_word}
+use Rattle.wf_network.specs.Users.{HasBit, IsIn, no_word}
 use Rattle.wf_network.specs.declared.users.UserWord.{UserWord}
 
 -- a bit of some words
 abbrev pub bit_of : List ℕ → ℕ → ℕ
 bit_of words n = bit_at (slice_index words (n / 64)) (n % 64)
+
+-- there is a word for the execution after so many
+abbrev pub HasRoom : ℕ → List ℕ → Type 0
+HasRoom executions words = executions / 64 < length words
 
 -- bit n is the first that is set, from this one on
 pub record IsNext (words : List ℕ) (from n : ℕ) : Type 0 where
@@ -30,6 +34,14 @@ MarksWord words w = (e : ℕ) → HasBit w e → bit_of words e ≡ 1
 -- so is each of these words
 abbrev pub MarksEach : List ℕ → List UserWord → Type 0
 MarksEach words ws = (k : ℕ) → k < length ws → MarksWord words (get_or ws k no_word)
+
+-- a bit that is set was set before, or is that of an execution of the word
+abbrev pub MarksOnlyWord : List ℕ → UserWord → List ℕ → Type 0
+MarksOnlyWord old w new = (e : ℕ) → bit_of new e ≡ 1 → (bit_of old e ≡ 1) ⊎ HasBit w e
+
+-- or of one of these words
+abbrev pub MarksOnly : List ℕ → List UserWord → List ℕ → Type 0
+MarksOnly old ws new = (e : ℕ) → bit_of new e ≡ 1 → (bit_of old e ≡ 1) ⊎ IsIn 0 (length ws) ws e
 
 -- each bit below this one is set
 abbrev pub AreSetBelow : ℕ → List ℕ → Type 0

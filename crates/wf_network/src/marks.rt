@@ -1,9 +1,9 @@
 //! Marks on executions.
 
-ghost use Rattle.std.specs.Prelude.{◌≡◌, ◌<◌, ◌≤◌, ◌*◌, ◌/◌, ◌^◌, [], All, length, slice_index, OnOk, IfSome, IfNone};
+ghost use Rattle.std.specs.Prelude.{◌≡◌, ◌<◌, ◌≤◌, ◌*◌, ◌/◌, ◌^◌, [], All, length, slice_index, ◌⊎◌, OnErr, OnOk, IfSome, IfNone};
 ghost use Rattle.wf_model.specs.Limits.{most_executions};
 ghost use Rattle.wf_network.specs.Limits.{most_words};
-ghost use Rattle.wf_network.specs.Marks.{AreSetBelow, IsLast, IsLastHere, IsMore, IsNext, KeepsBitsBut, KeepsWordsBut, MarksEach, MarksWord, TopsTell, bit_of};
+ghost use Rattle.wf_network.specs.Marks.{AreSetBelow, HasRoom, IsLast, IsLastHere, IsMore, IsNext, KeepsBitsBut, KeepsWordsBut, MarksEach, MarksOnly, MarksOnlyWord, MarksWord, TopsTell, bit_of};
 
 use crate::users::UserWord;
 use std::alloc::{AllocError, Global};
@@ -32,11 +32,16 @@ impl Marks {
         }
     }
 
-    /// Makes room for the marks of so many executions. Where there was too
-    /// little, none is marked then.
+    /// Makes room for the marks of so many executions. Where there was too little, none is marked
+    /// then. Refused where memory runs out, which leaves the marks as they were.
     pub fn reserve(&mut self, alloc: Global, executions: u32) -> Result<(), AllocError>
         requires { executions ≤ most_executions }
-        ensures { OnOk result (executions ≤ 64 * length self.new.words.items) }
+        ensures room { OnOk result (executions ≤ 64 * length self.new.words.items) }
+        ensures kept { HasRoom executions self.old.words.items
+            → self.new.words.items ≡ self.old.words.items }
+        ensures none { OnOk result (HasRoom executions self.old.words.items
+            ⊎ IsLast self.new.words.items 0) }
+        ensures refused { OnErr result (self.new.words.items ≡ self.old.words.items) }
     {
         let words = executions as usize / 64 + 1;
         if self.words.len() < words {
@@ -48,10 +53,11 @@ impl Marks {
         Ok(())
     }
 
-    /// Marks the executions of these words.
+    /// Marks the executions of these words, and no other.
     pub fn mark_each(&mut self, words: &[UserWord])
         requires { All (λ w. w.word < length self.old.words.items) words.now }
         ensures marked { MarksEach self.new.words.items words.now }
+        ensures only { MarksOnly self.old.words.items words.now self.new.words.items }
         ensures kept { IsMore self.old.words.items self.new.words.items }
         ensures long { length self.new.words.items ≡ length self.old.words.items }
     {
@@ -64,6 +70,7 @@ impl Marks {
     fn mark(&mut self, users: UserWord)
         requires { users.word < length self.old.words.items }
         ensures marked { MarksWord self.new.words.items users }
+        ensures only { MarksOnlyWord self.old.words.items users self.new.words.items }
         ensures kept { IsMore self.old.words.items self.new.words.items }
         ensures long { length self.new.words.items ≡ length self.old.words.items }
     {
@@ -99,6 +106,7 @@ impl Marks {
     /// Takes the mark of the first marked execution from this one on away.
     pub fn take_next(&mut self, from: u32) -> Option<u32>
         ensures next { IfSome result (IsNext self.old.words.items from) }
+        ensures taken { IfSome result (λ n. bit_of self.new.words.items n ≡ 0) }
         ensures others { IfSome result (KeepsBitsBut self.old.words.items self.new.words.items) }
         ensures last { IfNone result (IsLast self.old.words.items from) }
         ensures same { IfNone result (self.new.words.items ≡ self.old.words.items) }
@@ -112,6 +120,7 @@ impl Marks {
     /// Takes the mark of an execution away.
     pub fn take(&mut self, number: u32)
         requires { number < 64 * length self.old.words.items }
+        ensures taken { bit_of self.new.words.items number ≡ 0 }
         ensures others { KeepsBitsBut self.old.words.items self.new.words.items number }
         ensures long { length self.new.words.items ≡ length self.old.words.items }
     {
@@ -187,6 +196,7 @@ fn add_bit(words: &mut Vec<u64>, bit: usize)
 fn add_users(words: &mut Vec<u64>, users: UserWord)
     requires { users.word < length words.old.items }
     ensures marked { MarksWord words.new.items users }
+    ensures only { MarksOnlyWord words.old.items users words.new.items }
     ensures kept { IsMore words.old.items words.new.items }
     ensures long { length words.new.items ≡ length words.old.items }
     ensures words { KeepsWordsBut words.old.items words.new.items users.word }

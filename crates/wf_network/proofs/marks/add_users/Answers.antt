@@ -1,5 +1,5 @@
 use Rattle.std.proofs.lemmas.List.{get_or_read}
-use Rattle.wf_network.proofs.MarkLemmas.{bits_marked, bits_more}
+use Rattle.wf_network.proofs.MarkLemmas.{bits_marked, bits_more, bits_only}
 use Rattle.wf_network.proofs.marks.add_users.Goals as goal
 
 pub returns-clause-marked : goal.returns-clause-marked
@@ -7,3 +7,6 @@ returns-clause-marked c = bits_marked c.args.words.now.items c.index_mut.result.
 
 pub returns-clause-kept : goal.returns-clause-kept
 returns-clause-kept c = bits_more c.args.words.now.items c.index_mut.result.now c.args.users c.requires (get_or_read c.args.words.now.items c.args.users.word c.index_mut.result.now c.requires c.index_mut.ensures.value 0)
+
+pub returns-clause-only : goal.returns-clause-only
+returns-clause-only c = bits_only c.args.words.now.items c.index_mut.result.now c.args.users c.requires (get_or_read c.args.words.now.items c.args.users.word c.index_mut.result.now c.requires c.index_mut.ensures.value 0)
