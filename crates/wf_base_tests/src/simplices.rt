@@ -163,6 +163,7 @@ fn simplices_know_their_vertices(rt: HostRuntime) -> Result<(), Fail> {
     let edge = Simplex::read(EDGE)?;
     assert!(rt; values(&edge) == (2, [None, Some(7), Some(0), None]));
     assert!(rt; ends(&edge) == Some((1, 3)));
+    assert!(rt; Simplex::of_pairs(&[(1, 7), (3, 0)]) == edge);
     Ok(())
 }
 

@@ -18,6 +18,8 @@ mod boxes;
 #[cfg(test)]
 mod lanes;
 #[cfg(test)]
+mod marks;
+#[cfg(test)]
 mod searches;
 #[cfg(test)]
 mod sets;
