@@ -1,4 +1,5 @@
 pub mod RoundLemmas
+pub mod KnownLemmas
 pub mod WalkLemmas
 pub mod InputLemmas
 pub mod LayoutLemmas

@@ -18,15 +18,11 @@ use Rattle.wf_complex.specs.Rounds.{views_at, visible_ids, Extends, AreViews}
 
 -- ---- tables that grow
 
-pub extends_with : (old now : List View) (v : View) → Extends old now → Extends old (with_view now v)
-extends_with old now v e =
-    elim (cases_Bool (list_any (same_view v) now)) [
-      | inl among ↦ rw among e
-      | inr new ↦ rw new (e.0 ++ v ∷ [], ap (λ vs. vs ++ v ∷ []) e.1 ∙ append_assoc old e.0 (v ∷ []))
-    ]
-
 pub extends_itself : (table : List View) → Extends table table
 extends_itself table = ([], sym (append-nil table))
+
+pub extends_with : (table : List View) (v : View) → Extends table (with_view table v)
+extends_with table v = elim (cases_Bool (list_any (same_view v) table)) [ inl among ↦ rw among (extends_itself table) | inr new ↦ rw new (v ∷ [], refl) ]
 
 pub extends_then : (a b c : List View) → Extends a b → Extends b c → Extends a c
 extends_then a b c e f = (e.0 ++ f.0, f.1 ∙ ap (λ vs. vs ++ f.0) e.1 ∙ append_assoc a e.0 f.0)
@@ -91,7 +87,7 @@ visible_views table block (l ∷ w) (x ∷ ids) =
       | inr not_sees ↦ rw not_sees (visible_views table block w ids)
     ]
 
-one_more : (now : List View) (v : View) (new : List View) → new ≡ with_view now v → length new ≤ length now + 1
+pub one_more : (now : List View) (v : View) (new : List View) → new ≡ with_view now v → length new ≤ length now + 1
 one_more now v new table =
     elim (cases_Bool (list_any (same_view v) now)) [
       | inl among ↦ (let e : new ≡ now = table ∙ (rw among refl) in omega (arith, ap length e))
@@ -113,16 +109,15 @@ pub record IsFurther (old now : List View) (wanted : List View) (i : ℕ) (next 
 
 module _ (old now : List View) (grown : Extends old now) (wanted : List View) (i : ℕ) (place : i < length wanted) (next : List ℕ) (room : i < length next)
     (before : All (λ k. k < length now) (take i next)) (made_before : views_at now (take i next) ≡ take i wanted) where
-  pub further : (v : View) → v ≡ get_or wanted i (base 0 0) → (new : List View) (id : ℕ) → new ≡ with_view now v → slice_get new id ≡ Some v → IsFurther old now wanted i next new id
-  further v wants new id table stands =
-      let on : Extends now new = subst (Extends now) (sym table) (extends_with now now v (extends_itself now)) in
+  pub further : (new : List View) (id : ℕ) → Extends now new → length new ≤ length now + 1 → slice_get new id ≡ Some (get_or wanted i (base 0 0)) → IsFurther old now wanted i next new id
+  further new id on few stands =
       let before_each = recursion_from_All (λ k. k < length now) (take i next) before in
-      let there : id < length new = slice_get_within new id v stands in
-      let is : view_at new id ≡ get_or wanted i (base 0 0) = get_or_from_slice_get new id v (base 0 0) stands ∙ wants in
+      let there : id < length new = slice_get_within new id (get_or wanted i (base 0 0)) stands in
+      let is : view_at new id ≡ get_or wanted i (base 0 0) = get_or_from_slice_get new id (get_or wanted i (base 0 0)) (base 0 0) stands in
       let set : take (i + 1) (slice_set next i id) ≡ take i next ++ id ∷ [] = take_more_set next i id room in
       record {
         extends = extends_then old now new grown on;
-        few = one_more now v new table;
+        few = few;
         within = subst (All (λ k. k < length new)) (sym set) (All-push (λ k. k < length new) (take i next) id (All-from_recursion _ (take i next) (within_kept now new (take i next) on before_each)) there);
         made =
             ap (views_at new) set
@@ -135,10 +130,10 @@ module _ (old now : List View) (grown : Extends old now) (wanted : List View) (i
 -- ---- one participant's view after the round
 
 -- the view at a place of a round
-abbrev view_after : Word → List View → ℕ × View → View
+abbrev pub view_after : Word → List View → ℕ × View → View
 view_after w vs q = seen (process_of q.1) (views_of (visible q.0 w vs))
 
-get_or-round : (whole : List View) (all w : Word) (vs : List View) (i : ℕ) → i < length vs → length vs ≡ length w →
+pub get_or-round : (whole : List View) (all w : Word) (vs : List View) (i : ℕ) → i < length vs → length vs ≡ length w →
     get_or (map (view_after all whole) (zip w vs)) i (base 0 0) ≡ view_after all whole (get_or w i 0, get_or vs i (base 0 0))
 get_or-round whole all [] [] i h e = absurd (let none : ⊥ = omega (arith, h) in none)
 get_or-round whole all [] (v ∷ vs) i h e = absurd (let none : ⊥ = omega (arith, e) in none)
@@ -176,51 +171,38 @@ length-views table (x ∷ ids) = ap suc (length-views table ids)
 nat_le-itself : (n : ℕ) → nat_le n n ≡ true
 nat_le-itself n = le-leb n n (omega arith)
 
-module _ (old now : List View) (ids : List ℕ) (w : Word) (views : AreViews old ids) (long : length ids ≡ length w) (grown : Extends old now) (i : ℕ) (place : i < length ids)
-    (process : ℕ) (own : process ≡ process_of (view_at now (get_or ids i 0))) (parts : List ℕ) (are : parts ≡ visible_ids (get_or w i 0) w ids) where
-  all_within : AllByRecursion (λ k. k < length old) ids
-  all_within = recursion_from_All (λ k. k < length old) ids views.within
-
-  still : AreViews now ids
-  still = are_views_kept old now ids grown views
-
-  map-map : (xs : List ℕ) → map process_of (views_at now xs) ≡ map (λ k. process_of (view_at now k)) xs
+module _ (table : List View) (ids : List ℕ) (w : Word) (views : AreViews table ids) (long : length ids ≡ length w) (i : ℕ) (place : i < length ids)
+    (process : ℕ) (own : process ≡ process_of (view_at table (get_or ids i 0))) (parts : List ℕ) (are : parts ≡ visible_ids (get_or w i 0) w ids) where
+  map-map : (xs : List ℕ) → map process_of (views_at table xs) ≡ map (λ k. process_of (view_at table k)) xs
   map-map [] = refl
-  map-map (x ∷ xs) = ap (λ ys. process_of (view_at now x) ∷ ys) (map-map xs)
+  map-map (x ∷ xs) = ap (λ ys. process_of (view_at table x) ∷ ys) (map-map xs)
 
-  pub numbers : All (λ k. k < length now) parts
-  numbers = subst (All (λ k. k < length now)) (sym are) (All-from_recursion _ (visible_ids (get_or w i 0) w ids) (visible_all (λ k. k < length now) (get_or w i 0) w ids (within_kept old now ids grown all_within)))
+  pub numbers : All (λ k. k < length table) parts
+  numbers = subst (All (λ k. k < length table)) (sym are) (All-from_recursion _ (visible_ids (get_or w i 0) w ids) (visible_all (λ k. k < length table) (get_or w i 0) w ids (recursion_from_All (λ k. k < length table) ids views.within)))
 
-  pub ascending : is_ascending (map (λ k. process_of (view_at now k)) parts) ≡ true
+  pub ascending : is_ascending (map (λ k. process_of (view_at table k)) parts) ≡ true
   ascending =
-      subst (λ xs. is_ascending (map (λ k. process_of (view_at now k)) xs) ≡ true) (sym are)
-      (is_ascending_from (map (λ k. process_of (view_at now k)) (visible_ids (get_or w i 0) w ids))
-      (visible_ascends (λ k. process_of (view_at now k)) (get_or w i 0) w ids (subst Ascends (map-map ids) (ascends_from (map process_of (views_at now ids)) still.ascending))))
+      subst (λ xs. is_ascending (map (λ k. process_of (view_at table k)) xs) ≡ true) (sym are)
+      (is_ascending_from (map (λ k. process_of (view_at table k)) (visible_ids (get_or w i 0) w ids))
+      (visible_ascends (λ k. process_of (view_at table k)) (get_or w i 0) w ids (subst Ascends (map-map ids) (ascends_from (map process_of (views_at table ids)) views.ascending))))
 
-  pub own_part : has (map (λ k. process_of (view_at now k)) parts) process ≡ true
+  pub own_part : has (map (λ k. process_of (view_at table k)) parts) process ≡ true
   own_part =
-      subst (λ p. has (map (λ k. process_of (view_at now k)) parts) p ≡ true) (sym own)
-      (subst (λ xs. has (map (λ k. process_of (view_at now k)) xs) (process_of (view_at now (get_or ids i 0))) ≡ true) (sym are)
-      (visible_own (λ k. process_of (view_at now k)) (get_or w i 0) w ids i place long (nat_le-itself (get_or w i 0))))
+      subst (λ p. has (map (λ k. process_of (view_at table k)) parts) p ≡ true) (sym own)
+      (subst (λ xs. has (map (λ k. process_of (view_at table k)) xs) (process_of (view_at table (get_or ids i 0))) ≡ true) (sym are)
+      (visible_own (λ k. process_of (view_at table k)) (get_or w i 0) w ids i place long (nat_le-itself (get_or w i 0))))
 
   pub low : process ≤ 3
-  low = subst (λ p. p ≤ 3) (sym own) (All-get_or (λ k. process_of (view_at now k) ≤ 3) ids i 0 place (All-from_recursion _ ids (each_of_map (λ p. p ≤ 3) (λ k. process_of (view_at now k)) ids (subst (AllByRecursion (λ p. p ≤ 3)) (map-map ids) (recursion_from_All _ (map process_of (views_at now ids)) still.low)))))
+  low = subst (λ p. p ≤ 3) (sym own) (All-get_or (λ k. process_of (view_at table k) ≤ 3) ids i 0 place (All-from_recursion _ ids (each_of_map (λ p. p ≤ 3) (λ k. process_of (view_at table k)) ids (subst (AllByRecursion (λ p. p ≤ 3)) (map-map ids) (recursion_from_All _ (map process_of (views_at table ids)) views.low)))))
 
   -- the view that is asked for is the participant's after the round
-  pub is_view_after : view_seen now process parts ≡ get_or (round (views_at old ids) w) i (base 0 0)
+  pub is_view_after : view_seen table process parts ≡ get_or (round (views_at table ids) w) i (base 0 0)
   is_view_after =
-      let kept = views_kept old now ids grown all_within in
-      let here : get_or (views_at old ids) i (base 0 0) ≡ view_at now (get_or ids i 0) = ap (λ vs. get_or vs i (base 0 0)) (sym kept) ∙ get_or-views now ids i place in
-      let seen_views : views_at now parts ≡ visible (get_or w i 0) w (views_at old ids) = ap (views_at now) are ∙ visible_views now (get_or w i 0) w ids ∙ ap (visible (get_or w i 0) w) kept in
+      let here : get_or (views_at table ids) i (base 0 0) ≡ view_at table (get_or ids i 0) = get_or-views table ids i place in
+      let seen_views : views_at table parts ≡ visible (get_or w i 0) w (views_at table ids) = ap (views_at table) are ∙ visible_views table (get_or w i 0) w ids in
       (λ k. seen (own k) (views_of (seen_views k)))
-      ∙ (λ k. seen (process_of (sym here k)) (views_of (visible (get_or w i 0) w (views_at old ids))))
-      ∙ sym (get_or-round (views_at old ids) w w (views_at old ids) i (omega (arith, place, length-views old ids)) (length-views old ids ∙ long))
-
-  pub next_step : (next : List ℕ) → i < length next → All (λ k. k < length now) (take i next) → views_at now (take i next) ≡ take i (round (views_at old ids) w) →
-      (new : List View) (id : ℕ) → new ≡ with_view now (view_seen now process parts) → slice_get new id ≡ Some (view_seen now process parts) → IsFurther old now (round (views_at old ids) w) i next new id
-  next_step next room before made new id table stands =
-      further old now grown (round (views_at old ids) w) i (omega (arith, place, length-round (views_at old ids) w (length-views old ids ∙ long), length-views old ids)) next room before made
-      (view_seen now process parts) is_view_after new id table stands
+      ∙ (λ k. seen (process_of (sym here k)) (views_of (visible (get_or w i 0) w (views_at table ids))))
+      ∙ sym (get_or-round (views_at table ids) w w (views_at table ids) i (omega (arith, place, length-views table ids)) (length-views table ids ∙ long))
 
 module _ (old now : List View) (ids : List ℕ) (w : Word) (views : AreViews old ids) (long : length ids ≡ length w) (n : ℕ) (whole : length ids ≤ n) (no_more : n ≤ length ids) (next : List ℕ) where
   pub after_round : All (λ k. k < length now) (take n next) → views_at now (take n next) ≡ take n (round (views_at old ids) w) →

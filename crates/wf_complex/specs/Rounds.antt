@@ -1,10 +1,11 @@
 -- Views by their numbers in a table, through a round.
-use Rattle.std.specs.Prelude.{◌≡◌, ◌<◌, ◌≤◌, ◌+◌, ◌*◌, ℕ, zero, suc, nat_le, Bool, true, false, List, [], ◌∷◌, ◌++◌, map, filter, flat_map, length, take, zip, All}
+use Rattle.std.specs.Prelude.{◌≡◌, ◌≤◌, ◌+◌, ◌*◌, ℕ, zero, suc, nat_le, Bool, true, false, List, [], ◌∷◌, ◌++◌, map, filter, flat_map, length, take, zip, get_or, slice_get, Option, Some, None, if◌then◌else◌, ◌==◌, ◌<◌, ◌%◌, ◌/◌, All}
 use Rattle.wf_model.specs.Simplex.{Simplex, is_ascending}
-use Rattle.wf_model.specs.View.{View, process_of, base_views, round}
+use Rattle.wf_model.specs.View.{View, base, seen, views_of, process_of, base_views, round}
 use Rattle.wf_model.specs.Word.{Word, words}
 use Rattle.wf_view.specs.Views.{view_at}
 use Rattle.wf_complex.specs.declared.rounds.Ids.{Ids}
+use Rattle.wf_complex.specs.declared.rounds.Snapshot.{Snapshot}
 
 -- the views of these numbers
 abbrev pub views_at : List View → List ℕ → List View
@@ -18,10 +19,34 @@ visible_ids block w ids = map (λ q. q.1) (filter (λ q. nat_le q.0 block) (zip 
 abbrev pub numbers_in : Ids → List ℕ
 numbers_in ids = take ids.count ids.ids
 
--- the number where it is wanted, and else nothing
-abbrev pub only_if : Bool → ℕ → List ℕ
-only_if true id = id ∷ []
-only_if false id = []
+-- the entry where it is wanted, and else nothing
+abbrev pub only_if : {X : Type 0} → Bool → X → List X
+only_if true x = x ∷ []
+only_if false x = []
+
+-- the entries at these places: bit j is set where that of place j is among them
+abbrev pub picked : {X : Type 0} → ℕ → List X → List X
+picked places [] = []
+picked places (x ∷ xs) = only_if (places % 2 == 1) x ++ picked (places / 2) xs
+
+-- whom a participant in this block sees: bit j is set where that of place j is among them
+abbrev pub places_seen : ℕ → Word → ℕ
+places_seen block [] = 0
+places_seen block (l ∷ w) = (if nat_le l block then 1 else 0) + 2 * places_seen block w
+
+-- a word with whom each participant sees
+abbrev pub IsSnapshot : Snapshot → Type 0
+IsSnapshot s = take (length s.word) s.seen ≡ map (λ block. places_seen block s.word) s.word
+
+-- the view after a round of the participant at place i, who sees these places
+abbrev pub view_by : List View → ℕ → ℕ → View
+view_by vs i places = seen (process_of (get_or vs i (base 0 0))) (views_of (picked places vs))
+
+-- each number that is known at 16 times a place, and some places that are seen there, is that of
+-- the view after one more round
+pub record AreKnown (table vs : List View) (known : List (Option ℕ)) : Type 0 where
+  pub whole : length known ≡ 64
+  pub stand : (i places n : ℕ) → places < 16 → get_or known (16 * i + places) None ≡ Some n → slice_get table n ≡ Some (view_by vs i places)
 
 -- the new table goes on from the old one
 abbrev pub Extends : List View → List View → Type 0

@@ -1,14 +1,17 @@
 //! One more round of immediate snapshots, on views by their numbers.
 
-ghost use Rattle.std.specs.Prelude.{◌≡◌, ◌<◌, ◌≤◌, ◌+◌, ◌++◌, length, take, flat_map, slice_index, All, IfOk, OnOk};
+ghost use Rattle.std.specs.Prelude.{◌≡◌, ◌<◌, ◌≤◌, ◌+◌, ◌++◌, length, take, flat_map, slice_index, get_or, slice_get, Some, All, IfOk, OnOk};
 ghost use Rattle.wf_model.specs.Limits.{most_number, most_processes};
-ghost use Rattle.wf_model.specs.View.{round, base_views};
+ghost use Rattle.wf_model.specs.View.{base, round, base_views};
 ghost use Rattle.wf_model.specs.Word.{words};
-ghost use Rattle.wf_complex.specs.Rounds.{views_at, visible_ids, numbers_in, only_if, Extends, AreViews, leaves, cost, leaves_of, cost_of_each};
+ghost use Rattle.wf_complex.specs.Rounds.{views_at, picked, places_seen, numbers_in, only_if, IsSnapshot, AreKnown, Extends, AreViews, leaves, cost, leaves_of, cost_of_each};
 
 use std::alloc::{AllocError, Global};
 use wf_simplex::{Simplex, Word, allowed_count};
 use wf_view::Views;
+
+/// How many sets of places there are.
+const ANSWERS: usize = 16;
 
 /// At most four numbers of views.
 #[derive(Clone, Copy)]
@@ -31,20 +34,53 @@ impl Ids {
     }
 }
 
-/// The numbers of the views that participant i sees.
-fn visible(current: &[u32], word: &Word, i: u8) -> Ids
-    requires long { length current.now ≡ length word.now }
-    requires place { i < length current.now }
+/// A word, and whom each participant sees, as bits: bit j is set where it sees that of place j.
+#[derive(Clone, Copy)]
+struct Snapshot {
+    word: Word,
+    seen: [u8; 4],
+}
+
+/// Whom each participant of a word sees.
+fn snapshot_of(word: Word) -> Snapshot
+    ensures word { result.word ≡ word }
+    ensures seen { IsSnapshot result }
+{
+    let mut seen = [0u8; 4];
+    for i in 0..word.size() {
+        seen[i as usize] = places_seen(&word, i);
+    }
+    Snapshot { word, seen }
+}
+
+/// Whom participant i sees, as bits.
+fn places_seen(word: &Word, i: u8) -> u8
+    requires place { i < length word.now }
+    ensures places { result ≡ places_seen (slice_index word.now i) word.now }
+{
+    let size = word.size();
+    let mut places = 0u8;
+    for later in 0..size {
+        let bit = if word.sees(i, size - 1 - later) { 1 } else { 0 };
+        places = bit + 2 * places;
+    }
+    places
+}
+
+/// The numbers at these places, which are given as bits.
+fn picked(current: &[u32], places: u8) -> Ids
+    requires few { length current.now ≤ 4 }
     ensures count { result.count ≤ 4 }
-    ensures ids { numbers_in result ≡ visible_ids (slice_index word.now i) word.now current.now }
+    ensures ids { numbers_in result ≡ picked places current.now }
 {
     let mut seen = Ids {
         count: 0,
         ids: [0; 4],
     };
-    let size = word.size();
-    for j in 0..size {
-        seen.push_if(word.sees(i, j), current[j as usize]);
+    let mut rest = places;
+    for j in 0..current.len() {
+        seen.push_if(rest % 2 == 1, current[j]);
+        rest /= 2;
     }
     seen
 }
@@ -70,25 +106,67 @@ fn first_views(views: &mut Views, simplex: &Simplex) -> Result<[u32; 4], AllocEr
     Ok(ids)
 }
 
+/// The number of the view of participant i after one more round. It depends on the places that i
+/// sees alone, so it is asked for once and kept: at `ANSWERS` times i and the bits of those places.
+///
+/// Refused where memory runs out; the views so far keep their numbers.
+fn next_view(
+    views: &mut Views,
+    known: &mut [Option<u32>],
+    current: &[u32],
+    snapshot: &Snapshot,
+    i: u8,
+) -> Result<u32, AllocError>
+    requires long { length current.now ≡ length snapshot.now.word }
+    requires few { length current.now ≤ 4 }
+    requires place { i < length current.now }
+    requires views { AreViews views.old current.now }
+    requires snapshot { IsSnapshot snapshot.now }
+    requires known { AreKnown views.old (views_at views.old current.now) known.old }
+    requires room { length views.old < most_number }
+    ensures extends { Extends views.old views.new }
+    ensures few { length views.new ≤ length views.old + 1 }
+    ensures known { AreKnown views.new (views_at views.old current.now) known.new }
+    ensures stands { IfOk result (λ n. slice_get views.new n
+        ≡ Some (get_or (round (views_at views.old current.now) snapshot.now.word) i (base 0 0))) }
+{
+    let places = snapshot.seen[i as usize];
+    let answer = ANSWERS * i as usize + places as usize;
+    if let Some(id) = known[answer] {
+        return Ok(id);
+    }
+    let seen = picked(current, places);
+    let process = views.colour(current[i as usize]);
+    let id = views.seen(process, &seen.ids[..seen.count])?;
+    known[answer] = Some(id);
+    Ok(id)
+}
+
 /// The numbers of the views after one more round, by ascending process. Views
 /// that are new get the next numbers.
 ///
 /// Refused where memory runs out; the views so far keep their numbers.
-fn next_views(views: &mut Views, current: &[u32], word: &Word) -> Result<[u32; 4], AllocError>
-    requires long { length current.now ≡ length word.now }
+fn next_views(
+    views: &mut Views,
+    known: &mut [Option<u32>],
+    current: &[u32],
+    snapshot: &Snapshot,
+) -> Result<[u32; 4], AllocError>
+    requires long { length current.now ≡ length snapshot.now.word }
     requires views { AreViews views.old current.now }
+    requires snapshot { IsSnapshot snapshot.now }
+    requires known { AreKnown views.old (views_at views.old current.now) known.old }
     requires room { length views.old + 4 ≤ most_number }
     ensures extends { Extends views.old views.new }
     ensures few { length views.new ≤ length views.old + length current.now }
+    ensures known { AreKnown views.new (views_at views.old current.now) known.new }
     ensures views { IfOk result (λ ids. AreViews views.new (take (length current.now) ids)
         × (views_at views.new (take (length current.now) ids)
-        ≡ round (views_at views.old current.now) word.now)) }
+        ≡ round (views_at views.old current.now) snapshot.now.word)) }
 {
     let mut next = [0u32; 4];
-    for i in 0..word.size() {
-        let seen = visible(current, word, i);
-        let process = views.colour(current[i as usize]);
-        next[i as usize] = views.seen(process, &seen.ids[..seen.count])?;
+    for i in 0..snapshot.word.size() {
+        next[i as usize] = next_view(views, known, current, snapshot, i)?;
     }
     Ok(next)
 }
@@ -126,9 +204,10 @@ fn walk(
         return Ok(());
     }
     let size = current.len();
+    let mut known = [None; 4 * ANSWERS];
     let mut word = Word::first_allowed(size as u8, first_block);
     for turn in 0..allowed_count(size as u8, first_block) {
-        let next = next_views(views, current, &word)?;
+        let next = next_views(views, &mut known, current, &snapshot_of(word))?;
         walk(views, lasts, &next[..size], first_block, rounds - 1)?;
         word.next_allowed(first_block);
     }
