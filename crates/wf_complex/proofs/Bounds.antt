@@ -28,11 +28,11 @@ scaled w t n c k some few =
     let f : w * t * (n * (k + 1)) ≡ w * (t * (n * (k + 1))) = grind arith in
     omega (arith, d, f)
 
-cost_few : (m n k : ℕ) → 1 ≤ length (words m n) → cost m n k ≤ turns m n k * (n * k)
+cost_few : (m n k : ℕ) → 1 ≤ length (words m n) → cost (length (words m n)) n k ≤ turns m n k * (n * k)
 cost_few m n zero h = omega arith
 cost_few m n (suc k) h =
     let e : suc k ≡ k + 1 = omega arith in
-    subst (λ j. length (words m n) * (n + cost m n k) ≤ length (words m n) * turns m n k * (n * j)) (sym e) (scaled (length (words m n)) (turns m n k) n (cost m n k) k (turns_some m n k h) (cost_few m n k h))
+    subst (λ j. length (words m n) * (n + cost (length (words m n)) n k) ≤ length (words m n) * turns m n k * (n * j)) (sym e) (scaled (length (words m n)) (turns m n k) n (cost (length (words m n)) n k) k (turns_some m n k h) (cost_few m n k h))
 
 -- a size from 1 to 4
 abbrev pub IsSized : Simplex → Type 0
@@ -42,7 +42,7 @@ pub cost_bound : (m rounds : ℕ) (ss : List Simplex) → 1 ≤ m → m ≤ 4 �
 cost_bound m rounds [] one most few h = omega arith
 cost_bound m rounds (s ∷ ss) one most few h =
     let n = length s in
-    let here : cost m (length s) rounds ≤ turns m (length s) rounds * (length s * rounds) = cost_few m (length s) rounds (words_some m (length s) one most h.0.0 h.0.1) in
+    let here : cost (length (words m (length s))) (length s) rounds ≤ turns m (length s) rounds * (length s * rounds) = cost_few m (length s) rounds (words_some m (length s) one most h.0.0 h.0.1) in
     let small : length s * rounds ≤ 4 * 8 = omega (arith, mul-le-mul_right {m = length s} {n = 4} rounds h.0.1, mul-le-mul_left {m = rounds} {n = 8} 4 few) in
     let wide : turns m (length s) rounds * (length s * rounds) ≤ turns m (length s) rounds * 32 = mul-le-mul_left {m = length s * rounds} {n = 32} (turns m (length s) rounds) small in
     omega (arith, here, wide, h.0.1, cost_bound m rounds ss one most few h.1)

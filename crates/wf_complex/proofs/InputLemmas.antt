@@ -12,7 +12,7 @@ use Rattle.wf_model.proofs.Bridge.{weaker}
 use Rattle.wf_model.proofs.WellFormed.{base_processes}
 use Rattle.wf_complex.specs.Rounds.{views_at, AreViews, Extends, leaves, leaves_of, cost, cost_of_each}
 use Rattle.wf_complex.proofs.RoundLemmas.{views_kept, length-views}
-use Rattle.wf_model.specs.Word.{words}
+use Rattle.wf_model.specs.Word.{Word, words}
 
 -- the view of a place
 pub base_there : (s : Simplex) (i : ℕ) → i < length s → base (get_or (processes_of s) i 0) (get_or (values_of s) i 0) ≡ get_or (base_views s) i (base 0 0)
@@ -46,17 +46,21 @@ module _ (m rounds : ℕ) (ss : List Simplex) (i : ℕ) (s : Simplex) (place : i
   pub long : length (take n ids) ≡ length s
   long = ap (λ k. length (take k ids)) count ∙ sym (length-views first (take (length s) ids)) ∙ ap length views ∙ length-base_views s
 
-  same_cost : cost m (length (take n ids)) rounds ≡ cost m (length s) rounds
-  same_cost = ap (λ k. cost m k rounds) long
+  module _ (ws : List Word) (are : ws ≡ words m n) where
+    all_words : ws ≡ words m (length s)
+    all_words = are ∙ ap (words m) count
 
-  pub room_after : (most : ℕ) → length table + cost_of_each m rounds (drop i ss) ≤ most → length first ≤ length table + length s → length after ≤ length first + cost m (length (take n ids)) rounds →
-      length after + cost_of_each m rounds (drop (i + 1) ss) ≤ most
-  room_after most room few added = omega (arith, room, few, added, same_cost, ap (cost_of_each m rounds) (drop_more ss i s place ∙ ap (λ x. x ∷ drop (i + 1) ss) (sym is)))
+    same_cost : (k : ℕ) → k ≡ length ws → cost k (length (take n ids)) rounds ≡ cost (length (words m (length s))) (length s) rounds
+    same_cost k counted = λ i. cost ((counted ∙ ap length all_words) i) (long i) rounds
 
-  pub made_after : (lasts more : List ℕ) → AllByRecursion (λ k. k < length table) lasts → Extends table first → views_at table lasts ≡ flat_map (leaves_of m rounds) (take i ss) →
-      views_at after more ≡ views_at first lasts ++ leaves (words m (length (take n ids))) rounds (views_at first (take n ids)) → views_at after more ≡ flat_map (leaves_of m rounds) (take (i + 1) ss)
-  made_after lasts more within grown made added =
-      added
-      ∙ (λ k. views_kept table first lasts grown within k ++ leaves (words m (long k)) rounds (views_at first (take (count k) ids)))
-      ∙ (λ k. made k ++ leaves (words m (length s)) rounds (views k))
-      ∙ sym (ap (flat_map (leaves_of m rounds)) (take_more ss i s place ∙ ap (λ x. take i ss ++ x ∷ []) (sym is)) ∙ flat_map-append (leaves_of m rounds) (take i ss) (s ∷ []) ∙ ap (λ vs. flat_map (leaves_of m rounds) (take i ss) ++ vs) (append-nil (leaves_of m rounds s)))
+    pub room_after : (k most : ℕ) → k ≡ length ws → length table + cost_of_each m rounds (drop i ss) ≤ most → length first ≤ length table + length s → length after ≤ length first + cost k (length (take n ids)) rounds →
+        length after + cost_of_each m rounds (drop (i + 1) ss) ≤ most
+    room_after k most counted room few added = omega (arith, room, few, added, same_cost k counted, ap (cost_of_each m rounds) (drop_more ss i s place ∙ ap (λ x. x ∷ drop (i + 1) ss) (sym is)))
+
+    pub made_after : (lasts more : List ℕ) → AllByRecursion (λ k. k < length table) lasts → Extends table first → views_at table lasts ≡ flat_map (leaves_of m rounds) (take i ss) →
+        views_at after more ≡ views_at first lasts ++ leaves ws rounds (views_at first (take n ids)) → views_at after more ≡ flat_map (leaves_of m rounds) (take (i + 1) ss)
+    made_after lasts more within grown made added =
+        added
+        ∙ (λ k. views_kept table first lasts grown within k ++ leaves (all_words k) rounds (views_at first (take (count k) ids)))
+        ∙ (λ k. made k ++ leaves (words m (length s)) rounds (views k))
+        ∙ sym (ap (flat_map (leaves_of m rounds)) (take_more ss i s place ∙ ap (λ x. take i ss ++ x ∷ []) (sym is)) ∙ flat_map-append (leaves_of m rounds) (take i ss) (s ∷ []) ∙ ap (λ vs. flat_map (leaves_of m rounds) (take i ss) ++ vs) (append-nil (leaves_of m rounds s)))

@@ -1,11 +1,14 @@
 -- Rounds after rounds, one word further.
-use Rattle.std.proofs.Common.{◌≡◌, ◌<◌, ◌≤◌, ℕ, zero, suc, ◌+◌, ◌-◌, ◌*◌, List, [], ◌∷◌, ◌++◌, flat_map, length, take, slice_get, Some, Bool, true, false, IsTrue, sym, refl, ap, ◌∙◌, subst, arith, append_assoc, append-nil}
+use Rattle.std.proofs.Common.{◌≡◌, ◌<◌, ◌≤◌, ℕ, zero, suc, ◌+◌, ◌-◌, ◌*◌, List, [], ◌∷◌, ◌++◌, flat_map, length, take, get_or, slice_get, Some, Bool, true, false, IsTrue, sym, refl, ap, ◌∙◌, subst, arith, append_assoc, append-nil}
 use Rattle.std.specs.List.{AllByRecursion}
 use Rattle.std.proofs.Math.Nat.{mul-le-mul_right}
+use Rattle.std.proofs.lemmas.List.{take_more}
+use Rattle.std.proofs.lemmas.Option.{slice_get_within, get_or_from_slice_get}
 use Rattle.wf_model.specs.View.{View, round}
 use Rattle.wf_model.specs.Word.{Word, words}
 use Rattle.wf_model.proofs.WellFormed.{words_long}
-use Rattle.wf_complex.specs.Rounds.{views_at, Extends, leaves, cost}
+use Rattle.wf_complex.specs.declared.rounds.Snapshot.{Snapshot}
+use Rattle.wf_complex.specs.Rounds.{views_at, words_in, Extends, leaves, cost}
 use Rattle.wf_complex.proofs.RoundLemmas.{views_kept, length-views, length-round}
 
 there : (P : Word → Type 0) (ws : List Word) (k : ℕ) (w : Word) → AllByRecursion P ws → slice_get ws k ≡ Some w → P w
@@ -16,9 +19,9 @@ there P (v ∷ ws) (suc k) w h e = there P ws k w h.1 e
 pub length_first : (m n : ℕ) (w : Word) → slice_get (words m n) 0 ≡ Some w → length w ≡ n
 length_first m n w h = there (λ v. length v ≡ n) (words m n) 0 w (words_long m n) h
 
-pub cost_more : (m n rounds : ℕ) → 0 < rounds → cost m n rounds ≡ length (words m n) * (n + cost m n (rounds - 1))
-cost_more m n zero h = absurd (let none : ⊥ = omega (arith, h) in none)
-cost_more m n (suc k) h = let e : suc k - 1 ≡ k = omega arith in rw e refl
+pub cost_more : (count n rounds : ℕ) → 0 < rounds → cost count n rounds ≡ count * (n + cost count n (rounds - 1))
+cost_more count n zero h = absurd (let none : ⊥ = omega (arith, h) in none)
+cost_more count n (suc k) h = let e : suc k - 1 ≡ k = omega arith in rw e refl
 
 pub leaves_more : (ws : List Word) (rounds : ℕ) (vs : List View) → 0 < rounds → leaves ws rounds vs ≡ flat_map (λ w. leaves ws (rounds - 1) (round vs w)) ws
 leaves_more ws zero vs h = absurd (let none : ⊥ = omega (arith, h) in none)
@@ -56,3 +59,13 @@ pub next_at : (ws us : List Word) → ws ≡ us → (n : ℕ) (w v : Word) (more
     (slice_get us n ≡ Some w → IsTrue more → slice_get us (n + 1) ≡ Some v) → (slice_get us n ≡ Some w → more ≡ false → n + 1 ≡ length us) → n + 1 < length ws → slice_get ws (n + 1) ≡ Some v
 next_at ws us e n w v true at next last below = subst (λ xs. slice_get xs (n + 1) ≡ Some v) (sym e) (next (subst (λ xs. slice_get xs n ≡ Some w) e at) refl)
 next_at ws us e n w v false at next last below = absurd (let none : ⊥ = omega (arith, below, ap length e, last (subst (λ xs. slice_get xs n ≡ Some w) e at) refl) in none)
+
+-- ---- snapshots
+
+pub word_there : (ss : List Snapshot) (i : ℕ) (s d : Snapshot) → i < length ss → s ≡ get_or ss i d → slice_get (words_in ss) i ≡ Some s.word
+word_there [] i s d h is = absurd (let none : ⊥ = omega (arith, h) in none)
+word_there (x ∷ ss) zero s d h is = λ k. Some ((sym is k).word)
+word_there (x ∷ ss) (suc i) s d h is = word_there ss i s d (omega (arith, h)) is
+
+pub take_word : (ws : List Word) (i : ℕ) (w : Word) → slice_get ws i ≡ Some w → take (i + 1) ws ≡ take i ws ++ w ∷ []
+take_word ws i w at = take_more ws i [] (slice_get_within ws i w at) ∙ ap (λ v. take i ws ++ v ∷ []) (get_or_from_slice_get ws i w [] at)

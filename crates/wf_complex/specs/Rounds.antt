@@ -5,6 +5,7 @@ use Rattle.wf_model.specs.View.{View, base, seen, views_of, process_of, base_vie
 use Rattle.wf_model.specs.Word.{Word, words}
 use Rattle.wf_view.specs.Views.{view_at}
 use Rattle.wf_complex.specs.declared.rounds.Ids.{Ids}
+use Rattle.wf_complex.specs.declared.rounds.Round.{Round}
 use Rattle.wf_complex.specs.declared.rounds.Snapshot.{Snapshot}
 
 -- the views of these numbers
@@ -38,6 +39,21 @@ places_seen block (l ∷ w) = (if nat_le l block then 1 else 0) + 2 * places_see
 abbrev pub IsSnapshot : Snapshot → Type 0
 IsSnapshot s = take (length s.word) s.seen ≡ map (λ block. places_seen block s.word) s.word
 
+-- a snapshot of n participants
+abbrev pub IsSnapshotOf : ℕ → Snapshot → Type 0
+IsSnapshotOf n s = (length s.word ≡ n) × IsSnapshot s
+
+abbrev pub words_in : List Snapshot → List Word
+words_in ss = map (λ s. s.word) ss
+
+-- the snapshots of n participants with a first block of m at least or of all
+abbrev pub AreSnapshots : ℕ → ℕ → List Snapshot → Type 0
+AreSnapshots m n ss = (words_in ss ≡ words m n) × All (IsSnapshotOf n) ss
+
+-- the snapshots of a round are all of their size, once some are made
+abbrev pub IsRound : ℕ → Round → Type 0
+IsRound m r = 1 ≤ r.size → AreSnapshots m r.size r.snapshots.items
+
 -- the view after a round of the participant at place i, who sees these places
 abbrev pub view_by : List View → ℕ → ℕ → View
 view_by vs i places = seen (process_of (get_or vs i (base 0 0))) (views_of (picked places vs))
@@ -63,10 +79,10 @@ abbrev pub leaves : List Word → ℕ → List View → List View
 leaves ws zero vs = vs
 leaves ws (suc k) vs = flat_map (λ w. leaves ws k (round vs w)) ws
 
--- how many views k rounds of n participants add at most
+-- how many views k rounds of n participants add at most, where a round has so many words
 abbrev pub cost : ℕ → ℕ → ℕ → ℕ
-cost m n zero = 0
-cost m n (suc k) = length (words m n) * (n + cost m n k)
+cost count n zero = 0
+cost count n (suc k) = count * (n + cost count n k)
 
 -- the last views of the executions on a simplex
 abbrev pub leaves_of : ℕ → ℕ → Simplex → List View
@@ -75,4 +91,4 @@ leaves_of m rounds s = leaves (words m (length s)) rounds (base_views s)
 -- how many views the executions on these simplices add at most
 abbrev pub cost_of_each : ℕ → ℕ → List Simplex → ℕ
 cost_of_each m rounds [] = 0
-cost_of_each m rounds (s ∷ ss) = (length s + cost m (length s) rounds) + cost_of_each m rounds ss
+cost_of_each m rounds (s ∷ ss) = (length s + cost (length (words m (length s))) (length s) rounds) + cost_of_each m rounds ss

@@ -3,8 +3,7 @@
 ghost use Rattle.std.specs.Prelude.{◌≡◌, ◌<◌, ◌≤◌, ◌+◌, ◌++◌, length, take, flat_map, slice_index, get_or, slice_get, Some, All, IfOk, OnOk};
 ghost use Rattle.wf_model.specs.Limits.{most_number, most_processes};
 ghost use Rattle.wf_model.specs.View.{base, round, base_views};
-ghost use Rattle.wf_model.specs.Word.{words};
-ghost use Rattle.wf_complex.specs.Rounds.{views_at, picked, places_seen, numbers_in, only_if, IsSnapshot, AreKnown, Extends, AreViews, leaves, cost, leaves_of, cost_of_each};
+ghost use Rattle.wf_complex.specs.Rounds.{views_at, picked, places_seen, numbers_in, only_if, words_in, IsSnapshot, IsSnapshotOf, AreSnapshots, IsRound, AreKnown, Extends, AreViews, leaves, cost, leaves_of, cost_of_each};
 
 use std::alloc::{AllocError, Global};
 use wf_simplex::{Simplex, Word, allowed_count};
@@ -39,6 +38,55 @@ impl Ids {
 struct Snapshot {
     word: Word,
     seen: [u8; 4],
+}
+
+/// The snapshots that a round of so many participants may be, by their words.
+#[derive(Drop)]
+struct Round {
+    // how many participants there are, or 0 where no snapshot is made yet
+    size: u8,
+    snapshots: Vec<Snapshot>,
+}
+
+impl Round {
+    /// Makes the snapshots of this size whose first block has at least `first_block` participants,
+    /// or all where they are fewer. Those that are there already stay.
+    ///
+    /// Simplices come by ascending size, so each size is made once.
+    fn make(&mut self, alloc: Global, size: u8, first_block: u8) -> Result<(), AllocError>
+        requires some { 1 ≤ size }
+        requires few { size ≤ 4 }
+        requires one { 1 ≤ first_block }
+        requires most { first_block ≤ most_processes }
+        requires made { IsRound first_block self.old }
+        ensures made { OnOk result (IsRound first_block self.new) }
+        ensures size { OnOk result (self.new.size ≡ size) }
+    {
+        if self.size != size {
+            self.snapshots = snapshots_of(alloc, size, first_block)?;
+            self.size = size;
+        }
+        Ok(())
+    }
+}
+
+/// The snapshots of so many participants whose first block has at least `first_block` of them, or
+/// all where they are fewer, in the order of their words.
+fn snapshots_of(alloc: Global, size: u8, first_block: u8) -> Result<Vec<Snapshot>, AllocError>
+    requires some { 1 ≤ size }
+    requires few { size ≤ 4 }
+    requires one { 1 ≤ first_block }
+    requires most { first_block ≤ most_processes }
+    ensures { IfOk result (λ all. AreSnapshots first_block size all.items) }
+{
+    let count = allowed_count(size, first_block);
+    let mut all = Vec::with_capacity(alloc, count as usize)?;
+    let mut word = Word::first_allowed(size, first_block);
+    for turn in 0..count {
+        all.push(snapshot_of(word))?;
+        word.next_allowed(first_block);
+    }
+    Ok(all)
 }
 
 /// Whom each participant of a word sees.
@@ -171,45 +219,39 @@ fn next_views(
     Ok(next)
 }
 
-/// Adds the views after all rounds, execution by execution, to the last views of those before. The
-/// first block of each word has at least `first_block` participants, or all where they are fewer.
+/// Adds the views after all rounds, each of which is one of these snapshots, execution by
+/// execution, to the last views of those before.
 ///
 /// Refused where memory runs out; the views so far keep their numbers.
 fn walk(
     views: &mut Views,
     lasts: &mut Vec<u32>,
     current: &[u32],
-    first_block: u8,
+    snapshots: &[Snapshot],
     rounds: u32,
 ) -> Result<(), AllocError>
-    requires one { 1 ≤ first_block }
-    requires most { first_block ≤ most_processes }
-    requires some { 1 ≤ length current.now }
     requires few { length current.now ≤ most_processes }
+    requires snapshots { All (IsSnapshotOf (length current.now)) snapshots.now }
     requires views { AreViews views.old current.now }
     requires lasts { All (λ k. k < length views.old) lasts.old.items }
-    requires room { length views.old + cost first_block (length current.now) rounds + 4
+    requires room { length views.old + cost (length snapshots.now) (length current.now) rounds + 4
         ≤ most_number }
     ensures extends { Extends views.old views.new }
     ensures added { length views.new
-        ≤ length views.old + cost first_block (length current.now) rounds }
+        ≤ length views.old + cost (length snapshots.now) (length current.now) rounds }
     ensures within { OnOk result (All (λ k. k < length views.new) lasts.new.items) }
     ensures made { OnOk result (views_at views.new lasts.new.items
         ≡ views_at views.old lasts.old.items
-        ++ leaves (words first_block (length current.now)) rounds
-        (views_at views.old current.now)) }
+        ++ leaves (words_in snapshots.now) rounds (views_at views.old current.now)) }
 {
     if rounds == 0 {
         lasts.extend_from_slice(current)?;
         return Ok(());
     }
-    let size = current.len();
     let mut known = [None; 4 * ANSWERS];
-    let mut word = Word::first_allowed(size as u8, first_block);
-    for turn in 0..allowed_count(size as u8, first_block) {
-        let next = next_views(views, &mut known, current, &snapshot_of(word))?;
-        walk(views, lasts, &next[..size], first_block, rounds - 1)?;
-        word.next_allowed(first_block);
+    for snapshot in snapshots {
+        let next = next_views(views, &mut known, current, snapshot)?;
+        walk(views, lasts, &next[..current.len()], snapshots, rounds - 1)?;
     }
     Ok(())
 }
@@ -237,13 +279,19 @@ pub(crate) fn last_views(
         ≡ flat_map (leaves_of first_block rounds) simplices.now) }
 {
     let mut lasts = Vec::with_capacity(alloc, room)?;
+    let mut round = Round {
+        size: 0,
+        snapshots: Vec::new(alloc),
+    };
     for simplex in simplices {
         let first = first_views(views, simplex)?;
+        let size = simplex.colours();
+        round.make(alloc, size, first_block)?;
         walk(
             views,
             &mut lasts,
-            &first[..simplex.colours() as usize],
-            first_block,
+            &first[..size as usize],
+            &round.snapshots,
             rounds,
         )?;
     }
