@@ -9,7 +9,7 @@ use std::alloc::{AllocError, Global};
 use wf_simplex::{Simplex, Word, allowed_count};
 use wf_view::Views;
 
-/// How many sets of places there are.
+/// How many answers there are for each place: one for each set of places that it may see.
 const ANSWERS: usize = 16;
 
 /// At most four numbers of views.
