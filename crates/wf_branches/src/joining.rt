@@ -20,7 +20,7 @@ use wf_complex::Protocol;
 use wf_engine::{RunFault, hand_out, read_task};
 use wf_io::{Sink, Source, read_all};
 use wf_lines::Lines;
-use wf_report::{Body, Header, Report, write_report};
+use wf_report::{Body, Header, Report};
 use wf_search::Cover;
 use wf_task::Task;
 
@@ -210,7 +210,7 @@ fn accept_joined<T: Threads + Sync>(
     let header = Header::about(task, protocol);
     let report = Report { header, body };
     check(rt, alloc, task, protocol, &report)?;
-    Ok(((), write_report(alloc, &report)?))
+    Ok(((), report.into_text(alloc)?))
 }
 
 /// How many values and lines an answer has.

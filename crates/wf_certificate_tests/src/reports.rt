@@ -167,10 +167,10 @@ fn written(alloc: Global, numbers: [u32; 4], body: Body) -> Result<Vec<u8>, Allo
     write_report(alloc, &Report { header, body })
 }
 
-/// The text of the report of a text.
+/// The text of the report of a text, as it is written of a report that is given up.
 fn rewritten(alloc: Global, text: &str) -> Result<Vec<u8>, Fail> {
     let report = read_report(alloc, text.as_bytes())?;
-    Ok(write_report(alloc, &report)?)
+    Ok(report.into_text(alloc)?)
 }
 
 #[test]

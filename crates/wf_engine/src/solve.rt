@@ -25,7 +25,7 @@ use wf_handout::Stealing;
 use wf_io::{Sink, Source};
 use wf_lines::Lines;
 use wf_pool::{Answer, Gate, KeptLines, Open, solve, solve_one_watched};
-use wf_report::{Body, Form, Header, Report, write_report};
+use wf_report::{Body, Form, Header, Report};
 use wf_task::Task;
 
 /// How branches are handed to workers.
@@ -264,5 +264,5 @@ pub fn report_text(
     ensures { IfOk result (λ text. text.items
         ≡ text_of_report task.now rounds (body_of body)) }
 {
-    write_report(alloc, &Report { header, body })
+    Report { header, body }.into_text(alloc)
 }

@@ -1,4 +1,5 @@
 pub mod Taken
+pub mod WholeLemmas
 pub mod ByteLemmas
 pub mod ReadLemmas
 pub mod LineLemmas

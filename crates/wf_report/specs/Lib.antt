@@ -6,3 +6,4 @@ pub mod Grammar
 pub mod Reading
 pub mod Numbers
 pub mod Steps
+pub mod Writing

@@ -1,14 +1,18 @@
 //! The text of a report.
 
-ghost use Rattle.std.specs.Prelude.{◌≡◌, ◌++◌, IfOk, OnOk, string_bytes, flat_map, map};
-ghost use Rattle.wf_model.specs.Report.{value_line, line_text, answer_line, body_text, report_text};
+ghost use Rattle.std.specs.Prelude.{◌≡◌, [], ◌++◌, IfOk, OnOk, string_bytes, flat_map, map};
+ghost use Rattle.wf_model.specs.Report.{line, value_line, line_text, answer_line, report_text};
 ghost use Rattle.wf_lines.specs.Lines.{line_of};
 ghost use Rattle.wf_report.specs.Reports.{body_of, report_seen};
+ghost use Rattle.wf_report.specs.Writing.{beginning, steps_of, values_of};
 
 use crate::report::{Body, Report};
 use std::alloc::{AllocError, Global};
 use std::fmt::Write;
-use wf_lines::{Line, put_number, put_words};
+use wf_lines::{Line, Lines, put_number, put_words};
+
+/// So many lines are written before the memory of those that were is given back.
+const PIECE: usize = 65_536;
 
 /// The text of a report: a header, the values of a map, or the lines of a refutation, or the values
 /// of the least map and the lines that lead to it, and `end`. Every line ends in one line feed, and
@@ -16,34 +20,81 @@ use wf_lines::{Line, put_number, put_words};
 pub fn write_report(alloc: Global, report: &Report) -> Result<Vec<u8>, AllocError>
     ensures text { IfOk result (λ text. text.items ≡ report_text (report_seen report.now)) }
 {
+    let mut text = beginning(alloc, report)?;
+    put_lines(&mut text, report.body.lines())?;
+    put_words(&mut text, "end")?;
+    Ok(text.into_bytes())
+}
+
+impl Report {
+    /// Its text, as [`write_report`] makes it. The memory of its lines is given back while they are
+    /// written, so text and lines together take little more than the larger of the two. Refused
+    /// where memory runs out, and for nothing else.
+    pub fn into_text(self, alloc: Global) -> Result<Vec<u8>, AllocError>
+        ensures text { IfOk result (λ text. text.items ≡ report_text (report_seen self)) }
+    {
+        let mut text = beginning(alloc, &self)?;
+        take_lines(&mut text, self.body.into_lines(alloc))?;
+        put_words(&mut text, "end")?;
+        Ok(text.into_bytes())
+    }
+}
+
+/// The text of a report up to its lines.
+fn beginning(alloc: Global, report: &Report) -> Result<String, AllocError>
+    ensures { IfOk result (λ text. string_bytes text ≡ beginning (report_seen report.now)) }
+{
     let mut text = String::new(alloc);
     put_words(&mut text, "wfcheck report 1")?;
     put_number(&mut text, "processes", report.header.processes)?;
     put_number(&mut text, "rounds", report.header.rounds)?;
     put_number(&mut text, "points", report.header.points)?;
     put_number(&mut text, "executions", report.header.executions)?;
-    put_body(&mut text, &report.body)?;
-    put_words(&mut text, "end")?;
-    Ok(text.into_bytes())
+    put_words(&mut text, report.body.answer())?;
+    put_values(&mut text, report.body.values())?;
+    Ok(text)
 }
 
-fn put_body(text: &mut String, body: &Body) -> Result<(), AllocError>
-    ensures { let body = body_of body.now in OnOk result (string_bytes text.new
-        ≡ string_bytes text.old ++ (answer_line body ++ body_text body)) }
-{
-    match body {
-        Body::Map(values) => {
-            writeln!(text, "answer map")?;
-            put_values(text, values)
+impl Body {
+    /// The words that say what is answered.
+    fn answer(&self) -> &'static str
+        ensures { line result.now [] ≡ answer_line (body_of self.now) }
+    {
+        match self {
+            Body::Map(_) => "answer map",
+            Body::Nothing(_) => "answer none",
+            Body::Least(..) => "answer least",
         }
-        Body::Nothing(lines) => {
-            writeln!(text, "answer none")?;
-            put_lines(text, lines)
+    }
+
+    /// The values of its map; none where there is no map.
+    fn values(&self) -> &[u8]
+        ensures { result.now ≡ values_of (body_of self.now) }
+    {
+        match self {
+            Body::Map(values) | Body::Least(values, _) => values,
+            Body::Nothing(_) => &[],
         }
-        Body::Least(values, lines) => {
-            writeln!(text, "answer least")?;
-            put_values(text, values)?;
-            put_lines(text, lines)
+    }
+
+    /// Its lines; none where it is a map alone.
+    fn lines(&self) -> &[Line]
+        ensures { map line_of result.now ≡ steps_of (body_of self.now) }
+    {
+        match self {
+            Body::Map(_) => &[],
+            Body::Nothing(lines) | Body::Least(_, lines) => lines,
+        }
+    }
+
+    /// The same, without the rest.
+    fn into_lines(self, alloc: Global) -> Lines
+        ensures { map line_of result.items ≡ steps_of (body_of self) }
+    {
+        match self {
+            Body::Map(_values) => Vec::new(alloc),
+            Body::Nothing(lines) => lines,
+            Body::Least(_values, lines) => lines,
         }
     }
 }
@@ -64,6 +115,22 @@ fn put_lines(text: &mut String, lines: &[Line]) -> Result<(), AllocError>
 {
     for line in lines {
         put_line(text, *line)?;
+    }
+    Ok(())
+}
+
+/// Adds these lines, and gives their memory back.
+fn take_lines(text: &mut String, lines: Lines) -> Result<(), AllocError>
+    ensures { OnOk result (string_bytes text.new
+        ≡ string_bytes text.old ++ flat_map line_text (map line_of lines.items)) }
+{
+    let mut left = lines;
+    left.reverse();
+    'lines: while let Some(line) = left.pop() {
+        put_line(text, line)?;
+        if left.len() % PIECE == 0 {
+            left.shrink_to_fit();
+        }
     }
     Ok(())
 }

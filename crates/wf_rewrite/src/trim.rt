@@ -17,7 +17,7 @@ use wf_complex::Protocol;
 use wf_engine::{RunFault, check_report, hand_out, read_report_from, read_task};
 use wf_io::{Sink, Source};
 use wf_lines::{Line, Lines};
-use wf_report::{Body, CertFault, Report, write_report};
+use wf_report::{Body, CertFault, Report};
 use wf_task::Task;
 use wf_trim::trim;
 
@@ -69,7 +69,7 @@ fn trim_report<T: Threads + Sync>(
 {
     let protocol = check_report(rt, alloc, task, &report)?;
     let shorter = shortened(rt, alloc, task, &protocol, report)?;
-    Ok(((), write_report(alloc, &shorter)?))
+    Ok(((), shorter.into_text(alloc)?))
 }
 
 /// A report without a fault that has the same answer and some of the lines of one that has no fault

@@ -20,5 +20,5 @@ returns g c =
     let counted = c.count_lines.ensures in
     let low = c.if-count_lines-ge-MOST_LINES.false in
     let few : AreNumbered (lines_in body) = omega (arith, many, counted, low) in
-    right c.args.task.now c.args.protocol.now.rounds body c.args.protocol.now (with_header c.about-header.result body) c.in_ok-write_report.field-0.items c.requires few (c.about-header.ensures body) c.in_ok-check.ensures.fault
-    c.in_ok-check.ensures.truth c.in_ok-write_report.ensures.text
+    right c.args.task.now c.args.protocol.now.rounds body c.args.protocol.now (with_header c.about-header.result body) c.in_ok-into_text.field-0.items c.requires few (c.about-header.ensures body) c.in_ok-check.ensures.fault
+    c.in_ok-check.ensures.truth c.in_ok-into_text.ensures.text

@@ -7,4 +7,4 @@ use Rattle.wf_engine.proofs.solve.report_text.Goals as goal
 pub returns : goal.returns
 unfolding text_of_report
 returns c =
-    subst (λ x. IfOk c.write_report.result (λ text. text.items ≡ report_text x)) (c.requires.about (body_of c.args.body)) c.write_report.ensures.text
+    subst (λ x. IfOk c.into_text.result (λ text. text.items ≡ report_text x)) (c.requires.about (body_of c.args.body)) c.into_text.ensures.text
