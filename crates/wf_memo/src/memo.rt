@@ -204,7 +204,7 @@ fn keep_words(
             && kept.execution < network.executions.len()
         {
             let like = network.like_at(kept.execution);
-            let place = slot_of(like, [kept.candidates, 0, 0, 0], places.len());
+            let place = slot_of_word(like, kept.candidates, places.len());
             if place < places.len() {
                 places[place] = Some(*kept);
             }
@@ -246,18 +246,45 @@ fn places_wanted(places: usize, misses: u32, most: usize) -> usize {
     }
 }
 
+/// The lowest four bits of each part in a word.
+const LOW_BITS: u64 = 0x000f_000f_000f_000f;
+
+/// From so many places on, candidates below 4 have places of their own.
+const APART: usize = 4096;
+
+/// Where among so many places, a power of two, the answer for a rule and candidates below 16 is.
+/// With none at all it is 0.
+///
+/// Any place would be right. Where there are enough, candidates below 4 are apart from each other:
+/// most tasks have no others, and those of three places of a rule then lie together.
+pub(crate) fn slot_of_word(rule: u32, word: u64, places: usize) -> usize {
+    if places < APART {
+        return slot_of(rule, [word, 0, 0, 0], places);
+    }
+    // side by side: part i goes from bit 16 * i to bit 36 + 4 * i
+    let low = (word & LOW_BITS).wrapping_mul(0x0000_0010_0100_1001) >> 36 & 0xffff;
+    let high = mixed(word & !LOW_BITS);
+    // the first 16 rules lie apart too
+    let rules = u64::from(rule) << 12 ^ mixed(u64::from(rule) >> 4);
+    (low ^ high ^ rules) as usize & places.saturating_sub(1)
+}
+
 /// Where among so many places, a power of two, the answer for a rule and these candidates is, by
 /// those of them that are below 64. With none at all it is 0.
 ///
 /// Any place would be right.
 pub(crate) fn slot_of(rule: u32, candidates: [Part; 4], places: usize) -> usize {
     let [a, b, c, d] = candidates;
-    // apart where each candidate is below 10, and a product's high bits tell all of it apart
+    // apart where each candidate is below 10
     let joined = a
         ^ b.rotate_left(21)
         ^ c.rotate_left(42)
         ^ d.rotate_left(11)
         ^ u64::from(rule).rotate_left(53);
-    let mixed = (joined ^ joined >> 32).wrapping_mul(0x9e37_79b9_7f4a_7c15);
-    (mixed >> 48) as usize & places.saturating_sub(1)
+    mixed(joined) as usize & places.saturating_sub(1)
+}
+
+/// Sixteen bits that tell words apart: a product's high bits hang on all of it. Of 0 they are 0.
+fn mixed(word: u64) -> u64 {
+    (word ^ word >> 32).wrapping_mul(0x9e37_79b9_7f4a_7c15) >> 48
 }

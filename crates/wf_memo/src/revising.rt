@@ -6,7 +6,7 @@ ghost use Rattle.wf_lane.specs.Table.{AreFirstParts, HasSupported};
 ghost use Rattle.wf_network.specs.Problems.{IsNetwork, constraints_in, rule_in};
 ghost use Rattle.wf_memo.specs.Revising.{AreKnown, AreWide, answers_in, found_at, left_of, parts_in, wide_set, widened};
 
-use crate::memo::{Memo, Revised, RevisedParts, RevisedWord, slot_of};
+use crate::memo::{Memo, Revised, RevisedParts, RevisedWord, slot_of, slot_of_word};
 use wf_network::{Network, PackedExecution};
 use wf_set::part::Part;
 use wf_set::{Mask, first_part};
@@ -66,7 +66,7 @@ fn supported_word(number: u32, word: u64, network: &Network, memo: &mut Memo) ->
     ensures known { AreKnown (constraints_in network.now) (answers_in memo.new) }
 {
     let like = network.like_at(number as usize);
-    let slot = slot_of(like, [word, 0, 0, 0], memo.small.len());
+    let slot = slot_of_word(like, word, memo.small.len());
     if slot < memo.small.len()
         && let Some(answer) = &memo.small[slot]
         && answer.candidates == word

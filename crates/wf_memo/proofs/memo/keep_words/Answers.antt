@@ -10,7 +10,7 @@ loop-answer-preserved c = λ ks answers places.
     elim c.match-answer.branch [
       | in-Some+then-kept-len+then-place-len w ↦
           subst (All (IsKnownWord ks)) (sym (ap (λ v. v.items) w.places-is))
-          (All-set (IsKnownWord ks) c.loop-answer.places.items w.slot_of-place.result (Some w.in-Some.kept)
+          (All-set (IsKnownWord ks) c.loop-answer.places.items w.slot_of_word-place.result (Some w.in-Some.kept)
           (subst (IsKnownWord ks) w.in-Some.is (All-get_or (IsKnownWord ks) c.args.answers.now c.loop-answer.answer-index None c.loop-answer-test.true answers)) so_far)
       | in-Some+then-kept-len+else-place-len w ↦ subst (All (IsKnownWord ks)) (sym (ap (λ v. v.items) w.places-is)) so_far
       | in_default w ↦ subst (All (IsKnownWord ks)) (sym (ap (λ v. v.items) w.places-is)) so_far

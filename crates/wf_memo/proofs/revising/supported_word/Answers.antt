@@ -13,7 +13,7 @@ returns-clause-supported c =
     let known = c.in-Some.answer in
     let answers = c.args.memo.now.small.items in
     let right : IsKnownWord (constraints_in n) (Some known) = subst (IsKnownWord (constraints_in n)) (sym c.index.ensures ∙ c.in-Some.is)
-    (All-get_or (IsKnownWord (constraints_in n)) answers c.slot_of-slot.result c.index.result.now (omega (arith, c.if-slot-len.true, c.len-2.ensures, c.args.memo.now.small.ok.0)) (small_known (constraints_in n) c.args.memo.now c.requires.known)) in
+    (All-get_or (IsKnownWord (constraints_in n)) answers c.slot_of_word-slot.result c.index.result.now (omega (arith, c.if-slot-len.true, c.len-2.ensures, c.args.memo.now.small.ok.0)) (small_known (constraints_in n) c.args.memo.now c.requires.known)) in
     let same : known.candidates ≡ c.args.word = c.if-answer-word.true in
     let inside : known.execution < length n.executions.items = omega (arith, c.if-answer-len.true, c.len-3.ensures, n.executions.ok.0) in
     let same_like : (rule_in n known.execution).like ≡ (rule_in n c.args.number).like = sym c.like_at.ensures ∙ c.if-like_at-like.true ∙ c.like_at-like.ensures in
