@@ -1,8 +1,8 @@
 -- Where an execution stands, and its words round by round.
-use Rattle.std.proofs.Common.{◌≡◌, ℕ, zero, suc, ◌+◌, ◌-◌, ◌*◌, ◌/◌, ◌%◌, ◌<◌, ◌≤◌, List, [], ◌∷◌, ◌++◌, map, flat_map, drop, take, length, get_or, Some, All, codes, slice_get, refl, sym, ap, ◌∙◌, subst, arith, append_assoc, append-nil, length-append}
+use Rattle.std.proofs.Common.{◌≡◌, ℕ, zero, suc, ◌+◌, ◌-◌, ◌*◌, ◌/◌, ◌%◌, ◌<◌, ◌≤◌, List, [], ◌∷◌, ◌++◌, map, flat_map, take, length, Some, All, codes, slice_get, refl, sym, ap, ◌∙◌, subst, arith, append_assoc, append-nil, length-append}
 use Rattle.std.specs.List.{slice_index_or}
 use Rattle.std.proofs.lemmas.Nat.{div-mul-add, mod-mul-add}
-use Rattle.std.proofs.lemmas.List.{length-map, get_or-map, drop_more, take_more}
+use Rattle.std.proofs.lemmas.List.{length-map, get_or-map, take_more}
 use Rattle.std.proofs.lemmas.List.Elements.{All-from_recursion}
 use Rattle.std.proofs.lemmas.List.Concat.{flat_map-append}
 use Rattle.std.proofs.lemmas.List.FromFn.{map-range_with_len_more, get_or-map-range_with_len, length-map-range_with_len}
@@ -215,13 +215,6 @@ size_there m n top table is some few =
       low = omega (arith, ap length is, length-map-range_with_len (λ k. words m (k + 1)) 0 top, some, few);
       is = ap (λ xs. slice_index_or xs (n - 1) []) is ∙ get_or-map-range_with_len (λ k. words m (k + 1)) 0 top (n - 1) (n - 1) [] (omega (arith, some, few)) at ∙ ap (words m) size;
     }
-
-pub spans_more : (m r i first : ℕ) (ss : List Simplex) (s : Simplex) (spans : List Span) → i < length ss → s ≡ get_or ss i s →
-    spans ++ spans_of m r first (drop i ss) ≡ (spans ++ record { first = first; count = turns m (length s) r } ∷ []) ++ spans_of m r (first + turns m (length s) r) (drop (i + 1) ss)
-spans_more m r i first ss s spans low is =
-    let e : drop i ss ≡ s ∷ drop (i + 1) ss = drop_more ss i s low ∙ ap (λ x. x ∷ drop (i + 1) ss) (sym is) in
-    ap (λ xs. spans ++ spans_of m r first xs) e
-    ∙ sym (append_assoc spans (record { first = first; count = turns m (length s) r } ∷ []) (spans_of m r (first + turns m (length s) r) (drop (i + 1) ss)))
 
 -- ---- the execution of a number
 

@@ -1,5 +1,5 @@
 -- Part by part: what is told, and what is still to come.
-use Rattle.std.proofs.Common.{◌≡◌, ℕ, ◌<◌, ◌≤◌, ◌==◌, ◌&&◌, ◌++◌, List, [], ◌∷◌, drop, map, length, get_or, Bool, true, false, cond, Option, Some, None, IfSome, append_assoc, refl, sym, ap, ◌∙◌, arith}
+use Rattle.std.proofs.Common.{◌≡◌, ℕ, ◌<◌, ◌≤◌, ◌==◌, ◌&&◌, ◌++◌, List, [], ◌∷◌, drop, map, length, get_or, Bool, true, false, cond, Option, Some, None, append_assoc, refl, sym, ap, ◌∙◌, arith}
 use Rattle.std.specs.Option.{is_some}
 use Rattle.std.proofs.lemmas.Bool.{eqb-true, and_parts}
 use Rattle.wf_model.specs.Execution.{Execution}
@@ -10,7 +10,7 @@ use Rattle.wf_lines.specs.Lines.{line_of}
 use Rattle.wf_lines.specs.declared.line.Line.{Line}
 use Rattle.wf_argument.specs.Parts.{Part, takes, before_parts, parts_of}
 use Rattle.wf_argument.specs.State as state
-use Rattle.wf_argument.specs.State.{Case, after, entered}
+use Rattle.wf_argument.specs.State.{Case, after}
 use Rattle.wf_argument.specs.Subject.{after_same, and_values, begun_text, executions_in, now_if, one_if, or_lines, problem_in, same_values, to_come}
 use Rattle.wf_argument.specs.Text.{case_text, part_text, parts_text}
 use Rattle.wf_argument.specs.Trail.{begun, first_case}
@@ -52,22 +52,6 @@ told_part p es s next part parts later t0 t1 are told is =
 pub after_one : (x : Subject) (ls : List Line) (s : State) (b : Bool) → to_come x ls s (one_if b) ≡ parts_text (problem_in x) (executions_in x) (now_if b s) (parts_of (map line_of (drop 1 ls)))
 after_one x ls s true = refl
 after_one x ls s false = refl
-
--- ---- the number of the next step
-
-number_or : ℕ → Option state.State → ℕ
-number_or n None = n
-number_or n (Some s) = s.number
-
-entered_number : (n : ℕ) (later : List Case) → number_or n (entered n later) ≡ n
-unfolding number_or
-entered_number n [] = refl
-entered_number n (x ∷ later) = refl
-
-pub number_after : (s : State) (b : Bool) (n m : ℕ) (later : List Case) → now_if b s ≡ entered n later → n ≤ m → IfSome (one_if b) (λ _. s.number ≤ m)
-unfolding number_or
-number_after s true n m later is low = let same : s.number ≡ n = ap (number_or n) is ∙ entered_number n later in omega (arith, same, low)
-number_after s false n m later is low = tt
 
 -- ---- cases
 

@@ -1,5 +1,5 @@
 -- The way back: what the entries of a trail stand for.
-use Rattle.std.proofs.Common.{◌≡◌, ℕ, zero, suc, ◌+◌, ◌<◌, ◌≤◌, ◌==◌, ◌||◌, Bool, true, false, cond, List, [], ◌∷◌, ◌++◌, map, filter, reverse, take, drop, length, get_or, not, Some, append_assoc, append-nil, refl, sym, ap, ◌∙◌, arith}
+use Rattle.std.proofs.Common.{◌≡◌, ℕ, zero, suc, ◌+◌, ◌<◌, ◌≤◌, ◌==◌, ◌||◌, Bool, true, false, cond, List, [], ◌∷◌, ◌++◌, map, filter, reverse, take, drop, length, get_or, not, Some, append_assoc, refl, sym, ap, ◌∙◌, arith}
 use Rattle.std.specs.List.{slice_set}
 use Rattle.std.proofs.lemmas.List.{reverse-append, take_at, map-set, drop_more, drop_all}
 use Rattle.wf_model.proofs.Basics.{equal_turned}
@@ -18,11 +18,6 @@ pub losses_twice : (gone : Gone) (v : ℕ) (xs ys : List Loss) → with_losses (
 losses_twice [] v xs ys = refl
 losses_twice (l ∷ gone) zero xs ys = ap (λ zs. zs ∷ gone) (append_assoc l xs ys)
 losses_twice (l ∷ gone) (suc v) xs ys = ap (λ rest. l ∷ rest) (losses_twice gone v xs ys)
-
-pub no_losses : (gone : Gone) (v : ℕ) → with_losses gone v [] ≡ gone
-no_losses [] v = refl
-no_losses (l ∷ gone) zero = ap (λ zs. zs ∷ gone) (append-nil l)
-no_losses (l ∷ gone) (suc v) = ap (λ rest. l ∷ rest) (no_losses gone v)
 
 pub given_back : (gone : Gone) (v : ℕ) (xs : List Loss) → slice_set (with_losses gone v xs) v (take (length (losses gone v)) (losses (with_losses gone v xs) v)) ≡ gone
 given_back [] v xs = refl
@@ -51,9 +46,6 @@ later_lost values trail after gone v n xs is long =
 
 pub losing_twice : (s : state.State) (v : ℕ) (xs ys : List Loss) → losing (losing s v xs) v ys ≡ losing s v (xs ++ ys)
 losing_twice s v xs ys = ap (λ gone. record s { gone = gone }) (losses_twice s.gone v xs ys)
-
-pub losing_none : (s : state.State) (v : ℕ) → losing s v [] ≡ s
-losing_none s v = ap (λ gone. record s { gone = gone }) (no_losses s.gone v)
 
 -- ---- what is kept of a point
 

@@ -28,16 +28,10 @@ use Rattle.wf_engine.proofs.Asking.{IsRefusal}
 use Rattle.wf_branches.specs.Branches.{IsBranch}
 use Rattle.wf_branches.specs.declared.branch.FoundBranch.{FoundBranch}
 use Rattle.wf_branches.specs.declared.joining.Gathered as kept
-use Rattle.wf_branches.specs.Verifying.{ChecksIn, ChecksPart, IsPartOf}
+use Rattle.wf_branches.specs.Verifying.{ChecksIn, IsPartOf}
 use Rattle.wf_branches.specs.Joining.{AcceptsJoined, Gathered, with_map, with_least, without_map, Gathers, GathersAll, GoesOn, IsBodyIn, JoinsText, TakesPart, body_seen, gathered_seen, in_part, joined_body, lines_in, next_part}
 
 -- ---- one part
-
--- a part whose report is refused
-pub refused_part : {A : Type 0} (i : ℕ) (t : Task) (r : ℕ) (report : Report) (e : RunFault) (result : Result (Unit {0} × Vec ℕ A) RunFault) → ChecksIn i t r report (Err e) → IsRefusal e result
-    → ChecksPart i t r report (answered result)
-refused_part i t r report e (Ok x) is refused = absurd (let ended = refused.0 in let bad : ⊥ = cc in bad)
-refused_part i t r report e (Err found) is refused = subst (λ f. ChecksIn i t r report (Err f)) (sym refused.1) is
 
 module _ (i : ℕ) (t : Task) (r : ℕ) (text : List ℕ) where
   -- a text that is no part about the branch
@@ -81,12 +75,6 @@ module _ (t : Task) (r : ℕ) (text : List ℕ) where
   pub ungathered : (e : RunFault) (result : Result kept.Gathered RunFault) → GathersAll t r text (Err e) → IsRefusal e result → GathersAll t r text (gathered_seen result)
   ungathered e (Ok x) gathers is = absurd (let ended = is.0 in let bad : ⊥ = cc in bad)
   ungathered e (Err found) gathers is = subst (λ f. GathersAll t r text (Err f)) (sym is.1) gathers
-
-  -- no report is made of what they come to
-  pub unmade : {A : Type 0} (gathered : Gathered) (result : Result (Unit {0} × Vec ℕ A) RunFault) → GathersAll t r text (Ok gathered) → IsRefusal OutOfMemory result → JoinsText t r text (answered result)
-  unmade gathered (Ok x) gathers is = absurd (let ended = is.0 in let bad : ⊥ = cc in bad)
-  unmade gathered (Err found) gathers is =
-      (Ok gathered, gathers, subst (λ f. AcceptsJoined t r (joined_body (outline (problem_of t r)) gathered) (Err f)) (sym is.1) tt)
 
   -- they come to this
   pub joins : (gathered : Gathered) (result : Result (Unit {0} × List ℕ) RunFault) → GathersAll t r text (Ok gathered) → AcceptsJoined t r (joined_body (outline (problem_of t r)) gathered) result → JoinsText t r text result

@@ -5,7 +5,7 @@ use Rattle.std.proofs.lemmas.List.{reverse-append}
 use Rattle.wf_set.specs.Sets.{values_in}
 use Rattle.wf_check.specs.Settled.{are_settled, is_settled}
 use Rattle.wf_check.specs.declared.boxes.Entry.{Entry}
-use Rattle.wf_check.specs.declared.boxes.Entry.TheVariants.{Was, Later}
+use Rattle.wf_check.specs.declared.boxes.Entry.TheVariants.{Was}
 use Rattle.wf_check.proofs.BlockLemmas.{set_twice}
 use Rattle.wf_check.proofs.FirstLemmas.{IsSettled}
 use Rattle.std.proofs.lemmas.Bool.{and_parts}
@@ -47,9 +47,6 @@ way_changed trail after sets v x w is read h =
     ∙ ap (λ s. are_settled (reverse trail) (slice_set (slice_set sets v x) v s)) read
     ∙ ap (are_settled (reverse trail)) (set_twice sets v x w)
     ∙ h
-
-pub way_pushed : (trail after : List Entry) (sets : List (List ℕ)) (v low : ℕ) (left : List ℕ) → after ≡ trail ++ Later v low left ∷ [] → is_settled low sets ≡ true → are_settled (reverse trail) sets ≡ true → are_settled (reverse after) sets ≡ true
-way_pushed trail after sets v low left is h way = ap (λ es. are_settled (reverse es) sets) is ∙ way_is trail (Later v low left) sets ∙ (λ i. h i && way i)
 
 pub way_popped : (trail before : List Entry) (e same : Entry) (sets : List (List ℕ)) → before ≡ trail ++ e ∷ [] → e ≡ same → are_settled (reverse before) sets ≡ true → are_settled (same ∷ reverse trail) sets ≡ true
 way_popped trail before e same sets is seen h = ap (λ e. are_settled (e ∷ reverse trail) sets) (sym seen) ∙ sym (way_is trail e sets) ∙ ap (λ es. are_settled (reverse es) sets) (sym is) ∙ h

@@ -43,15 +43,6 @@ pub record KeepsBut (all left : List Clause) (old now : Known) : Type 0 where
 abbrev pub IsAmong : List Clause → List Clause → Type 0
 IsAmong left all = (clause : Clause) → In clause left → In clause all
 
-pub kept_but_all : (all : List Clause) (known : Known) → KeepsBut all all known known
-kept_but_all all known = record {
-  still = still-same known;
-  later = λ new still each. each;
-  told = [];
-  behind = sym (append-nil known.clauses);
-  some = λ rest is. is;
-}
-
 one : (f : ℕ → Clause) (v : ℕ) (added : Clause) (now new : Known) → added ≡ f v → AddsAtMost added now new → AddsSomeOf (f v ∷ []) now new
 one f v added now new same alone = subst (λ c. AddsSomeOf (c ∷ []) now new) same (adds_one added now new alone)
 

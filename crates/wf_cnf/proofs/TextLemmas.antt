@@ -1,9 +1,9 @@
 -- Variables within a machine word, and texts that grow clause by clause.
-use Rattle.std.proofs.Common.{◌≡◌, ℕ, zero, suc, ◌+◌, ◌*◌, ◌<◌, ◌≤◌, ◌==◌, min, nat_lt, Bool, true, false, cond, List, [], ◌∷◌, ◌++◌, map, filter, flat_map, zip, length, take, get_or, slice_index, inl, inr, refl, sym, ap, ◌∙◌, subst, arith, append_assoc, length-append, Some, slice_get}
+use Rattle.std.proofs.Common.{◌≡◌, ℕ, zero, suc, ◌+◌, ◌*◌, ◌<◌, ◌≤◌, ◌==◌, min, nat_lt, Bool, true, false, cond, List, [], ◌∷◌, ◌++◌, map, filter, flat_map, zip, length, get_or, slice_index, inl, inr, refl, sym, ap, ◌∙◌, subst, arith, append_assoc, length-append, Some, slice_get}
 use Rattle.std.specs.List.{AllByRecursion, range_with_len, slice_index_or}
 use Rattle.std.proofs.Math.Nat.{mul-le-mul_right}
 use Rattle.std.proofs.lemmas.Bool.{cases_Bool, cases_order, lt-ltb, le-ltb, eq-eqb, ne_eqb}
-use Rattle.std.proofs.lemmas.List.{append-nil, map-append, take_more, get_or-map, length-map}
+use Rattle.std.proofs.lemmas.List.{append-nil, map-append, get_or-map, length-map}
 use Rattle.std.proofs.lemmas.List.Concat.{flat_map-append}
 use Rattle.std.proofs.lemmas.Slice.Zip.{length-zip, get_or-zip}
 use Rattle.wf_model.specs.Lists.{below, has}
@@ -12,10 +12,9 @@ use Rattle.wf_model.proofs.Basics.{below_next, length-below}
 use Rattle.wf_complex.proofs.Lemmas.{got}
 use Rattle.wf_set.specs.Sets.{values_in, holds}
 use Rattle.wf_set.proofs.Lemmas.{values_ascend}
-use Rattle.wf_clauses.specs.Formula.{Clause, Literal}
+use Rattle.wf_clauses.specs.Formula.{Clause}
 use Rattle.wf_formula.specs.Patterns.{Pattern}
 use Rattle.wf_formula.specs.Encoding.{rank_in}
-use Rattle.wf_formula.specs.Dimacs.{clause_text, literal_text}
 use Rattle.wf_formula.proofs.Variables.{rank_most}
 use Rattle.wf_cnf.specs.Clauses.{HasPoints}
 
@@ -100,25 +99,6 @@ rank_there f n a ranks is low =
 
 -- ---- one clause more
 
-pub point_more : (f : ℕ → Clause) (n : ℕ) (start before after : List ℕ) → after ≡ before ++ clause_text (f n) → before ≡ start ++ flat_map clause_text (map f (below n))
-    → after ≡ start ++ flat_map clause_text (map f (below (n + 1)))
-point_more f n start before after put so_far =
-    put
-    ∙ ap (λ bs. bs ++ clause_text (f n)) so_far
-    ∙ append_assoc start (flat_map clause_text (map f (below n))) (clause_text (f n))
-    ∙ ap (λ bs. start ++ bs) (ap (λ bs. flat_map clause_text (map f (below n)) ++ bs) (sym (append-nil (clause_text (f n))))
-    ∙ sym (flat_map-append clause_text (map f (below n)) (f n ∷ []))
-    ∙ ap (flat_map clause_text) (sym (map-append f (below n) (n ∷ [])) ∙ ap (map f) (sym (below_next n))))
-
-pub execution_more : (f : ℕ → List Clause) (n : ℕ) (start before after : List ℕ) → after ≡ before ++ flat_map clause_text (f n) → before ≡ start ++ flat_map clause_text (flat_map f (below n))
-    → after ≡ start ++ flat_map clause_text (flat_map f (below (n + 1)))
-execution_more f n start before after put so_far =
-    put
-    ∙ ap (λ bs. bs ++ flat_map clause_text (f n)) so_far
-    ∙ append_assoc start (flat_map clause_text (flat_map f (below n))) (flat_map clause_text (f n))
-    ∙ ap (λ bs. start ++ bs) (sym (flat_map-append clause_text (flat_map f (below n)) (f n))
-    ∙ ap (flat_map clause_text) (ap (λ cs. flat_map f (below n) ++ cs) (sym (append-nil (f n))) ∙ sym (flat_map-append f (below n) (n ∷ [])) ∙ ap (flat_map f) (sym (below_next n))))
-
 -- ---- one literal more
 
 pub entry_at : (places values points : List ℕ) (at size : ℕ) → at < size → size ≡ min (length places) (length values) → HasPoints points (zip places values)
@@ -129,22 +109,6 @@ entry_at places values points at size low is h =
     let second : at < length values = omega (arith, low, is) in
     let e = get_or-zip places values at (0, 0) first second in
     subst (λ (p : ℕ × ℕ). p.0 < length points) e (h at (0, 0) inside)
-
-pub literal_more : (f : ℕ × ℕ → Literal) (places values : List ℕ) (at size p a : ℕ) (start before after : List ℕ) → at < size → size ≡ min (length places) (length values)
-    → p ≡ slice_index places at → a ≡ slice_index values at → after ≡ before ++ literal_text (f (p, a)) → before ≡ start ++ flat_map literal_text (map f (take at (zip places values)))
-    → after ≡ start ++ flat_map literal_text (map f (take (at + 1) (zip places values)))
-literal_more f places values at size p a start before after low is first second put so_far =
-    let inside : at < length (zip places values) = omega (arith, low, is, length-zip places values) in
-    let low_first : at < length places = omega (arith, low, is) in
-    let low_second : at < length values = omega (arith, low, is) in
-    let e : get_or (zip places values) at (0, 0) ≡ (p, a) = get_or-zip places values at (0, 0) low_first low_second ∙ (λ i. (sym first i, sym second i)) in
-    let more : take (at + 1) (zip places values) ≡ take at (zip places values) ++ (p, a) ∷ [] = take_more (zip places values) at (0, 0) inside ∙ ap (λ x. take at (zip places values) ++ x ∷ []) e in
-    put
-    ∙ ap (λ bs. bs ++ literal_text (f (p, a))) so_far
-    ∙ append_assoc start (flat_map literal_text (map f (take at (zip places values)))) (literal_text (f (p, a)))
-    ∙ ap (λ bs. start ++ bs) (ap (λ bs. flat_map literal_text (map f (take at (zip places values))) ++ bs) (sym (append-nil (literal_text (f (p, a)))))
-    ∙ sym (flat_map-append literal_text (map f (take at (zip places values))) (f (p, a) ∷ []))
-    ∙ ap (flat_map literal_text) (sym (map-append f (take at (zip places values)) ((p, a) ∷ [])) ∙ ap (map f) (sym more)))
 
 -- a text that is put, and then the end of a clause
 pub ended : (start before after literals : List ℕ) → after ≡ before ++ 48 ∷ 10 ∷ [] → before ≡ start ++ literals → after ≡ start ++ (literals ++ 48 ∷ 10 ∷ [])

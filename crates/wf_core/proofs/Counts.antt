@@ -1,5 +1,5 @@
 -- Lists in which numbers stand once, and sums over lists of anything.
-use Rattle.std.proofs.Common.{◌≡◌, ◌≢◌, ℕ, zero, suc, ◌+◌, ◌*◌, ◌<◌, ◌≤◌, Bool, cond, List, [], ◌∷◌, ◌++◌, length, set, refl, sym, ap, ◌∙◌, subst, arith, eq-eqb, ne_eqb, slice_index_or}
+use Rattle.std.proofs.Common.{◌≡◌, ◌≢◌, ℕ, zero, suc, ◌+◌, ◌*◌, ◌<◌, ◌≤◌, Bool, cond, List, [], ◌∷◌, ◌++◌, length, set, refl, sym, ap, ◌∙◌, subst, arith, eq-eqb, ne_eqb}
 use Rattle.std.specs.Prelude.{Contains}
 use Rattle.std.proofs.lemmas.Bool.{lt-ltb, le-ltb}
 use Rattle.std.proofs.Math.Nat.{mul-add}
@@ -7,7 +7,7 @@ use mathlib.Core.Option.{some, some-ne-none, some-injective}
 use mathlib.Core.Logic.{dite}
 use native.Mathlib.Decide.{ℕ_discrete, dec_lt}
 use lib.ListN.{get_elem?}
-use Rattle.wf_core.specs.Count.{times, once_below, total, times_in}
+use Rattle.wf_core.specs.Count.{times, once_below, total}
 
 -- Numbers below b
 
@@ -158,13 +158,3 @@ module _ {V : Type 0} where
       let rest : total f xs ≤ b * total g xs = total_bound f g b xs (λ i v e. each (suc i) v e) in
       let both : b * (g x + total g xs) ≡ b * g x + b * total g xs = mul-add b (g x) (total g xs) in
       omega arith
-
-  pub times_in-part : (f : V → List ℕ) (x : ℕ) (vs : List V) (i : ℕ) (d : V) → i < length vs → times x (f (slice_index_or vs i d)) ≤ times_in f x vs
-  times_in-part f x [] i d h = absurd (omega arith)
-  times_in-part f x (v ∷ vs) zero d h = omega arith
-  times_in-part f x (v ∷ vs) (suc i) d h = let e = times_in-part f x vs i d (omega arith) in omega arith
-
-  pub times_in-set : (f : V → List ℕ) (x : ℕ) (vs : List V) (i : ℕ) (d w : V) → i < length vs → times_in f x (set vs i w) + times x (f (slice_index_or vs i d)) ≡ times_in f x vs + times x (f w)
-  times_in-set f x [] i d w h = absurd (omega arith)
-  times_in-set f x (v ∷ vs) zero d w h = omega arith
-  times_in-set f x (v ∷ vs) (suc i) d w h = let e = times_in-set f x vs i d w (omega arith) in omega arith

@@ -3,7 +3,7 @@ use Rattle.std.proofs.Common.{◌≡◌, ◌≢◌, ◌⊎◌, ℕ, zero, suc, L
 use Rattle.std.specs.Prelude.{Some, slice_get, All, Contains}
 use Rattle.std.proofs.lemmas.List.Elements.{All-contains, Contains-append_left, Contains-push}
 use Rattle.std.proofs.lemmas.Option.{none-some, same_Some}
-use mathlib.Core.Option.{some, some-ne-none, some-injective}
+use mathlib.Core.Option.{some, some-ne-none}
 use lib.ListN.{get_elem?}
 
 module _ {A : Type 0} where
@@ -42,17 +42,6 @@ module _ {A : Type 0} where
   take_next [] i a e = absurd (none-some a e)
   take_next (x ∷ xs) zero a e = λ k. same_Some x a e k ∷ []
   take_next (x ∷ xs) (suc i) a e = ap (λ (l : List A). x ∷ l) (take_next xs i a e)
-
-  -- the logic's look-up and std's
-  pub slice_get-from : (l : List A) (i : ℕ) (a : A) → get_elem? l i ≡ some a → slice_get l i ≡ Some a
-  slice_get-from [] i a e = absurd (some-ne-none a (sym e))
-  slice_get-from (x ∷ xs) zero a e = ap Some (some-injective x a e)
-  slice_get-from (x ∷ xs) (suc i) a e = slice_get-from xs i a e
-
-  pub get_elem-from : (l : List A) (i : ℕ) (a : A) → slice_get l i ≡ Some a → get_elem? l i ≡ some a
-  get_elem-from [] i a e = absurd (none-some a e)
-  get_elem-from (x ∷ xs) zero a e = ap some (same_Some x a e)
-  get_elem-from (x ∷ xs) (suc i) a e = get_elem-from xs i a e
 
   -- `set_at`, by the logic's look-up
   pub put_at : (l : List A) (i : ℕ) (a b : A) → get_elem? l i ≡ some a → get_elem? (set l i b) i ≡ some b

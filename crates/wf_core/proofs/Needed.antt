@@ -116,12 +116,6 @@ fails_after [] b why rest p e = ap (λ (x : Bool). first_failing ((x, why) ∷ r
 fails_after ((true, _) ∷ ts) b why rest p e = fails_after ts b why rest p.1 e
 fails_after ((false, _) ∷ ts) b why rest p e = absurd (false≢true p.0)
 
--- further tests don't change the reason
-pub still_first : (ts us : List (Bool × Illegal)) (why : Illegal) → first_failing ts ≡ Some why → first_failing (ts ++ us) ≡ Some why
-still_first [] us why e = absurd (none-some why e)
-still_first ((true, _) ∷ ts) us why e = still_first ts us why e
-still_first ((false, _) ∷ ts) us why e = e
-
 pub needed : (s : State) (e : Event) → refusal s e ≡ None → Needs s e
 needed s (Take w i) h =
     let p = pass_from (tests s (Take w i)) h in

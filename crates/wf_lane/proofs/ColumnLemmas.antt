@@ -1,5 +1,5 @@
 -- How the sets of rows of a column are built.
-use Rattle.std.proofs.Common.{◌≡◌, ℕ, zero, suc, ◌+◌, ◌*◌, ◌<◌, ◌≤◌, ◌/◌, ◌%◌, ◌^◌, List, [], ◌∷◌, ◌++◌, length, take, drop, map, replicate, get_or, Bool, true, false, cond, max, refl, sym, ◌∙◌, ap, arith, ◌⊎◌, ⊎_elim, inl, inr, w64}
+use Rattle.std.proofs.Common.{◌≡◌, ℕ, zero, suc, ◌+◌, ◌*◌, ◌<◌, ◌≤◌, ◌/◌, ◌%◌, ◌^◌, List, [], ◌∷◌, ◌++◌, length, take, drop, map, get_or, Bool, true, false, cond, max, refl, sym, ◌∙◌, ap, arith, ◌⊎◌, ⊎_elim, inl, inr, w64}
 use Rattle.std.specs.Prelude.{bit_or, slice_index, slice_set}
 use Rattle.std.specs.Int.{bit_at, trailing_zeros}
 use Rattle.std.specs.List.{All}
@@ -9,7 +9,7 @@ use Rattle.std.proofs.Math.Pow.{pow-lt}
 use Rattle.std.proofs.lemmas.Bool.{cases_lt, cases_eq, cases_order, eq-eqb, ne_eqb, or_left, or_right}
 use Rattle.std.proofs.lemmas.Nat.Bits.{bit_at_or, bit_at-pow_same, bit_at-pow_other, same_from_bits}
 use Rattle.std.proofs.lemmas.Simd.{bit_mask_l, get_or-chunk, length-chunk}
-use Rattle.std.proofs.lemmas.List.{take_more, take_all, take-append-le, drop_all, drop-append-le, length-drop, length-map, length-take-le, length_push, map_push, get_or_append_left, get_or_push, get_or_past, get_or-replicate, get_or-set_same, get_or-set_other}
+use Rattle.std.proofs.lemmas.List.{take_more, take_all, take-append-le, drop_all, drop-append-le, length-drop, length-map, length-take-le, length_push, map_push, get_or_append_left, get_or_push, get_or_past, get_or-set_same, get_or-set_other}
 use Rattle.std.proofs.lemmas.List.FromFn.{fill_by_all}
 use Rattle.std.proofs.lemmas.List.Elements.{All-head, All-tail}
 use Rattle.std.specs.Int.Bits.{or_zero_r}
@@ -160,12 +160,6 @@ module _ (values : ℕ) (p : Places) (apart : ArePlaces values p) where
 
   pub in_sets : (v k : ℕ) → has (part_values values) v ≡ true → k < p.words → slice_index p.starts.items v + k < p.end
   in_sets v k h lt = let last = apart.within v (small_value v h) h in omega (arith, last, lt)
-
-  pub none_marked : (sets : List ℕ) → sets ≡ replicate p.end 0 → AreMarked values p [] sets
-  none_marked sets zeros v k h lt =
-      ap (λ l. slice_index l (slice_index p.starts.items v + k)) zeros
-      ∙ get_or-replicate p.end (slice_index p.starts.items v + k) 0 0 (in_sets v k h lt)
-      ∙ sym (ap (λ xs. mask_l (map (is_value v) (take 64 xs))) (drop_all (64 * k) [] (omega arith)))
 
   module _ (rows sets : List ℕ) (n at word : ℕ) (long : length sets ≡ p.end) (lt : n < length rows) (room : n < 64 * p.words) (occurs : has (part_values values) (value_of (get_or rows n 0)) ≡ true) (before : AreMarked values p (take n rows) sets) (at_is : at ≡ slice_index p.starts.items (value_of (get_or rows n 0)) + n / 64) (word_is : word ≡ bit_or (slice_index sets at) (2 ^ (n % 64))) where
     next_row : take (n + 1) rows ≡ take n rows ++ get_or rows n 0 ∷ []

@@ -1,11 +1,10 @@
 -- Rows that are gone through one by one: what a step adds, and what is found in the end.
-use Rattle.std.proofs.Common.{◌≡◌, ℕ, zero, suc, ◌+◌, ◌<◌, ◌≤◌, ◌^◌, List, [], ◌∷◌, length, take, get_or, cond, Bool, true, false, ◌&&◌, refl, sym, ◌∙◌, ap, arith, subst, ⊎_elim}
+use Rattle.std.proofs.Common.{◌≡◌, ℕ, zero, suc, ◌+◌, ◌<◌, ◌≤◌, ◌^◌, List, [], ◌∷◌, length, get_or, cond, Bool, true, false, ◌&&◌, refl, sym, ◌∙◌, ap, arith, subst, ⊎_elim}
 use Rattle.std.specs.Prelude.{◌||◌, count_by, slice_index_or}
 use Rattle.std.specs.List.{All, list_any, list_all}
 use Rattle.std.proofs.lemmas.Bool.{cases_lt, eq-eqb, ltb-true, and_parts}
 use Rattle.std.proofs.lemmas.List.{get_or_past}
 use Rattle.std.proofs.lemmas.List.Elements.{All-head, All-tail, All-nil, All-cons}
-use Rattle.std.proofs.lemmas.List.Folds.{list_any_more}
 use Rattle.std.proofs.lemmas.List.Sums.{sum_by-cons}
 use Rattle.wf_model.specs.Lists.{has}
 use Rattle.wf_model.specs.Task.{Tuple}
@@ -50,16 +49,6 @@ each_set sets more row alive four four' narrow same place v =
     ap (λ s. has (values_in s) v) (get_or_past more place [] (omega (arith, four', past)) ∙ sym (get_or_past sets place [] (omega (arith, four, past))))
     ∙ none_added (has (values_in (get_or sets place [])) v) (has_at row place v) alive (ap (λ b. b && alive) none))
     (cases_lt place 4)
-
-pub supported_more : (masks more : List (List ℕ)) (rows : List Tuple) (sets : List (List ℕ)) (i : ℕ) (row : Tuple) (alive : Bool) → i < length rows → row ≡ get_or rows i [] → alive ≡ lives sets row
-    → AreSupported masks (take i rows) sets → HaveMore masks row alive more → AreSupported more (take (i + 1) rows) sets
-supported_more masks more rows sets i row alive lt is e before step place v =
-    let p : Tuple → Bool = λ r. has_at r place v && lives sets r in
-    step place v
-    ∙ ap (λ b. b || (has_at row place v && alive)) (before place v)
-    ∙ ap (λ b. list_any p (take i rows) || (has_at row place v && b)) e
-    ∙ ap (λ (r : List ℕ). list_any p (take i rows) || p r) is
-    ∙ sym (list_any_more p rows i [] lt)
 
 -- ---- all rows
 

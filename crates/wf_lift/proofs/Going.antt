@@ -3,7 +3,7 @@ use Rattle.std.proofs.Common.{◌≡◌, ℕ, zero, suc, ◌+◌, ◌-◌, ◌<�
 use Rattle.std.specs.List.{AllByRecursion, enumerate_from, slice_index_or}
 use Rattle.std.proofs.lemmas.Bool.{ne_eqb}
 use Rattle.std.proofs.lemmas.List.{length-map, map-append}
-use Rattle.std.proofs.Math.Seq.{take-length, take-suc}
+use Rattle.std.proofs.Math.Seq.{take-suc}
 use Rattle.std.proofs.lemmas.List.Elements.{recursion_from_All}
 use Rattle.std.proofs.lemmas.Option.{slice_get_within}
 use Rattle.wf_model.specs.Simplex.{is_simplex}
@@ -24,7 +24,7 @@ use Rattle.wf_model.proofs.Tasks.{inputs_within}
 use Rattle.wf_model.proofs.WellFormed.{last_processes}
 use Rattle.wf_complex.specs.Protocol.{Built, IsProtocol, point_in, simplices_of}
 use Rattle.wf_complex.proofs.RuleAt.{got}
-use Rattle.wf_lift.specs.Lift.{point_before, lifted, lifted_by, AreLifted}
+use Rattle.wf_lift.specs.Lift.{point_before, lifted, lifted_by}
 use Rattle.wf_lift.specs.declared.stretch.Stretch.{Stretch}
 use Rattle.wf_lift.specs.Stretches.{GoesOn, stretches, earlier}
 use Rattle.wf_lift.proofs.Executions.{StandsBefore, stands_before}
@@ -242,13 +242,6 @@ lifted_more t r k n values after x low so_far here m is =
     ap (map (lifted_by t k m)) more
     ∙ map-append (lifted_by t k m) (take n ps) (get_or ps n (base 0 0) ∷ [])
     ∙ (λ i. so_far m is i ++ here m is i ∷ [])
-
-pub lifted_all : (t : Task) (r k n more : ℕ) (values after : List ℕ) → n ≡ length (points t (r + k)) → more ≡ r + k → LiftedTo t r k n values after → AreLifted t r more values after
-lifted_all t r k n more values after all is so_far m listed_is =
-    let by : more - r ≡ k = omega (arith, is) in
-    (λ i. map (lifted_by t (by i) m) (points t (is i)))
-    ∙ ap (map (lifted_by t k m)) (sym (ap (λ n. take n (points t (r + k))) all ∙ take-length (points t (r + k))))
-    ∙ so_far m listed_is
 
 -- ---- what is looked up
 

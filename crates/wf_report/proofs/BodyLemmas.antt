@@ -191,9 +191,6 @@ values_are before k (l ∷ ls) = ap (of_front before k) (front_is l ls) ∙ by_v
 pub map_is : (ls : List (List ℕ)) → map_body 2 ls ≡ gathered a_map [] (items_from (value_of_line 2) 7 ls)
 map_is ls = ap (λ r. then_read r (λ xs. Ok (a_map (front ls).0))) (steps_are no_step (7 + length (front ls).0) (front ls).1) ∙ values_are [] 7 ls
 
-pub map_by_front : (ls rest : List (List ℕ)) (m : List ℕ) → values_at_front 2 ls ≡ (m, rest) → map_body 2 ls ≡ then_read (steps_from no_step (7 + length m) rest) (λ xs. Ok (a_map m))
-map_by_front ls rest m e = ap (λ p. then_read (steps_from no_step (7 + length p.0) p.1) (λ xs. Ok (a_map p.0))) e
-
 -- ---- a map, and the lines that lead to it
 
 pub least_by_front : (ls rest : List (List ℕ)) (m : List ℕ) → values_at_front 2 ls ≡ (m, rest) → least_body 2 ls ≡ then_read (steps_from (any_step 2) (7 + length m) rest) (λ xs. Ok (least m xs))
@@ -252,12 +249,6 @@ module _ (found rest text : List ℕ) (is : text ≡ found ++ 10 ∷ rest) (h : 
 
   pub map_answer : same_text found (codes "answer map") ≡ true → body_at 2 (lines_of text) ≡ map_body 2 (lines_of rest)
   map_answer e = tests_are ∙ ap (λ t. by_answers t (same_text found (codes "answer none")) (same_text found (codes "answer least")) (lines_of rest)) e
-
-  pub none_answer : same_text found (codes "answer map") ≡ false → same_text found (codes "answer none") ≡ true → body_at 2 (lines_of text) ≡ none_body 2 (lines_of rest)
-  none_answer no_map e = tests_are ∙ (λ i. by_answers (no_map i) (e i) (same_text found (codes "answer least")) (lines_of rest))
-
-  pub least_answer : same_text found (codes "answer map") ≡ false → same_text found (codes "answer none") ≡ false → same_text found (codes "answer least") ≡ true → body_at 2 (lines_of text) ≡ least_body 2 (lines_of rest)
-  least_answer no_map no_lines e = tests_are ∙ (λ i. by_answers (no_map i) (no_lines i) (e i) (lines_of rest))
 
   pub bad_answer : same_text found (codes "answer map") ≡ false → same_text found (codes "answer none") ≡ false → same_text found (codes "answer least") ≡ false → body_at 2 (lines_of text) ≡ Err 6
   bad_answer no_map no_lines no_least = tests_are ∙ (λ i. by_answers (no_map i) (no_lines i) (no_least i) (lines_of rest))

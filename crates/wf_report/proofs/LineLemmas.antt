@@ -6,7 +6,7 @@ use Rattle.wf_model.specs.Refutation.{Line, remove, empty, branch}
 use Rattle.wf_model.specs.Limits.{most_number}
 use Rattle.wf_model.specs.Report.{any_step, is_found, largest, number_upto, same_text, step_of_words}
 use Rattle.wf_report.specs.Reading.{lacks}
-use Rattle.wf_report.specs.Steps.{removal_of, step_in, words}
+use Rattle.wf_report.specs.Steps.{removal_of, words}
 use Rattle.wf_report.specs.declared.reading.Part.{Part}
 use Rattle.wf_report.specs.declared.reading.Part.TheVariants.{Values, Refutation, Search}
 use Rattle.wf_report.proofs.ReadLemmas.{more_words, one_word, some_word, spaced, words_cut, words_ended}
@@ -20,11 +20,6 @@ abbrev pub kept : Part → Option Line → Option Line
 kept Values o = None
 kept Refutation o = passed o
 kept Search o = o
-
-pub kept_is : (part : Part) (l : List ℕ) (o : Option Line) → o ≡ any_step 2 l → kept part o ≡ step_in part l
-kept_is Values l o e = refl
-kept_is Refutation l o e = ap passed e
-kept_is Search l o e = e
 
 pub step_is : (l : List ℕ) → lacks 10 l ≡ true → any_step 2 (l ++ 10 ∷ []) ≡ step_of_words 2 (words l)
 step_is l h = ap (option_and_then (step_of_words 2)) (words_ended l h)

@@ -19,9 +19,6 @@ indexed-still clauses old new h still = λ n kept. record {
   found = still (entry_of (h n kept).hash n) (h n kept).found;
 }
 
-pub indexed-none : (index : List (List Entry)) → IsIndexed [] index
-indexed-none index = λ n kept. let within : n < length {A = List ℕ} [] = kept.within in absurd (omega arith)
-
 pub indexed-pushed : (clauses : List (List ℕ)) (old new : List (List Entry)) (c : List ℕ) (hash number : ℕ) → IsIndexed clauses old → FindsStill old new
     → IsHashOf c hash → number ≡ length clauses → Finds new (record { hash = hash; number = number }) → IsIndexed (clauses ++ c ∷ []) new
 indexed-pushed clauses old new c hash number h still hashed last found = λ n kept. elim (cases_lt n (length clauses)) [

@@ -1,60 +1,19 @@
 -- Laws of deletions.
-use Rattle.std.proofs.Common.{◌≡◌, ℕ, ◌+◌, ◌<◌, zero, suc, Bool, true, false, List, [], ◌∷◌, ◌++◌, refl, sym, ◌∙◌, ap, subst, arith, length, take, get_or, map, set, inl, inr}
+use Rattle.std.proofs.Common.{◌≡◌, ℕ, ◌+◌, ◌<◌, zero, suc, Bool, true, List, [], ◌∷◌, ◌++◌, refl, sym, ◌∙◌, ap, subst, arith, length, get_or, map, set, inl, inr}
 use Rattle.std.specs.Prelude.{◌==◌, ◌||◌, if◌then◌else◌}
 use Rattle.std.specs.List.{All, Contains}
-use Rattle.std.proofs.lemmas.Bool.{false≢true}
 use Rattle.std.proofs.lemmas.List.{get_or_default, get_or-map, length-map, map-append}
 use Rattle.std.proofs.lemmas.List.Elements.{All-contains}
 use Rattle.std.proofs.lemmas.List.Folds.{list_any_at}
-use Rattle.std.proofs.lemmas.Grind.{take_at_read}
 use Rattle.wf_clauses.specs.Formula.{Clause, Literal}
 use Rattle.wf_drat.specs.Codes.{code_of, code_of-literal_of, literal_of}
-use Rattle.wf_rup.specs.Deleted.{AreAlike, Deletes, DeletesStored, HasAlike, HasAlikeStored, HaveSameLiterals, IsStoredWithout, IsWithout, IsAmong, IsSeenOf}
+use Rattle.wf_rup.specs.Deleted.{AreAlike, Deletes, DeletesStored, HasAlike, HasAlikeStored, HaveSameLiterals, IsStoredWithout, IsWithout, IsAmong}
 use Rattle.wf_rup.specs.Index.{IsAlikeAt, IsKeptAt, IsTaken}
-use Rattle.wf_rup.specs.Propagation.{with_literal}
 use Rattle.wf_rup.specs.Seen.{Known, known_of}
-use Rattle.wf_rup.specs.Stored.{IsDistinct, Stored, has, kept_of}
+use Rattle.wf_rup.specs.Stored.{Stored, has, kept_of}
 use Rattle.wf_rup.proofs.LiteralLemmas.{literal_of-code_of}
-use Rattle.wf_rup.proofs.TrailLemmas.{distinct-push, has-push, same_test}
+use Rattle.wf_rup.proofs.TrailLemmas.{same_test}
 use Rattle.wf_rup.proofs.UnitLemmas.{Contains-image, Contains-of_image, image-at}
-
-same-of : (x l : ℕ) → (x == l) ≡ true → x ≡ l
-same-of x l e = grind (arith, e)
-
-pub seen-none : (clause : List ℕ) (l : ℕ) → has [] l ≡ has (take 0 clause) l
-seen-none clause l = refl
-
-or-same : (a b c : Bool) → (c ≡ true → b ≡ true) → a ≡ b → (b || c) ≡ a
-or-same a true c h e = sym e
-or-same a false true h e = absurd (false≢true (h refl))
-or-same a false false h e = sym e
-
--- where the literal is there already, and where it is not
-seen-either : (seen part : List ℕ) (x l : ℕ) (b : Bool) → b ≡ has seen x → IsSeenOf part seen → has (if b then seen else seen ++ x ∷ []) l ≡ has (part ++ x ∷ []) l
-seen-either seen part x l true there all =
-    sym (has-push part x l ∙ or-same (has seen l) (has part l) (x == l)
-    (λ e. ap (has part) (sym (same-of x l e)) ∙ sym (all x) ∙ sym there) (all l))
-seen-either seen part x l false there all = has-push seen x l ∙ ap (λ b. b || (x == l)) (all l) ∙ sym (has-push part x l)
-
-pub seen-more : (seen clause : List ℕ) (i d : ℕ) → i < length clause → IsSeenOf (take i clause) seen
-    → IsSeenOf (take (i + 1) clause) (with_literal seen (get_or clause i d))
-seen-more seen clause i d within all = λ l.
-    seen-either seen (take i clause) (get_or clause i d) l (has seen (get_or clause i d)) refl all
-    ∙ sym (ap (λ ys. has ys l) (take_at_read clause i d within).1)
-
-distinct-either : (seen : List ℕ) (x : ℕ) (b : Bool) → b ≡ has seen x → IsDistinct seen → IsDistinct (if b then seen else seen ++ x ∷ [])
-distinct-either seen x true there distinct = distinct
-distinct-either seen x false there distinct = distinct-push seen x distinct (sym there)
-
-pub distinct-with : (seen : List ℕ) (x : ℕ) → IsDistinct seen → IsDistinct (with_literal seen x)
-distinct-with seen x distinct = distinct-either seen x (has seen x) refl distinct
-
--- what was seen of one clause is one of it
-pub among-seen : (clause seen other : List ℕ) → IsSeenOf clause seen → IsAmong seen other → IsAmong clause other
-among-seen clause seen other all among = λ k d here. sym (all (get_or other k d)) ∙ among k d here
-
-pub seen-among : (clause seen other : List ℕ) → IsSeenOf clause seen → IsAmong clause other → IsAmong seen other
-seen-among clause seen other all among = λ k d here. all (get_or other k d) ∙ among k d here
 
 -- ---- one clause less
 

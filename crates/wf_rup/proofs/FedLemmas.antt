@@ -31,14 +31,8 @@ takes-more [] step old mid new same unrefuted taken =
 takes-more (s ∷ ss) step old mid new before unrefuted taken =
     (before.0, before.1, before.2, takes-more ss step before.1 mid new before.3 unrefuted taken)
 
-behind-none : (text : Text) → text ≡ behind [] text
-behind-none text = refl
-
 behind-behind : (a b : List Step) (text : Text) → behind a (behind b text) ≡ behind (a ++ b) text
 behind-behind a b text = ap (λ steps. record { steps = steps; end = text.end }) (sym (append_assoc a b text.steps))
-
-pub up-to_front : (state : State) (bytes : List ℕ) (known : Known) → known.is_refuted ≡ false → IsUpTo (text_of state bytes) state bytes known known
-up-to_front state bytes known unrefuted = record { done = []; same = behind-none (text_of state bytes); taken = refl; unrefuted = unrefuted }
 
 -- one byte more is left
 pub up-to_byte : (text : Text) (state : State) (bytes : List ℕ) (i : ℕ) (old new : Known) → i < length bytes

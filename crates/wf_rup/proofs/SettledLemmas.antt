@@ -3,13 +3,12 @@ use Rattle.std.proofs.Common.{◌≡◌, ℕ, ◌+◌, ◌<◌, ◌≤◌, zero,
 use Rattle.std.specs.List.{All, Contains, list_any}
 use Rattle.std.proofs.lemmas.Bool.{false≢true}
 use Rattle.std.proofs.lemmas.Grind.{common_steps, take_at_read}
-use Rattle.wf_rup.specs.Propagation.{Conflicts, IsForced, is_satisfied_by, opposite, with_literal}
+use Rattle.wf_rup.specs.Propagation.{is_satisfied_by, opposite, with_literal}
 use Rattle.wf_rup.specs.Settled.{IsFalseOn, Stands, StandsOneOf, Stops, StopsBefore}
 use Rattle.wf_rup.specs.declared.settled.Standing.{Standing}
 use Rattle.std.proofs.lemmas.List.Elements.{All-push}
 use Rattle.wf_rup.specs.declared.settled.Standing.TheVariants.{Settled, Forces, Fails}
 use Rattle.wf_rup.specs.Stored.{has}
-use Rattle.wf_rup.proofs.KeptLemmas.{satisfies_codes-in}
 use Rattle.wf_rup.proofs.TrailLemmas.{has-front, has-with, has-with_same}
 
 abbrev pub open_one : Bool → ℕ
@@ -70,12 +69,6 @@ count-less trail l (x ∷ cs) (suc k) c within e none here =
 pub fewer : (clauses : List (List ℕ)) (trail : List ℕ) (l : ℕ) → StandsOneOf clauses trail (Forces l)
     → open_count (with_literal trail l) clauses < open_count trail clauses
 fewer clauses trail l (c, here, one) = count-less trail l clauses here.0 c here.1 here.2 one.unsatisfied one.inside
-
-pub unit-forces : (clauses : List (List ℕ)) (trail : List ℕ) (l : ℕ) → StandsOneOf clauses trail (Forces l) → IsForced clauses trail l
-unit-forces clauses trail l (c, here, one) = λ a model all. one.alone a all (satisfies_codes-in a clauses c model here)
-
-pub fails-conflict : (clauses : List (List ℕ)) (trail : List ℕ) → StandsOneOf clauses trail Fails → Conflicts clauses trail
-fails-conflict clauses trail (c, here, all_false) = λ a model all. false≢true (sym (all_false a all) ∙ satisfies_codes-in a clauses c model here)
 
 -- what holds of the elements before a place, and of the one there, holds of those up to it
 pub All-one_more : (P : ℕ → Type 0) (xs : List ℕ) (i d : ℕ) → i < length xs → P (get_or xs i d) → All P (take i xs) → All P (take (i + 1) xs)

@@ -26,7 +26,7 @@ use Rattle.wf_memo.specs.Revising.{AreKnown}
 use Rattle.wf_box.proofs.Lemmas.{on_true, after_grown, closed_undone, grown_trail, known_none, still_closed}
 use Rattle.wf_search.specs.Outline.{IsClosedBox, IsJustClosed, as_written, gap_seen, gaps_filled, is_to_open}
 use Rattle.wf_search.proofs.SearchLemmas.{branches_are_boxes}
-use Rattle.wf_search.proofs.PendingLemmas.{if_there, last_state}
+use Rattle.wf_search.proofs.PendingLemmas.{last_state}
 
 -- ---- the boxes
 
@@ -71,14 +71,6 @@ to_open_seen gaps after =
     ∙ ap (λ b. nat_lt (length gaps) 64 && b) (any_gap gaps)
 
 -- ---- adding to an outline
-
-pub left_out_seen : (gaps : List Gap) (s : Gap) (none : List Line) → none ≡ [] → flat_map gap_seen (gaps ++ s ∷ []) ++ as_written none ≡ (flat_map gap_seen gaps ++ as_written s.before.items) ++ left_out s.boxed.sets ∷ []
-left_out_seen [] s none is = ap (λ ls. ((gap_seen s ++ []) ++ as_written ls)) is ∙ append-nil (gap_seen s ++ []) ∙ append-nil (gap_seen s)
-left_out_seen (x ∷ gaps) s none is =
-    append_assoc (gap_seen x) (flat_map gap_seen (gaps ++ s ∷ [])) (as_written none)
-    ∙ ap (λ items. gap_seen x ++ items) (left_out_seen gaps s none is)
-    ∙ sym (append_assoc (gap_seen x) (flat_map gap_seen gaps ++ as_written s.before.items) (left_out s.boxed.sets ∷ []))
-    ∙ ap (λ items. items ++ left_out s.boxed.sets ∷ []) (sym (append_assoc (gap_seen x) (flat_map gap_seen gaps) (as_written s.before.items)))
 
 -- ---- filling
 
@@ -205,14 +197,6 @@ pub record IsAtMark (p : Problem) (box : Box) (n : ℕ) (is_closed : Bool) (b : 
   pub long : length b.trail ≡ n
   pub closed : OnTrue is_closed (WasClosed p b n)
   pub is : IsFor p b
-
-pub at_mark : (p : Problem) (b : Tracked) (n : ℕ) (is_closed : Bool) → IsFor p b → n ≡ length b.trail → OnTrue is_closed (b.closed ≡ Some (length b.trail)) → IsAtMark p b.sets n is_closed b
-at_mark p b n is_closed is long closed = record {
-  sets = refl;
-  long = sym long;
-  closed = on_true is_closed (b.closed ≡ Some (length b.trail)) (WasClosed p b n) (λ now. subst (WasClosed p b) (sym long) (if_there (WasClosed p b) b.closed (length b.trail) now is.closed)) closed;
-  is = is;
-}
 
 -- what was closed then is known after further changes
 pub closed_still : (p : Problem) (box : Box) (n : ℕ) (is_closed : Bool) (b mid new : Tracked) → IsAtMark p box n is_closed b → Grows b mid → Grows mid new → OnTrue is_closed (WasClosed p new n)

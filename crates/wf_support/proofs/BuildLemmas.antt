@@ -1,37 +1,17 @@
 -- Blocks as they are built, row by row and value by value.
-use Rattle.std.proofs.Common.{◌≡◌, ℕ, ◌+◌, ◌*◌, ◌/◌, ◌%◌, ◌<◌, ◌≤◌, ◌==◌, List, [], get_or, set, length, take, replicate, Bool, true, false, ◌&&◌, refl, sym, ◌∙◌, ap, arith, ⊎_elim}
+use Rattle.std.proofs.Common.{◌≡◌, ℕ, ◌+◌, ◌*◌, ◌/◌, ◌%◌, ◌<◌, ◌≤◌, ◌==◌, List, [], get_or, length, take, replicate, Bool, true, false, ◌&&◌, refl, sym, ◌∙◌, ap, arith, ⊎_elim}
 use Rattle.std.specs.Prelude.{◌||◌}
 use Rattle.std.proofs.lemmas.Bool.{cases_eq, cases_lt, eq-eqb, ne_eqb}
-use Rattle.std.proofs.lemmas.List.{get_or-replicate, get_or-set_other, get_or-set_same, get_or-take, get_or_default, get_or_past, length-replicate, length-take}
+use Rattle.std.proofs.lemmas.List.{get_or-replicate, get_or-take, get_or_default, get_or_past, length-replicate, length-take}
 use Rattle.wf_model.specs.Lists.{has}
 use Rattle.wf_model.specs.Task.{Tuple}
 use Rattle.wf_model.specs.Box.{has_at}
 use Rattle.wf_set.specs.Parts.{part_values}
 use Rattle.wf_set.proofs.Lemmas.{values_of_nothing}
 use Rattle.wf_support.specs.Blocks.{IsBlock}
-use Rattle.wf_model.proofs.Tuples.{has_at_past, has_at_place}
-use Rattle.wf_model.proofs.Basics.{or_none, has_at-take}
+use Rattle.wf_model.proofs.Basics.{or_none}
 
 -- ---- the first values of a row
-
-value_new : (row : Tuple) (k v : ℕ) → k < length row → has_at (take (k + 1) row) k v ≡ (get_or row k 0 == v)
-value_new row k v lt = has_at-take row (k + 1) k v (omega arith) ∙ has_at_place row k v lt
-
--- another value, or another place
-value_same : (row : Tuple) (k place v : ℕ) → k < length row → (place ≡ k → v ≡ get_or row k 0 → ⊥) → has_at (take (k + 1) row) place v ≡ has_at (take k row) place v
-value_same row k place v lt other =
-    ⊎_elim
-    (λ (low : place < k). has_at-take row (k + 1) place v (omega (arith, low)) ∙ sym (has_at-take row k place v low))
-    (λ (high : k ≤ place).
-    ⊎_elim
-    (λ (e : place ≡ k).
-    ap (λ p. has_at (take (k + 1) row) p v) e ∙ value_new row k v lt ∙ ne_eqb (get_or row k 0) v (λ is. other e (sym is))
-    ∙ sym (has_at_past (take k row) place v (omega (arith, length-take k row, high))))
-    (λ (ne : place ≡ k → ⊥).
-    has_at_past (take (k + 1) row) place v (omega (arith, length-take (k + 1) row, high, ne))
-    ∙ sym (has_at_past (take k row) place v (omega (arith, length-take k row, high))))
-    (cases_eq place k))
-    (cases_lt place k)
 
 -- ---- a row is added
 
@@ -52,29 +32,6 @@ once_more true c d = refl
 once_more false true true = refl
 once_more false true false = refl
 once_more false false d = refl
-
-pub value_added : (row : Tuple) (number : ℕ) (old now : List ℕ) (k x word : ℕ) → k < length row → k < 4 → x ≡ get_or row k 0 → 4 * x + k < length now
-    → ((r : ℕ) → has (part_values word) r ≡ (has (part_values (get_or now (4 * x + k) 0)) r || (number == r)))
-    → AreAdded row number old now k → AreAdded row number old (set now (4 * x + k) word) (k + 1)
-value_added row number old now k x word lt small is within joined before i r =
-    ⊎_elim
-    (λ (e : i ≡ 4 * x + k).
-    let place : i % 4 ≡ k = omega (arith, e, small) in
-    let value : i / 4 ≡ x = omega (arith, e, small) in
-    let new : has_at (take (k + 1) row) (i % 4) (i / 4) ≡ true = ap (λ p. has_at (take (k + 1) row) p (i / 4)) place ∙ value_new row k (i / 4) lt ∙ eq-eqb (get_or row k 0) (i / 4) (sym is ∙ sym value) in
-    ap (λ j. has (part_values (get_or (set now (4 * x + k) word) j 0)) r) e
-    ∙ ap (λ w. has (part_values w) r) (get_or-set_same now (4 * x + k) word 0 within)
-    ∙ joined r
-    ∙ ap (λ j. has (part_values (get_or now j 0)) r || (number == r)) (sym e)
-    ∙ ap (λ b. b || (number == r)) (before i r)
-    ∙ once_more (has (part_values (get_or old i 0)) r) (number == r) (has_at (take k row) (i % 4) (i / 4))
-    ∙ ap (λ b. has (part_values (get_or old i 0)) r || (number == r && b)) (sym new))
-    (λ (ne : i ≡ 4 * x + k → ⊥).
-    ap (λ w. has (part_values w) r) (get_or-set_other now (4 * x + k) i word 0 ne)
-    ∙ before i r
-    ∙ ap (λ b. has (part_values (get_or old i 0)) r || (number == r && b))
-    (sym (value_same row k (i % 4) (i / 4) lt (λ place value. ne (omega (arith, place, value, is))))))
-    (cases_eq i (4 * x + k))
 
 -- ---- a block is built
 
