@@ -36,11 +36,6 @@ abbrev pub EachPair : {X : Type 0} → (X → X → Type 0) → List X → Type 
 EachPair R [] = Unit {0}
 EachPair R (x ∷ xs) = AllByRecursion (R x) xs × EachPair R xs
 
-pub one_of_weaker : {X : Type 0} (P Q : X → Type 0) (xs : List X) → AllByRecursion (λ x. P x → Q x) xs → OneOf P xs → OneOf Q xs
-one_of_weaker P Q [] f h = absurd h
-one_of_weaker P Q (x ∷ xs) f (inl here) = inl (f.0 here)
-one_of_weaker P Q (x ∷ xs) f (inr later) = inr (one_of_weaker P Q xs f.1 later)
-
 -- what holds of each holds of the one
 pub one_with : {X : Type 0} (P Q : X → Type 0) (G : Type 0) (xs : List X) → AllByRecursion Q xs → OneOf P xs → ((x : X) → P x → Q x → G) → G
 one_with P Q G [] all h f = absurd h

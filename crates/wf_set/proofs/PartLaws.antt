@@ -126,29 +126,11 @@ unfolding part_values
 values-filter word other p same =
     run_agrees (part_holds other) (λ v. part_holds word v && p v) 0 64 (λ v low high. same v (omega arith)) ∙ sym (by_two p (part_holds word) (below 64))
 
--- the values of two words in common
-pub values-and : (x y : ℕ) → part_values (bit_and x y) ≡ filter (part_holds y) (part_values x)
-values-and x y = values-filter x (bit_and x y) (part_holds y) (λ v small. part_holds-and x y v)
-
--- what one word has and the other lacks
-pub values-and_not : (x y : ℕ) → y < 2 ^ 64 → part_values (bit_and x (bit_not w64 y)) ≡ filter (λ v. not (part_holds y v)) (part_values x)
-values-and_not x y fits =
-    values-filter x (bit_and x (bit_not w64 y)) (λ v. not (part_holds y v)) (λ v small. part_holds-and x (bit_not w64 y) v ∙ ap (λ b. part_holds x v && b) (part_holds-not y v fits small))
-
 pub values_of_nothing : part_values 0 ≡ []
 unfolding part_values
 values_of_nothing = run_agrees (part_holds 0) (λ v. false) 0 64 (λ v low high. holds_nothing v) ∙ run_of_none 0 64
 
 -- ---- words by their values
-
--- two words with the same values are equal
-pub same_from_values : (x y : ℕ) → x < 2 ^ 64 → y < 2 ^ 64 → part_values x ≡ part_values y → x ≡ y
-same_from_values x y fits_x fits_y same =
-    same_from_bits_below 64 x y fits_x fits_y
-    (λ v small. one_bit (bit_at x v) (bit_at y v) (bit_at-lt x v) (bit_at-lt y v) (sym (has-part_values x v small) ∙ ap (λ vs. has vs v) same ∙ has-part_values y v small))
-
-pub nothing_from_values : (word : ℕ) → word < 2 ^ 64 → part_values word ≡ [] → word ≡ 0
-nothing_from_values word fits none_in = same_from_values word 0 fits (pow_pos 64) (none_in ∙ sym values_of_nothing)
 
 -- ---- order and range
 
