@@ -9,6 +9,7 @@ use Rattle.std.specs.Str.{bytes_eq}
 use Rattle.std.proofs.lemmas.Bool.{false≢true}
 use Rattle.std.proofs.lemmas.Slice.Eq.{bytes_eq-Decides}
 use Rattle.json.specs.Token.{Token}
+use Rattle.smallvec.specs.SmallVec.{SmallVec}
 use Rattle.serde_json.specs.Data.{Data, null, boolean, number, string, array, object, Members, no_members, member, put}
 use Rattle.serde_json.specs.Events.{members_len}
 use Rattle.serde_json.specs.Find.{get_member, as_bool}
@@ -99,7 +100,7 @@ entry-input s field old new key is t depth enough =
       }),
     )
 
-pub entry-tuples : (s : EntryFields) (field : Option (Vec (Vec ℕ Global) Global)) (old new : List Token) (key : List ℕ) → key ≡ codes "out" → Fills tuples_of (λ v. map (λ t. t.items) v.items) 2 s.tuples old field new
+pub entry-tuples : (s : EntryFields) (field : Option (Vec (SmallVec ℕ) Global)) (old new : List Token) (key : List ℕ) → key ≡ codes "out" → Fills tuples_of (λ v. map (λ t. t.items) v.items) 2 s.tuples old field new
     → Adds HoldEntry 2 key s old (record { input = s.input; tuples = field }) new
 entry-tuples s field old new key is t depth enough =
     let k = codes "out" in
@@ -114,7 +115,7 @@ entry-tuples s field old new key is t depth enough =
     )
 
 -- numbers are seen as they are
-pub tuples_seen : (before after : Option (Vec (Vec ℕ Global) Global)) (old new : List Token) → Fills tuples_of (λ v. map (λ t. map (λ n. n) t.items) v.items) 2 before old after new
+pub tuples_seen : (before after : Option (Vec (SmallVec ℕ) Global)) (old new : List Token) → Fills tuples_of (λ v. map (λ t. map (λ n. n) t.items) v.items) 2 before old after new
     → Fills tuples_of (λ v. map (λ t. t.items) v.items) 2 before old after new
 tuples_seen before None old new t = absurd t.1
 tuples_seen before (Some v) old new t = (t.0, subst (λ xs. Takes tuples_of 2 old xs new) (numbers_seen v.items) t.1)

@@ -1,5 +1,6 @@
 -- Going over a list of JSON values from the left.
-use Rattle.std.proofs.Common.{◌≡◌, ℕ, ◌+◌, ◌<◌, List, [], ◌∷◌, ◌++◌, length, None, Some, Vec, map, option_and_then, codes, Result, Ok, Err, arith, refl, ap, String, Global}
+use Rattle.std.proofs.Common.{◌≡◌, ℕ, ◌+◌, ◌<◌, List, [], ◌∷◌, ◌++◌, length, None, Some, map, option_and_then, codes, Result, Ok, Err, arith, refl, ap, String, Global}
+use Rattle.smallvec.specs.SmallVec.{SmallVec}
 use Rattle.serde_json.specs.View.{items_view, members_view}
 use Rattle.serde_json.specs.Events.{members_len}
 use Rattle.serde_json.proofs.Views.{members_len-members_view}
@@ -34,7 +35,7 @@ same_numbers [] = refl
 same_numbers (x ∷ xs) = ap (λ ys. x ∷ ys) (same_numbers xs)
 
 -- numbers are seen as they are
-pub numbers_seen : (ts : List (Vec ℕ Global)) → map (λ t. map (λ n. n) t.items) ts ≡ map (λ t. t.items) ts
+pub numbers_seen : (ts : List (SmallVec ℕ)) → map (λ t. map (λ n. n) t.items) ts ≡ map (λ t. t.items) ts
 numbers_seen [] = refl
 numbers_seen (t ∷ ts) = λ i. same_numbers t.items i ∷ numbers_seen ts i
 

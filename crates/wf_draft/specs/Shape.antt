@@ -1,5 +1,5 @@
 -- Which JSON values stand for numbers, pairs, simplices and entries.
-use Rattle.std.specs.Prelude.{ℕ, suc, ◌==◌, List, [], ◌∷◌, map, Option, None, Some, option_map, option_and_then, Result, Ok, Err, Vec, codes, if◌then◌else◌}
+use Rattle.std.specs.Prelude.{ℕ, suc, ◌==◌, List, [], ◌∷◌, Option, None, Some, option_map, option_and_then, Result, Ok, Err, codes, if◌then◌else◌}
 use Rattle.std.specs.Result.{result_ok}
 use Rattle.serde_json.specs.Data.{Data, Items, no_items, item}
 use Rattle.serde_json.specs.Find.{get, as_number, as_u64, as_array, as_object}
@@ -61,6 +61,6 @@ entry_of d =
     option_and_then (λ ms. option_and_then (λ s. option_and_then (λ ts. if members_len ms == 2 then Some (rule_of s ts) else None)
     (option_and_then tuples_of (get (codes "out") d))) (option_and_then simplex_of (get (codes "in") d))) (as_object d)
 
-abbrev pub list_seen : {T S A : Type 0} → (T → S) → Result (Vec T A) ℕ → Result (List S) ℕ
-list_seen seen (Ok v) = Ok (map seen v.items)
+abbrev pub list_seen : {L S : Type 0} → (L → List S) → Result L ℕ → Result (List S) ℕ
+list_seen seen (Ok found) = Ok (seen found)
 list_seen seen (Err i) = Err i

@@ -2,13 +2,15 @@
 //!
 //! - [`draft_in`]: the draft that a text lists, or the first of its faults: no JSON, or a key that
 //!   is missing or has a value of the wrong shape.
-//! - [`Draft`], with its [`ListedSimplex`]es and the [`Entry`]s of `delta`.
+//! - [`Draft`], with its [`ListedSimplex`]es and the [`Entry`]s of `delta`, which have
+//!   [`ValueList`]s.
 //! - [`TaskFault`]: why a text is no task, with the [`Key`] or the [`Limit`] that it is about.
 //! - [`FIRST_VERSION`] and [`SECOND_VERSION`]: the versions that texts may have.
 #![tactic(auto)]
 
 pub mod draft;
 pub mod fault;
+mod growing;
 mod members;
 mod plain;
 pub mod shape;
@@ -16,5 +18,5 @@ pub mod text;
 
 pub use draft::{Draft, FIRST_VERSION, SECOND_VERSION};
 pub use fault::{Key, Limit, TaskFault};
-pub use shape::{Entry, ListedSimplex};
+pub use shape::{Entry, ListedSimplex, ValueList};
 pub use text::draft_in;

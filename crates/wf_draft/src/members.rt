@@ -9,7 +9,7 @@ ghost use Rattle.wf_draft.specs.Plain.{Takes, Adds, Fills, TakesMembers};
 
 use crate::draft::{Draft, SECOND_VERSION};
 use crate::plain::Plain;
-use crate::shape::{Entry, ListedSimplex};
+use crate::shape::{Entry, ListedSimplex, ValueList};
 use json::{Reader, Token};
 use std::alloc::{AllocError, Global};
 
@@ -78,7 +78,7 @@ fn members<S: Fields>(
 #[derive(Drop)]
 pub(crate) struct EntryFields {
     input: Option<ListedSimplex>,
-    tuples: Option<Vec<Vec<u64>>>,
+    tuples: Option<Vec<ValueList>>,
 }
 
 impl Fields for EntryFields {

@@ -7,11 +7,15 @@ ghost use Rattle.std.specs.Prelude.{◌≡◌, ℕ, suc, ◌+◌, ◌<◌, [], �
 ghost use Rattle.serde_json.specs.Data.{unsigned};
 ghost use Rattle.serde_json.specs.Read.{number_of};
 ghost use Rattle.wf_draft.specs.Plain.{Takes, TakesItems};
+ghost use Rattle.wf_draft.specs.Shape.{list_of};
 
+use crate::growing::{Growing, INLINE};
 use crate::shape::{ListedSimplex, Shape};
 use fast_float::Numeral;
 use json::{Reader, Token};
+use smallvec::SmallVec;
 use std::alloc::{AllocError, Global};
+use std::default::MadeWith;
 
 /// A type whose values are read from tokens.
 pub(crate) trait Plain: Shape {
@@ -94,27 +98,51 @@ impl<T: Plain + Drop> Plain for Vec<T> {
     ghost deep = { suc T.deep };
 
     fn plain(alloc: Global, reader: &mut Reader<'_>) -> Result<Option<Vec<T>>, AllocError> {
-        match reader.next() {
-            Some(Token::BeginArray) => items(alloc, reader),
-            _ => Ok(None),
-        }
+        whole_list(alloc, reader)
+    }
+}
+
+impl<T: Plain + MadeWith<Global> + Drop> Plain for SmallVec<T, INLINE> {
+    ghost deep = { suc T.deep };
+
+    fn plain(
+        alloc: Global,
+        reader: &mut Reader<'_>,
+    ) -> Result<Option<SmallVec<T, INLINE>>, AllocError> {
+        whole_list(alloc, reader)
+    }
+}
+
+/// A list whose items are surely of this shape.
+fn whole_list<T: Plain + Drop, L: Growing<T> + Drop>(
+    alloc: Global,
+    reader: &mut Reader<'_>,
+) -> Result<Option<L>, AllocError>
+    ensures { IfOk result (λ found. IfSome found
+        (λ l. Takes (list_of T.reading) (suc T.deep) reader.old
+        (map T.seen (L.listed l)) reader.new)) }
+{
+    match reader.next() {
+        Some(Token::BeginArray) => items(alloc, reader),
+        _ => Ok(None),
     }
 }
 
 /// The items of a list up to its closing bracket, where each is surely of this shape.
-fn items<T: Plain + Drop>(
+fn items<T: Plain + Drop, L: Growing<T> + Drop>(
     alloc: Global,
     reader: &mut Reader<'_>,
-) -> Result<Option<Vec<T>>, AllocError>
+) -> Result<Option<L>, AllocError>
     ensures { IfOk result (λ found. IfSome found
-        (λ v. TakesItems T.reading T.deep reader.old (map T.seen v.items) reader.new)) }
+        (λ l. TakesItems T.reading T.deep reader.old
+        (map T.seen (L.listed l)) reader.new)) }
 {
-    let mut found = Vec::new(alloc);
+    let mut found = L::empty(alloc);
     'items: while !reader.take_end_array() {
         let Some(item) = T::plain(alloc, reader)? else {
             return Ok(None);
         };
-        found.push(item)?;
+        found.put(item)?;
     }
     Ok(Some(found))
 }
@@ -123,7 +151,7 @@ impl Plain for ListedSimplex {
     ghost deep = { 2 };
 
     fn plain(alloc: Global, reader: &mut Reader<'_>) -> Result<Option<ListedSimplex>, AllocError> {
-        match Vec::plain(alloc, reader)? {
+        match SmallVec::plain(alloc, reader)? {
             Some(pairs) if !pairs.is_empty() => Ok(Some(ListedSimplex { pairs })),
             _ => Ok(None),
         }

@@ -1,14 +1,18 @@
 //! From a JSON value to a draft, or to what of it has the wrong shape.
 
-ghost use Rattle.std.specs.Prelude.{◌≡◌, ℕ, Bool, List, map, vec_len, ◌<◌, Option, option_map, option_and_then, IfOk};
+ghost use Rattle.std.specs.Prelude.{◌≡◌, ℕ, Bool, List, map, ◌<◌, Option, option_map, option_and_then, IfOk};
 ghost use Rattle.serde_json.specs.Data.{Data};
 ghost use Rattle.serde_json.specs.Find.{as_bool};
 ghost use Rattle.serde_json.specs.View.{view, items_view};
+ghost use Rattle.smallvec.specs.SmallVec.{small_vec_len};
 ghost use Rattle.wf_model.specs.Task.{Rule};
 ghost use Rattle.wf_draft.specs.Shape.{whole_of, pair_of, list_of, simplex_of, entry_of, rule_of, each, list_seen};
 
+use crate::growing::{Growing, INLINE};
 use serde_json::Value;
+use smallvec::SmallVec;
 use std::alloc::{AllocError, Global};
+use std::default::MadeWith;
 
 /// How many keys an entry has.
 const ENTRY_KEYS: usize = 2;
@@ -82,37 +86,64 @@ impl<T: Shape + Drop> Shape for Vec<T> {
     ghost reading = { list_of T.reading };
 
     fn shape(alloc: Global, value: &Value) -> Result<Option<Vec<T>>, AllocError> {
-        match value.as_array() {
-            Some(items) => Ok(list(alloc, items)?.ok()),
-            None => Ok(None),
-        }
+        whole_list(alloc, value)
+    }
+}
+
+impl<T: Shape + MadeWith<Global> + Drop> Shape for SmallVec<T, INLINE> {
+    ghost Seen = { List T.Seen };
+
+    ghost seen = { λ v. map T.seen v.items };
+
+    ghost reading = { list_of T.reading };
+
+    fn shape(alloc: Global, value: &Value) -> Result<Option<SmallVec<T, INLINE>>, AllocError> {
+        whole_list(alloc, value)
+    }
+}
+
+/// The values of a list that all have the shape.
+fn whole_list<T: Shape + Drop, L: Growing<T> + Drop>(
+    alloc: Global,
+    value: &Value,
+) -> Result<Option<L>, AllocError>
+    ensures { IfOk result (λ found. option_map (λ l. map T.seen (L.listed l)) found
+        ≡ list_of T.reading (view value.now)) }
+{
+    match value.as_array() {
+        Some(items) => Ok(list(alloc, items)?.ok()),
+        None => Ok(None),
     }
 }
 
 /// The values of a list, or the place of the first that has another shape.
-pub(crate) fn list<T: Shape + Drop>(
+pub(crate) fn list<T: Shape + Drop, L: Growing<T> + Drop>(
     alloc: Global,
     values: &[Value],
-) -> Result<Result<Vec<T>, usize>, AllocError>
+) -> Result<Result<L, usize>, AllocError>
     ensures { IfOk result
-        (λ found. list_seen T.seen found ≡ each T.reading (items_view values.now)) }
+        (λ found. list_seen (λ l. map T.seen (L.listed l)) found
+        ≡ each T.reading (items_view values.now)) }
 {
-    let mut found = Vec::new(alloc);
-    for value in values {
+    let mut found = L::empty(alloc);
+    for (place, value) in values.iter().enumerate() {
         match T::shape(alloc, value)? {
-            Some(x) => found.push(x)?,
-            None => return Ok(Err(found.len())),
+            Some(x) => found.put(x)?,
+            None => return Ok(Err(place)),
         }
     }
     Ok(Ok(found))
 }
 
+/// The values of a value list, in the order of the text. Those of a tuple lie in the list itself.
+pub type ValueList = SmallVec<u64, INLINE>;
+
 /// A non-empty list of pairs of a process and its value.
 #[derive(Drop)]
 pub struct ListedSimplex {
-    /// The pairs, in the order of the text.
-    pub pairs: Vec<(u64, u64)>,
-    ghost some: { 0 < vec_len pairs },
+    /// The pairs, in the order of the text. Those of a simplex lie in the list itself.
+    pub pairs: SmallVec<(u64, u64), INLINE>,
+    ghost some: { 0 < small_vec_len pairs },
 }
 
 impl Shape for ListedSimplex {
@@ -123,7 +154,7 @@ impl Shape for ListedSimplex {
     ghost reading = { simplex_of };
 
     fn shape(alloc: Global, value: &Value) -> Result<Option<ListedSimplex>, AllocError> {
-        match Vec::shape(alloc, value)? {
+        match SmallVec::shape(alloc, value)? {
             Some(pairs) if !pairs.is_empty() => Ok(Some(ListedSimplex { pairs })),
             _ => Ok(None),
         }
@@ -136,7 +167,7 @@ pub struct Entry {
     /// Under `in`.
     pub input: ListedSimplex,
     /// The value lists under `out`.
-    pub tuples: Vec<Vec<u64>>,
+    pub tuples: Vec<ValueList>,
 }
 
 impl Shape for Entry {

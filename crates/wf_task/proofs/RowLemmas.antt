@@ -1,5 +1,5 @@
 -- Rows in order, and values as bits.
-use Rattle.std.proofs.Common.{◌≡◌, ℕ, zero, suc, ◌+◌, ◌<◌, ◌≤◌, ◌==◌, ◌||◌, Bool, true, false, List, [], ◌∷◌, ◌++◌, length, map, take, get_or, Some, Vec, Global, slice_index_or, take_all, nat_eq, inl, inr, refl, sym, ap, ◌∙◌, subst, arith, eqb-true, eq-eqb}
+use Rattle.std.proofs.Common.{◌≡◌, ℕ, zero, suc, ◌+◌, ◌<◌, ◌≤◌, ◌==◌, ◌||◌, Bool, true, false, List, [], ◌∷◌, ◌++◌, length, map, take, get_or, Some, slice_index_or, take_all, nat_eq, inl, inr, refl, sym, ap, ◌∙◌, subst, arith, eqb-true, eq-eqb}
 use Rattle.std.specs.declared.cmp.Ordering.TheVariants.{Equal}
 use Rattle.std.specs.Ordering.{nat_cmp}
 use Rattle.std.specs.Cmp.Lexicographic.{slice_cmp, pointwise, nat_list_cmp_total, texts_ties}
@@ -10,6 +10,7 @@ use Rattle.std.specs.List.{AllByRecursion}
 use Rattle.std.proofs.lemmas.Bool.{cases_Bool, and_parts}
 use Rattle.std.proofs.lemmas.List.{take_more, map-append, length-map}
 use Rattle.std.proofs.lemmas.List.Folds.{list_any-append}
+use Rattle.smallvec.specs.SmallVec.{SmallVec}
 use Rattle.wf_model.specs.Lists.{has, in_order}
 use Rattle.wf_model.specs.Simplex.{Simplex, processes_of, values_of, is_nonempty, is_ascending}
 use Rattle.wf_model.specs.Task.{Tuple, IsSimplexWithin}
@@ -27,13 +28,13 @@ pub tuple_cmp-Equal : (s t : Tuple) → slice_cmp nat_cmp s t ≡ Equal → s �
 tuple_cmp-Equal = slice_cmp-Equal nat_cmp nat_cmp-Equal
 
 -- one more list
-pub row_more : (rows new : List Tuple) (lists : List (Vec ℕ Global)) (i : ℕ) (list : Vec ℕ Global) (row : Tuple) → i < length lists → list ≡ slice_index_or lists i list → row ≡ list.items
+pub row_more : (rows new : List Tuple) (lists : List (SmallVec ℕ)) (i : ℕ) (list : SmallVec ℕ) (row : Tuple) → i < length lists → list ≡ slice_index_or lists i list → row ≡ list.items
     → rows ≡ map (λ t. t.items) (take i lists) → new ≡ rows ++ (row ∷ []) → new ≡ map (λ t. t.items) (take (i + 1) lists)
 row_more rows new lists i list row inside is same so_far next =
     let longer = ap (map (λ t. t.items)) (take_more lists i list inside ∙ ap (λ l. take i lists ++ (l ∷ [])) (sym is)) ∙ map-append (λ t. t.items) (take i lists) (list ∷ []) in
     next ∙ (λ j. so_far j ++ (same j ∷ [])) ∙ sym longer
 
-pub rows_sorted : (lists : List (Vec ℕ Global)) (i : ℕ) (rows sorted once : List Tuple) → length lists ≤ i → rows ≡ map (λ t. t.items) (take i lists)
+pub rows_sorted : (lists : List (SmallVec ℕ)) (i : ℕ) (rows sorted once : List Tuple) → length lists ≤ i → rows ≡ map (λ t. t.items) (take i lists)
     → IsPermutation rows sorted → IsSorted (slice_cmp nat_cmp) sorted → IsFiltered (DiffersFromLast (pointwise nat_eq)) [] sorted once
     → once ≡ in_order (slice_cmp nat_cmp) (map (λ t. t.items) lists)
 rows_sorted lists i rows sorted once whole are moved ascend filtered =

@@ -7,7 +7,7 @@ ghost use Rattle.wf_draft.specs.Draft.{Gives};
 ghost use Rattle.wf_draft.specs.DraftSeen.{draft_seen, entry_seen};
 ghost use Rattle.wf_task.specs.Judge.{is_large, has_large, rule_has_large, is_first_block, names_processes, rule_names_processes, first_block_judged, numbers_judged};
 
-use wf_draft::{Draft, Entry, FIRST_VERSION, ListedSimplex, SECOND_VERSION, TaskFault};
+use wf_draft::{Draft, Entry, FIRST_VERSION, ListedSimplex, SECOND_VERSION, TaskFault, ValueList};
 
 /// The largest value where all words are allowed, and where some are not.
 const LARGEST: u64 = 63;
@@ -56,7 +56,7 @@ fn tuple_has_large(largest: u64, tuple: &[u64]) -> bool
 }
 
 /// Whether some value of some value list is too large.
-fn any_tuple_has_large(largest: u64, tuples: &[Vec<u64>]) -> bool
+fn any_tuple_has_large(largest: u64, tuples: &[ValueList]) -> bool
     ensures { result ≡ list_any (list_any (is_large largest)) (map (λ t. t.items) tuples.now) }
 {
     for tuple in tuples {

@@ -13,7 +13,7 @@ use crate::row::Row;
 use crate::slots::Slot;
 use crate::tuples::lists_at;
 use std::alloc::{AllocError, Global};
-use wf_draft::Entry;
+use wf_draft::{Entry, ValueList};
 use wf_set::{Mask, nothing, with};
 use wf_simplex::Simplex;
 
@@ -30,7 +30,7 @@ fn row_of(values: &[u64]) -> Row
 }
 
 /// The rows of value lists: ascending, each once. It takes n log n steps, and five bytes a list.
-fn rows(alloc: Global, lists: &[Vec<u64>]) -> Result<Vec<Row>, AllocError>
+fn rows(alloc: Global, lists: &[ValueList]) -> Result<Vec<Row>, AllocError>
     requires { All IsRow (map (λ t. t.items) lists.now) }
     ensures { IfOk result (λ rows. rows.items
         ≡ in_order (slice_cmp nat_cmp) (map (λ t. t.items) lists.now)) }

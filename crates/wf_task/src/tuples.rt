@@ -11,11 +11,11 @@ ghost use Rattle.wf_task.specs.Slots.{AreOnly, IsOnceBelow, lists_at};
 ghost use Rattle.wf_task.specs.Tuples.{IsTupleOf, AreTuples};
 
 use crate::slots::Slot;
-use wf_draft::{Draft, Entry, TaskFault};
+use wf_draft::{Draft, Entry, TaskFault, ValueList};
 use wf_simplex::{Complex, Simplex};
 
 /// The value lists of the entry that the slot names.
-pub(crate) fn lists_at(delta: &[Entry], slot: Slot) -> &[Vec<u64>]
+pub(crate) fn lists_at(delta: &[Entry], slot: Slot) -> &[ValueList]
     requires { IsOnceBelow (length delta.now) slot }
     ensures { map (λ t. t.items) result.now ≡ lists_at slot (map entry_seen delta.now) }
 {
@@ -26,7 +26,7 @@ pub(crate) fn lists_at(delta: &[Entry], slot: Slot) -> &[Vec<u64>]
 }
 
 /// The place of the first value list that has not as many values.
-fn wrong_length(lists: &[Vec<u64>], size: usize) -> Option<usize>
+fn wrong_length(lists: &[ValueList], size: usize) -> Option<usize>
     ensures { result
         ≡ position_from (λ tuple. not (length tuple == size)) 0 (map (λ t. t.items) lists.now) }
 {
@@ -54,7 +54,7 @@ fn on_processes(simplex: &Simplex, values: &[u64]) -> Simplex
 
 /// The place of the first value list that is no output simplex on the
 /// processes of the input simplex.
-fn no_output(outputs: &Complex, simplex: &Simplex, lists: &[Vec<u64>]) -> Option<usize>
+fn no_output(outputs: &Complex, simplex: &Simplex, lists: &[ValueList]) -> Option<usize>
     requires { All (IsTupleOf (length simplex.now)) (map (λ t. t.items) lists.now) }
     ensures { result ≡ position_from (λ tuple. not (is_image_in outputs.now simplex.now tuple)) 0
         (map (λ t. t.items) lists.now) }

@@ -18,18 +18,18 @@ items-preserved g c xs new rest =
     let deep = g.T.Plain.deep in
     let seen = g.T.Shape.seen in
     let x = seen c.in-Some.item in
-    let found = c.items.found.items in
+    let found = g.L.Growing.listed c.items.found in
     let going : (after_end_array c.items.reader ≡ None) × (c.take_end_array.new.self ≡ c.items.reader) = grind arith in
     let one = subst (λ o. IfSome o (λ y. Takes f deep c.take_end_array.new.self (seen y) c.plain.new.reader)) c.in-Some.is c.in_ok-item.ensures in
     let here = subst (λ ts. Takes f deep ts x c.plain.new.reader) going.1 one in
     let before = c.items.invariant (x ∷ xs) new (items-more f deep c.items.reader x c.plain.new.reader xs new here going.0 rest) in
-    subst (λ ys. TakesItems f deep c.args.reader.now ys new) (push-seen seen found c.in-Some.item c.push.new.self.items xs c.in_ok-push.ensures.items) before
+    subst (λ ys. TakesItems f deep c.args.reader.now ys new) (push-seen seen found c.in-Some.item (g.L.Growing.listed c.put.new.self) xs c.in_ok-put.ensures) before
 
 pub returns : goal.returns
 returns g c =
     let f = g.T.Shape.reading in
     let deep = g.T.Plain.deep in
     let new = c.take_end_array.new.self in
-    let found = map g.T.Shape.seen c.items.found.items in
+    let found = map g.T.Shape.seen (g.L.Growing.listed c.items.found) in
     let end : after_end_array c.items.reader ≡ Some new = grind arith in
     subst (λ ys. TakesItems f deep c.args.reader.now ys new) (append-nil found) (c.items.invariant [] new (items-over f deep c.items.reader new end))

@@ -4,6 +4,6 @@ use Rattle.wf_draft.specs.Shape.{each}
 use Rattle.wf_draft.proofs.Lists.{after_front}
 use Rattle.wf_draft.proofs.shape.list.Given as goal
 
-abbrev pub invariant-loop-value : goal.invariant-loop-value
-invariant-loop-value g l = (length l.found.items ≡ l.value-index)
-    × (after_front (map g.T.Shape.seen l.found.items) (each g.T.Shape.reading (items_view (drop l.value-index l.values))) ≡ each g.T.Shape.reading (items_view l.values))
+abbrev pub invariant-loop-place : goal.invariant-loop-place
+invariant-loop-place g l = (length (g.L.Growing.listed l.found) ≡ l.place)
+    × (after_front (map g.T.Shape.seen (g.L.Growing.listed l.found)) (each g.T.Shape.reading (items_view (drop l.place l.values))) ≡ each g.T.Shape.reading (items_view l.values))

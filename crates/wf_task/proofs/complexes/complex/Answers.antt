@@ -5,4 +5,4 @@ use Rattle.wf_task.proofs.complexes.complex.Goals as goal
 
 pub of_pairs-requires : goal.of_pairs-requires
 of_pairs-requires c =
-    subst (IsSimplexWithin 4 255) (sym c.deref.ensures.value) (seen_within c.args.listed.now c.loop-simplex.simplex-index c.simplex-item.result c.loop-simplex-test.true c.simplex-item.is c.requires.within)
+    subst (IsSimplexWithin 4 255) (sym c.deref.ensures) (seen_within c.args.listed.now c.loop-simplex.simplex-index c.simplex-item.result c.loop-simplex-test.true c.simplex-item.is c.requires.within)

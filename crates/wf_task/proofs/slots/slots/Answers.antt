@@ -8,7 +8,7 @@ use Rattle.wf_task.proofs.slots.slots.Goals.{in-Some, in-None}
 
 pub of_pairs-requires : goal.of_pairs-requires
 of_pairs-requires c =
-    subst (IsSimplexWithin 4 255) (sym c.deref.ensures.value) (entry_within c.args.delta.now c.loop-place.place c.index-delta-place.result c.loop-place-test.true c.index-delta-place.is c.requires)
+    subst (IsSimplexWithin 4 255) (sym c.deref.ensures) (entry_within c.args.delta.now c.loop-place.place c.index-delta-place.result c.loop-place-test.true c.index-delta-place.is c.requires)
 
 pub index-requires-in-Some : goal.index-requires-in-Some
 index-requires-in-Some c =
@@ -24,8 +24,8 @@ pub loop-place-preserved : goal.loop-place-preserved
 loop-place-preserved c = elim c.match-index.branch [
   | in-Some w ↦ found_step c.loop-place.slots.items c.match-index.slots.items c.args.delta.now c.loop-place.place c.index-delta-place.result c.args.inputs.now w.in-Some.home c.of_pairs.result
       w.index-in-Some.result.now w.with.result c.simplices.ensures.complex.ascending c.loop-place-test.true c.index-delta-place.is c.loop-place.invariant
-      w.in-Some.ensures.place (c.of_pairs.ensures ∙ c.deref.ensures.value) w.index-in-Some.ensures w.with.ensures (ap vec_items w.slots-is)
+      w.in-Some.ensures.place (c.of_pairs.ensures ∙ c.deref.ensures) w.index-in-Some.ensures w.with.ensures (ap vec_items w.slots-is)
   | in-None w ↦ stray_step c.loop-place.slots.items c.match-index.slots.items c.args.delta.now c.loop-place.place c.index-delta-place.result c.args.inputs.now
       c.loop-place-test.true c.index-delta-place.is c.loop-place.invariant
-      (λ here. w.in-None.ensures.absent refl (subst (Contains c.args.inputs.now) (sym (c.of_pairs.ensures ∙ c.deref.ensures.value)) here)) (ap vec_items w.slots-is)
+      (λ here. w.in-None.ensures.absent refl (subst (Contains c.args.inputs.now) (sym (c.of_pairs.ensures ∙ c.deref.ensures)) here)) (ap vec_items w.slots-is)
 ]
