@@ -5,7 +5,7 @@ ghost use Rattle.wf_model.specs.Limits.{most_facets};
 ghost use Rattle.wf_model.specs.Simplex.{complex_of};
 ghost use Rattle.wf_simplex.specs.Faces.{IsComplex};
 
-use crate::recent::{RECENT, add_each};
+use crate::recent::{Recent, add_each};
 use crate::simplex::Simplex;
 use std::alloc::{AllocError, Global};
 use std::marker::Model;
@@ -32,15 +32,15 @@ impl Model for Complex {
 impl Complex {
     /// The faces of these simplices. It takes n log n steps, and memory for eight bytes a face of
     /// each facet, at most 15 of them a facet, in a vector that grows by doubling. A face of two
-    /// facets is kept twice until all are sorted, but not where it was kept lately. What is left
-    /// over is then given back.
+    /// facets is kept twice until all are sorted, but not where it was kept lately, which a table
+    /// of 16 bytes a facet knows, of 64 KiB at most. What is left over is then given back.
     pub fn from_facets(alloc: Global, facets: &[Simplex]) -> Result<Complex, AllocError>
         requires { length facets.now ≤ most_facets }
         ensures { IfOk result (λ c. c ≡ complex_of facets.now) }
     {
         let mut simplices = Vec::new(alloc);
         let mut faces = Vec::new(alloc);
-        let mut recent = [None; RECENT];
+        let mut recent = Recent::new(alloc, facets.len())?;
         for facet in facets {
             faces.clear();
             facet.add_faces(&mut faces)?;

@@ -170,12 +170,12 @@ impl Simplex {
         Ok(())
     }
 
-    /// Where among so many places a table looks for the simplex.
+    /// Where among so many places, a power of two, a table looks for the simplex.
     pub(crate) fn slot(&self, places: usize) -> usize
         requires { 0 < places }
         ensures { result < places }
     {
-        (self.key.wrapping_mul(MIX) >> 32) as usize % places
+        (self.key.wrapping_mul(MIX) >> 32) as usize & (places - 1)
     }
 
     /// One vertex alone.

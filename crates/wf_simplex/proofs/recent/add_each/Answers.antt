@@ -5,7 +5,7 @@ use Rattle.wf_simplex.proofs.Adding.{added-none, added-append}
 use Rattle.wf_simplex.proofs.recent.add_each.Goals as goal
 
 pub loop-simplex-init : goal.loop-simplex-init
-loop-simplex-init c = record { places = c.requires.places; among = c.requires.among; added = added-none c.args.simplices.now.items }
+loop-simplex-init c = record { among = c.requires; added = added-none c.args.simplices.now.items }
 
 pub loop-simplex-preserved : goal.loop-simplex-preserved
 loop-simplex-preserved c =
@@ -14,7 +14,6 @@ loop-simplex-preserved c =
     let s = c.simplex-item.result in
     let next : take (i + 1) more ≡ take i more ++ (s ∷ []) = take_more more i s c.loop-simplex-test.true ∙ ap (λ t. take i more ++ (t ∷ [])) (sym c.simplex-item.is) in
     record {
-      places = c.add.ensures.places;
       among = c.in_ok-add.ensures.among;
       added = subst (λ ss. AreAdded c.args.simplices.now.items ss c.add.new.simplices.items) (sym next)
           (added-append c.args.simplices.now.items (take i more) c.loop-simplex.simplices.items (s ∷ []) c.add.new.simplices.items c.loop-simplex.invariant.added c.in_ok-add.ensures.added);
@@ -24,7 +23,6 @@ pub returns : goal.returns
 returns c =
     let inv = c.loop-simplex.invariant in
     record {
-      places = inv.places;
       among = inv.among;
       added = subst (λ ss. AreAdded c.args.simplices.now.items ss c.loop-simplex.simplices.items) (take_all c.loop-simplex.simplex-index c.args.more.now c.loop-simplex-test.false) inv.added;
     }

@@ -1,5 +1,5 @@
-use Rattle.std.proofs.Common.{[], ◌++◌, None, refl, sym, ap, ◌∙◌, subst}
-use Rattle.std.proofs.lemmas.List.Elements.{All-nil, All-replicate}
+use Rattle.std.proofs.Common.{[], ◌++◌, All, sym, ap, ◌∙◌, subst}
+use Rattle.std.proofs.lemmas.List.Elements.{All-nil}
 use Rattle.wf_model.specs.Task.{IsTaskSimplex}
 use Rattle.wf_simplex.specs.Faces.{AreAdded, IsAmong, faces_in_turn}
 use Rattle.wf_simplex.proofs.Adding.{added-none}
@@ -10,8 +10,7 @@ pub loop-facet-init : goal.loop-facet-init
 loop-facet-init c = record {
   faces = subst (AreAdded [] []) (sym c.new-simplices.ensures.items) (added-none []);
   within = All-nil IsTaskSimplex;
-  places = refl;
-  among = All-replicate (IsAmong c.new-simplices.result.items) 256 None tt;
+  among = subst (λ ss. All (IsAmong ss) c.in_ok-recent.recent) (sym c.new-simplices.ensures.items) c.in_ok-recent.ensures;
 }
 
 pub loop-facet-preserved : goal.loop-facet-preserved
@@ -25,7 +24,6 @@ loop-facet-preserved c =
           (c.in_ok-add_faces.ensures.added ∙ ap (λ fs. fs ++ faces_in_turn f) c.clear.ensures.items)
           (subst (λ fs. AreAdded c.loop-facet.simplices.items fs c.add_each.new.simplices.items) c.deref.ensures.value c.in_ok-add_each.ensures.added);
       within = within_more facets i f c.loop-facet-test.true c.facet-item.is inv.within c.add_faces.ensures.simplex;
-      places = c.add_each.ensures.places;
       among = c.in_ok-add_each.ensures.among;
     }
 

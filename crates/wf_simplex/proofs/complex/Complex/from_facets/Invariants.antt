@@ -1,4 +1,4 @@
-use Rattle.std.proofs.Common.{◌≡◌, [], All, flat_map, length, take}
+use Rattle.std.proofs.Common.{[], All, flat_map, take}
 use Rattle.wf_model.specs.Task.{IsTaskSimplex}
 use Rattle.wf_simplex.specs.Faces.{AreAdded, IsAmong, faces_in_turn}
 use Rattle.wf_simplex.proofs.complex.Complex.from_facets.Given as goal
@@ -7,6 +7,5 @@ abbrev pub invariant-loop-facet : goal.invariant-loop-facet
 invariant-loop-facet l = record {
   faces : AreAdded [] (flat_map faces_in_turn (take l.facet-index l.facets)) l.simplices.items;
   within : All IsTaskSimplex (take l.facet-index l.facets);
-  places : length l.recent ≡ 256;
   among : All (IsAmong l.simplices.items) l.recent;
 }
