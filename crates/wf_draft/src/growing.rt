@@ -9,7 +9,7 @@ use std::default::MadeWith;
 /// How many items of a short list lie in the list itself: one for each process.
 pub(crate) const INLINE: usize = 4;
 
-/// For how many items a list in memory of its own has room at first: most lists in a text are short.
+/// For how many items a list in memory of its own has room at first: most lists are short.
 const FIRST: usize = 2;
 
 /// A list of items.
@@ -33,6 +33,7 @@ impl<T: Drop> Growing<T> for Vec<T> {
         Vec::new(alloc)
     }
 
+    #[inline(always)]
     fn put(&mut self, item: T) -> Result<(), AllocError> {
         if self.is_empty() {
             self.reserve_exact(FIRST)?;
@@ -48,6 +49,7 @@ impl<T: MadeWith<Global> + Drop> Growing<T> for SmallVec<T, INLINE> {
         SmallVec::new(alloc)
     }
 
+    #[inline(always)]
     fn put(&mut self, item: T) -> Result<(), AllocError> {
         Ok(self.push(item)?)
     }

@@ -31,6 +31,7 @@ pub(crate) trait Plain: Shape {
 impl Plain for u64 {
     ghost deep = { 0 };
 
+    #[inline(always)]
     fn plain(_alloc: Global, reader: &mut Reader<'_>) -> Result<Option<u64>, AllocError> {
         match reader.next() {
             Some(Token::Number(text)) => Ok(number(text)),
@@ -40,13 +41,22 @@ impl Plain for u64 {
 }
 
 /// The whole number below 2^64 that a token writes with digits alone: mostly one.
+#[inline(always)]
 fn number(text: &str) -> Option<u64>
     ensures { IfSome result (λ n. number_of text.now ≡ Some (unsigned n)) }
 {
-    let bytes = text.as_bytes();
-    if let Some(value) = digit(bytes) {
-        return Some(value);
+    match digit(text.as_bytes()) {
+        Some(value) => Some(value),
+        None => long_number(text),
     }
+}
+
+/// The same for more digits than one.
+#[inline(never)]
+fn long_number(text: &str) -> Option<u64>
+    ensures { IfSome result (λ n. number_of text.now ≡ Some (unsigned n)) }
+{
+    let bytes = text.as_bytes();
     if bytes.is_empty() || bytes[0] == b'-' {
         return None;
     }
@@ -54,6 +64,7 @@ fn number(text: &str) -> Option<u64>
 }
 
 /// The value of a lone digit.
+#[inline(always)]
 fn digit(bytes: &[u8]) -> Option<u64>
     ensures { IfSome result (λ n. (n < 10) × (bytes.now ≡ (48 + n) ∷ [])) }
 {
