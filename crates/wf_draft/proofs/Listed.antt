@@ -8,8 +8,7 @@ use Rattle.wf_draft.specs.Draft.{Listed, Gives, or_fault, draft_of}
 use Rattle.wf_draft.specs.DraftSeen.{draft_seen}
 use Rattle.wf_draft.specs.Listed.{ListsFew, ListsVertices}
 use Rattle.wf_draft.specs.Parts.{IsOfText}
-use Rattle.wf_draft.specs.Plain.{draft_in}
-use Rattle.wf_draft.specs.Text.{json_of}
+use Rattle.wf_draft.specs.Text.{json_of, draft_in}
 use Rattle.wf_draft.proofs.Counts.{parts-json_of, found_value}
 use Rattle.wf_draft.proofs.Few.{few_listed}
 use Rattle.wf_draft.proofs.Vertices.{chained, vertices_listed}

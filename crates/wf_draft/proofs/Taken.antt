@@ -24,12 +24,6 @@ module _ {X : Type 0} (f : Data → Option X) (deep : ℕ) where
   pub takes-shorter : (old : List Token) (x : X) (new : List Token) → Takes f deep old x new → length new < length old
   takes-shorter old x new t = let d = converted_some f (data_at deep old) x new (t deep (omega arith)) in data_shorter deep old new d.0 d.1
 
-  -- the same value by another reading
-  pub takes-by : {Y : Type 0} (g : Data → Option Y) (old : List Token) (x : X) (y : Y) (new : List Token) → Takes f deep old x new → ((d : Data) → f d ≡ Some x → g d ≡ Some y) → Takes g deep old y new
-  takes-by g old x y new t same depth enough =
-      let d = converted_some f (data_at depth old) x new (t depth enough) in
-      ap (converted g) d.1 ∙ ap (option_map (λ z. (z, new))) (same d.0 d.2)
-
 not_end : (depth : ℕ) (ts : List Token) (j : json.Json) (r : List Token) → value depth ts ≡ Some (j, r) → after_end_array ts ≡ None
 not_end depth [] j r e = refl
 not_end depth (Token.begin_object ∷ ts) j r e = refl
@@ -147,9 +141,6 @@ HasRead hold deep start fields now =
     × (converted (λ ms. of_members ms no_members) (members (value depth) (length start) start) ≡ converted (λ ms. of_members ms found) (members (value depth) n now)) × hold fields found
 
 module _ {S : Type 0} (hold : S → Members → Type 0) (deep : ℕ) (start : List Token) where
-  pub read-none : (fields : S) → hold fields no_members → HasRead hold deep start fields start
-  read-none fields none depth enough = (length start, omega arith, no_members, refl, none)
-
   pub more-shorter : (before after : S) (now s new : List Token) (k : List ℕ) → read_key now ≡ Some (Some k, s) → Adds hold deep k before s after new → length new < length now
   more-shorter before after now s new k key added = omega (arith, read_key-shorter now (Some k) s key, adds-shorter hold deep k before s after new added)
 

@@ -10,8 +10,8 @@ use Rattle.serde_json.specs.Read.{of_json, read}
 use Rattle.wf_draft.specs.declared.fault.TaskFault.{TaskFault}
 use Rattle.wf_draft.specs.declared.fault.TaskFault.TheVariants.{NotJson}
 use Rattle.wf_draft.specs.Draft.{Listed, ◌>>=◌, or_fault, draft_of}
-use Rattle.wf_draft.specs.Plain.{data_at, Takes, draft_in}
-use Rattle.wf_draft.specs.Text.{json_of}
+use Rattle.wf_draft.specs.Plain.{data_at, Takes}
+use Rattle.wf_draft.specs.Text.{json_of, draft_in}
 use Rattle.wf_draft.proofs.Converted.{converted_some}
 
 pub json_of-some : (bytes : List ℕ) (d : Data) → IsUtf8 bytes → read bytes ≡ Some d → json_of bytes ≡ Some d

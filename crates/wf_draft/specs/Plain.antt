@@ -1,19 +1,11 @@
 -- Values that are read straight from the tokens of a text, with no JSON value between.
-use Rattle.std.specs.Prelude.{◌≡◌, ℕ, ◌≤◌, List, Option, None, Some, option_map, length, IsSomeAnd, Result}
+use Rattle.std.specs.Prelude.{◌≡◌, ℕ, ◌≤◌, List, Option, None, Some, option_map, length, IsSomeAnd}
 use Rattle.json.specs.Token.{Token}
 use Rattle.json.specs.Json.{value, items, members}
 use Rattle.serde_json.specs.Data.{Data, Members, no_members, put}
 use Rattle.serde_json.specs.Find.{get_member}
 use Rattle.serde_json.specs.Read.{of_json, of_items, of_members, converted}
-use Rattle.wf_draft.specs.declared.fault.TaskFault.{TaskFault}
-use Rattle.wf_draft.specs.declared.fault.TaskFault.TheVariants as fault
 use Rattle.wf_draft.specs.Shape.{all_of}
-use Rattle.wf_draft.specs.Draft.{Listed, or_fault, draft_of, ◌>>=◌}
-use Rattle.wf_draft.specs.Text.{json_of}
-
--- the draft that a text lists, or its first fault
-abbrev pub draft_in : List ℕ → Result Listed TaskFault
-draft_in bytes = or_fault fault.NotJson (json_of bytes) >>= draft_of
 
 -- the value that comes first in the tokens, and the tokens after it
 abbrev pub data_at : ℕ → List Token → Option (Data × List Token)

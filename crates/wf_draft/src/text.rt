@@ -6,8 +6,7 @@ ghost use Rattle.wf_model.specs.Limits.{most_bytes};
 ghost use Rattle.wf_draft.specs.Draft.{Gives, or_fault};
 ghost use Rattle.wf_draft.specs.DraftSeen.{draft_seen};
 ghost use Rattle.wf_draft.specs.Listed.{ListsFew, ListsVertices};
-ghost use Rattle.wf_draft.specs.Plain.{draft_in};
-ghost use Rattle.wf_draft.specs.Text.{json_of};
+ghost use Rattle.wf_draft.specs.Text.{json_of, draft_in};
 
 use crate::draft::Draft;
 use crate::fault::TaskFault;

@@ -48,20 +48,6 @@ counted-out {X} p xs i left most d x inside is passes full so_far =
     let one : cond (p (get_or xs i d)) 1 0 ≡ 1 = ap (λ (y : X). let n : ℕ = cond (p y) 1 0 in n) (sym is) ∙ ap (λ (b : Bool). let n : ℕ = cond b 1 0 in n) passes in
     sym (at_most-above most (length (filter p xs)) (omega (arith, next, one, full, so_far, length-filter-take p xs (i + 1))))
 
-pub counted-one : {X : Type 0} (p : X → Bool) (xs : List X) (i left most : ℕ) (d x : X) → i < length xs → x ≡ get_or xs i d → p x ≡ true → 0 < left → left + length (filter p (take i xs)) ≡ most
-    → (left - 1) + length (filter p (take (i + 1) xs)) ≡ most
-counted-one {X} p xs i left most d x inside is passes room so_far =
-    let next = length-filter_more p xs i d inside in
-    let one : cond (p (get_or xs i d)) 1 0 ≡ 1 = ap (λ (y : X). let n : ℕ = cond (p y) 1 0 in n) (sym is) ∙ ap (λ (b : Bool). let n : ℕ = cond b 1 0 in n) passes in
-    omega (arith, next, one, room, so_far)
-
-pub counted-none : {X : Type 0} (p : X → Bool) (xs : List X) (i left most : ℕ) (d x : X) → i < length xs → x ≡ get_or xs i d → p x ≡ false → left + length (filter p (take i xs)) ≡ most
-    → left + length (filter p (take (i + 1) xs)) ≡ most
-counted-none {X} p xs i left most d x inside is fails so_far =
-    let next = length-filter_more p xs i d inside in
-    let zero' : cond (p (get_or xs i d)) 1 0 ≡ 0 = ap (λ (y : X). let n : ℕ = cond (p y) 1 0 in n) (sym is) ∙ ap (λ (b : Bool). let n : ℕ = cond b 1 0 in n) fails in
-    omega (arith, next, zero', so_far)
-
 pub counted-all : {X : Type 0} (p : X → Bool) (xs : List X) (i left most : ℕ) → length xs ≤ i → left + length (filter p (take i xs)) ≡ most → Some (most - left) ≡ at_most most (length (filter p xs))
 counted-all p xs i left most past so_far =
     let all = ap (λ ys. length (filter p ys)) (take_all i xs past) in

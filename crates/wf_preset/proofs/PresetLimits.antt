@@ -24,7 +24,6 @@ use Rattle.wf_preset.specs.Preset.{within_limits, inputs_judged, inputs_seen, ha
 use Rattle.wf_preset.proofs.Agreeing.{agreement-outputs, agreement-facets, length-wholes, length-input_facets, few-own, facets-few, is_facet}
 use Rattle.wf_task.proofs.Lemmas.{has-some, length-zip-same, processes-zip-same, nonempty-long, facet-in, has-map, has-below}
 use Rattle.wf_preset.proofs.FamilyTasks.{rule_of_family, same_inputs, counted, task-is}
-use Rattle.wf_preset.proofs.FamilyLoops.{few_lists}
 use Rattle.wf_preset.proofs.Naming.{start, processes-start, renaming-outputs, many-facets}
 use Rattle.wf_model.proofs.WellFormed.{values_of_zip}
 
@@ -371,7 +370,3 @@ own_values (suc (suc zero)) h = refl
 own_values (suc (suc (suc zero))) h = refl
 own_values (suc (suc (suc (suc zero)))) h = refl
 own_values (suc (suc (suc (suc (suc n))))) h = absurd (let none : ⊥ = omega (arith, h) in none)
-
-pub few-facets-own : (choice : Inputs) (n : ℕ) → n ≤ 4 → has_input_values choice ≡ true → length (input_facets n (inputs_seen choice)) ≤ 16777216
-few-facets-own Own n few h = lit≤ tt
-few-facets-own (All m) n few h = omega (arith, length-input_facets n m, few_lists m n (value_bounds m h).1 few)

@@ -1,7 +1,7 @@
 -- Simplices that are added to others.
 use Rattle.std.proofs.Common.{List, [], ◌++◌, inl, inr}
 use Rattle.wf_model.specs.Simplex.{Simplex}
-use Rattle.wf_simplex.specs.Faces.{AreAdded}
+use Rattle.wf_simplex.specs.Adding.{AreAdded}
 use Rattle.wf_simplex.proofs.Orders.{contains-has, has-append, has-append_left, has-append_right, has_at_place}
 
 pub added-none : (old : List Simplex) → AreAdded old [] old

@@ -8,7 +8,8 @@ use Rattle.std.specs.List.Sorted.{IsPermutation, IsSorted}
 use Rattle.wf_model.specs.Lists.{in_order}
 use Rattle.wf_model.specs.Simplex.{Simplex, faces_of, simplex_cmp, complex_of}
 use Rattle.wf_model.specs.Task.{IsTaskSimplex}
-use Rattle.wf_simplex.specs.Faces.{AreAdded, IsComplex, faces_in_turn}
+use Rattle.wf_simplex.specs.Adding.{AreAdded, faces_in_turn}
+use Rattle.wf_simplex.specs.Faces.{IsComplex}
 use Rattle.wf_simplex.specs.Order.{same_simplex, same_simplex-equivalence, same_simplex-ties, simplex_cmp-total, simplex_cmp-Equal}
 use Rattle.wf_simplex.proofs.Adding.{added-append}
 use Rattle.wf_simplex.proofs.Orders.{contains-has, has_at_place, in_order-dedup, in_order-same, length-in_order}

@@ -5,7 +5,7 @@ use Rattle.std.proofs.Math.Seq.{drop-append_seam}
 use Rattle.wf_model.specs.Simplex.{Vertex, Simplex, is_nonempty, parts_of, faces_of}
 use Rattle.wf_model.specs.Task.{IsTaskSimplex}
 use Rattle.wf_simplex.specs.Entries.{vertices_from, value_at}
-use Rattle.wf_simplex.specs.Faces.{joined, with_vertex, with_vertices, faces_in_turn}
+use Rattle.wf_simplex.specs.Adding.{joined, with_vertex, with_vertices, faces_in_turn}
 use Rattle.wf_simplex.proofs.Orders.{Has, has-append, has-append_left, has-append_right, has-map, map-has}
 use Rattle.wf_simplex.proofs.Faces.{begins, has_cons, has-filter, filter-has}
 use Rattle.wf_simplex.proofs.Within.{Climbs, climbs_wider, climbs_joined, climbs_within, all_of_has, has_of_all}

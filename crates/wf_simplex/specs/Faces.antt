@@ -1,7 +1,7 @@
--- Complexes: what each one has, and their faces one after another.
-use Rattle.std.specs.Prelude.{◌≡◌, ◌<◌, ◌^◌, ◌⊎◌, List, [], ◌∷◌, ◌++◌, length, map, All, Contains, Option, IfSome}
+-- Complexes: what each one has.
+use Rattle.std.specs.Prelude.{◌≡◌, ◌<◌, ◌^◌, List, length, All}
 use Rattle.std.specs.List.Sorted.{IsStrictlySortedBy}
-use Rattle.wf_model.specs.Simplex.{Vertex, Simplex, simplex_cmp, complex_of}
+use Rattle.wf_model.specs.Simplex.{Simplex, simplex_cmp, complex_of}
 use Rattle.wf_model.specs.Task.{IsTaskSimplex}
 
 -- simplices in order, each once, with all their faces; so few that u32 numbers them
@@ -10,32 +10,3 @@ pub record IsComplex (simplices : List Simplex) : Type 0 where
   pub closed : complex_of simplices ≡ simplices
   pub within : All IsTaskSimplex simplices
   pub countable : length simplices < 2 ^ 32
-
--- each of these with one more vertex
-abbrev pub joined : Vertex → List Simplex → List Simplex
-joined v faces = map (λ s. s ++ (v ∷ [])) faces
-
--- these, one more vertex alone, and each of these with it
-abbrev pub with_vertex : List Simplex → Vertex → List Simplex
-with_vertex faces v = faces ++ (v ∷ []) ∷ joined v faces
-
--- these, and the faces that further vertices bring
-abbrev pub with_vertices : List Simplex → Simplex → List Simplex
-with_vertices faces [] = faces
-with_vertices faces (v ∷ s) = with_vertices (with_vertex faces v) s
-
--- the faces of a simplex, one vertex after another
-abbrev pub faces_in_turn : Simplex → List Simplex
-faces_in_turn s = with_vertices [] s
-
--- ---- simplices that are added to others
-
--- the simplex, if there is one, is one of these
-abbrev pub IsAmong : List Simplex → Option Simplex → Type 0
-IsAmong simplices found = IfSome found (Contains simplices)
-
--- each of the old ones and of those added is there, and no other
-pub record AreAdded (old added new : List Simplex) : Type 0 where
-  pub kept : (s : Simplex) → Contains old s → Contains new s
-  pub more : (s : Simplex) → Contains added s → Contains new s
-  pub only : (s : Simplex) → Contains new s → Contains old s ⊎ Contains added s

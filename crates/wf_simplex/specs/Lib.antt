@@ -7,3 +7,4 @@ pub mod Faces
 pub mod WordTable
 pub mod FaultText
 pub mod Keys
+pub mod Adding

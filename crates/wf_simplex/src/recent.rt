@@ -1,8 +1,8 @@
 //! Simplices that are added to others, but for those that were added lately.
 
-ghost use Rattle.std.specs.Prelude.{◌≡◌, ◌<◌, [], ◌∷◌, List, All, Contains, IsTrue, IfOk, OnOk, length};
+ghost use Rattle.std.specs.Prelude.{◌<◌, [], ◌∷◌, List, All, Contains, IsTrue, IfOk, OnOk, length};
 ghost use Rattle.wf_model.specs.Simplex.{Simplex};
-ghost use Rattle.wf_simplex.specs.Faces.{AreAdded, IsAmong};
+ghost use Rattle.wf_simplex.specs.Adding.{AreAdded, IsAmong};
 
 use crate::simplex::Simplex;
 use std::alloc::{AllocError, Global};

@@ -3,7 +3,7 @@
 ghost use Rattle.std.specs.Prelude.{◌≡◌, ◌+◌, ℕ, ◌<◌, ◌≤◌, ◌++◌, [], ◌∷◌, All, drop, length, None, Some, MatchResult, OnOk, slice_index, vec_len, vec_capacity};
 ghost use Rattle.wf_model.specs.Simplex.{processes_of, is_face, simplex_cmp};
 ghost use Rattle.wf_model.specs.Task.{IsTaskSimplex};
-ghost use Rattle.wf_simplex.specs.Faces.{faces_in_turn, joined};
+ghost use Rattle.wf_simplex.specs.Adding.{faces_in_turn, joined};
 ghost use Rattle.wf_simplex.specs.Entries.{value_at};
 ghost use Rattle.wf_simplex.specs.Reading.{read_fault};
 
@@ -159,6 +159,7 @@ impl Simplex {
             ≡ faces.old.items ++ faces_in_turn self.now) }
         ensures simplex { IsTaskSimplex self.now }
     {
+        // for the proof alone, which reads of the key that it is that of a simplex
         let _ = &self.key;
         faces.reserve(MOST_FACES)?;
         let start = faces.len();

@@ -1,7 +1,7 @@
 use Rattle.std.proofs.Common.{◌≡◌, Ok, IfSome, subst, arith}
 use Rattle.serde_json.specs.View.{view}
 use Rattle.wf_draft.specs.DraftSeen.{draft_seen}
-use Rattle.wf_draft.specs.Plain.{draft_in}
+use Rattle.wf_draft.specs.Text.{draft_in}
 use Rattle.wf_draft.specs.Parts.{IsOfText}
 use Rattle.wf_draft.proofs.Counts.{parts-json_of, found_value}
 use Rattle.wf_draft.proofs.Listed.{vertices_of_value, few_of_value, vertices_of_text, few_of_text}

@@ -1,6 +1,6 @@
 use Rattle.std.proofs.Common.{◌≡◌, ◌+◌, [], ◌∷◌, ◌++◌, take, take_all, sym, ap, ◌∙◌, subst}
 use Rattle.std.proofs.lemmas.List.{take_more}
-use Rattle.wf_simplex.specs.Faces.{AreAdded}
+use Rattle.wf_simplex.specs.Adding.{AreAdded}
 use Rattle.wf_simplex.proofs.Adding.{added-none, added-append}
 use Rattle.wf_simplex.proofs.recent.add_each.Goals as goal
 

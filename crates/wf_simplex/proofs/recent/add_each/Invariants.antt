@@ -1,5 +1,5 @@
 use Rattle.std.proofs.Common.{All, take}
-use Rattle.wf_simplex.specs.Faces.{AreAdded, IsAmong}
+use Rattle.wf_simplex.specs.Adding.{AreAdded, IsAmong}
 use Rattle.wf_simplex.proofs.recent.add_each.Given as goal
 
 abbrev pub invariant-loop-simplex : goal.invariant-loop-simplex

@@ -1,5 +1,5 @@
 use Rattle.std.proofs.Common.{◌≡◌, ◌+◌, ◌-◌, [], ◌∷◌, ◌++◌, drop, take, vec_len, vec_capacity}
-use Rattle.wf_simplex.specs.Faces.{joined}
+use Rattle.wf_simplex.specs.Adding.{joined}
 use Rattle.wf_simplex.proofs.simplex.add_joined.Given as goal
 
 abbrev pub invariant-loop-place : goal.invariant-loop-place

@@ -1,7 +1,7 @@
 use Rattle.std.proofs.Common.{[], ◌++◌, All, sym, ap, ◌∙◌, subst}
 use Rattle.std.proofs.lemmas.List.Elements.{All-nil}
 use Rattle.wf_model.specs.Task.{IsTaskSimplex}
-use Rattle.wf_simplex.specs.Faces.{AreAdded, IsAmong, faces_in_turn}
+use Rattle.wf_simplex.specs.Adding.{AreAdded, IsAmong, faces_in_turn}
 use Rattle.wf_simplex.proofs.Adding.{added-none}
 use Rattle.wf_simplex.proofs.FromFacets.{faces_more, within_more, faces_sorted, facets_within, is_complex}
 use Rattle.wf_simplex.proofs.complex.Complex.from_facets.Goals as goal

@@ -1,6 +1,6 @@
 use Rattle.std.proofs.Common.{[], All, flat_map, take}
 use Rattle.wf_model.specs.Task.{IsTaskSimplex}
-use Rattle.wf_simplex.specs.Faces.{AreAdded, IsAmong, faces_in_turn}
+use Rattle.wf_simplex.specs.Adding.{AreAdded, IsAmong, faces_in_turn}
 use Rattle.wf_simplex.proofs.complex.Complex.from_facets.Given as goal
 
 abbrev pub invariant-loop-facet : goal.invariant-loop-facet

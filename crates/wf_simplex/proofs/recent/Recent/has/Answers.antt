@@ -1,5 +1,5 @@
 use Rattle.std.proofs.Common.{All, Contains, sym, ◌∙◌, subst, arith}
-use Rattle.wf_simplex.specs.Faces.{IsAmong}
+use Rattle.wf_simplex.specs.Adding.{IsAmong}
 use Rattle.wf_simplex.specs.Order.{same_simplex-decides}
 use Rattle.wf_simplex.proofs.recent.Recent.has.Goals as goal
 
