@@ -1,7 +1,8 @@
 -- Tokens that a value was read from: each form of value, from its parts.
-use Rattle.std.proofs.Common.{◌≡◌, ◌+◌, ℕ, suc, ◌-◌, ◌<◌, ◌≤◌, Bool, List, [], ◌∷◌, ◌++◌, length, Option, Some, None, IfSome, SomeIff, get_or, false, ◌==◌, ◌^◌, option_map, Result, Ok, Err, refl, sym, ap, ◌∙◌, subst, arith, map, IfOk, lt-ltb}
+use Rattle.std.proofs.Common.{◌≡◌, ◌+◌, ◌*◌, ◌/◌, ◌%◌, ℕ, suc, ◌-◌, ◌<◌, ◌≤◌, Bool, List, [], ◌∷◌, ◌++◌, length, Option, Some, None, IfSome, SomeIff, get_or, false, ◌==◌, ◌^◌, option_map, Result, Ok, Err, refl, sym, ap, ◌∙◌, subst, arith, map, IfOk, lt-ltb}
 use Rattle.std.specs.Result.{result_ok}
-use Rattle.std.proofs.lemmas.Fmt.{decimal_digit}
+use Rattle.std.specs.Fmt.{decimal}
+use Rattle.std.proofs.lemmas.Fmt.{decimal_digit, decimal_step}
 use Rattle.fast_float.specs.Text.{scan, digits_of, IsInteger}
 use Rattle.json.specs.Token.{Token}
 use Rattle.json.specs.Json as json
@@ -57,9 +58,25 @@ unfolding number_of
 number-plain s None sign h = tt
 number-plain s (Some n) sign h = rw (sign, lt-ltb _ _ h.0.0.0, h.0.0.1, h.0.0.2, lt-ltb _ _ h.0.1) (ap (λ m. Some (unsigned m)) (sym h.1))
 
--- a lone digit
-pub number-digit : (s : List ℕ) (n : ℕ) → n < 10 → s ≡ (48 + n) ∷ [] → number_of s ≡ Some (unsigned n)
-number-digit s n low is = ap number_of (is ∙ sym (decimal_digit n low)) ∙ number_of-decimal n (omega (arith, low))
+-- a number of few digits
+pub number-short : (s : List ℕ) (n : ℕ) → n < 100 → s ≡ decimal n → number_of s ≡ Some (unsigned n)
+number-short s n low is = ap number_of is ∙ number_of-decimal n (omega (arith, low))
+
+pub one_digit : (s : List ℕ) (n : ℕ) → 1 ≤ length s → length s < 2 → n + 48 ≡ get_or s 0 0 → n < 10 → s ≡ decimal n
+one_digit [] n some few is low = absurd (let none : ⊥ = omega (arith, some) in none)
+one_digit (d ∷ []) n some few is low = let same : 48 + n ≡ d = omega (arith, is) in sym (decimal_digit n low ∙ ap (λ x. x ∷ []) same)
+one_digit (d ∷ e ∷ s) n some few is low = absurd (let none : ⊥ = omega (arith, few) in none)
+
+pub two_digits : (s : List ℕ) (tens ones : ℕ) → 2 ≤ length s → length s < 3 → tens + 48 ≡ get_or s 0 0 → ones + 48 ≡ get_or s 1 0 → 0 < tens → tens < 10 → ones < 10 → s ≡ decimal (10 * tens + ones)
+two_digits [] tens ones some few first second above low lower = absurd (let none : ⊥ = omega (arith, some) in none)
+two_digits (d ∷ []) tens ones some few first second above low lower = absurd (let none : ⊥ = omega (arith, some) in none)
+two_digits (d ∷ e ∷ []) tens ones some few first second above low lower =
+    let n = 10 * tens + ones in
+    let front : n / 10 ≡ tens = omega arith in
+    let last : 48 + n % 10 ≡ e = omega (arith, second) in
+    let begun : decimal tens ≡ d ∷ [] = sym (one_digit (d ∷ []) tens (omega arith) (omega arith) first low) in
+    sym (decimal_step n (omega arith) (omega arith) ∙ ap (λ m. decimal m ++ (48 + n % 10) ∷ []) front ∙ ap (λ xs. xs ++ (48 + n % 10) ∷ []) begun ∙ ap (λ x. d ∷ x ∷ []) last)
+two_digits (d ∷ e ∷ f ∷ s) tens ones some few first second above low lower = absurd (let none : ⊥ = omega (arith, few) in none)
 
 pub takes-bool : (b : Bool) (new : List Token) → Takes as_bool 0 (Token.boolean b ∷ new) b new
 takes-bool b new depth enough = ap (λ o. converted as_bool (converted of_json o)) (value_is depth (Token.boolean b ∷ new))

@@ -3,7 +3,7 @@
 //! A text of the usual form is read so. Where a reading is in doubt it gives `None`, and the text
 //! is read over its JSON value: which texts are refused, and why, is decided there alone.
 
-ghost use Rattle.std.specs.Prelude.{◌≡◌, ℕ, suc, ◌+◌, ◌<◌, [], ◌∷◌, map, Some, IfOk, IfSome};
+ghost use Rattle.std.specs.Prelude.{◌≡◌, ℕ, suc, ◌+◌, ◌<◌, ◌≤◌, map, Some, IfOk, IfSome, decimal};
 ghost use Rattle.serde_json.specs.Data.{unsigned};
 ghost use Rattle.serde_json.specs.Read.{number_of};
 ghost use Rattle.wf_draft.specs.Plain.{Takes, TakesItems};
@@ -40,18 +40,18 @@ impl Plain for u64 {
     }
 }
 
-/// The whole number below 2^64 that a token writes with digits alone: mostly one.
+/// The whole number below 2^64 that a token writes with digits alone: mostly one or two.
 #[inline(always)]
 fn number(text: &str) -> Option<u64>
     ensures { IfSome result (λ n. number_of text.now ≡ Some (unsigned n)) }
 {
-    match digit(text.as_bytes()) {
+    match short_number(text.as_bytes()) {
         Some(value) => Some(value),
         None => long_number(text),
     }
 }
 
-/// The same for more digits than one.
+/// The same for any digits.
 #[inline(never)]
 fn long_number(text: &str) -> Option<u64>
     ensures { IfSome result (λ n. number_of text.now ≡ Some (unsigned n)) }
@@ -63,15 +63,28 @@ fn long_number(text: &str) -> Option<u64>
     Numeral::scan(bytes).to_u64()
 }
 
-/// The value of a lone digit.
+/// The number of one digit, or of two of which the first is no zero.
 #[inline(always)]
-fn digit(bytes: &[u8]) -> Option<u64>
-    ensures { IfSome result (λ n. (n < 10) × (bytes.now ≡ (48 + n) ∷ [])) }
+fn short_number(bytes: &[u8]) -> Option<u64>
+    ensures { IfSome result (λ n. (n < 100) × (bytes.now ≡ decimal n)) }
 {
     match bytes {
-        [only] if only.is_ascii_digit() => Some(u64::from(*only - b'0')),
+        [ones] if ones.is_ascii_digit() => Some(value(*ones)),
+        [tens, ones] if *tens != b'0' && tens.is_ascii_digit() && ones.is_ascii_digit() => {
+            Some(10 * value(*tens) + value(*ones))
+        }
         _ => None,
     }
+}
+
+/// The value of a digit.
+#[inline(always)]
+fn value(digit: u8) -> u64
+    requires { (48 ≤ digit) × (digit ≤ 57) }
+    ensures value { result + 48 ≡ digit }
+    ensures digit { result < 10 }
+{
+    u64::from(digit - b'0')
 }
 
 impl Plain for bool {
