@@ -2,11 +2,10 @@
 use Rattle.std.proofs.Common.{◌≡◌, ◌<◌, ◌≤◌, ◌∙◌, ℕ, List, length, get_or, slice_index, refl, sym, subst}
 use Rattle.std.specs.List.{slice_index_or}
 use Rattle.std.proofs.lemmas.List.{get_or_default}
-use Rattle.wf_network.specs.Problems.{IsNetwork, IsWithin, KeepsProcesses, no_rule, rule_in}
+use Rattle.wf_network.specs.Problems.{IsNetwork, IsWithin, no_rule, rule_in}
 use Rattle.wf_network.specs.Users.{IsUser, no_execution}
 use Rattle.wf_network.specs.declared.problem.PackedExecution.{PackedExecution}
 use Rattle.wf_network.specs.declared.problem.Network.{Network}
-use Rattle.wf_network.specs.declared.problem.Rule.{Rule}
 use Rattle.wf_network.proofs.ProblemLemmas.{Known}
 
 pub execution_is : (n : Network) (e : ℕ) (x : PackedExecution) → e < length n.executions.items → x ≡ slice_index_or n.executions.items e x → get_or n.executions.items e no_execution ≡ x
@@ -21,10 +20,6 @@ execution_told n e x network low here place small = subst (λ (y : PackedExecuti
 -- there are four processes at most
 pub few_at : (n : Network) (e : ℕ) → IsNetwork n → e < length n.executions.items → length (rule_in n e).simplex ≤ 4
 few_at n e network low = (network.processes (get_or n.executions.items e no_execution).rule no_rule (network.within e no_execution low).rule).narrow
-
--- the rule keeps its processes
-pub processes_kept : (n : Network) (e : ℕ) (x : PackedExecution) (rule : Rule) → IsNetwork n → e < length n.executions.items → x ≡ slice_index_or n.executions.items e x → rule ≡ slice_index_or n.rules.items x.rule rule → KeepsProcesses rule
-processes_kept n e x rule network low here is = subst KeepsProcesses (sym is) (network.processes x.rule rule (execution_within n e x network low here).rule)
 
 -- the rule of an execution
 pub rule_known : (n : Network) (e : ℕ) → IsNetwork n → e < length n.executions.items → Known n.rules.items (get_or n.executions.items e no_execution) (rule_in n e)
