@@ -60,9 +60,6 @@ module _ (old new : List View) (lasts firsts places normals : List ℕ) (low : A
       ∙ length-map (map (λ j. slice_index lasts j) firsts) (view_at old)
       ∙ length-map firsts (λ j. slice_index lasts j)
 
-  pub low_places : All (λ p. p < length normals) places
-  low_places = subst (λ n. All (λ p. p < n) places) (sym length-normals) low
-
   normal_there : (p : ℕ) → p < length firsts → view_at new (slice_index normals p) ≡ normal (view_at old (slice_index lasts (slice_index firsts p)))
   normal_there p h =
       sym (get_or-map (view_at new) normals p 0 (base 0 0) (omega (arith, h, length-normals)))

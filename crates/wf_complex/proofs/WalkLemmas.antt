@@ -7,7 +7,7 @@ use Rattle.std.proofs.lemmas.Option.{slice_get_within, get_or_from_slice_get}
 use Rattle.wf_model.specs.View.{View, round}
 use Rattle.wf_model.specs.Word.{Word, words}
 use Rattle.wf_model.proofs.WellFormed.{words_long}
-use Rattle.wf_complex.specs.declared.rounds.Snapshot.{Snapshot}
+use Rattle.wf_complex.specs.declared.rounds.Sight.{Sight}
 use Rattle.wf_complex.specs.Rounds.{views_at, words_in, Extends, leaves, cost}
 use Rattle.wf_complex.proofs.RoundLemmas.{views_kept, length-views, length-round}
 
@@ -60,9 +60,9 @@ pub next_at : (ws us : List Word) → ws ≡ us → (n : ℕ) (w v : Word) (more
 next_at ws us e n w v true at next last below = subst (λ xs. slice_get xs (n + 1) ≡ Some v) (sym e) (next (subst (λ xs. slice_get xs n ≡ Some w) e at) refl)
 next_at ws us e n w v false at next last below = absurd (let none : ⊥ = omega (arith, below, ap length e, last (subst (λ xs. slice_get xs n ≡ Some w) e at) refl) in none)
 
--- ---- snapshots
+-- ---- sights
 
-pub word_there : (ss : List Snapshot) (i : ℕ) (s d : Snapshot) → i < length ss → s ≡ get_or ss i d → slice_get (words_in ss) i ≡ Some s.word
+pub word_there : (ss : List Sight) (i : ℕ) (s d : Sight) → i < length ss → s ≡ get_or ss i d → slice_get (words_in ss) i ≡ Some s.word
 word_there [] i s d h is = absurd (let none : ⊥ = omega (arith, h) in none)
 word_there (x ∷ ss) zero s d h is = λ k. Some ((sym is k).word)
 word_there (x ∷ ss) (suc i) s d h is = word_there ss i s d (omega (arith, h)) is

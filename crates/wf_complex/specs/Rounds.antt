@@ -6,7 +6,7 @@ use Rattle.wf_model.specs.Word.{Word, words}
 use Rattle.wf_view.specs.Views.{view_at}
 use Rattle.wf_complex.specs.declared.rounds.Ids.{Ids}
 use Rattle.wf_complex.specs.declared.rounds.Round.{Round}
-use Rattle.wf_complex.specs.declared.rounds.Snapshot.{Snapshot}
+use Rattle.wf_complex.specs.declared.rounds.Sight.{Sight}
 
 -- the views of these numbers
 abbrev pub views_at : List View → List ℕ → List View
@@ -36,23 +36,23 @@ places_seen block [] = 0
 places_seen block (l ∷ w) = (if nat_le l block then 1 else 0) + 2 * places_seen block w
 
 -- a word with whom each participant sees
-abbrev pub IsSnapshot : Snapshot → Type 0
-IsSnapshot s = take (length s.word) s.seen ≡ map (λ block. places_seen block s.word) s.word
+abbrev pub IsSight : Sight → Type 0
+IsSight s = take (length s.word) s.seen ≡ map (λ block. places_seen block s.word) s.word
 
--- a snapshot of n participants
-abbrev pub IsSnapshotOf : ℕ → Snapshot → Type 0
-IsSnapshotOf n s = (length s.word ≡ n) × IsSnapshot s
+-- a sight of n participants
+abbrev pub IsSightOf : ℕ → Sight → Type 0
+IsSightOf n s = (length s.word ≡ n) × IsSight s
 
-abbrev pub words_in : List Snapshot → List Word
+abbrev pub words_in : List Sight → List Word
 words_in ss = map (λ s. s.word) ss
 
--- the snapshots of n participants with a first block of m at least or of all
-abbrev pub AreSnapshots : ℕ → ℕ → List Snapshot → Type 0
-AreSnapshots m n ss = (words_in ss ≡ words m n) × All (IsSnapshotOf n) ss
+-- the sights of n participants with a first block of m at least or of all
+abbrev pub AreSights : ℕ → ℕ → List Sight → Type 0
+AreSights m n ss = (words_in ss ≡ words m n) × All (IsSightOf n) ss
 
--- the snapshots of a round are all of their size, once some are made
+-- the sights of a round are all of their size, once some are made
 abbrev pub IsRound : ℕ → Round → Type 0
-IsRound m r = 1 ≤ r.size → AreSnapshots m r.size r.snapshots.items
+IsRound m r = 1 ≤ r.size → AreSights m r.size r.sights.items
 
 -- the view after a round of the participant at place i, who sees these places
 abbrev pub view_by : List View → ℕ → ℕ → View

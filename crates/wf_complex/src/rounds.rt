@@ -3,7 +3,7 @@
 ghost use Rattle.std.specs.Prelude.{◌≡◌, ◌<◌, ◌≤◌, ◌+◌, ◌++◌, length, take, flat_map, slice_index, get_or, slice_get, Some, All, IfOk, OnOk};
 ghost use Rattle.wf_model.specs.Limits.{most_number, most_processes};
 ghost use Rattle.wf_model.specs.View.{base, round, base_views};
-ghost use Rattle.wf_complex.specs.Rounds.{views_at, picked, places_seen, numbers_in, only_if, words_in, IsSnapshot, IsSnapshotOf, AreSnapshots, IsRound, AreKnown, Extends, AreViews, leaves, cost, leaves_of, cost_of_each};
+ghost use Rattle.wf_complex.specs.Rounds.{views_at, picked, places_seen, numbers_in, only_if, words_in, IsSight, IsSightOf, AreSights, IsRound, AreKnown, Extends, AreViews, leaves, cost, leaves_of, cost_of_each};
 
 use std::alloc::{AllocError, Global};
 use wf_simplex::{Simplex, Word, allowed_count};
@@ -35,21 +35,21 @@ impl Ids {
 
 /// A word, and whom each participant sees, as bits: bit j is set where it sees that of place j.
 #[derive(Clone, Copy)]
-struct Snapshot {
+struct Sight {
     word: Word,
     seen: [u8; 4],
 }
 
-/// The snapshots that a round of so many participants may be, by their words.
+/// The sights that a round of so many participants may be, by their words.
 #[derive(Drop)]
 struct Round {
-    // how many participants there are, or 0 where no snapshot is made yet
+    // how many participants there are, or 0 where no sight is made yet
     size: u8,
-    snapshots: Vec<Snapshot>,
+    sights: Vec<Sight>,
 }
 
 impl Round {
-    /// Makes the snapshots of this size whose first block has at least `first_block` participants,
+    /// Makes the sights of this size whose first block has at least `first_block` participants,
     /// or all where they are fewer. Those that are there already stay.
     ///
     /// Simplices come by ascending size, so each size is made once.
@@ -63,42 +63,42 @@ impl Round {
         ensures size { OnOk result (self.new.size ≡ size) }
     {
         if self.size != size {
-            self.snapshots = snapshots_of(alloc, size, first_block)?;
+            self.sights = sights_of(alloc, size, first_block)?;
             self.size = size;
         }
         Ok(())
     }
 }
 
-/// The snapshots of so many participants whose first block has at least `first_block` of them, or
+/// The sights of so many participants whose first block has at least `first_block` of them, or
 /// all where they are fewer, in the order of their words.
-fn snapshots_of(alloc: Global, size: u8, first_block: u8) -> Result<Vec<Snapshot>, AllocError>
+fn sights_of(alloc: Global, size: u8, first_block: u8) -> Result<Vec<Sight>, AllocError>
     requires some { 1 ≤ size }
     requires few { size ≤ 4 }
     requires one { 1 ≤ first_block }
     requires most { first_block ≤ most_processes }
-    ensures { IfOk result (λ all. AreSnapshots first_block size all.items) }
+    ensures { IfOk result (λ all. AreSights first_block size all.items) }
 {
     let count = allowed_count(size, first_block);
     let mut all = Vec::with_capacity(alloc, count as usize)?;
     let mut word = Word::first_allowed(size, first_block);
     for turn in 0..count {
-        all.push(snapshot_of(word))?;
+        all.push(sight_of(word))?;
         word.next_allowed(first_block);
     }
     Ok(all)
 }
 
 /// Whom each participant of a word sees.
-fn snapshot_of(word: Word) -> Snapshot
+fn sight_of(word: Word) -> Sight
     ensures word { result.word ≡ word }
-    ensures seen { IsSnapshot result }
+    ensures seen { IsSight result }
 {
     let mut seen = [0u8; 4];
     for i in 0..word.size() {
         seen[i as usize] = places_seen(&word, i);
     }
-    Snapshot { word, seen }
+    Sight { word, seen }
 }
 
 /// Whom participant i sees, as bits.
@@ -162,23 +162,23 @@ fn next_view(
     views: &mut Views,
     known: &mut [Option<u32>],
     current: &[u32],
-    snapshot: &Snapshot,
+    sight: &Sight,
     i: u8,
 ) -> Result<u32, AllocError>
-    requires long { length current.now ≡ length snapshot.now.word }
+    requires long { length current.now ≡ length sight.now.word }
     requires few { length current.now ≤ 4 }
     requires place { i < length current.now }
     requires views { AreViews views.old current.now }
-    requires snapshot { IsSnapshot snapshot.now }
+    requires sight { IsSight sight.now }
     requires known { AreKnown views.old (views_at views.old current.now) known.old }
     requires room { length views.old < most_number }
     ensures extends { Extends views.old views.new }
     ensures few { length views.new ≤ length views.old + 1 }
     ensures known { AreKnown views.new (views_at views.old current.now) known.new }
     ensures stands { IfOk result (λ n. slice_get views.new n
-        ≡ Some (get_or (round (views_at views.old current.now) snapshot.now.word) i (base 0 0))) }
+        ≡ Some (get_or (round (views_at views.old current.now) sight.now.word) i (base 0 0))) }
 {
-    let places = snapshot.seen[i as usize];
+    let places = sight.seen[i as usize];
     let answer = ANSWERS * i as usize + places as usize;
     if let Some(id) = known[answer] {
         return Ok(id);
@@ -198,11 +198,11 @@ fn next_views(
     views: &mut Views,
     known: &mut [Option<u32>],
     current: &[u32],
-    snapshot: &Snapshot,
+    sight: &Sight,
 ) -> Result<[u32; 4], AllocError>
-    requires long { length current.now ≡ length snapshot.now.word }
+    requires long { length current.now ≡ length sight.now.word }
     requires views { AreViews views.old current.now }
-    requires snapshot { IsSnapshot snapshot.now }
+    requires sight { IsSight sight.now }
     requires known { AreKnown views.old (views_at views.old current.now) known.old }
     requires room { length views.old + 4 ≤ most_number }
     ensures extends { Extends views.old views.new }
@@ -210,16 +210,16 @@ fn next_views(
     ensures known { AreKnown views.new (views_at views.old current.now) known.new }
     ensures views { IfOk result (λ ids. AreViews views.new (take (length current.now) ids)
         × (views_at views.new (take (length current.now) ids)
-        ≡ round (views_at views.old current.now) snapshot.now.word)) }
+        ≡ round (views_at views.old current.now) sight.now.word)) }
 {
     let mut next = [0u32; 4];
-    for i in 0..snapshot.word.size() {
-        next[i as usize] = next_view(views, known, current, snapshot, i)?;
+    for i in 0..sight.word.size() {
+        next[i as usize] = next_view(views, known, current, sight, i)?;
     }
     Ok(next)
 }
 
-/// Adds the views after all rounds, each of which is one of these snapshots, execution by
+/// Adds the views after all rounds, each of which is one of these sights, execution by
 /// execution, to the last views of those before.
 ///
 /// Refused where memory runs out; the views so far keep their numbers.
@@ -227,31 +227,31 @@ fn walk(
     views: &mut Views,
     lasts: &mut Vec<u32>,
     current: &[u32],
-    snapshots: &[Snapshot],
+    sights: &[Sight],
     rounds: u32,
 ) -> Result<(), AllocError>
     requires few { length current.now ≤ most_processes }
-    requires snapshots { All (IsSnapshotOf (length current.now)) snapshots.now }
+    requires sights { All (IsSightOf (length current.now)) sights.now }
     requires views { AreViews views.old current.now }
     requires lasts { All (λ k. k < length views.old) lasts.old.items }
-    requires room { length views.old + cost (length snapshots.now) (length current.now) rounds + 4
+    requires room { length views.old + cost (length sights.now) (length current.now) rounds + 4
         ≤ most_number }
     ensures extends { Extends views.old views.new }
     ensures added { length views.new
-        ≤ length views.old + cost (length snapshots.now) (length current.now) rounds }
+        ≤ length views.old + cost (length sights.now) (length current.now) rounds }
     ensures within { OnOk result (All (λ k. k < length views.new) lasts.new.items) }
     ensures made { OnOk result (views_at views.new lasts.new.items
         ≡ views_at views.old lasts.old.items
-        ++ leaves (words_in snapshots.now) rounds (views_at views.old current.now)) }
+        ++ leaves (words_in sights.now) rounds (views_at views.old current.now)) }
 {
     if rounds == 0 {
         lasts.extend_from_slice(current)?;
         return Ok(());
     }
     let mut known = [None; 4 * ANSWERS];
-    for snapshot in snapshots {
-        let next = next_views(views, &mut known, current, snapshot)?;
-        walk(views, lasts, &next[..current.len()], snapshots, rounds - 1)?;
+    for sight in sights {
+        let next = next_views(views, &mut known, current, sight)?;
+        walk(views, lasts, &next[..current.len()], sights, rounds - 1)?;
     }
     Ok(())
 }
@@ -281,7 +281,7 @@ pub(crate) fn last_views(
     let mut lasts = Vec::with_capacity(alloc, room)?;
     let mut round = Round {
         size: 0,
-        snapshots: Vec::new(alloc),
+        sights: Vec::new(alloc),
     };
     for simplex in simplices {
         let first = first_views(views, simplex)?;
@@ -291,7 +291,7 @@ pub(crate) fn last_views(
             views,
             &mut lasts,
             &first[..size as usize],
-            &round.snapshots,
+            &round.sights,
             rounds,
         )?;
     }

@@ -1,9 +1,6 @@
 -- A text from its parts: what stands before the lines, the lines, and its end.
-use Rattle.std.proofs.Common.{◌≡◌, ℕ, List, [], ◌∷◌, ◌++◌, map, flat_map, reverse, codes, refl, sym, ap, ◌∙◌, append_assoc, append-nil}
-use Rattle.std.proofs.lemmas.List.{reverse-append}
+use Rattle.std.proofs.Common.{◌≡◌, ℕ, List, [], ◌∷◌, ◌++◌, flat_map, codes, refl, ap, ◌∙◌, append_assoc, append-nil}
 use Rattle.wf_model.specs.Report.{Body, a_map, none, least, Report, line, line_text, value_line, answer_line, body_text, report_text}
-use Rattle.wf_lines.specs.Lines.{line_of}
-use Rattle.wf_lines.specs.declared.line.Line.{Line}
 use Rattle.wf_report.specs.Writing.{beginning, steps_of, values_of}
 
 body_is : (b : Body) → flat_map value_line (values_of b) ++ flat_map line_text (steps_of b) ≡ body_text b
@@ -21,12 +18,3 @@ whole r before with_lines all is lines last =
     ∙ ap (λ xs. xs ++ line (codes "end") []) (lines ∙ ap (λ xs. xs ++ flat_map line_text (steps_of r.body)) is)
     ∙ nine (line (codes "wfcheck report 1") []) (line (codes "processes") (r.processes ∷ [])) (line (codes "rounds") (r.rounds ∷ [])) (line (codes "points") (r.points ∷ [])) (line (codes "executions") (r.executions ∷ [])) (answer_line r.body) (flat_map value_line (values_of r.body)) (flat_map line_text (steps_of r.body)) (line (codes "end") [])
     ∙ ap header (body_is r.body)
-
--- the last of the lines that are left, back to front, is written
-pub one_written : (start before after : List ℕ) (left rest : List Line) (x : Line) → left ≡ rest ++ x ∷ [] → before ++ flat_map line_text (map line_of (reverse left)) ≡ start → after ≡ before ++ line_text (line_of x)
-    → after ++ flat_map line_text (map line_of (reverse rest)) ≡ start
-one_written start before after left rest x popped so_far put =
-    ap (λ bs. bs ++ flat_map line_text (map line_of (reverse rest))) put
-    ∙ append_assoc before (line_text (line_of x)) (flat_map line_text (map line_of (reverse rest)))
-    ∙ ap (λ ls. before ++ flat_map line_text (map line_of ls)) (sym (ap reverse popped ∙ reverse-append rest (x ∷ [])))
-    ∙ so_far

@@ -19,7 +19,7 @@ returns-in_err-next-clause-known c =
 pub loop-i-preserved : goal.loop-i-preserved
 loop-i-preserved c =
     let old = views_at c.args.views.now c.args.current.now in
-    let w = c.args.snapshot.now.word in
+    let w = c.args.sight.now.word in
     let kept = views_kept c.args.views.now c.loop-i.views c.args.current.now c.loop-i.invariant.extends (recursion_from_All _ c.args.current.now c.requires.views.within) in
     let within : c.loop-i.i < length c.args.current.now = omega (arith, c.requires.long, c.size-i-end.ensures.count, c.loop-i-test.true) in
     let long = length-views c.args.views.now c.args.current.now in
@@ -38,4 +38,4 @@ loop-i-preserved c =
 
 pub returns-clause-views : goal.returns-clause-views
 returns-clause-views c =
-    after_round c.args.views.now c.loop-i.views c.args.current.now c.args.snapshot.now.word c.requires.views c.requires.long c.loop-i.i (omega arith) (omega arith) c.loop-i.next c.loop-i.invariant.within c.loop-i.invariant.made
+    after_round c.args.views.now c.loop-i.views c.args.current.now c.args.sight.now.word c.requires.views c.requires.long c.loop-i.i (omega arith) (omega arith) c.loop-i.next c.loop-i.invariant.within c.loop-i.invariant.made

@@ -10,5 +10,5 @@ invariant-loop-i l = record {
   few : length l.views ≤ length l.initial.views + l.i;
   known : AreKnown l.views (views_at l.initial.views l.current) l.known;
   within : All (λ k. k < length l.views) (take l.i l.next);
-  made : views_at l.views (take l.i l.next) ≡ take l.i (round (views_at l.initial.views l.current) l.snapshot.word);
+  made : views_at l.views (take l.i l.next) ≡ take l.i (round (views_at l.initial.views l.current) l.sight.word);
 }

@@ -1,6 +1,6 @@
 use Rattle.std.proofs.Common.{◌≡◌, length, take, map}
 use Rattle.wf_complex.specs.Rounds.{places_seen}
-use Rattle.wf_complex.proofs.rounds.snapshot_of.Given as goal
+use Rattle.wf_complex.proofs.rounds.sight_of.Given as goal
 
 abbrev pub invariant-loop-i : goal.invariant-loop-i
 invariant-loop-i l = (length l.seen ≡ 4)
