@@ -110,6 +110,8 @@ def tuples(name, start, legal, values):
                 raise
             raise Mistake(f"{name}: the predicate looks up process {missing} where only {processes} take part: it is asked for each part "
                           "of each input, since some may run alone, and `start` and `end` have those that take part")
+        if is_legal is None:
+            raise Mistake(f"{name}: the predicate answers nothing where the processes begin with {dict(start)}: is a `return` missing?")
         if is_legal:
             found.append(choice)
         if len(found) > MOST_TUPLES:
