@@ -49,6 +49,8 @@ def value_of(text):
         raise Refused("1 TooLong", f"the file has {len(text)} bytes, and {LONGEST} are read")
     if not text.strip():
         raise Refused("2 NotJson", "the file is empty")
+    if text.startswith(b"wfcheck "):
+        raise Refused("2 NotJson", "the file is a text that wfcheck wrote, as a report, and no task")
     try:
         decoded = text.decode("utf-8")
         value = json.loads(decoded, parse_int=whole_or_not, parse_float=finite, parse_constant=no_json)

@@ -41,6 +41,8 @@ def read(text):
     if len(text) > LONGEST:
         raise Unreadable(f"it has more than {LONGEST:,} bytes")
     *lines, last = text.split("\n")
+    if lines and lines[0].endswith("\r"):
+        raise Unreadable("line 1: it ends in a carriage return, as an editor may have put there: `tr -d '\\r'` takes them out")
     if lines[:1] != ["wfcheck report 1"]:
         raise Unreadable("line 1: it is not `wfcheck report 1` and a line feed")
     if last or len(lines) < len(HEADER) + 3 or lines[-1] != "end":
