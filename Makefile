@@ -20,8 +20,8 @@ build:
 quick:
 	checks/quick
 
-# Everything is proved, the edits that must fail are tried, and the tests and the rows of command lines are run. What passed on this
-# machine over the same files is taken over: `rt ci --anew` proves all from nothing.
+# Everything is proved, the edits that must fail are tried, and the tests and the rows of command lines are run. Some kits take over
+# what passed on this machine over the same files.
 test:
 	checks/gate
 

@@ -178,7 +178,7 @@ fn branch<'a>(alloc: Global) -> Arg<'a>
     optional(
         alloc,
         "branch",
-        "Of the branches of the question, which branches lists from 0, this one alone",
+        "One branch of the question alone: its number in the list that branches writes, from 0",
     )
 }
 
