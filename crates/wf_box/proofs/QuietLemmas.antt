@@ -19,7 +19,7 @@ use Rattle.wf_network.specs.Users.{AreTold, HasBit, IsUser, no_execution, no_wor
 use Rattle.wf_network.specs.declared.users.UserWord.{UserWord}
 use Rattle.wf_box.specs.Steps.{reached}
 use Rattle.wf_network.specs.declared.problem.Rule.{Rule}
-use Rattle.wf_network.specs.declared.problem.PackedExecution.{PackedExecution}
+use Rattle.wf_complex.specs.declared.packed.PackedExecution.{PackedExecution}
 use Rattle.wf_network.specs.declared.users.Users.{Users}
 use Rattle.wf_lines.specs.Lines.{line_of}
 use Rattle.wf_lines.specs.declared.line.Line.{Line}

@@ -8,7 +8,7 @@ use Rattle.wf_lines.specs.declared.line.Line.{Line}
 use Rattle.wf_box.specs.Changes.{sets_in}
 use Rattle.wf_box.specs.Closes.{EndsAt, IsEmptied, emptied_by}
 use Rattle.wf_lane.specs.Table.{HasSupported}
-use Rattle.wf_network.specs.Problems.{rule_in, rule_of}
+use Rattle.wf_network.specs.Problems.{executions_in, rule_in, rule_of}
 use Rattle.wf_memo.specs.Revising.{AreKnown, answers_in, found_at, found_in}
 use Rattle.wf_box.specs.Steps.{HasRoom, IsPaid, IsSpent, point_if}
 use Rattle.wf_box.specs.Working.{Ends, IsWorking, Proceeds}
@@ -16,7 +16,7 @@ use Rattle.wf_box.specs.declared.closing.Closed.{Closed}
 use Rattle.wf_box.specs.declared.closing.Closed.TheVariants.{Empty, Open}
 use Rattle.wf_network.specs.declared.marks.Marks.{Marks}
 use Rattle.wf_memo.specs.declared.memo.Memo.{Memo}
-use Rattle.wf_network.specs.declared.problem.PackedExecution.{PackedExecution}
+use Rattle.wf_complex.specs.declared.packed.PackedExecution.{PackedExecution}
 use Rattle.wf_network.specs.declared.problem.Network.{Network}
 use Rattle.wf_box.specs.declared.tracked.Tracked.{Tracked}
 use Rattle.wf_box.specs.declared.workspace.Workspace.{Workspace}
@@ -100,14 +100,14 @@ emptied_so lines more old new (Open n) ends = tt
 -- ---- what is found at an execution
 
 -- what is found at its points
-pub found_is : (n : Network) (e : ℕ) (x : PackedExecution) (sets words : List (List ℕ)) → e < length n.executions.items → x ≡ slice_index_or n.executions.items e x → sets ≡ words → found_in n e sets ≡ found_at x words
+pub found_is : (n : Network) (e : ℕ) (x : PackedExecution) (sets words : List (List ℕ)) → e < length (executions_in n) → x ≡ slice_index_or (executions_in n) e x → sets ≡ words → found_in n e sets ≡ found_at x words
 found_is n e x sets words low here same = ap (λ (y : PackedExecution). found_at y sets) (execution_is n e x low here) ∙ ap (found_at x) same
 
 -- the same, where what is found has a name
-pub found_now : (n : Network) (e : ℕ) (x : PackedExecution) (words found : List (List ℕ)) → e < length n.executions.items → x ≡ slice_index_or n.executions.items e x → found ≡ found_in n e words → found ≡ found_at x words
+pub found_now : (n : Network) (e : ℕ) (x : PackedExecution) (words found : List (List ℕ)) → e < length (executions_in n) → x ≡ slice_index_or (executions_in n) e x → found ≡ found_in n e words → found ≡ found_at x words
 found_now n e x words found low here is = is ∙ found_is n e x words words low here refl
 
-pub supported_now : (n : Network) (e : ℕ) (x : PackedExecution) (words found supported : List (List ℕ)) → e < length n.executions.items → x ≡ slice_index_or n.executions.items e x → found ≡ found_in n e words
+pub supported_now : (n : Network) (e : ℕ) (x : PackedExecution) (words found supported : List (List ℕ)) → e < length (executions_in n) → x ≡ slice_index_or (executions_in n) e x → found ≡ found_in n e words
     → HasSupported supported (rule_in n e).table found → HasSupported supported (rule_of n.rules.items x).table found
 supported_now n e x words found supported low here is right =
     subst (λ (y : PackedExecution). HasSupported supported (rule_of n.rules.items y).table found) (execution_is n e x low here) right

@@ -6,7 +6,7 @@ use Rattle.wf_lines.specs.declared.line.Line.{Line}
 use Rattle.wf_box.specs.Changes.{GrowsTo, KeepsTrack, sets_in}
 use Rattle.wf_box.specs.Closes.{EndsAt}
 use Rattle.wf_network.specs.Marks.{bit_of}
-use Rattle.wf_network.specs.Problems.{IsNetwork, constraint_in, constraints_in}
+use Rattle.wf_network.specs.Problems.{IsNetwork, constraint_in, constraints_in, executions_in}
 use Rattle.wf_box.specs.Quiet.{IsUntouched, IsUntouchedBut, MarksTell}
 use Rattle.wf_network.specs.Users.{IsUser}
 use Rattle.wf_memo.specs.Revising.{AreKnown, answers_in}
@@ -26,7 +26,7 @@ pub record IsWorking {A : Type 0} (points executions : ℕ) (ks : List Constrain
   pub known : AreKnown ks (answers_in w.memo)
 
 abbrev pub IsWorkingOn : {A : Type 0} → Network → Vec Line A → Workspace → Type 0
-IsWorkingOn n lines w = IsWorking n.points (length n.executions.items) (constraints_in n) lines w
+IsWorkingOn n lines w = IsWorking n.points (length (executions_in n)) (constraints_in n) lines w
 
 abbrev pub IsWorkingFor : {A : Type 0} → Problem → Vec Line A → Workspace → Type 0
 IsWorkingFor p lines w = IsWorking p.points (length p.constraints) p.constraints lines w
@@ -47,7 +47,7 @@ pub record Proceeds {A : Type 0} (points executions : ℕ) (ks : List Constraint
   pub known : AreKnown ks (answers_in new.memo)
 
 abbrev pub ProceedsOn : {A : Type 0} → Network → Vec Line A → Workspace → Vec Line A → Workspace → Option ℕ → Type 0
-ProceedsOn n lines old more new emptied = Proceeds n.points (length n.executions.items) (constraints_in n) lines old.tracked more new emptied
+ProceedsOn n lines old more new emptied = Proceeds n.points (length (executions_in n)) (constraints_in n) lines old.tracked more new emptied
 
 abbrev pub ProceedsFor : {A : Type 0} → Problem → Vec Line A → Workspace → Vec Line A → Workspace → Option ℕ → Type 0
 ProceedsFor p lines old more new emptied = Proceeds p.points (length p.constraints) p.constraints lines old.tracked more new emptied
@@ -84,7 +84,7 @@ AreSilent n v old new = (e : ℕ) → IsUser n.users v e → IsSilent e old new
 -- it is an execution of the network, whose points closing works on
 pub record IsRevising {A : Type 0} (n : Network) (e : ℕ) (lines : Vec Line A) (w : Workspace) : Type 0 where
   pub network : IsNetwork n
-  pub number : e < length n.executions.items
+  pub number : e < length (executions_in n)
   pub working : IsWorkingOn n lines w
 
 -- what the execution has lost is taken out, up to this point, if it empties one

@@ -11,7 +11,7 @@ ghost use Rattle.wf_network.specs.Marks.{KeepsBitsBut, bit_of};
 ghost use Rattle.wf_box.specs.Quiet.{EmptiesNoneSince, IsUntouchedSince, MarksTell, StoodClosed};
 ghost use Rattle.wf_set.specs.Sets.{box_of};
 ghost use Rattle.wf_lane.specs.Table.{HasSupported};
-ghost use Rattle.wf_network.specs.Problems.{IsNetwork, constraints_in, rule_in};
+ghost use Rattle.wf_network.specs.Problems.{IsNetwork, constraints_in, executions_in, rule_in};
 ghost use Rattle.wf_box.specs.Steps.{ClosesTo, NamesAll, NamesLost, Reaches, SweepsTo, box_in};
 ghost use Rattle.wf_box.specs.Closes.{AddsClosing, AreFew, IsEmptied, IsSupported, KeepsSolutions, Leaves, LosesNamed, Takes, emptied_by, sweeps_to_close};
 ghost use Rattle.wf_memo.specs.Revising.{AreSame, found_at, found_in, wide_set, widened};
@@ -72,7 +72,7 @@ pub fn close(
 {
     lines.reserve(boxed.workspace.tracked.room() + 1)?;
     let network = problem.network();
-    let executions = network.executions.len() as u32;
+    let executions = network.execution_count() as u32;
     boxed.workspace.marks.reserve(alloc, executions)?;
     // no call after this one is refused
     boxed.workspace.memo.grow(alloc, network);
@@ -162,7 +162,7 @@ fn mark_changed(network: &Network, changes: usize, tracked: &Tracked, marks: &mu
     requires network { IsNetwork network.now }
     requires kept { KeepsTrack tracked.now }
     requires long { length tracked.now.words.items ≡ network.now.points }
-    requires marks_long { length network.now.executions.items ≤ 64 * length marks.old.words.items }
+    requires marks_long { length (executions_in network.now) ≤ 64 * length marks.old.words.items }
     requires changes { changes ≤ length tracked.now.trail.items }
     ensures untouched { IsUntouchedSince changes network.now.users tracked.now marks.new }
     ensures full { OnTrue result (EmptiesNoneSince changes tracked.now) }
@@ -244,7 +244,7 @@ fn sweep_marked(network: &Network, workspace: &mut Workspace, lines: &mut Lines)
 {
     let mut next = 0;
     'marked: while let Some(number) = workspace.marks.take_next(next) {
-        if number as usize >= network.executions.len() {
+        if number as usize >= network.execution_count() {
             return None;
         }
         if let Some(point) = revise(number, network, workspace, lines) {
@@ -268,7 +268,7 @@ fn revise(
     ensures { Revises network.now number
         lines.old workspace.old lines.new workspace.new result }
 {
-    let execution = network.executions[number as usize];
+    let execution = network.execution(number as usize);
     let found = candidates_at(execution, &workspace.tracked.words);
     match narrowed(found) {
         Some(parts) => revise_parts(number, parts, network, workspace, lines),
@@ -317,8 +317,8 @@ fn take_parts(
     ensures { Revises network.now number
         lines.old workspace.old lines.new workspace.new result }
 {
-    let execution = network.executions[number as usize];
-    let rule = &network.rules[execution.rule as usize];
+    let execution = network.execution(number as usize);
+    let rule = &network.rules[execution.simplex as usize];
     let processes = rule.places();
     'places: for place in 0..processes {
         let lost = part::difference(found[place as usize], supported[place as usize]);
@@ -380,8 +380,8 @@ fn take_sets(
     ensures { Revises network.now number
         lines.old workspace.old lines.new workspace.new result }
 {
-    let execution = network.executions[number as usize];
-    let rule = &network.rules[execution.rule as usize];
+    let execution = network.execution(number as usize);
+    let rule = &network.rules[execution.simplex as usize];
     let processes = rule.places();
     'places: for place in 0..processes {
         let lost = difference(found[place as usize], supported[place as usize]);

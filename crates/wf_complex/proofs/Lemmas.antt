@@ -2,3 +2,4 @@
 pub use Rattle.wf_complex.proofs.Different.{length-distinct}
 pub use Rattle.wf_complex.proofs.ExecutionAt.{as_many_constraints, known_points, right_there, rule_inside, rule_there, scope_is}
 pub use Rattle.wf_complex.proofs.RuleAt.{as_many_executions, constraint_there, got}
+pub use Rattle.wf_complex.proofs.PackedLemmas.{four_all, four_long, four_part, zip_part}

@@ -8,6 +8,7 @@ pub mod Bounds
 pub mod FirstPlaces
 pub mod Lying
 pub mod PlaceLemmas
+pub mod PackedLemmas
 pub mod Different
 pub mod Merging
 pub mod Cuts

@@ -1,17 +1,16 @@
 -- Places of executions: the points there, and which execution and process stands at each.
-use Rattle.std.proofs.Common.{◌≡◌, ◌<◌, ◌≤◌, ℕ, zero, suc, ◌+◌, ◌-◌, ◌==◌, if◌then◌else◌, Some, option_map, slice_get, List, [], ◌∷◌, ◌++◌, map, flat_map, zip, take, drop, length, get_or, All, subst, ◌≢◌, inl, inr, eqb-true, sym, ap, ◌∙◌, arith, length-take, length-drop}
+use Rattle.std.proofs.Common.{◌≡◌, ◌<◌, ◌≤◌, ℕ, zero, suc, ◌+◌, ◌-◌, ◌==◌, if◌then◌else◌, Some, option_map, slice_get, List, [], ◌∷◌, ◌++◌, flat_map, zip, drop, length, get_or, All, subst, ◌≢◌, inl, inr, eqb-true, sym, ap, ◌∙◌, arith, length-take, length-drop}
 use Rattle.std.specs.List.{AllByRecursion, enumerate_from}
 use Rattle.std.proofs.lemmas.List.{drop_more, get_or-map, length-map, get_or_append_left, get_or-append_right}
 use Rattle.std.proofs.lemmas.List.Elements.{All-get_or, recursion_from_All}
 use Rattle.std.proofs.lemmas.Option.{slice_get-get_or, slice_get-map, slice_get_within}
-use Rattle.std.proofs.lemmas.Slice.Zip.{seconds-zip}
 use Rattle.std.proofs.lemmas.Bool.{cases_Bool}
 use Rattle.wf_model.specs.Simplex.{Simplex, processes_of}
 use Rattle.wf_complex.specs.declared.layout.Span.{Span}
-use Rattle.wf_complex.specs.Places.{part_of, EndsBy, LieFrom, BelongsTo, IsOn, processes_on, scope_on, places_on, places_on_all}
-use Rattle.wf_complex.specs.ProtocolSeen.{firsts_seen, scopes_seen}
+use Rattle.wf_complex.specs.Places.{part_of, EndsBy, LieFrom, BelongsTo, IsOn, processes_on, places_on, places_on_all}
+use Rattle.wf_complex.specs.ProtocolSeen.{firsts_seen}
 use Rattle.wf_complex.specs.Protocol.{point_in}
-use Rattle.wf_complex.proofs.Lying.{all_end, lie_after}
+use Rattle.wf_complex.proofs.Lying.{lie_after}
 use Rattle.wf_complex.proofs.RuleAt.{got}
 
 -- ---- an execution's part
@@ -19,7 +18,7 @@ use Rattle.wf_complex.proofs.RuleAt.{got}
 pub length-part_of : {X : Type 0} (xs : List X) (e : Span) → EndsBy (length xs) e → length (part_of xs e) ≡ e.size
 length-part_of xs e h = omega (arith, length-take e.size (drop e.place xs), length-drop e.place xs, h)
 
-length-processes_on : (inputs : List Simplex) (e : Span) → IsOn inputs e → length (processes_on inputs e) ≡ e.size
+pub length-processes_on : (inputs : List Simplex) (e : Span) → IsOn inputs e → length (processes_on inputs e) ≡ e.size
 length-processes_on inputs e on = length-map (get_or inputs e.simplex []) (λ v. v.0) ∙ sym on.1
 
 -- the input simplex of an execution
@@ -39,44 +38,6 @@ point_in-other c processes points i low long other =
       | inl same ↦ absurd (other (eqb-true _ _ same))
       | inr apart ↦ sym (point_in-more c processes points i low long ∙ ap (λ b. if b then Some (get_or points i 0) else point_in c (zip (drop (i + 1) processes) (drop (i + 1) points))) apart)
     ]
-
--- ---- what is seen of an execution
-
--- one execution of those that lie on the input simplices
-pub record IsThere (inputs : List Simplex) (numbers : List ℕ) (es : List Span) (k : ℕ) (e : Span) : Type 0 where
-  pub within : EndsBy (length numbers) e
-  pub on : IsOn inputs e
-  pub scope : get_or (scopes_seen inputs numbers es) k [] ≡ scope_on inputs numbers e
-
-pub is_there : (inputs : List Simplex) (numbers : List ℕ) (es : List Span) (k : ℕ) (e : Span) → LieFrom 0 (length numbers) es → All (IsOn inputs) es → k < length es → e ≡ get_or es k e → IsThere inputs numbers es k e
-is_there inputs numbers es k e lying on low is = record {
-  within = subst (EndsBy (length numbers)) (sym is) (All-get_or (EndsBy (length numbers)) es k e low (all_end (length numbers) es lying));
-  on = subst (IsOn inputs) (sym is) (All-get_or (IsOn inputs) es k e low on);
-  scope = get_or-map (scope_on inputs numbers) es k e [] low ∙ ap (scope_on inputs numbers) (sym is);
-}
-
-pub length-scopes : (inputs : List Simplex) (numbers : List ℕ) (es : List Span) → length (scopes_seen inputs numbers es) ≡ length es
-length-scopes inputs numbers es = length-map es (scope_on inputs numbers)
-
--- the points of an execution
-pub points_on : (inputs : List Simplex) (numbers : List ℕ) (es : List Span) (k : ℕ) (e : Span) → IsThere inputs numbers es k e → part_of numbers e ≡ map (λ (at : ℕ × ℕ). at.1) (get_or (scopes_seen inputs numbers es) k [])
-points_on inputs numbers es k e h =
-    sym (ap (map (λ (at : ℕ × ℕ). at.1)) h.scope
-    ∙ seconds-zip (processes_on inputs e) (part_of numbers e) (length-part_of numbers e h.within ∙ sym (length-processes_on inputs e h.on)))
-
-pub points_there : (inputs : List Simplex) (numbers : List ℕ) (es : List Span) (k : ℕ) (e : Span) → IsThere inputs numbers es k e → take (e.place + e.size - e.place) (drop e.place numbers) ≡ map (λ (at : ℕ × ℕ). at.1) (get_or (scopes_seen inputs numbers es) k [])
-points_there inputs numbers es k e h =
-    let size : e.place + e.size - e.place ≡ e.size = omega arith in
-    ap (λ n. take n (drop e.place numbers)) size ∙ points_on inputs numbers es k e h
-
--- as many as its processes
-pub points_long : (inputs : List Simplex) (numbers : List ℕ) (es : List Span) (k : ℕ) (e : Span) → IsThere inputs numbers es k e → length (get_or inputs e.simplex []) ≡ length (map (λ (at : ℕ × ℕ). at.1) (get_or (scopes_seen inputs numbers es) k []))
-points_long inputs numbers es k e h = sym h.on.1 ∙ sym (length-part_of numbers e h.within) ∙ ap length (points_on inputs numbers es k e h)
-
--- its processes beside its points
-pub scope_there : (inputs : List Simplex) (numbers : List ℕ) (es : List Span) (k : ℕ) (e : Span) → IsThere inputs numbers es k e →
-    zip (processes_on inputs e) (map (λ (at : ℕ × ℕ). at.1) (get_or (scopes_seen inputs numbers es) k [])) ≡ get_or (scopes_seen inputs numbers es) k []
-scope_there inputs numbers es k e h = ap (zip (processes_on inputs e)) (sym (points_on inputs numbers es k e h)) ∙ sym h.scope
 
 -- ---- the execution and the process of a place
 

@@ -1,6 +1,7 @@
 -- What contracts say, here and in the crates above.
 pub mod Faults
 pub mod Protocol
+pub mod Packed
 -- What only this crate's own code and proofs use.
 pub mod Rounds
 pub mod Numbering

@@ -7,6 +7,8 @@ use Rattle.wf_model.specs.View.{View}
 use Rattle.wf_model.specs.Execution.{executions_on, executions}
 use Rattle.wf_model.specs.Points.{points, last_view_count, first_appearances}
 use Rattle.wf_model.specs.Problem.{Participant, problem_of}
+use Rattle.wf_complex.specs.Packed.{four_of}
+use Rattle.wf_complex.specs.declared.packed.PackedExecution.{PackedExecution}
 use Rattle.wf_complex.specs.declared.fault.BuildFault.{BuildFault}
 use Rattle.wf_complex.specs.declared.fault.BuildFault.TheVariants.{Rounds, TooManyExecutions, OutOfMemory}
 
@@ -46,3 +48,9 @@ Builds t r (Err OutOfMemory) = (r ≤ most_rounds) × (length (executions t r) �
 abbrev pub point_in : ℕ → List Participant → Option ℕ
 point_in c [] = None
 point_in c (at ∷ scope) = if at.0 == c then Some at.1 else point_in c scope
+
+-- each execution is packed: its input simplex, and its points, the first of them again up to four
+pub record ArePacked (b : Built) (es : List PackedExecution) : Type 0 where
+  pub long : length es ≡ length b.scopes
+  pub simplices : map (λ e. e.simplex) es ≡ b.simplices
+  pub points : map (λ e. e.points) es ≡ map (λ scope. four_of (map (λ at. at.1) scope)) b.scopes

@@ -9,6 +9,8 @@ use Rattle.wf_model.specs.ViewCode.{view_list_code}
 use Rattle.wf_complex.specs.Rounds.{views_at}
 use Rattle.wf_complex.specs.Places.{LieFrom, IsOn, scope_on, places_on_all}
 use Rattle.wf_complex.specs.Protocol.{Built}
+use Rattle.wf_complex.specs.Packed.{IsPackedOn, scope_in}
+use Rattle.wf_complex.specs.declared.packed.PackedExecution.{PackedExecution}
 use Rattle.wf_complex.specs.declared.layout.Span.{Span}
 use Rattle.wf_complex.specs.declared.protocol.Protocol.TheInside.{Inside}
 
@@ -33,24 +35,31 @@ firsts_seen inputs executions firsts = map (λ j. slice_index_or (places_on_all 
 abbrev pub scopes_seen : List Simplex → List ℕ → List Span → List (List (ℕ × ℕ))
 scopes_seen inputs numbers executions = map (scope_on inputs numbers) executions
 
+-- the executions as they are packed
+abbrev pub executions_in : Inside → List PackedExecution
+executions_in p = p.executions.value.items
+
 abbrev pub built_seen : Inside → Built
 built_seen p = record {
   rounds = p.rounds;
   table = p.views;
   points = points_seen p.views p.classes.items;
   view_count = p.view_count;
-  firsts = firsts_seen p.inputs.items p.executions.items p.firsts.items;
-  simplices = map (λ e. e.simplex) p.executions.items;
-  scopes = scopes_seen p.inputs.items p.numbers.items p.executions.items;
+  firsts = firsts_seen p.inputs.items p.spans.items p.firsts.items;
+  simplices = map (λ e. e.simplex) (executions_in p);
+  scopes = map (scope_in p.inputs.items) (executions_in p);
 }
 
--- the executions are on the input simplices and lie one after another, each place has a point, and
--- each point has a view and a first place
+-- the executions are on the input simplices and lie one after another, and each point has a view
+-- and a first place
 pub record IsKept (p : Inside) : Type 0 where
-  pub lying : LieFrom 0 (length p.numbers.items) p.executions.items
-  pub on : All (IsOn p.inputs.items) p.executions.items
-  pub few_executions : length p.executions.items ≤ most_executions
+  pub places : ℕ
+  pub lying : LieFrom 0 places p.spans.items
+  pub on : All (IsOn p.inputs.items) p.spans.items
+  pub packed : All (IsPackedOn p.inputs.items) (executions_in p)
+  pub few_executions : length (executions_in p) ≤ most_executions
+  pub few_spans : length p.spans.items ≤ most_executions
   pub few_points : length p.classes.items ≤ most_points
   pub viewed : All (λ id. id < length p.views) p.classes.items
   pub appearing : length p.firsts.items ≡ length p.classes.items
-  pub placed : All (λ j. j < length p.numbers.items) p.firsts.items
+  pub placed : All (λ j. j < places) p.firsts.items

@@ -6,7 +6,7 @@ ghost use Rattle.wf_model.specs.Limits.{most_executions, most_inputs, most_point
 ghost use Rattle.wf_model.specs.Simplex.{processes_of};
 ghost use Rattle.wf_model.specs.Task.{IsTaskSimplex};
 ghost use Rattle.wf_complex.specs.Layout.{execution_total};
-ghost use Rattle.wf_complex.specs.Protocol.{Builds, point_in};
+ghost use Rattle.wf_complex.specs.Protocol.{ArePacked, Builds, point_in};
 ghost use Rattle.wf_complex.specs.ProtocolMade.{IsMade};
 
 use crate::classes::points_of;
@@ -14,9 +14,11 @@ use crate::fault::BuildFault;
 use crate::layout::{
     MOST_EXECUTIONS, Span, execution_count, execution_of, lay_out, place_after_all,
 };
+use crate::packed::{PackedExecution, pack};
 use crate::rounds::last_views;
 use std::alloc::{AllocError, Global};
 use std::marker::Model;
+use std::sync::Arc;
 use wf_simplex::Simplex;
 use wf_task::Task;
 use wf_view::Views;
@@ -43,9 +45,9 @@ pub struct Protocol {
     firsts: Vec<u32>,
     // the input simplices: an execution's processes are those of its own
     inputs: Vec<Simplex>,
-    executions: Vec<Span>,
-    // the point at each place
-    numbers: Vec<u32>,
+    // where the places of each execution lie
+    spans: Vec<Span>,
+    executions: Arc<Vec<PackedExecution>, Global>,
 }
 
 impl Model for Protocol {
@@ -109,7 +111,7 @@ impl Protocol {
         requires { execution < length self.now.scopes }
         ensures { slice_get self.now.simplices execution ≡ Some result }
     {
-        u32::from(self.executions[execution as usize].simplex)
+        self.executions[execution as usize].simplex
     }
 
     /// The point of a process in an execution; `None` where it does not take part.
@@ -117,7 +119,7 @@ impl Protocol {
         requires { execution < length self.now.scopes }
         ensures { result ≡ point_in process (slice_index_or self.now.scopes execution []) }
     {
-        let at = self.executions[execution as usize];
+        let at = &self.executions[execution as usize];
         let simplex = &self.inputs[at.simplex as usize];
         point_among(simplex, self.points_of(execution), process)
     }
@@ -127,9 +129,20 @@ impl Protocol {
         requires { execution < length self.now.scopes }
         ensures { result.now ≡ map (λ at. at.1) (slice_index_or self.now.scopes execution []) }
     {
-        let at = self.executions[execution as usize];
-        let first = at.place as usize;
-        &self.numbers[first..first + at.size as usize]
+        let at = &self.executions[execution as usize];
+        let simplex = &self.inputs[at.simplex as usize];
+        &at.points[..simplex.colours() as usize]
+    }
+
+    /// The executions as they are packed, which are shared and not copied.
+    ///
+    /// Refused where there are too many who share them.
+    pub fn packed(&self) -> Result<Arc<Vec<PackedExecution>, Global>, AllocError>
+        ensures packed { IfOk result (λ executions. ArePacked self.now executions.value.items) }
+        ensures few { IfOk result
+            (λ executions. length executions.value.items ≤ most_executions) }
+    {
+        Arc::try_clone(&self.executions)
     }
 
     /// The number of a point's view, or in a symmetric task that of its
@@ -147,8 +160,8 @@ impl Protocol {
         ensures { slice_get self.now.firsts point ≡ Some result }
     {
         let place = self.firsts[point as usize];
-        let execution = execution_of(&self.executions, place);
-        let at = self.executions[execution as usize];
+        let execution = execution_of(&self.spans, place);
+        let at = self.spans[execution as usize];
         let simplex = &self.inputs[at.simplex as usize];
         (execution, simplex.colour((place - at.place) as u8))
     }
@@ -186,10 +199,11 @@ fn complex_from(
     ensures { IfOk result (IsMade inputs.now symmetric first_block rounds) }
 {
     let mut views = Views::start(alloc);
-    let executions = lay_out(alloc, inputs, first_block, rounds)?;
-    let room = place_after_all(&executions);
+    let spans = lay_out(alloc, inputs, first_block, rounds)?;
+    let room = place_after_all(&spans);
     let lasts = last_views(alloc, &mut views, inputs, first_block, rounds, room)?;
     let points = points_of(alloc, &mut views, lasts, symmetric)?;
+    let executions = pack(alloc, &spans, &points.numbers)?;
     let inputs = inputs.to_vec(alloc)?;
     Ok(Protocol {
         rounds,
@@ -198,8 +212,8 @@ fn complex_from(
         classes: points.classes,
         firsts: points.firsts,
         inputs,
-        executions,
-        numbers: points.numbers,
+        spans,
+        executions: Arc::new(alloc, executions)?,
     })
 }
 

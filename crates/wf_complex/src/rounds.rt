@@ -40,7 +40,7 @@ struct Sight {
     seen: [u8; 4],
 }
 
-/// The sights that a round of so many participants may be, by their words.
+/// The sights that a round of so many participants may be.
 #[derive(Drop)]
 struct Round {
     // how many participants there are, or 0 where no sight is made yet

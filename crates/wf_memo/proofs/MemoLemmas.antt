@@ -6,7 +6,7 @@ use Rattle.std.proofs.lemmas.Bool.{and_from, and_parts, cases_lt, false≢true, 
 use Rattle.wf_model.specs.Simplex.{processes_of}
 use Rattle.wf_model.specs.Problem.{Constraint, no_constraint}
 use Rattle.wf_lane.specs.Table.{AreFirstParts, HasSupported, Table, sets_of}
-use Rattle.wf_network.specs.Problems.{IsNetwork, IsWide, constraint_seen, constraints_in, no_rule, rule_in, rule_of}
+use Rattle.wf_network.specs.Problems.{IsNetwork, IsWide, constraint_seen, constraints_in, executions_in, no_rule, rule_in, rule_of}
 use Rattle.wf_network.specs.Users.{no_execution}
 use Rattle.wf_set.specs.Parts.{part_limit, part_values}
 use Rattle.wf_set.specs.Sets.{values_in}
@@ -19,7 +19,7 @@ use Rattle.wf_memo.specs.declared.memo.Memo.{Memo}
 use Rattle.wf_memo.specs.declared.memo.Revised.{Revised}
 use Rattle.wf_memo.specs.declared.memo.RevisedParts.{RevisedParts}
 use Rattle.wf_memo.specs.declared.memo.RevisedWord.{RevisedWord}
-use Rattle.wf_network.specs.declared.problem.PackedExecution.{PackedExecution}
+use Rattle.wf_complex.specs.declared.packed.PackedExecution.{PackedExecution}
 use Rattle.wf_network.specs.declared.problem.Network.{Network}
 use Rattle.wf_network.specs.declared.problem.Rule.{Rule}
 use Rattle.wf_memo.proofs.LeftLemmas.{sets_at, supported_there}
@@ -81,31 +81,31 @@ table_is rules x long few wide =
     let width : length (zip (processes_of s) x.points) ≡ (rule_of rules x).table.width = length_beside (processes_of s) x.points (omega (arith, count, few, long)) ∙ count ∙ sym wide in
     λ i. record { width = width i; rows = (rule_of rules x).table.rows }
 
-table_at : (n : Network) (e : ℕ) → IsNetwork n → e < length n.executions.items → length (rule_in n e).simplex ≤ 4 → table_seen (get_or (constraints_in n) e no_constraint) ≡ (rule_in n e).table
+table_at : (n : Network) (e : ℕ) → IsNetwork n → e < length (executions_in n) → length (rule_in n e).simplex ≤ 4 → table_seen (get_or (constraints_in n) e no_constraint) ≡ (rule_in n e).table
 table_at n e network low few =
-    let x = get_or n.executions.items e no_execution in
+    let x = get_or (executions_in n) e no_execution in
     let within = network.within e no_execution low in
-    ap table_seen (get_or-map (constraint_seen n.rules.items) n.executions.items e no_execution no_constraint low)
-    ∙ table_is n.rules.items x within.long few (network.wide x.rule no_rule within.rule)
+    ap table_seen (get_or-map (constraint_seen n.rules.items) (executions_in n) e no_execution no_constraint low)
+    ∙ table_is n.rules.items x within.long few (network.wide x.simplex no_rule within.rule)
 
 -- what is kept for an execution serves for each one with its table
-pub known_serves : (n : Network) (e : ℕ) (known : Revised) → IsNetwork n → e < length n.executions.items
-    → known.execution < length n.executions.items → (rule_in n known.execution).table ≡ (rule_in n e).table
+pub known_serves : (n : Network) (e : ℕ) (known : Revised) → IsNetwork n → e < length (executions_in n)
+    → known.execution < length (executions_in n) → (rule_in n known.execution).table ≡ (rule_in n e).table
     → IsKnown (constraints_in n) (Some known) → HasSupported known.supported (rule_in n e).table known.candidates
 known_serves n e known network low inside same right =
     let table : table_seen (get_or (constraints_in n) known.execution no_constraint) ≡ (rule_in n e).table =
     table_at n known.execution network inside (few_at n known.execution network inside) ∙ same in
-    subst (λ t. HasSupported known.supported t known.candidates) table (right (omega (arith, inside, length-map n.executions.items (constraint_seen n.rules.items))))
+    subst (λ t. HasSupported known.supported t known.candidates) table (right (omega (arith, inside, length-map (executions_in n) (constraint_seen n.rules.items))))
 
-like_table : (n : Network) (e : ℕ) → IsNetwork n → e < length n.executions.items → (get_or n.rules.items (rule_in n e).like no_rule).table ≡ (rule_in n e).table
-like_table n e network low = (network.alike (get_or n.executions.items e no_execution).rule no_rule (network.within e no_execution low).rule).same
+like_table : (n : Network) (e : ℕ) → IsNetwork n → e < length (executions_in n) → (get_or n.rules.items (rule_in n e).like no_rule).table ≡ (rule_in n e).table
+like_table n e network low = (network.alike (get_or (executions_in n) e no_execution).simplex no_rule (network.within e no_execution low).rule).same
 
 -- executions whose rules name one rule have one table
-pub same_table : (n : Network) (e f : ℕ) → IsNetwork n → e < length n.executions.items → f < length n.executions.items → (rule_in n e).like ≡ (rule_in n f).like → (rule_in n e).table ≡ (rule_in n f).table
+pub same_table : (n : Network) (e f : ℕ) → IsNetwork n → e < length (executions_in n) → f < length (executions_in n) → (rule_in n e).like ≡ (rule_in n f).like → (rule_in n e).table ≡ (rule_in n f).table
 same_table n e f network low inside same = sym (like_table n e network low) ∙ ap (λ r. (get_or n.rules.items r no_rule).table) same ∙ like_table n f network inside
 
 -- what the rule of an execution supports may be kept
-pub known_now : (n : Network) (e : ℕ) (candidates supported : List (List ℕ)) → IsNetwork n → e < length n.executions.items → length (rule_in n e).simplex ≤ 4
+pub known_now : (n : Network) (e : ℕ) (candidates supported : List (List ℕ)) → IsNetwork n → e < length (executions_in n) → length (rule_in n e).simplex ≤ 4
     → HasSupported supported (rule_in n e).table candidates → IsKnown (constraints_in n) (Some (record { execution = e; candidates = candidates; supported = supported }))
 known_now n e candidates supported network low few right = λ inside. subst (λ t. HasSupported supported t candidates) (sym (table_at n e network low few)) right
 

@@ -7,7 +7,8 @@ use Rattle.wf_memo.specs.declared.memo.Revised.{Revised}
 use Rattle.wf_memo.specs.declared.memo.RevisedParts.{RevisedParts}
 use Rattle.wf_memo.specs.declared.memo.RevisedWord.{RevisedWord}
 use Rattle.wf_memo.specs.declared.revising.TheConstants.{SMALL_LIMIT}
-use Rattle.wf_network.specs.declared.problem.PackedExecution.{PackedExecution}
+use Rattle.wf_complex.specs.declared.packed.PackedExecution.{PackedExecution}
+use Rattle.wf_network.specs.Problems.{executions_in}
 use Rattle.wf_network.specs.declared.problem.Network.{Network}
 use Rattle.wf_network.specs.Users.{no_execution}
 
@@ -38,7 +39,7 @@ found_at e sets = map (λ v. get_or sets v []) e.points
 
 -- the same for the execution of this number
 abbrev pub found_in : Network → ℕ → List (List ℕ) → List (List ℕ)
-found_in n e sets = found_at (get_or n.executions.items e no_execution) sets
+found_in n e sets = found_at (get_or (executions_in n) e no_execution) sets
 
 -- the first sets, so many of them, are the same
 abbrev pub AreSame : ℕ → List (List ℕ) → List (List ℕ) → Type 0

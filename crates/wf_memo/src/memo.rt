@@ -201,7 +201,7 @@ fn keep_words(
 {
     for answer in answers {
         if let Some(kept) = answer
-            && kept.execution < network.executions.len()
+            && kept.execution < network.execution_count()
         {
             let like = network.like_at(kept.execution);
             let place = slot_of_word(like, kept.candidates, places.len());
@@ -224,7 +224,7 @@ fn keep_each(
 {
     for answer in answers {
         if let Some(known) = answer
-            && known.execution < network.executions.len()
+            && known.execution < network.execution_count()
         {
             let like = network.like_at(known.execution);
             let place = slot_of(like, known.candidates, places.len());

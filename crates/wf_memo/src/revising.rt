@@ -3,7 +3,7 @@
 ghost use Rattle.std.specs.Prelude.{◌≡◌, ◌≢◌, ◌<◌, ℕ, All, length, slice_index, IfSome, IfNone};
 ghost use Rattle.std.specs.Bool.{OnFalse, OnTrue};
 ghost use Rattle.wf_lane.specs.Table.{AreFirstParts, HasSupported};
-ghost use Rattle.wf_network.specs.Problems.{IsNetwork, constraints_in, rule_in};
+ghost use Rattle.wf_network.specs.Problems.{IsNetwork, constraints_in, executions_in, rule_in};
 ghost use Rattle.wf_memo.specs.Revising.{AreKnown, AreWide, answers_in, found_at, left_of, parts_in, wide_set, widened};
 
 use crate::memo::{Memo, Revised, RevisedParts, RevisedWord, slot_of, slot_of_word};
@@ -41,7 +41,7 @@ pub fn supported_narrow(
     memo: &mut Memo,
 ) -> Option<[Part; 4]>
     requires network { IsNetwork network.now }
-    requires number { number < length network.now.executions.items }
+    requires number { number < length (executions_in network.now) }
     requires long { length candidates ≡ 4 }
     requires known { AreKnown (constraints_in network.now) (answers_in memo.old) }
     ensures supported { HasSupported (widened (left_of candidates result))
@@ -58,7 +58,7 @@ pub fn supported_narrow(
 /// The same for candidates below 16, in one word.
 fn supported_word(number: u32, word: u64, network: &Network, memo: &mut Memo) -> Option<[Part; 4]>
     requires network { IsNetwork network.now }
-    requires number { number < length network.now.executions.items }
+    requires number { number < length (executions_in network.now) }
     requires known { AreKnown (constraints_in network.now) (answers_in memo.old) }
     ensures supported { HasSupported (widened (left_of (parts_in word) result))
         (rule_in network.now number).table (widened (parts_in word)) }
@@ -70,7 +70,7 @@ fn supported_word(number: u32, word: u64, network: &Network, memo: &mut Memo) ->
     if slot < memo.small.len()
         && let Some(answer) = &memo.small[slot]
         && answer.candidates == word
-        && answer.execution < network.executions.len()
+        && answer.execution < network.execution_count()
         && network.like_at(answer.execution) == like
     {
         return changed_word(word, answer.supported);
@@ -87,14 +87,14 @@ fn revise_word(
     memo: &mut Memo,
 ) -> Option<[Part; 4]>
     requires network { IsNetwork network.now }
-    requires number { number < length network.now.executions.items }
+    requires number { number < length (executions_in network.now) }
     requires known { AreKnown (constraints_in network.now) (answers_in memo.old) }
     ensures supported { HasSupported (widened (left_of (parts_in word) result))
         (rule_in network.now number).table (widened (parts_in word)) }
     ensures long { IfSome result (λ parts. length parts ≡ 4) }
     ensures known { AreKnown (constraints_in network.now) (answers_in memo.new) }
 {
-    let rule = &network.rules[network.executions[number as usize].rule as usize];
+    let rule = &network.rules[network.execution(number as usize).simplex as usize];
     let candidates = unpacked(word);
     let masks = rule.table.revise(widened(candidates)).masks;
     let parts = up_to(rule.places(), first_parts(masks), candidates);
@@ -155,7 +155,7 @@ fn supported_parts(
     memo: &mut Memo,
 ) -> Option<[Part; 4]>
     requires network { IsNetwork network.now }
-    requires number { number < length network.now.executions.items }
+    requires number { number < length (executions_in network.now) }
     requires long { length candidates ≡ 4 }
     requires known { AreKnown (constraints_in network.now) (answers_in memo.old) }
     ensures supported { HasSupported (widened (left_of candidates result))
@@ -168,7 +168,7 @@ fn supported_parts(
     if slot < memo.narrow.len()
         && let Some(known) = &memo.narrow[slot]
         && known.candidates == candidates
-        && known.execution < network.executions.len()
+        && known.execution < network.execution_count()
         && network.like_at(known.execution) == like
     {
         return changed(candidates, known.supported);
@@ -185,7 +185,7 @@ fn revise_parts(
     memo: &mut Memo,
 ) -> Option<[Part; 4]>
     requires network { IsNetwork network.now }
-    requires number { number < length network.now.executions.items }
+    requires number { number < length (executions_in network.now) }
     requires long { length candidates ≡ 4 }
     requires known { AreKnown (constraints_in network.now) (answers_in memo.old) }
     ensures supported { HasSupported (widened (left_of candidates result))
@@ -193,7 +193,7 @@ fn revise_parts(
     ensures long { IfSome result (λ parts. length parts ≡ 4) }
     ensures known { AreKnown (constraints_in network.now) (answers_in memo.new) }
 {
-    let rule = &network.rules[network.executions[number as usize].rule as usize];
+    let rule = &network.rules[network.execution(number as usize).simplex as usize];
     let masks = rule.table.revise(widened(candidates)).masks;
     let supported = up_to(rule.places(), first_parts(masks), candidates);
     memo.keep_narrow(
@@ -289,19 +289,19 @@ pub fn supported_sets(
     memo: &mut Memo,
 ) -> [Mask; 4]
     requires network { IsNetwork network.now }
-    requires number { number < length network.now.executions.items }
+    requires number { number < length (executions_in network.now) }
     requires known { AreKnown (constraints_in network.now) (answers_in memo.old) }
     ensures supported { HasSupported result (rule_in network.now number).table candidates }
     ensures known { AreKnown (constraints_in network.now) (answers_in memo.new) }
 {
-    let rule = network.executions[number as usize].rule;
+    let rule = network.execution(number as usize).simplex;
     let [[a, ..], [b, ..], [c, ..], [d, ..]] = candidates;
     let slot = slot_of(rule, [a, b, c, d], memo.wide.len());
     if slot < memo.wide.len()
         && let Some(answer) = memo.wide[slot]
         && answer.candidates == candidates
-        && answer.execution < network.executions.len()
-        && network.executions[answer.execution].rule == rule
+        && answer.execution < network.execution_count()
+        && network.execution(answer.execution).simplex == rule
     {
         return answer.supported;
     }

@@ -2,8 +2,8 @@
 use Rattle.std.proofs.Common.{◌≡◌, ℕ, ◌+◌, ◌<◌, ◌≤◌, List, [], ◌∷◌, ◌++◌, All, map, zip, take, length, get_or, Some, slice_get, refl, sym, ap, ◌∙◌, subst, arith, ◌⊎◌, inl, inr, length-append}
 use Rattle.std.specs.List.{slice_index_or}
 use Rattle.std.specs.Option.{option_map}
-use Rattle.std.proofs.lemmas.Option.{slice_get_within}
-use Rattle.std.proofs.lemmas.List.{get_or-map, get_or-take, get_or_append_left, get_or_default, length-map, map-append, take_more}
+use Rattle.std.proofs.lemmas.Option.{slice_get-get_or, slice_get-map, slice_get_within}
+use Rattle.std.proofs.lemmas.List.{get_or-map, get_or-take, get_or_append_left, get_or_default, length-map, map-append, same_lists, take_more}
 use Rattle.std.proofs.lemmas.List.Elements.{All-push}
 use Rattle.std.proofs.Math.Nat.{eq-or-lt_of_le}
 use Rattle.std.proofs.Math.Seq.{get_or-append_seam}
@@ -11,10 +11,12 @@ use Rattle.std.proofs.lemmas.List.Sums.{get_or-le-sum_by}
 use Rattle.wf_model.specs.Simplex.{Simplex, processes_of}
 use Rattle.wf_model.specs.Task as task
 use Rattle.wf_model.specs.Task.{Task, IsTask, inputs}
-use Rattle.wf_model.specs.Problem.{problem_of}
-use Rattle.wf_complex.specs.Protocol.{Built, IsProtocol}
-use Rattle.wf_complex.proofs.Lemmas.{constraint_there, got, rule_there}
-use Rattle.wf_network.specs.Problems.{AreAlike, HasTable, IsAlike, IsWide, constraint_seen, no_rule, rule_seen}
+use Rattle.wf_model.specs.Problem.{Constraint, problem_of}
+use Rattle.wf_complex.specs.Packed.{four_of}
+use Rattle.wf_complex.specs.Protocol.{ArePacked, Built, IsProtocol}
+use Rattle.wf_complex.specs.declared.packed.PackedExecution.{PackedExecution}
+use Rattle.wf_complex.proofs.Lemmas.{as_many_constraints, constraint_there, four_all, four_long, four_part, got, known_points, rule_there, zip_part}
+use Rattle.wf_network.specs.Problems.{AreAlike, HasTable, IsAlike, IsWide, IsWithin, constraint_seen, no_rule, rule_seen}
 use Rattle.wf_network.specs.declared.problem.Rule.{Rule}
 
 -- ---- one more in a loop
@@ -35,19 +37,9 @@ few_tuples t n rule is there =
 
 -- ---- the executions
 
--- a list beside a longer one
-zip_part : (ps xs ys : List ℕ) → length ps ≡ length ys → take (length ys) xs ≡ ys → zip ps xs ≡ zip ps ys
-zip_part [] xs ys long is = refl
-zip_part (p ∷ ps) xs [] long is = absurd (let bad : ⊥ = omega (arith, long) in bad)
-zip_part (p ∷ ps) [] (y ∷ ys) long is = absurd (let bad : ⊥ = cc in bad)
-zip_part (p ∷ ps) (x ∷ xs) (y ∷ ys) long is =
-    let first : x ≡ y = cc in
-    let rest : take (length ys) xs ≡ ys = cc in
-    λ j. (p, first j) ∷ zip_part ps xs ys (omega (arith, long)) rest j
-
 pub execution_there : (t : Task) (r : ℕ) (b : Built) (rules : List Rule) (n s : ℕ) (ps four : List ℕ) → IsProtocol t r b → map rule_seen rules ≡ t.delta → n < length b.scopes → slice_get b.simplices n ≡ Some s
     → ps ≡ map (λ at. at.1) (slice_index_or b.scopes n []) → take (length ps) four ≡ ps
-    → slice_get (problem_of t r).constraints n ≡ Some (constraint_seen rules (record { rule = s; like = 0; points = four }))
+    → slice_get (problem_of t r).constraints n ≡ Some (constraint_seen rules (record { simplex = s; points = four }))
 execution_there t r b rules n s ps four built all inside on are part =
     let (rule, there, k_is, as_long) = constraint_there t r b n s built inside on in
     let low : s < length rules = omega (arith, slice_get_within t.delta s rule there, ap length all, length-map rules rule_seen) in
@@ -62,6 +54,57 @@ pub rule_within : (t : Task) (r : ℕ) (b : Built) (rules : List Rule) (n s : �
 rule_within t r b rules n s built all inside on =
     let (rule, there, k_is, as_long) = constraint_there t r b n s built inside on in
     omega (arith, slice_get_within t.delta s rule there, ap length all, length-map rules rule_seen)
+
+-- packed executions are the constraints, with rules and points that are there
+module _ (t : Task) (r : ℕ) (b : Built) (rules : List Rule) (es : List PackedExecution) (built : IsProtocol t r b) (all : map rule_seen rules ≡ t.delta) (packed : ArePacked b es) where
+  points_of : ℕ → List ℕ
+  points_of n = map (λ (at : ℕ × ℕ). at.1) (slice_index_or b.scopes n [])
+
+  simplex_there : (n : ℕ) (d : PackedExecution) → n < length es → slice_get b.simplices n ≡ Some (get_or es n d).simplex
+  simplex_there n d low =
+      ap (λ ss. slice_get ss n) (sym packed.simplices)
+      ∙ slice_get-map (λ (e : PackedExecution). e.simplex) es n
+      ∙ ap (option_map (λ (e : PackedExecution). e.simplex)) (slice_get-get_or es n d low)
+
+  points_there : (n : ℕ) (d : PackedExecution) → n < length es → (get_or es n d).points ≡ four_of (points_of n)
+  unfolding points_of
+  points_there n d low =
+      sym (get_or-map (λ (e : PackedExecution). e.points) es n d [] low)
+      ∙ ap (λ xs. get_or xs n []) packed.points
+      ∙ get_or-map (λ scope. four_of (map (λ (at : ℕ × ℕ). at.1) scope)) b.scopes n [] [] (omega (arith, low, packed.long))
+
+  known_there : (n : ℕ) (d : PackedExecution) → n < length es → (0 < length (points_of n)) × (length (points_of n) ≤ 4) × All (λ v. v < length b.points) (points_of n)
+  unfolding points_of
+  known_there n d low = known_points t r b n (get_or es n d).simplex (points_of n) built (omega (arith, low, packed.long)) (simplex_there n d low) refl
+
+  seen_there : (n : ℕ) (d : PackedExecution) → n < length es → slice_get (problem_of t r).constraints n ≡ Some (constraint_seen rules (get_or es n d))
+  unfolding points_of
+  seen_there n d low =
+      let ps = points_of n in
+      let e = get_or es n d in
+      let four = points_there n d low in
+      let part : take (length ps) e.points ≡ ps = ap (take (length ps)) four ∙ four_part ps (known_there n d low).1 in
+      execution_there t r b rules n e.simplex ps e.points built all (omega (arith, low, packed.long)) (simplex_there n d low) refl part
+
+  pub constraints_are : map (constraint_seen rules) es ≡ (problem_of t r).constraints
+  constraints_are =
+      same_lists {X = Constraint} (map (constraint_seen rules) es) (problem_of t r).constraints
+      (length-map es (constraint_seen rules) ∙ packed.long ∙ as_many_constraints t r b built)
+      (λ n k low.
+      let inside : n < length es = omega (arith, low, length-map es (constraint_seen rules)) in
+      let d : PackedExecution = record { simplex = 0; points = [] } in
+      get_or-map (constraint_seen rules) es n d k inside ∙ sym (got (problem_of t r).constraints n (constraint_seen rules (get_or es n d)) k (seen_there n d inside)))
+
+  pub all_within : All (IsWithin (length rules) (length b.points)) es
+  unfolding points_of
+  all_within n d low =
+      let known = known_there n d low in
+      let four = points_there n d low in
+      record {
+        rule = rule_within t r b rules n (get_or es n d).simplex built all (omega (arith, low, packed.long)) (simplex_there n d low);
+        long = ap length four ∙ four_long (points_of n) known.1;
+        points_within = subst (All (λ v. v < length b.points)) (sym four) (four_all (λ v. v < length b.points) (points_of n) known.0 known.1 known.2);
+      }
 
 -- ---- rules with one table
 

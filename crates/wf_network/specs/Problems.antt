@@ -3,12 +3,12 @@ use Rattle.std.specs.Prelude.{◌≡◌, ◌<◌, ◌≤◌, ℕ, List, [], map,
 use Rattle.wf_model.specs.Simplex.{Simplex, processes_of}
 use Rattle.wf_model.specs.Task.{IsTaskSimplex}
 use Rattle.wf_model.specs.Task as task
-use Rattle.wf_model.specs.Problem.{Problem, Constraint, IsWellFormed, problem_of}
+use Rattle.wf_model.specs.Problem.{Problem, Constraint, IsWellFormed}
 use Rattle.wf_set.specs.Sets.{values_in}
 use Rattle.wf_model.specs.Limits.{most_executions, most_points}
 use Rattle.wf_network.specs.Users.{AreTold, AreUsers, no_execution}
 use Rattle.wf_network.specs.declared.problem.Rule.{Rule}
-use Rattle.wf_network.specs.declared.problem.PackedExecution.{PackedExecution}
+use Rattle.wf_complex.specs.declared.packed.PackedExecution.{PackedExecution}
 use Rattle.wf_network.specs.declared.problem.Network.{Network}
 use Rattle.wf_network.specs.declared.problem.Problem.TheInside.{Inside}
 
@@ -47,11 +47,7 @@ HasTable simplex tuples rules number = (get_or rules number no_rule).table ≡ r
 
 -- the rule of an execution
 abbrev pub rule_of : List Rule → PackedExecution → Rule
-rule_of rules e = get_or rules e.rule no_rule
-
--- the execution names the rule that its own rule names
-abbrev pub IsLike : List Rule → PackedExecution → Type 0
-IsLike rules e = e.like ≡ (rule_of rules e).like
+rule_of rules e = get_or rules e.simplex no_rule
 
 -- the processes of the execution's simplex, each with its point, and the tuples of that simplex
 abbrev pub constraint_seen : List Rule → PackedExecution → Constraint
@@ -61,51 +57,46 @@ constraint_seen rules e = record { scope = zip (processes_of (rule_of rules e).s
 abbrev pub constraints_seen : List Rule → List PackedExecution → List Constraint
 constraints_seen rules es = map (constraint_seen rules) es
 
+-- the executions, which are shared
+abbrev pub executions_in : Network → List PackedExecution
+executions_in n = n.executions.value.items
+
 abbrev pub problem_seen : Inside → Problem
-problem_seen p = record { points = p.network.points; values = values_in p.values; constraints = map (constraint_seen p.network.rules.items) p.network.executions.items }
+problem_seen p = record { points = p.network.points; values = values_in p.values; constraints = map (constraint_seen p.network.rules.items) (executions_in p.network) }
 
 -- an execution with a rule that is there and four points that are there, of
 -- which those past its size are not used
 pub record IsWithin (rules points : ℕ) (e : PackedExecution) : Type 0 where
-  pub rule : e.rule < rules
+  pub rule : e.simplex < rules
   pub long : length e.points ≡ 4
   pub points_within : All (λ v. v < points) e.points
-
--- each execution has a rule that is there and points that are there
-abbrev pub AreWithin : List Rule → ℕ → List PackedExecution → Type 0
-AreWithin rules points es = All (IsWithin (length rules) points) es
 
 -- the rule is that of the simplex, with these tuples
 abbrev pub IsRuleOf : Simplex → List task.Tuple → Rule → Type 0
 IsRuleOf simplex tuples rule = rule_seen rule ≡ record { input = simplex; tuples = tuples }
 
--- with these rules the executions are those of the task after so many rounds
-abbrev pub AreExecutionsOf : task.Task → ℕ → List Rule → List PackedExecution → Type 0
-AreExecutionsOf t rounds rules es = map (constraint_seen rules) es ≡ (problem_of t rounds).constraints
-
 -- the rule of an execution
 abbrev pub rule_in : Network → ℕ → Rule
-rule_in n e = rule_of n.rules.items (get_or n.executions.items e no_execution)
+rule_in n e = rule_of n.rules.items (get_or (executions_in n) e no_execution)
 
 -- the constraint of an execution
 abbrev pub constraint_in : Network → ℕ → Constraint
-constraint_in n e = constraint_seen n.rules.items (get_or n.executions.items e no_execution)
+constraint_in n e = constraint_seen n.rules.items (get_or (executions_in n) e no_execution)
 
 -- the constraints of all executions
 abbrev pub constraints_in : Network → List Constraint
-constraints_in n = constraints_seen n.rules.items n.executions.items
+constraints_in n = constraints_seen n.rules.items (executions_in n)
 
 -- each execution has a rule and points that are there, and each of its points knows it
 pub record IsNetwork (n : Network) : Type 0 where
   pub few_points : n.points ≤ most_points
-  pub few_executions : length n.executions.items ≤ most_executions
+  pub few_executions : length (executions_in n) ≤ most_executions
   pub wide : All IsWide n.rules.items
   pub processes : All KeepsProcesses n.rules.items
   pub alike : AreAlike n.rules.items
-  pub like : All (IsLike n.rules.items) n.executions.items
-  pub within : All (IsWithin (length n.rules.items) n.points) n.executions.items
-  pub users : AreUsers n.users n.points (length n.executions.items)
-  pub told : AreTold n.users n.executions.items
+  pub within : All (IsWithin (length n.rules.items) n.points) (executions_in n)
+  pub users : AreUsers n.users n.points (length (executions_in n))
+  pub told : AreTold n.users (executions_in n)
 
 pub record IsKept (p : Inside) : Type 0 where
   pub network : IsNetwork p.network

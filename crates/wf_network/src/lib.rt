@@ -13,5 +13,6 @@ mod problem;
 mod users;
 
 pub use marks::Marks;
-pub use problem::{Network, PackedExecution, Problem, Rule};
+pub use problem::{Network, Problem, Rule};
 pub use users::{UserWord, Users};
+pub use wf_complex::PackedExecution;

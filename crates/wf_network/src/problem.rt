@@ -1,20 +1,22 @@
 //! The constraint problem of a task and its protocol complex.
 
 ghost use Rattle.std.specs.Prelude.{◌≡◌, ◌<◌, ◌≤◌, ◌^◌, ℕ, All, length, map, slice_index, take, IfOk};
+ghost use Rattle.std.specs.List.{slice_index_or};
 ghost use Rattle.wf_model.specs.Simplex.{processes_of};
 ghost use Rattle.wf_model.specs.Task.{IsTask, IsTaskSimplex};
 ghost use Rattle.wf_model.specs.Problem.{IsWellFormed, problem_of};
 ghost use Rattle.wf_complex.specs.Protocol.{IsProtocol};
 ghost use Rattle.wf_model.specs.Split.{most_values};
-ghost use Rattle.wf_model.specs.Limits.{most_executions, most_points};
+ghost use Rattle.wf_model.specs.Limits.{most_points};
 ghost use Rattle.wf_set.specs.Sets.{values_in};
-ghost use Rattle.wf_network.specs.Problems.{AreExecutionsOf, AreWithin, AreAlike, HasTable, IsLike, IsNetwork, IsRuleOf, IsWide, KeepsProcesses, constraints_in, rule_in, rule_seen};
+ghost use Rattle.wf_network.specs.Problems.{AreAlike, HasTable, IsNetwork, IsRuleOf, IsWide, KeepsProcesses, constraints_in, executions_in, rule_in, rule_seen};
 ghost use Rattle.wf_network.specs.Users.{AreWordsBelow, users_of};
 
 use crate::users::{UserWord, Users};
 use std::alloc::{AllocError, Global};
 use std::marker::Model;
-use wf_complex::Protocol;
+use std::sync::Arc;
+use wf_complex::{PackedExecution, Protocol};
 use wf_lane::TupleTable;
 use wf_set::Mask;
 use wf_simplex::Simplex;
@@ -98,19 +100,6 @@ fn processes(simplex: Simplex) -> [u8; 4]
     processes
 }
 
-/// An execution: the number of its input simplex, which is that of its rule, the number of a rule
-/// that has the same table, and the points of its processes. The points past their number are that
-/// of the first process, and are not used.
-#[derive(Clone, Copy, Debug)]
-pub struct PackedExecution {
-    /// The number of its rule.
-    pub rule: u32,
-    /// The number of a rule that has the table of its rule.
-    pub like: u32,
-    /// The points of its processes.
-    pub points: [u32; 4],
-}
-
 /// The constraints of a problem as they are kept: a rule for each input simplex, the executions,
 /// and the executions of each point.
 #[derive(Drop)]
@@ -119,21 +108,40 @@ pub struct Network {
     pub points: u32,
     /// The rule of each input simplex.
     pub rules: Vec<Rule>,
-    /// The executions.
-    pub executions: Vec<PackedExecution>,
+    /// The executions, whose rules are those of their input simplices. They are shared with the
+    /// protocol complex.
+    pub executions: Arc<Vec<PackedExecution>, Global>,
     /// The executions of each point.
     pub users: Users,
 }
 
 impl Network {
+    /// How many executions there are. It takes no memory.
+    #[inline]
+    pub fn execution_count(&self) -> usize
+        ensures { result ≡ length (executions_in self.now) }
+    {
+        self.executions.len()
+    }
+
+    /// The execution of this number. It takes no memory.
+    #[inline]
+    pub fn execution(&self, number: usize) -> PackedExecution
+        requires { number < length (executions_in self.now) }
+        ensures { result ≡ slice_index_or (executions_in self.now) number result }
+    {
+        self.executions[number]
+    }
+
     /// The number of a rule that has the table of an execution's rule. It takes no memory.
     #[inline]
     pub fn like_at(&self, execution: usize) -> u32
         requires network { IsNetwork self.now }
-        requires execution { execution < length self.now.executions.items }
+        requires execution { execution < length (executions_in self.now) }
         ensures { result ≡ (rule_in self.now execution).like }
     {
-        self.executions[execution].like
+        let rule = self.executions[execution].simplex;
+        self.rules[rule as usize].like
     }
 
     /// The executions in which a point stands. It takes no memory.
@@ -142,7 +150,7 @@ impl Network {
         requires network { IsNetwork self.now }
         requires point { point < self.now.points }
         ensures users { result.now ≡ users_of self.now.users point }
-        ensures below { AreWordsBelow (length self.now.executions.items) result.now }
+        ensures below { AreWordsBelow (length (executions_in self.now)) result.now }
     {
         self.users
             .of(point, self.points, self.executions.len() as u32)
@@ -166,7 +174,7 @@ impl Model for Problem {
 
     ghost Value = { Problem };
 
-    ghost use Rattle.wf_model.specs.Limits.{most_executions, most_points};
+    ghost use Rattle.wf_model.specs.Limits.{most_points};
     ghost use Rattle.wf_network.specs.Problems.{problem_seen, IsKept};
 
     ghost view = { problem_seen };
@@ -181,7 +189,7 @@ impl Problem {
         ensures { IfOk result (λ problem. problem ≡ problem_of task.now protocol.now.rounds) }
     {
         let rules = rules(alloc, task)?;
-        let executions = executions(alloc, task, protocol, &rules)?;
+        let executions = protocol.packed()?;
         let points = protocol.points();
         let users = Users::of_points(alloc, points, &executions)?;
         Ok(Problem {
@@ -260,50 +268,4 @@ fn like_of(task: &Task, rules: &[Rule], simplex: Simplex, tuples: &[Row]) -> u32
         }
     }
     count as u32
-}
-
-/// The executions of a protocol complex, whose input simplices have these rules.
-fn executions(
-    alloc: Global,
-    task: &Task,
-    protocol: &Protocol,
-    rules: &[Rule],
-) -> Result<Vec<PackedExecution>, AllocError>
-    requires built { IsProtocol task.now protocol.now.rounds protocol.now }
-    requires rules { map rule_seen rules.now ≡ task.now.delta }
-    ensures constraints { IfOk result
-        (λ executions. AreExecutionsOf task.now protocol.now.rounds rules.now executions.items) }
-    ensures within { IfOk result
-        (λ executions. AreWithin rules.now (length protocol.now.points) executions.items) }
-    ensures like { IfOk result (λ executions. All (IsLike rules.now) executions.items) }
-    ensures few { IfOk result (λ executions. length executions.items ≤ most_executions) }
-{
-    let count = protocol.executions();
-    let mut executions = Vec::with_capacity(alloc, count as usize)?;
-    for number in 0..count {
-        let rule = protocol.simplex_of(number);
-        executions.push_reserved(PackedExecution {
-            rule,
-            like: rules[rule as usize].like,
-            points: four(protocol.points_of(number)),
-        });
-    }
-    Ok(executions)
-}
-
-/// These points, and the first of them again where there are fewer than four.
-fn four(points: &[u32]) -> [u32; 4]
-    requires some { 0 < length points.now }
-    requires few { length points.now ≤ 4 }
-    ensures points { take (length points.now) result ≡ points.now }
-    ensures long { length result ≡ 4 }
-    ensures among { (n : ℕ) → All (λ v. v < n) points.now → All (λ v. v < n) result }
-{
-    let first = points[0];
-    match points {
-        [_, second] => [first, *second, first, first],
-        [_, second, third] => [first, *second, *third, first],
-        [_, second, third, fourth] => [first, *second, *third, *fourth],
-        _ => [first; 4],
-    }
 }

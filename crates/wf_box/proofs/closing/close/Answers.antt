@@ -6,7 +6,7 @@ use Rattle.wf_model.specs.Closing.{closing}
 use Rattle.wf_set.specs.Sets.{box_of, values_in}
 use Rattle.wf_box.specs.Boxes.{Grows, IsFor, Tracked}
 use Rattle.wf_box.specs.Closes.{KeepsSolutions, Leaves}
-use Rattle.wf_network.specs.Problems.{constraint_seen}
+use Rattle.wf_network.specs.Problems.{constraint_seen, executions_in}
 use Rattle.wf_box.specs.Quiet as quiet
 use Rattle.wf_memo.specs.Revising.{AreKnown, answers_in}
 use Rattle.wf_box.proofs.ChangeLemmas.{room_now}
@@ -36,11 +36,11 @@ close_tracked-closed-requires-clause-working c =
     let t = c.boxed.inside.workspace.tracked in
     let n = c.network-network.result.now in
     let is : IsBoxOf c.args.problem.now (box_of t.words.items) = subst (λ (b : Tracked). IsBoxOf c.args.problem.now b.sets) (sym c.boxed.view_is) c.requires.is_box in
-    let executions : length n.executions.items ≡ length c.args.problem.now.constraints = sym (length-map n.executions.items (constraint_seen n.rules.items)) ∙ ap length c.network-network.ensures.constraints in
+    let executions : length (executions_in n) ≡ length c.args.problem.now.constraints = sym (length-map (executions_in n) (constraint_seen n.rules.items)) ∙ ap length c.network-network.ensures.constraints in
     record {
       kept = c.boxed.invariant.tracked;
       long = sym (length-map t.words.items values_in) ∙ is.long;
-      marks_long = omega (arith, c.in_ok-reserve-2.ensures, executions, c.len-executions.ensures, n.executions.ok.0);
+      marks_long = omega (arith, c.in_ok-reserve-2.ensures, executions, c.execution_count-executions.ensures);
       room = grind (arith, common_steps);
       known = c.grow.ensures c.args.problem.now.constraints (subst (λ (b : Tracked). AreKnown c.args.problem.now.constraints b.known) (sym c.boxed.view_is) c.requires.known);
     }

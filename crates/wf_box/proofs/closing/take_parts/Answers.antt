@@ -24,7 +24,7 @@ use Rattle.wf_box.proofs.closing.take_parts.Goals as goal
 pub places-init : goal.places-init
 places-init c = (
   λ p at. named_none p c.args.lines.now.items c.args.workspace.now.tracked.words.items,
-  ap (λ (s : Step). and_then (reached c.args.lines.now.items None c.args.workspace.now.tracked.words.items) (λ _. s)) (sym (lost_in_turn c.args.number (constraint_seen c.args.network.now.rules.items c.index.result.now) (box_of c.args.workspace.now.tracked.words.items))),
+  ap (λ (s : Step). and_then (reached c.args.lines.now.items None c.args.workspace.now.tracked.words.items) (λ _. s)) (sym (lost_in_turn c.args.number (constraint_seen c.args.network.now.rules.items c.execution-execution.result) (box_of c.args.workspace.now.tracked.words.items))),
   proceeds_none _ _ _ _ c.requires.revising.working,
   untouched_none c.args.network.now.users c.args.workspace.now.tracked.words.items c.args.workspace.now.marks.words.items,
   λ none. refl,
@@ -34,10 +34,10 @@ places-init c = (
 pub places-preserved-then-is_empty : goal.places-preserved-then-is_empty
 places-preserved-then-is_empty c =
     let n = c.args.network.now in
-    let x = c.index.result.now in
+    let x = c.execution-execution.result in
     let rule = c.index-rule.result.now in
     let words = c.args.workspace.now.tracked.words.items in
-    let inside = execution_within n c.args.number x c.requires.revising.network c.requires.revising.number c.index.ensures in
+    let inside = execution_within n c.args.number x c.requires.revising.network c.requires.revising.number c.execution-execution.ensures in
     let known = known_at n.rules.items n.points x rule inside c.requires.revising.network.wide c.index-rule.ensures in
     let now = reached c.places.lines.items None c.places.workspace.tracked.words.items in
     let none : values_in (wide_set c.difference-lost.result) ≡ [] = values_of_part c.difference-lost.result ∙ nil_from_length _ (eqb-true _ 0 (sym c.is_empty.ensures ∙ c.if-is_empty.true)) in
@@ -45,34 +45,34 @@ places-preserved-then-is_empty c =
     sym (then_keeps now) ∙ ap (λ vs. and_then now (take_present c.args.number (map (loss (get_or (processes_of rule.simplex) c.places.place 0) (get_or x.points c.places.place 0)) vs))) (sym none) in
     let done = place_done n.rules.items x rule words (widened c.args.found) (widened c.args.supported) c.args.number c.places.place (get_or (processes_of rule.simplex) c.places.place 0) (wide_set c.difference-lost.result)
     now _ known (subst (λ m. IsWithin (length n.rules.items) m x) (sym c.requires.revising.working.long) inside) (omega (arith, c.places-processes.ensures.count, c.places-processes.ensures.few)) (omega (arith, c.places-processes.ensures.count, c.places-test.true))
-    (found_now n c.args.number x words (widened c.args.found) c.requires.revising.number c.index.ensures c.requires.found) (supported_now n c.args.number x words (widened c.args.found) (widened c.args.supported) c.requires.revising.number c.index.ensures c.requires.found c.requires.supported) refl (values_of_part c.difference-lost.result ∙ (parts_lacked c.args.found c.args.supported c.difference-lost.result c.places.place (omega (arith, c.places-test.true, c.places-processes.ensures.few, c.requires.long)) (omega (arith, c.places-test.true, c.places-processes.ensures.few, c.requires.supported_long)) c.difference-lost.ensures)) step in
+    (found_now n c.args.number x words (widened c.args.found) c.requires.revising.number c.execution-execution.ensures c.requires.found) (supported_now n c.args.number x words (widened c.args.found) (widened c.args.supported) c.requires.revising.number c.execution-execution.ensures c.requires.found c.requires.supported) refl (values_of_part c.difference-lost.result ∙ (parts_lacked c.args.found c.args.supported c.difference-lost.result c.places.place (omega (arith, c.places-test.true, c.places-processes.ensures.few, c.requires.long)) (omega (arith, c.places-test.true, c.places-processes.ensures.few, c.requires.supported_long)) c.difference-lost.ensures)) step in
     (c.places.invariant.0, done ∙ c.places.invariant.1, c.places.invariant.2, c.places.invariant.3, c.places.invariant.4)
 
 pub places-preserved : goal.places-preserved
 places-preserved c =
     let n = c.args.network.now in
-    let x = c.index.result.now in
+    let x = c.execution-execution.result in
     let rule = c.index-rule.result.now in
     let words = c.args.workspace.now.tracked.words.items in
-    let inside = execution_within n c.args.number x c.requires.revising.network c.requires.revising.number c.index.ensures in
+    let inside = execution_within n c.args.number x c.requires.revising.network c.requires.revising.number c.execution-execution.ensures in
     let known = known_at n.rules.items n.points x rule inside c.requires.revising.network.wide c.index-rule.ensures in
     let step = ap (λ b. reached c.take_part.new.lines.items (point_if b (get_or x.points c.places.place 0)) c.take_part.new.workspace.tracked.words.items) (sym c.if-take_part.false) ∙ c.take_part.ensures.step in
     let done = place_done n.rules.items x rule words (widened c.args.found) (widened c.args.supported) c.args.number c.places.place c.process_at.result (wide_set c.difference-lost.result)
     (reached c.places.lines.items None c.places.workspace.tracked.words.items) _ known (subst (λ m. IsWithin (length n.rules.items) m x) (sym c.requires.revising.working.long) inside) (omega (arith, c.places-processes.ensures.count, c.places-processes.ensures.few)) (omega (arith, c.places-processes.ensures.count, c.places-test.true))
-    (found_now n c.args.number x words (widened c.args.found) c.requires.revising.number c.index.ensures c.requires.found) (supported_now n c.args.number x words (widened c.args.found) (widened c.args.supported) c.requires.revising.number c.index.ensures c.requires.found c.requires.supported) c.process_at.ensures (values_of_part c.difference-lost.result ∙ (parts_lacked c.args.found c.args.supported c.difference-lost.result c.places.place (omega (arith, c.places-test.true, c.places-processes.ensures.few, c.requires.long)) (omega (arith, c.places-test.true, c.places-processes.ensures.few, c.requires.supported_long)) c.difference-lost.ensures)) step
+    (found_now n c.args.number x words (widened c.args.found) c.requires.revising.number c.execution-execution.ensures c.requires.found) (supported_now n c.args.number x words (widened c.args.found) (widened c.args.supported) c.requires.revising.number c.execution-execution.ensures c.requires.found c.requires.supported) c.process_at.ensures (values_of_part c.difference-lost.result ∙ (parts_lacked c.args.found c.args.supported c.difference-lost.result c.places.place (omega (arith, c.places-test.true, c.places-processes.ensures.few, c.requires.long)) (omega (arith, c.places-test.true, c.places-processes.ensures.few, c.requires.supported_long)) c.difference-lost.ensures)) step
     ∙ c.places.invariant.1 in
     let named : (p : Problem) → constraint_at p c.args.number ≡ constraint_seen n.rules.items x → NamesLost p c.args.lines.now c.args.workspace.now c.take_part.new.lines c.take_part.new.workspace = λ p at.
     named_then p _ _ _ _ _ _ (c.places.invariant.0 p at)
     (c.take_part.ensures.named p (point_of_place p n.rules.items x rule n.points c.args.number c.places.place c.process_at.result known inside c.places-processes.ensures.simplex
     (omega (arith, c.places-processes.ensures.count, c.places-processes.ensures.few)) (omega (arith, c.places-processes.ensures.count, c.places-test.true)) c.process_at.ensures at)) in
-    let user = execution_told n c.args.number x c.requires.revising.network c.requires.revising.number c.index.ensures c.places.place (omega (arith, c.places-test.true, c.places-processes.ensures.few)) in
+    let user = execution_told n c.args.number x c.requires.revising.network c.requires.revising.number c.execution-execution.ensures c.places.place (omega (arith, c.places-test.true, c.places-processes.ensures.few)) in
     let silent : IsSilent c.args.number c.args.workspace.now c.take_part.new.workspace = λ none.
     c.take_part.ensures.silent c.args.number user none ∙ c.places.invariant.4 ((c.take_part.ensures.untouched c.args.number none).0) in
     (named, done, proceeds_then _ _ _ _ _ _ c.places.workspace _ _ c.places.invariant.2 c.if-take_part.ensures.proceeds, untouched_then n.users _ _ _ _ _ _ c.places.invariant.3 c.take_part.ensures.untouched, silent)
 
 pub unmark_parts-requires-clause-within : goal.unmark_parts-requires-clause-within
 unmark_parts-requires-clause-within c =
-    let inside = execution_within c.args.network.now c.args.number c.index.result.now c.requires.revising.network c.requires.revising.number c.index.ensures in
+    let inside = execution_within c.args.network.now c.args.number c.execution-execution.result c.requires.revising.network c.requires.revising.number c.execution-execution.ensures in
     λ i d low. omega (arith, inside.points_within i d low, c.places.invariant.2.long, ap length c.deref.ensures.value)
 
 pub unmark_parts-requires-clause-number : goal.unmark_parts-requires-clause-number
@@ -82,7 +82,7 @@ pub take_part-requires : goal.take_part-requires
 take_part-requires c = record {
   network = c.requires.revising.network;
   point =
-      let within = execution_within c.args.network.now c.args.number c.index.result.now c.requires.revising.network c.requires.revising.number c.index.ensures in
+      let within = execution_within c.args.network.now c.args.number c.execution-execution.result c.requires.revising.network c.requires.revising.number c.execution-execution.ensures in
       within.points_within c.places.place 0 (omega (arith, c.places-test.true, c.places-processes.ensures.few, within.long));
   working = still_working _ _ _ _ _ _ c.places.invariant.2;
 }
@@ -91,33 +91,33 @@ pub returns-then-take_part : goal.returns-then-take_part
 returns-then-take_part c = record {
   step =
       let n = c.args.network.now in
-      let x = c.index.result.now in
+      let x = c.execution-execution.result in
       let rule = c.index-rule.result.now in
       let words = c.args.workspace.now.tracked.words.items in
-      let inside = execution_within n c.args.number x c.requires.revising.network c.requires.revising.number c.index.ensures in
+      let inside = execution_within n c.args.number x c.requires.revising.network c.requires.revising.number c.execution-execution.ensures in
       let known = known_at n.rules.items n.points x rule inside c.requires.revising.network.wide c.index-rule.ensures in
       let step = ap (λ b. reached c.take_part.new.lines.items (point_if b (get_or x.points c.places.place 0)) c.take_part.new.workspace.tracked.words.items) (sym c.if-take_part.true) ∙ c.take_part.ensures.step in
       let done = place_done n.rules.items x rule words (widened c.args.found) (widened c.args.supported) c.args.number c.places.place c.process_at.result (wide_set c.difference-lost.result)
       (reached c.places.lines.items None c.places.workspace.tracked.words.items) _ known (subst (λ m. IsWithin (length n.rules.items) m x) (sym c.requires.revising.working.long) inside) (omega (arith, c.places-processes.ensures.count, c.places-processes.ensures.few)) (omega (arith, c.places-processes.ensures.count, c.places-test.true))
-      (found_now n c.args.number x words (widened c.args.found) c.requires.revising.number c.index.ensures c.requires.found) (supported_now n c.args.number x words (widened c.args.found) (widened c.args.supported) c.requires.revising.number c.index.ensures c.requires.found c.requires.supported) c.process_at.ensures (values_of_part c.difference-lost.result ∙ (parts_lacked c.args.found c.args.supported c.difference-lost.result c.places.place (omega (arith, c.places-test.true, c.places-processes.ensures.few, c.requires.long)) (omega (arith, c.places-test.true, c.places-processes.ensures.few, c.requires.supported_long)) c.difference-lost.ensures)) step
+      (found_now n c.args.number x words (widened c.args.found) c.requires.revising.number c.execution-execution.ensures c.requires.found) (supported_now n c.args.number x words (widened c.args.found) (widened c.args.supported) c.requires.revising.number c.execution-execution.ensures c.requires.found c.requires.supported) c.process_at.ensures (values_of_part c.difference-lost.result ∙ (parts_lacked c.args.found c.args.supported c.difference-lost.result c.places.place (omega (arith, c.places-test.true, c.places-processes.ensures.few, c.requires.long)) (omega (arith, c.places-test.true, c.places-processes.ensures.few, c.requires.supported_long)) c.difference-lost.ensures)) step
       ∙ c.places.invariant.1 in
-      let seen : constraint_in n c.args.number ≡ constraint_seen n.rules.items x = ap (constraint_seen n.rules.items) (execution_is n c.args.number x c.requires.revising.number c.index.ensures) in
+      let seen : constraint_in n c.args.number ≡ constraint_seen n.rules.items x = ap (constraint_seen n.rules.items) (execution_is n c.args.number x c.requires.revising.number c.execution-execution.ensures) in
       done ∙ ap (λ k. and_then (reached c.args.lines.now.items None words) (revision c.args.number k)) (sym seen);
   proceeds = proceeds_then _ _ _ _ _ _ c.places.workspace _ _ c.places.invariant.2 c.if-take_part.ensures.proceeds;
   untouched = λ e other none. untouched_then c.args.network.now.users _ _ _ _ _ _ c.places.invariant.3 c.take_part.ensures.untouched e none;
   quiet = tt;
   named =
       let n = c.args.network.now in
-      let x = c.index.result.now in
+      let x = c.execution-execution.result in
       let rule = c.index-rule.result.now in
       let words = c.args.workspace.now.tracked.words.items in
-      let inside = execution_within n c.args.number x c.requires.revising.network c.requires.revising.number c.index.ensures in
+      let inside = execution_within n c.args.number x c.requires.revising.network c.requires.revising.number c.execution-execution.ensures in
       let known = known_at n.rules.items n.points x rule inside c.requires.revising.network.wide c.index-rule.ensures in
       let named : (p : Problem) → constraint_at p c.args.number ≡ constraint_seen n.rules.items x → NamesLost p c.args.lines.now c.args.workspace.now c.take_part.new.lines c.take_part.new.workspace = λ p at.
       named_then p _ _ _ _ _ _ (c.places.invariant.0 p at)
       (c.take_part.ensures.named p (point_of_place p n.rules.items x rule n.points c.args.number c.places.place c.process_at.result known inside c.places-processes.ensures.simplex
       (omega (arith, c.places-processes.ensures.count, c.places-processes.ensures.few)) (omega (arith, c.places-processes.ensures.count, c.places-test.true)) c.process_at.ensures at)) in
-      let seen : constraint_in n c.args.number ≡ constraint_seen n.rules.items x = ap (constraint_seen n.rules.items) (execution_is n c.args.number x c.requires.revising.number c.index.ensures) in
+      let seen : constraint_in n c.args.number ≡ constraint_seen n.rules.items x = ap (constraint_seen n.rules.items) (execution_is n c.args.number x c.requires.revising.number c.execution-execution.ensures) in
       λ p at. named p (at ∙ seen);
 }
 
@@ -125,12 +125,12 @@ pub returns : goal.returns
 returns c = record {
   step =
       let n = c.args.network.now in
-      let x = c.index.result.now in
+      let x = c.execution-execution.result in
       let rule = c.index-rule.result.now in
       let words = c.args.workspace.now.tracked.words.items in
-      let inside = execution_within n c.args.number x c.requires.revising.network c.requires.revising.number c.index.ensures in
+      let inside = execution_within n c.args.number x c.requires.revising.network c.requires.revising.number c.execution-execution.ensures in
       let known = known_at n.rules.items n.points x rule inside c.requires.revising.network.wide c.index-rule.ensures in
-      let seen : constraint_in n c.args.number ≡ constraint_seen n.rules.items x = ap (constraint_seen n.rules.items) (execution_is n c.args.number x c.requires.revising.number c.index.ensures) in
+      let seen : constraint_in n c.args.number ≡ constraint_seen n.rules.items x = ap (constraint_seen n.rules.items) (execution_is n c.args.number x c.requires.revising.number c.execution-execution.ensures) in
       let ps = processes_of rule.simplex in
       let count : length ps ≡ length rule.simplex = length-map rule.simplex (λ v. v.0) in
       sym (no_place_more (reached c.places.lines.items None c.places.workspace.tracked.words.items) c.args.number (box_of words) (constraint_seen n.rules.items x) c.places.place ps x.points known.scope
@@ -141,14 +141,14 @@ returns c = record {
   untouched = λ e other none. c.places.invariant.3 e (sym (c.unmark_parts.ensures.others e other) ∙ none);
   quiet = λ none.
       let n = c.args.network.now in
-      let x = c.index.result.now in
+      let x = c.execution-execution.result in
       let rule = c.index-rule.result.now in
       let words = c.args.workspace.now.tracked.words.items in
       let fewer = c.places.workspace.tracked.words.items in
       let done = c.places.invariant.2 in
-      let inside = execution_within n c.args.number x c.requires.revising.network c.requires.revising.number c.index.ensures in
+      let inside = execution_within n c.args.number x c.requires.revising.network c.requires.revising.number c.execution-execution.ensures in
       let known = known_at n.rules.items n.points x rule inside c.requires.revising.network.wide c.index-rule.ensures in
-      let seen : constraint_in n c.args.number ≡ constraint_seen n.rules.items x = ap (constraint_seen n.rules.items) (execution_is n c.args.number x c.requires.revising.number c.index.ensures) in
+      let seen : constraint_in n c.args.number ≡ constraint_seen n.rules.items x = ap (constraint_seen n.rules.items) (execution_is n c.args.number x c.requires.revising.number c.execution-execution.ensures) in
       let few : length rule.simplex ≤ 4 = omega (arith, c.places-processes.ensures.count, c.places-processes.ensures.few) in
       let ps = processes_of rule.simplex in
       let many : length ps ≡ length rule.simplex = length-map rule.simplex (λ v. v.0) in
@@ -161,7 +161,7 @@ returns c = record {
       let left_long : length left ≡ 4 = length-map x.points (λ v. get_or c.deref.result.now v []) ∙ inside.long in
       let right : HasSupported (widened c.args.supported) rule.table (widened c.args.found) =
       subst (λ (r : Rule). HasSupported (widened c.args.supported) r.table (widened c.args.found)) known.is
-      (supported_now n c.args.number x words (widened c.args.found) (widened c.args.supported) c.requires.revising.number c.index.ensures c.requires.found c.requires.supported) in
+      (supported_now n c.args.number x words (widened c.args.found) (widened c.args.supported) c.requires.revising.number c.execution-execution.ensures c.requires.found c.requires.supported) in
       ap (lost (box_of fewer)) seen
       ∙ elim (c.unmark_parts.ensures.same none) [
         | inl same ↦
@@ -175,7 +175,7 @@ returns c = record {
       ];
   named =
       let n = c.args.network.now in
-      let x = c.index.result.now in
-      let seen : constraint_in n c.args.number ≡ constraint_seen n.rules.items x = ap (constraint_seen n.rules.items) (execution_is n c.args.number x c.requires.revising.number c.index.ensures) in
+      let x = c.execution-execution.result in
+      let seen : constraint_in n c.args.number ≡ constraint_seen n.rules.items x = ap (constraint_seen n.rules.items) (execution_is n c.args.number x c.requires.revising.number c.execution-execution.ensures) in
       λ p at. c.places.invariant.0 p (at ∙ seen);
 }

@@ -11,11 +11,11 @@ use Rattle.wf_memo.proofs.revising.revise_parts.Goals as goal
 new_answer : (c : goal.After-changed) → HasSupported (widened c.up_to-supported.result) (rule_in c.args.network.now c.args.number).table (widened c.args.candidates)
 new_answer c =
     let n = c.args.network.now in
-    let x = c.index.result.now in
+    let x = c.execution.result in
     let rule = c.index-rule.result.now in
-    let within = execution_within n c.args.number x c.requires.network c.requires.number c.index.ensures in
+    let within = execution_within n c.args.number x c.requires.network c.requires.number c.execution.ensures in
     let known = known_at n.rules.items n.points x rule within c.requires.network.wide c.index-rule.ensures in
-    let is : rule_in n c.args.number ≡ rule = ap (rule_of n.rules.items) (execution_is n c.args.number x c.requires.number c.index.ensures) ∙ known.is in
+    let is : rule_in n c.args.number ≡ rule = ap (rule_of n.rules.items) (execution_is n c.args.number x c.requires.number c.execution.ensures) ∙ known.is in
     let raw : HasSupported c.revise.result.masks rule.table (widened c.args.candidates) = subst (HasSupported c.revise.result.masks rule.table) c.widened.ensures c.revise.ensures.supported in
     let wide : rule.table.width ≡ c.places.result = known.wide ∙ sym c.places.ensures.count in
     subst (λ (r : Rule). HasSupported (widened c.up_to-supported.result) r.table (widened c.args.candidates)) (sym is)

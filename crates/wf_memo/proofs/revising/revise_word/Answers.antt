@@ -11,12 +11,12 @@ use Rattle.wf_memo.proofs.revising.revise_word.Goals as goal
 pub returns-in_default-clause-supported : goal.returns-in_default-clause-supported
 returns-in_default-clause-supported c =
     let n = c.args.network.now in
-    let x = c.index.result.now in
+    let x = c.execution.result in
     let rule = c.index-rule.result.now in
     let candidates = c.unpacked-candidates.result in
-    let within = execution_within n c.args.number x c.requires.network c.requires.number c.index.ensures in
+    let within = execution_within n c.args.number x c.requires.network c.requires.number c.execution.ensures in
     let known = known_at n.rules.items n.points x rule within c.requires.network.wide c.index-rule.ensures in
-    let is : rule_in n c.args.number ≡ rule = ap (rule_of n.rules.items) (execution_is n c.args.number x c.requires.number c.index.ensures) ∙ known.is in
+    let is : rule_in n c.args.number ≡ rule = ap (rule_of n.rules.items) (execution_is n c.args.number x c.requires.number c.execution.ensures) ∙ known.is in
     let raw : HasSupported c.revise.result.masks rule.table (widened candidates) = subst (HasSupported c.revise.result.masks rule.table) c.widened.ensures c.revise.ensures.supported in
     let wide : rule.table.width ≡ c.places.result = known.wide ∙ sym c.places.ensures.count in
     let up : HasSupported (widened c.up_to-parts.result) rule.table (widened candidates) =
@@ -30,12 +30,12 @@ returns-in_default-clause-supported c =
 new_answer : (c : goal.After-changed_word) → HasSupported (widened (parts_in c.in-Some.supported)) (rule_in c.args.network.now c.args.number).table (widened (parts_in c.args.word))
 new_answer c =
     let n = c.args.network.now in
-    let x = c.index.result.now in
+    let x = c.execution.result in
     let rule = c.index-rule.result.now in
     let candidates = c.unpacked-candidates.result in
-    let within = execution_within n c.args.number x c.requires.network c.requires.number c.index.ensures in
+    let within = execution_within n c.args.number x c.requires.network c.requires.number c.execution.ensures in
     let known = known_at n.rules.items n.points x rule within c.requires.network.wide c.index-rule.ensures in
-    let is : rule_in n c.args.number ≡ rule = ap (rule_of n.rules.items) (execution_is n c.args.number x c.requires.number c.index.ensures) ∙ known.is in
+    let is : rule_in n c.args.number ≡ rule = ap (rule_of n.rules.items) (execution_is n c.args.number x c.requires.number c.execution.ensures) ∙ known.is in
     let raw : HasSupported c.revise.result.masks rule.table (widened candidates) = subst (HasSupported c.revise.result.masks rule.table) c.widened.ensures c.revise.ensures.supported in
     let wide : rule.table.width ≡ c.places.result = known.wide ∙ sym c.places.ensures.count in
     let up : HasSupported (widened c.up_to-parts.result) rule.table (widened candidates) =

@@ -2,7 +2,7 @@ use Rattle.std.proofs.Common.{◌≡◌, ◌<◌, ◌∙◌, Some, length, subst
 use Rattle.std.proofs.lemmas.List.Elements.{All-get_or}
 use Rattle.std.specs.Cmp.Lexicographic.{bytes_decides}
 use Rattle.wf_lane.specs.Table.{HasSupported}
-use Rattle.wf_network.specs.Problems.{constraints_in, rule_in}
+use Rattle.wf_network.specs.Problems.{constraints_in, executions_in, rule_in}
 use Rattle.wf_memo.specs.Revising.{IsKnownParts, widened}
 use Rattle.wf_memo.proofs.MemoLemmas.{known_serves, narrow_known, same_table}
 use Rattle.wf_memo.proofs.revising.supported_parts.Goals as goal
@@ -16,7 +16,7 @@ returns-clause-supported c =
     let right : IsKnownParts (constraints_in n) (Some known) = subst (IsKnownParts (constraints_in n)) (sym c.index.ensures ∙ c.in-Some.is)
     (All-get_or (IsKnownParts (constraints_in n)) answers c.slot_of-slot.result c.index.result.now (omega (arith, c.if-slot-len.true, c.len-2.ensures, c.args.memo.now.narrow.ok.0)) (narrow_known (constraints_in n) c.args.memo.now c.requires.known)) in
     let same : known.candidates ≡ c.args.candidates = (bytes_decides known.candidates c.args.candidates).0 (sym c.eq.ensures ∙ c.if-eq.true) in
-    let inside : known.execution < length n.executions.items = omega (arith, c.if-known-len.true, c.len-3.ensures, n.executions.ok.0) in
+    let inside : known.execution < length (executions_in n) = omega (arith, c.if-known-execution_count.true, c.execution_count.ensures) in
     let same_like : (rule_in n known.execution).like ≡ (rule_in n c.args.number).like = sym c.like_at.ensures ∙ c.if-like_at-like.true ∙ c.like_at-like.ensures in
     let serves : HasSupported (widened known.supported) (rule_in n c.args.number).table (widened known.candidates) =
     known_serves n c.args.number (record { execution = known.execution; candidates = widened known.candidates; supported = widened known.supported }) c.requires.network c.requires.number inside

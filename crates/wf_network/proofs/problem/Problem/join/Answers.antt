@@ -1,26 +1,42 @@
-use Rattle.std.proofs.Common.{◌≡◌, ◌∙◌, ◌<◌, All, get_or, map, ap, sym, subst, length}
+use Rattle.std.proofs.Common.{◌≡◌, ◌∙◌, ◌<◌, Vec, Global, All, get_or, ap, sym, subst, length, arith}
 use Rattle.wf_model.specs.Problem.{IsWellFormed, problem_of}
 use Rattle.wf_model.proofs.WellFormed.{task_well_formed}
 use Rattle.wf_network.specs.Users.{AreTold, AreUsers}
 use Rattle.wf_network.specs.Stands.{HasPoints}
-use Rattle.wf_network.specs.Problems.{IsLike, IsWithin, constraint_seen, problem_seen}
+use Rattle.wf_network.specs.Problems.{IsWithin, problem_seen}
 use Rattle.wf_network.specs.declared.problem.Network.{Network}
+use Rattle.wf_complex.specs.declared.packed.PackedExecution.{PackedExecution}
+use Rattle.wf_network.proofs.JoinLemmas.{all_within, constraints_are}
 use Rattle.wf_network.proofs.problem.Problem.join.Goals as goal
+
+pub of_points-requires-clause-few : goal.of_points-requires-clause-few
+of_points-requires-clause-few c =
+    omega (arith, c.in_ok-executions.ensures.few, ap length c.deref-2.ensures.value, ap (λ (v : Vec PackedExecution Global). length v.items) c.deref.ensures)
+
+pub of_points-requires-clause-within : goal.of_points-requires-clause-within
+of_points-requires-clause-within c =
+    let t = c.args.task.now in
+    let b = c.args.protocol.now in
+    let es = c.in_ok-executions.executions.value.items in
+    let same : es ≡ c.deref-2.result.now = sym (c.deref-2.ensures.value ∙ ap (λ (v : Vec PackedExecution Global). v.items) c.deref.ensures) in
+    subst (All (HasPoints c.points-points.result)) same
+    (λ k d low.
+    let within = all_within t b.rounds b c.in_ok-rules.rules.items es c.requires.built c.in_ok-rules.ensures.rules c.in_ok-executions.ensures.packed k d low in
+    record { long = within.long; within = subst (λ n. All (λ v. v < n) (get_or es k d).points) (sym c.points-points.ensures.points) within.points_within })
 
 pub invariant_of-result : goal.invariant_of-result
 invariant_of-result c =
     let t = c.args.task.now in
     let b = c.args.protocol.now in
     let rules = c.in_ok-rules.rules.items in
-    let executions = c.in_ok-executions.executions.items in
+    let es = c.in_ok-executions.executions.value.items in
     let network : Network = record { points = c.points-points.result; rules = c.in_ok-rules.rules; executions = c.in_ok-executions.executions; users = c.in_ok-users.users } in
     let same : problem_seen (record { values = c.values.result; network = network }) ≡ problem_of t b.rounds = λ i. record {
       points = (c.points-points.ensures.points ∙ ap length c.requires.built.points_are) i;
       values = c.values.ensures.values i;
-      constraints = (ap (λ rs. map (constraint_seen rs) executions) (sym c.deref.ensures.value) ∙ c.in_ok-executions.ensures.constraints) i;
+      constraints = constraints_are t b.rounds b rules es c.requires.built c.in_ok-rules.ensures.rules c.in_ok-executions.ensures.packed i;
     } in
-    let within : All (IsWithin (length rules) c.points-points.result) executions =
-    subst (λ n. All (IsWithin (length rules) n) executions) (sym c.points-points.ensures.points) (subst (λ xs. All (IsWithin (length xs) (length b.points)) executions) c.deref.ensures.value c.in_ok-executions.ensures.within) in
+    let is : c.deref-2.result.now ≡ es = c.deref-2.ensures.value ∙ ap (λ (v : Vec PackedExecution Global). v.items) c.deref.ensures in
     record {
       network = record {
         few_points = c.points-points.ensures.few;
@@ -28,28 +44,19 @@ invariant_of-result c =
         wide = c.in_ok-rules.ensures.wide;
         processes = c.in_ok-rules.ensures.processes;
         alike = c.in_ok-rules.ensures.alike;
-        like = subst (λ xs. All (IsLike xs) executions) c.deref.ensures.value c.in_ok-executions.ensures.like;
-        within = within;
-        users = subst (λ xs. AreUsers c.in_ok-users.users c.points-points.result (length xs)) c.deref-2.ensures.value c.in_ok-users.ensures.users;
-        told = subst (AreTold c.in_ok-users.users) c.deref-2.ensures.value c.in_ok-users.ensures.told;
+        within = subst (λ n. All (IsWithin (length rules) n) es) (sym c.points-points.ensures.points) (all_within t b.rounds b rules es c.requires.built c.in_ok-rules.ensures.rules c.in_ok-executions.ensures.packed);
+        users = subst (λ xs. AreUsers c.in_ok-users.users c.points-points.result (length xs)) is c.in_ok-users.ensures.users;
+        told = subst (AreTold c.in_ok-users.users) is c.in_ok-users.ensures.told;
       };
       well_formed = subst IsWellFormed (sym same) (task_well_formed t b.rounds c.in_ok-rules.ensures.task);
     }
-
-pub of_points-requires-clause-within : goal.of_points-requires-clause-within
-of_points-requires-clause-within c =
-    subst (All (HasPoints c.points-points.result)) (sym c.deref-2.ensures.value)
-    (λ k d low.
-    let within = c.in_ok-executions.ensures.within k d low in
-    record { long = within.long; within = subst (λ n. All (λ v. v < n) (get_or c.in_ok-executions.executions.items k d).points) (sym c.points-points.ensures.points) within.points_within })
 
 pub returns : goal.returns
 returns c =
     let t = c.args.task.now in
     let b = c.args.protocol.now in
-    let executions = c.in_ok-executions.executions.items in
     λ i. record {
       points = (c.points-points.ensures.points ∙ ap length c.requires.built.points_are) i;
       values = c.values.ensures.values i;
-      constraints = (ap (λ rs. map (constraint_seen rs) executions) (sym c.deref.ensures.value) ∙ c.in_ok-executions.ensures.constraints) i;
+      constraints = constraints_are t b.rounds b c.in_ok-rules.rules.items c.in_ok-executions.executions.value.items c.requires.built c.in_ok-rules.ensures.rules c.in_ok-executions.ensures.packed i;
     }
