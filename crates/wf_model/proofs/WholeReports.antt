@@ -29,7 +29,7 @@ use Rattle.wf_model.proofs.Accepting.{root_accepts}
 
 -- ---- without a fault
 
-no_fault : (first next : Option Refusal) → unless_fault first next ≡ None → (first ≡ None) × (next ≡ None)
+pub no_fault : (first next : Option Refusal) → unless_fault first next ≡ None → (first ≡ None) × (next ≡ None)
 no_fault None next h = (refl, h)
 no_fault (Some f) next h = absurd (let never : ⊥ = cc in never)
 
@@ -48,7 +48,7 @@ pub record HasNumbers (t : Task) (r : ℕ) (report : Report) : Type 0 where
   pub points : report.points ≡ length (points t r)
   pub executions : report.executions ≡ length (executions t r)
 
-right_numbers : (t : Task) (r : ℕ) (report : Report) → header_fault t r (problem_of t r) report ≡ None → HasNumbers t r report
+pub right_numbers : (t : Task) (r : ℕ) (report : Report) → header_fault t r (problem_of t r) report ≡ None → HasNumbers t r report
 right_numbers t r report h =
     let first = right_number report.processes t.processes _ _ h in
     let second = right_number report.rounds r _ _ first.1 in
@@ -109,13 +109,13 @@ module _ (t : Task) (r : ℕ) where
 passes_number : (a b : ℕ) (f : Refusal) (next : Option Refusal) → a ≡ b → next ≡ None → cond (not (a == b)) (Some f) next ≡ None
 passes_number a b f next same h = rw (eq-eqb a b same) h
 
-both_pass : (first next : Option Refusal) → first ≡ None → next ≡ None → unless_fault first next ≡ None
+pub both_pass : (first next : Option Refusal) → first ≡ None → next ≡ None → unless_fault first next ≡ None
 both_pass None next passes after = after
 both_pass (Some f) next passes after = absurd (let never : ⊥ = cc in never)
 
 module _ (t : Task) (r : ℕ) where
   -- the numbers of a report about the task have no fault
-  numbers_pass : (body : Body) → header_fault t r (problem_of t r) (report_about t r body) ≡ None
+  pub numbers_pass : (body : Body) → header_fault t r (problem_of t r) (report_about t r body) ≡ None
   numbers_pass body =
       passes_number t.processes t.processes _ _ refl
       (passes_number r r _ _ refl
