@@ -4,7 +4,7 @@ use Rattle.wf_model.specs.Task.{Task}
 use Rattle.wf_model.specs.View.{View}
 use Rattle.wf_model.specs.DecisionMap.{HasNoDecisionMap, IsDecisionMap, IsLeast, listed}
 use Rattle.wf_model.specs.Refutation.{Line}
-use Rattle.wf_model.specs.Report.{Body, a_map, none}
+use Rattle.wf_model.specs.Report.{Body, a_map, body_values, none}
 use Rattle.wf_model.specs.PointsText.{points_text}
 use Rattle.wf_io.specs.Seen.{Reading, Writing}
 use Rattle.wf_io.specs.Texts.{Gave, Wrote}
@@ -17,7 +17,7 @@ use Rattle.wf_engine.specs.declared.outcome.Accepted.{Accepted}
 use Rattle.wf_engine.specs.Texts.{Finds, map_body, none_body, text_of_report}
 use Rattle.wf_engine.specs.Models.{Models}
 use Rattle.wf_engine.specs.Proofs.{Refutes}
-use Rattle.wf_engine.specs.Verify.{Decides, Verifies, accepted_of, accepted_text, values_of}
+use Rattle.wf_engine.specs.Verify.{Decides, Verifies, accepted_of, accepted_text}
 
 -- the source gave the bytes of this task
 abbrev pub GaveTask : Reading → Reading → Task → Type 0
@@ -72,7 +72,7 @@ DecisionsAreTrue =
     (task task' reports reports' : Reading) (sink sink' : Writing)
     → Decides task task' reports reports' sink sink' (Ok tt)
     → (t : Task) × (r : ℕ) × (body : Body) × GaveTruth task task' reports reports' t r body
-    × Wrote sink sink' (points_text t r (values_of body))
+    × Wrote sink sink' (points_text t r (body_values body))
 
 -- ---- what is reported of a solver's model
 

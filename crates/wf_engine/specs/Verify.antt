@@ -2,7 +2,7 @@
 use Rattle.std.specs.Prelude.{◌≡◌, ◌≢◌, ◌<◌, ◌==◌, ◌⊎◌, ℕ, List, [], ◌∷◌, ◌++◌, length, codes, decimal, Option, Some, None, Result, Ok, Err, if◌then◌else◌}
 use Rattle.wf_model.specs.Limits.{most_bytes}
 use Rattle.wf_model.specs.Task.{Task}
-use Rattle.wf_model.specs.Report.{Report, Body, a_map, none, least, report_of}
+use Rattle.wf_model.specs.Report.{Report, Body, a_map, none, least, body_values, report_of}
 use Rattle.wf_model.specs.Check.{report_fault}
 use Rattle.wf_model.specs.PointsText.{points_text}
 use Rattle.wf_io.specs.Seen.{Reading, Writing}
@@ -52,15 +52,9 @@ accepted_text rounds body = accepted_words body ++ rounds_end rounds
 abbrev pub IsAccepted : Option ℕ → Task → Report → Accepted → List ℕ → Type 0
 IsAccepted rounds t r accepted text = (accepted ≡ accepted_of r.body) × (text ≡ accepted_text rounds r.body)
 
--- the values of a map; there are none where there is no map
-abbrev pub values_of : Body → List ℕ
-values_of (a_map m) = m
-values_of (none ls) = []
-values_of (least m ls) = m
-
 -- the points in words, with the values of the report's map
 abbrev pub AreDecisions : Task → Report → Unit {0} → List ℕ → Type 0
-AreDecisions t r answer text = text ≡ points_text t r.rounds (values_of r.body)
+AreDecisions t r answer text = text ≡ points_text t r.rounds (body_values r.body)
 
 -- The report's rounds are within the limits and the checker finds no fault. So it is true: a map is
 -- a decision map, a map with a certificate is the least one, and where there is none, no function

@@ -1,10 +1,10 @@
 //! Telling what a map decides.
 
-ghost use Rattle.std.specs.Prelude.{◌≡◌, None};
+ghost use Rattle.std.specs.Prelude.{None};
 ghost use Rattle.wf_io.specs.Ends.{CanRead};
-ghost use Rattle.wf_report.specs.Reports.{AreNumbered, body_length, body_of, report_seen};
+ghost use Rattle.wf_report.specs.Reports.{AreNumbered, body_length, report_seen};
 ghost use Rattle.wf_engine.specs.Run.{answered};
-ghost use Rattle.wf_engine.specs.Verify.{AreDecisions, CanVerify, Checks, Decides, IsVerified, values_of};
+ghost use Rattle.wf_engine.specs.Verify.{AreDecisions, CanVerify, Checks, Decides, IsVerified};
 
 use crate::fault::RunFault;
 use crate::points::write_points;
@@ -14,7 +14,7 @@ use std::alloc::Global;
 use std::io::{Read, Write};
 use std::thread::Threads;
 use wf_io::{Sink, Source};
-use wf_report::{Body, Report};
+use wf_report::Report;
 use wf_task::Task;
 
 /// Reads a task and a report about it, and checks the report, as [`run_verify`](crate::run_verify)
@@ -66,16 +66,6 @@ fn decide<T: Threads + Sync>(
     let protocol = check_report(rt, alloc, task, report)?;
     Ok((
         (),
-        write_points(alloc, task, &protocol, values_of(&report.body))?,
+        write_points(alloc, task, &protocol, report.body.values())?,
     ))
-}
-
-/// The values of a report's map; none where it says that there is no map.
-fn values_of(body: &Body) -> &[u8]
-    ensures { result.now ≡ values_of (body_of body.now) }
-{
-    match body {
-        Body::Map(values) | Body::Least(values, _) => values,
-        Body::Nothing(_) => &[],
-    }
 }

@@ -1,14 +1,14 @@
 //! The text of a report.
 
-ghost use Rattle.std.specs.Prelude.{◌≡◌, [], ◌++◌, IfOk, OnOk, string_bytes, flat_map, map};
-ghost use Rattle.wf_model.specs.Report.{line, value_line, line_text, answer_line, report_text};
+ghost use Rattle.std.specs.Prelude.{◌≡◌, [], ◌++◌, IfOk, OnOk, decimal, string_bytes, flat_map, map};
+ghost use Rattle.wf_model.specs.Report.{line, value_line, line_text, answer_line, body_lines, body_values, report_text};
 ghost use Rattle.wf_lines.specs.Lines.{line_of};
 ghost use Rattle.wf_report.specs.Reports.{body_of, report_seen};
-ghost use Rattle.wf_report.specs.Writing.{beginning, steps_of, values_of};
+ghost use Rattle.wf_report.specs.Writing.{IsBeginning};
 
 use crate::report::{Body, Report};
+use itoa::Buffer;
 use std::alloc::{AllocError, Global};
-use std::fmt::Write;
 use wf_lines::{Line, Lines, put_number, put_words};
 
 /// So many lines are written before the memory of those that were is given back.
@@ -42,7 +42,7 @@ impl Report {
 
 /// The text of a report up to its lines.
 fn beginning(alloc: Global, report: &Report) -> Result<String, AllocError>
-    ensures { IfOk result (λ text. string_bytes text ≡ beginning (report_seen report.now)) }
+    ensures { IfOk result (λ text. IsBeginning (report_seen report.now) (string_bytes text)) }
 {
     let mut text = String::new(alloc);
     put_words(&mut text, "wfcheck report 1")?;
@@ -67,9 +67,10 @@ impl Body {
         }
     }
 
-    /// The values of its map; none where there is no map.
-    fn values(&self) -> &[u8]
-        ensures { result.now ≡ values_of (body_of self.now) }
+    /// The values of its map, in the order of the points; none where there is no map. It takes no
+    /// memory.
+    pub fn values(&self) -> &[u8]
+        ensures { result.now ≡ body_values (body_of self.now) }
     {
         match self {
             Body::Map(values) | Body::Least(values, _) => values,
@@ -77,9 +78,9 @@ impl Body {
         }
     }
 
-    /// Its lines; none where it is a map alone.
-    fn lines(&self) -> &[Line]
-        ensures { map line_of result.now ≡ steps_of (body_of self.now) }
+    /// Its lines; none where it is a map alone. It takes no memory.
+    pub fn lines(&self) -> &[Line]
+        ensures { map line_of result.now ≡ body_lines (body_of self.now) }
     {
         match self {
             Body::Map(_) => &[],
@@ -89,7 +90,7 @@ impl Body {
 
     /// The same, without the rest.
     fn into_lines(self, alloc: Global) -> Lines
-        ensures { map line_of result.items ≡ steps_of (body_of self) }
+        ensures { map line_of result.items ≡ body_lines (body_of self) }
     {
         match self {
             Body::Map(_values) => Vec::new(alloc),
@@ -104,7 +105,8 @@ fn put_values(text: &mut String, values: &[u8]) -> Result<(), AllocError>
         ≡ string_bytes text.old ++ flat_map value_line values.now) }
 {
     for value in values {
-        writeln!(text, "m {value}")?;
+        put_digits(text, "m ", u32::from(*value))?;
+        text.push_str("\n")?;
     }
     Ok(())
 }
@@ -144,10 +146,24 @@ fn put_line(text: &mut String, line: Line) -> Result<(), AllocError>
             execution,
             process,
             value,
-        } => writeln!(text, "p {execution} {process} {value}")?,
-        Line::Empty { point } => writeln!(text, "z {point}")?,
-        Line::Branch { point } => writeln!(text, "b {point}")?,
-        Line::Found => writeln!(text, "f")?,
+        } => {
+            put_digits(text, "p ", execution)?;
+            put_digits(text, " ", u32::from(process))?;
+            put_digits(text, " ", u32::from(value))?;
+        }
+        Line::Empty { point } => put_digits(text, "z ", point)?,
+        Line::Branch { point } => put_digits(text, "b ", point)?,
+        Line::Found => text.push_str("f")?,
     }
-    Ok(())
+    text.push_str("\n")
+}
+
+/// Adds these words and the digits of a number.
+fn put_digits(text: &mut String, before: &str, number: u32) -> Result<(), AllocError>
+    ensures { OnOk result (string_bytes text.new
+        ≡ string_bytes text.old ++ before.now ++ decimal number) }
+{
+    let mut digits = Buffer::new();
+    text.push_str(before)?;
+    text.push_str(digits.format(number))
 }

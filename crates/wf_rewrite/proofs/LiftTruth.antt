@@ -3,7 +3,7 @@ use Rattle.std.proofs.Common.{◌≡◌, ◌≤◌, ℕ, ◌+◌, ◌-◌, List,
 use Rattle.wf_model.specs.Task.{Task}
 use Rattle.wf_model.specs.View.{View}
 use Rattle.wf_model.specs.DecisionMap.{IsDecisionMap, listed}
-use Rattle.wf_model.specs.Report.{Report, Body, a_map, none, least}
+use Rattle.wf_model.specs.Report.{Report, Body, a_map, none, least, body_values}
 use Rattle.wf_io.specs.Seen.{Reading, Writing}
 use Rattle.wf_io.specs.Texts.{Wrote}
 use Rattle.wf_complex.specs.Protocol.{Built}
@@ -13,7 +13,7 @@ use Rattle.wf_engine.specs.Headline.{GaveTask, GaveTruth}
 use Rattle.wf_engine.specs.Run.{Hands, HasComplex, IsTaskOf, Next, Reads}
 use Rattle.wf_engine.specs.Sources.{NextReads}
 use Rattle.wf_engine.specs.Texts.{text_of_report}
-use Rattle.wf_engine.specs.Verify.{IsReportOf, Judges, values_of}
+use Rattle.wf_engine.specs.Verify.{IsReportOf, Judges}
 use Rattle.wf_engine.specs.declared.fault.RunFault.{RunFault}
 use Rattle.wf_engine.proofs.Acceptance.{map_text_accepted}
 use Rattle.wf_engine.proofs.Headline.{task_read}
@@ -28,7 +28,7 @@ record IsDone (task task' reports reports' : Reading) (sink sink' : Writing) (t 
   within : HasComplex t rounds
   m : View → ℕ
   decides : IsDecisionMap t r m
-  listed_is : listed t r m ≡ values_of body
+  listed_is : listed t r m ≡ body_values body
   no_fewer : r ≤ rounds
   wrote : Wrote sink sink' (text_of_report t rounds (a_map (listed t rounds (lifted_by t (rounds - r) m))))
 
@@ -37,7 +37,7 @@ module _ (rounds : Option ℕ) (task task' reports reports' : Reading) (sink sin
   Done t r = IsDone task task' reports reports' sink sink' t r (rounds_asked rounds r)
 
   of_map : (t : Task) (r : ℕ) (body : Body) → GaveTruth task task' reports reports' t r body → r ≤ rounds_asked rounds r
-      → LiftsMap t r (rounds_asked rounds r) (values_of body) (Ok (tt, text)) → Done t r
+      → LiftsMap t r (rounds_asked rounds r) (body_values body) (Ok (tt, text)) → Done t r
   of_map t r body given no_fewer (within, m, decides, same, is) = record {
     body = body;
     given = given;

@@ -4,14 +4,14 @@ use Rattle.wf_model.specs.Limits.{most_bytes}
 use Rattle.wf_model.specs.Task.{Task}
 use Rattle.wf_model.specs.View.{View}
 use Rattle.wf_model.specs.DecisionMap.{IsDecisionMap, listed}
-use Rattle.wf_model.specs.Report.{Body, a_map}
+use Rattle.wf_model.specs.Report.{Body, a_map, body_values}
 use Rattle.wf_io.specs.Seen.{Reading, Writing}
 use Rattle.wf_io.specs.Texts.{Wrote}
 use Rattle.wf_lift.specs.Lift.{lifted_by}
 use Rattle.wf_engine.specs.Headline.{GaveTruth}
 use Rattle.wf_engine.specs.Laws.{Accepts, IsChecked}
 use Rattle.wf_engine.specs.Texts.{text_of_report}
-use Rattle.wf_engine.specs.Verify.{ChecksText, values_of}
+use Rattle.wf_engine.specs.Verify.{ChecksText}
 use Rattle.wf_engine.specs.declared.fault.RunFault.{RunFault}
 use Rattle.wf_engine.specs.declared.outcome.Accepted.{Accepted}
 use Rattle.wf_engine.specs.declared.outcome.Accepted.TheVariants as accepted
@@ -24,7 +24,7 @@ pub record TookLifted (task task' reports reports' : Reading) (sink sink' : Writ
   pub body : Body
   pub given : GaveTruth task task' reports reports' t r body
   pub m : View → ℕ
-  pub listed_there : listed t r m ≡ values_of body
+  pub listed_there : listed t r m ≡ body_values body
   pub decides : IsDecisionMap t r m
   pub no_fewer : r ≤ rounds
   pub lifted_decides : IsDecisionMap t rounds (lifted_by t (rounds - r) m)

@@ -1,19 +1,13 @@
 -- A run over two sources, a task and a report about it, that writes a shorter report.
-use Rattle.std.specs.Prelude.{◌≡◌, ℕ, List, [], None, Result}
+use Rattle.std.specs.Prelude.{◌≡◌, ℕ, List, None, Result}
 use Rattle.wf_model.specs.Task.{Task}
 use Rattle.wf_model.specs.Refutation.{Line}
-use Rattle.wf_model.specs.Report.{Body, Report, a_map, none, least, report_text}
+use Rattle.wf_model.specs.Report.{Body, Report, a_map, none, least, body_lines, report_text}
 use Rattle.wf_io.specs.Seen.{Reading, Writing}
 use Rattle.wf_engine.specs.Run.{Ran}
 use Rattle.wf_engine.specs.Verify.{Checks, IsFaultless}
 use Rattle.wf_engine.specs.declared.fault.RunFault.{RunFault}
 use Rattle.wf_trim.specs.Among.{AreAmong}
-
--- the lines of an answer; a map has none
-abbrev pub lines_of : Body → List Line
-lines_of (a_map m) = []
-lines_of (none ls) = ls
-lines_of (least m ls) = ls
 
 -- the answer with other lines; a map has none
 abbrev pub with_lines : Body → List Line → Body
@@ -31,7 +25,7 @@ report_with r ls = with_body r (with_lines r.body ls)
 
 -- the same answer, with some of the lines
 abbrev pub IsShorter : Body → Body → Type 0
-IsShorter body shorter = (ls : List Line) × AreAmong ls (lines_of body) × (shorter ≡ with_lines body ls)
+IsShorter body shorter = (ls : List Line) × AreAmong ls (body_lines body) × (shorter ≡ with_lines body ls)
 
 -- A report with the same numbers and the same answer and some of the lines of another one, in which
 -- the checker finds no fault. So it is true.

@@ -4,10 +4,10 @@ ghost use Rattle.std.specs.Prelude.{◌≡◌, IfOk, map};
 ghost use Rattle.wf_io.specs.Ends.{CanRead};
 ghost use Rattle.wf_complex.specs.Protocol.{IsProtocol};
 ghost use Rattle.wf_lines.specs.Lines.{line_of};
-ghost use Rattle.wf_report.specs.Reports.{AreNumbered, body_length, body_of, report_seen};
+ghost use Rattle.wf_report.specs.Reports.{AreNumbered, body_length, report_seen};
 ghost use Rattle.wf_engine.specs.Run.{answered};
 ghost use Rattle.wf_engine.specs.Verify.{CanVerify, Checks, IsFaultless, IsVerified};
-ghost use Rattle.wf_rewrite.specs.Trimming.{AreTrimmed, IsShortened, Trims, lines_of, report_with};
+ghost use Rattle.wf_rewrite.specs.Trimming.{AreTrimmed, IsShortened, Trims, report_with};
 
 use std::alloc::{AllocError, Global};
 use std::io::{Read, Write};
@@ -16,7 +16,7 @@ use wf_check::check;
 use wf_complex::Protocol;
 use wf_engine::{RunFault, check_report, hand_out, read_report_from, read_task};
 use wf_io::{Sink, Source};
-use wf_lines::{Line, Lines};
+use wf_lines::Lines;
 use wf_report::{Body, CertFault, Report};
 use wf_task::Task;
 use wf_trim::trim;
@@ -91,7 +91,7 @@ pub(crate) fn shortened<T: Threads + Sync>(
         IsShortened task.now (report_seen report) (report_seen shorter)) }
     ensures few { IfOk result (λ shorter. AreNumbered (body_length shorter.body)) }
 {
-    let lines = lines_of(&report.body);
+    let lines = report.body.lines();
     let kept = trim(alloc, task, protocol, lines)?;
     if kept.len() == lines.len() {
         return Ok(report);
@@ -104,16 +104,6 @@ pub(crate) fn shortened<T: Threads + Sync>(
             let (whole, _) = exchange_lines(shorter, lines);
             Ok(whole)
         }
-    }
-}
-
-/// The lines of an answer; a map has none.
-fn lines_of(body: &Body) -> &[Line]
-    ensures { map line_of result.now ≡ lines_of (body_of body.now) }
-{
-    match body {
-        Body::Map(_) => &[],
-        Body::Nothing(lines) | Body::Least(_, lines) => lines,
     }
 }
 
