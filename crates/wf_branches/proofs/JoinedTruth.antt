@@ -15,6 +15,7 @@ use Rattle.wf_model.proofs.Headline.{each_append}
 use Rattle.wf_model.proofs.LeastChecked.{accepted_leads}
 use Rattle.wf_model.proofs.Least.{root_is_box}
 use Rattle.wf_model.proofs.WellFormed.{task_well_formed}
+use Rattle.wf_model.proofs.WholeReports.{no_fault}
 use Rattle.wf_formula.specs.Branches.{branches}
 use Rattle.wf_io.specs.Seen.{Reading}
 use Rattle.wf_io.specs.Texts as io
@@ -37,7 +38,6 @@ use Rattle.wf_branches.specs.Joining.{AcceptsBody, AcceptsJoined, EndsAll, Gathe
 use Rattle.wf_branches.specs.Laws.{JoinsAreAccepted, JoinsAreTrue, JoiningIsCounted}
 use Rattle.wf_branches.specs.Verifying.{IsPartOf}
 use Rattle.wf_branches.proofs.Small.{AreSmallLines, filled_small, filled_up_small}
-use Rattle.wf_branches.proofs.Verified.{both_none}
 
 -- ---- what was joined
 
@@ -131,14 +131,14 @@ module _ (t : Task) (r : ℕ) (is : IsTask t) (within : HasComplex t r) where
   joined_within (without_map lists) small faultless =
       let p = problem_of t r in
       let ls : List Line = filled (outline p) lists in
-      let tree = root_accepted p 7 ls (both_none (header_fault t r p (report_about t r (none ls))) (body_fault p (none ls)) faultless.faultless).1 in
+      let tree = root_accepted p 7 ls (no_fault (header_fault t r p (report_about t r (none ls))) (body_fault p (none ls)) faultless.faultless).1 in
       small_none_within t r is within tree.0 ls tree.1 tree.2 (filled_small p lists (root_small t r is) small)
   joined_within (with_least m lists) small faultless =
       let p = problem_of t r in
       let ls : List Line = filled_up_to (outline p) lists in
       let (f, is_least, same) = faultless.holds in
-      let clear = (both_none (header_fault t r p (report_about t r (least m ls))) (body_fault p (least m ls)) faultless.faultless).1 in
-      let leads = (both_none (map_fault p m) (first_least_fault p m (7 + length m) ls (root p ∷ [])) clear).1 in
+      let clear = (no_fault (header_fault t r p (report_about t r (least m ls))) (body_fault p (least m ls)) faultless.faultless).1 in
+      let leads = (no_fault (map_fault p m) (first_least_fault p m (7 + length m) ls (root p ∷ [])) clear).1 in
       let tree = accepted_leads p (root p) m (7 + length m) ls (root_is_box p (task_well_formed t r is)) leads in
       subst (λ x. IsInGrammar (report_about t r (least x ls))) same
       (small_least_within t r is within f is_least.decides tree.0 ls tree.1 (subst (λ x. IsLeastTree p x tree.0 (root p)) (sym same) tree.2) (filled_up_small p lists (root_small t r is) small))

@@ -1,5 +1,5 @@
 -- What is accepted of a part, in the terms of the task; and the counts of a check of one.
-use Rattle.std.proofs.Common.{◌≡◌, ℕ, ◌+◌, Bool, true, false, not, List, [], ◌∷◌, length, Option, None, Some, Result, Ok, Err, refl, sym, ap, subst, ◌∙◌, arith}
+use Rattle.std.proofs.Common.{◌≡◌, ℕ, ◌+◌, ◌++◌, Bool, true, false, not, List, [], ◌∷◌, length, None, Result, Ok, Err, refl, sym, ap, subst, ◌∙◌, arith}
 use Rattle.std.proofs.lemmas.Bool.{and_parts}
 use Rattle.std.proofs.lemmas.List.{append-nil}
 use Rattle.wf_model.specs.Lists.{has}
@@ -9,8 +9,8 @@ use Rattle.wf_model.specs.Box.{Box, LiesIn}
 use Rattle.wf_model.specs.Problem.{problem_of}
 use Rattle.wf_model.specs.DecisionMap.{listed}
 use Rattle.wf_model.specs.Refutation.{Line, Tree, Trees, no_trees, tree, lines, lines_each, Refutes, RefutesEach}
-use Rattle.wf_model.specs.Report.{Report, Body, a_map, none, least}
-use Rattle.wf_model.specs.Check.{Refusal, first_least_fault, header_fault, map_fault, unless_fault}
+use Rattle.wf_model.specs.Report.{Report, Body, a_map, none, least, report_about, report_text}
+use Rattle.wf_model.specs.Check.{first_least_fault, header_fault, map_fault}
 use Rattle.wf_model.proofs.Bridge.{by_number, listed_solves, solution_decides}
 use Rattle.wf_model.proofs.Numbers.{listed_by_number}
 use Rattle.wf_model.proofs.Checked.{accepted}
@@ -19,16 +19,19 @@ use Rattle.wf_model.proofs.LeastTrees.{tree_least}
 use Rattle.wf_model.proofs.Sound.{none_refutes}
 use Rattle.wf_model.proofs.Trying.{faultless}
 use Rattle.wf_model.proofs.WellFormed.{task_well_formed}
+use Rattle.wf_model.proofs.WholeReports.{no_fault, right_numbers}
 use Rattle.wf_formula.specs.Branches.{branch_at, branches}
 use Rattle.wf_io.specs.Seen.{Reading, Writing}
 use Rattle.wf_io.specs.Texts as io
-use Rattle.wf_io.specs.Texts.{Wrote}
+use Rattle.wf_io.specs.Texts.{Gave, ReadsText, Wrote}
 use Rattle.wf_io.specs.declared.source.ReadFault.{ReadFault}
 use Rattle.wf_io.specs.declared.source.ReadFault.TheVariants as read
+use Rattle.wf_report.proofs.Lemmas.{read_written}
 use Rattle.wf_check.specs.Within.{fault_within, report_fault_within}
 use Rattle.wf_engine.specs.Laws.{IsChecked}
 use Rattle.wf_engine.specs.Run.{Judged, Next, by_result, failed_reads, failed_writes}
 use Rattle.wf_engine.specs.Sources.{NextReads}
+use Rattle.wf_engine.specs.Texts.{text_of_report}
 use Rattle.wf_engine.specs.Verify.{accepted_words}
 use Rattle.wf_engine.specs.declared.fault.RunFault.{RunFault}
 use Rattle.wf_engine.specs.declared.fault.RunFault.TheVariants as run
@@ -36,8 +39,9 @@ use Rattle.wf_engine.proofs.Both.{IsReadCounted, done}
 use Rattle.wf_engine.proofs.Both as both
 use Rattle.wf_engine.proofs.Counts.{few}
 use Rattle.wf_branches.specs.Branches.{HasBranch}
-use Rattle.wf_branches.specs.Laws.{PartAcceptancesAreTrue}
+use Rattle.wf_branches.specs.Laws.{GaveTruePart, PartAcceptancesAreTrue}
 use Rattle.wf_branches.specs.Refuting.{FindsBranch, ReadsIn, accepted_in}
+use Rattle.wf_branches.specs.Solving.{part_head, part_text}
 use Rattle.wf_branches.specs.Verifying.{ChecksPart, HoldsIn, IsFaultlessIn, IsPartOf, JudgesPart, ReadsPart, VerifiesBranch, is_outside, lies_in}
 use Rattle.wf_branches.proofs.Counts.{missing}
 use Rattle.wf_branches.proofs.Solved.{branch_is_box, least_there}
@@ -54,10 +58,6 @@ lies (a ∷ m) (set ∷ box) h = let parts = and_parts (has set a) (lies_in m bo
 kept : (b : Bool) → not b ≡ false → b ≡ true
 kept true h = refl
 kept false h = absurd (let bad : ⊥ = cc in bad)
-
-pub both_none : (first next : Option Refusal) → unless_fault first next ≡ None → (first ≡ None) × (next ≡ None)
-both_none None next h = (refl, h)
-both_none (Some f) next h = absurd (let never : ⊥ = cc in never)
 
 module _ (t : Task) (r i : ℕ) (is : IsTask t) (has_branch : HasBranch t r i) where
   -- lines without a fault are those of a tree that refutes the branch
@@ -77,7 +77,7 @@ module _ (t : Task) (r i : ℕ) (is : IsTask t) (has_branch : HasBranch t r i) w
       none_refutes (problem_of t r) (task_well_formed t r is).in_range (listed t r m) (listed_solves t r m decides) refuted.0 (branch_at t r i) refuted.2 within
   body_true (least m ls) clear inside =
       let box = branch_is_box t r i is has_branch in
-      let parts = both_none (map_fault (problem_of t r) m) (first_least_fault (problem_of t r) m (7 + length m) ls (branch_at t r i ∷ [])) clear in
+      let parts = no_fault (map_fault (problem_of t r) m) (first_least_fault (problem_of t r) m (7 + length m) ls (branch_at t r i ∷ [])) clear in
       let solves = (faultless (problem_of t r) m).0 parts.0 in
       let leads = accepted_leads (problem_of t r) (branch_at t r i) m (7 + length m) ls box parts.1 in (
         by_number t r m,
@@ -88,33 +88,53 @@ module _ (t : Task) (r i : ℕ) (is : IsTask t) (has_branch : HasBranch t r i) w
   pub part_true : (report : Report) → report_fault_within t r (branch_at t r i) report ≡ None → is_outside report.body (branch_at t r i) ≡ false → IsFaultlessIn t r i report
   part_true report clear inside = record {
     faultless = clear;
-    holds = body_true report.body (both_none (header_fault t r (problem_of t r) report) (fault_within (problem_of t r) (branch_at t r i) report.body) clear).1 inside;
+    holds = body_true report.body (no_fault (header_fault t r (problem_of t r) report) (fault_within (problem_of t r) (branch_at t r i) report.body) clear).1 inside;
   }
+
+-- ---- what was read
+
+module _ (t : Task) (r i : ℕ) where
+  -- a report without a fault is about the task and these rounds
+  about_rounds : (report : Report) → report_fault_within t r (branch_at t r i) report ≡ None → report ≡ report_about t r report.body
+  about_rounds report clear =
+      let n = right_numbers t r report (no_fault (header_fault t r (problem_of t r) report) (fault_within (problem_of t r) (branch_at t r i) report.body) clear).0 in
+      λ k. record { processes = n.processes k; rounds = n.rounds k; points = n.points k; executions = n.executions k; body = report.body }
+
+  part_as_read : (text : List ℕ) (report : Report) → IsPartOf i (length (branches t r)) text (Ok report) → IsFaultlessIn t r i report → text ≡ part_text t r i report.body
+  unfolding text_of_report
+  part_as_read text report (rest, is, read) right =
+      is ∙ ap (λ x. part_head i (length (branches t r)) ++ x) ((read_written rest report read).0 ∙ ap report_text (about_rounds report right.faultless))
 
 -- ---- where it ends well
 
 module _ (i : ℕ) (t : Task) (r : ℕ) (old new : Reading) (written : List ℕ) where
-  -- what was accepted, and the line that says so
+  -- what was given and accepted, and the line that says so
   abbrev Accepted : Type 0
-  Accepted = (found : Report) × HoldsIn t r i found.body × (written ≡ accepted_in (accepted_words found.body) i (length (branches t r)) r)
+  Accepted =
+      (body : Body) × Gave old new (part_text t r i body) 0 × HoldsIn t r i body
+      × (written ≡ accepted_in (accepted_words body) i (length (branches t r)) r)
 
-  of_report : (report : Result Report RunFault) → Next (ChecksPart i t r) report (Ok (tt, written)) → Accepted
-  of_report (Ok found) next = (found, next.0.holds, next.1)
-  of_report (Err e) next = absurd (let bad : ⊥ = cc in bad)
+  of_report : (text : List ℕ) (report : Result Report RunFault) → Gave old new text 0 → IsPartOf i (length (branches t r)) text report
+      → Next (ChecksPart i t r) report (Ok (tt, written)) → Accepted
+  of_report text (Ok found) gave is next =
+      (found.body, subst (λ x. Gave old new x 0) (part_as_read t r i text found is next.0) gave, next.0.holds, next.1)
+  of_report text (Err e) gave is next = absurd (let bad : ⊥ = cc in bad)
 
-  of_text : (text : Result (List ℕ) ReadFault) → Judged (JudgesPart i t r) text (Ok (tt, written)) → Accepted
-  of_text (Ok text) (report, is, next) = of_report report next
-  of_text (Err e) judged = absurd (let bad : ⊥ = cc in bad)
+  of_text : (text : Result (List ℕ) ReadFault) → ReadsText most_bytes old new text → Judged (JudgesPart i t r) text (Ok (tt, written)) → Accepted
+  of_text (Ok text) (given, gave, same) (report, is, next) =
+      of_report given report gave (subst (λ x. IsPartOf i (length (branches t r)) x report) same.0 is) next
+  of_text (Err e) reads judged = absurd (let bad : ⊥ = cc in bad)
 
   of_branch : (found : Result (Unit {0}) RunFault) → FindsBranch t r i found → NextReads (λ there. ReadsPart i t r) old new found (Ok (tt, written)) → HasBranch t r i × Accepted
-  of_branch (Ok there) has (text, reads, judged) = (has, of_text text judged)
+  of_branch (Ok there) has (text, reads, judged) = (has, of_text text reads judged)
   of_branch (Err e) has next = absurd (let bad : ⊥ = cc in bad)
 
 pub part_acceptances_true : PartAcceptancesAreTrue
 part_acceptances_true r i task task' part part' sink sink' ran =
     let end = done (ReadsIn ReadsPart i) r task task' part part' sink sink' ran in
-    let (has, (report, holds, same)) = of_branch i end.t r part part' end.text end.read.0 end.read.1 end.read.2 in
-    (end.t, report.body, end.given, has, holds, subst (λ text. Wrote sink sink' text) same end.wrote)
+    let (has, (body, gave, holds, same)) = of_branch i end.t r part part' end.text end.read.0 end.read.1 end.read.2 in
+    let truth : GaveTruePart task task' part part' end.t r i body = record { task_given = end.given; has_branch = has; part_given = gave; holds = holds } in
+    (end.t, body, truth, subst (λ text. Wrote sink sink' text) same end.wrote)
 
 -- ---- counts
 

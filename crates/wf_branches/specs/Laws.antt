@@ -21,7 +21,7 @@ use Rattle.wf_report.specs.declared.form.Form.{Form}
 use Rattle.wf_report.specs.declared.form.Form.TheVariants as form
 use Rattle.wf_branches.specs.Branches.{HasBranch, ListsBranch}
 use Rattle.wf_branches.specs.Refuting.{HasNoMapIn, RefutesBranch, accepted_in, accepted_text}
-use Rattle.wf_branches.specs.Solving.{IsSolvedIn, SolvesBranch}
+use Rattle.wf_branches.specs.Solving.{IsSolvedIn, SolvesBranch, part_text}
 use Rattle.wf_branches.specs.Verifying.{HoldsIn, VerifiesBranch}
 use Rattle.wf_branches.specs.Joining.{Joins, JoinsText, most_parts_bytes}
 use Rattle.wf_branches.specs.Searched.{AreTooMuch, HasPartsOf, IsWholeText}
@@ -59,13 +59,21 @@ BranchSolvingIsCounted =
     (rounds branch : ℕ) (form : Form) (source source' : Reading) (sink sink' : Writing) (result : Result Outcome RunFault)
     → SolvesBranch rounds branch form source source' sink sink' result → IsCounted source source' sink sink' result
 
--- where a part is accepted about a branch, the source of the task gave its bytes, the branch is
--- there, what the part says of it is true, and the sink took the line that says so
+-- The sources gave the bytes of a task, and the text of the part with this answer about a branch of
+-- its question, which is there; and what the part says of the branch is true.
+pub record GaveTruePart (task task' part part' : Reading) (t : Task) (r i : ℕ) (body : Body) : Type 0 where
+  pub task_given : GaveTask task task' t
+  pub has_branch : HasBranch t r i
+  pub part_given : Gave part part' (part_text t r i body) 0
+  pub holds : HoldsIn t r i body
+
+-- where a part is accepted about a branch, such a part was given, and the sink took the line that
+-- says what is accepted of it
 abbrev pub PartAcceptancesAreTrue : Type 0
 PartAcceptancesAreTrue =
     (rounds branch : ℕ) (task task' part part' : Reading) (sink sink' : Writing)
     → VerifiesBranch rounds branch task task' part part' sink sink' (Ok tt)
-    → (t : Task) × (body : Body) × GaveTask task task' t × HasBranch t rounds branch × HoldsIn t rounds branch body
+    → (t : Task) × (body : Body) × GaveTruePart task task' part part' t rounds branch body
     × Wrote sink sink' (accepted_in (accepted_words body) branch (length (branches t rounds)) rounds)
 
 abbrev pub PartCheckingIsCounted : Type 0

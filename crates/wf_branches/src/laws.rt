@@ -35,9 +35,9 @@ pub fn branch_solving_is_counted()
     ensures { BranchSolvingIsCounted }
 {}
 
-/// What is accepted of a part is true: the source of the task gave its bytes, the branch is there,
-/// and what the part says of it holds, whatever the part's bytes are: its map is a decision map
-/// that lies there, with lines the least one, or none lies there.
+/// What is accepted of a part is true: the sources gave the bytes of a task and of the part with
+/// this answer about a branch, the branch is there, and the answer holds of it: its map is a
+/// decision map that lies there, with lines the least one, or none lies there.
 pub fn part_acceptances_are_true()
     ensures { PartAcceptancesAreTrue }
 {}
