@@ -1,9 +1,8 @@
 //! Where the executions of a task lie in the list of their last views.
 
-ghost use Rattle.std.specs.Prelude.{ℕ, ◌≡◌, ◌<◌, ◌≤◌, ◌+◌, ◌-◌, ◌*◌, ◌++◌, min, length, slice_get, All, IfOk, OnOk};
+ghost use Rattle.std.specs.Prelude.{◌≡◌, ◌≤◌, ◌+◌, ◌-◌, ◌*◌, ◌++◌, min, length, slice_get, All, IfOk, OnOk};
 ghost use Rattle.wf_model.specs.Limits.{most_executions, most_inputs, most_number, most_processes};
 ghost use Rattle.wf_complex.specs.Layout.{turns, execution_total, laid_on, laid_out, place_after};
-ghost use Rattle.wf_complex.specs.Places.{LieFrom, BelongsTo};
 
 use std::alloc::{AllocError, Global};
 use wf_simplex::{Simplex, allowed_count};
@@ -113,14 +112,4 @@ pub(crate) fn place_after_all(executions: &[Span]) -> usize
         Some(last) => last.place as usize + last.size as usize,
         None => 0,
     }
-}
-
-/// The number of the execution that a place belongs to, where they lie one after another.
-pub(crate) fn execution_of(executions: &[Span], place: u32) -> u32
-    requires lying { (end : ℕ) × (place < end) × LieFrom 0 end executions.now }
-    requires few { length executions.now ≤ most_executions }
-    ensures { BelongsTo place executions.now result }
-{
-    let begun = executions.partition_point(|execution| execution.place <= place);
-    begun as u32 - 1
 }

@@ -20,10 +20,11 @@ pub struct PackedExecution {
 pub(crate) fn pack(
     alloc: Global,
     spans: &[Span],
-    numbers: &[u32],
+    numbers: Vec<u32>,
 ) -> Result<Vec<PackedExecution>, AllocError>
-    requires within { All (IsSpanWithin (length numbers.now)) spans.now }
-    ensures { IfOk result (λ executions. executions.items ≡ map (packed_on numbers.now) spans.now) }
+    requires within { All (IsSpanWithin (length numbers.items)) spans.now }
+    ensures { IfOk result
+        (λ executions. executions.items ≡ map (packed_on numbers.items) spans.now) }
 {
     let mut executions = Vec::with_capacity(alloc, spans.len())?;
     for span in spans {

@@ -6,5 +6,5 @@ abbrev pub invariant-loop-span : goal.invariant-loop-span
 invariant-loop-span l = record {
   room : length l.spans ≤ vec_capacity l.executions;
   long : length l.executions.items ≡ l.span-index;
-  executions : l.executions.items ≡ map (packed_on l.numbers) (take l.span-index l.spans);
+  executions : l.executions.items ≡ map (packed_on l.numbers.items) (take l.span-index l.spans);
 }
