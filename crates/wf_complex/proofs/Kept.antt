@@ -12,7 +12,6 @@ use Rattle.wf_simplex.proofs.Lemmas.{length-within}
 use Rattle.wf_complex.specs.declared.layout.Span.{Span}
 use Rattle.wf_complex.specs.Rounds.{views_at, leaves_of, cost_of_each}
 use Rattle.wf_complex.specs.Layout.{execution_total, place_total, laid_out}
-use Rattle.wf_complex.specs.Packed.{IsSpanWithin}
 use Rattle.wf_complex.specs.Places.{IsOn, LieFrom, firsts_at}
 use Rattle.wf_complex.specs.Classes.{class_by, ArePoints}
 use Rattle.wf_complex.specs.Numbering.{picked}
@@ -25,7 +24,7 @@ use Rattle.wf_complex.proofs.Cuts.{length-laid_out, laid_simplices}
 use Rattle.wf_complex.proofs.Different.{all_picked, few_firsts, firsts_ascend, firsts_low}
 use Rattle.wf_complex.proofs.FirstPlaces.{picked_twice}
 use Rattle.wf_complex.proofs.Lying.{all_lie, all_on}
-use Rattle.wf_complex.proofs.PackedLemmas.{spans_within}
+use Rattle.wf_complex.proofs.PackedLemmas.{IsSpanWithin, spans_within}
 use Rattle.wf_complex.proofs.BuiltLemmas.{view_count_is, points_are, firsts_are, scopes_are}
 use Rattle.wf_model.proofs.Bridge.{weaker}
 
@@ -90,6 +89,9 @@ module _ (m r : ℕ) (ss : List Simplex) (few : execution_total m r ss ≤ 50000
 
     firsts_placed : All (λ j. j < length numbers) firsts
     firsts_placed = subst (λ n. All (λ j. j < n) firsts) (length-ids ∙ sym length-numbers) (firsts_low points.ids firsts points.numbered.firsts_are)
+
+    pub numbers_long : length numbers ≡ place_total m r ss
+    numbers_long = length-numbers ∙ length-lasts
 
     pub are_laid : (spans : List Span) → spans ≡ laid_out m r 0 0 ss → AreLaid ss spans firsts numbers
     are_laid spans laid =

@@ -12,7 +12,7 @@ ghost use Rattle.wf_complex.specs.ProtocolMade.{IsMade};
 use crate::classes::points_of;
 use crate::fault::BuildFault;
 use crate::firsts::{First, firsts_of};
-use crate::layout::{MOST_EXECUTIONS, execution_count, lay_out, place_after_all};
+use crate::layout::{MOST_EXECUTIONS, execution_count, lay_out, place_count};
 use crate::packed::{PackedExecution, pack};
 use crate::rounds::last_views;
 use std::alloc::{AllocError, Global};
@@ -193,11 +193,11 @@ fn complex_from(
     ensures { IfOk result (IsMade inputs.now symmetric first_block rounds) }
 {
     let mut views = Views::start(alloc);
-    let spans = lay_out(alloc, inputs, first_block, rounds)?;
-    let room = place_after_all(&spans);
+    let room = place_count(inputs, first_block, rounds);
     let lasts = last_views(alloc, &mut views, inputs, first_block, rounds, room)?;
     let points = points_of(alloc, &mut views, lasts, symmetric)?;
-    let executions = pack(alloc, &spans, points.numbers)?;
+    let executions = pack(alloc, inputs, first_block, rounds, points.numbers)?;
+    let spans = lay_out(alloc, inputs, first_block, rounds)?;
     let firsts = firsts_of(alloc, inputs, &spans, &points.firsts)?;
     let inputs = inputs.to_vec(alloc)?;
     Ok(Protocol {
