@@ -2,7 +2,7 @@
 use Rattle.std.proofs.Common.{◌≡◌, ◌<◌, ◌≤◌, ℕ, suc, ◌+◌, ◌*◌, min, List, [], ◌∷◌, ◌++◌, map, length, drop, get_or, sym, refl, ap, ◌∙◌, arith, lit≤, append_assoc}
 use Rattle.std.specs.List.{AllByRecursion}
 use Rattle.std.proofs.Math.Nat.{mul-le-mul_right, mul-le-mul_left}
-use Rattle.std.proofs.lemmas.List.{drop_more, map-append}
+use Rattle.std.proofs.lemmas.List.{drop_more}
 use Rattle.wf_model.specs.Simplex.{Simplex}
 use Rattle.wf_model.specs.Word.{words}
 use Rattle.wf_simplex.proofs.Lemmas.{each_pair}
@@ -59,20 +59,11 @@ laid_out-more m rounds ss i place s before low is =
     ∙ sym (append_assoc before (laid_on i (length s) place (turns m (length s) rounds)) (laid_out m rounds (i + 1) (place + turns m (length s) rounds * length s) (drop (i + 1) ss)))
 
 -- the same of what is made of each execution
-module _ {X : Type 0} (f : Span → X) where
-  pub made_on-more : (k n p c left : ℕ) (before : List X) → left ≡ c + 1 → before ++ map f (laid_on k n p left) ≡ (before ++ f (record { simplex = k; place = p; size = n }) ∷ []) ++ map f (laid_on k n (p + n) c)
-  made_on-more k n p c left before e =
-      ap (λ es. before ++ map f es) (laid_on-more k n p c left [] e)
-      ∙ sym (append_assoc before (f (record { simplex = k; place = p; size = n }) ∷ []) (map f (laid_on k n (p + n) c)))
-
-  pub made_out-more : (m rounds : ℕ) (ss : List Simplex) (i place : ℕ) (s : Simplex) (before : List X) → i < length ss → s ≡ get_or ss i s →
-      before ++ map f (laid_out m rounds i place (drop i ss)) ≡ (before ++ map f (laid_on i (length s) place (turns m (length s) rounds))) ++ map f (laid_out m rounds (i + 1) (place + turns m (length s) rounds * length s) (drop (i + 1) ss))
-  made_out-more m rounds ss i place s before low is =
-      let here = laid_on i (length s) place (turns m (length s) rounds) in
-      let rest = laid_out m rounds (i + 1) (place + turns m (length s) rounds * length s) (drop (i + 1) ss) in
-      ap (λ es. before ++ map f es) (laid_out-more m rounds ss i place s [] low is)
-      ∙ ap (λ xs. before ++ xs) (map-append f here rest)
-      ∙ sym (append_assoc before (map f here) (map f rest))
+pub made_on-more : {X : Type 0} (f : Span → X) (k n p c left : ℕ) (before : List X) → left ≡ c + 1 →
+    before ++ map f (laid_on k n p left) ≡ (before ++ f (record { simplex = k; place = p; size = n }) ∷ []) ++ map f (laid_on k n (p + n) c)
+made_on-more f k n p c left before e =
+    ap (λ es. before ++ map f es) (laid_on-more k n p c left [] e)
+    ∙ sym (append_assoc before (f (record { simplex = k; place = p; size = n }) ∷ []) (map f (laid_on k n (p + n) c)))
 
 -- at most four processes take part in each execution
 pub place_few : (m rounds : ℕ) (ss : List Simplex) → AllByRecursion (λ s. length s ≤ 4) ss → place_total m rounds ss ≤ execution_total m rounds ss * 4
