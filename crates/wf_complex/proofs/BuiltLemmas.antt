@@ -21,10 +21,10 @@ use Rattle.wf_view.proofs.Lemmas.{number_of-at}
 use Rattle.wf_complex.specs.declared.layout.Span.{Span}
 use Rattle.wf_complex.specs.Rounds.{views_at, leaves_of}
 use Rattle.wf_complex.specs.Layout.{laid_out}
-use Rattle.wf_complex.specs.Places.{part_of, processes_on, places_on}
+use Rattle.wf_complex.specs.Places.{firsts_at, part_of, processes_on, places_on}
 use Rattle.wf_complex.specs.Classes.{class_by}
 use Rattle.wf_complex.specs.Numbering.{same_at, first_places}
-use Rattle.wf_complex.specs.ProtocolSeen.{firsts_seen, scopes_seen}
+use Rattle.wf_complex.specs.ProtocolSeen.{scopes_seen}
 use Rattle.wf_complex.proofs.Executions.{last_views-executions}
 use Rattle.wf_complex.proofs.Cuts.{parts-map, last_views_cut, laid_simplices}
 use Rattle.wf_complex.proofs.RuleAt.{rules_same, words_long}
@@ -168,7 +168,7 @@ module _ (t : Task) (r : ℕ) (table : List View) (lasts : List ℕ) (made : vie
         ∙ distinct_by_place (λ j. get_or appearances j nowhere) same_point cs agree
         ∙ ap (map (λ j. get_or appearances j nowhere)) (sym first)
 
-    pub firsts_are : firsts_seen (inputs t) laid firsts ≡ map (λ a. (a.execution, a.process)) (first_appearances t r)
+    pub firsts_are : firsts_at (inputs t) laid firsts ≡ map (λ a. (a.execution, a.process)) (first_appearances t r)
     firsts_are =
         (λ i. map (λ j. get_or (places_along t (inputs t) 0 laid (executions t r) (their_processes t r) i) j (0, 0)) firsts)
         ∙ (λ i. map (λ j. list.get_or-map at_appearance appearances j nowhere i) firsts)

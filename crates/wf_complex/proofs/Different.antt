@@ -1,7 +1,7 @@
 -- Numbers of a table without doubles: different numbers are different views,
 -- and first places are first views.
 use Rattle.std.proofs.Common.{◌≡◌, ◌<◌, ◌≤◌, ℕ, zero, suc, ◌+◌, ◌==◌, Bool, true, not, cond, List, [], ◌∷◌, map, filter, length, slice_index, All, sym, refl, ap, ◌∙◌, subst, arith, eqb-true, eq-eqb}
-use Rattle.std.specs.List.{AllByRecursion, range_with_len}
+use Rattle.std.specs.List.{AllByRecursion, AllPairs, range_with_len}
 use Rattle.std.specs.Cmp.{both_ways}
 use Rattle.std.proofs.lemmas.List.{length-map}
 use Rattle.std.proofs.lemmas.List.Elements.{recursion_from_All, All-from_recursion, All-get_or}
@@ -11,7 +11,9 @@ use Rattle.wf_model.specs.View.{View, same_view}
 use Rattle.wf_model.specs.Problem.{number_of}
 use Rattle.wf_model.proofs.Basics.{by_place}
 use Rattle.wf_model.proofs.Bridge.{same_itself, same_is, weaker}
-use Rattle.wf_model.proofs.Headline.{each_distinct, each_map}
+use Rattle.std.proofs.lemmas.List.Kept.{AllPairs-cons}
+use Rattle.wf_model.proofs.Ascending.{Ascends, ascends_filter}
+use Rattle.wf_model.proofs.Headline.{each_distinct, each_filter, each_map}
 use Rattle.wf_model.proofs.Numbers.{Apart, apart_distinct, map_distinct}
 use Rattle.wf_view.specs.Views.{view_at}
 use Rattle.wf_view.proofs.Lemmas.{number_of-at}
@@ -62,6 +64,29 @@ first_places_low ids = each_distinct (λ j. j < length ids) (same_at ids) (below
 -- each number stands first at a place of the list
 pub firsts_low : (ids firsts : List ℕ) → firsts ≡ first_places ids (length ids) → All (λ j. j < length ids) firsts
 firsts_low ids firsts first = subst (All (λ j. j < length ids)) (sym first) (All-from_recursion (λ j. j < length ids) (first_places ids (length ids)) (first_places_low ids))
+
+-- the different ones of ascending numbers ascend
+ascends_distinct : (same : ℕ → ℕ → Bool) (xs : List ℕ) → Ascends xs → Ascends (distinct same xs)
+ascends_distinct same [] h = tt
+ascends_distinct same (x ∷ xs) h =
+    let test : ℕ → Bool = λ y. not (same x y) in
+    (each_filter (λ y. x < y) test (distinct same xs) (each_distinct (λ y. x < y) same xs h.0), ascends_filter test (distinct same xs) (ascends_distinct same xs h.1))
+
+all_above : (x a n : ℕ) → x < a → AllByRecursion (λ j. x < j) (range_with_len a n)
+all_above x a zero h = tt
+all_above x a (suc n) h = (h, all_above x (a + 1) n (omega (arith, h)))
+
+range_ascends : (a n : ℕ) → Ascends (range_with_len a n)
+range_ascends a zero = tt
+range_ascends a (suc n) = (all_above a (a + 1) n (omega arith), range_ascends (a + 1) n)
+
+pairs_from : (xs : List ℕ) → Ascends xs → AllPairs (λ x y. x < y) xs
+pairs_from [] h = λ i j d less inside. absurd (let none : ⊥ = omega (arith, inside) in none)
+pairs_from (x ∷ xs) h = AllPairs-cons (λ x y. x < y) x xs (All-from_recursion (λ y. x < y) xs h.0) (pairs_from xs h.1)
+
+pub firsts_ascend : (ids firsts : List ℕ) → firsts ≡ first_places ids (length ids) → AllPairs (λ i j. i < j) firsts
+firsts_ascend ids firsts first =
+    subst (AllPairs (λ i j. i < j)) (sym first) (pairs_from (first_places ids (length ids)) (ascends_distinct (same_at ids) (below (length ids)) (range_ascends 0 (length ids))))
 
 pub few_firsts : (ids firsts : List ℕ) → firsts ≡ first_places ids (length ids) → length firsts ≤ length ids
 few_firsts ids firsts first = omega (arith, ap length first, length-first_places ids (length ids))

@@ -1,5 +1,5 @@
 -- How many executions there are, and where their places lie.
-use Rattle.std.proofs.Common.{◌≡◌, ◌<◌, ◌≤◌, ℕ, suc, ◌+◌, ◌*◌, min, List, [], ◌∷◌, ◌++◌, length, drop, get_or, sym, refl, ap, ◌∙◌, arith, lit≤, append_assoc}
+use Rattle.std.proofs.Common.{◌≡◌, ◌<◌, ◌≤◌, ℕ, suc, ◌+◌, ◌*◌, min, List, [], ◌∷◌, ◌++◌, map, length, drop, get_or, sym, refl, ap, ◌∙◌, arith, lit≤, append_assoc}
 use Rattle.std.specs.List.{AllByRecursion}
 use Rattle.std.proofs.Math.Nat.{mul-le-mul_right, mul-le-mul_left}
 use Rattle.std.proofs.lemmas.List.{drop_more}
@@ -57,6 +57,13 @@ laid_out-more m rounds ss i place s before low is =
     let e : drop i ss ≡ s ∷ drop (i + 1) ss = drop_more ss i s low ∙ ap (λ x. x ∷ drop (i + 1) ss) (sym is) in
     ap (λ xs. before ++ laid_out m rounds i place xs) e
     ∙ sym (append_assoc before (laid_on i (length s) place (turns m (length s) rounds)) (laid_out m rounds (i + 1) (place + turns m (length s) rounds * length s) (drop (i + 1) ss)))
+
+-- the same of what is made of each execution
+pub made_on-more : {X : Type 0} (f : Span → X) (k n p c left : ℕ) (before : List X) → left ≡ c + 1 →
+    before ++ map f (laid_on k n p left) ≡ (before ++ f (record { simplex = k; place = p; size = n }) ∷ []) ++ map f (laid_on k n (p + n) c)
+made_on-more f k n p c left before e =
+    ap (λ es. before ++ map f es) (laid_on-more k n p c left [] e)
+    ∙ sym (append_assoc before (f (record { simplex = k; place = p; size = n }) ∷ []) (map f (laid_on k n (p + n) c)))
 
 -- at most four processes take part in each execution
 pub place_few : (m rounds : ℕ) (ss : List Simplex) → AllByRecursion (λ s. length s ≤ 4) ss → place_total m rounds ss ≤ execution_total m rounds ss * 4

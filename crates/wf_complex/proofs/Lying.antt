@@ -1,9 +1,9 @@
 -- Executions that lie one after another, each on an input simplex.
-use Rattle.std.proofs.Common.{◌≡◌, ◌<◌, ◌≤◌, ℕ, zero, suc, ◌+◌, ◌-◌, ◌*◌, List, [], ◌∷◌, ◌++◌, length, get_or, All, sym, refl, ap, ◌∙◌, subst, arith, append_assoc, length-append}
+use Rattle.std.proofs.Common.{◌≡◌, ◌<◌, ◌≤◌, ℕ, zero, suc, ◌+◌, ◌*◌, List, [], ◌∷◌, ◌++◌, length, take, get_or, All, sym, refl, ap, ◌∙◌, subst, arith, append_assoc, length-append}
 use Rattle.std.specs.List.{AllByRecursion}
 use Rattle.std.proofs.Math.Seq.{get_or-append_seam}
-use Rattle.std.proofs.lemmas.List.Elements.{All-from_recursion}
-use Rattle.std.proofs.lemmas.Option.{slice_get-get_or}
+use Rattle.std.proofs.lemmas.List.Elements.{All-from_recursion, recursion_from_All}
+use Rattle.std.proofs.lemmas.Option.{get_or_from_slice_get, slice_get_within}
 use Rattle.wf_model.specs.Simplex.{Simplex}
 use Rattle.wf_model.proofs.Headline.{each_append}
 use Rattle.wf_complex.specs.declared.layout.Span.{Span}
@@ -29,38 +29,38 @@ lie_after first end [] h j d inside = absurd (let none : ⊥ = omega (arith, ins
 lie_after first end (e ∷ es) h zero d inside = omega (arith, h.0)
 lie_after first end (e ∷ es) h (suc j) d inside = omega (arith, lie_after (first + e.size) end es h.1 j d (omega (arith, inside)))
 
--- their places rise
-pub lie_rising : (first end : ℕ) (es : List Span) → LieFrom first end es → (i j : ℕ) (d : Span) → i ≤ j → j < length es → (get_or es i d).place ≤ (get_or es j d).place
-lie_rising first end [] h i j d up inside = absurd (let none : ⊥ = omega (arith, inside) in none)
-lie_rising first end (e ∷ es) h zero j d up inside = omega (arith, h.0, lie_after first end (e ∷ es) h j d inside)
-lie_rising first end (e ∷ es) h (suc i) zero d up inside = absurd (let none : ⊥ = omega (arith, up) in none)
-lie_rising first end (e ∷ es) h (suc i) (suc j) d up inside = lie_rising (first + e.size) end es h.1 i j d (omega (arith, up)) (omega (arith, inside))
+-- where all end by a place, the end is not past it
+lie_end : (first end place : ℕ) (es : List Span) → LieFrom first end es → first ≤ place → AllByRecursion (EndsBy place) es → end ≤ place
+lie_end first end place [] h low ended = omega (arith, h, low)
+lie_end first end place (e ∷ es) h low ended = lie_end (first + e.size) end place es h.1 (omega (arith, h.0, ended.0)) ended.1
 
--- a place before the next execution lies before the end of this one
-pub lie_before : (first end place : ℕ) (es : List Span) → LieFrom first end es → place < end → (n : ℕ) (d : Span) → n < length es → (suc n < length es → place < (get_or es (suc n) d).place) →
-    place < (get_or es n d).place + (get_or es n d).size
-lie_before first end place [] h low n d inside next = absurd (let none : ⊥ = omega (arith, inside) in none)
-lie_before first end place (e ∷ []) h low zero d inside next = omega (arith, h.0, h.1, low)
-lie_before first end place (e ∷ f ∷ es) h low zero d inside next = omega (arith, h.0, h.1.0, next (omega arith))
-lie_before first end place (e ∷ es) h low (suc n) d inside next = lie_before (first + e.size) end place es h.1 low n d (omega (arith, inside)) (λ k. next (omega (arith, k)))
+-- where those before an execution end by a place, it begins by then
+lie_begun : (first end place n : ℕ) (d : Span) (es : List Span) → LieFrom first end es → first ≤ place → n < length es → AllByRecursion (EndsBy place) (take n es) → (get_or es n d).place ≤ place
+lie_begun first end place n d [] h low inside ended = absurd (let none : ⊥ = omega (arith, inside) in none)
+lie_begun first end place zero d (e ∷ es) h low inside ended = omega (arith, h.0, low)
+lie_begun first end place (suc n) d (e ∷ es) h low inside ended = lie_begun (first + e.size) end place n d es h.1 (omega (arith, h.0, ended.0)) (omega (arith, inside)) ended.1
 
--- a place belongs to the last execution that has begun by then
-pub belongs : (end place n : ℕ) (es : List Span) → LieFrom 0 end es → place < end → n ≤ length es → ((k : ℕ) (d : Span) → k < n → (get_or es k d).place ≤ place) →
-    ((k : ℕ) (d : Span) → n ≤ k → k < length es → place < (get_or es k d).place) → (1 ≤ n) × BelongsTo place es (n - 1)
-belongs end place zero [] lying low inside begun later = absurd (let none : ⊥ = omega (arith, lying, low) in none)
-belongs end place zero (e ∷ es) lying low inside begun later = absurd (let none : ⊥ = omega (arith, lying.0, later 0 e (omega arith) (omega arith)) in none)
-belongs end place (suc n) es lying low inside begun later =
-    let nothing : Span = record { place = 0; simplex = 0; size = 0 } in
+-- where an execution begins by a place, those before it end by then
+lie_ended : (first end place n : ℕ) (d : Span) (es : List Span) → LieFrom first end es → n < length es → (get_or es n d).place ≤ place → AllByRecursion (EndsBy place) (take n es)
+lie_ended first end place n d [] h inside begun = absurd (let none : ⊥ = omega (arith, inside) in none)
+lie_ended first end place zero d (e ∷ es) h inside begun = tt
+lie_ended first end place (suc n) d (e ∷ es) h inside begun =
     let within : n < length es = omega (arith, inside) in
-    let last : BelongsTo place es n =
-    record {
-      execution = get_or es n nothing;
-      there = slice_get-get_or es n nothing within;
-      begun = begun n nothing (omega arith);
-      before_its_end = lie_before 0 end place es lying low n nothing within (λ k. later (suc n) nothing (omega arith) k);
-    } in
-    let same : suc n - 1 ≡ n = omega arith in
-    (omega arith, subst (BelongsTo place es) (sym same) last)
+    (omega (arith, h.0, lie_after (first + e.size) end es h.1 n d within, begun), lie_ended (first + e.size) end place n d es h.1 within begun)
+
+module _ (end place : ℕ) (es : List Span) (lying : LieFrom 0 end es) where
+  pub all_ended : All (EndsBy place) es → end ≤ place
+  all_ended ended = lie_end 0 end place es lying (omega arith) (recursion_from_All (EndsBy place) es ended)
+
+  pub has_begun : (n : ℕ) (d : Span) → n < length es → All (EndsBy place) (take n es) → (get_or es n d).place ≤ place
+  has_begun n d inside ended = lie_begun 0 end place n d es lying (omega arith) inside (recursion_from_All (EndsBy place) (take n es) ended)
+
+  -- those before the execution of a place end by any later one
+  pub earlier_ended : (n before : ℕ) → BelongsTo before es n → before ≤ place → All (EndsBy place) (take n es)
+  earlier_ended n before at low =
+      let inside : n < length es = slice_get_within es n at.execution at.there in
+      let begun : (get_or es n at.execution).place ≤ place = omega (arith, at.begun, low, ap (λ (d : Span). d.place) (get_or_from_slice_get es n at.execution at.execution at.there)) in
+      All-from_recursion (EndsBy place) (take n es) (lie_ended 0 end place n at.execution es lying inside begun)
 
 -- ---- those that are laid out
 

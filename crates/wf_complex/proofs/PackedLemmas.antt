@@ -1,5 +1,5 @@
 -- Executions with their points.
-use Rattle.std.proofs.Common.{◌≡◌, ◌<◌, ◌≤◌, ◌∙◌, ℕ, List, [], ◌∷◌, All, map, zip, take, length, get_or, refl, sym, ap, subst, arith}
+use Rattle.std.proofs.Common.{◌≡◌, ◌<◌, ◌≤◌, ◌∙◌, ◌+◌, ℕ, List, [], ◌∷◌, All, map, zip, take, length, get_or, refl, sym, ap, subst, arith}
 use Rattle.std.specs.List.{AllByRecursion}
 use Rattle.std.proofs.lemmas.Simd.{map-map}
 use Rattle.std.proofs.lemmas.List.{get_or-map, get_or_default, length-map, length-take-le}
@@ -8,7 +8,7 @@ use Rattle.wf_model.specs.Simplex.{Simplex, processes_of}
 use Rattle.wf_complex.specs.declared.layout.Span.{Span}
 use Rattle.wf_complex.specs.declared.packed.PackedExecution.{PackedExecution}
 use Rattle.wf_complex.specs.Places.{IsOn, LieFrom, part_of, processes_on, scope_on}
-use Rattle.wf_complex.specs.Packed.{IsPackedOn, IsSpanWithin, four_of, packed_on, scope_in}
+use Rattle.wf_complex.specs.Packed.{IsPackedOn, four_of, packed_on, scope_in}
 use Rattle.wf_complex.specs.ProtocolSeen.{scopes_seen}
 use Rattle.wf_complex.proofs.Bounds.{IsSized}
 use Rattle.wf_complex.proofs.Lying.{all_end}
@@ -63,6 +63,12 @@ zip_taken (c ∷ cs) [] few = absurd (let bad : ⊥ = omega (arith, few) in bad)
 zip_taken (c ∷ cs) (x ∷ xs) few = ap (λ rest. (c, x) ∷ rest) (zip_taken cs xs (omega (arith, few)))
 
 -- ---- what is packed
+
+-- one to four places, which are there
+pub record IsSpanWithin (end : ℕ) (e : Span) : Type 0 where
+  pub some : 0 < e.size
+  pub few : e.size ≤ 4
+  pub ends : e.place + e.size ≤ end
 
 pub spans_within : (inputs : List Simplex) (end : ℕ) (spans : List Span) → LieFrom 0 end spans → All (IsOn inputs) spans → AllByRecursion IsSized inputs → All (IsSpanWithin end) spans
 spans_within inputs end spans lying on sized k d low =

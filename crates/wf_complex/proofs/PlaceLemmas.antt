@@ -1,14 +1,13 @@
 -- Places of executions: the points there, and which execution and process stands at each.
-use Rattle.std.proofs.Common.{◌≡◌, ◌<◌, ◌≤◌, ℕ, zero, suc, ◌+◌, ◌-◌, ◌==◌, if◌then◌else◌, Some, option_map, slice_get, List, [], ◌∷◌, ◌++◌, flat_map, zip, drop, length, get_or, All, subst, ◌≢◌, inl, inr, eqb-true, sym, ap, ◌∙◌, arith, length-take, length-drop}
+use Rattle.std.proofs.Common.{◌≡◌, ◌<◌, ◌≤◌, ℕ, zero, suc, ◌+◌, ◌-◌, ◌==◌, if◌then◌else◌, Some, List, [], ◌∷◌, ◌++◌, flat_map, zip, drop, length, get_or, All, subst, ◌≢◌, inl, inr, eqb-true, sym, ap, ◌∙◌, arith, length-take, length-drop}
 use Rattle.std.specs.List.{AllByRecursion, enumerate_from}
 use Rattle.std.proofs.lemmas.List.{drop_more, get_or-map, length-map, get_or_append_left, get_or-append_right}
 use Rattle.std.proofs.lemmas.List.Elements.{All-get_or, recursion_from_All}
-use Rattle.std.proofs.lemmas.Option.{slice_get-get_or, slice_get-map, slice_get_within}
+use Rattle.std.proofs.lemmas.Option.{slice_get-get_or, slice_get_within}
 use Rattle.std.proofs.lemmas.Bool.{cases_Bool}
 use Rattle.wf_model.specs.Simplex.{Simplex, processes_of}
 use Rattle.wf_complex.specs.declared.layout.Span.{Span}
 use Rattle.wf_complex.specs.Places.{part_of, EndsBy, LieFrom, BelongsTo, IsOn, processes_on, places_on, places_on_all}
-use Rattle.wf_complex.specs.ProtocolSeen.{firsts_seen}
 use Rattle.wf_complex.specs.Protocol.{point_in}
 use Rattle.wf_complex.proofs.Lying.{lie_after}
 use Rattle.wf_complex.proofs.RuleAt.{got}
@@ -73,11 +72,10 @@ place_there inputs k first end place (e ∷ es) lying on (suc n) d inside low hi
     ∙ place_there inputs (k + 1) (first + e.size) end place es lying.1 on.1 n d within low high
     ∙ ap (λ m. (m, get_or (processes_on inputs f) (place - f.place) 0)) number
 
--- what is seen of the first place of a point
-pub first_there : (inputs : List Simplex) (end : ℕ) (es : List Span) (firsts : List ℕ) (point place k : ℕ) (e : Span) (s : Simplex) → LieFrom 0 end es → All (IsOn inputs) es → point < length firsts →
-    place ≡ get_or firsts point place → BelongsTo place es k → e ≡ get_or es k e → s ≡ get_or inputs e.simplex s → slice_get (firsts_seen inputs es firsts) point ≡ Some (k, get_or (processes_of s) (place - e.place) 0)
-first_there inputs end es firsts point place k e s lying on low is at there input =
-    let seen : ℕ → ℕ × ℕ = λ j. get_or (places_on_all inputs es) j (0, 0) in
+-- the execution and the process of a place
+pub place_is : (inputs : List Simplex) (end : ℕ) (es : List Span) (place k : ℕ) (e : Span) (s : Simplex) → LieFrom 0 end es → All (IsOn inputs) es → BelongsTo place es k → e ≡ get_or es k e → s ≡ get_or inputs e.simplex s →
+    get_or (places_on_all inputs es) place (0, 0) ≡ (k, get_or (processes_of s) (place - e.place) 0)
+place_is inputs end es place k e s lying on at there input =
     let inside : k < length es = slice_get_within es k at.execution at.there in
     let same : get_or es k e ≡ at.execution = got es k at.execution e at.there in
     let here : IsOn inputs e = subst (IsOn inputs) (sym there) (All-get_or (IsOn inputs) es k e inside on) in
@@ -87,8 +85,7 @@ first_there inputs end es firsts point place k e s lying on low is at there inpu
     place_there inputs 0 0 end place es lying (recursion_from_All (IsOn inputs) es on) k e inside
     (omega (arith, at.begun, ap (λ (d : Span). d.place) same))
     (omega (arith, at.before_its_end, ap (λ (d : Span). d.place + d.size) same)) in
-    slice_get-map seen firsts point
-    ∙ ap (option_map seen) (slice_get-get_or firsts point place low ∙ ap (λ j. Some j) (sym is))
-    ∙ ap (λ m. Some m) (ap seen (sym place_is) ∙ found)
-    ∙ (λ i. Some (number i, get_or (processes_on inputs (sym there i)) (place - (sym there i).place) 0))
-    ∙ ap (λ (t : Simplex). Some (k, get_or (processes_of t) (place - e.place) 0)) (sym (input_there inputs e s here input))
+    ap (λ j. get_or (places_on_all inputs es) j (0, 0)) (sym place_is)
+    ∙ found
+    ∙ (λ i. (number i, get_or (processes_on inputs (sym there i)) (place - (sym there i).place) 0))
+    ∙ ap (λ (t : Simplex). (k, get_or (processes_of t) (place - e.place) 0)) (sym (input_there inputs e s here input))

@@ -1,5 +1,5 @@
 -- How many executions there are, and where their places lie.
-use Rattle.std.specs.Prelude.{ℕ, zero, suc, ◌+◌, ◌*◌, List, [], ◌∷◌, ◌++◌, length, Option, None, Some}
+use Rattle.std.specs.Prelude.{ℕ, zero, suc, ◌+◌, ◌*◌, List, [], ◌∷◌, ◌++◌, length}
 use Rattle.wf_model.specs.Simplex.{Simplex}
 use Rattle.wf_model.specs.Word.{words}
 use Rattle.wf_complex.specs.declared.layout.Span.{Span}
@@ -30,8 +30,3 @@ abbrev pub laid_out : ℕ → ℕ → ℕ → ℕ → List Simplex → List Span
 laid_out m rounds number place [] = []
 laid_out m rounds number place (s ∷ ss) =
     laid_on number (length s) place (turns m (length s) rounds) ++ laid_out m rounds (number + 1) (place + turns m (length s) rounds * length s) ss
-
--- the place after an execution; the first place, where there is none
-abbrev pub place_after : Option Span → ℕ
-place_after None = 0
-place_after (Some e) = e.place + e.size

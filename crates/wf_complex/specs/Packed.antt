@@ -1,5 +1,5 @@
 -- Executions with their points.
-use Rattle.std.specs.Prelude.{◌≡◌, ◌<◌, ◌≤◌, ◌+◌, ℕ, List, [], ◌++◌, length, zip, take, slice_index, replicate}
+use Rattle.std.specs.Prelude.{◌≡◌, ◌<◌, ◌≤◌, ℕ, List, [], ◌++◌, length, zip, take, slice_index, replicate}
 use Rattle.std.specs.List.{slice_index_or}
 use Rattle.wf_model.specs.Simplex.{Simplex, processes_of}
 use Rattle.wf_complex.specs.declared.layout.Span.{Span}
@@ -9,12 +9,6 @@ use Rattle.wf_complex.specs.Places.{part_of}
 -- these points, and then the first of them again
 abbrev pub four_of : List ℕ → List ℕ
 four_of points = take 4 (points ++ replicate 4 (slice_index points 0))
-
--- one to four places, which are there
-pub record IsSpanWithin (end : ℕ) (e : Span) : Type 0 where
-  pub some : 0 < e.size
-  pub few : e.size ≤ 4
-  pub ends : e.place + e.size ≤ end
 
 -- the execution at these places
 abbrev pub packed_on : List ℕ → Span → PackedExecution

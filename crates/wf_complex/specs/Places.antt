@@ -3,6 +3,7 @@ use Rattle.std.specs.Prelude.{◌≡◌, ◌<◌, ◌≤◌, ◌+◌, ℕ, List,
 use Rattle.std.specs.List.{enumerate_from, slice_index_or}
 use Rattle.wf_model.specs.Simplex.{Simplex, processes_of}
 use Rattle.wf_complex.specs.declared.layout.Span.{Span}
+use Rattle.wf_complex.specs.declared.firsts.First.{First}
 
 -- what stands at the places of an execution
 abbrev pub part_of : {X : Type 0} → List X → Span → List X
@@ -43,3 +44,11 @@ places_on inputs at = map (λ c. (at.0, c)) (processes_on inputs at.1)
 -- those of all places of these executions, numbered from 0 on
 abbrev pub places_on_all : List Simplex → List Span → List (ℕ × ℕ)
 places_on_all inputs es = flat_map (places_on inputs) (enumerate_from 0 es)
+
+-- the execution and the process of these places
+abbrev pub firsts_at : List Simplex → List Span → List ℕ → List (ℕ × ℕ)
+firsts_at inputs es places = map (λ j. slice_index_or (places_on_all inputs es) j (0, 0)) places
+
+-- those that are written down
+abbrev pub firsts_in : List First → List (ℕ × ℕ)
+firsts_in firsts = map (λ first. (first.execution, first.process)) firsts

@@ -1,13 +1,12 @@
 -- What a clause sees of the program's protocol complexes, and what each of them keeps.
 use Rattle.std.specs.Prelude.{◌≡◌, ◌<◌, ◌≤◌, ℕ, List, map, length, All, refl}
-use Rattle.std.specs.List.{slice_index_or}
 use Rattle.std.specs.Coded.{Coded, code_by, coded×, coded_list, coded_ℕ}
 use Rattle.wf_model.specs.Limits.{most_executions, most_points}
 use Rattle.wf_model.specs.Simplex.{Simplex}
 use Rattle.wf_model.specs.View.{View}
 use Rattle.wf_model.specs.ViewCode.{view_list_code}
 use Rattle.wf_complex.specs.Rounds.{views_at}
-use Rattle.wf_complex.specs.Places.{LieFrom, IsOn, scope_on, places_on_all}
+use Rattle.wf_complex.specs.Places.{firsts_in, scope_on}
 use Rattle.wf_complex.specs.Protocol.{Built}
 use Rattle.wf_complex.specs.Packed.{IsPackedOn, scope_in}
 use Rattle.wf_complex.specs.declared.packed.PackedExecution.{PackedExecution}
@@ -27,10 +26,6 @@ built_code =
 abbrev pub points_seen : List View → List ℕ → List View
 points_seen table classes = views_at table classes
 
--- the execution and the process at some places
-abbrev pub firsts_seen : List Simplex → List Span → List ℕ → List (ℕ × ℕ)
-firsts_seen inputs executions firsts = map (λ j. slice_index_or (places_on_all inputs executions) j (0, 0)) firsts
-
 -- the processes of each execution, each with its point
 abbrev pub scopes_seen : List Simplex → List ℕ → List Span → List (List (ℕ × ℕ))
 scopes_seen inputs numbers executions = map (scope_on inputs numbers) executions
@@ -45,21 +40,15 @@ built_seen p = record {
   table = p.views;
   points = points_seen p.views p.classes.items;
   view_count = p.view_count;
-  firsts = firsts_seen p.inputs.items p.spans.items p.firsts.items;
+  firsts = firsts_in p.firsts.items;
   simplices = map (λ e. e.simplex) (executions_in p);
   scopes = map (scope_in p.inputs.items) (executions_in p);
 }
 
--- the executions are on the input simplices and lie one after another, and each point has a view
--- and a first place
+-- the executions are on the input simplices, and each point has a view and appears somewhere first
 pub record IsKept (p : Inside) : Type 0 where
-  pub places : ℕ
-  pub lying : LieFrom 0 places p.spans.items
-  pub on : All (IsOn p.inputs.items) p.spans.items
   pub packed : All (IsPackedOn p.inputs.items) (executions_in p)
   pub few_executions : length (executions_in p) ≤ most_executions
-  pub few_spans : length p.spans.items ≤ most_executions
   pub few_points : length p.classes.items ≤ most_points
   pub viewed : All (λ id. id < length p.views) p.classes.items
   pub appearing : length p.firsts.items ≡ length p.classes.items
-  pub placed : All (λ j. j < places) p.firsts.items

@@ -1,9 +1,8 @@
 //! Where the executions of a task lie in the list of their last views.
 
-ghost use Rattle.std.specs.Prelude.{ℕ, ◌≡◌, ◌<◌, ◌≤◌, ◌+◌, ◌-◌, ◌*◌, ◌++◌, min, length, slice_get, All, IfOk, OnOk};
+ghost use Rattle.std.specs.Prelude.{◌≡◌, ◌≤◌, ◌+◌, ◌*◌, ◌++◌, min, length, All, IfOk, OnOk};
 ghost use Rattle.wf_model.specs.Limits.{most_executions, most_inputs, most_number, most_processes};
-ghost use Rattle.wf_complex.specs.Layout.{turns, execution_total, laid_on, laid_out, place_after};
-ghost use Rattle.wf_complex.specs.Places.{LieFrom, BelongsTo};
+ghost use Rattle.wf_complex.specs.Layout.{turns, execution_total, laid_on, laid_out, place_total};
 
 use std::alloc::{AllocError, Global};
 use wf_simplex::{Simplex, allowed_count};
@@ -22,7 +21,7 @@ pub(crate) struct Span {
 
 /// How many executions a simplex of this size has whose first blocks have at least `first_block`
 /// participants, or all where they are fewer: counted up to one more than the most.
-fn executions_on(size: u8, first_block: u8, rounds: u32) -> u32
+pub(crate) fn executions_on(size: u8, first_block: u8, rounds: u32) -> u32
     requires some { 1 ≤ size }
     requires few { size ≤ most_processes }
     requires one { 1 ≤ first_block }
@@ -52,6 +51,23 @@ pub(crate) fn execution_count(inputs: &[Simplex], first_block: u8, rounds: u32) 
         );
     }
     total
+}
+
+/// How many processes take part in the executions on these simplices, each counted for each of its
+/// executions.
+pub(crate) fn place_count(inputs: &[Simplex], first_block: u8, rounds: u32) -> usize
+    requires one { 1 ≤ first_block }
+    requires most { first_block ≤ most_processes }
+    requires few { execution_total first_block rounds inputs.now ≤ most_executions }
+    requires sizes { All (λ s. length s ≤ most_processes) inputs.now }
+    ensures { result ≡ place_total first_block rounds inputs.now }
+{
+    let mut places = 0;
+    for simplex in inputs {
+        let size = simplex.colours();
+        places += executions_on(size, first_block, rounds) as usize * size as usize;
+    }
+    places
 }
 
 /// The executions in order: simplex by simplex, and those on one simplex one after another.
@@ -103,24 +119,4 @@ fn lay_on(
         place += u32::from(size);
     }
     Ok(())
-}
-
-/// The place after the last of these executions.
-pub(crate) fn place_after_all(executions: &[Span]) -> usize
-    ensures { result ≡ place_after (slice_get executions.now (length executions.now - 1)) }
-{
-    match executions.last() {
-        Some(last) => last.place as usize + last.size as usize,
-        None => 0,
-    }
-}
-
-/// The number of the execution that a place belongs to, where they lie one after another.
-pub(crate) fn execution_of(executions: &[Span], place: u32) -> u32
-    requires lying { (end : ℕ) × (place < end) × LieFrom 0 end executions.now }
-    requires few { length executions.now ≤ most_executions }
-    ensures { BelongsTo place executions.now result }
-{
-    let begun = executions.partition_point(|execution| execution.place <= place);
-    begun as u32 - 1
 }

@@ -6,6 +6,7 @@
 
 mod classes;
 mod fault;
+mod firsts;
 mod layout;
 mod numbering;
 mod packed;

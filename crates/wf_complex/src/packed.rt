@@ -1,10 +1,13 @@
 //! Executions with their points.
 
-ghost use Rattle.std.specs.Prelude.{◌≡◌, ◌<◌, ◌≤◌, length, map, All, IfOk};
-ghost use Rattle.wf_complex.specs.Packed.{IsSpanWithin, four_of, packed_on};
+ghost use Rattle.std.specs.Prelude.{◌≡◌, ◌<◌, ◌≤◌, ◌+◌, ◌*◌, ◌++◌, length, map, IfOk, OnOk};
+ghost use Rattle.wf_model.specs.Limits.{most_executions, most_inputs, most_processes};
+ghost use Rattle.wf_complex.specs.Layout.{execution_total, laid_on, laid_out, place_total};
+ghost use Rattle.wf_complex.specs.Packed.{four_of, packed_on};
 
-use crate::layout::Span;
+use crate::layout::{execution_count, executions_on};
 use std::alloc::{AllocError, Global};
+use wf_simplex::Simplex;
 
 /// An execution: the number of its input simplex, and the points of its processes. The points past
 /// their number are that of the first process, and are not used.
@@ -16,24 +19,59 @@ pub struct PackedExecution {
     pub points: [u32; 4],
 }
 
-/// The executions at these places, which have these points.
+/// The executions on these simplices whose first blocks have at least `first_block` participants,
+/// or all where they are fewer. Their processes have these points, one execution after another.
 pub(crate) fn pack(
     alloc: Global,
-    spans: &[Span],
-    numbers: &[u32],
+    inputs: &[Simplex],
+    first_block: u8,
+    rounds: u32,
+    numbers: Vec<u32>,
 ) -> Result<Vec<PackedExecution>, AllocError>
-    requires within { All (IsSpanWithin (length numbers.now)) spans.now }
-    ensures { IfOk result (λ executions. executions.items ≡ map (packed_on numbers.now) spans.now) }
+    requires one { 1 ≤ first_block }
+    requires most { first_block ≤ most_processes }
+    requires few { execution_total first_block rounds inputs.now ≤ most_executions }
+    requires inputs { length inputs.now ≤ most_inputs }
+    requires places { length numbers.items ≡ place_total first_block rounds inputs.now }
+    ensures { IfOk result (λ executions. executions.items
+        ≡ map (packed_on numbers.items) (laid_out first_block rounds 0 0 inputs.now)) }
 {
-    let mut executions = Vec::with_capacity(alloc, spans.len())?;
-    for span in spans {
-        let first = span.place as usize;
-        executions.push_reserved(PackedExecution {
-            simplex: u32::from(span.simplex),
-            points: four(&numbers[first..first + span.size as usize]),
-        });
+    let count = execution_count(inputs, first_block, rounds);
+    let mut executions = Vec::with_capacity(alloc, count as usize)?;
+    let mut place = 0;
+    for (number, simplex) in inputs.iter().enumerate() {
+        let size = simplex.colours();
+        let count = executions_on(size, first_block, rounds);
+        pack_on(&mut executions, &numbers, number as u32, size, place, count)?;
+        place += count as usize * size as usize;
     }
     Ok(executions)
+}
+
+/// Adds the executions on one simplex, whose points begin at this place of the numbers.
+fn pack_on(
+    executions: &mut Vec<PackedExecution>,
+    numbers: &[u32],
+    simplex: u32,
+    size: u8,
+    first: usize,
+    count: u32,
+) -> Result<(), AllocError>
+    requires some { 0 < size }
+    requires few { size ≤ 4 }
+    requires room { first + count * size ≤ length numbers.now }
+    ensures { OnOk result (executions.new.items
+        ≡ executions.old.items ++ map (packed_on numbers.now) (laid_on simplex size first count)) }
+{
+    let mut place = first;
+    for _turn in 0..count {
+        executions.push(PackedExecution {
+            simplex,
+            points: four(&numbers[place..place + size as usize]),
+        })?;
+        place += size as usize;
+    }
+    Ok(())
 }
 
 /// These points, and the first of them again where there are fewer than four.

@@ -11,9 +11,8 @@ ghost use Rattle.wf_complex.specs.ProtocolMade.{IsMade};
 
 use crate::classes::points_of;
 use crate::fault::BuildFault;
-use crate::layout::{
-    MOST_EXECUTIONS, Span, execution_count, execution_of, lay_out, place_after_all,
-};
+use crate::firsts::{First, firsts_of};
+use crate::layout::{MOST_EXECUTIONS, execution_count, lay_out, place_count};
 use crate::packed::{PackedExecution, pack};
 use crate::rounds::last_views;
 use std::alloc::{AllocError, Global};
@@ -41,12 +40,10 @@ pub struct Protocol {
     view_count: u32,
     // the class of each point, by its number among the views
     classes: Vec<u32>,
-    // the place at which each point appears first
-    firsts: Vec<u32>,
+    // where each point appears first
+    firsts: Vec<First>,
     // the input simplices: an execution's processes are those of its own
     inputs: Vec<Simplex>,
-    // where the places of each execution lie
-    spans: Vec<Span>,
     executions: Arc<Vec<PackedExecution>, Global>,
 }
 
@@ -159,11 +156,8 @@ impl Protocol {
         requires { point < length self.now.points }
         ensures { slice_get self.now.firsts point ≡ Some result }
     {
-        let place = self.firsts[point as usize];
-        let execution = execution_of(&self.spans, place);
-        let at = self.spans[execution as usize];
-        let simplex = &self.inputs[at.simplex as usize];
-        (execution, simplex.colour((place - at.place) as u8))
+        let first = self.firsts[point as usize];
+        (first.execution, first.process)
     }
 
     /// How many different last views there are. In a symmetric task several may be one point.
@@ -199,20 +193,20 @@ fn complex_from(
     ensures { IfOk result (IsMade inputs.now symmetric first_block rounds) }
 {
     let mut views = Views::start(alloc);
-    let spans = lay_out(alloc, inputs, first_block, rounds)?;
-    let room = place_after_all(&spans);
+    let room = place_count(inputs, first_block, rounds);
     let lasts = last_views(alloc, &mut views, inputs, first_block, rounds, room)?;
     let points = points_of(alloc, &mut views, lasts, symmetric)?;
-    let executions = pack(alloc, &spans, &points.numbers)?;
+    let executions = pack(alloc, inputs, first_block, rounds, points.numbers)?;
+    let spans = lay_out(alloc, inputs, first_block, rounds)?;
+    let firsts = firsts_of(alloc, inputs, &spans, &points.firsts)?;
     let inputs = inputs.to_vec(alloc)?;
     Ok(Protocol {
         rounds,
         views,
         view_count: points.view_count,
         classes: points.classes,
-        firsts: points.firsts,
+        firsts,
         inputs,
-        spans,
         executions: Arc::new(alloc, executions)?,
     })
 }

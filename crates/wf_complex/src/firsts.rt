@@ -1,0 +1,61 @@
+//! Where points appear first.
+
+ghost use Rattle.std.specs.Prelude.{ℕ, ◌≡◌, ◌<◌, ◌≤◌, length, take, All, AllPairs, IfOk};
+ghost use Rattle.wf_model.specs.Limits.{most_executions};
+ghost use Rattle.wf_complex.specs.Places.{BelongsTo, EndsBy, IsOn, LieFrom, firsts_at, firsts_in};
+
+use crate::layout::Span;
+use std::alloc::{AllocError, Global};
+use wf_simplex::Simplex;
+
+/// An execution and one of its processes, at which a point appears first.
+#[derive(Clone, Copy, Debug)]
+pub(crate) struct First {
+    pub execution: u32,
+    pub process: u8,
+}
+
+/// The execution and the process of each of these places, which ascend.
+pub(crate) fn firsts_of(
+    alloc: Global,
+    inputs: &[Simplex],
+    executions: &[Span],
+    places: &[u32],
+) -> Result<Vec<First>, AllocError>
+    requires lying { (end : ℕ) × LieFrom 0 end executions.now × All (λ j. j < end) places.now }
+    requires on { All (IsOn inputs.now) executions.now }
+    requires few { length executions.now ≤ most_executions }
+    requires ascending { AllPairs (λ i j. i < j) places.now }
+    ensures { IfOk result
+        (λ firsts. firsts_in firsts.items ≡ firsts_at inputs.now executions.now places.now) }
+{
+    let mut firsts = Vec::with_capacity(alloc, places.len())?;
+    let mut execution = 0;
+    for place in places {
+        execution = execution_from(executions, execution, *place);
+        let at = executions[execution as usize];
+        let simplex = &inputs[at.simplex as usize];
+        firsts.push_reserved(First {
+            execution,
+            process: simplex.colour((place - at.place) as u8),
+        });
+    }
+    Ok(firsts)
+}
+
+/// The number of the execution that a place belongs to, where they lie one after another and those
+/// before `first` end by that place.
+fn execution_from(executions: &[Span], first: u32, place: u32) -> u32
+    requires lying { (end : ℕ) × (place < end) × LieFrom 0 end executions.now }
+    requires few { length executions.now ≤ most_executions }
+    requires later { All (EndsBy place) (take first executions.now) }
+    ensures { BelongsTo place executions.now result }
+{
+    for number in first..executions.len() as u32 {
+        let execution = executions[number as usize];
+        if place - execution.place < u32::from(execution.size) {
+            return number;
+        }
+    }
+    unreachable!()
+}
