@@ -12,6 +12,7 @@ use crate::lanes::{PartSupport, revise_columns, word_or};
 use crate::wide::{is_narrow, revise_rows};
 use std::alloc::{AllocError, Global};
 use std::marker::Model;
+use std::sync::Arc;
 use wf_set::part::Part;
 use wf_set::{Mask, first_part, of_part};
 use wf_task::Row;
@@ -43,7 +44,8 @@ enum Kind {
 #[derive(Drop)]
 pub struct TupleTable {
     width: u8,
-    kind: Kind,
+    // what is kept of the rows, which several tables may share
+    kind: Arc<Kind, Global>,
 }
 
 impl Model for TupleTable {
@@ -52,9 +54,9 @@ impl Model for TupleTable {
 
     ghost Value = { Table };
 
-    ghost view = { λ t. table_of_kind t.width t.kind };
+    ghost view = { λ t. table_of_kind t.width t.kind.value };
 
-    ghost invariant = { λ t. IsKind t.width t.kind };
+    ghost invariant = { λ t. IsKind t.width t.kind.value };
 }
 
 /// The word of the row's value at the place; that of 0 past its end.
@@ -233,7 +235,22 @@ impl TupleTable {
         } else {
             Kind::Wide(rows.to_vec(alloc)?)
         };
-        Ok(TupleTable { width, kind })
+        Ok(TupleTable {
+            width,
+            kind: Arc::new(alloc, kind)?,
+        })
+    }
+
+    /// The same table once more. Its rows are shared, and not copied.
+    ///
+    /// Refused where there are too many who share them.
+    pub fn share(&self) -> Result<TupleTable, AllocError>
+        ensures { IfOk result (λ table. table ≡ self.now) }
+    {
+        Ok(TupleTable {
+            width: self.width,
+            kind: Arc::try_clone(&self.kind)?,
+        })
     }
 
     /// The values that some row supports at each place, of the rows whose
@@ -246,7 +263,7 @@ impl TupleTable {
         ensures alive { result.alive
             ≡ count_by (is_alive (sets_of self.now.width candidates)) self.now.rows }
     {
-        match &self.kind {
+        match &*self.kind {
             Kind::Narrow(columns) => support_of(columns, self.width, candidates),
             Kind::Wide(rows) => revise_rows(rows, candidates),
         }
