@@ -59,12 +59,14 @@ impl Model for TupleTable {
     ghost invariant = { λ t. IsKind t.width t.kind.value };
 }
 
-/// The word of the row's value at the place; that of 0 past its end.
-fn word_at(row: &Row, place: u8) -> u64
-    requires { All (λ x. x < part_limit) row.now }
+/// The word of the row's value at the place; that of 0 past its end. The width is known to the
+/// caller, so that a loop over rows tests it once.
+fn word_at(row: &Row, width: u8, place: u8) -> u64
+    requires long { length row.now ≡ width }
+    requires narrow { All (λ x. x < part_limit) row.now }
     ensures { result ≡ word_at place row.now }
 {
-    if place < row.size() {
+    if place < width {
         1 << row.value(place)
     } else {
         1
@@ -87,27 +89,29 @@ fn blocks_of(rows: usize, values: usize) -> usize
     }
 }
 
-/// The words of the rows at the place.
-fn words_at(alloc: Global, rows: &[Row], place: u8) -> Result<Vec<u64>, AllocError>
-    requires { AreNarrow rows.now }
+/// The words of the rows at the place, which all have this width.
+fn words_at(alloc: Global, rows: &[Row], width: u8, place: u8) -> Result<Vec<u64>, AllocError>
+    requires long { All (λ row. length row ≡ width) rows.now }
+    requires narrow { AreNarrow rows.now }
     ensures words { IfOk result (λ words. words.items ≡ map (word_at place) rows.now) }
     ensures one_hot { IfOk result (λ words. All IsOneHot words.items) }
 {
     let mut words = Vec::with_capacity(alloc, rows.len())?;
     for row in rows {
-        words.push_reserved(word_at(row, place));
+        words.push_reserved(word_at(row, width, place));
     }
     Ok(words)
 }
 
 /// The rows at the place, uncut.
-fn column(alloc: Global, rows: &[Row], place: u8) -> Result<Column, AllocError>
+fn column(alloc: Global, rows: &[Row], width: u8, place: u8) -> Result<Column, AllocError>
+    requires long { All (λ row. length row ≡ width) rows.now }
     requires narrow { AreNarrow rows.now }
     ensures words { IfOk result (λ column. column.words.items ≡ map (word_at place) rows.now) }
     ensures one_hot { IfOk result (λ column. All IsOneHot column.words.items) }
     ensures whole { IfOk result IsWhole }
 {
-    let words = words_at(alloc, rows, place)?;
+    let words = words_at(alloc, rows, width, place)?;
     Ok(Column::whole(alloc, words))
 }
 
@@ -181,16 +185,17 @@ fn support_in(columns: &Columns, sets: [Part; 4]) -> PartSupport
     )
 }
 
-/// The columns of these rows.
-fn columns_of(alloc: Global, rows: &[Row]) -> Result<Columns, AllocError>
+/// The columns of these rows, which all have this width.
+fn columns_of(alloc: Global, rows: &[Row], width: u8) -> Result<Columns, AllocError>
     requires few { length rows.now < 2 ^ 32 }
+    requires long { All (λ row. length row ≡ width) rows.now }
     requires narrow { AreNarrow rows.now }
     ensures { IfOk result (HasColumns rows.now) }
 {
-    let first = column(alloc, rows, 0)?;
-    let second = column(alloc, rows, 1)?;
-    let third = column(alloc, rows, 2)?;
-    let fourth = column(alloc, rows, 3)?;
+    let first = column(alloc, rows, width, 0)?;
+    let second = column(alloc, rows, width, 1)?;
+    let third = column(alloc, rows, width, 2)?;
+    let fourth = column(alloc, rows, width, 3)?;
     let values = first.count_values()
         + second.count_values()
         + third.count_values()
@@ -231,7 +236,7 @@ impl TupleTable {
         ensures { IfOk result (λ table. table ≡ record { width = width; rows = rows.now }) }
     {
         let kind = if is_narrow(rows) {
-            Kind::Narrow(columns_of(alloc, rows)?)
+            Kind::Narrow(columns_of(alloc, rows, width)?)
         } else {
             Kind::Wide(rows.to_vec(alloc)?)
         };
