@@ -12,6 +12,7 @@ use crate::lanes::{PartSupport, revise_columns, word_or};
 use crate::wide::{is_narrow, revise_rows};
 use std::alloc::{AllocError, Global};
 use std::marker::Model;
+use std::sync::Arc;
 use wf_set::part::Part;
 use wf_set::{Mask, first_part, of_part};
 use wf_task::Row;
@@ -43,7 +44,8 @@ enum Kind {
 #[derive(Drop)]
 pub struct TupleTable {
     width: u8,
-    kind: Kind,
+    // what is kept of the rows, which several tables may share
+    kind: Arc<Kind, Global>,
 }
 
 impl Model for TupleTable {
@@ -52,17 +54,19 @@ impl Model for TupleTable {
 
     ghost Value = { Table };
 
-    ghost view = { λ t. table_of_kind t.width t.kind };
+    ghost view = { λ t. table_of_kind t.width t.kind.value };
 
-    ghost invariant = { λ t. IsKind t.width t.kind };
+    ghost invariant = { λ t. IsKind t.width t.kind.value };
 }
 
-/// The word of the row's value at the place; that of 0 past its end.
-fn word_at(row: &Row, place: u8) -> u64
-    requires { All (λ x. x < part_limit) row.now }
+/// The word of the row's value at the place; that of 0 past its end. The width is known to the
+/// caller, so that a loop over rows tests it once.
+fn word_at(row: &Row, width: u8, place: u8) -> u64
+    requires long { length row.now ≡ width }
+    requires narrow { All (λ x. x < part_limit) row.now }
     ensures { result ≡ word_at place row.now }
 {
-    if place < row.size() {
+    if place < width {
         1 << row.value(place)
     } else {
         1
@@ -85,27 +89,29 @@ fn blocks_of(rows: usize, values: usize) -> usize
     }
 }
 
-/// The words of the rows at the place.
-fn words_at(alloc: Global, rows: &[Row], place: u8) -> Result<Vec<u64>, AllocError>
-    requires { AreNarrow rows.now }
+/// The words of the rows at the place, which all have this width.
+fn words_at(alloc: Global, rows: &[Row], width: u8, place: u8) -> Result<Vec<u64>, AllocError>
+    requires long { All (λ row. length row ≡ width) rows.now }
+    requires narrow { AreNarrow rows.now }
     ensures words { IfOk result (λ words. words.items ≡ map (word_at place) rows.now) }
     ensures one_hot { IfOk result (λ words. All IsOneHot words.items) }
 {
     let mut words = Vec::with_capacity(alloc, rows.len())?;
     for row in rows {
-        words.push_reserved(word_at(row, place));
+        words.push_reserved(word_at(row, width, place));
     }
     Ok(words)
 }
 
 /// The rows at the place, uncut.
-fn column(alloc: Global, rows: &[Row], place: u8) -> Result<Column, AllocError>
+fn column(alloc: Global, rows: &[Row], width: u8, place: u8) -> Result<Column, AllocError>
+    requires long { All (λ row. length row ≡ width) rows.now }
     requires narrow { AreNarrow rows.now }
     ensures words { IfOk result (λ column. column.words.items ≡ map (word_at place) rows.now) }
     ensures one_hot { IfOk result (λ column. All IsOneHot column.words.items) }
     ensures whole { IfOk result IsWhole }
 {
-    let words = words_at(alloc, rows, place)?;
+    let words = words_at(alloc, rows, width, place)?;
     Ok(Column::whole(alloc, words))
 }
 
@@ -179,16 +185,17 @@ fn support_in(columns: &Columns, sets: [Part; 4]) -> PartSupport
     )
 }
 
-/// The columns of these rows.
-fn columns_of(alloc: Global, rows: &[Row]) -> Result<Columns, AllocError>
+/// The columns of these rows, which all have this width.
+fn columns_of(alloc: Global, rows: &[Row], width: u8) -> Result<Columns, AllocError>
     requires few { length rows.now < 2 ^ 32 }
+    requires long { All (λ row. length row ≡ width) rows.now }
     requires narrow { AreNarrow rows.now }
     ensures { IfOk result (HasColumns rows.now) }
 {
-    let first = column(alloc, rows, 0)?;
-    let second = column(alloc, rows, 1)?;
-    let third = column(alloc, rows, 2)?;
-    let fourth = column(alloc, rows, 3)?;
+    let first = column(alloc, rows, width, 0)?;
+    let second = column(alloc, rows, width, 1)?;
+    let third = column(alloc, rows, width, 2)?;
+    let fourth = column(alloc, rows, width, 3)?;
     let values = first.count_values()
         + second.count_values()
         + third.count_values()
@@ -229,11 +236,26 @@ impl TupleTable {
         ensures { IfOk result (λ table. table ≡ record { width = width; rows = rows.now }) }
     {
         let kind = if is_narrow(rows) {
-            Kind::Narrow(columns_of(alloc, rows)?)
+            Kind::Narrow(columns_of(alloc, rows, width)?)
         } else {
             Kind::Wide(rows.to_vec(alloc)?)
         };
-        Ok(TupleTable { width, kind })
+        Ok(TupleTable {
+            width,
+            kind: Arc::new(alloc, kind)?,
+        })
+    }
+
+    /// The same table once more. Its rows are shared, and not copied.
+    ///
+    /// Refused where there are too many who share them.
+    pub fn share(&self) -> Result<TupleTable, AllocError>
+        ensures { IfOk result (λ table. table ≡ self.now) }
+    {
+        Ok(TupleTable {
+            width: self.width,
+            kind: Arc::try_clone(&self.kind)?,
+        })
     }
 
     /// The values that some row supports at each place, of the rows whose
@@ -246,7 +268,7 @@ impl TupleTable {
         ensures alive { result.alive
             ≡ count_by (is_alive (sets_of self.now.width candidates)) self.now.rows }
     {
-        match &self.kind {
+        match &*self.kind {
             Kind::Narrow(columns) => support_of(columns, self.width, candidates),
             Kind::Wide(rows) => revise_rows(rows, candidates),
         }

@@ -20,6 +20,10 @@ const PART_LIMIT: u8 = 64;
 fn is_row_narrow(row: &Row) -> bool
     ensures { result ≡ list_all is_below row.now }
 {
+    if let [a, b, c, d] = row.as_slice() {
+        // all four are compared, which is faster than to stop early
+        return (*a < PART_LIMIT) & ((*b < PART_LIMIT) & ((*c < PART_LIMIT) & (*d < PART_LIMIT)));
+    }
     for value in row.as_slice() {
         if *value >= PART_LIMIT {
             return false;

@@ -34,35 +34,28 @@ pub struct Rule {
     pub places: u8,
     /// Which ones, ascending, and then 0.
     pub processes: [u8; 4],
-    /// The tuples of the simplex.
+    /// The tuples of the simplex. Rules with the same ones share them.
     pub table: TupleTable,
     /// The number of a rule with the same table.
     pub like: u32,
 }
 
 impl Rule {
-    /// The rule of a simplex with these tuples, of which the rule of this number has the table too.
-    pub(crate) fn of(
-        alloc: Global,
-        simplex: Simplex,
-        tuples: &[Row],
-        like: u32,
-    ) -> Result<Rule, AllocError>
-        requires long { All (λ tuple. length tuple ≡ length simplex) tuples.now }
-        requires few { length tuples.now < 2 ^ 32 }
-        ensures rule { IfOk result (IsRuleOf simplex tuples.now) }
-        ensures wide { IfOk result IsWide }
-        ensures processes { IfOk result KeepsProcesses }
-        ensures like { IfOk result (λ rule. rule.like ≡ like) }
+    /// The rule of a simplex with a table of its tuples, which the rule of this number has too.
+    pub(crate) fn of(simplex: Simplex, table: TupleTable, like: u32) -> Rule
+        requires wide { table.width ≡ length simplex }
+        ensures rule { IsRuleOf simplex table.rows result }
+        ensures wide { IsWide result }
+        ensures processes { KeepsProcesses result }
+        ensures like { result.like ≡ like }
     {
-        let table = TupleTable::build(alloc, tuples, simplex.colours())?;
-        Ok(Rule {
+        Rule {
             simplex,
             places: simplex.colours(),
             processes: processes(simplex),
             table,
             like,
-        })
+        }
     }
 
     /// How many processes its simplex has. It takes no memory.
@@ -244,7 +237,8 @@ fn rules(alloc: Global, task: &Task) -> Result<Vec<Rule>, AllocError>
     for (number, simplex) in inputs.iter().enumerate() {
         let tuples = task.tuples(number as u32);
         let like = like_of(task, &rules, *simplex, tuples);
-        rules.push(Rule::of(alloc, *simplex, tuples, like)?)?;
+        let table = table_of(alloc, &rules, like, *simplex, tuples)?;
+        rules.push(Rule::of(*simplex, table, like))?;
     }
     Ok(rules)
 }
@@ -268,4 +262,25 @@ fn like_of(task: &Task, rules: &[Rule], simplex: Simplex, tuples: &[Row]) -> u32
         }
     }
     count as u32
+}
+
+/// The table of these tuples of a simplex: that of the rule of this number, where it is there.
+fn table_of(
+    alloc: Global,
+    rules: &[Rule],
+    like: u32,
+    simplex: Simplex,
+    tuples: &[Row],
+) -> Result<TupleTable, AllocError>
+    requires same { like < length rules.now → HasTable simplex tuples.now rules.now like }
+    requires long { All (λ tuple. length tuple ≡ length simplex) tuples.now }
+    requires few { length tuples.now < 2 ^ 32 }
+    ensures { IfOk result
+        (λ table. table ≡ record { width = length simplex; rows = tuples.now }) }
+{
+    let like = like as usize;
+    if like < rules.len() {
+        return rules[like].table.share();
+    }
+    TupleTable::build(alloc, tuples, simplex.colours())
 }

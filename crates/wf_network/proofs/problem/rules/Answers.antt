@@ -2,13 +2,14 @@ use Rattle.std.proofs.Common.{◌≡◌, ◌<◌, ◌∙◌, ◌∷◌, [], List
 use Rattle.std.proofs.lemmas.List.Elements.{All-push}
 use Rattle.wf_model.specs.Simplex.{Simplex}
 use Rattle.wf_model.specs.Task.{inputs}
-use Rattle.wf_network.specs.Problems.{AreAlike, HasTable, IsWide, KeepsProcesses, rule_seen}
+use Rattle.wf_network.specs.Problems.{AreAlike, HasTable, IsRuleOf, IsWide, KeepsProcesses, rule_seen}
+use Rattle.wf_lane.specs.Table.{Table}
 use Rattle.wf_complex.proofs.Lemmas.{rule_there}
 use Rattle.wf_network.proofs.JoinLemmas.{alike_more, few_tuples, one_more}
 use Rattle.wf_network.proofs.problem.rules.Goals as goal
 
-pub of-requires-clause-few : goal.of-requires-clause-few
-of-requires-clause-few c =
+pub table_of-requires-clause-few : goal.table_of-requires-clause-few
+table_of-requires-clause-few c =
     let t = c.args.task.now in
     let n = c.loop-number.number in
     let s = c.index-inputs-number.result in
@@ -24,12 +25,15 @@ loop-number-preserved c =
     let same : c.simplices-inputs.result.now ≡ inputs t = c.simplices-inputs.ensures.simplices ∙ c.inputs.ensures.inputs in
     let there = rule_there t n s s c.tuples-tuples.result.now (c.index-inputs-number.is ∙ ap (λ (xs : List Simplex). get_or xs n s) same) (omega (arith, c.loop-number-test.true, ap length same)) c.tuples-tuples.ensures in
     let old = c.loop-number.rules.items in
-    let like : c.in_ok-of.field-0.like < length old → HasTable s c.tuples-tuples.result.now old c.in_ok-of.field-0.like =
-    subst (λ l. l < length old → HasTable s c.tuples-tuples.result.now old l) (sym c.in_ok-of.ensures.like)
+    let rule = c.of.result in
+    let table = c.in_ok-table.ensures in
+    let seen : IsRuleOf s c.tuples-tuples.result.now rule = c.of.ensures.rule ∙ ap (λ (t : Table). record { input = s; tuples = t.rows }) table in
+    let like : rule.like < length old → HasTable s c.tuples-tuples.result.now old rule.like =
+    subst (λ l. l < length old → HasTable s c.tuples-tuples.result.now old l) (sym c.of.ensures.like)
     (subst (λ rs. c.like_of-like.result < length rs → HasTable s c.tuples-tuples.result.now rs c.like_of-like.result) c.deref.ensures.value c.like_of-like.ensures.same) in (
-      ap (map rule_seen) c.in_ok-push.ensures.items ∙ one_more rule_seen c.loop-number.rules.items c.in_ok-of.field-0 t.delta n _ c.loop-number.invariant.0 c.in_ok-of.ensures.rule there,
-      subst (All IsWide) (sym c.in_ok-push.ensures.items) (All-push IsWide c.loop-number.rules.items c.in_ok-of.field-0 c.loop-number.invariant.1 c.in_ok-of.ensures.wide),
-      subst (All KeepsProcesses) (sym c.in_ok-push.ensures.items) (All-push KeepsProcesses c.loop-number.rules.items c.in_ok-of.field-0 c.loop-number.invariant.2 c.in_ok-of.ensures.processes),
-      subst AreAlike (sym c.in_ok-push.ensures.items) (alike_more c.loop-number.rules.items c.in_ok-of.field-0 s c.tuples-tuples.result.now c.loop-number.invariant.3 c.in_ok-of.ensures.rule c.in_ok-of.ensures.wide (omega (arith, c.in_ok-of.ensures.like, c.like_of-like.ensures.within, ap length c.deref.ensures.value)) like),
-      omega (arith, ap length c.in_ok-push.ensures.items, length-append c.loop-number.rules.items (c.in_ok-of.field-0 ∷ []), c.loop-number.invariant.4),
+      ap (map rule_seen) c.in_ok-push.ensures.items ∙ one_more rule_seen old rule t.delta n _ c.loop-number.invariant.0 seen there,
+      subst (All IsWide) (sym c.in_ok-push.ensures.items) (All-push IsWide old rule c.loop-number.invariant.1 c.of.ensures.wide),
+      subst (All KeepsProcesses) (sym c.in_ok-push.ensures.items) (All-push KeepsProcesses old rule c.loop-number.invariant.2 c.of.ensures.processes),
+      subst AreAlike (sym c.in_ok-push.ensures.items) (alike_more old rule s c.tuples-tuples.result.now c.loop-number.invariant.3 seen c.of.ensures.wide (omega (arith, c.of.ensures.like, c.like_of-like.ensures.within, ap length c.deref.ensures.value)) like),
+      omega (arith, ap length c.in_ok-push.ensures.items, length-append old (rule ∷ []), c.loop-number.invariant.4),
     )
