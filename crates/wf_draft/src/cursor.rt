@@ -3,8 +3,9 @@
 //! A cursor takes only what is surely next. Where it is in doubt, as at an escape or at a number of
 //! many digits, it says so, and the text is read over its JSON value.
 
-ghost use Rattle.std.specs.Prelude.{◌≡◌, [], ◌∷◌, ◌++◌, ◌+◌, ◌<◌, ◌≤◌, true, Some, None, IfSome, IsTrue, length, take, decimal, option_map};
+ghost use Rattle.std.specs.Prelude.{◌≡◌, [], ◌∷◌, ◌++◌, ◌+◌, ◌^◌, ◌<◌, ◌≤◌, true, Some, None, IfSome, IsTrue, length, take, decimal, option_map};
 ghost use Rattle.std.specs.Bool.{OnFalse};
+ghost use Rattle.json.specs.Ascii.{quote, true_text, false_text};
 ghost use Rattle.json.specs.Token.{begin_object, begin_array, number, boolean};
 ghost use Rattle.json.specs.Word.{is_space, ends_word};
 ghost use Rattle.json.specs.Lex.{after_value, between, lex, may_begin, may_close, punctuate, tokens};
@@ -73,7 +74,7 @@ fn ends_word(text: &[u8]) -> bool
 
 /// The text behind the word `true`, where the text surely begins with it.
 fn after_true(text: &[u8]) -> Option<&[u8]>
-    ensures { IfSome result (λ rest. (text.now ≡ 116 ∷ 114 ∷ 117 ∷ 101 ∷ rest.now)
+    ensures { IfSome result (λ rest. (text.now ≡ true_text ++ rest.now)
         × (ends_word rest.now ≡ true)) }
 {
     match text {
@@ -84,7 +85,7 @@ fn after_true(text: &[u8]) -> Option<&[u8]>
 
 /// The text behind the word `false`, where the text surely begins with it.
 fn after_false(text: &[u8]) -> Option<&[u8]>
-    ensures { IfSome result (λ rest. (text.now ≡ 102 ∷ 97 ∷ 108 ∷ 115 ∷ 101 ∷ rest.now)
+    ensures { IfSome result (λ rest. (text.now ≡ false_text ++ rest.now)
         × (ends_word rest.now ≡ true)) }
 {
     match text {
@@ -115,7 +116,7 @@ fn is_leading_digit(byte: u8) -> bool
 /// behind it.
 #[inline(always)]
 fn short_number(text: &[u8]) -> Option<(u64, &[u8])>
-    ensures { IfSome result (λ found. (found.0 < 1000)
+    ensures { IfSome result (λ found. (found.0 < 10 ^ 3)
         × (text.now ≡ decimal found.0 ++ found.1.now) × (ends_word found.1.now ≡ true)) }
 {
     match text {
@@ -160,7 +161,7 @@ fn key_length(text: &[u8]) -> usize
 
 /// The key up to its closing quote, where it is surely one of letters, and the text behind it.
 fn plain_key(text: &[u8]) -> Option<(&str, &[u8])>
-    ensures { IfSome result (λ found. text.now ≡ escape found.0.now ++ 34 ∷ found.1.now) }
+    ensures { IfSome result (λ found. text.now ≡ escape found.0.now ++ quote ∷ found.1.now) }
 {
     let (key, rest) = text.split_at(key_length(text));
     let Ok(key) = simdutf8::basic::from_utf8(key) else {
@@ -271,7 +272,7 @@ impl<'a> Cursor<'a> {
     /// The next token, if it is surely a number of at most three digits.
     #[inline(always)]
     pub(crate) fn next_number(&mut self) -> Option<u64>
-        ensures { IfSome result (λ n. (n < 1000) × (self.old ≡ number (decimal n) ∷ self.new)) }
+        ensures { IfSome result (λ n. (n < 10 ^ 3) × (self.old ≡ number (decimal n) ∷ self.new)) }
     {
         if !self.place.may_begin() {
             return None;
