@@ -2,6 +2,7 @@ pub mod Lists
 pub mod Converted
 pub mod Taken
 pub mod Fields
+pub mod CursorLemmas
 pub mod Texts
 pub mod Counts
 pub mod Vertices

@@ -1,9 +1,6 @@
 -- Tokens that a value was read from: each form of value, from its parts.
-use Rattle.std.proofs.Common.{◌≡◌, ◌+◌, ◌*◌, ◌/◌, ◌%◌, ℕ, suc, ◌-◌, ◌<◌, ◌≤◌, Bool, List, [], ◌∷◌, ◌++◌, length, Option, Some, None, IfSome, SomeIff, get_or, false, ◌==◌, ◌^◌, option_map, Result, Ok, Err, refl, sym, ap, ◌∙◌, subst, arith, map, IfOk, lt-ltb}
+use Rattle.std.proofs.Common.{◌≡◌, ℕ, suc, ◌-◌, ◌<◌, ◌≤◌, Bool, List, [], ◌∷◌, ◌++◌, length, Option, Some, None, IfSome, option_map, Result, Ok, Err, refl, sym, ap, ◌∙◌, subst, arith, map, IfOk}
 use Rattle.std.specs.Result.{result_ok}
-use Rattle.std.specs.Fmt.{decimal}
-use Rattle.std.proofs.lemmas.Fmt.{decimal_digit, decimal_step}
-use Rattle.fast_float.specs.Text.{scan, digits_of, IsInteger}
 use Rattle.json.specs.Token.{Token}
 use Rattle.json.specs.Json as json
 use Rattle.json.specs.Json.{parse_map, after_end_array, read_key, value, items, members}
@@ -11,7 +8,6 @@ use Rattle.json.proofs.Grammar.{left, value_is, value-begin_array, value-begin_o
 use Rattle.serde_json.specs.Data.{Data, array, object, unsigned, Items, no_items, item, Members, no_members, put}
 use Rattle.serde_json.specs.Find.{as_bool}
 use Rattle.serde_json.specs.Read.{number_of, of_json, of_items, of_members, converted}
-use Rattle.serde_json.proofs.Numbers.{number_of-decimal}
 use Rattle.wf_draft.proofs.Converted.{converted_some, converted-array, converted-object, item_read, items_over, member_read, members_over}
 use Rattle.wf_draft.specs.Shape.{whole_of, pair_of, with_first, each, all_of, list_of}
 use Rattle.wf_draft.specs.Plain.{data_at, Takes, TakesItems, Adds, TakesMembers}
@@ -47,36 +43,6 @@ takes-no_end f deep old x new t =
 
 pub takes-number : (s : List ℕ) (n : ℕ) (new : List Token) → number_of s ≡ Some (unsigned n) → Takes whole_of 0 (Token.number s ∷ new) n new
 takes-number s n new e depth enough = ap (λ o. converted whole_of (converted of_json o)) (value_is depth (Token.number s ∷ new)) ∙ rw e
-
-pub takes-number-if : (s : List ℕ) (o : Option ℕ) (old new : List Token) → old ≡ Token.number s ∷ new → IfSome o (λ n. number_of s ≡ Some (unsigned n)) → IfSome o (λ n. Takes whole_of 0 old n new)
-takes-number-if s None old new is e = e
-takes-number-if s (Some n) old new is e = subst (λ ts. Takes whole_of 0 ts n new) (sym is) (takes-number s n new e)
-
--- the number that digits alone write
-pub number-plain : (s : List ℕ) (o : Option ℕ) → (get_or s 0 0 == 45) ≡ false → SomeIff o (IsInteger (scan s) × (digits_of (scan s) < 2 ^ 64)) (digits_of (scan s)) → IfSome o (λ n. number_of s ≡ Some (unsigned n))
-unfolding number_of
-number-plain s None sign h = tt
-number-plain s (Some n) sign h = rw (sign, lt-ltb _ _ h.0.0.0, h.0.0.1, h.0.0.2, lt-ltb _ _ h.0.1) (ap (λ m. Some (unsigned m)) (sym h.1))
-
--- a number of few digits
-pub number-short : (s : List ℕ) (n : ℕ) → n < 100 → s ≡ decimal n → number_of s ≡ Some (unsigned n)
-number-short s n low is = ap number_of is ∙ number_of-decimal n (omega (arith, low))
-
-pub one_digit : (s : List ℕ) (n : ℕ) → 1 ≤ length s → length s < 2 → n + 48 ≡ get_or s 0 0 → n < 10 → s ≡ decimal n
-one_digit [] n some few is low = absurd (let none : ⊥ = omega (arith, some) in none)
-one_digit (d ∷ []) n some few is low = let same : 48 + n ≡ d = omega (arith, is) in sym (decimal_digit n low ∙ ap (λ x. x ∷ []) same)
-one_digit (d ∷ e ∷ s) n some few is low = absurd (let none : ⊥ = omega (arith, few) in none)
-
-pub two_digits : (s : List ℕ) (tens ones : ℕ) → 2 ≤ length s → length s < 3 → tens + 48 ≡ get_or s 0 0 → ones + 48 ≡ get_or s 1 0 → 0 < tens → tens < 10 → ones < 10 → s ≡ decimal (10 * tens + ones)
-two_digits [] tens ones some few first second above low lower = absurd (let none : ⊥ = omega (arith, some) in none)
-two_digits (d ∷ []) tens ones some few first second above low lower = absurd (let none : ⊥ = omega (arith, some) in none)
-two_digits (d ∷ e ∷ []) tens ones some few first second above low lower =
-    let n = 10 * tens + ones in
-    let front : n / 10 ≡ tens = omega arith in
-    let last : 48 + n % 10 ≡ e = omega (arith, second) in
-    let begun : decimal tens ≡ d ∷ [] = sym (one_digit (d ∷ []) tens (omega arith) (omega arith) first low) in
-    sym (decimal_step n (omega arith) (omega arith) ∙ ap (λ m. decimal m ++ (48 + n % 10) ∷ []) front ∙ ap (λ xs. xs ++ (48 + n % 10) ∷ []) begun ∙ ap (λ x. d ∷ x ∷ []) last)
-two_digits (d ∷ e ∷ f ∷ s) tens ones some few first second above low lower = absurd (let none : ⊥ = omega (arith, few) in none)
 
 pub takes-bool : (b : Bool) (new : List Token) → Takes as_bool 0 (Token.boolean b ∷ new) b new
 takes-bool b new depth enough = ap (λ o. converted as_bool (converted of_json o)) (value_is depth (Token.boolean b ∷ new))

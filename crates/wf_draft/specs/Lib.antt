@@ -7,5 +7,6 @@ pub mod DraftSeen
 pub mod Text
 pub mod Listed
 -- What only this crate's own code and proofs use.
+pub mod Cursor
 pub mod Parts
 pub mod Members

@@ -8,6 +8,7 @@
 //! - [`FIRST_VERSION`] and [`SECOND_VERSION`]: the versions that texts may have.
 #![tactic(auto)]
 
+mod cursor;
 pub mod draft;
 pub mod fault;
 mod growing;

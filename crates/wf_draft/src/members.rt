@@ -7,10 +7,10 @@ ghost use Rattle.wf_draft.specs.Draft.{draft_of};
 ghost use Rattle.wf_draft.specs.DraftSeen.{draft_seen};
 ghost use Rattle.wf_draft.specs.Plain.{Takes, Adds, Fills, TakesMembers};
 
+use crate::cursor::Cursor;
 use crate::draft::{Draft, SECOND_VERSION};
 use crate::plain::Plain;
 use crate::shape::{Entry, ListedSimplex, ValueList};
-use json::{Reader, Token};
 use std::alloc::{AllocError, Global};
 
 /// The members of an object, a field for each key.
@@ -21,32 +21,32 @@ trait Fields: Sized {
     // how deep the arrays and objects under the keys nest
     ghost deep: { ℕ };
 
-    /// Puts the next value of the reader into the field of the key, where the field is empty and
+    /// Puts the next value of the cursor into the field of the key, where the field is empty and
     /// the value surely of its shape, and tells whether it did.
     fn fill(
         &mut self,
         alloc: Global,
         key: &str,
-        reader: &mut Reader<'_>,
+        cursor: &mut Cursor<'_>,
     ) -> Result<bool, AllocError>
         ensures { IfOk result (λ sure. IsTrue sure
-            → Adds hold deep key.now self.old reader.old self.new reader.new) };
+            → Adds hold deep key.now self.old cursor.old self.new cursor.new) };
 }
 
-/// Puts the next value of the reader into the field, where the field is empty and the value surely
+/// Puts the next value of the cursor into the field, where the field is empty and the value surely
 /// of its shape, and tells whether it did.
 fn fill<T: Plain + Drop>(
     alloc: Global,
     field: &mut Option<T>,
-    reader: &mut Reader<'_>,
+    cursor: &mut Cursor<'_>,
 ) -> Result<bool, AllocError>
     ensures { IfOk result (λ sure. IsTrue sure
-        → Fills T.reading T.seen T.deep field.old reader.old field.new reader.new) }
+        → Fills T.reading T.seen T.deep field.old cursor.old field.new cursor.new) }
 {
     if field.is_some() {
         return Ok(false);
     }
-    *field = T::plain(alloc, reader)?;
+    *field = T::plain(alloc, cursor)?;
     Ok(field.is_some())
 }
 
@@ -55,17 +55,17 @@ fn fill<T: Plain + Drop>(
 fn members<S: Fields>(
     alloc: Global,
     fields: &mut S,
-    reader: &mut Reader<'_>,
+    cursor: &mut Cursor<'_>,
 ) -> Result<bool, AllocError>
     requires { S.hold fields.old no_members }
     ensures { IfOk result (λ sure. IsTrue sure
-        → TakesMembers S.hold S.deep reader.old fields.new reader.new) }
+        → TakesMembers S.hold S.deep cursor.old fields.new cursor.new) }
 {
-    'members: while let Ok(next) = reader.next_key() {
+    'members: while let Some(next) = cursor.next_key() {
         let Some(key) = next else {
             return Ok(true);
         };
-        if !fields.fill(alloc, key, reader)? {
+        if !fields.fill(alloc, key, cursor)? {
             return Ok(false);
         }
     }
@@ -92,11 +92,11 @@ impl Fields for EntryFields {
         &mut self,
         alloc: Global,
         key: &str,
-        reader: &mut Reader<'_>,
+        cursor: &mut Cursor<'_>,
     ) -> Result<bool, AllocError> {
         match key {
-            "in" => fill(alloc, &mut self.input, reader),
-            "out" => fill(alloc, &mut self.tuples, reader),
+            "in" => fill(alloc, &mut self.input, cursor),
+            "out" => fill(alloc, &mut self.tuples, cursor),
             _ => Ok(false),
         }
     }
@@ -123,15 +123,15 @@ impl EntryFields {
 impl Plain for Entry {
     ghost deep = { 3 };
 
-    fn plain(alloc: Global, reader: &mut Reader<'_>) -> Result<Option<Entry>, AllocError> {
-        let Some(Token::BeginObject) = reader.next() else {
+    fn plain(alloc: Global, cursor: &mut Cursor<'_>) -> Result<Option<Entry>, AllocError> {
+        if !cursor.take_begin_object() {
             return Ok(None);
-        };
+        }
         let mut fields = EntryFields {
             input: None,
             tuples: None,
         };
-        if !members(alloc, &mut fields, reader)? {
+        if !members(alloc, &mut fields, cursor)? {
             return Ok(None);
         }
         Ok(fields.entry())
@@ -163,16 +163,16 @@ impl Fields for DraftFields {
         &mut self,
         alloc: Global,
         key: &str,
-        reader: &mut Reader<'_>,
+        cursor: &mut Cursor<'_>,
     ) -> Result<bool, AllocError> {
         match key {
-            "version" => fill(alloc, &mut self.version, reader),
-            "first_block" => fill(alloc, &mut self.least_block, reader),
-            "processes" => fill(alloc, &mut self.processes, reader),
-            "symmetric" => fill(alloc, &mut self.symmetric, reader),
-            "inputs" => fill(alloc, &mut self.inputs, reader),
-            "outputs" => fill(alloc, &mut self.outputs, reader),
-            "delta" => fill(alloc, &mut self.delta, reader),
+            "version" => fill(alloc, &mut self.version, cursor),
+            "first_block" => fill(alloc, &mut self.least_block, cursor),
+            "processes" => fill(alloc, &mut self.processes, cursor),
+            "symmetric" => fill(alloc, &mut self.symmetric, cursor),
+            "inputs" => fill(alloc, &mut self.inputs, cursor),
+            "outputs" => fill(alloc, &mut self.outputs, cursor),
+            "delta" => fill(alloc, &mut self.delta, cursor),
             _ => Ok(false),
         }
     }
@@ -236,19 +236,19 @@ impl DraftFields {
     }
 }
 
-/// The draft that the tokens of a reader list, where it is surely one.
+/// The draft that the tokens of a cursor list, where it is surely one.
 pub(crate) fn plain_draft(
     alloc: Global,
-    reader: &mut Reader<'_>,
+    cursor: &mut Cursor<'_>,
 ) -> Result<Option<Draft>, AllocError>
     ensures { IfOk result (λ found. IfSome found
-        (λ draft. Takes (λ d. result_ok (draft_of d)) 5 reader.old (draft_seen draft) reader.new)) }
+        (λ draft. Takes (λ d. result_ok (draft_of d)) 5 cursor.old (draft_seen draft) cursor.new)) }
 {
-    let Some(Token::BeginObject) = reader.next() else {
+    if !cursor.take_begin_object() {
         return Ok(None);
-    };
+    }
     let mut fields = DraftFields::empty();
-    if !members(alloc, &mut fields, reader)? {
+    if !members(alloc, &mut fields, cursor)? {
         return Ok(None);
     }
     Ok(fields.draft())

@@ -8,10 +8,10 @@ ghost use Rattle.wf_draft.specs.DraftSeen.{draft_seen};
 ghost use Rattle.wf_draft.specs.Listed.{ListsFew, ListsVertices};
 ghost use Rattle.wf_draft.specs.Text.{json_of, draft_in};
 
+use crate::cursor::Cursor;
 use crate::draft::Draft;
 use crate::fault::TaskFault;
 use crate::members::plain_draft;
-use json::{Reader, Scratch};
 use serde_json::Value;
 use serde_json::error::Category;
 use std::alloc::{AllocError, Global};
@@ -38,13 +38,12 @@ fn usual_draft(alloc: Global, bytes: &[u8]) -> Result<Option<Draft>, AllocError>
     ensures { IfOk result (λ found. IfSome found
         (λ draft. draft_in bytes.now ≡ Ok (draft_seen draft))) }
 {
-    let Ok(text) = simdutf8::basic::from_utf8(bytes) else {
+    let Ok(_text) = simdutf8::basic::from_utf8(bytes) else {
         return Ok(None);
     };
-    let mut scratch = Scratch::new(alloc);
-    let mut reader = Reader::new(text, &mut scratch)?;
-    let found = plain_draft(alloc, &mut reader)?;
-    if reader.next().is_some() {
+    let mut cursor = Cursor::new(bytes);
+    let found = plain_draft(alloc, &mut cursor)?;
+    if !cursor.is_at_end() {
         return Ok(None);
     }
     Ok(found)

@@ -3,7 +3,7 @@ use Rattle.wf_draft.proofs.Taken.{HasRead}
 use Rattle.wf_draft.proofs.members.members.Given as goal
 
 abbrev pub invariant-members : goal.invariant-members
-invariant-members g l = HasRead g.S.Fields.hold g.S.Fields.deep l.initial.reader l.fields l.reader
+invariant-members g l = HasRead g.S.Fields.hold g.S.Fields.deep l.initial.cursor l.fields l.cursor
 
 abbrev pub decreases-members : goal.decreases-members
-decreases-members g l = length l.reader
+decreases-members g l = length l.cursor

@@ -6,8 +6,8 @@ use Rattle.wf_draft.proofs.plain.items.Given as goal
 -- whatever follows, what was found comes before it
 abbrev pub invariant-items : goal.invariant-items
 invariant-items g l =
-    (xs : List g.T.Shape.Seen) (new : List Token) → TakesItems g.T.Shape.reading g.T.Plain.deep l.reader xs new
-    → TakesItems g.T.Shape.reading g.T.Plain.deep l.initial.reader (map g.T.Shape.seen (g.L.Growing.listed l.found) ++ xs) new
+    (xs : List g.T.Shape.Seen) (new : List Token) → TakesItems g.T.Shape.reading g.T.Plain.deep l.cursor xs new
+    → TakesItems g.T.Shape.reading g.T.Plain.deep l.initial.cursor (map g.T.Shape.seen (g.L.Growing.listed l.found) ++ xs) new
 
 abbrev pub decreases-items : goal.decreases-items
-decreases-items g l = length l.reader
+decreases-items g l = length l.cursor

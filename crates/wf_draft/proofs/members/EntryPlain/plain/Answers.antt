@@ -1,5 +1,4 @@
-use Rattle.std.proofs.Common.{◌∷◌, ap, ◌∙◌, arith}
-use Rattle.json.specs.Reads.{token_of}
+use Rattle.std.proofs.Common.{arith}
 use Rattle.wf_draft.specs.Shape.{entry_of}
 use Rattle.wf_draft.specs.DraftSeen.{entry_seen}
 use Rattle.wf_draft.specs.Members.{HoldEntry}
@@ -8,6 +7,5 @@ use Rattle.wf_draft.proofs.members.EntryPlain.plain.Goals as goal
 
 pub returns : goal.returns
 returns c =
-    let opens = c.in-Some-BeginObject in
-    let begun = opens.ensures.value ∙ ap (λ t. token_of t ∷ c.next.new.self) opens.field-0-is in
-    takes-object-if HoldEntry 2 entry_of entry_seen c.entry.result c.args.reader.now c.next.new.self c.members.new.fields c.members.new.reader begun (c.in_ok-members.ensures (grind arith)) c.entry.ensures
+    takes-object-if HoldEntry 2 entry_of entry_seen c.entry.result c.args.cursor.now c.take_begin_object.new.self c.members.new.fields c.members.new.cursor
+    (c.take_begin_object.ensures c.if-not-take_begin_object.false) (c.in_ok-members.ensures (grind arith)) c.entry.ensures

@@ -1,10 +1,14 @@
-use Rattle.std.proofs.Common.{◌∷◌, ap, ◌∙◌}
-use Rattle.json.specs.Reads.{token_of}
-use Rattle.wf_draft.proofs.Taken.{takes-number-if}
+use Rattle.std.proofs.Common.{sym, subst, arith}
+use Rattle.std.specs.Fmt.{decimal}
+use Rattle.std.proofs.lemmas.Option.{IfSome_then}
+use Rattle.serde_json.proofs.Numbers.{number_of-decimal}
+use Rattle.wf_draft.specs.Shape.{whole_of}
+use Rattle.wf_draft.specs.Plain.{Takes}
+use Rattle.wf_draft.proofs.Taken.{takes-number}
 use Rattle.wf_draft.proofs.plain.U64Plain.plain.Goals as goal
 
-pub returns-in-Some-Number : goal.returns-in-Some-Number
-returns-in-Some-Number c =
-    let found = c.in-Some-Number in
-    let first = found.ensures.value ∙ ap (λ t. token_of t ∷ c.next.new.self) found.field-0-is in
-    takes-number-if found.text.now c.number.result c.args.reader.now c.next.new.self first c.number.ensures
+pub returns : goal.returns
+returns c =
+    let new = c.next_number.new.self in
+    IfSome_then c.next_number.result c.next_number.ensures
+    (λ n found. subst (λ ts. Takes whole_of 0 ts n new) (sym found.1) (takes-number (decimal n) n new (number_of-decimal n (omega (arith, found.0)))))

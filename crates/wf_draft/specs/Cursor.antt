@@ -1,0 +1,15 @@
+-- The tokens that a cursor has still to come.
+use Rattle.std.specs.Prelude.{ℕ, List}
+use Rattle.json.specs.Token.{Token}
+use Rattle.json.specs.Lex.{fresh, after_value, after_comma, between, lex, punctuate}
+use Rattle.json.specs.Lex as lexer
+use Rattle.wf_draft.specs.declared.cursor.Place.{Place}
+use Rattle.wf_draft.specs.declared.cursor.Place.TheVariants.{Fresh, AfterValue, AfterComma}
+
+abbrev pub place_of : Place → lexer.Place
+place_of Fresh = fresh
+place_of AfterValue = after_value
+place_of AfterComma = after_comma
+
+abbrev pub tokens_at : Place → List ℕ → List Token
+tokens_at place text = punctuate (place_of place) (lex between text)
