@@ -2,7 +2,7 @@
 //! executions.
 //!
 //! - [`Problem`]: the constraint problem. Each input simplex has one table of tuples, which its
-//!   executions share.
+//!   executions share, and simplices near it with the same tuples.
 //! - [`Network`]: its rules, its executions ([`PackedExecution`]), and [`Users`], the executions of
 //!   each point.
 //! - [`Marks`]: marks on executions, of which the next one is found fast.
