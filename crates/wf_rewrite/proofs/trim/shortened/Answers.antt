@@ -13,9 +13,9 @@ check-requires-clause-few g c κs within =
     c.args.report
     c.exchange_lines-shorter.result.0
     c.in_ok-kept.kept.items
-    c.lines.result.now
+    c.lines-lines.result.now
     c.in_ok-kept.ensures
-    c.lines.ensures
+    c.lines-lines.ensures
     c.exchange_lines-shorter.ensures.report
     c.requires.few
 
@@ -25,9 +25,9 @@ returns-in-Ok-clause-shorter g c =
     c.args.report
     c.exchange_lines-shorter.result.0
     c.in_ok-kept.kept.items
-    c.lines.result.now
+    c.lines-lines.result.now
     c.in_ok-kept.ensures
-    c.lines.ensures
+    c.lines-lines.ensures
     c.exchange_lines-shorter.ensures.report
     c.args.task.now
     c.args.protocol.now.rounds
@@ -42,9 +42,9 @@ returns-in-Ok-clause-few g c =
     c.args.report
     c.exchange_lines-shorter.result.0
     c.in_ok-kept.kept.items
-    c.lines.result.now
+    c.lines-lines.result.now
     c.in_ok-kept.ensures
-    c.lines.ensures
+    c.lines-lines.ensures
     c.exchange_lines-shorter.ensures.report
     c.requires.few
 
