@@ -1,18 +1,22 @@
 //! The text of a report.
 
-ghost use Rattle.std.specs.Prelude.{◌≡◌, [], ◌++◌, IfOk, OnOk, decimal, string_bytes, flat_map, map};
+ghost use Rattle.std.specs.Prelude.{◌≡◌, ◌<◌, ◌≤◌, ◌+◌, ◌∷◌, [], ◌++◌, IfOk, OnOk, codes, decimal, drop, flat_map, length, map};
 ghost use Rattle.wf_model.specs.Report.{line, value_line, line_text, answer_line, body_lines, body_values, report_text};
 ghost use Rattle.wf_lines.specs.Lines.{line_of};
 ghost use Rattle.wf_report.specs.Reports.{body_of, report_seen};
 ghost use Rattle.wf_report.specs.Writing.{IsBeginning};
 
 use crate::report::{Body, Report};
-use itoa::Buffer;
+use itoa::write_digits;
 use std::alloc::{AllocError, Global};
 use wf_lines::{Line, Lines, put_number, put_words};
 
 /// So many lines are written before the memory of those that were is given back.
 const PIECE: usize = 65_536;
+
+/// Room for a line. The longest takes 21 bytes: a letter, numbers of up to ten, three and three
+/// digits, each behind a space, and a line feed.
+const ROOM: usize = 32;
 
 /// The text of a report: a header, the values of a map, or the lines of a refutation, or the values
 /// of the least map and the lines that lead to it, and `end`. Every line ends in one line feed, and
@@ -22,8 +26,8 @@ pub fn write_report(alloc: Global, report: &Report) -> Result<Vec<u8>, AllocErro
 {
     let mut text = beginning(alloc, report)?;
     put_lines(&mut text, report.body.lines())?;
-    put_words(&mut text, "end")?;
-    Ok(text.into_bytes())
+    put_end(&mut text)?;
+    Ok(text)
 }
 
 impl Report {
@@ -35,22 +39,23 @@ impl Report {
     {
         let mut text = beginning(alloc, &self)?;
         take_lines(&mut text, self.body.into_lines(alloc))?;
-        put_words(&mut text, "end")?;
-        Ok(text.into_bytes())
+        put_end(&mut text)?;
+        Ok(text)
     }
 }
 
 /// The text of a report up to its lines.
-fn beginning(alloc: Global, report: &Report) -> Result<String, AllocError>
-    ensures { IfOk result (λ text. IsBeginning (report_seen report.now) (string_bytes text)) }
+fn beginning(alloc: Global, report: &Report) -> Result<Vec<u8>, AllocError>
+    ensures { IfOk result (λ text. IsBeginning (report_seen report.now) text.items) }
 {
-    let mut text = String::new(alloc);
-    put_words(&mut text, "wfcheck report 1")?;
-    put_number(&mut text, "processes", report.header.processes)?;
-    put_number(&mut text, "rounds", report.header.rounds)?;
-    put_number(&mut text, "points", report.header.points)?;
-    put_number(&mut text, "executions", report.header.executions)?;
-    put_words(&mut text, report.body.answer())?;
+    let mut header = String::new(alloc);
+    put_words(&mut header, "wfcheck report 1")?;
+    put_number(&mut header, "processes", report.header.processes)?;
+    put_number(&mut header, "rounds", report.header.rounds)?;
+    put_number(&mut header, "points", report.header.points)?;
+    put_number(&mut header, "executions", report.header.executions)?;
+    put_words(&mut header, report.body.answer())?;
+    let mut text = header.into_bytes();
     put_values(&mut text, report.body.values())?;
     Ok(text)
 }
@@ -100,20 +105,18 @@ impl Body {
     }
 }
 
-fn put_values(text: &mut String, values: &[u8]) -> Result<(), AllocError>
-    ensures { OnOk result (string_bytes text.new
-        ≡ string_bytes text.old ++ flat_map value_line values.now) }
+fn put_values(text: &mut Vec<u8>, values: &[u8]) -> Result<(), AllocError>
+    ensures { OnOk result (text.new.items ≡ text.old.items ++ flat_map value_line values.now) }
 {
     for value in values {
-        put_digits(text, "m ", u32::from(*value))?;
-        text.push_str("\n")?;
+        put_value(text, *value)?;
     }
     Ok(())
 }
 
-fn put_lines(text: &mut String, lines: &[Line]) -> Result<(), AllocError>
-    ensures { OnOk result (string_bytes text.new
-        ≡ string_bytes text.old ++ flat_map line_text (map line_of lines.now)) }
+fn put_lines(text: &mut Vec<u8>, lines: &[Line]) -> Result<(), AllocError>
+    ensures { OnOk result (text.new.items
+        ≡ text.old.items ++ flat_map line_text (map line_of lines.now)) }
 {
     for line in lines {
         put_line(text, *line)?;
@@ -122,9 +125,9 @@ fn put_lines(text: &mut String, lines: &[Line]) -> Result<(), AllocError>
 }
 
 /// Adds these lines, and gives their memory back.
-fn take_lines(text: &mut String, lines: Lines) -> Result<(), AllocError>
-    ensures { OnOk result (string_bytes text.new
-        ≡ string_bytes text.old ++ flat_map line_text (map line_of lines.items)) }
+fn take_lines(text: &mut Vec<u8>, lines: Lines) -> Result<(), AllocError>
+    ensures { OnOk result (text.new.items
+        ≡ text.old.items ++ flat_map line_text (map line_of lines.items)) }
 {
     let mut left = lines;
     left.reverse();
@@ -137,33 +140,76 @@ fn take_lines(text: &mut String, lines: Lines) -> Result<(), AllocError>
     Ok(())
 }
 
-fn put_line(text: &mut String, line: Line) -> Result<(), AllocError>
-    ensures { OnOk result (string_bytes text.new
-        ≡ string_bytes text.old ++ line_text (line_of line)) }
+fn put_end(text: &mut Vec<u8>) -> Result<(), AllocError>
+    ensures { OnOk result (text.new.items ≡ text.old.items ++ line (codes "end") []) }
 {
+    text.extend_from_slice(b"end\n")
+}
+
+fn put_value(text: &mut Vec<u8>, value: u8) -> Result<(), AllocError>
+    ensures { OnOk result (text.new.items ≡ text.old.items ++ value_line value) }
+{
+    let mut room = [0; ROOM];
+    let feed = write_byte(b'\n', &mut room, ROOM);
+    let number = write_number(u32::from(value), &mut room, feed);
+    let begin = write_byte(b'm', &mut room, number);
+    text.extend_from_slice(&room[begin..])
+}
+
+/// Adds a line, which is written from its end on, and added at once.
+fn put_line(text: &mut Vec<u8>, line: Line) -> Result<(), AllocError>
+    ensures { OnOk result (text.new.items ≡ text.old.items ++ line_text (line_of line)) }
+{
+    let mut room = [0; ROOM];
+    let begin = write_line(line, &mut room);
+    text.extend_from_slice(&room[begin..])
+}
+
+/// Writes a line so that it ends where the room ends, and says where it begins.
+fn write_line(line: Line, room: &mut [u8; ROOM]) -> usize
+    ensures within { result ≤ ROOM }
+    ensures written { drop result room.new ≡ line_text (line_of line) }
+{
+    let feed = write_byte(b'\n', room, ROOM);
     match line {
         Line::Remove {
             execution,
             process,
             value,
         } => {
-            put_digits(text, "p ", execution)?;
-            put_digits(text, " ", u32::from(process))?;
-            put_digits(text, " ", u32::from(value))?;
+            let third = write_number(u32::from(value), room, feed);
+            let second = write_number(u32::from(process), room, third);
+            let first = write_number(execution, room, second);
+            write_byte(b'p', room, first)
         }
-        Line::Empty { point } => put_digits(text, "z ", point)?,
-        Line::Branch { point } => put_digits(text, "b ", point)?,
-        Line::Found => text.push_str("f")?,
+        Line::Empty { point } => {
+            let number = write_number(point, room, feed);
+            write_byte(b'z', room, number)
+        }
+        Line::Branch { point } => {
+            let number = write_number(point, room, feed);
+            write_byte(b'b', room, number)
+        }
+        Line::Found => write_byte(b'f', room, feed),
     }
-    text.push_str("\n")
 }
 
-/// Adds these words and the digits of a number.
-fn put_digits(text: &mut String, before: &str, number: u32) -> Result<(), AllocError>
-    ensures { OnOk result (string_bytes text.new
-        ≡ string_bytes text.old ++ before.now ++ decimal number) }
+/// Writes a space and a number so that they end there, and says where they begin.
+fn write_number(number: u32, room: &mut [u8], end: usize) -> usize
+    requires { (length (decimal number) < end) × (end ≤ length room.old) }
+    ensures begin { result + 1 + length (decimal number) ≡ end }
+    ensures written { drop result room.new ≡ 32 ∷ decimal number ++ drop end room.old }
 {
-    let mut digits = Buffer::new();
-    text.push_str(before)?;
-    text.push_str(digits.format(number))
+    let digits = write_digits(u64::from(number), room, end);
+    write_byte(b' ', room, digits)
+}
+
+/// Writes a byte so that it ends there, and says where it begins.
+fn write_byte(byte: u8, room: &mut [u8], end: usize) -> usize
+    requires { (0 < end) × (end ≤ length room.old) }
+    ensures begin { result + 1 ≡ end }
+    ensures written { drop result room.new ≡ byte ∷ drop end room.old }
+{
+    room[end - 1] = byte;
+    end - 1
 }

@@ -12,12 +12,14 @@ returns c =
     let h = r.header in
     subst (IsBeginning (report_seen r))
     (sym (
-    seven (string_bytes c.new-text.result) (string_bytes c.put_words.new.text) (string_bytes c.put_number.new.text) (string_bytes c.put_number-2.new.text) (string_bytes c.put_number-3.new.text) (string_bytes c.put_number-4.new.text)
-    (string_bytes c.put_words-2.new.text) (string_bytes c.put_values.new.text)
+    seven (string_bytes c.new-header.result) (string_bytes c.put_words.new.text) (string_bytes c.put_number.new.text) (string_bytes c.put_number-2.new.text) (string_bytes c.put_number-3.new.text) (string_bytes c.put_number-4.new.text)
+    (string_bytes c.put_words-2.new.text) c.put_values.new.text.items
     (line (codes "wfcheck report 1") []) (line (codes "processes") (h.processes ∷ [])) (line (codes "rounds") (h.rounds ∷ [])) (line (codes "points") (h.points ∷ [])) (line (codes "executions") (h.executions ∷ []))
     (answer_line (body_of r.body)) (flat_map value_line (body_values (body_of r.body)))
-    c.new-text.ensures.bytes c.in_ok-put_words.ensures c.in_ok-put_number.ensures c.in_ok-put_number-2.ensures c.in_ok-put_number-3.ensures c.in_ok-put_number-4.ensures
+    c.new-header.ensures.bytes c.in_ok-put_words.ensures c.in_ok-put_number.ensures c.in_ok-put_number-2.ensures c.in_ok-put_number-3.ensures c.in_ok-put_number-4.ensures
     (c.in_ok-put_words-2.ensures ∙ ap (λ l. string_bytes c.put_number-4.new.text ++ l) c.answer.ensures)
-    (c.in_ok-put_values.ensures ∙ ap (λ vs. string_bytes c.put_words-2.new.text ++ flat_map value_line vs) c.values.ensures)
+    (c.in_ok-put_values.ensures
+    ∙ ap (λ v. v.items ++ flat_map value_line c.values.result.now) c.into_bytes-text.ensures.value
+    ∙ ap (λ vs. string_bytes c.put_words-2.new.text ++ flat_map value_line vs) c.values.ensures)
     ))
     (begins (report_seen r))

@@ -1,4 +1,4 @@
-use Rattle.std.proofs.Common.{◌≡◌, ℕ, ◌+◌, ◌<◌, ◌++◌, List, take, map, flat_map, length, get_or, string_bytes, sym, ap, ◌∙◌, append_assoc}
+use Rattle.std.proofs.Common.{◌≡◌, ℕ, ◌+◌, ◌<◌, ◌++◌, List, take, map, flat_map, length, get_or, sym, ap, ◌∙◌, append_assoc}
 use Rattle.std.proofs.lemmas.Option.{slice_get-get_or}
 use Rattle.wf_model.specs.Report.{line_text}
 use Rattle.wf_lines.specs.Lines.{line_of}
@@ -15,4 +15,4 @@ one_more start before after lines n d low so_far is =
     ∙ ap (λ bs. start ++ bs) (sym (flat_map-take line_text line_of lines n (get_or lines n d) (slice_get-get_or lines n d low)))
 
 pub loop-line-preserved : goal.loop-line-preserved
-loop-line-preserved c = one_more (string_bytes c.args.text.now) (string_bytes c.loop-line.text) (string_bytes c.put_line.new.text) c.args.lines.now c.loop-line.line-index _ c.loop-line-test.true c.loop-line.invariant c.in_ok-put_line.ensures
+loop-line-preserved c = one_more c.args.text.now.items c.loop-line.text.items c.put_line.new.text.items c.args.lines.now c.loop-line.line-index _ c.loop-line-test.true c.loop-line.invariant c.in_ok-put_line.ensures
