@@ -1,8 +1,9 @@
-//! Tests of what is made of a search: reports and their checker, the lines that are needed of a
-//! refutation, and its argument in words.
+//! Tests of what answers a question and can be checked: reports and their checker, the lines that
+//! are needed of a refutation and its argument in words; and questions as formulas, the maps that
+//! solvers' texts say, and the checker of their proofs.
 //!
-//! Reports are answered as worked by hand. Which lines are needed was worked by hand too, and is
-//! what `gallery/trim.py` writes of the same reports.
+//! Reports are answered as worked by hand, and so is what each proof comes to. Which lines are
+//! needed was worked by hand too, and is what `gallery/trim.py` writes of the same reports.
 #![tactic(auto)]
 
 #[cfg(test)]
@@ -10,8 +11,28 @@ mod argument_texts;
 #[cfg(test)]
 mod arguments;
 #[cfg(test)]
+mod asking;
+#[cfg(test)]
+mod branches;
+#[cfg(test)]
+mod checkers;
+#[cfg(test)]
+mod clauses;
+#[cfg(test)]
+mod maps;
+#[cfg(test)]
+mod posing;
+#[cfg(test)]
+mod proofs;
+#[cfg(test)]
+mod questions;
+#[cfg(test)]
+mod readers;
+#[cfg(test)]
 mod reports;
 #[cfg(test)]
 mod rows;
+#[cfg(test)]
+mod texts;
 #[cfg(test)]
 mod trimming;
