@@ -7,6 +7,7 @@ pub mod QuietLemmas
 pub mod PlaceLemmas
 pub mod SweepLemmas
 pub mod WorkLemmas
+pub mod RevisingLemmas
 pub mod CloseLemmas
 pub mod LeastLemmas
 pub mod BoxLemmas

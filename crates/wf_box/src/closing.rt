@@ -11,10 +11,10 @@ ghost use Rattle.wf_network.specs.Marks.{KeepsBitsBut, bit_of};
 ghost use Rattle.wf_box.specs.Quiet.{EmptiesNoneSince, IsUntouchedSince, MarksTell, StoodClosed};
 ghost use Rattle.wf_set.specs.Sets.{box_of};
 ghost use Rattle.wf_lane.specs.Table.{HasSupported};
-ghost use Rattle.wf_network.specs.Problems.{IsNetwork, constraints_in, executions_in, rule_in};
+ghost use Rattle.wf_network.specs.Problems.{IsNetwork, constraints_in, executions_in, rule_in, rule_number};
 ghost use Rattle.wf_box.specs.Steps.{ClosesTo, NamesAll, NamesLost, Reaches, SweepsTo, box_in};
 ghost use Rattle.wf_box.specs.Closes.{AddsClosing, AreFew, IsEmptied, IsSupported, KeepsSolutions, Leaves, LosesNamed, Takes, emptied_by, sweeps_to_close};
-ghost use Rattle.wf_memo.specs.Revising.{AreSame, found_at, found_in, wide_set, widened};
+ghost use Rattle.wf_memo.specs.Revising.{AreSame, found_at, found_in, parts_in, wide_set, widened};
 ghost use Rattle.wf_box.specs.Working.{AreMarked, IsRevising, IsTakingAt, IsWorkingFor, IsWorkingOn, ProceedsFor, ProceedsOn, Revises, TakesAt};
 
 use crate::boxed::Box0;
@@ -24,7 +24,9 @@ use crate::workspace::Workspace;
 use std::alloc::{AllocError, Global};
 use wf_lane::first_empty;
 use wf_lines::{Line, Lines};
-use wf_memo::{candidates_at, narrowed, supported_narrow, supported_sets};
+use wf_memo::{
+    candidates_at, in_word, narrowed, supported_narrow, supported_sets, supported_word, unpacked,
+};
 use wf_network::{Marks, Network, PackedExecution, Problem};
 use wf_set::part::{self, Part};
 use wf_set::{Mask, difference, is_empty};
@@ -75,7 +77,7 @@ pub fn close(
     let executions = network.execution_count() as u32;
     boxed.workspace.marks.reserve(alloc, executions)?;
     // no call after this one is refused
-    boxed.workspace.memo.grow(alloc, network);
+    boxed.workspace.memo.grow(alloc);
     let closed = close_tracked(problem, boxed.closed, &mut boxed.workspace, lines);
     boxed.closed = match closed {
         Closed::Open { .. } => Some(boxed.workspace.tracked.trail.len() as u32),
@@ -119,7 +121,7 @@ fn prepare(
 ) -> Option<u32>
     requires kept { KeepsTrack tracked.now }
     requires long { length tracked.now.words.items ≡ problem.now.points }
-    requires marks_long { length problem.now.constraints ≤ 64 * length marks.old.words.items }
+    requires marks_long { length problem.now.constraints ≤ 32 * length marks.old.words.items }
     requires closed { IfSome closed (StoodClosed problem.now tracked.now) }
     ensures empty { result ≡ first_empty (sets_in tracked.now) }
     ensures quiet { MarksTell problem.now.constraints marks.new tracked.now }
@@ -141,7 +143,7 @@ fn mark_problem(
 ) -> bool
     requires kept { KeepsTrack tracked.now }
     requires long { length tracked.now.words.items ≡ problem.now.points }
-    requires marks_long { length problem.now.constraints ≤ 64 * length marks.old.words.items }
+    requires marks_long { length problem.now.constraints ≤ 32 * length marks.old.words.items }
     requires closed { IfSome closed (StoodClosed problem.now tracked.now) }
     ensures quiet { MarksTell problem.now.constraints marks.new tracked.now }
     ensures full { OnTrue result (first_empty (sets_in tracked.now) ≡ None) }
@@ -162,7 +164,7 @@ fn mark_changed(network: &Network, changes: usize, tracked: &Tracked, marks: &mu
     requires network { IsNetwork network.now }
     requires kept { KeepsTrack tracked.now }
     requires long { length tracked.now.words.items ≡ network.now.points }
-    requires marks_long { length (executions_in network.now) ≤ 64 * length marks.old.words.items }
+    requires marks_long { length (executions_in network.now) ≤ 32 * length marks.old.words.items }
     requires changes { changes ≤ length tracked.now.trail.items }
     ensures untouched { IsUntouchedSince changes network.now.users tracked.now marks.new }
     ensures full { OnTrue result (EmptiesNoneSince changes tracked.now) }
@@ -270,29 +272,106 @@ fn revise(
 {
     let execution = network.execution(number as usize);
     let found = candidates_at(execution, &workspace.tracked.words);
-    match narrowed(found) {
-        Some(parts) => revise_parts(number, parts, network, workspace, lines),
-        None => revise_sets(number, found, network, workspace, lines),
+    match in_word(found) {
+        Some(word) => revise_word(number, execution.simplex, word, network, workspace, lines),
+        None => revise_large(number, network, workspace, lines),
     }
 }
 
-/// The same, with these candidates, all of them below 64.
+/// The same, with the rule of this number and these candidates, all of them below 16.
+fn revise_word(
+    number: u32,
+    rule: u32,
+    word: u64,
+    network: &Network,
+    workspace: &mut Workspace,
+    lines: &mut Lines,
+) -> Option<u32>
+    requires revising { IsRevising network.now number lines.old workspace.old }
+    requires rule { rule ≡ rule_number network.now number }
+    requires found { widened (parts_in word)
+        ≡ found_in network.now number workspace.old.tracked.words.items }
+    ensures { Revises network.now number
+        lines.old workspace.old lines.new workspace.new result }
+{
+    let Some(supported) = supported_word(rule, word, network, &mut workspace.memo) else {
+        return revise_large(number, network, workspace, lines);
+    };
+    if supported == word {
+        // most executions lose nothing
+        return None;
+    }
+    take_word(number, word, supported, network, workspace, lines)
+}
+
+/// The same, where these of them are supported. It is no part of the loop over executions, which
+/// needs the processor's registers.
+#[inline(never)]
+fn take_word(
+    number: u32,
+    word: u64,
+    supported: u64,
+    network: &Network,
+    workspace: &mut Workspace,
+    lines: &mut Lines,
+) -> Option<u32>
+    requires revising { IsRevising network.now number lines.old workspace.old }
+    requires found { widened (parts_in word)
+        ≡ found_in network.now number workspace.old.tracked.words.items }
+    requires supported { HasSupported (widened (parts_in supported))
+        (rule_in network.now number).table (widened (parts_in word)) }
+    ensures { Revises network.now number
+        lines.old workspace.old lines.new workspace.new result }
+{
+    take_parts(
+        number,
+        unpacked(word),
+        unpacked(supported),
+        network,
+        workspace,
+        lines,
+    )
+}
+
+/// The same of any candidates.
+#[inline(never)]
+fn revise_large(
+    number: u32,
+    network: &Network,
+    workspace: &mut Workspace,
+    lines: &mut Lines,
+) -> Option<u32>
+    requires { IsRevising network.now number lines.old workspace.old }
+    ensures { Revises network.now number
+        lines.old workspace.old lines.new workspace.new result }
+{
+    let execution = network.execution(number as usize);
+    let rule = execution.simplex;
+    let found = candidates_at(execution, &workspace.tracked.words);
+    match narrowed(found) {
+        Some(parts) => revise_parts(number, rule, parts, network, workspace, lines),
+        None => revise_sets(number, rule, found, network, workspace, lines),
+    }
+}
+
+/// The same, with the rule of this number and these candidates, all of them below 64.
 fn revise_parts(
     number: u32,
+    rule: u32,
     found: [Part; 4],
     network: &Network,
     workspace: &mut Workspace,
     lines: &mut Lines,
 ) -> Option<u32>
     requires revising { IsRevising network.now number lines.old workspace.old }
+    requires rule { rule ≡ rule_number network.now number }
     requires long { length found ≡ 4 }
     requires found { widened found
         ≡ found_in network.now number workspace.old.tracked.words.items }
     ensures { Revises network.now number
         lines.old workspace.old lines.new workspace.new result }
 {
-    let Some(supported) = supported_narrow(number, found, network, &mut workspace.memo) else {
-        // what most executions lose is nothing
+    let Some(supported) = supported_narrow(rule, found, network, &mut workspace.memo) else {
         return None;
     };
     take_parts(number, found, supported, network, workspace, lines)
@@ -335,32 +414,27 @@ fn take_parts(
         }
     }
     let sets = &workspace.tracked.words;
-    unmark_parts(
-        number,
-        processes,
-        execution,
-        sets,
-        supported,
-        &mut workspace.marks,
-    );
+    unmark_parts(number, execution, sets, supported, &mut workspace.marks);
     None
 }
 
-/// The same, with these candidates, of which one is 64 or more.
+/// The same, with the rule of this number and these candidates, of which one is 64 or more.
 fn revise_sets(
     number: u32,
+    rule: u32,
     found: [Mask; 4],
     network: &Network,
     workspace: &mut Workspace,
     lines: &mut Lines,
 ) -> Option<u32>
     requires revising { IsRevising network.now number lines.old workspace.old }
+    requires rule { rule ≡ rule_number network.now number }
     requires long { length found ≡ 4 }
     requires found { found ≡ found_in network.now number workspace.old.tracked.words.items }
     ensures { Revises network.now number
         lines.old workspace.old lines.new workspace.new result }
 {
-    let supported = supported_sets(number, found, network, &mut workspace.memo);
+    let supported = supported_sets(rule, found, network, &mut workspace.memo);
     take_sets(number, found, supported, network, workspace, lines)
 }
 
@@ -419,7 +493,7 @@ fn unmark(
     supported: [Mask; 4],
     marks: &mut Marks,
 )
-    requires number { number < 64 * length marks.old.words.items }
+    requires number { number < 32 * length marks.old.words.items }
     requires places { places ≤ 4 }
     requires long { length execution.points ≡ 4 }
     requires within { All (λ v. v < length sets.now) execution.points }
@@ -434,26 +508,26 @@ fn unmark(
     }
 }
 
-/// The same of candidates below 64.
+/// The same of candidates below 64. Past the last place stands the first one's point again, and
+/// what was supported there.
 fn unmark_parts(
     number: u32,
-    places: u8,
     execution: PackedExecution,
     sets: &[Mask],
     supported: [Part; 4],
     marks: &mut Marks,
 )
-    requires number { number < 64 * length marks.old.words.items }
-    requires places { places ≤ 4 }
+    requires number { number < 32 * length marks.old.words.items }
     requires long { length execution.points ≡ 4 }
+    requires supported_long { length supported ≡ 4 }
     requires within { All (λ v. v < length sets.now) execution.points }
     ensures others { KeepsBitsBut marks.old.words.items marks.new.words.items number }
     ensures same { bit_of marks.new.words.items number ≡ 0
-        → AreSame places (found_at execution sets.now) (widened supported)
+        → (found_at execution sets.now ≡ widened supported)
         ⊎ (bit_of marks.old.words.items number ≡ 0) }
     ensures long { length marks.new.words.items ≡ length marks.old.words.items }
 {
-    if are_parts_left(places, execution, sets, supported) {
+    if are_parts_left(execution, sets, supported) {
         marks.take(number);
     }
 }
@@ -474,31 +548,16 @@ fn are_left(count: u8, execution: PackedExecution, sets: &[Mask], supported: [Ma
     true
 }
 
-/// Whether the first points of an execution, so many of them, have just the values of these parts.
-fn are_parts_left(
-    count: u8,
-    execution: PackedExecution,
-    sets: &[Mask],
-    supported: [Part; 4],
-) -> bool
-    requires count { count ≤ 4 }
+/// Whether the points of an execution have just the values of these parts.
+fn are_parts_left(execution: PackedExecution, sets: &[Mask], supported: [Part; 4]) -> bool
     requires long { length execution.points ≡ 4 }
+    requires supported_long { length supported ≡ 4 }
     requires within { All (λ v. v < length sets.now) execution.points }
-    ensures { OnTrue result
-        (AreSame count (found_at execution sets.now) (widened supported)) }
+    ensures { OnTrue result (found_at execution sets.now ≡ widened supported) }
 {
-    let found = candidates_at(execution, sets);
-    is_part(found[0], supported[0])
-        & is_part_below(1, count, found[1], supported[1])
-        & is_part_below(2, count, found[2], supported[2])
-        & is_part_below(3, count, found[3], supported[3])
-}
-
-/// Whether the set has just the values of the part, or the place is past the places.
-fn is_part_below(place: u8, places: u8, set: Mask, part: Part) -> bool
-    ensures { OnTrue result (place < places → set ≡ wide_set part) }
-{
-    (place >= places) | is_part(set, part)
+    let [a, b, c, d] = candidates_at(execution, sets);
+    let [first, second, third, fourth] = supported;
+    is_part(a, first) & is_part(b, second) & is_part(c, third) & is_part(d, fourth)
 }
 
 /// Whether the set has just the values of the part.

@@ -81,8 +81,9 @@ pub(crate) fn take_each_part(
     if part::is_empty(gone) {
         return false;
     }
-    name_part(gone, at, lines);
+    // before the lines, so that the words which stay as they are need not be written
     sets[point] = left;
+    name_part(gone, at, lines);
     false
 }
 

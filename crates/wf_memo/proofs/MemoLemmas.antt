@@ -1,12 +1,13 @@
 -- What is kept of the kernel's answers.
 use Rattle.std.proofs.Common.{◌≡◌, ℕ, zero, suc, ◌<◌, ◌≤◌, List, [], ◌∷◌, ◌++◌, map, length, zip, get_or, slice_index, filter, nat_lt, ◌&&◌, true, All, Option, Some, None, refl, sym, ap, ◌∙◌, subst, inl, inr, arith}
-use Rattle.std.proofs.lemmas.List.{get_or-map, length-map}
+use Rattle.std.specs.List.{slice_index_or}
+use Rattle.std.proofs.lemmas.List.{get_or-map, get_or_default, length-map}
 use Rattle.std.proofs.lemmas.List.Elements.{All-append, All-map}
 use Rattle.std.proofs.lemmas.Bool.{and_from, and_parts, cases_lt, false≢true, lt-ltb}
 use Rattle.wf_model.specs.Simplex.{processes_of}
 use Rattle.wf_model.specs.Problem.{Constraint, no_constraint}
 use Rattle.wf_lane.specs.Table.{AreFirstParts, HasSupported, Table, sets_of}
-use Rattle.wf_network.specs.Problems.{IsNetwork, IsWide, constraint_seen, constraints_in, executions_in, no_rule, rule_in, rule_of}
+use Rattle.wf_network.specs.Problems.{IsNetwork, IsWide, constraint_seen, constraints_in, executions_in, no_rule, rule_at, rule_in, rule_of}
 use Rattle.wf_network.specs.Users.{no_execution}
 use Rattle.wf_set.specs.Parts.{part_limit, part_values}
 use Rattle.wf_set.specs.Sets.{values_in}
@@ -88,26 +89,34 @@ table_at n e network low few =
     ap table_seen (get_or-map (constraint_seen n.rules.items) (executions_in n) e no_execution no_constraint low)
     ∙ table_is n.rules.items x within.long few (network.wide x.simplex no_rule within.rule)
 
--- what is kept for an execution serves for each one with its table
-pub known_serves : (n : Network) (e : ℕ) (known : Revised) → IsNetwork n → e < length (executions_in n)
-    → known.execution < length (executions_in n) → (rule_in n known.execution).table ≡ (rule_in n e).table
-    → IsKnown (constraints_in n) (Some known) → HasSupported known.supported (rule_in n e).table known.candidates
-known_serves n e known network low inside same right =
-    let table : table_seen (get_or (constraints_in n) known.execution no_constraint) ≡ (rule_in n e).table =
-    table_at n known.execution network inside (few_at n known.execution network inside) ∙ same in
-    subst (λ t. HasSupported known.supported t known.candidates) table (right (omega (arith, inside, length-map (executions_in n) (constraint_seen n.rules.items))))
+-- what is right for a rule, as it is read
+pub right_at : (n : Network) (number : ℕ) (rule : Rule) (candidates supported : List (List ℕ)) → number < length n.rules.items → rule ≡ slice_index_or n.rules.items number rule → HasSupported supported rule.table candidates → HasSupported supported (rule_at n number).table candidates
+right_at n number rule candidates supported low here right = subst (λ (r : Rule). HasSupported supported r.table candidates) (here ∙ sym (get_or_default n.rules.items number no_rule rule low)) right
 
-like_table : (n : Network) (e : ℕ) → IsNetwork n → e < length (executions_in n) → (get_or n.rules.items (rule_in n e).like no_rule).table ≡ (rule_in n e).table
-like_table n e network low = (network.alike (get_or (executions_in n) e no_execution).simplex no_rule (network.within e no_execution low).rule).same
+-- the execution that stands for a rule, as it is read
+pub lead_is : (n : Network) (rule lead : ℕ) → IsNetwork n → rule < length n.rules.items → lead ≡ slice_index_or n.leads.items rule lead → lead ≡ slice_index n.leads.items rule
+lead_is n rule lead network low here = here ∙ sym (get_or_default n.leads.items rule 0 lead (omega (arith, low, network.as_many_leads)))
 
--- executions whose rules name one rule have one table
-pub same_table : (n : Network) (e f : ℕ) → IsNetwork n → e < length (executions_in n) → f < length (executions_in n) → (rule_in n e).like ≡ (rule_in n f).like → (rule_in n e).table ≡ (rule_in n f).table
-same_table n e f network low inside same = sym (like_table n e network low) ∙ ap (λ r. (get_or n.rules.items r no_rule).table) same ∙ like_table n f network inside
+-- it has the rule's table
+lead_table : (n : Network) (rule : ℕ) → IsNetwork n → rule < length n.rules.items → slice_index n.leads.items rule < length (executions_in n) → table_seen (get_or (constraints_in n) (slice_index n.leads.items rule) no_constraint) ≡ (rule_at n rule).table
+lead_table n rule network low inside =
+    let lead = slice_index n.leads.items rule in
+    table_at n lead network inside (few_at n lead network inside) ∙ network.leads rule (omega (arith, low, network.as_many_leads)) inside
 
--- what the rule of an execution supports may be kept
-pub known_now : (n : Network) (e : ℕ) (candidates supported : List (List ℕ)) → IsNetwork n → e < length (executions_in n) → length (rule_in n e).simplex ≤ 4
-    → HasSupported supported (rule_in n e).table candidates → IsKnown (constraints_in n) (Some (record { execution = e; candidates = candidates; supported = supported }))
-known_now n e candidates supported network low few right = λ inside. subst (λ t. HasSupported supported t candidates) (sym (table_at n e network low few)) right
+-- what is kept for that execution serves for the rule
+pub known_serves : (n : Network) (rule : ℕ) (known : Revised) → IsNetwork n → rule < length n.rules.items → known.execution ≡ slice_index n.leads.items rule
+    → IsKnown (constraints_in n) (Some known) → HasSupported known.supported (rule_at n rule).table known.candidates
+known_serves n rule known network low is right =
+    let inside : slice_index n.leads.items rule < length (executions_in n) = omega (arith, is, right.there, length-map (executions_in n) (constraint_seen n.rules.items)) in
+    subst (λ t. HasSupported known.supported t known.candidates) (ap (λ e. table_seen (get_or (constraints_in n) e no_constraint)) is ∙ lead_table n rule network low inside) right.supported
+
+-- what the rule supports may be kept for it
+pub known_now : (n : Network) (rule lead : ℕ) (candidates supported : List (List ℕ)) → IsNetwork n → rule < length n.rules.items → lead ≡ slice_index n.leads.items rule → lead < length (executions_in n)
+    → HasSupported supported (rule_at n rule).table candidates → IsKnown (constraints_in n) (Some (record { execution = lead; candidates = candidates; supported = supported }))
+known_now n rule lead candidates supported network low is inside right = record {
+  there = omega (arith, inside, length-map (executions_in n) (constraint_seen n.rules.items));
+  supported = subst (λ t. HasSupported supported t candidates) (sym (ap (λ e. table_seen (get_or (constraints_in n) e no_constraint)) is ∙ lead_table n rule network low (omega (arith, is, inside)))) right;
+}
 
 -- ---- parts
 

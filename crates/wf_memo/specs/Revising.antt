@@ -49,10 +49,15 @@ AreSame count sets others = (i : ℕ) → i < count → get_or sets i [] ≡ get
 abbrev pub table_seen : Constraint → Table
 table_seen k = record { width = length k.scope; rows = k.tuples }
 
--- what is kept of an execution is right, if there is such an execution
+-- the answer is right for its execution, which is there
+pub record IsRight (ks : List Constraint) (known : Revised) : Type 0 where
+  pub there : known.execution < length ks
+  pub supported : HasSupported known.supported (table_seen (get_or ks known.execution no_constraint)) known.candidates
+
+-- what is kept is right, if something is
 abbrev pub IsKnown : List Constraint → Option Revised → Type 0
 IsKnown ks None = Unit {0}
-IsKnown ks (Some known) = known.execution < length ks → HasSupported known.supported (table_seen (get_or ks known.execution no_constraint)) known.candidates
+IsKnown ks (Some known) = IsRight ks known
 
 -- each answer that is kept is right
 abbrev pub AreKnown : List Constraint → List (Option Revised) → Type 0

@@ -2,11 +2,9 @@
 
 ghost use Rattle.std.specs.Prelude.{◌≡◌, [], All, List, Some};
 ghost use Rattle.wf_model.specs.Problem.{Constraint};
-ghost use Rattle.wf_network.specs.Problems.{IsNetwork};
 ghost use Rattle.wf_memo.specs.Revising.{AreKnown, IsKnown, IsKnownParts, IsKnownWord, answers_in};
 
 use std::alloc::Global;
-use wf_network::Network;
 use wf_set::Mask;
 use wf_set::part::Part;
 
@@ -25,8 +23,8 @@ const GROWTH: usize = 4;
 /// What the rule of an execution supports at each place for some candidates.
 #[derive(Clone, Copy, Debug)]
 pub struct Revised {
-    /// An execution with this rule.
-    pub execution: usize,
+    /// The execution that stands for the rules with this table.
+    pub execution: u32,
     /// The candidates at each place.
     pub candidates: [Mask; 4],
     /// Those of them that the rule supports.
@@ -34,11 +32,12 @@ pub struct Revised {
 }
 
 /// The same for candidates below 64, in a quarter of the memory. Past the places of the rule what
-/// is supported is said to be the candidates, so that both are the same where nothing is lost.
+/// is supported is that of the first place, whose point stands there again: so it is the same as
+/// the candidates where nothing is lost.
 #[derive(Clone, Copy, Debug)]
 pub struct RevisedParts {
-    /// An execution with this rule.
-    pub execution: usize,
+    /// The execution that stands for the rules with this table.
+    pub execution: u32,
     /// The candidates at each place.
     pub candidates: [Part; 4],
     /// Those of them that the rule supports.
@@ -49,8 +48,8 @@ pub struct RevisedParts {
 /// first one lowest. Most problems have no others, and more of these lie near each other.
 #[derive(Clone, Copy, Debug)]
 pub struct RevisedWord {
-    /// An execution with this rule.
-    pub execution: usize,
+    /// The execution that stands for the rules with this table.
+    pub execution: u32,
     /// The candidates at each place.
     pub candidates: u64,
     /// Those of them that the rule supports.
@@ -93,19 +92,17 @@ impl Memo {
     /// Makes more places where too many answers were not there. Those for candidates below 64 are
     /// kept, and the others are forgotten. Where memory for that is refused it stays as it was: an
     /// answer that is not there costs time alone.
-    pub fn grow(&mut self, alloc: Global, network: &Network)
-        requires { IsNetwork network.now }
+    pub fn grow(&mut self, alloc: Global)
         ensures { (ks : List Constraint) → AreKnown ks (answers_in self.old)
             → AreKnown ks (answers_in self.new) }
     {
-        self.grow_small(alloc, network);
-        self.grow_narrow(alloc, network);
+        self.grow_small(alloc);
+        self.grow_narrow(alloc);
         self.grow_wide(alloc);
     }
 
     /// The same for candidates below 16.
-    fn grow_small(&mut self, alloc: Global, network: &Network)
-        requires { IsNetwork network.now }
+    fn grow_small(&mut self, alloc: Global)
         ensures { (ks : List Constraint) → AreKnown ks (answers_in self.old)
             → AreKnown ks (answers_in self.new) }
     {
@@ -114,15 +111,14 @@ impl Memo {
             && let Ok(small) = vec![in alloc; None; places]
         {
             let mut more = small;
-            keep_words(&mut more, &self.small, network);
+            keep_words(&mut more, &self.small);
             self.small = more;
             self.small_misses = 0;
         }
     }
 
     /// The same for others below 64.
-    fn grow_narrow(&mut self, alloc: Global, network: &Network)
-        requires { IsNetwork network.now }
+    fn grow_narrow(&mut self, alloc: Global)
         ensures { (ks : List Constraint) → AreKnown ks (answers_in self.old)
             → AreKnown ks (answers_in self.new) }
     {
@@ -131,7 +127,7 @@ impl Memo {
             && let Ok(narrow) = vec![in alloc; None; places]
         {
             let mut more = narrow;
-            keep_each(&mut more, &self.narrow, network);
+            keep_each(&mut more, &self.narrow);
             self.narrow = more;
             self.narrow_misses = 0;
         }
@@ -190,21 +186,13 @@ impl Memo {
 
 /// Keeps these answers for candidates below 16 at their places, each of which forgets the one that
 /// was there.
-fn keep_words(
-    places: &mut Vec<Option<RevisedWord>>,
-    answers: &[Option<RevisedWord>],
-    network: &Network,
-)
-    requires { IsNetwork network.now }
+fn keep_words(places: &mut Vec<Option<RevisedWord>>, answers: &[Option<RevisedWord>])
     ensures { (ks : List Constraint) → All (IsKnownWord ks) answers.now
         → All (IsKnownWord ks) places.old.items → All (IsKnownWord ks) places.new.items }
 {
     for answer in answers {
-        if let Some(kept) = answer
-            && kept.execution < network.execution_count()
-        {
-            let like = network.like_at(kept.execution);
-            let place = slot_of_word(like, kept.candidates, places.len());
+        if let Some(kept) = answer {
+            let place = slot_of_word(kept.execution, kept.candidates, places.len());
             if place < places.len() {
                 places[place] = Some(*kept);
             }
@@ -213,21 +201,13 @@ fn keep_words(
 }
 
 /// The same for others below 64.
-fn keep_each(
-    places: &mut Vec<Option<RevisedParts>>,
-    answers: &[Option<RevisedParts>],
-    network: &Network,
-)
-    requires { IsNetwork network.now }
+fn keep_each(places: &mut Vec<Option<RevisedParts>>, answers: &[Option<RevisedParts>])
     ensures { (ks : List Constraint) → All (IsKnownParts ks) answers.now
         → All (IsKnownParts ks) places.old.items → All (IsKnownParts ks) places.new.items }
 {
     for answer in answers {
-        if let Some(known) = answer
-            && known.execution < network.execution_count()
-        {
-            let like = network.like_at(known.execution);
-            let place = slot_of(like, known.candidates, places.len());
+        if let Some(known) = answer {
+            let place = slot_of(known.execution, known.candidates, places.len());
             if place < places.len() {
                 places[place] = Some(*known);
             }
@@ -252,35 +232,34 @@ const LOW_BITS: u64 = 0x000f_000f_000f_000f;
 /// From so many places on, candidates below 4 have places of their own.
 const APART: usize = 4096;
 
-/// Where among so many places, a power of two, the answer for a rule and candidates below 16 is.
-/// With none at all it is 0.
+/// Where among so many places, a power of two, the answer for candidates below 16 is and for the
+/// rules for which this execution stands. With none at all it is 0.
 ///
 /// Any place would be right. Where there are enough, candidates below 4 are apart from each other:
 /// most tasks have no others, and those of three places of a rule then lie together.
-pub(crate) fn slot_of_word(rule: u32, word: u64, places: usize) -> usize {
+pub(crate) fn slot_of_word(execution: u32, word: u64, places: usize) -> usize {
     if places < APART {
-        return slot_of(rule, [word, 0, 0, 0], places);
+        return slot_of(execution, [word, 0, 0, 0], places);
     }
     // side by side: part i goes from bit 16 * i to bit 36 + 4 * i
     let low = (word & LOW_BITS).wrapping_mul(0x0000_0010_0100_1001) >> 36 & 0xffff;
-    let high = mixed(word & !LOW_BITS);
-    // the first 16 rules lie apart too
-    let rules = u64::from(rule) << 12 ^ mixed(u64::from(rule) >> 4);
-    (low ^ high ^ rules) as usize & places.saturating_sub(1)
+    let rest = word & !LOW_BITS;
+    let high = if rest == 0 { 0 } else { mixed(rest) };
+    (low ^ high ^ mixed(u64::from(execution))) as usize & places.saturating_sub(1)
 }
 
-/// Where among so many places, a power of two, the answer for a rule and these candidates is, by
-/// those of them that are below 64. With none at all it is 0.
+/// Where among so many places, a power of two, the answer for these candidates is and for the rules
+/// for which this execution stands, by those of them that are below 64. With none at all it is 0.
 ///
 /// Any place would be right.
-pub(crate) fn slot_of(rule: u32, candidates: [Part; 4], places: usize) -> usize {
+pub(crate) fn slot_of(execution: u32, candidates: [Part; 4], places: usize) -> usize {
     let [a, b, c, d] = candidates;
     // apart where each candidate is below 10
     let joined = a
         ^ b.rotate_left(21)
         ^ c.rotate_left(42)
         ^ d.rotate_left(11)
-        ^ u64::from(rule).rotate_left(53);
+        ^ u64::from(execution).rotate_left(53);
     mixed(joined) as usize & places.saturating_sub(1)
 }
 

@@ -3,11 +3,11 @@
 ghost use Rattle.std.specs.Prelude.{◌≡◌, ◌≢◌, ◌<◌, ℕ, All, length, slice_index, IfSome, IfNone};
 ghost use Rattle.std.specs.Bool.{OnFalse, OnTrue};
 ghost use Rattle.wf_lane.specs.Table.{AreFirstParts, HasSupported};
-ghost use Rattle.wf_network.specs.Problems.{IsNetwork, constraints_in, executions_in, rule_in};
+ghost use Rattle.wf_network.specs.Problems.{IsNetwork, IsWide, KeepsProcesses, constraints_in, rule_at};
 ghost use Rattle.wf_memo.specs.Revising.{AreKnown, AreWide, answers_in, found_at, left_of, parts_in, wide_set, widened};
 
 use crate::memo::{Memo, Revised, RevisedParts, RevisedWord, slot_of, slot_of_word};
-use wf_network::{Network, PackedExecution};
+use wf_network::{Network, PackedExecution, Rule};
 use wf_set::part::Part;
 use wf_set::{Mask, first_part};
 
@@ -31,96 +31,63 @@ pub fn candidates_at(execution: PackedExecution, sets: &[Mask]) -> [Mask; 4]
     ]
 }
 
-/// The values that the rule of an execution supports at each place for some candidates below 64;
-/// none where those are all that the candidates have. Answers are kept, since many executions of a
-/// simplex have the same candidates, and have them again.
-pub fn supported_narrow(
-    number: u32,
-    candidates: [Part; 4],
-    network: &Network,
-    memo: &mut Memo,
-) -> Option<[Part; 4]>
-    requires network { IsNetwork network.now }
-    requires number { number < length (executions_in network.now) }
-    requires long { length candidates ≡ 4 }
-    requires known { AreKnown (constraints_in network.now) (answers_in memo.old) }
-    ensures supported { HasSupported (widened (left_of candidates result))
-        (rule_in network.now number).table (widened candidates) }
-    ensures long { IfSome result (λ parts. length parts ≡ 4) }
-    ensures known { AreKnown (constraints_in network.now) (answers_in memo.new) }
+/// These sets in one word, 16 bits each, the first one lowest, where each value is below 16.
+#[inline]
+pub fn in_word(sets: [Mask; 4]) -> Option<u64>
+    ensures { IfSome result (λ word. widened (parts_in word) ≡ sets) }
 {
-    match packed(candidates) {
-        Some(word) => supported_word(number, word, network, memo),
-        None => supported_parts(number, candidates, network, memo),
-    }
+    packed(narrowed(sets)?)
 }
 
-/// The same for candidates below 16, in one word.
-fn supported_word(number: u32, word: u64, network: &Network, memo: &mut Memo) -> Option<[Part; 4]>
+/// The values that the rule of this number supports at each place for candidates below 16, and
+/// past its places those of the first place again; none where one of them is 16 or more, which is
+/// then no candidate, so that no table does so. Answers are kept, since many executions of a
+/// simplex have the same candidates, and have them again.
+#[inline]
+pub fn supported_word(rule: u32, word: u64, network: &Network, memo: &mut Memo) -> Option<u64>
     requires network { IsNetwork network.now }
-    requires number { number < length (executions_in network.now) }
+    requires rule { rule < length network.now.rules.items }
     requires known { AreKnown (constraints_in network.now) (answers_in memo.old) }
-    ensures supported { HasSupported (widened (left_of (parts_in word) result))
-        (rule_in network.now number).table (widened (parts_in word)) }
-    ensures long { IfSome result (λ parts. length parts ≡ 4) }
+    ensures supported { IfSome result (λ other. HasSupported (widened (parts_in other))
+        (rule_at network.now rule).table (widened (parts_in word))) }
     ensures known { AreKnown (constraints_in network.now) (answers_in memo.new) }
 {
-    let like = network.like_at(number as usize);
-    let slot = slot_of_word(like, word, memo.small.len());
+    let lead = network.leads[rule as usize];
+    let slot = slot_of_word(lead, word, memo.small.len());
     if slot < memo.small.len()
         && let Some(answer) = &memo.small[slot]
         && answer.candidates == word
-        && answer.execution < network.execution_count()
-        && network.like_at(answer.execution) == like
+        && answer.execution == lead
     {
-        return changed_word(word, answer.supported);
+        return Some(answer.supported);
     }
-    revise_word(number, slot, word, network, memo)
+    revise_word(rule, slot, word, network, memo)
 }
 
 /// The same, where no answer is kept.
-fn revise_word(
-    number: u32,
-    slot: usize,
-    word: u64,
-    network: &Network,
-    memo: &mut Memo,
-) -> Option<[Part; 4]>
+#[inline(never)]
+fn revise_word(rule: u32, slot: usize, word: u64, network: &Network, memo: &mut Memo) -> Option<u64>
     requires network { IsNetwork network.now }
-    requires number { number < length (executions_in network.now) }
+    requires rule { rule < length network.now.rules.items }
     requires known { AreKnown (constraints_in network.now) (answers_in memo.old) }
-    ensures supported { HasSupported (widened (left_of (parts_in word) result))
-        (rule_in network.now number).table (widened (parts_in word)) }
-    ensures long { IfSome result (λ parts. length parts ≡ 4) }
+    ensures supported { IfSome result (λ other. HasSupported (widened (parts_in other))
+        (rule_at network.now rule).table (widened (parts_in word))) }
     ensures known { AreKnown (constraints_in network.now) (answers_in memo.new) }
 {
-    let rule = &network.rules[network.execution(number as usize).simplex as usize];
-    let candidates = unpacked(word);
-    let masks = rule.table.revise(widened(candidates)).masks;
-    let parts = up_to(rule.places(), first_parts(masks), candidates);
-    let Some(supported) = packed(parts) else {
-        return Some(parts);
-    };
-    memo.keep_small(
-        slot,
-        RevisedWord {
-            execution: number as usize,
-            candidates: word,
-            supported,
-        },
-    );
-    changed_word(word, supported)
-}
-
-/// The parts in the other word, where it is not the first one.
-fn changed_word(word: u64, other: u64) -> Option<[Part; 4]>
-    ensures parts { left_of (parts_in word) result ≡ parts_in other }
-    ensures long { IfSome result (λ parts. length parts ≡ 4) }
-{
-    if word == other {
-        return None;
+    let parts = revised(&network.rules[rule as usize], unpacked(word));
+    let supported = packed(parts)?;
+    let execution = network.leads[rule as usize];
+    if (execution as usize) < network.execution_count() {
+        memo.keep_small(
+            slot,
+            RevisedWord {
+                execution,
+                candidates: word,
+                supported,
+            },
+        );
     }
-    Some(unpacked(other))
+    Some(supported)
 }
 
 /// The parts in one word, 16 bits each, where each value is below 16.
@@ -136,7 +103,7 @@ fn packed(parts: [Part; 4]) -> Option<u64>
 }
 
 /// The parts that are packed in a word.
-fn unpacked(word: u64) -> [Part; 4]
+pub fn unpacked(word: u64) -> [Part; 4]
     ensures { result ≡ parts_in word }
 {
     [
@@ -147,64 +114,78 @@ fn unpacked(word: u64) -> [Part; 4]
     ]
 }
 
-/// The same for other candidates below 64.
-fn supported_parts(
-    number: u32,
+/// The values that the rule of this number supports at each place for some candidates below 64;
+/// none where those are all that the candidates have. These answers are kept too.
+pub fn supported_narrow(
+    rule: u32,
     candidates: [Part; 4],
     network: &Network,
     memo: &mut Memo,
 ) -> Option<[Part; 4]>
     requires network { IsNetwork network.now }
-    requires number { number < length (executions_in network.now) }
+    requires rule { rule < length network.now.rules.items }
     requires long { length candidates ≡ 4 }
     requires known { AreKnown (constraints_in network.now) (answers_in memo.old) }
     ensures supported { HasSupported (widened (left_of candidates result))
-        (rule_in network.now number).table (widened candidates) }
+        (rule_at network.now rule).table (widened candidates) }
     ensures long { IfSome result (λ parts. length parts ≡ 4) }
     ensures known { AreKnown (constraints_in network.now) (answers_in memo.new) }
 {
-    let like = network.like_at(number as usize);
-    let slot = slot_of(like, candidates, memo.narrow.len());
+    let lead = network.leads[rule as usize];
+    let slot = slot_of(lead, candidates, memo.narrow.len());
     if slot < memo.narrow.len()
         && let Some(known) = &memo.narrow[slot]
         && known.candidates == candidates
-        && known.execution < network.execution_count()
-        && network.like_at(known.execution) == like
+        && known.execution == lead
     {
         return changed(candidates, known.supported);
     }
-    revise_parts(number, slot, candidates, network, memo)
+    revise_parts(rule, slot, candidates, network, memo)
 }
 
 /// The same, where no answer is kept.
 fn revise_parts(
-    number: u32,
+    rule: u32,
     slot: usize,
     candidates: [Part; 4],
     network: &Network,
     memo: &mut Memo,
 ) -> Option<[Part; 4]>
     requires network { IsNetwork network.now }
-    requires number { number < length (executions_in network.now) }
+    requires rule { rule < length network.now.rules.items }
     requires long { length candidates ≡ 4 }
     requires known { AreKnown (constraints_in network.now) (answers_in memo.old) }
     ensures supported { HasSupported (widened (left_of candidates result))
-        (rule_in network.now number).table (widened candidates) }
+        (rule_at network.now rule).table (widened candidates) }
     ensures long { IfSome result (λ parts. length parts ≡ 4) }
     ensures known { AreKnown (constraints_in network.now) (answers_in memo.new) }
 {
-    let rule = &network.rules[network.execution(number as usize).simplex as usize];
-    let masks = rule.table.revise(widened(candidates)).masks;
-    let supported = up_to(rule.places(), first_parts(masks), candidates);
-    memo.keep_narrow(
-        slot,
-        RevisedParts {
-            execution: number as usize,
-            candidates,
-            supported,
-        },
-    );
+    let supported = revised(&network.rules[rule as usize], candidates);
+    let execution = network.leads[rule as usize];
+    if (execution as usize) < network.execution_count() {
+        memo.keep_narrow(
+            slot,
+            RevisedParts {
+                execution,
+                candidates,
+                supported,
+            },
+        );
+    }
     changed(candidates, supported)
+}
+
+/// The values that a rule supports at each place for some candidates below 64; past its places
+/// those of the first place, whose point stands there again.
+fn revised(rule: &Rule, candidates: [Part; 4]) -> [Part; 4]
+    requires kept { KeepsProcesses rule.now }
+    requires wide { IsWide rule.now }
+    requires long { length candidates ≡ 4 }
+    ensures supported { HasSupported (widened result) rule.now.table (widened candidates) }
+    ensures long { length result ≡ 4 }
+{
+    let masks = rule.table.revise(widened(candidates)).masks;
+    up_to(rule.places(), first_parts(masks))
 }
 
 /// The other parts, where they are not the first ones.
@@ -228,16 +209,18 @@ fn first_parts(sets: [Mask; 4]) -> [Part; 4]
     [first_part(a), first_part(b), first_part(c), first_part(d)]
 }
 
-/// The first parts up to a place, and then the others.
-fn up_to(place: u8, parts: [Part; 4], others: [Part; 4]) -> [Part; 4]
+/// The parts before a place, and from there on the first one.
+fn up_to(place: u8, parts: [Part; 4]) -> [Part; 4]
+    requires long { length parts ≡ 4 }
     ensures firsts { (i : ℕ) → i < place → slice_index result i ≡ slice_index parts i }
     ensures long { length result ≡ 4 }
 {
+    let first = parts[0];
     [
-        part_if(0 < place, parts[0], others[0]),
-        part_if(1 < place, parts[1], others[1]),
-        part_if(2 < place, parts[2], others[2]),
-        part_if(3 < place, parts[3], others[3]),
+        first,
+        part_if(1 < place, parts[1], first),
+        part_if(2 < place, parts[2], first),
+        part_if(3 < place, parts[3], first),
     ]
 }
 
@@ -280,39 +263,40 @@ fn is_low(set: Mask) -> bool
     (b == 0) & (c == 0) & (d == 0)
 }
 
-/// The values that the rule of an execution supports at each place for some
+/// The values that the rule of this number supports at each place for some
 /// candidates, of which one is 64 or more.
 pub fn supported_sets(
-    number: u32,
+    rule: u32,
     candidates: [Mask; 4],
     network: &Network,
     memo: &mut Memo,
 ) -> [Mask; 4]
     requires network { IsNetwork network.now }
-    requires number { number < length (executions_in network.now) }
+    requires rule { rule < length network.now.rules.items }
     requires known { AreKnown (constraints_in network.now) (answers_in memo.old) }
-    ensures supported { HasSupported result (rule_in network.now number).table candidates }
+    ensures supported { HasSupported result (rule_at network.now rule).table candidates }
     ensures known { AreKnown (constraints_in network.now) (answers_in memo.new) }
 {
-    let rule = network.execution(number as usize).simplex;
+    let execution = network.leads[rule as usize];
     let [[a, ..], [b, ..], [c, ..], [d, ..]] = candidates;
-    let slot = slot_of(rule, [a, b, c, d], memo.wide.len());
+    let slot = slot_of(execution, [a, b, c, d], memo.wide.len());
     if slot < memo.wide.len()
         && let Some(answer) = memo.wide[slot]
         && answer.candidates == candidates
-        && answer.execution < network.execution_count()
-        && network.execution(answer.execution).simplex == rule
+        && answer.execution == execution
     {
         return answer.supported;
     }
     let supported = network.rules[rule as usize].table.revise(candidates).masks;
-    memo.keep_wide(
-        slot,
-        Revised {
-            execution: number as usize,
-            candidates,
-            supported,
-        },
-    );
+    if (execution as usize) < network.execution_count() {
+        memo.keep_wide(
+            slot,
+            Revised {
+                execution,
+                candidates,
+                supported,
+            },
+        );
+    }
     supported
 }

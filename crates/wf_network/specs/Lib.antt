@@ -5,3 +5,4 @@ pub mod Marks
 pub mod Problems
 -- What only this crate's own code and proofs use.
 pub mod Stands
+pub mod Leads

@@ -49,6 +49,14 @@ HasTable simplex tuples rules number = (get_or rules number no_rule).table ≡ r
 abbrev pub rule_of : List Rule → PackedExecution → Rule
 rule_of rules e = get_or rules e.simplex no_rule
 
+-- the execution of this number, if there is one, has a rule with the same table
+abbrev pub IsLead : List Rule → List PackedExecution → Rule → ℕ → Type 0
+IsLead rules es rule lead = lead < length es → (rule_of rules (get_or es lead no_execution)).table ≡ rule.table
+
+-- each of these numbers is such a one for the rule at its position
+abbrev pub AreLeads : List Rule → List PackedExecution → List ℕ → Type 0
+AreLeads rules es leads = (r : ℕ) → r < length leads → IsLead rules es (get_or rules r no_rule) (slice_index leads r)
+
 -- the processes of the execution's simplex, each with its point, and the tuples of that simplex
 abbrev pub constraint_seen : List Rule → PackedExecution → Constraint
 constraint_seen rules e = record { scope = zip (processes_of (rule_of rules e).simplex) e.points; tuples = (rule_of rules e).table.rows }
@@ -75,9 +83,17 @@ pub record IsWithin (rules points : ℕ) (e : PackedExecution) : Type 0 where
 abbrev pub IsRuleOf : Simplex → List task.Tuple → Rule → Type 0
 IsRuleOf simplex tuples rule = rule_seen rule ≡ record { input = simplex; tuples = tuples }
 
+-- the rule of this number
+abbrev pub rule_at : Network → ℕ → Rule
+rule_at n number = get_or n.rules.items number no_rule
+
+-- the number of an execution's rule
+abbrev pub rule_number : Network → ℕ → ℕ
+rule_number n e = (get_or (executions_in n) e no_execution).simplex
+
 -- the rule of an execution
 abbrev pub rule_in : Network → ℕ → Rule
-rule_in n e = rule_of n.rules.items (get_or (executions_in n) e no_execution)
+rule_in n e = rule_at n (rule_number n e)
 
 -- the constraint of an execution
 abbrev pub constraint_in : Network → ℕ → Constraint
@@ -94,6 +110,8 @@ pub record IsNetwork (n : Network) : Type 0 where
   pub wide : All IsWide n.rules.items
   pub processes : All KeepsProcesses n.rules.items
   pub alike : AreAlike n.rules.items
+  pub as_many_leads : length n.leads.items ≡ length n.rules.items
+  pub leads : AreLeads n.rules.items (executions_in n) n.leads.items
   pub within : All (IsWithin (length n.rules.items) n.points) (executions_in n)
   pub users : AreUsers n.users n.points (length (executions_in n))
   pub told : AreTold n.users (executions_in n)

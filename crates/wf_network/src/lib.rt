@@ -8,6 +8,7 @@
 //! - [`Marks`]: marks on executions, of which the next one is found fast.
 #![tactic(auto)]
 
+mod leads;
 mod marks;
 mod problem;
 mod users;

@@ -11,13 +11,13 @@ use std::alloc::{AllocError, Global};
 /// Marks on executions, of which the next one is found fast.
 #[derive(Drop)]
 pub struct Marks {
-    /// Bit n % 64 of word n / 64 is set where execution n is marked.
-    pub words: Vec<u64>,
-    /// Bit n % 64 of word n / 64 is set where the words' word n is not 0.
-    pub tops: Vec<u64>,
+    /// Bit n % 32 of word n / 32 is set where execution n is marked.
+    pub words: Vec<u32>,
+    /// Bit n % 32 of word n / 32 is set where the words' word n is not 0.
+    pub tops: Vec<u32>,
     ghost few: { length words.items ≤ most_words },
     ghost few_tops: { length tops.items ≤ most_words },
-    ghost tops_within: { length words.items ≤ 64 * length tops.items },
+    ghost tops_within: { length words.items ≤ 32 * length tops.items },
     ghost tops_tell: { TopsTell words.items tops.items },
 }
 
@@ -36,18 +36,18 @@ impl Marks {
     /// then. Refused where memory runs out, which leaves the marks as they were.
     pub fn reserve(&mut self, alloc: Global, executions: u32) -> Result<(), AllocError>
         requires { executions ≤ most_executions }
-        ensures room { OnOk result (executions ≤ 64 * length self.new.words.items) }
+        ensures room { OnOk result (executions ≤ 32 * length self.new.words.items) }
         ensures kept { HasRoom executions self.old.words.items
             → self.new.words.items ≡ self.old.words.items }
         ensures none { OnOk result (HasRoom executions self.old.words.items
             ⊎ IsLast self.new.words.items 0) }
         ensures refused { OnErr result (self.new.words.items ≡ self.old.words.items) }
     {
-        let words = executions as usize / 64 + 1;
+        let words = executions as usize / 32 + 1;
         if self.words.len() < words {
             *self = Marks {
                 words: vec![in alloc; 0; words]?,
-                tops: vec![in alloc; 0; words / 64 + 1]?,
+                tops: vec![in alloc; 0; words / 32 + 1]?,
             };
         }
         Ok(())
@@ -80,11 +80,11 @@ impl Marks {
 
     /// Marks all executions.
     pub fn mark_all(&mut self)
-        ensures marked { AreSetBelow (64 * length self.old.words.items) self.new.words.items }
+        ensures marked { AreSetBelow (32 * length self.old.words.items) self.new.words.items }
         ensures long { length self.new.words.items ≡ length self.old.words.items }
     {
-        self.words.fill(u64::MAX);
-        self.tops.fill(u64::MAX);
+        self.words.fill(u32::MAX);
+        self.tops.fill(u32::MAX);
     }
 
     /// Takes all marks away.
@@ -119,15 +119,14 @@ impl Marks {
 
     /// Takes the mark of an execution away.
     pub fn take(&mut self, number: u32)
-        requires { number < 64 * length self.old.words.items }
+        requires { number < 32 * length self.old.words.items }
         ensures taken { bit_of self.new.words.items number ≡ 0 }
         ensures others { KeepsBitsBut self.old.words.items self.new.words.items number }
         ensures long { length self.new.words.items ≡ length self.old.words.items }
     {
         let number = number as usize;
-        take_bit(&mut self.words, number);
-        if self.words[number / 64] == 0 {
-            take_bit(&mut self.tops, number / 64);
+        if take_bit(&mut self.words, number) == 0 {
+            take_bit(&mut self.tops, number / 32);
         }
     }
 
@@ -138,43 +137,43 @@ impl Marks {
         ensures last { IfNone result (IsLast self.now.words.items from) }
     {
         let mut from = from;
-        'words: while from / 64 < self.words.len() {
+        'words: while from / 32 < self.words.len() {
             let found = first_here(&self.words, from);
             if found.is_some() {
                 return found;
             }
-            from = 64 * next_bit(&self.tops, from / 64 + 1)?;
+            from = 32 * next_bit(&self.tops, from / 32 + 1)?;
         }
         None
     }
 }
 
 /// The first bit that is set, from this one on.
-fn next_bit(words: &[u64], from: usize) -> Option<usize>
+fn next_bit(words: &[u32], from: usize) -> Option<usize>
     requires few { length words.now ≤ most_words }
     requires low { from < 2 ^ 33 }
     ensures next { IfSome result (IsNext words.now from) }
     ensures last { IfNone result (IsLast words.now from) }
 {
     let mut from = from;
-    'words: while from / 64 < words.len() {
+    'words: while from / 32 < words.len() {
         let found = first_here(words, from);
         if found.is_some() {
             return found;
         }
-        from = (from / 64 + 1) * 64;
+        from = (from / 32 + 1) * 32;
     }
     None
 }
 
 /// The first bit that is set in the word of this one, from this one on.
-fn first_here(words: &[u64], from: usize) -> Option<usize>
-    requires within { from / 64 < length words.now }
+fn first_here(words: &[u32], from: usize) -> Option<usize>
+    requires within { from / 32 < length words.now }
     requires low { from < 2 ^ 34 }
     ensures next { IfSome result (IsNext words.now from) }
     ensures last { IfNone result (IsLastHere words.now from) }
 {
-    let here = words[from / 64] >> (from % 64);
+    let here = words[from / 32] >> (from % 32);
     if here == 0 {
         return None;
     }
@@ -182,18 +181,18 @@ fn first_here(words: &[u64], from: usize) -> Option<usize>
 }
 
 /// Sets a bit.
-fn add_bit(words: &mut Vec<u64>, bit: usize)
-    requires { bit < 64 * length words.old.items }
+fn add_bit(words: &mut Vec<u32>, bit: usize)
+    requires { bit < 32 * length words.old.items }
     ensures added { bit_of words.new.items bit ≡ 1 }
     ensures others { KeepsBitsBut words.old.items words.new.items bit }
     ensures long { length words.new.items ≡ length words.old.items }
-    ensures words { KeepsWordsBut words.old.items words.new.items (bit / 64) }
+    ensures words { KeepsWordsBut words.old.items words.new.items (bit / 32) }
 {
-    words[bit / 64] |= 1 << (bit % 64);
+    words[bit / 32] |= 1 << (bit % 32);
 }
 
 /// Sets the bits of these executions.
-fn add_users(words: &mut Vec<u64>, users: UserWord)
+fn add_users(words: &mut Vec<u32>, users: UserWord)
     requires { users.word < length words.old.items }
     ensures marked { MarksWord words.new.items users }
     ensures only { MarksOnlyWord words.old.items users words.new.items }
@@ -204,14 +203,17 @@ fn add_users(words: &mut Vec<u64>, users: UserWord)
     words[users.word as usize] |= users.bits;
 }
 
-/// Takes a bit away.
-fn take_bit(words: &mut Vec<u64>, bit: usize)
-    requires { bit < 64 * length words.old.items }
+/// Takes a bit away, and answers what its word is then.
+fn take_bit(words: &mut Vec<u32>, bit: usize) -> u32
+    requires { bit < 32 * length words.old.items }
+    ensures left { result ≡ slice_index words.new.items (bit / 32) }
     ensures taken { bit_of words.new.items bit ≡ 0 }
-    ensures less { slice_index words.new.items (bit / 64) ≤ slice_index words.old.items (bit / 64) }
+    ensures less { slice_index words.new.items (bit / 32) ≤ slice_index words.old.items (bit / 32) }
     ensures others { KeepsBitsBut words.old.items words.new.items bit }
     ensures long { length words.new.items ≡ length words.old.items }
-    ensures words { KeepsWordsBut words.old.items words.new.items (bit / 64) }
+    ensures words { KeepsWordsBut words.old.items words.new.items (bit / 32) }
 {
-    words[bit / 64] &= !(1 << (bit % 64));
+    let left = words[bit / 32] & !(1 << (bit % 32));
+    words[bit / 32] = left;
+    left
 }

@@ -9,9 +9,10 @@ ghost use Rattle.wf_complex.specs.Protocol.{IsProtocol};
 ghost use Rattle.wf_model.specs.Split.{most_values};
 ghost use Rattle.wf_model.specs.Limits.{most_points};
 ghost use Rattle.wf_set.specs.Sets.{values_in};
-ghost use Rattle.wf_network.specs.Problems.{AreAlike, HasTable, IsNetwork, IsRuleOf, IsWide, KeepsProcesses, constraints_in, executions_in, rule_in, rule_seen};
+ghost use Rattle.wf_network.specs.Problems.{AreAlike, HasTable, IsNetwork, IsRuleOf, IsWide, KeepsProcesses, constraints_in, executions_in, rule_seen};
 ghost use Rattle.wf_network.specs.Users.{AreWordsBelow, users_of};
 
+use crate::leads::leads;
 use crate::users::{UserWord, Users};
 use std::alloc::{AllocError, Global};
 use std::marker::Model;
@@ -101,6 +102,9 @@ pub struct Network {
     pub points: u32,
     /// The rule of each input simplex.
     pub rules: Vec<Rule>,
+    /// For each rule the number of an execution whose rule has the same table: the same one for
+    /// rules that share it. A number past the executions where the rule has none.
+    pub leads: Vec<u32>,
     /// The executions, whose rules are those of their input simplices. They are shared with the
     /// protocol complex.
     pub executions: Arc<Vec<PackedExecution>, Global>,
@@ -124,17 +128,6 @@ impl Network {
         ensures { result ≡ slice_index_or (executions_in self.now) number result }
     {
         self.executions[number]
-    }
-
-    /// The number of a rule that has the table of an execution's rule. It takes no memory.
-    #[inline]
-    pub fn like_at(&self, execution: usize) -> u32
-        requires network { IsNetwork self.now }
-        requires execution { execution < length (executions_in self.now) }
-        ensures { result ≡ (rule_in self.now execution).like }
-    {
-        let rule = self.executions[execution].simplex;
-        self.rules[rule as usize].like
     }
 
     /// The executions in which a point stands. It takes no memory.
@@ -185,11 +178,13 @@ impl Problem {
         let executions = protocol.packed()?;
         let points = protocol.points();
         let users = Users::of_points(alloc, points, &executions)?;
+        let leads = leads(alloc, &rules, &executions)?;
         Ok(Problem {
             values: task.values(),
             network: Network {
                 points,
                 rules,
+                leads,
                 executions,
                 users,
             },

@@ -7,7 +7,7 @@ use crate::tasks::problem_of;
 use std::alloc::{AllocError, Global};
 use std::test::Fail;
 use wf_box::{Box0, Closed, Problem, close};
-use wf_examples::{CONSENSUS_2, ONE_WITHOUT_OUTPUT, PATH_2, SYMMETRIC_201};
+use wf_examples::{CONSENSUS_2, ONE_WITHOUT_OUTPUT, PATH_2, RENAMING_2_2, SYMMETRIC_201};
 use wf_lines::{Line, Lines};
 use wf_set::{first_part, holds};
 
@@ -178,5 +178,17 @@ fn a_box_is_given_an_earlier_state(rt: HostRuntime) -> Result<(), Fail> {
     let one = is_tried(rt.alloc(), &problem, &mut boxed, 1, 1, 3, &[])?;
     let two = is_tried(rt.alloc(), &problem, &mut boxed, 2, 2, 2, &[lost!(2, 1, 0)])?;
     assert_eq!(rt; (found, one, two), ((4, Some(2)), true, true));
+    Ok(())
+}
+
+/// In both tasks executions 0 and 1 are those of one process, and 2 is the first one of both. Alone
+/// the two have different values on the path, and the same ones in renaming.
+#[test]
+fn an_execution_stands_for_each_rule(rt: HostRuntime) -> Result<(), Fail> {
+    let path = problem_of(rt.alloc(), PATH_2, 1)?;
+    let renaming = problem_of(rt.alloc(), RENAMING_2_2, 1)?;
+    let leads = (&path.network().leads, &renaming.network().leads);
+    assert_eq!(rt; leads.0.as_slice(), [0, 1, 2].as_slice());
+    assert_eq!(rt; leads.1.as_slice(), [0, 0, 2].as_slice());
     Ok(())
 }

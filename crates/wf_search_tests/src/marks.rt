@@ -9,7 +9,7 @@ fn marks_are_taken_in_order_and_cleared(rt: HostRuntime) -> Result<(), AllocErro
     let mut marks = Marks::new(rt.alloc());
     marks.reserve(rt.alloc(), 200)?;
     marks.mark_each(&[UserWord { word: 0, bits: 5 }, UserWord { word: 3, bits: 1 }]);
-    for (from, next) in [(0, 0), (0, 2), (3, 192)] {
+    for (from, next) in [(0, 0), (0, 2), (3, 96)] {
         assert_eq!(rt; marks.take_next(from), Some(next));
     }
     assert_eq!(rt; marks.take_next(0), None);

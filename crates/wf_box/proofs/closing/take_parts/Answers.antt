@@ -167,7 +167,7 @@ returns c = record {
         | inl same ↦
             loses_nothing n.rules.items x rule fewer left known (subst (λ m. IsWithin (length n.rules.items) m x) (sym done.long) inside) few left_here
             (left_supports rule.table (widened c.args.supported) (widened c.args.found) left (omega (arith, known.wide, few, (length-map c.args.found wide_set ∙ c.requires.long))) (omega (arith, known.wide, few, left_long)) right
-            (λ i low. same i (omega (arith, low, known.wide, c.places-processes.ensures.count))))
+            (λ i low. ap (λ xs. get_or xs i []) same))
         | inr before ↦
             (let kept = c.places.invariant.4 before in
             nothing_lost (constraint_seen n.rules.items x) c.args.lines.now.items c.places.lines.items words fewer c.args.number kept

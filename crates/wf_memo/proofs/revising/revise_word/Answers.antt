@@ -1,57 +1,33 @@
-use Rattle.std.proofs.Common.{◌≡◌, ◌∙◌, subst, sym, ap, arith, length}
+use Rattle.std.proofs.Common.{◌≡◌, ◌<◌, ℕ, List, arith, length, subst, sym}
+use Rattle.std.specs.List.{slice_index_or}
 use Rattle.wf_lane.specs.Table.{HasSupported}
-use Rattle.wf_network.specs.Problems.{constraints_in, rule_in, rule_of}
-use Rattle.wf_memo.specs.Revising.{parts_in, widened}
+use Rattle.wf_network.specs.Problems.{constraints_in, rule_at}
+use Rattle.wf_network.specs.declared.problem.Network.{Network}
 use Rattle.wf_network.specs.declared.problem.Rule.{Rule}
-use Rattle.wf_memo.proofs.MemoLemmas.{known_now, first_supported}
-use Rattle.wf_network.proofs.Lemmas.{execution_is, execution_within, few_at, known_at}
+use Rattle.wf_memo.specs.Revising.{parts_in, widened}
+use Rattle.wf_memo.proofs.MemoLemmas.{known_now, lead_is, right_at}
 use Rattle.wf_memo.proofs.revising.revise_word.Goals as goal
 
--- the parts that are left are right for the execution
-pub returns-in_default-clause-supported : goal.returns-in_default-clause-supported
-returns-in_default-clause-supported c =
-    let n = c.args.network.now in
-    let x = c.execution.result in
-    let rule = c.index-rule.result.now in
-    let candidates = c.unpacked-candidates.result in
-    let within = execution_within n c.args.number x c.requires.network c.requires.number c.execution.ensures in
-    let known = known_at n.rules.items n.points x rule within c.requires.network.wide c.index-rule.ensures in
-    let is : rule_in n c.args.number ≡ rule = ap (rule_of n.rules.items) (execution_is n c.args.number x c.requires.number c.execution.ensures) ∙ known.is in
-    let raw : HasSupported c.revise.result.masks rule.table (widened candidates) = subst (HasSupported c.revise.result.masks rule.table) c.widened.ensures c.revise.ensures.supported in
-    let wide : rule.table.width ≡ c.places.result = known.wide ∙ sym c.places.ensures.count in
-    let up : HasSupported (widened c.up_to-parts.result) rule.table (widened candidates) =
-    first_supported c.revise.result.masks candidates c.first_parts.result c.up_to-parts.result rule.table c.up_to-parts.ensures.long (ap length c.unpacked-candidates.ensures)
-    (omega (arith, wide, c.places.ensures.few)) c.first_parts.ensures.parts (λ i low. c.up_to-parts.ensures.firsts i (omega (arith, low, wide))) raw in
-    let here : HasSupported (widened c.up_to-parts.result) (rule_in n c.args.number).table (widened candidates) =
-    subst (λ (r : Rule). HasSupported (widened c.up_to-parts.result) r.table (widened candidates)) (sym is) up in
-    subst (λ ps. HasSupported (widened c.up_to-parts.result) (rule_in n c.args.number).table (widened ps)) c.unpacked-candidates.ensures here
+-- the new answer is right for the rule
+new_answer : (n : Network) (number : ℕ) (rule : Rule) (word other : ℕ) (candidates parts : List ℕ) → number < length n.rules.items → rule ≡ slice_index_or n.rules.items number rule → candidates ≡ parts_in word → parts_in other ≡ parts
+    → HasSupported (widened parts) rule.table (widened candidates) → HasSupported (widened (parts_in other)) (rule_at n number).table (widened (parts_in word))
+new_answer n number rule word other candidates parts low here from to right =
+    let table = (rule_at n number).table in
+    subst (λ ps. HasSupported (widened (parts_in other)) table (widened ps)) from
+    (subst (λ ps. HasSupported (widened ps) table (widened candidates)) (sym to) (right_at n number rule (widened candidates) (widened parts) low here right))
 
--- the new answer is right for the execution
-new_answer : (c : goal.After-changed_word) → HasSupported (widened (parts_in c.in-Some.supported)) (rule_in c.args.network.now c.args.number).table (widened (parts_in c.args.word))
-new_answer c =
-    let n = c.args.network.now in
-    let x = c.execution.result in
-    let rule = c.index-rule.result.now in
-    let candidates = c.unpacked-candidates.result in
-    let within = execution_within n c.args.number x c.requires.network c.requires.number c.execution.ensures in
-    let known = known_at n.rules.items n.points x rule within c.requires.network.wide c.index-rule.ensures in
-    let is : rule_in n c.args.number ≡ rule = ap (rule_of n.rules.items) (execution_is n c.args.number x c.requires.number c.execution.ensures) ∙ known.is in
-    let raw : HasSupported c.revise.result.masks rule.table (widened candidates) = subst (HasSupported c.revise.result.masks rule.table) c.widened.ensures c.revise.ensures.supported in
-    let wide : rule.table.width ≡ c.places.result = known.wide ∙ sym c.places.ensures.count in
-    let up : HasSupported (widened c.up_to-parts.result) rule.table (widened candidates) =
-    first_supported c.revise.result.masks candidates c.first_parts.result c.up_to-parts.result rule.table c.up_to-parts.ensures.long (ap length c.unpacked-candidates.ensures)
-    (omega (arith, wide, c.places.ensures.few)) c.first_parts.ensures.parts (λ i low. c.up_to-parts.ensures.firsts i (omega (arith, low, wide))) raw in
-    let here : HasSupported (widened c.up_to-parts.result) (rule_in n c.args.number).table (widened candidates) =
-    subst (λ (r : Rule). HasSupported (widened c.up_to-parts.result) r.table (widened candidates)) (sym is) up in
-    subst (λ ps. HasSupported (widened (parts_in c.in-Some.supported)) (rule_in n c.args.number).table (widened ps)) c.unpacked-candidates.ensures
-    (subst (λ ps. HasSupported (widened ps) (rule_in n c.args.number).table (widened candidates)) (sym c.in-Some.ensures) here)
+pub returns-then-execution-execution_count-clause-supported : goal.returns-then-execution-execution_count-clause-supported
+returns-then-execution-execution_count-clause-supported c =
+    new_answer c.args.network.now c.args.rule c.index.result.now c.args.word c.in_ok-supported.supported c.unpacked.result c.revised-parts.result c.requires.rule c.index.ensures c.unpacked.ensures c.in_ok-supported.ensures c.revised-parts.ensures.supported
 
-pub returns-clause-supported : goal.returns-clause-supported
-returns-clause-supported c =
-    subst (λ parts. HasSupported (widened parts) (rule_in c.args.network.now c.args.number).table (widened (parts_in c.args.word))) (sym c.changed_word.ensures.parts) (new_answer c)
-
-pub returns-clause-known : goal.returns-clause-known
-returns-clause-known c =
+pub returns-then-execution-execution_count-clause-known : goal.returns-then-execution-execution_count-clause-known
+returns-then-execution-execution_count-clause-known c =
     let n = c.args.network.now in
+    let lead = c.index-execution.result.now in
     c.keep_small.ensures (constraints_in n)
-    (known_now n c.args.number (widened (parts_in c.args.word)) (widened (parts_in c.in-Some.supported)) c.requires.network c.requires.number (few_at n c.args.number c.requires.network c.requires.number) (new_answer c)) c.requires.known
+    (known_now n c.args.rule lead (widened (parts_in c.args.word)) (widened (parts_in c.in_ok-supported.supported)) c.requires.network c.requires.rule (lead_is n c.args.rule lead c.requires.network c.requires.rule c.index-execution.ensures) (omega (arith, c.if-execution-execution_count.true, c.execution_count.ensures))
+    (new_answer n c.args.rule c.index.result.now c.args.word c.in_ok-supported.supported c.unpacked.result c.revised-parts.result c.requires.rule c.index.ensures c.unpacked.ensures c.in_ok-supported.ensures c.revised-parts.ensures.supported)) c.requires.known
+
+pub returns-else-execution-execution_count-clause-supported : goal.returns-else-execution-execution_count-clause-supported
+returns-else-execution-execution_count-clause-supported c =
+    new_answer c.args.network.now c.args.rule c.index.result.now c.args.word c.in_ok-supported.supported c.unpacked.result c.revised-parts.result c.requires.rule c.index.ensures c.unpacked.ensures c.in_ok-supported.ensures c.revised-parts.ensures.supported

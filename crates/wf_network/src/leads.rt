@@ -1,0 +1,52 @@
+//! Executions that stand for the rules with one table.
+
+ghost use Rattle.std.specs.Prelude.{◌≡◌, ◌<◌, ◌≤◌, ◌^◌, length, IfOk};
+ghost use Rattle.wf_model.specs.Limits.{most_executions};
+ghost use Rattle.wf_network.specs.Leads.{IsOfRule};
+ghost use Rattle.wf_network.specs.Problems.{AreAlike, AreLeads};
+
+use crate::problem::Rule;
+use std::alloc::{AllocError, Global};
+use wf_complex::PackedExecution;
+
+/// The number of no execution: it is past all of them.
+const NO_EXECUTION: u32 = u32::MAX;
+
+/// For each rule an execution whose rule has the same table, the same one for all rules of which
+/// one names the other; past all executions where none is found. Refused where memory runs out.
+pub(crate) fn leads(
+    alloc: Global,
+    rules: &[Rule],
+    executions: &[PackedExecution],
+) -> Result<Vec<u32>, AllocError>
+    requires alike { AreAlike rules.now }
+    requires few { length executions.now ≤ most_executions }
+    requires few_rules { length rules.now < 2 ^ 32 }
+    ensures long { IfOk result (λ leads. length leads.items ≡ length rules.now) }
+    ensures led { IfOk result (λ leads. AreLeads rules.now executions.now leads.items) }
+{
+    let mut leads = Vec::with_capacity(alloc, rules.len())?;
+    for number in 0..rules.len() {
+        let like = rules[number].like as usize;
+        let lead = if like < number {
+            leads[like]
+        } else {
+            first_of(executions, number as u32)
+        };
+        leads.push_reserved(lead);
+    }
+    Ok(leads)
+}
+
+/// An execution with the rule of this number, found by halving: those of one rule lie together, and
+/// the rules come in order. Past all executions where it is not found.
+fn first_of(executions: &[PackedExecution], rule: u32) -> u32
+    requires few { length executions.now ≤ most_executions }
+    ensures { IsOfRule executions.now rule result }
+{
+    let first = executions.partition_point(|execution| execution.simplex < rule);
+    if first < executions.len() && executions[first].simplex == rule {
+        return first as u32;
+    }
+    NO_EXECUTION
+}
