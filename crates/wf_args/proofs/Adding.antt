@@ -1,5 +1,8 @@
 -- Adding an option to a subcommand, and a subcommand to the command line.
-use Rattle.std.proofs.Common.{◌≡◌, ◌∙◌, ap, ap₂, [], ◌∷◌, ◌++◌, ◌||◌}
+use Rattle.std.proofs.Common.{Result, ◌≡◌, ◌∙◌, ap, ap₂, [], ◌∷◌, ◌++◌, ◌||◌}
+use Rattle.std.specs.Prelude.{IfOk}
+use Rattle.std.specs.declared.alloc.AllocError.{AllocError}
+use Rattle.std.proofs.lemmas.Result.{IfOk-weaker}
 use Rattle.clap.specs.Built.{AddsArg, AddsSubcommand}
 use Rattle.clap.specs.Simple.{App, Shape, app_of, with_rule, with_subcommand}
 use Rattle.clap.specs.Walk.{Rule}
@@ -13,13 +16,14 @@ pub with_option : (old new : Command) (arg : Arg) (shape : Shape) (rule : Rule) 
 with_option old new arg shape rule adds option leaf =
     (adds.shape option.1 ∙ ap₂ with_rule leaf.0 option.0, adds.globals ∙ ap₂ (λ a b. a || b) leaf.1 option.1)
 
+-- the same of a command that may not have been made
+pub taken : (old : Command) (arg : Arg) (shape : Shape) (rule : Rule) (result : Result Command AllocError) → IfOk result (λ new. AddsArg old arg new) → IsOption rule arg
+    → IsLeaf shape old → IfOk result (IsLeaf (record shape { rules = shape.rules ++ rule ∷ [] }))
+taken old arg shape rule result adds option leaf =
+    IfOk-weaker result (λ new. AddsArg old arg new) (IsLeaf (record shape { rules = shape.rules ++ rule ∷ [] })) (λ new h. with_option old new arg shape rule h option leaf) adds
+
 -- one subcommand more
 pub with_leaf : (old new sub : Command) (app : App) (shape : Shape) → AddsSubcommand old sub new → IsLeaf shape sub → app_of old ≡ app
     → app_of new ≡ with_subcommand app shape
 with_leaf old new sub app shape adds leaf is =
     adds.shape leaf.1 ∙ ap₂ with_subcommand is (ap (λ (a : App). a.top) leaf.0)
-
--- what a command comes to with one subcommand more, by what it came to before
-pub after : (shape : Shape) → {new : App} → {old : App} → {app : App} → new ≡ with_subcommand old shape → old ≡ app
-    → new ≡ with_subcommand app shape
-after shape adds is = adds ∙ ap (λ app. with_subcommand app shape) is

@@ -3,7 +3,7 @@
 ghost use Rattle.std.specs.Prelude.{◌≡◌, [], IfOk};
 ghost use Rattle.clap.specs.Words.{app_of};
 ghost use Rattle.wf_args.specs.CommandLine as line;
-ghost use Rattle.wf_args.specs.Building.{Adds, IsLeaf, IsOption, with_first};
+ghost use Rattle.wf_args.specs.Building.{Adds, IsLeaf, IsOption, Takes, with_first};
 
 use crate::limits::MOST_WORKERS;
 use crate::version::VERSION;
@@ -74,37 +74,59 @@ fn subcommand<'a>(alloc: Global, name: &'a str, about: &'a str) -> Command<'a>
     Command::new(alloc, name).about(about)
 }
 
+/// A subcommand with one option more, if there is memory for it.
+fn taking<'a>(
+    command: Result<Command<'a>, AllocError>,
+    option: Arg<'a>,
+) -> Result<Command<'a>, AllocError>
+    ensures { Takes command.entry option.entry result }
+{
+    command?.arg(option)
+}
+
 fn solve_command<'a>(alloc: Global) -> Result<Command<'a>, AllocError>
     ensures { IfOk result (IsLeaf line.solve) }
 {
-    subcommand(
+    let command = subcommand(
         alloc,
         "solve",
         "Read a task on standard input, and write its least decision map, or a refutation that there is none",
     )
-    .arg(rounds(alloc))?
-    .arg(workers(alloc))?
-    .arg(flag(
-        alloc,
-        "verdict",
-        "Leave out the lines of a refutation; not beside --least",
-    ))?
-    .arg(flag(
-        alloc,
-        "least",
-        "With a map, write the lines that show that no decision map is smaller; not beside --verdict",
-    ))?
-    .arg(flag(
-        alloc,
-        "account",
-        "Tell on standard error how many branches were searched, and how many were cut; not beside --branch",
-    ))?
-    .arg(flag(
-        alloc,
-        "progress",
-        "Tell on standard error how the search goes on, and how many branches are settled",
-    ))?
-    .arg(branch(alloc))
+    .arg(rounds(alloc));
+    let command = taking(command, workers(alloc));
+    let command = taking(
+        command,
+        flag(
+            alloc,
+            "verdict",
+            "Leave out the lines of a refutation; not beside --least",
+        ),
+    );
+    let command = taking(
+        command,
+        flag(
+            alloc,
+            "least",
+            "With a map, write the lines that show that no decision map is smaller; not beside --verdict",
+        ),
+    );
+    let command = taking(
+        command,
+        flag(
+            alloc,
+            "account",
+            "Tell on standard error how many branches were searched, and how many were cut; not beside --branch",
+        ),
+    );
+    let command = taking(
+        command,
+        flag(
+            alloc,
+            "progress",
+            "Tell on standard error how the search goes on, and how many branches are settled",
+        ),
+    );
+    taking(command, branch(alloc))
 }
 
 fn task_file<'a>(alloc: Global, help: &'a str) -> Arg<'a>
@@ -127,18 +149,21 @@ fn task<'a>(alloc: Global) -> Arg<'a>
 fn verify_command<'a>(alloc: Global) -> Result<Command<'a>, AllocError>
     ensures { IfOk result (IsLeaf line.verify) }
 {
-    subcommand(
+    let command = subcommand(
         alloc,
         "verify",
         "Read a report on standard input, and check it without a search",
     )
-    .arg(task(alloc))?
-    .arg(optional(
-        alloc,
-        "rounds",
-        "How many rounds the report is to be for: one for others is refused, and the answer tells them",
-    ))?
-    .arg(branch(alloc))
+    .arg(task(alloc));
+    let command = taking(
+        command,
+        optional(
+            alloc,
+            "rounds",
+            "How many rounds the report is to be for: one for others is refused, and the answer tells them",
+        ),
+    );
+    taking(command, branch(alloc))
 }
 
 fn views_command<'a>(alloc: Global) -> Result<Command<'a>, AllocError>
@@ -155,7 +180,7 @@ fn views_command<'a>(alloc: Global) -> Result<Command<'a>, AllocError>
 fn points_command<'a>(alloc: Global) -> Result<Command<'a>, AllocError>
     ensures { IfOk result (IsLeaf line.points) }
 {
-    subcommand(
+    let command = subcommand(
         alloc,
         "points",
         "Tell in words who saw what at each point of a task's protocol complex, with --rounds, or with --task also what a report decides there",
@@ -164,11 +189,14 @@ fn points_command<'a>(alloc: Global) -> Result<Command<'a>, AllocError>
         alloc,
         "rounds",
         "How many rounds of immediate snapshots, 0 to 8, where the task is on standard input",
-    ))?
-    .arg(task_file(
-        alloc,
-        "The file that has the task, where a report about it is on standard input; not beside --rounds",
-    ))
+    ));
+    taking(
+        command,
+        task_file(
+            alloc,
+            "The file that has the task, where a report about it is on standard input; not beside --rounds",
+        ),
+    )
 }
 
 /// The number of a branch, which may be left out.
@@ -196,51 +224,51 @@ fn branches_command<'a>(alloc: Global) -> Result<Command<'a>, AllocError>
 fn join_command<'a>(alloc: Global) -> Result<Command<'a>, AllocError>
     ensures { IfOk result (IsLeaf line.join) }
 {
-    subcommand(
+    let command = subcommand(
         alloc,
         "join",
         "Read the parts of an answer on standard input, one behind another in the order of the branches, check them, and write the report of the whole question",
     )
-    .arg(task(alloc))?
-    .arg(rounds(alloc))
+    .arg(task(alloc));
+    taking(command, rounds(alloc))
 }
 
 fn cnf_command<'a>(alloc: Global) -> Result<Command<'a>, AllocError>
     ensures { IfOk result (IsLeaf line.cnf) }
 {
-    subcommand(
+    let command = subcommand(
         alloc,
         "cnf",
         "Read a task on standard input, and write for SAT solvers the question whether it has a decision map",
     )
-    .arg(rounds(alloc))?
-    .arg(branch(alloc))
+    .arg(rounds(alloc));
+    taking(command, branch(alloc))
 }
 
 fn model_command<'a>(alloc: Global) -> Result<Command<'a>, AllocError>
     ensures { IfOk result (IsLeaf line.model) }
 {
-    subcommand(
+    let command = subcommand(
         alloc,
         "model",
         "Read what a SAT solver says of the question that cnf writes, and report the decision map of its model",
     )
-    .arg(task(alloc))?
-    .arg(rounds(alloc))
+    .arg(task(alloc));
+    taking(command, rounds(alloc))
 }
 
 fn proof_command<'a>(alloc: Global) -> Result<Command<'a>, AllocError>
     ensures { IfOk result (IsLeaf line.proof) }
 {
-    subcommand(
+    let command = subcommand(
         alloc,
         "proof",
         "Read a SAT solver's proof that the question that cnf writes has no model, and check it: there is no decision map",
     )
     .after_help(PROOFS)
-    .arg(task(alloc))?
-    .arg(rounds(alloc))?
-    .arg(branch(alloc))
+    .arg(task(alloc));
+    let command = taking(command, rounds(alloc));
+    taking(command, branch(alloc))
 }
 
 fn trim_command<'a>(alloc: Global) -> Result<Command<'a>, AllocError>
@@ -268,17 +296,20 @@ fn explain_command<'a>(alloc: Global) -> Result<Command<'a>, AllocError>
 fn lift_command<'a>(alloc: Global) -> Result<Command<'a>, AllocError>
     ensures { IfOk result (IsLeaf line.lift) }
 {
-    subcommand(
+    let command = subcommand(
         alloc,
         "lift",
         "Read a report of a map on standard input, check it, and write the map for one round more, or for R rounds",
     )
-    .arg(task(alloc))?
-    .arg(optional(
-        alloc,
-        "rounds",
-        "How many rounds the map is to be for, at least as many as the report's; without it one more",
-    ))
+    .arg(task(alloc));
+    taking(
+        command,
+        optional(
+            alloc,
+            "rounds",
+            "How many rounds the map is to be for, at least as many as the report's; without it one more",
+        ),
+    )
 }
 
 fn executions_command<'a>(alloc: Global) -> Result<Command<'a>, AllocError>
@@ -306,31 +337,43 @@ fn kind<'a>(alloc: Global) -> Arg<'a>
 fn preset_command<'a>(alloc: Global) -> Result<Command<'a>, AllocError>
     ensures { IfOk result (IsLeaf line.preset) }
 {
-    subcommand(alloc, "preset", "Write the text of a task that has a name")
+    let command = subcommand(alloc, "preset", "Write the text of a task that has a name")
         .after_help(KINDS)
-        .arg(kind(alloc))?
-        .arg(number(alloc, "processes", "How many processes there are, 1 to 4"))?
-        .arg(optional(
+        .arg(kind(alloc));
+    let command = taking(
+        command,
+        number(alloc, "processes", "How many processes there are, 1 to 4"),
+    );
+    let command = taking(
+        command,
+        optional(
             alloc,
             "k",
             "How many different values may be decided, at least 1",
-        ))?
-        .arg(optional(
+        ),
+    );
+    let command = taking(
+        command,
+        optional(
             alloc,
             "values",
             "How many values each process may have as input, 1 to 64; without it each has its own number",
-        ))?
-        .arg(optional(alloc, "names", "How many names there are, 1 to 64"))
+        ),
+    );
+    taking(
+        command,
+        optional(alloc, "names", "How many names there are, 1 to 64"),
+    )
 }
 
 /// A command with one subcommand more, if there is memory for both.
 fn adding<'a>(
-    command: Command<'a>,
+    command: Result<Command<'a>, AllocError>,
     sub: Result<Command<'a>, AllocError>,
 ) -> Result<Command<'a>, AllocError>
     ensures { Adds command.entry sub.entry result }
 {
-    command.subcommand(sub?)
+    command?.subcommand(sub?)
 }
 
 /// The command line with the first five of its subcommands.
@@ -343,10 +386,10 @@ fn first_five<'a>(alloc: Global) -> Result<Command<'a>, AllocError>
         )
         .version(VERSION)
         .subcommand_required(true);
-    let command = adding(command, solve_command(alloc))?;
-    let command = adding(command, verify_command(alloc))?;
-    let command = adding(command, views_command(alloc))?;
-    let command = adding(command, points_command(alloc))?;
+    let command = adding(Ok(command), solve_command(alloc));
+    let command = adding(command, verify_command(alloc));
+    let command = adding(command, views_command(alloc));
+    let command = adding(command, points_command(alloc));
     adding(command, branches_command(alloc))
 }
 
@@ -354,11 +397,11 @@ fn first_five<'a>(alloc: Global) -> Result<Command<'a>, AllocError>
 fn first_ten<'a>(alloc: Global) -> Result<Command<'a>, AllocError>
     ensures { IfOk result (λ c. app_of c ≡ with_first 10) }
 {
-    let command = first_five(alloc)?;
-    let command = adding(command, join_command(alloc))?;
-    let command = adding(command, cnf_command(alloc))?;
-    let command = adding(command, model_command(alloc))?;
-    let command = adding(command, proof_command(alloc))?;
+    let command = first_five(alloc);
+    let command = adding(command, join_command(alloc));
+    let command = adding(command, cnf_command(alloc));
+    let command = adding(command, model_command(alloc));
+    let command = adding(command, proof_command(alloc));
     adding(command, trim_command(alloc))
 }
 
@@ -366,9 +409,9 @@ fn first_ten<'a>(alloc: Global) -> Result<Command<'a>, AllocError>
 pub(crate) fn whole_command<'a>(alloc: Global) -> Result<Command<'a>, AllocError>
     ensures { IfOk result (λ c. app_of c ≡ line.command_line) }
 {
-    let command = first_ten(alloc)?;
-    let command = adding(command, explain_command(alloc))?;
-    let command = adding(command, lift_command(alloc))?;
-    let command = adding(command, executions_command(alloc))?;
+    let command = first_ten(alloc);
+    let command = adding(command, explain_command(alloc));
+    let command = adding(command, lift_command(alloc));
+    let command = adding(command, executions_command(alloc));
     adding(command, preset_command(alloc))
 }

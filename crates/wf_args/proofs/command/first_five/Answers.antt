@@ -1,8 +1,6 @@
 use Rattle.std.proofs.Common.{ap, codes, ◌≡◌, ◌∙◌, true}
-use Rattle.std.proofs.lemmas.Result.{IfOk-weaker}
 use Rattle.clap.specs.Simple.{app_of, app_of_fields, new_app, on_top}
 use Rattle.wf_args.specs.CommandLine as line
-use Rattle.wf_args.proofs.Adding.{after}
 use Rattle.wf_args.proofs.command.first_five.Goals as goal
 
 pub returns : goal.returns
@@ -12,8 +10,8 @@ returns c =
     ap app_of_fields c.version.ensures ∙ ap (on_top (λ s. record s { has_version = true })) about_is in
     let required_is : app_of c.subcommand_required-command.result ≡ on_top (λ s. record s { subcommand_required = true; has_version = true }) (new_app (codes "wfcheck")) =
     ap app_of_fields c.subcommand_required-command.ensures ∙ ap (on_top (λ s. record s { subcommand_required = true })) version_is in
-    let has_solve = after line.solve (c.in_ok-command.ensures line.solve c.solve_command.ensures) required_is in
-    let has_verify = after line.verify (c.in_ok-command-2.ensures line.verify c.verify_command.ensures) has_solve in
-    let has_views = after line.views (c.in_ok-command-3.ensures line.views c.views_command.ensures) has_verify in
-    let has_points = after line.points (c.in_ok-command-4.ensures line.points c.points_command.ensures) has_views in
-    IfOk-weaker c.adding-5.result _ _ (λ new is. after line.branches is has_points) (c.adding-5.ensures line.branches c.branches_command.ensures)
+    let has_solve = c.adding-command.ensures _ line.solve required_is c.solve_command.ensures in
+    let has_verify = c.adding-command-2.ensures _ line.verify has_solve c.verify_command.ensures in
+    let has_views = c.adding-command-3.ensures _ line.views has_verify c.views_command.ensures in
+    let has_points = c.adding-command-4.ensures _ line.points has_views c.points_command.ensures in
+    c.adding.ensures _ line.branches has_points c.branches_command.ensures

@@ -1,8 +1,7 @@
-use Rattle.std.proofs.lemmas.Result.{IfOk-weaker}
-use Rattle.wf_args.proofs.Adding.{with_option}
+use Rattle.wf_args.proofs.Adding.{taken}
 use Rattle.wf_args.proofs.command.join_command.Goals as goal
 
 pub returns : goal.returns
 returns c =
-    let has_task = with_option _ _ _ _ _ c.in_ok-arg.ensures c.task.ensures c.subcommand.ensures in
-    IfOk-weaker c.arg-2.result _ _ (λ r h. with_option _ _ _ _ _ h c.rounds.ensures has_task) c.arg-2.ensures
+    let has_task = taken _ _ _ _ _ c.arg-command.ensures c.task.ensures c.subcommand.ensures in
+    c.taking.ensures _ _ has_task c.rounds.ensures
