@@ -1,4 +1,5 @@
 pub mod ExecutionPlaces
+mod Failing
 mod Listing
 mod Margins
 mod Parting

@@ -7,6 +7,7 @@ use Rattle.wf_argument.specs.Subject.{executions_in, problem_in}
 use Rattle.wf_argument.specs.Text.{claim_text, execution_text, grounds_text, indented, rest_text}
 use Rattle.wf_argument.specs.Trail.{state_of}
 use Rattle.wf_argument.proofs.Places.{gone_found, not_there, there, told_found, told_nobody}
+use Rattle.wf_argument.proofs.Failing.{failed}
 use Rattle.wf_argument.proofs.steps.put_taking.Goals as goal
 
 pub place_of-requires : goal.place_of-requires
@@ -76,3 +77,15 @@ returns-clause-state c =
     let next : State → State = λ s. record s { number = suc s.number } in
     let with_number : ℕ → State = λ n. record (state_of after) { number = n } in
     ap with_number one ∙ ap next c.in_ok-take_each.ensures.state ∙ gone_found (problem_in x) s e c.args.process place values points tuples _ found refl
+
+pub returns-in_err-take_each-clause-text : goal.returns-in_err-take_each-clause-text
+returns-in_err-take_each-clause-text c = failed c.from_residual.result _ c.from_residual.ensures.0
+
+pub returns-in_err-take_each-clause-state : goal.returns-in_err-take_each-clause-state
+returns-in_err-take_each-clause-state c = failed c.from_residual.result _ c.from_residual.ensures.0
+
+pub returns-in_err-put_step-clause-text : goal.returns-in_err-put_step-clause-text
+returns-in_err-put_step-clause-text c = failed c.from_residual-in_err-put_step.result _ c.from_residual-in_err-put_step.ensures.0
+
+pub returns-in_err-put_step-clause-state : goal.returns-in_err-put_step-clause-state
+returns-in_err-put_step-clause-state c = failed c.from_residual-in_err-put_step.result _ c.from_residual-in_err-put_step.ensures.0

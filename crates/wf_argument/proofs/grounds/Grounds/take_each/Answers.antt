@@ -2,6 +2,7 @@ use Rattle.std.proofs.Common.{get_or, map, vec_items, refl, sym, ap, ◌∙◌, 
 use Rattle.wf_argument.specs.State.{needed, taken, with_reasons}
 use Rattle.wf_argument.specs.Trail.{state_of}
 use Rattle.wf_argument.proofs.Taking.{gone_alone, needed_more, taking_more}
+use Rattle.wf_argument.proofs.Failing.{failed}
 use Rattle.wf_argument.proofs.grounds.Grounds.take_each.Goals as goal
 
 pub loop-value-preserved : goal.loop-value-preserved
@@ -20,3 +21,21 @@ loop-value-preserved c =
       state = gone_alone (state_of c.args.state.now) s (state_of c.take.new.self) _ loop.invariant.state c.in_ok-take.ensures.state;
       values = c.in_ok-take.ensures.values ∙ loop.invariant.values;
     }
+
+pub returns-in_err-note-clause-needed : goal.returns-in_err-note-clause-needed
+returns-in_err-note-clause-needed c = failed c.from_residual.result _ c.from_residual.ensures.0
+
+pub returns-in_err-note-clause-reasons : goal.returns-in_err-note-clause-reasons
+returns-in_err-note-clause-reasons c = failed c.from_residual.result _ c.from_residual.ensures.0
+
+pub returns-in_err-note-clause-state : goal.returns-in_err-note-clause-state
+returns-in_err-note-clause-state c = failed c.from_residual.result _ c.from_residual.ensures.0
+
+pub returns-in_err-take-clause-needed : goal.returns-in_err-take-clause-needed
+returns-in_err-take-clause-needed c = failed c.from_residual-in_err-take.result _ c.from_residual-in_err-take.ensures.0
+
+pub returns-in_err-take-clause-reasons : goal.returns-in_err-take-clause-reasons
+returns-in_err-take-clause-reasons c = failed c.from_residual-in_err-take.result _ c.from_residual-in_err-take.ensures.0
+
+pub returns-in_err-take-clause-state : goal.returns-in_err-take-clause-state
+returns-in_err-take-clause-state c = failed c.from_residual-in_err-take.result _ c.from_residual-in_err-take.ensures.0
