@@ -1,3 +1,4 @@
+pub mod Failing
 pub mod FoundLemmas
 pub mod TupleLemmas
 pub mod GroupLemmas

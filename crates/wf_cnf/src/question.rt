@@ -1,14 +1,17 @@
 //! The question of a task.
 
-ghost use Rattle.std.specs.Prelude.{◌≡◌, IfOk, length, map};
+ghost use Rattle.std.specs.Prelude.{◌≡◌, ◌≤◌, [], IfOk, length, map};
+ghost use Rattle.wf_model.specs.Limits.{most_points};
 ghost use Rattle.wf_complex.specs.Protocol.{IsProtocol};
 ghost use Rattle.wf_set.specs.Sets.{values_in};
 ghost use Rattle.wf_formula.specs.Branches.{box_text};
 ghost use Rattle.wf_formula.specs.Dimacs.{question_text};
 ghost use Rattle.wf_io.specs.Ends.{CanWrite};
-ghost use Rattle.wf_io.specs.Texts.{WritesText};
+ghost use Rattle.wf_io.specs.Texts.{PutsText, WritesText};
 ghost use Rattle.wf_cnf.specs.Patterns.{patterns_seen};
-ghost use Rattle.wf_cnf.specs.Clauses.{patterns_of};
+ghost use Rattle.wf_cnf.specs.Clauses.{AreCovered, patterns_of};
+ghost use Rattle.wf_cnf.specs.Questions.{text_after};
+ghost use Rattle.wf_cnf.specs.Variables.{IsNumbered};
 ghost use Rattle.wf_cnf.specs.Exclusions.{Fits, part_text};
 
 use crate::clauses::{count_clauses, put_executions, put_points};
@@ -21,6 +24,7 @@ use std::io::Write;
 use std::marker::Model;
 use wf_complex::Protocol;
 use wf_io::{Page, Sink, WriteFault};
+use wf_set::Mask;
 use wf_task::Task;
 
 /// The question whether a task has a decision map over its protocol complex,
@@ -127,17 +131,38 @@ impl<'a> Question<'a> {
     {
         let mut page = self.page;
         page.put(sink, self.head.as_bytes())?;
-        put_points(&mut page, sink, &self.variables, self.protocol.points())?;
-        put_executions(
+        put_clauses(
             &mut page,
             sink,
             &self.variables,
             &self.patterns,
             self.protocol,
+            sets_of(self.branch),
         )?;
-        put_exclusions(&mut page, sink, &self.variables, sets_of(self.branch))?;
         page.finish(sink)
     }
+}
+
+/// Adds all clauses: of the points, of the executions, and of what these sets rule out.
+fn put_clauses<W: Write>(
+    page: &mut Page,
+    sink: &mut Sink<W>,
+    variables: &Variables,
+    patterns: &[Patterns],
+    protocol: &Protocol,
+    sets: &[Mask],
+) -> Result<(), WriteFault>
+    requires open { CanWrite sink.old }
+    requires numbered { IsNumbered variables.now }
+    requires covered { AreCovered (map patterns_seen patterns.now) protocol.now }
+    requires few { length sets.now ≤ most_points }
+    ensures { PutsText sink.old page.old sink.new page.new
+        (text_after [] (values_in variables.now.values) (map patterns_seen patterns.now)
+        protocol.now (map values_in sets.now)) result }
+{
+    put_points(page, sink, variables, protocol.points())?;
+    put_executions(page, sink, variables, patterns, protocol)?;
+    put_exclusions(page, sink, variables, sets)
 }
 
 /// The minimal forbidden patterns of each input simplex.

@@ -1,12 +1,28 @@
-use Rattle.std.proofs.Common.{◌≡◌, ◌+◌, ◌<◌, ◌++◌, map, flat_map, length, arith, ◌∙◌, ap, sym}
+use Rattle.std.proofs.Common.{All, subst, ◌≡◌, ◌+◌, ◌<◌, ◌≤◌, ◌++◌, map, flat_map, length, arith, ◌∙◌, ap, sym}
 use Rattle.wf_set.specs.Sets.{values_in}
 use Rattle.wf_formula.specs.Dimacs.{clause_text}
-use Rattle.wf_io.proofs.Putting.{went_on, stopped}
+use Rattle.wf_io.proofs.Putting.{went_on, stopped, all_put}
 use Rattle.wf_cnf.specs.Patterns.{patterns_seen}
-use Rattle.wf_cnf.specs.Clauses.{clauses_at, denied_text, patterns_in}
+use Rattle.wf_cnf.specs.Clauses.{AreFew, HasPoints, clauses_at, denied_text, patterns_in, points_in}
 use Rattle.wf_cnf.proofs.TextLemmas.{pattern_there}
-use Rattle.wf_cnf.proofs.PutLemmas.{between_numbers, next_list_of}
+use Rattle.wf_cnf.proofs.PutLemmas.{between_numbers, next_list_of, no_number}
 use Rattle.wf_cnf.proofs.clauses.put_executions.Goals as goal
+
+pub put_patterns-requires-clause-places : goal.put_patterns-requires-clause-places
+put_patterns-requires-clause-places g c =
+    let b = c.args.protocol.now in
+    let e = c.loop-execution.execution in
+    let patterns = c.args.patterns.now in
+    let low : e < length b.scopes = omega (arith, c.loop-execution-test.true, c.executions-execution-end.ensures.executions) in
+    let covered = c.requires.covered e low in
+    let there : patterns_seen c.index-patterns-simplex.result ≡ patterns_in (map patterns_seen patterns) b e =
+    pattern_there patterns_seen patterns b.simplices e c.simplex_of-simplex.result c.index-patterns-simplex.result c.simplex_of-simplex.ensures covered.simplex c.index-patterns-simplex.is in
+    subst (λ points. All (HasPoints points) (patterns_seen c.index-patterns-simplex.result)) (sym c.points_of-points.ensures) (subst (All (HasPoints (points_in b e))) (sym there) covered.places)
+
+pub put_patterns-requires-clause-few : goal.put_patterns-requires-clause-few
+put_patterns-requires-clause-few g c =
+    let low : c.loop-execution.execution < length c.args.protocol.now.scopes = omega (arith, c.loop-execution-test.true, c.executions-execution-end.ensures.executions) in
+    subst AreFew (sym c.points_of-points.ensures) (c.requires.covered c.loop-execution.execution low).few
 
 pub returns-in_err-put_patterns : goal.returns-in_err-put_patterns
 returns-in_err-put_patterns g c =
@@ -35,3 +51,11 @@ loop-execution-preserved g c =
     let rest = flat_map clause_text (flat_map (clauses_at values (map patterns_seen patterns) b) (between_numbers (e + 1) (length b.scopes))) in
     let here : denied_text values c.points_of-points.result.now (patterns_seen c.index-patterns-simplex.result) ≡ flat_map clause_text (clauses_at values (map patterns_seen patterns) b e) = λ i. denied_text values (c.points_of-points.ensures i) (there i) in
     went_on _ _ _ _ _ _ _ _ _ _ c.loop-execution.invariant c.in_ok-put_patterns.ensures (step ∙ ap (λ bs. bs ++ rest) (sym here))
+
+pub returns : goal.returns
+returns g c =
+    let b = c.args.protocol.now in
+    let e = c.loop-execution.execution in
+    let each = clauses_at (values_in c.args.variables.now.values) (map patterns_seen c.args.patterns.now) b in
+    let all : length b.scopes ≤ e = omega (arith, c.loop-execution-test.false, c.executions-execution-end.ensures.executions) in
+    all_put _ _ _ _ _ _ c.loop-execution.invariant (ap (λ ns. flat_map clause_text (flat_map each ns)) (no_number e (length b.scopes) all))

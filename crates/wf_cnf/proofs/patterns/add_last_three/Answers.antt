@@ -6,6 +6,7 @@ use Rattle.wf_cnf.specs.Groups.{AreAllowed, group_of}
 use Rattle.wf_cnf.specs.Patterns.{pattern_seen}
 use Rattle.wf_cnf.proofs.GroupLemmas.{allowed_more}
 use Rattle.wf_cnf.proofs.Steps.{before_more, one_list_more}
+use Rattle.wf_cnf.proofs.Failing.{failed}
 use Rattle.wf_cnf.proofs.patterns.add_last_three.Goals as goal
 
 pub values-init : goal.values-init
@@ -44,3 +45,21 @@ values-preserved c =
     (values_in c.values.left) (values_in c.in-Some.split.1) _ (c.in_ok-add_last_two.ensures (lists ++ fitting ∷ []) allowed) c.in-Some.ensures
     (ap (λ l. found place l c.deref-in-Some-2.result.now) more ∙ ap (found place (begun ++ v ∷ [])) fit_is ∙ ap (λ p. found p (begun ++ v ∷ []) (having p v fitting)) c.value-place.ensures)
     c.values.invariant
+
+pub returns-in_err-behind : goal.returns-in_err-behind
+returns-in_err-behind c = failed c.from_residual.result _ c.from_residual.ensures.0
+
+pub returns-in_err-groups : goal.returns-in_err-groups
+returns-in_err-groups c = failed c.from_residual-in_err-groups.result _ c.from_residual-in_err-groups.ensures.0
+
+pub returns-in_err-fit : goal.returns-in_err-fit
+returns-in_err-fit c = failed c.from_residual-in_err-fit.result _ c.from_residual-in_err-fit.ensures.0
+
+pub returns-in_err-lists : goal.returns-in_err-lists
+returns-in_err-lists c = failed c.from_residual-in_err-lists.result _ c.from_residual-in_err-lists.ensures.0
+
+pub returns-in_err-near : goal.returns-in_err-near
+returns-in_err-near c = failed c.from_residual-in_err-near.result _ c.from_residual-in_err-near.ensures.0
+
+pub returns-in_err-add_last_two : goal.returns-in_err-add_last_two
+returns-in_err-add_last_two c = failed c.from_residual-in_err-add_last_two.result _ c.from_residual-in_err-add_last_two.ensures.0

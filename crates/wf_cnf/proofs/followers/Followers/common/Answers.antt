@@ -7,6 +7,7 @@ use Rattle.wf_set.proofs.Lemmas.{same_sets}
 use Rattle.wf_cnf.specs.Groups.{AreAllowed, AreFollowers}
 use Rattle.wf_cnf.proofs.TupleLemmas.{and_true, items_more}
 use Rattle.wf_cnf.proofs.GroupLemmas.{allowed_more, each_set, written_back}
+use Rattle.wf_cnf.proofs.Failing.{none_given}
 use Rattle.wf_cnf.proofs.followers.Followers.common.Goals as goal
 
 pub loop-tuples-init : goal.loop-tuples-init
@@ -45,3 +46,9 @@ loop-tuples-preserved c =
       long = ap length back ∙ c.narrow.ensures.long;
       allowed = subst (λ sets. AreAllowed c.args.place c.args.next (values_in c.args.set) (map vec_items (take (i + 1) lists)) (map values_in sets)) (sym back) allowed;
     }
+
+pub returns-in_err-sets : goal.returns-in_err-sets
+returns-in_err-sets c = none_given c.from_residual.result _ c.from_residual.ensures.0
+
+pub returns-in_err-others : goal.returns-in_err-others
+returns-in_err-others c = none_given c.from_residual-in_err-others.result _ c.from_residual-in_err-others.ensures.0

@@ -6,6 +6,7 @@ use Rattle.wf_set.specs.Sets.{value_limit, values_in}
 use Rattle.wf_set.proofs.Lemmas.{same_sets}
 use Rattle.wf_cnf.specs.Groups.{AreFollowers}
 use Rattle.wf_cnf.proofs.GroupLemmas.{each_set, taken_more, written_back}
+use Rattle.wf_cnf.proofs.Failing.{none_given}
 use Rattle.wf_cnf.proofs.followers.Followers.of.Goals as goal
 
 pub loop-tuple-init : goal.loop-tuple-init
@@ -34,3 +35,6 @@ loop-tuple-preserved c =
           (c.put.ensures.more (take i tuples)
           (subst (λ sets. AreFollowers c.args.place c.args.next (take i tuples) (map values_in sets)) (sym c.deref_mut.ensures.value) c.loop-tuple.invariant.follow)));
     }
+
+pub returns-in_err-sets : goal.returns-in_err-sets
+returns-in_err-sets c = none_given c.from_residual.result _ c.from_residual.ensures.0

@@ -7,6 +7,7 @@ use Rattle.wf_cnf.specs.Clauses.{clauses_at, clauses_on, denied_at, patterns_in}
 use Rattle.wf_rup.proofs.PosedLemmas.{kept_more, kept_same}
 use Rattle.wf_cnf.proofs.PosingLemmas.{keeps_some, one_part_more}
 use Rattle.wf_cnf.proofs.TextLemmas.{pattern_there}
+use Rattle.wf_cnf.proofs.Failing.{none_given}
 use Rattle.wf_cnf.proofs.posing.Posing.add_executions.Goals as goal
 
 pub loop-execution-preserved : goal.loop-execution-preserved
@@ -50,3 +51,6 @@ returns-clause-whole c =
     let f = clauses_at (values_in c.args.variables.now.values) (map patterns_seen c.args.patterns.now) b in
     let all : c.loop-execution.execution ≡ length b.scopes = omega (arith, c.loop-execution-test.false, c.loop-execution.auto.execution-end, c.executions-execution-end.ensures.executions) in
     kept_same _ _ _ _ _ (ap (λ n. flat_map f (below n)) all) refl c.loop-execution.invariant.whole
+
+pub returns-in_err-add_patterns-clause-whole : goal.returns-in_err-add_patterns-clause-whole
+returns-in_err-add_patterns-clause-whole c = none_given c.from_residual.result _ c.from_residual.ensures.0

@@ -7,6 +7,7 @@ use Rattle.wf_formula.proofs.Members.{in_from_contains, in_map}
 use Rattle.wf_rup.specs.Posed.{KeepsModelsOfAll}
 use Rattle.wf_rup.proofs.PosedLemmas.{kept_one, kept_same}
 use Rattle.wf_cnf.proofs.PosingLemmas.{keeps_one, one_more}
+use Rattle.wf_cnf.proofs.Failing.{none_given}
 use Rattle.wf_cnf.proofs.posing.Posing.add_others.Goals as goal
 
 pub put_denied-requires-clause-places : goal.put_denied-requires-clause-places
@@ -47,3 +48,9 @@ pub returns-clause-whole : goal.returns-clause-whole
 returns-clause-whole c =
     let f = denied_at (values_in c.args.variables.now.values) c.args.points.now in
     kept_same _ _ _ _ _ (ap (λ ps. map f (map pattern_seen ps)) (take_all _ _ c.loop-pattern-test.false)) c.self.view_is c.loop-pattern.invariant.whole
+
+pub returns-in_err-put_denied-clause-whole : goal.returns-in_err-put_denied-clause-whole
+returns-in_err-put_denied-clause-whole c = none_given c.from_residual.result _ c.from_residual.ensures.0
+
+pub returns-in_err-add-clause-whole : goal.returns-in_err-add-clause-whole
+returns-in_err-add-clause-whole c = none_given c.from_residual-in_err-add.result _ c.from_residual-in_err-add.ensures.0

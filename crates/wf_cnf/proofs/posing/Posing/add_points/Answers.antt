@@ -8,6 +8,7 @@ use Rattle.wf_model.proofs.Basics.{below_next}
 use Rattle.wf_rup.specs.Posed.{KeepsModelsOfAll}
 use Rattle.wf_rup.proofs.PosedLemmas.{kept_one, kept_same}
 use Rattle.wf_cnf.proofs.PosingLemmas.{keeps_one}
+use Rattle.wf_cnf.proofs.Failing.{none_given}
 use Rattle.wf_cnf.proofs.posing.Posing.add_points.Goals as goal
 
 pub loop-point-preserved : goal.loop-point-preserved
@@ -35,3 +36,9 @@ returns-clause-whole c =
     let f = at_least_one (values_in c.args.variables.now.values) in
     let all : c.loop-point.point ≡ c.args.points = omega (arith, c.loop-point-test.false, c.loop-point.auto.point-end) in
     kept_same _ _ _ _ _ (ap (λ n. map f (below n)) all) c.self.view_is c.loop-point.invariant.whole
+
+pub returns-in_err-put_point-clause-whole : goal.returns-in_err-put_point-clause-whole
+returns-in_err-put_point-clause-whole c = none_given c.from_residual.result _ c.from_residual.ensures.0
+
+pub returns-in_err-add-clause-whole : goal.returns-in_err-add-clause-whole
+returns-in_err-add-clause-whole c = none_given c.from_residual-in_err-add.result _ c.from_residual-in_err-add.ensures.0
