@@ -1,4 +1,3 @@
-pub mod Failing
 pub mod FoundLemmas
 pub mod TupleLemmas
 pub mod GroupLemmas

@@ -7,7 +7,7 @@ use Rattle.wf_argument.specs.Subject.{executions_in, problem_in}
 use Rattle.wf_argument.specs.Text.{claim_text, execution_text, grounds_text, indented, rest_text}
 use Rattle.wf_argument.specs.Trail.{state_of}
 use Rattle.wf_argument.proofs.Places.{gone_found, not_there, there, told_found, told_nobody}
-use Rattle.wf_argument.proofs.Failing.{failed}
+use Rattle.wf_io.proofs.Failing.{failed}
 use Rattle.wf_argument.proofs.steps.put_taking.Goals as goal
 
 pub place_of-requires : goal.place_of-requires

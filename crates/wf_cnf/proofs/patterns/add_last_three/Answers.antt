@@ -6,7 +6,7 @@ use Rattle.wf_cnf.specs.Groups.{AreAllowed, group_of}
 use Rattle.wf_cnf.specs.Patterns.{pattern_seen}
 use Rattle.wf_cnf.proofs.GroupLemmas.{allowed_more}
 use Rattle.wf_cnf.proofs.Steps.{before_more, one_list_more}
-use Rattle.wf_cnf.proofs.Failing.{failed}
+use Rattle.wf_io.proofs.Failing.{failed}
 use Rattle.wf_cnf.proofs.patterns.add_last_three.Goals as goal
 
 pub values-init : goal.values-init

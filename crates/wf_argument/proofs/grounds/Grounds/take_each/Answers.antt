@@ -2,7 +2,7 @@ use Rattle.std.proofs.Common.{get_or, map, vec_items, refl, sym, ap, ◌∙◌, 
 use Rattle.wf_argument.specs.State.{needed, taken, with_reasons}
 use Rattle.wf_argument.specs.Trail.{state_of}
 use Rattle.wf_argument.proofs.Taking.{gone_alone, needed_more, taking_more}
-use Rattle.wf_argument.proofs.Failing.{failed}
+use Rattle.wf_io.proofs.Failing.{failed}
 use Rattle.wf_argument.proofs.grounds.Grounds.take_each.Goals as goal
 
 pub loop-value-preserved : goal.loop-value-preserved
