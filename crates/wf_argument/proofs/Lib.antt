@@ -1,5 +1,4 @@
 pub mod ExecutionPlaces
-mod Failing
 mod Listing
 mod Margins
 mod Parting
