@@ -182,7 +182,7 @@ quiet_again rules es u number words marks fewer more within told long quiet unto
 
 pub stays_marked : (marks more : List ℕ) (e : ℕ) → IsMore marks more → bit_of marks e ≡ 1 → bit_of more e ≡ 1
 stays_marked marks more e kept there =
-    ⊎_elim (λ (low : bit_of more e < 1). absurd (let none : ⊥ = omega (arith, there, kept e (let z : bit_of more e ≡ 0 = omega (arith, low) in z)) in none)) (λ (high : 1 ≤ bit_of more e). omega (arith, high, bit_at-lt (slice_index more (e / 32)) (e % 32))) (cases_lt (bit_of more e) 1)
+    ⊎_elim (λ (low : bit_of more e < 1). absurd (let none : ⊥ = omega (arith, there, kept e (let z : bit_of more e ≡ 0 = omega (arith, low) in z)) in none)) (λ (high : 1 ≤ bit_of more e). omega (arith, high, bit_at-lt (slice_index more (e / 64)) (e % 64))) (cases_lt (bit_of more e) 1)
 
 kept_back : (cs : List Change) (words : List (List ℕ)) (v : ℕ) → ((k : ℕ) (d : Change) → k < length cs → (get_or cs k d).point ≢ v) → get_or (taken_back cs words) v [] ≡ get_or words v []
 kept_back [] words v other = refl

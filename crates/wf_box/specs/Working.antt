@@ -21,7 +21,7 @@ use Rattle.wf_box.specs.declared.workspace.Workspace.{Workspace}
 pub record IsWorking {A : Type 0} (points executions : ℕ) (ks : List Constraint) (lines : Vec Line A) (w : Workspace) : Type 0 where
   pub kept : KeepsTrack w.tracked
   pub long : length w.tracked.words.items ≡ points
-  pub marks_long : executions ≤ 32 * length w.marks.words.items
+  pub marks_long : executions ≤ 64 * length w.marks.words.items
   pub room : HasRoom lines w.tracked.words.items
   pub known : AreKnown ks (answers_in w.memo)
 
@@ -41,7 +41,7 @@ Ends lines old more new (Some v) = EndsAt more.items (sets_in new) v
 pub record Proceeds {A : Type 0} (points executions : ℕ) (ks : List Constraint) (lines : Vec Line A) (old : Tracked) (more : Vec Line A) (new : Workspace) (emptied : Option ℕ) : Type 0 where
   pub kept : KeepsTrack new.tracked
   pub long : length new.tracked.words.items ≡ points
-  pub marks_long : executions ≤ 32 * length new.marks.words.items
+  pub marks_long : executions ≤ 64 * length new.marks.words.items
   pub grown : GrowsTo old new.tracked
   pub ends : Ends lines old more new.tracked emptied
   pub known : AreKnown ks (answers_in new.memo)

@@ -14,7 +14,7 @@ ghost use Rattle.wf_lane.specs.Table.{HasSupported};
 ghost use Rattle.wf_network.specs.Problems.{IsNetwork, constraints_in, executions_in, rule_in, rule_number};
 ghost use Rattle.wf_box.specs.Steps.{ClosesTo, NamesAll, NamesLost, Reaches, SweepsTo, box_in};
 ghost use Rattle.wf_box.specs.Closes.{AddsClosing, AreFew, IsEmptied, IsSupported, KeepsSolutions, Leaves, LosesNamed, Takes, emptied_by, sweeps_to_close};
-ghost use Rattle.wf_memo.specs.Revising.{AreSame, found_at, found_in, parts_in, wide_set, widened};
+ghost use Rattle.wf_memo.specs.Revising.{AreSame, found_at, found_in, nibbles_in, parts_in, wide_set, widened};
 ghost use Rattle.wf_box.specs.Working.{AreMarked, IsRevising, IsTakingAt, IsWorkingFor, IsWorkingOn, ProceedsFor, ProceedsOn, Revises, TakesAt};
 
 use crate::boxed::Box0;
@@ -25,7 +25,8 @@ use std::alloc::{AllocError, Global};
 use wf_lane::first_empty;
 use wf_lines::{Line, Lines};
 use wf_memo::{
-    candidates_at, in_word, narrowed, supported_narrow, supported_sets, supported_word, unpacked,
+    candidates_at, in_nibbles, in_word, narrowed, supported_narrow, supported_nibbles,
+    supported_sets, supported_word, unpacked, unpacked_nibbles,
 };
 use wf_network::{Marks, Network, PackedExecution, Problem};
 use wf_set::part::{self, Part};
@@ -121,7 +122,7 @@ fn prepare(
 ) -> Option<u32>
     requires kept { KeepsTrack tracked.now }
     requires long { length tracked.now.words.items ≡ problem.now.points }
-    requires marks_long { length problem.now.constraints ≤ 32 * length marks.old.words.items }
+    requires marks_long { length problem.now.constraints ≤ 64 * length marks.old.words.items }
     requires closed { IfSome closed (StoodClosed problem.now tracked.now) }
     ensures empty { result ≡ first_empty (sets_in tracked.now) }
     ensures quiet { MarksTell problem.now.constraints marks.new tracked.now }
@@ -143,7 +144,7 @@ fn mark_problem(
 ) -> bool
     requires kept { KeepsTrack tracked.now }
     requires long { length tracked.now.words.items ≡ problem.now.points }
-    requires marks_long { length problem.now.constraints ≤ 32 * length marks.old.words.items }
+    requires marks_long { length problem.now.constraints ≤ 64 * length marks.old.words.items }
     requires closed { IfSome closed (StoodClosed problem.now tracked.now) }
     ensures quiet { MarksTell problem.now.constraints marks.new tracked.now }
     ensures full { OnTrue result (first_empty (sets_in tracked.now) ≡ None) }
@@ -164,7 +165,7 @@ fn mark_changed(network: &Network, changes: usize, tracked: &Tracked, marks: &mu
     requires network { IsNetwork network.now }
     requires kept { KeepsTrack tracked.now }
     requires long { length tracked.now.words.items ≡ network.now.points }
-    requires marks_long { length (executions_in network.now) ≤ 32 * length marks.old.words.items }
+    requires marks_long { length (executions_in network.now) ≤ 64 * length marks.old.words.items }
     requires changes { changes ≤ length tracked.now.trail.items }
     ensures untouched { IsUntouchedSince changes network.now.users tracked.now marks.new }
     ensures full { OnTrue result (EmptiesNoneSince changes tracked.now) }
@@ -272,10 +273,67 @@ fn revise(
 {
     let execution = network.execution(number as usize);
     let found = candidates_at(execution, &workspace.tracked.words);
-    match in_word(found) {
-        Some(word) => revise_word(number, execution.simplex, word, network, workspace, lines),
-        None => revise_large(number, network, workspace, lines),
+    let rule = execution.simplex;
+    match in_nibbles(found) {
+        Some(nibbles) => revise_nibbles(number, rule, nibbles, network, workspace, lines),
+        None => match in_word(found) {
+            Some(word) => revise_word(number, rule, word, network, workspace, lines),
+            None => revise_large(number, network, workspace, lines),
+        },
     }
+}
+
+/// The same, with the rule of this number and these candidates, all of them below 4.
+fn revise_nibbles(
+    number: u32,
+    rule: u32,
+    nibbles: u16,
+    network: &Network,
+    workspace: &mut Workspace,
+    lines: &mut Lines,
+) -> Option<u32>
+    requires revising { IsRevising network.now number lines.old workspace.old }
+    requires rule { rule ≡ rule_number network.now number }
+    requires found { widened (nibbles_in nibbles)
+        ≡ found_in network.now number workspace.old.tracked.words.items }
+    ensures { Revises network.now number
+        lines.old workspace.old lines.new workspace.new result }
+{
+    let supported = supported_nibbles(rule, nibbles, network, &mut workspace.memo);
+    if supported == nibbles {
+        // most executions lose nothing
+        return None;
+    }
+    take_nibbles(number, nibbles, supported, network, workspace, lines)
+}
+
+/// The same, where these of them are supported. It is no part of the loop over executions, which
+/// needs the processor's registers.
+#[inline(never)]
+fn take_nibbles(
+    number: u32,
+    nibbles: u16,
+    supported: u16,
+    network: &Network,
+    workspace: &mut Workspace,
+    lines: &mut Lines,
+) -> Option<u32>
+    requires revising { IsRevising network.now number lines.old workspace.old }
+    requires found { widened (nibbles_in nibbles)
+        ≡ found_in network.now number workspace.old.tracked.words.items }
+    requires supported { HasSupported (widened (nibbles_in supported))
+        (rule_in network.now number).table (widened (nibbles_in nibbles)) }
+    ensures { Revises network.now number
+        lines.old workspace.old lines.new workspace.new result }
+{
+    take_parts(
+        number,
+        unpacked_nibbles(nibbles),
+        unpacked_nibbles(supported),
+        network,
+        workspace,
+        lines,
+    )
 }
 
 /// The same, with the rule of this number and these candidates, all of them below 16.
@@ -294,18 +352,14 @@ fn revise_word(
     ensures { Revises network.now number
         lines.old workspace.old lines.new workspace.new result }
 {
-    let Some(supported) = supported_word(rule, word, network, &mut workspace.memo) else {
-        return revise_large(number, network, workspace, lines);
-    };
+    let supported = supported_word(rule, word, network, &mut workspace.memo);
     if supported == word {
-        // most executions lose nothing
         return None;
     }
     take_word(number, word, supported, network, workspace, lines)
 }
 
-/// The same, where these of them are supported. It is no part of the loop over executions, which
-/// needs the processor's registers.
+/// The same, where these of them are supported.
 #[inline(never)]
 fn take_word(
     number: u32,
@@ -378,6 +432,7 @@ fn revise_parts(
 }
 
 /// The same, where these of them are supported.
+#[inline(always)] // a copy for each caller, which knows more of the parts
 fn take_parts(
     number: u32,
     found: [Part; 4],
@@ -493,7 +548,7 @@ fn unmark(
     supported: [Mask; 4],
     marks: &mut Marks,
 )
-    requires number { number < 32 * length marks.old.words.items }
+    requires number { number < 64 * length marks.old.words.items }
     requires places { places ≤ 4 }
     requires long { length execution.points ≡ 4 }
     requires within { All (λ v. v < length sets.now) execution.points }
@@ -517,7 +572,7 @@ fn unmark_parts(
     supported: [Part; 4],
     marks: &mut Marks,
 )
-    requires number { number < 32 * length marks.old.words.items }
+    requires number { number < 64 * length marks.old.words.items }
     requires long { length execution.points ≡ 4 }
     requires supported_long { length supported ≡ 4 }
     requires within { All (λ v. v < length sets.now) execution.points }
@@ -555,17 +610,10 @@ fn are_parts_left(execution: PackedExecution, sets: &[Mask], supported: [Part; 4
     requires within { All (λ v. v < length sets.now) execution.points }
     ensures { OnTrue result (found_at execution sets.now ≡ widened supported) }
 {
-    let [a, b, c, d] = candidates_at(execution, sets);
-    let [first, second, third, fourth] = supported;
-    is_part(a, first) & is_part(b, second) & is_part(c, third) & is_part(d, fourth)
-}
-
-/// Whether the set has just the values of the part.
-fn is_part(set: Mask, part: Part) -> bool
-    ensures { OnTrue result (set ≡ wide_set part) }
-{
-    let [a, b, c, d] = set;
-    (a == part) & (b == 0) & (c == 0) & (d == 0)
+    match narrowed(candidates_at(execution, sets)) {
+        Some(left) => left == supported,
+        None => false,
+    }
 }
 
 /// Takes those of the values out that are still there, ascending, with their
@@ -593,6 +641,7 @@ fn take_place(
 }
 
 /// The same of values below 64.
+#[inline(always)] // so that the place is not put together in memory
 fn take_part(
     lost: Part,
     place: Occurrence,

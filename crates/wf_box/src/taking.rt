@@ -53,6 +53,7 @@ pub(crate) fn take_each(values: Mask, at: Occurrence, sets: &mut [Mask], lines: 
 }
 
 /// The same of values below 64.
+#[inline(always)] // so that the place is not put together in memory
 pub(crate) fn take_each_part(
     values: Part,
     at: Occurrence,

@@ -1,3 +1,4 @@
 pub mod LeftLemmas
+pub mod PackedLemmas
 pub mod MemoLemmas
 pub mod Lemmas

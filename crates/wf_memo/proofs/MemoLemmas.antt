@@ -1,10 +1,11 @@
 -- What is kept of the kernel's answers.
-use Rattle.std.proofs.Common.{◌≡◌, ℕ, zero, suc, ◌<◌, ◌≤◌, List, [], ◌∷◌, ◌++◌, map, length, zip, get_or, slice_index, filter, nat_lt, ◌&&◌, true, All, Option, Some, None, refl, sym, ap, ◌∙◌, subst, inl, inr, arith}
+use Rattle.std.proofs.Common.{◌≡◌, ℕ, zero, suc, ◌<◌, ◌≤◌, ◌%◌, ◌^◌, List, [], ◌∷◌, ◌++◌, map, length, zip, get_or, slice_index, filter, nat_lt, ◌&&◌, true, All, Option, Some, None, refl, sym, ap, ◌∙◌, subst, inl, inr, arith, ◌==◌, false, ne_eqb}
 use Rattle.std.specs.List.{slice_index_or}
 use Rattle.std.proofs.lemmas.List.{get_or-map, get_or_default, length-map}
 use Rattle.std.proofs.lemmas.List.Elements.{All-append, All-map}
 use Rattle.std.proofs.lemmas.Bool.{and_from, and_parts, cases_lt, false≢true, lt-ltb}
 use Rattle.wf_model.specs.Simplex.{processes_of}
+use Rattle.wf_model.specs.Limits.{most_executions}
 use Rattle.wf_model.specs.Problem.{Constraint, no_constraint}
 use Rattle.wf_lane.specs.Table.{AreFirstParts, HasSupported, Table, sets_of}
 use Rattle.wf_network.specs.Problems.{IsNetwork, IsWide, constraint_seen, constraints_in, executions_in, no_rule, rule_at, rule_in, rule_of}
@@ -15,15 +16,18 @@ use Rattle.wf_set.proofs.Lemmas.{has_large, in_four}
 use Rattle.wf_set.proofs.SetLaws.{values_of_part}
 use Rattle.wf_model.specs.Lists.{has}
 use Rattle.wf_model.proofs.Basics.{has-filter}
-use Rattle.wf_memo.specs.Revising.{AreKnown, IsKnown, IsKnownParts, IsKnownWord, answer_seen, answers_in, table_seen, wide_set, widened, word_seen}
+use Rattle.wf_memo.specs.Revising.{AreKnown, IsKnown, IsKnownNibbles, IsKnownParts, IsKnownWord, answer_seen, answers_in, nibbles_seen, table_seen, wide_set, widened, word_seen}
+use Rattle.wf_memo.specs.declared.memo.TheConstants.{NO_EXECUTION}
 use Rattle.wf_memo.specs.declared.memo.Memo.{Memo}
 use Rattle.wf_memo.specs.declared.memo.Revised.{Revised}
+use Rattle.wf_memo.specs.declared.memo.RevisedNibbles.{RevisedNibbles}
 use Rattle.wf_memo.specs.declared.memo.RevisedParts.{RevisedParts}
 use Rattle.wf_memo.specs.declared.memo.RevisedWord.{RevisedWord}
 use Rattle.wf_complex.specs.declared.packed.PackedExecution.{PackedExecution}
 use Rattle.wf_network.specs.declared.problem.Network.{Network}
 use Rattle.wf_network.specs.declared.problem.Rule.{Rule}
 use Rattle.wf_memo.proofs.LeftLemmas.{sets_at, supported_there}
+use Rattle.wf_memo.proofs.PackedLemmas.{cut_supported}
 use Rattle.wf_network.proofs.Lemmas.{few_at}
 
 -- ---- answers of all kinds
@@ -37,30 +41,46 @@ back : {X : Type 0} (P : X → Type 0) (xs ys : List X) → All P (xs ++ ys) →
 back P [] ys all = all
 back P (x ∷ xs) ys all = back P xs ys (λ k e h. all (suc k) e (omega (arith, h)))
 
-seen_known : (ks : List Constraint) (answers : List (Option RevisedParts)) → AreKnown ks (map answer_seen answers) → All (IsKnownParts ks) answers
-seen_known ks [] all i d low = absurd (let none : ⊥ = omega (arith, low) in none)
-seen_known ks (x ∷ xs) all zero d low = all 0 None (omega arith)
-seen_known ks (x ∷ xs) all (suc i) d low = seen_known ks xs (λ k e h. all (suc k) e (omega (arith, h))) i d (omega (arith, low))
+from_map : {X Y : Type 0} (P : Y → Type 0) (f : X → Y) (y : Y) (xs : List X) → All P (map f xs) → All (λ x. P (f x)) xs
+from_map P f y [] all i d low = absurd (let none : ⊥ = omega (arith, low) in none)
+from_map P f y (x ∷ xs) all zero d low = all 0 y (omega arith)
+from_map P f y (x ∷ xs) all (suc i) d low = from_map P f y xs (λ k e h. all (suc k) e (omega (arith, h))) i d (omega (arith, low))
 
-words_known : (ks : List Constraint) (answers : List (Option RevisedWord)) → AreKnown ks (map word_seen answers) → All (IsKnownWord ks) answers
-words_known ks [] all i d low = absurd (let none : ⊥ = omega (arith, low) in none)
-words_known ks (x ∷ xs) all zero d low = all 0 None (omega arith)
-words_known ks (x ∷ xs) all (suc i) d low = words_known ks xs (λ k e h. all (suc k) e (omega (arith, h))) i d (omega (arith, low))
+-- the answers of a memo for candidates below 4, those and the ones below 16, and those and the ones below 64
+abbrev tiny_in : Memo → List (Option Revised)
+tiny_in m = map nibbles_seen m.tiny.items
+
+abbrev small_in : Memo → List (Option Revised)
+small_in m = tiny_in m ++ map word_seen m.small.items
+
+abbrev narrow_in : Memo → List (Option Revised)
+narrow_in m = small_in m ++ map answer_seen m.narrow.items
+
+up_to_narrow : (ks : List Constraint) (m : Memo) → AreKnown ks (answers_in m) → AreKnown ks (narrow_in m)
+up_to_narrow ks m known = front (IsKnown ks) (narrow_in m) m.wide.items known
+
+up_to_small : (ks : List Constraint) (m : Memo) → AreKnown ks (answers_in m) → AreKnown ks (small_in m)
+up_to_small ks m known = front (IsKnown ks) (small_in m) (map answer_seen m.narrow.items) (up_to_narrow ks m known)
+
+pub tiny_known : (ks : List Constraint) (m : Memo) → AreKnown ks (answers_in m) → All (IsKnownNibbles ks) m.tiny.items
+tiny_known ks m known = from_map (IsKnown ks) nibbles_seen None m.tiny.items (front (IsKnown ks) (tiny_in m) (map word_seen m.small.items) (up_to_small ks m known))
 
 pub small_known : (ks : List Constraint) (m : Memo) → AreKnown ks (answers_in m) → All (IsKnownWord ks) m.small.items
-small_known ks m known = words_known ks m.small.items (front (IsKnown ks) (map word_seen m.small.items) (map answer_seen m.narrow.items)
-    (front (IsKnown ks) (map word_seen m.small.items ++ map answer_seen m.narrow.items) m.wide.items known))
+small_known ks m known = from_map (IsKnown ks) word_seen None m.small.items (back (IsKnown ks) (tiny_in m) (map word_seen m.small.items) (up_to_small ks m known))
 
 pub narrow_known : (ks : List Constraint) (m : Memo) → AreKnown ks (answers_in m) → All (IsKnownParts ks) m.narrow.items
-narrow_known ks m known = seen_known ks m.narrow.items (back (IsKnown ks) (map word_seen m.small.items) (map answer_seen m.narrow.items)
-    (front (IsKnown ks) (map word_seen m.small.items ++ map answer_seen m.narrow.items) m.wide.items known))
+narrow_known ks m known = from_map (IsKnown ks) answer_seen None m.narrow.items (back (IsKnown ks) (small_in m) (map answer_seen m.narrow.items) (up_to_narrow ks m known))
 
 pub wide_known : (ks : List Constraint) (m : Memo) → AreKnown ks (answers_in m) → All (IsKnown ks) m.wide.items
-wide_known ks m known = back (IsKnown ks) (map word_seen m.small.items ++ map answer_seen m.narrow.items) m.wide.items known
+wide_known ks m known = back (IsKnown ks) (narrow_in m) m.wide.items known
 
-pub all_known : (ks : List Constraint) (small : List (Option RevisedWord)) (narrow : List (Option RevisedParts)) (wide : List (Option Revised)) → All (IsKnownWord ks) small → All (IsKnownParts ks) narrow → All (IsKnown ks) wide → AreKnown ks (map word_seen small ++ map answer_seen narrow ++ wide)
-all_known ks small narrow wide first second third = All-append (IsKnown ks) (map word_seen small ++ map answer_seen narrow) wide
-    (All-append (IsKnown ks) (map word_seen small) (map answer_seen narrow) (All-map (IsKnown ks) word_seen small first) (All-map (IsKnown ks) answer_seen narrow second)) third
+pub all_known : (ks : List Constraint) (tiny : List RevisedNibbles) (small : List RevisedWord) (narrow : List (Option RevisedParts)) (wide : List (Option Revised)) → All (IsKnownNibbles ks) tiny → All (IsKnownWord ks) small → All (IsKnownParts ks) narrow → All (IsKnown ks) wide
+    → AreKnown ks (map nibbles_seen tiny ++ map word_seen small ++ map answer_seen narrow ++ wide)
+all_known ks tiny small narrow wide first second third fourth =
+    let P = IsKnown ks in
+    All-append P (map nibbles_seen tiny ++ map word_seen small ++ map answer_seen narrow) wide
+    (All-append P (map nibbles_seen tiny ++ map word_seen small) (map answer_seen narrow)
+    (All-append P (map nibbles_seen tiny) (map word_seen small) (All-map P nibbles_seen tiny first) (All-map P word_seen small second)) (All-map P answer_seen narrow third)) fourth
 
 -- what is none or nothing at all is none
 pub none_alone : {A : Type 0} (C : Option A → Type 0) → ((x : A) → C (Some x) → ⊥) → (y : Option A) → C y → y ≡ None
@@ -93,15 +113,30 @@ table_at n e network low few =
 pub right_at : (n : Network) (number : ℕ) (rule : Rule) (candidates supported : List (List ℕ)) → number < length n.rules.items → rule ≡ slice_index_or n.rules.items number rule → HasSupported supported rule.table candidates → HasSupported supported (rule_at n number).table candidates
 right_at n number rule candidates supported low here right = subst (λ (r : Rule). HasSupported supported r.table candidates) (here ∙ sym (get_or_default n.rules.items number no_rule rule low)) right
 
+-- the same of parts that are packed: no bit past their limit is lost, where the candidates are below it
+pub packed_right : (n : Network) (number : ℕ) (rule : Rule) (bits : ℕ) (given candidates parts found : List ℕ) → IsNetwork n → number < length n.rules.items → rule ≡ slice_index_or n.rules.items number rule → candidates ≡ given → length given ≡ 4 → All (λ p. p < 2 ^ bits) given → length parts ≡ 4 → found ≡ map (λ p. p % 2 ^ bits) parts
+    → HasSupported (widened parts) rule.table (widened candidates) → HasSupported (widened found) (rule_at n number).table (widened given)
+packed_right n number rule bits given candidates parts found network low here is many below long cut right =
+    let table = (rule_at n number).table in
+    let few = (network.processes number no_rule low).narrow in
+    let wide = network.wide number no_rule low in
+    subst (λ ps. HasSupported (widened ps) table (widened given)) (sym cut)
+    (cut_supported bits table parts given long many (omega (arith, wide, few)) below
+    (subst (λ ps. HasSupported (widened parts) table (widened ps)) is (right_at n number rule (widened candidates) (widened parts) low here right)))
+
 -- the execution that stands for a rule, as it is read
 pub lead_is : (n : Network) (rule lead : ℕ) → IsNetwork n → rule < length n.rules.items → lead ≡ slice_index_or n.leads.items rule lead → lead ≡ slice_index n.leads.items rule
 lead_is n rule lead network low here = here ∙ sym (get_or_default n.leads.items rule 0 lead (omega (arith, low, network.as_many_leads)))
+
+-- its number is small
+lead_low : (n : Network) (rule : ℕ) → IsNetwork n → rule < length n.rules.items → slice_index n.leads.items rule ≤ most_executions
+lead_low n rule network low = omega (arith, (network.leads rule (omega (arith, low, network.as_many_leads))).low, network.few_executions)
 
 -- it has the rule's table
 lead_table : (n : Network) (rule : ℕ) → IsNetwork n → rule < length n.rules.items → slice_index n.leads.items rule < length (executions_in n) → table_seen (get_or (constraints_in n) (slice_index n.leads.items rule) no_constraint) ≡ (rule_at n rule).table
 lead_table n rule network low inside =
     let lead = slice_index n.leads.items rule in
-    table_at n lead network inside (few_at n lead network inside) ∙ network.leads rule (omega (arith, low, network.as_many_leads)) inside
+    table_at n lead network inside (few_at n lead network inside) ∙ (network.leads rule (omega (arith, low, network.as_many_leads))).same inside
 
 -- what is kept for that execution serves for the rule
 pub known_serves : (n : Network) (rule : ℕ) (known : Revised) → IsNetwork n → rule < length n.rules.items → known.execution ≡ slice_index n.leads.items rule
@@ -109,6 +144,10 @@ pub known_serves : (n : Network) (rule : ℕ) (known : Revised) → IsNetwork n 
 known_serves n rule known network low is right =
     let inside : slice_index n.leads.items rule < length (executions_in n) = omega (arith, is, right.there, length-map (executions_in n) (constraint_seen n.rules.items)) in
     subst (λ t. HasSupported known.supported t known.candidates) (ap (λ e. table_seen (get_or (constraints_in n) e no_constraint)) is ∙ lead_table n rule network low inside) right.supported
+
+-- the number is that of an execution
+pub lead_there : (n : Network) (rule lead : ℕ) → IsNetwork n → rule < length n.rules.items → lead ≡ slice_index n.leads.items rule → (lead == NO_EXECUTION) ≡ false
+lead_there n rule lead network low is = ne_eqb lead NO_EXECUTION (λ e. absurd (let none : ⊥ = omega (arith, is, e, lead_low n rule network low) in none))
 
 -- what the rule supports may be kept for it
 pub known_now : (n : Network) (rule lead : ℕ) (candidates supported : List (List ℕ)) → IsNetwork n → rule < length n.rules.items → lead ≡ slice_index n.leads.items rule → lead < length (executions_in n)

@@ -1,12 +1,14 @@
 -- What a box keeps of the kernel's answers.
-use Rattle.std.specs.Prelude.{ℕ, ◌≡◌, ◌≢◌, ◌<◌, ◌*◌, ◌/◌, ◌%◌, List, [], ◌∷◌, ◌++◌, map, All, length, get_or, Option, Some, None}
+use Rattle.std.specs.Prelude.{ℕ, ◌≡◌, ◌≢◌, ◌<◌, ◌*◌, ◌/◌, ◌%◌, ◌==◌, cond, List, [], ◌∷◌, ◌++◌, map, All, length, get_or, Option, Some, None}
 use Rattle.wf_model.specs.Problem.{Constraint, no_constraint}
 use Rattle.wf_lane.specs.Table.{HasSupported, Table}
 use Rattle.wf_memo.specs.declared.memo.Memo.{Memo}
 use Rattle.wf_memo.specs.declared.memo.Revised.{Revised}
+use Rattle.wf_memo.specs.declared.memo.RevisedNibbles.{RevisedNibbles}
 use Rattle.wf_memo.specs.declared.memo.RevisedParts.{RevisedParts}
 use Rattle.wf_memo.specs.declared.memo.RevisedWord.{RevisedWord}
-use Rattle.wf_memo.specs.declared.revising.TheConstants.{SMALL_LIMIT}
+use Rattle.wf_memo.specs.declared.memo.TheConstants.{NO_EXECUTION}
+use Rattle.wf_memo.specs.declared.revising.TheConstants.{SMALL_LIMIT, TINY_LIMIT}
 use Rattle.wf_complex.specs.declared.packed.PackedExecution.{PackedExecution}
 use Rattle.wf_network.specs.Problems.{executions_in}
 use Rattle.wf_network.specs.declared.problem.Network.{Network}
@@ -24,9 +26,21 @@ widened parts = map wide_set parts
 abbrev pub AreWide : List (List ℕ) → Type 0
 AreWide sets = (parts : List ℕ) → widened parts ≢ sets
 
--- the four parts that are packed in a word, the first one lowest
+-- no parts below the limit have these sets, of which one has a value that is too large for that
+abbrev pub AreBeyond : ℕ → List (List ℕ) → Type 0
+AreBeyond limit sets = (parts : List ℕ) → All (λ part. part < limit) parts → widened parts ≢ sets
+
+-- the four parts that are packed in a number, each below the limit, the first one lowest
+abbrev pub packed_in : ℕ → ℕ → List ℕ
+packed_in limit n = (n % limit) ∷ (n / limit % limit) ∷ (n / (limit * limit) % limit) ∷ (n / (limit * limit * limit)) ∷ []
+
+-- those of a word, 16 bits each
 abbrev pub parts_in : ℕ → List ℕ
-parts_in word = (word % SMALL_LIMIT) ∷ (word / SMALL_LIMIT % SMALL_LIMIT) ∷ (word / (SMALL_LIMIT * SMALL_LIMIT) % SMALL_LIMIT) ∷ (word / (SMALL_LIMIT * SMALL_LIMIT * SMALL_LIMIT)) ∷ []
+parts_in word = packed_in SMALL_LIMIT word
+
+-- those of sixteen bits, four each
+abbrev pub nibbles_in : ℕ → List ℕ
+nibbles_in nibbles = packed_in TINY_LIMIT nibbles
 
 -- what is left of some candidates; none stands for all of them
 abbrev pub left_of : List ℕ → Option (List ℕ) → List ℕ
@@ -71,14 +85,20 @@ answer_seen (Some known) = Some (record { execution = known.execution; candidate
 abbrev pub IsKnownParts : List Constraint → Option RevisedParts → Type 0
 IsKnownParts ks known = IsKnown ks (answer_seen known)
 
--- the same of an answer for candidates below 16
-abbrev pub word_seen : Option RevisedWord → Option Revised
-word_seen None = None
-word_seen (Some known) = Some (record { execution = known.execution; candidates = widened (parts_in known.candidates); supported = widened (parts_in known.supported) })
+-- the same of an answer for candidates below 16, where it is one
+abbrev pub word_seen : RevisedWord → Option Revised
+word_seen known = cond (known.execution == NO_EXECUTION) None (Some (record { execution = known.execution; candidates = widened (parts_in known.candidates); supported = widened (parts_in known.supported) }))
 
-abbrev pub IsKnownWord : List Constraint → Option RevisedWord → Type 0
+abbrev pub IsKnownWord : List Constraint → RevisedWord → Type 0
 IsKnownWord ks known = IsKnown ks (word_seen known)
+
+-- the same of an answer for candidates below 4
+abbrev pub nibbles_seen : RevisedNibbles → Option Revised
+nibbles_seen known = cond (known.execution == NO_EXECUTION) None (Some (record { execution = known.execution; candidates = widened (nibbles_in known.candidates); supported = widened (nibbles_in known.supported) }))
+
+abbrev pub IsKnownNibbles : List Constraint → RevisedNibbles → Type 0
+IsKnownNibbles ks known = IsKnown ks (nibbles_seen known)
 
 -- all answers of a memo
 abbrev pub answers_in : Memo → List (Option Revised)
-answers_in m = map word_seen m.small.items ++ map answer_seen m.narrow.items ++ m.wide.items
+answers_in m = map nibbles_seen m.tiny.items ++ map word_seen m.small.items ++ map answer_seen m.narrow.items ++ m.wide.items

@@ -2,7 +2,7 @@
 
 ghost use Rattle.std.specs.Prelude.{◌≡◌, [], All, List, Some};
 ghost use Rattle.wf_model.specs.Problem.{Constraint};
-ghost use Rattle.wf_memo.specs.Revising.{AreKnown, IsKnown, IsKnownParts, IsKnownWord, answers_in};
+ghost use Rattle.wf_memo.specs.Revising.{AreKnown, IsKnown, IsKnownNibbles, IsKnownParts, IsKnownWord, answers_in};
 
 use std::alloc::Global;
 use wf_set::Mask;
@@ -14,7 +14,7 @@ const FEWEST: usize = 64;
 /// How many there are at most for candidates of which one is 64 or more.
 const MOST_WIDE: usize = 4096;
 
-/// How many there are at most for candidates below 16, and for others below 64.
+/// How many there are at most for candidates below 4, below 16 and below 64.
 const MOST_NARROW: usize = 65536;
 
 /// The places become so many times as many.
@@ -45,10 +45,11 @@ pub struct RevisedParts {
 }
 
 /// The same for candidates below 16, in a machine word each: 16 bits for each place, those of the
-/// first one lowest. Most problems have no others, and more of these lie near each other.
+/// first one lowest.
 #[derive(Clone, Copy, Debug)]
 pub struct RevisedWord {
-    /// The execution that stands for the rules with this table.
+    /// The execution that stands for the rules with this table; where there is no answer, a number
+    /// that no execution has.
     pub execution: u32,
     /// The candidates at each place.
     pub candidates: u64,
@@ -56,13 +57,47 @@ pub struct RevisedWord {
     pub supported: u64,
 }
 
+/// The same for candidates below 4, in eight bytes: four bits for each place, those of the first one
+/// lowest. Most problems have no others, and more of these lie near each other.
+#[derive(Clone, Copy, Debug)]
+pub struct RevisedNibbles {
+    /// The execution that stands for the rules with this table; where there is no answer, a number
+    /// that no execution has.
+    pub execution: u32,
+    /// The candidates at each place.
+    pub candidates: u16,
+    /// Those of them that the rule supports.
+    pub supported: u16,
+}
+
+/// The number that no execution has.
+const NO_EXECUTION: u32 = u32::MAX;
+
+/// No answer for candidates below 4.
+const NO_NIBBLES: RevisedNibbles = RevisedNibbles {
+    execution: NO_EXECUTION,
+    candidates: 0,
+    supported: 0,
+};
+
+/// No answer for others below 16.
+const NO_WORD: RevisedWord = RevisedWord {
+    execution: NO_EXECUTION,
+    candidates: 0,
+    supported: 0,
+};
+
 /// Answers of the kernel. Each has its place by its rule and its candidates,
 /// and stays there until another one comes.
 #[derive(Drop)]
 pub struct Memo {
-    /// Those for candidates below 16.
-    pub small: Vec<Option<RevisedWord>>,
+    /// Those for candidates below 4.
+    pub tiny: Vec<RevisedNibbles>,
     /// How many of these were not there, since it has so many places for them.
+    pub tiny_misses: u32,
+    /// Those for others below 16.
+    pub small: Vec<RevisedWord>,
+    /// How many of these were not there.
     pub small_misses: u32,
     /// Those for others below 64.
     pub narrow: Vec<Option<RevisedParts>>,
@@ -80,6 +115,8 @@ impl Memo {
         ensures { answers_in result ≡ [] }
     {
         Memo {
+            tiny: Vec::new(alloc),
+            tiny_misses: 0,
             small: Vec::new(alloc),
             small_misses: 0,
             narrow: Vec::new(alloc),
@@ -96,19 +133,36 @@ impl Memo {
         ensures { (ks : List Constraint) → AreKnown ks (answers_in self.old)
             → AreKnown ks (answers_in self.new) }
     {
+        self.grow_tiny(alloc);
         self.grow_small(alloc);
         self.grow_narrow(alloc);
         self.grow_wide(alloc);
     }
 
-    /// The same for candidates below 16.
+    /// The same for candidates below 4.
+    fn grow_tiny(&mut self, alloc: Global)
+        ensures { (ks : List Constraint) → AreKnown ks (answers_in self.old)
+            → AreKnown ks (answers_in self.new) }
+    {
+        let places = places_wanted(self.tiny.len(), self.tiny_misses, MOST_NARROW);
+        if places > self.tiny.len()
+            && let Ok(tiny) = vec![in alloc; NO_NIBBLES; places]
+        {
+            let mut more = tiny;
+            keep_tiny(&mut more, &self.tiny);
+            self.tiny = more;
+            self.tiny_misses = 0;
+        }
+    }
+
+    /// The same for others below 16.
     fn grow_small(&mut self, alloc: Global)
         ensures { (ks : List Constraint) → AreKnown ks (answers_in self.old)
             → AreKnown ks (answers_in self.new) }
     {
         let places = places_wanted(self.small.len(), self.small_misses, MOST_NARROW);
         if places > self.small.len()
-            && let Ok(small) = vec![in alloc; None; places]
+            && let Ok(small) = vec![in alloc; NO_WORD; places]
         {
             let mut more = small;
             keep_words(&mut more, &self.small);
@@ -149,15 +203,26 @@ impl Memo {
         }
     }
 
-    /// Keeps an answer for candidates below 16 at this place, where there is
+    /// Keeps an answer for candidates below 4 at this place, where there is
     /// one, and forgets the one that was there.
+    pub(crate) fn keep_nibbles(&mut self, place: usize, answer: RevisedNibbles)
+        ensures { (ks : List Constraint) → IsKnownNibbles ks answer
+            → AreKnown ks (answers_in self.old) → AreKnown ks (answers_in self.new) }
+    {
+        self.tiny_misses = self.tiny_misses.saturating_add(1);
+        if place < self.tiny.len() {
+            self.tiny[place] = answer;
+        }
+    }
+
+    /// The same for others below 16.
     pub(crate) fn keep_small(&mut self, place: usize, answer: RevisedWord)
-        ensures { (ks : List Constraint) → IsKnownWord ks (Some answer)
+        ensures { (ks : List Constraint) → IsKnownWord ks answer
             → AreKnown ks (answers_in self.old) → AreKnown ks (answers_in self.new) }
     {
         self.small_misses = self.small_misses.saturating_add(1);
         if place < self.small.len() {
-            self.small[place] = Some(answer);
+            self.small[place] = answer;
         }
     }
 
@@ -184,18 +249,29 @@ impl Memo {
     }
 }
 
-/// Keeps these answers for candidates below 16 at their places, each of which forgets the one that
+/// Keeps these answers for candidates below 4 at their places, each of which forgets the one that
 /// was there.
-fn keep_words(places: &mut Vec<Option<RevisedWord>>, answers: &[Option<RevisedWord>])
+fn keep_tiny(places: &mut Vec<RevisedNibbles>, answers: &[RevisedNibbles])
+    ensures { (ks : List Constraint) → All (IsKnownNibbles ks) answers.now
+        → All (IsKnownNibbles ks) places.old.items → All (IsKnownNibbles ks) places.new.items }
+{
+    for answer in answers {
+        let place = slot_of_nibbles(answer.execution, answer.candidates, places.len());
+        if place < places.len() && answer.execution != NO_EXECUTION {
+            places[place] = *answer;
+        }
+    }
+}
+
+/// The same for others below 16.
+fn keep_words(places: &mut Vec<RevisedWord>, answers: &[RevisedWord])
     ensures { (ks : List Constraint) → All (IsKnownWord ks) answers.now
         → All (IsKnownWord ks) places.old.items → All (IsKnownWord ks) places.new.items }
 {
     for answer in answers {
-        if let Some(kept) = answer {
-            let place = slot_of_word(kept.execution, kept.candidates, places.len());
-            if place < places.len() {
-                places[place] = Some(*kept);
-            }
+        let place = slot_of_word(answer.execution, answer.candidates, places.len());
+        if place < places.len() && answer.execution != NO_EXECUTION {
+            places[place] = *answer;
         }
     }
 }
@@ -226,26 +302,27 @@ fn places_wanted(places: usize, misses: u32, most: usize) -> usize {
     }
 }
 
-/// The lowest four bits of each part in a word.
-const LOW_BITS: u64 = 0x000f_000f_000f_000f;
-
 /// From so many places on, candidates below 4 have places of their own.
 const APART: usize = 4096;
 
-/// Where among so many places, a power of two, the answer for candidates below 16 is and for the
+/// Where among so many places, a power of two, the answer for candidates below 4 is and for the
 /// rules for which this execution stands. With none at all it is 0.
 ///
-/// Any place would be right. Where there are enough, candidates below 4 are apart from each other:
-/// most tasks have no others, and those of three places of a rule then lie together.
-pub(crate) fn slot_of_word(execution: u32, word: u64, places: usize) -> usize {
+/// Any place would be right. Where there are enough, those of three places of a rule are apart from
+/// each other.
+#[inline]
+pub(crate) fn slot_of_nibbles(execution: u32, candidates: u16, places: usize) -> usize {
     if places < APART {
-        return slot_of(execution, [word, 0, 0, 0], places);
+        return slot_of(execution, [u64::from(candidates), 0, 0, 0], places);
     }
-    // side by side: part i goes from bit 16 * i to bit 36 + 4 * i
-    let low = (word & LOW_BITS).wrapping_mul(0x0000_0010_0100_1001) >> 36 & 0xffff;
-    let rest = word & !LOW_BITS;
-    let high = if rest == 0 { 0 } else { mixed(rest) };
-    (low ^ high ^ mixed(u64::from(execution))) as usize & places.saturating_sub(1)
+    let place = u64::from(candidates) ^ mixed(u64::from(execution));
+    place as usize & places.saturating_sub(1)
+}
+
+/// The same for others below 16.
+#[inline]
+pub(crate) fn slot_of_word(execution: u32, word: u64, places: usize) -> usize {
+    slot_of(execution, [word, 0, 0, 0], places)
 }
 
 /// Where among so many places, a power of two, the answer for these candidates is and for the rules

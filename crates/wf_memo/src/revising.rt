@@ -1,15 +1,21 @@
 //! What the rules of executions support.
 
-ghost use Rattle.std.specs.Prelude.{◌≡◌, ◌≢◌, ◌<◌, ℕ, All, length, slice_index, IfSome, IfNone};
+ghost use Rattle.std.specs.Prelude.{◌≡◌, ◌≢◌, ◌<◌, ◌%◌, ℕ, All, length, map, slice_index, IfSome, IfNone};
 ghost use Rattle.std.specs.Bool.{OnFalse, OnTrue};
 ghost use Rattle.wf_lane.specs.Table.{AreFirstParts, HasSupported};
 ghost use Rattle.wf_network.specs.Problems.{IsNetwork, IsWide, KeepsProcesses, constraints_in, rule_at};
-ghost use Rattle.wf_memo.specs.Revising.{AreKnown, AreWide, answers_in, found_at, left_of, parts_in, wide_set, widened};
+ghost use Rattle.wf_memo.specs.Revising.{AreBeyond, AreKnown, AreWide, answers_in, found_at, left_of, nibbles_in, parts_in, wide_set, widened};
 
-use crate::memo::{Memo, Revised, RevisedParts, RevisedWord, slot_of, slot_of_word};
+use crate::memo::{
+    Memo, Revised, RevisedNibbles, RevisedParts, RevisedWord, slot_of, slot_of_nibbles,
+    slot_of_word,
+};
 use wf_network::{Network, PackedExecution, Rule};
 use wf_set::part::Part;
 use wf_set::{Mask, first_part};
+
+/// Parts of values below 4 are below this one.
+const TINY_LIMIT: u64 = 16;
 
 /// Parts of values below 16 are below this one.
 const SMALL_LIMIT: u64 = 65_536;
@@ -31,51 +37,124 @@ pub fn candidates_at(execution: PackedExecution, sets: &[Mask]) -> [Mask; 4]
     ]
 }
 
-/// These sets in one word, 16 bits each, the first one lowest, where each value is below 16.
+/// These sets in sixteen bits, four each, the first one lowest, where each value is below 4; none
+/// where one is not.
 #[inline]
-pub fn in_word(sets: [Mask; 4]) -> Option<u64>
-    ensures { IfSome result (λ word. widened (parts_in word) ≡ sets) }
+pub fn in_nibbles(sets: [Mask; 4]) -> Option<u16>
+    ensures sets { IfSome result (λ nibbles. widened (nibbles_in nibbles) ≡ sets) }
+    ensures none { IfNone result (AreBeyond TINY_LIMIT sets) }
 {
-    packed(narrowed(sets)?)
+    let parts = narrowed(sets)?;
+    if are_below(TINY_LIMIT, parts) {
+        Some(nibbles_of(parts))
+    } else {
+        None
+    }
 }
 
-/// The values that the rule of this number supports at each place for candidates below 16, and
-/// past its places those of the first place again; none where one of them is 16 or more, which is
-/// then no candidate, so that no table does so. Answers are kept, since many executions of a
-/// simplex have the same candidates, and have them again.
+/// These sets in one word, 16 bits each, the first one lowest, where each value is below 16; none
+/// where one is not.
 #[inline]
-pub fn supported_word(rule: u32, word: u64, network: &Network, memo: &mut Memo) -> Option<u64>
+pub fn in_word(sets: [Mask; 4]) -> Option<u64>
+    ensures sets { IfSome result (λ word. widened (parts_in word) ≡ sets) }
+    ensures none { IfNone result (AreBeyond SMALL_LIMIT sets) }
+{
+    let parts = narrowed(sets)?;
+    if are_below(SMALL_LIMIT, parts) {
+        Some(word_of(parts))
+    } else {
+        None
+    }
+}
+
+/// The values that the rule of this number supports at each place for candidates below 4, four bits
+/// each; past its places those of the first place again. Answers are kept, since many executions of
+/// a simplex have the same candidates, and have them again.
+#[inline]
+pub fn supported_nibbles(rule: u32, candidates: u16, network: &Network, memo: &mut Memo) -> u16
     requires network { IsNetwork network.now }
     requires rule { rule < length network.now.rules.items }
     requires known { AreKnown (constraints_in network.now) (answers_in memo.old) }
-    ensures supported { IfSome result (λ other. HasSupported (widened (parts_in other))
-        (rule_at network.now rule).table (widened (parts_in word))) }
+    ensures supported { HasSupported (widened (nibbles_in result))
+        (rule_at network.now rule).table (widened (nibbles_in candidates)) }
+    ensures known { AreKnown (constraints_in network.now) (answers_in memo.new) }
+{
+    let lead = network.leads[rule as usize];
+    let slot = slot_of_nibbles(lead, candidates, memo.tiny.len());
+    if slot < memo.tiny.len() {
+        let answer = memo.tiny[slot];
+        if answer.candidates == candidates && answer.execution == lead {
+            return answer.supported;
+        }
+    }
+    revise_nibbles(rule, slot, candidates, network, memo)
+}
+
+/// The same, where no answer is kept.
+#[inline(never)]
+fn revise_nibbles(
+    rule: u32,
+    slot: usize,
+    candidates: u16,
+    network: &Network,
+    memo: &mut Memo,
+) -> u16
+    requires network { IsNetwork network.now }
+    requires rule { rule < length network.now.rules.items }
+    requires known { AreKnown (constraints_in network.now) (answers_in memo.old) }
+    ensures supported { HasSupported (widened (nibbles_in result))
+        (rule_at network.now rule).table (widened (nibbles_in candidates)) }
+    ensures known { AreKnown (constraints_in network.now) (answers_in memo.new) }
+{
+    let parts = revised(&network.rules[rule as usize], unpacked_nibbles(candidates));
+    let supported = nibbles_of(cut(TINY_LIMIT, parts));
+    let execution = network.leads[rule as usize];
+    if (execution as usize) < network.execution_count() {
+        memo.keep_nibbles(
+            slot,
+            RevisedNibbles {
+                execution,
+                candidates,
+                supported,
+            },
+        );
+    }
+    supported
+}
+
+/// The same for candidates below 16, 16 bits each.
+#[inline]
+pub fn supported_word(rule: u32, word: u64, network: &Network, memo: &mut Memo) -> u64
+    requires network { IsNetwork network.now }
+    requires rule { rule < length network.now.rules.items }
+    requires known { AreKnown (constraints_in network.now) (answers_in memo.old) }
+    ensures supported { HasSupported (widened (parts_in result))
+        (rule_at network.now rule).table (widened (parts_in word)) }
     ensures known { AreKnown (constraints_in network.now) (answers_in memo.new) }
 {
     let lead = network.leads[rule as usize];
     let slot = slot_of_word(lead, word, memo.small.len());
-    if slot < memo.small.len()
-        && let Some(answer) = &memo.small[slot]
-        && answer.candidates == word
-        && answer.execution == lead
-    {
-        return Some(answer.supported);
+    if slot < memo.small.len() {
+        let answer = memo.small[slot];
+        if answer.candidates == word && answer.execution == lead {
+            return answer.supported;
+        }
     }
     revise_word(rule, slot, word, network, memo)
 }
 
 /// The same, where no answer is kept.
 #[inline(never)]
-fn revise_word(rule: u32, slot: usize, word: u64, network: &Network, memo: &mut Memo) -> Option<u64>
+fn revise_word(rule: u32, slot: usize, word: u64, network: &Network, memo: &mut Memo) -> u64
     requires network { IsNetwork network.now }
     requires rule { rule < length network.now.rules.items }
     requires known { AreKnown (constraints_in network.now) (answers_in memo.old) }
-    ensures supported { IfSome result (λ other. HasSupported (widened (parts_in other))
-        (rule_at network.now rule).table (widened (parts_in word))) }
+    ensures supported { HasSupported (widened (parts_in result))
+        (rule_at network.now rule).table (widened (parts_in word)) }
     ensures known { AreKnown (constraints_in network.now) (answers_in memo.new) }
 {
     let parts = revised(&network.rules[rule as usize], unpacked(word));
-    let supported = packed(parts)?;
+    let supported = word_of(cut(SMALL_LIMIT, parts));
     let execution = network.leads[rule as usize];
     if (execution as usize) < network.execution_count() {
         memo.keep_small(
@@ -87,19 +166,62 @@ fn revise_word(rule: u32, slot: usize, word: u64, network: &Network, memo: &mut 
             },
         );
     }
-    Some(supported)
+    supported
 }
 
-/// The parts in one word, 16 bits each, where each value is below 16.
-fn packed(parts: [Part; 4]) -> Option<u64>
-    ensures { IfSome result (λ word. parts_in word ≡ parts) }
+/// Whether each part is below the limit.
+#[inline]
+fn are_below(limit: u64, parts: [Part; 4]) -> bool
+    requires { length parts ≡ 4 }
+    ensures below { OnTrue result (All (λ part. part < limit) parts) }
+    ensures beyond { OnFalse result (All (λ part. part < limit) parts → ⊥) }
 {
     let [a, b, c, d] = parts;
-    if (a < SMALL_LIMIT) & (b < SMALL_LIMIT) & (c < SMALL_LIMIT) & (d < SMALL_LIMIT) {
-        Some(a + SMALL_LIMIT * (b + SMALL_LIMIT * (c + SMALL_LIMIT * d)))
-    } else {
-        None
-    }
+    (a < limit) & (b < limit) & (c < limit) & (d < limit)
+}
+
+/// The parts without what is not below the limit, a power of two.
+fn cut(limit: u64, parts: [Part; 4]) -> [Part; 4]
+    requires { 0 < limit }
+    ensures { result ≡ map (λ part. part % limit) parts }
+{
+    let [a, b, c, d] = parts;
+    [a % limit, b % limit, c % limit, d % limit]
+}
+
+/// The parts in sixteen bits, four each.
+#[inline]
+fn nibbles_of(parts: [Part; 4]) -> u16
+    requires long { length parts ≡ 4 }
+    requires below { All (λ part. part < TINY_LIMIT) parts }
+    ensures { nibbles_in result ≡ parts }
+{
+    let [a, b, c, d] = parts;
+    (a + TINY_LIMIT * (b + TINY_LIMIT * (c + TINY_LIMIT * d))) as u16
+}
+
+/// The parts in one word, 16 bits each.
+#[inline]
+fn word_of(parts: [Part; 4]) -> u64
+    requires long { length parts ≡ 4 }
+    requires below { All (λ part. part < SMALL_LIMIT) parts }
+    ensures { parts_in result ≡ parts }
+{
+    let [a, b, c, d] = parts;
+    a + SMALL_LIMIT * (b + SMALL_LIMIT * (c + SMALL_LIMIT * d))
+}
+
+/// The parts that are packed in sixteen bits.
+pub fn unpacked_nibbles(nibbles: u16) -> [Part; 4]
+    ensures { result ≡ nibbles_in nibbles }
+{
+    let all = u64::from(nibbles);
+    [
+        all % TINY_LIMIT,
+        all / TINY_LIMIT % TINY_LIMIT,
+        all / (TINY_LIMIT * TINY_LIMIT) % TINY_LIMIT,
+        all / (TINY_LIMIT * TINY_LIMIT * TINY_LIMIT),
+    ]
 }
 
 /// The parts that are packed in a word.

@@ -3,4 +3,4 @@ use Rattle.std.specs.Prelude.{ℕ}
 
 -- words of marks, a bit for each execution
 abbrev pub most_words : ℕ
-most_words = 20000
+most_words = 10000

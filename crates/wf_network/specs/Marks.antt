@@ -6,16 +6,16 @@ use Rattle.wf_network.specs.declared.users.UserWord.{UserWord}
 
 -- a bit of some words
 abbrev pub bit_of : List ℕ → ℕ → ℕ
-bit_of words n = bit_at (slice_index words (n / 32)) (n % 32)
+bit_of words n = bit_at (slice_index words (n / 64)) (n % 64)
 
 -- there is a word for the execution after so many
 abbrev pub HasRoom : ℕ → List ℕ → Type 0
-HasRoom executions words = executions / 32 < length words
+HasRoom executions words = executions / 64 < length words
 
 -- bit n is the first that is set, from this one on
 pub record IsNext (words : List ℕ) (from n : ℕ) : Type 0 where
   pub after : from ≤ n
-  pub within : n < 32 * length words
+  pub within : n < 64 * length words
   pub there : bit_of words n ≡ 1
   pub first : (m : ℕ) → from ≤ m → m < n → bit_of words m ≡ 0
 
@@ -25,7 +25,12 @@ IsLast words from = (m : ℕ) → from ≤ m → bit_of words m ≡ 0
 
 -- no bit of the word of this one is set, from this one on
 abbrev pub IsLastHere : List ℕ → ℕ → Type 0
-IsLastHere words from = (m : ℕ) → from ≤ m → m / 32 ≡ from / 32 → bit_of words m ≡ 0
+IsLastHere words from = (m : ℕ) → from ≤ m → m / 64 ≡ from / 64 → bit_of words m ≡ 0
+
+-- the bits of half a word, at their places in a whole one
+pub record IsHalf (w : UserWord) (half : ℕ) : Type 0 where
+  pub has : (e : ℕ) → HasBit w e → bit_at half (e % 64) ≡ 1
+  pub only : (e : ℕ) → e / 64 ≡ w.word / 2 → bit_at half (e % 64) ≡ 1 → HasBit w e
 
 -- each execution of a word is marked
 abbrev pub MarksWord : List ℕ → UserWord → Type 0

@@ -3,21 +3,24 @@
 ghost use Rattle.std.specs.Prelude.{◌≡◌, ◌<◌, ◌≤◌, ◌*◌, ◌/◌, ◌^◌, [], All, length, slice_index, ◌⊎◌, OnErr, OnOk, IfSome, IfNone};
 ghost use Rattle.wf_model.specs.Limits.{most_executions};
 ghost use Rattle.wf_network.specs.Limits.{most_words};
-ghost use Rattle.wf_network.specs.Marks.{AreSetBelow, HasRoom, IsLast, IsLastHere, IsMore, IsNext, KeepsBitsBut, KeepsWordsBut, MarksEach, MarksOnly, MarksOnlyWord, MarksWord, TopsTell, bit_of};
+ghost use Rattle.wf_network.specs.Marks.{AreSetBelow, HasRoom, IsHalf, IsLast, IsLastHere, IsMore, IsNext, KeepsBitsBut, KeepsWordsBut, MarksEach, MarksOnly, MarksOnlyWord, MarksWord, TopsTell, bit_of};
 
 use crate::users::UserWord;
 use std::alloc::{AllocError, Global};
 
+/// What lifts the bits of half a word into its upper half.
+const HALF: u64 = 1 << 32;
+
 /// Marks on executions, of which the next one is found fast.
 #[derive(Drop)]
 pub struct Marks {
-    /// Bit n % 32 of word n / 32 is set where execution n is marked.
-    pub words: Vec<u32>,
-    /// Bit n % 32 of word n / 32 is set where the words' word n is not 0.
-    pub tops: Vec<u32>,
+    /// Bit n % 64 of word n / 64 is set where execution n is marked.
+    pub words: Vec<u64>,
+    /// Bit n % 64 of word n / 64 is set where the words' word n is not 0.
+    pub tops: Vec<u64>,
     ghost few: { length words.items ≤ most_words },
     ghost few_tops: { length tops.items ≤ most_words },
-    ghost tops_within: { length words.items ≤ 32 * length tops.items },
+    ghost tops_within: { length words.items ≤ 64 * length tops.items },
     ghost tops_tell: { TopsTell words.items tops.items },
 }
 
@@ -36,18 +39,18 @@ impl Marks {
     /// then. Refused where memory runs out, which leaves the marks as they were.
     pub fn reserve(&mut self, alloc: Global, executions: u32) -> Result<(), AllocError>
         requires { executions ≤ most_executions }
-        ensures room { OnOk result (executions ≤ 32 * length self.new.words.items) }
+        ensures room { OnOk result (executions ≤ 64 * length self.new.words.items) }
         ensures kept { HasRoom executions self.old.words.items
             → self.new.words.items ≡ self.old.words.items }
         ensures none { OnOk result (HasRoom executions self.old.words.items
             ⊎ IsLast self.new.words.items 0) }
         ensures refused { OnErr result (self.new.words.items ≡ self.old.words.items) }
     {
-        let words = executions as usize / 32 + 1;
+        let words = executions as usize / 64 + 1;
         if self.words.len() < words {
             *self = Marks {
                 words: vec![in alloc; 0; words]?,
-                tops: vec![in alloc; 0; words / 32 + 1]?,
+                tops: vec![in alloc; 0; words / 64 + 1]?,
             };
         }
         Ok(())
@@ -55,7 +58,7 @@ impl Marks {
 
     /// Marks the executions of these words, and no other.
     pub fn mark_each(&mut self, words: &[UserWord])
-        requires { All (λ w. w.word < length self.old.words.items) words.now }
+        requires { All (λ w. w.word < 2 * length self.old.words.items) words.now }
         ensures marked { MarksEach self.new.words.items words.now }
         ensures only { MarksOnly self.old.words.items words.now self.new.words.items }
         ensures kept { IsMore self.old.words.items self.new.words.items }
@@ -68,23 +71,23 @@ impl Marks {
 
     /// Marks the executions of a word.
     fn mark(&mut self, users: UserWord)
-        requires { users.word < length self.old.words.items }
+        requires { users.word < 2 * length self.old.words.items }
         ensures marked { MarksWord self.new.words.items users }
         ensures only { MarksOnlyWord self.old.words.items users self.new.words.items }
         ensures kept { IsMore self.old.words.items self.new.words.items }
         ensures long { length self.new.words.items ≡ length self.old.words.items }
     {
-        add_bit(&mut self.tops, users.word as usize);
+        add_bit(&mut self.tops, users.word as usize / 2);
         add_users(&mut self.words, users);
     }
 
     /// Marks all executions.
     pub fn mark_all(&mut self)
-        ensures marked { AreSetBelow (32 * length self.old.words.items) self.new.words.items }
+        ensures marked { AreSetBelow (64 * length self.old.words.items) self.new.words.items }
         ensures long { length self.new.words.items ≡ length self.old.words.items }
     {
-        self.words.fill(u32::MAX);
-        self.tops.fill(u32::MAX);
+        self.words.fill(u64::MAX);
+        self.tops.fill(u64::MAX);
     }
 
     /// Takes all marks away.
@@ -119,14 +122,14 @@ impl Marks {
 
     /// Takes the mark of an execution away.
     pub fn take(&mut self, number: u32)
-        requires { number < 32 * length self.old.words.items }
+        requires { number < 64 * length self.old.words.items }
         ensures taken { bit_of self.new.words.items number ≡ 0 }
         ensures others { KeepsBitsBut self.old.words.items self.new.words.items number }
         ensures long { length self.new.words.items ≡ length self.old.words.items }
     {
         let number = number as usize;
         if take_bit(&mut self.words, number) == 0 {
-            take_bit(&mut self.tops, number / 32);
+            take_bit(&mut self.tops, number / 64);
         }
     }
 
@@ -137,43 +140,43 @@ impl Marks {
         ensures last { IfNone result (IsLast self.now.words.items from) }
     {
         let mut from = from;
-        'words: while from / 32 < self.words.len() {
+        'words: while from / 64 < self.words.len() {
             let found = first_here(&self.words, from);
             if found.is_some() {
                 return found;
             }
-            from = 32 * next_bit(&self.tops, from / 32 + 1)?;
+            from = 64 * next_bit(&self.tops, from / 64 + 1)?;
         }
         None
     }
 }
 
 /// The first bit that is set, from this one on.
-fn next_bit(words: &[u32], from: usize) -> Option<usize>
+fn next_bit(words: &[u64], from: usize) -> Option<usize>
     requires few { length words.now ≤ most_words }
     requires low { from < 2 ^ 33 }
     ensures next { IfSome result (IsNext words.now from) }
     ensures last { IfNone result (IsLast words.now from) }
 {
     let mut from = from;
-    'words: while from / 32 < words.len() {
+    'words: while from / 64 < words.len() {
         let found = first_here(words, from);
         if found.is_some() {
             return found;
         }
-        from = (from / 32 + 1) * 32;
+        from = (from / 64 + 1) * 64;
     }
     None
 }
 
 /// The first bit that is set in the word of this one, from this one on.
-fn first_here(words: &[u32], from: usize) -> Option<usize>
-    requires within { from / 32 < length words.now }
+fn first_here(words: &[u64], from: usize) -> Option<usize>
+    requires within { from / 64 < length words.now }
     requires low { from < 2 ^ 34 }
     ensures next { IfSome result (IsNext words.now from) }
     ensures last { IfNone result (IsLastHere words.now from) }
 {
-    let here = words[from / 32] >> (from % 32);
+    let here = words[from / 64] >> (from % 64);
     if here == 0 {
         return None;
     }
@@ -181,39 +184,52 @@ fn first_here(words: &[u32], from: usize) -> Option<usize>
 }
 
 /// Sets a bit.
-fn add_bit(words: &mut Vec<u32>, bit: usize)
-    requires { bit < 32 * length words.old.items }
+fn add_bit(words: &mut Vec<u64>, bit: usize)
+    requires { bit < 64 * length words.old.items }
     ensures added { bit_of words.new.items bit ≡ 1 }
     ensures others { KeepsBitsBut words.old.items words.new.items bit }
     ensures long { length words.new.items ≡ length words.old.items }
-    ensures words { KeepsWordsBut words.old.items words.new.items (bit / 32) }
+    ensures words { KeepsWordsBut words.old.items words.new.items (bit / 64) }
 {
-    words[bit / 32] |= 1 << (bit % 32);
+    words[bit / 64] |= 1 << (bit % 64);
 }
 
 /// Sets the bits of these executions.
-fn add_users(words: &mut Vec<u32>, users: UserWord)
-    requires { users.word < length words.old.items }
+fn add_users(words: &mut Vec<u64>, users: UserWord)
+    requires { users.word < 2 * length words.old.items }
     ensures marked { MarksWord words.new.items users }
     ensures only { MarksOnlyWord words.old.items users words.new.items }
     ensures kept { IsMore words.old.items words.new.items }
     ensures long { length words.new.items ≡ length words.old.items }
-    ensures words { KeepsWordsBut words.old.items words.new.items users.word }
+    ensures words { KeepsWordsBut words.old.items words.new.items (users.word / 2) }
 {
-    words[users.word as usize] |= users.bits;
+    words[users.word as usize / 2] |= half_of(users);
+}
+
+/// The bits of these executions, in the lower or the upper half of the word of marks that they
+/// share with 32 others.
+fn half_of(users: UserWord) -> u64
+    ensures { IsHalf users result }
+{
+    let bits = u64::from(users.bits);
+    if users.word % 2 == 0 {
+        bits
+    } else {
+        bits * HALF
+    }
 }
 
 /// Takes a bit away, and answers what its word is then.
-fn take_bit(words: &mut Vec<u32>, bit: usize) -> u32
-    requires { bit < 32 * length words.old.items }
-    ensures left { result ≡ slice_index words.new.items (bit / 32) }
+fn take_bit(words: &mut Vec<u64>, bit: usize) -> u64
+    requires { bit < 64 * length words.old.items }
+    ensures left { result ≡ slice_index words.new.items (bit / 64) }
     ensures taken { bit_of words.new.items bit ≡ 0 }
-    ensures less { slice_index words.new.items (bit / 32) ≤ slice_index words.old.items (bit / 32) }
+    ensures less { slice_index words.new.items (bit / 64) ≤ slice_index words.old.items (bit / 64) }
     ensures others { KeepsBitsBut words.old.items words.new.items bit }
     ensures long { length words.new.items ≡ length words.old.items }
-    ensures words { KeepsWordsBut words.old.items words.new.items (bit / 32) }
+    ensures words { KeepsWordsBut words.old.items words.new.items (bit / 64) }
 {
-    let left = words[bit / 32] & !(1 << (bit % 32));
-    words[bit / 32] = left;
+    let left = words[bit / 64] & !(1 << (bit % 64));
+    words[bit / 64] = left;
     left
 }

@@ -1,7 +1,7 @@
 //! Marks on executions, and sets that fit into words, worked out by hand.
 
 use std::alloc::AllocError;
-use wf_memo::narrowed;
+use wf_memo::{in_nibbles, in_word, narrowed, unpacked, unpacked_nibbles};
 use wf_network::{Marks, UserWord};
 
 #[test]
@@ -25,4 +25,23 @@ fn sets_below_64_are_words(rt: HostRuntime) {
     assert_eq!(rt; narrowed(low), Some([1, 2, 3, 0]));
     let wide = [[1, 0, 0, 0], [2, 0, 0, 1], [3, 0, 0, 0], [0; 4]];
     assert_eq!(rt; narrowed(wide), None);
+}
+
+/// In hexadecimal each digit has the set of one place, the first one last.
+#[test]
+fn small_sets_share_a_word(rt: HostRuntime) {
+    let low = [[8, 0, 0, 0], [2, 0, 0, 0], [15, 0, 0, 0], [0; 4]];
+    assert_eq!(rt;
+        (in_nibbles(low), in_word(low)),
+        (Some(0xf28), Some(0xf_0002_0008))
+    );
+    let parts = (unpacked_nibbles(0xf28), unpacked(0xf_0002_0008));
+    assert_eq!(rt; parts, ([8, 2, 15, 0], [8, 2, 15, 0]));
+    let more = [[8, 0, 0, 0], [16, 0, 0, 0], [15, 0, 0, 0], [0; 4]];
+    assert_eq!(rt;
+        (in_nibbles(more), in_word(more)),
+        (None, Some(0xf_0010_0008))
+    );
+    let most = [[8, 0, 0, 0], [65_536, 0, 0, 0], [15, 0, 0, 0], [0; 4]];
+    assert_eq!(rt; in_word(most), None);
 }

@@ -11,13 +11,13 @@ all_supported c =
     let n = c.args.network.now in
     subst (λ found. HasSupported found (rule_in n c.args.number).table found) c.requires.found
     (subst (λ w. HasSupported (widened (parts_in w)) (rule_in n c.args.number).table (widened (parts_in c.args.word))) c.if-supported-word.true
-    (subst (λ r. HasSupported (widened (parts_in c.in-Some.supported)) (rule_at n r).table (widened (parts_in c.args.word))) c.requires.rule c.in-Some.ensures.supported))
+    (subst (λ r. HasSupported (widened (parts_in c.supported_word-supported.result)) (rule_at n r).table (widened (parts_in c.args.word))) c.requires.rule c.supported_word-supported.ensures.supported))
 
 pub returns-then-supported-word : goal.returns-then-supported-word
-returns-then-supported-word c = revises_none c.args.network.now c.args.number c.args.lines.now c.args.workspace.now c.supported_word.new.memo c.requires.revising c.supported_word.ensures.known (all_supported c)
+returns-then-supported-word c = revises_none c.args.network.now c.args.number c.args.lines.now c.args.workspace.now c.supported_word-supported.new.memo c.requires.revising c.supported_word-supported.ensures.known (all_supported c)
 
 pub take_word-requires-clause-revising : goal.take_word-requires-clause-revising
-take_word-requires-clause-revising c = revising_still c.args.network.now c.args.number c.args.lines.now c.args.workspace.now c.supported_word.new.memo c.requires.revising c.supported_word.ensures.known
+take_word-requires-clause-revising c = revising_still c.args.network.now c.args.number c.args.lines.now c.args.workspace.now c.supported_word-supported.new.memo c.requires.revising c.supported_word-supported.ensures.known
 
 pub returns : goal.returns
 returns c =

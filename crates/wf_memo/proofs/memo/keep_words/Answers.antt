@@ -1,17 +1,16 @@
-use Rattle.std.proofs.Common.{All, None, Some, ap, subst, sym}
+use Rattle.std.proofs.Common.{All, ap, subst, sym}
 use Rattle.std.proofs.lemmas.List.Elements.{All-get_or, All-set}
 use Rattle.wf_memo.specs.Revising.{IsKnownWord}
-use Rattle.wf_memo.proofs.memo.keep_words.Goals.{in-Some+then-place-len, in-Some+else-place-len, in_default}
+use Rattle.wf_memo.proofs.memo.keep_words.Goals.{then-place-len+then-answer, else-place-len}
 use Rattle.wf_memo.proofs.memo.keep_words.Goals as goal
 
 pub loop-answer-preserved : goal.loop-answer-preserved
 loop-answer-preserved c = λ ks answers places.
     let so_far = c.loop-answer.invariant ks answers places in
-    elim c.match-answer.branch [
-      | in-Some+then-place-len w ↦
+    elim c.if-place-len.branch [
+      | then-place-len+then-answer w ↦
           subst (All (IsKnownWord ks)) (sym (ap (λ v. v.items) w.places-is))
-          (All-set (IsKnownWord ks) c.loop-answer.places.items w.slot_of_word-place.result (Some w.in-Some.kept)
-          (subst (IsKnownWord ks) w.in-Some.is (All-get_or (IsKnownWord ks) c.args.answers.now c.loop-answer.answer-index None c.loop-answer-test.true answers)) so_far)
-      | in-Some+else-place-len w ↦ subst (All (IsKnownWord ks)) (sym (ap (λ v. v.items) w.places-is)) so_far
-      | in_default w ↦ subst (All (IsKnownWord ks)) (sym (ap (λ v. v.items) w.places-is)) so_far
+          (All-set (IsKnownWord ks) c.loop-answer.places.items c.slot_of_word-place.result _
+          (All-get_or (IsKnownWord ks) c.args.answers.now c.loop-answer.answer-index (record { execution = 0; candidates = 0; supported = 0 }) c.loop-answer-test.true answers) so_far)
+      | else-place-len w ↦ subst (All (IsKnownWord ks)) (sym (ap (λ v. v.items) w.places-is)) so_far
     ]

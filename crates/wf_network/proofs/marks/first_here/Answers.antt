@@ -7,10 +7,10 @@ pub returns-clause-next : goal.returns-clause-next
 returns-clause-next c =
     let words = c.args.words.now in
     let from = c.args.from in
-    let word = slice_index words (from / 32) in
-    let fits : word < 2 ^ 32 = (c.type_inv.words (from / 32)).fits in
-    let some : 0 < word / 2 ^ (from % 32) = omega (arith, c.if-here-eq0.false) in
-    next_here words from c.requires.within some (omega (arith, fits, div-le_self word (2 ^ (from % 32)))) (shift_low word (from % 32) (omega arith) fits some)
+    let word = slice_index words (from / 64) in
+    let fits : word < 2 ^ 64 = (c.type_inv.words (from / 64)).fits in
+    let some : 0 < word / 2 ^ (from % 64) = omega (arith, c.if-here-eq0.false) in
+    next_here words from c.requires.within some (omega (arith, fits, div-le_self word (2 ^ (from % 64)))) (shift_low word (from % 64) (omega arith) fits some)
 
 pub returns-then-here-eq0-clause-last : goal.returns-then-here-eq0-clause-last
 returns-then-here-eq0-clause-last c = λ m after same. none_here c.args.words.now c.args.from m c.if-here-eq0.true after same

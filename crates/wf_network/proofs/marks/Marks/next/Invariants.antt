@@ -3,7 +3,7 @@ use Rattle.wf_network.specs.Marks.{bit_of}
 use Rattle.wf_network.proofs.marks.Marks.next.Given as goal
 
 abbrev pub decreases-words : goal.decreases-words
-decreases-words l = 32 * length l.self.words.items - l.from
+decreases-words l = 64 * length l.self.words.items - l.from
 
 abbrev pub invariant-words : goal.invariant-words
 invariant-words l = (l.fn.from ≤ l.from) × (l.from < 2 ^ 34) × ((m : ℕ) → l.fn.from ≤ m → m < l.from → bit_of l.self.words.items m ≡ 0)
