@@ -46,7 +46,7 @@ from_map P f y [] all i d low = absurd (let none : ⊥ = omega (arith, low) in n
 from_map P f y (x ∷ xs) all zero d low = all 0 y (omega arith)
 from_map P f y (x ∷ xs) all (suc i) d low = from_map P f y xs (λ k e h. all (suc k) e (omega (arith, h))) i d (omega (arith, low))
 
--- the answers of a memo for candidates below 4, those and the ones below 16, and those and the ones below 64
+-- the answers of a memo for candidates below 4, then those below 16 too, then those below 64 too
 abbrev tiny_in : Memo → List (Option Revised)
 tiny_in m = map nibbles_seen m.tiny.items
 
@@ -113,7 +113,7 @@ table_at n e network low few =
 pub right_at : (n : Network) (number : ℕ) (rule : Rule) (candidates supported : List (List ℕ)) → number < length n.rules.items → rule ≡ slice_index_or n.rules.items number rule → HasSupported supported rule.table candidates → HasSupported supported (rule_at n number).table candidates
 right_at n number rule candidates supported low here right = subst (λ (r : Rule). HasSupported supported r.table candidates) (here ∙ sym (get_or_default n.rules.items number no_rule rule low)) right
 
--- the same of parts that are packed: no bit past their limit is lost, where the candidates are below it
+-- the same of parts that are packed: nothing is lost past their limit, if candidates are below it
 pub packed_right : (n : Network) (number : ℕ) (rule : Rule) (bits : ℕ) (given candidates parts found : List ℕ) → IsNetwork n → number < length n.rules.items → rule ≡ slice_index_or n.rules.items number rule → candidates ≡ given → length given ≡ 4 → All (λ p. p < 2 ^ bits) given → length parts ≡ 4 → found ≡ map (λ p. p % 2 ^ bits) parts
     → HasSupported (widened parts) rule.table (widened candidates) → HasSupported (widened found) (rule_at n number).table (widened given)
 packed_right n number rule bits given candidates parts found network low here is many below long cut right =

@@ -57,8 +57,8 @@ pub struct RevisedWord {
     pub supported: u64,
 }
 
-/// The same for candidates below 4, in eight bytes: four bits for each place, those of the first one
-/// lowest. Most problems have no others, and more of these lie near each other.
+/// The same for candidates below 4, in eight bytes: four bits for each place, those of the first
+/// one lowest. Most problems have no others, and more of these lie near each other.
 #[derive(Clone, Copy, Debug)]
 pub struct RevisedNibbles {
     /// The execution that stands for the rules with this table; where there is no answer, a number

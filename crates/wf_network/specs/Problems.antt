@@ -49,7 +49,7 @@ HasTable simplex tuples rules number = (get_or rules number no_rule).table ≡ r
 abbrev pub rule_of : List Rule → PackedExecution → Rule
 rule_of rules e = get_or rules e.simplex no_rule
 
--- the execution of this number has a rule with the same table; or it is how many executions there are
+-- the execution of this number has a rule with the same table; or it is how many there are
 pub record IsLead (rules : List Rule) (es : List PackedExecution) (rule : Rule) (lead : ℕ) : Type 0 where
   pub low : lead ≤ length es
   pub same : lead < length es → (rule_of rules (get_or es lead no_execution)).table ≡ rule.table

@@ -10,7 +10,8 @@ use std::alloc::{AllocError, Global};
 use wf_complex::PackedExecution;
 
 /// For each rule an execution whose rule has the same table, the same one for all rules of which
-/// one names the other; the number of executions where none is found. Refused where memory runs out.
+/// one names the other; how many executions there are where none is found. Refused where memory
+/// runs out.
 pub(crate) fn leads(
     alloc: Global,
     rules: &[Rule],
@@ -47,7 +48,7 @@ fn lead_of(rules: &[Rule], executions: &[PackedExecution], leads: &[u32], number
 }
 
 /// An execution with the rule of this number, found by halving: those of one rule lie together, and
-/// the rules come in order. The number of executions where it is not found.
+/// the rules come in order. How many there are where it is not found.
 fn first_of(executions: &[PackedExecution], rule: u32) -> u32
     requires few { length executions.now ≤ most_executions }
     ensures { IsOfRule executions.now rule result }

@@ -103,7 +103,7 @@ pub struct Network {
     /// The rule of each input simplex.
     pub rules: Vec<Rule>,
     /// For each rule the number of an execution whose rule has the same table: the same one for
-    /// rules that share it. The number of executions where the rule has none.
+    /// rules that share it. How many executions there are where the rule has none.
     pub leads: Vec<u32>,
     /// The executions, whose rules are those of their input simplices. They are shared with the
     /// protocol complex.
