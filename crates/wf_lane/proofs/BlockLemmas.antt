@@ -20,7 +20,8 @@ use Rattle.wf_set.proofs.Lemmas.{has-part_values, part_holds-or, holds_nothing, 
 use Rattle.wf_lane.specs.Words.{Words, is_live, joined_words, ors, meets}
 use Rattle.wf_lane.specs.Table.{IsOneHot, AreOneHot, value_of}
 use Rattle.wf_lane.specs.declared.column.Column.{Column}
-use Rattle.wf_lane.specs.Rows.{AreLeft, OccurIn, is_among, is_met, is_one_of, is_value, row_sets}
+use Rattle.wf_lane.specs.declared.column.Columns.{Columns}
+use Rattle.wf_lane.specs.Rows.{AreLeft, AreWanted, OccurIn, is_among, is_met, is_one_of, is_value, row_sets}
 use Rattle.wf_lane.proofs.Values.{joined_small, meets_list, value_small, word_holds}
 use Rattle.wf_lane.proofs.RowLemmas.{rows_either, rows_both, rows_cong, rows_none, rows_of-map, any_row, length-row_sets}
 
@@ -257,46 +258,36 @@ wanted_test wanted candidates values word e hot occurs =
     ∙ sym (meets_list word candidates hot)
 
 -- the values of four columns
-pub record HaveValues (values : List ℕ) (rows : List Words) : Type 0 where
-  pub first : slice_index values 0 ≡ ors (map (λ (r : Words). r.first) rows)
-  pub second : slice_index values 1 ≡ ors (map (λ (r : Words). r.second) rows)
-  pub third : slice_index values 2 ≡ ors (map (λ (r : Words). r.third) rows)
-  pub fourth : slice_index values 3 ≡ ors (map (λ (r : Words). r.fourth) rows)
-
--- of the candidates, those that occur
-abbrev pub IsWanted : ℕ → ℕ → ℕ → Type 0
-IsWanted wanted candidates values = part_values wanted ≡ filter (has (part_values values)) (part_values candidates)
-
-pub record AreWanted (wanted candidates values : List ℕ) : Type 0 where
-  pub first : IsWanted (slice_index wanted 0) (slice_index candidates 0) (slice_index values 0)
-  pub second : IsWanted (slice_index wanted 1) (slice_index candidates 1) (slice_index values 1)
-  pub third : IsWanted (slice_index wanted 2) (slice_index candidates 2) (slice_index values 2)
-  pub fourth : IsWanted (slice_index wanted 3) (slice_index candidates 3) (slice_index values 3)
+pub record HaveValues (c : Columns) (rows : List Words) : Type 0 where
+  pub first : c.first.values ≡ ors (map (λ (r : Words). r.first) rows)
+  pub second : c.second.values ≡ ors (map (λ (r : Words). r.second) rows)
+  pub third : c.third.values ≡ ors (map (λ (r : Words). r.third) rows)
+  pub fourth : c.fourth.values ≡ ors (map (λ (r : Words). r.fourth) rows)
 
 four_same : (a b c d a' b' c' d' : Bool) → a ≡ a' → b ≡ b' → c ≡ c' → d ≡ d' → (a && b && c && d) ≡ (a' && b' && c' && d')
 four_same a b c d a' b' c' d' e f g h = ap (λ x. x && b && c && d) e ∙ ap (λ x. a' && x && c && d) f ∙ ap (λ x. a' && b' && x && d) g ∙ ap (λ x. a' && b' && c' && x) h
 
-module _ (wanted candidates values : List ℕ) (w : AreWanted wanted candidates values) where
+module _ (c : Columns) (wanted candidates : List ℕ) (w : AreWanted c wanted candidates) where
   alike : (rows : List Words) → All AreOneHot rows
-      → All (λ r. part_holds (slice_index values 0) (value_of r.first) ≡ true) rows → All (λ r. part_holds (slice_index values 1) (value_of r.second) ≡ true) rows
-      → All (λ r. part_holds (slice_index values 2) (value_of r.third) ≡ true) rows → All (λ r. part_holds (slice_index values 3) (value_of r.fourth) ≡ true) rows
+      → All (λ r. part_holds c.first.values (value_of r.first) ≡ true) rows → All (λ r. part_holds c.second.values (value_of r.second) ≡ true) rows
+      → All (λ r. part_holds c.third.values (value_of r.third) ≡ true) rows → All (λ r. part_holds c.fourth.values (value_of r.fourth) ≡ true) rows
       → All (λ r. is_among wanted r ≡ is_live candidates r) rows
-  alike [] h a b c d = All-nil (λ r. is_among wanted r ≡ is_live candidates r)
-  alike (r ∷ rows) h a b c d =
-      let P0 = λ (k : Words). part_holds (slice_index values 0) (value_of k.first) ≡ true in
-      let P1 = λ (k : Words). part_holds (slice_index values 1) (value_of k.second) ≡ true in
-      let P2 = λ (k : Words). part_holds (slice_index values 2) (value_of k.third) ≡ true in
-      let P3 = λ (k : Words). part_holds (slice_index values 3) (value_of k.fourth) ≡ true in
+  alike [] h in0 in1 in2 in3 = All-nil (λ r. is_among wanted r ≡ is_live candidates r)
+  alike (r ∷ rows) h in0 in1 in2 in3 =
+      let P0 = λ (k : Words). part_holds c.first.values (value_of k.first) ≡ true in
+      let P1 = λ (k : Words). part_holds c.second.values (value_of k.second) ≡ true in
+      let P2 = λ (k : Words). part_holds c.third.values (value_of k.third) ≡ true in
+      let P3 = λ (k : Words). part_holds c.fourth.values (value_of k.fourth) ≡ true in
       let hot = All-head AreOneHot r rows h in
       All-cons (λ k. is_among wanted k ≡ is_live candidates k) r rows
       (four_same _ _ _ _ _ _ _ _
-      (wanted_test (slice_index wanted 0) (slice_index candidates 0) (slice_index values 0) r.first w.first hot.first (All-head P0 r rows a))
-      (wanted_test (slice_index wanted 1) (slice_index candidates 1) (slice_index values 1) r.second w.second hot.second (All-head P1 r rows b))
-      (wanted_test (slice_index wanted 2) (slice_index candidates 2) (slice_index values 2) r.third w.third hot.third (All-head P2 r rows c))
-      (wanted_test (slice_index wanted 3) (slice_index candidates 3) (slice_index values 3) r.fourth w.fourth hot.fourth (All-head P3 r rows d)))
-      (alike rows (All-tail AreOneHot r rows h) (All-tail P0 r rows a) (All-tail P1 r rows b) (All-tail P2 r rows c) (All-tail P3 r rows d))
+      (wanted_test (slice_index wanted 0) (slice_index candidates 0) c.first.values r.first w.first hot.first (All-head P0 r rows in0))
+      (wanted_test (slice_index wanted 1) (slice_index candidates 1) c.second.values r.second w.second hot.second (All-head P1 r rows in1))
+      (wanted_test (slice_index wanted 2) (slice_index candidates 2) c.third.values r.third w.third hot.third (All-head P2 r rows in2))
+      (wanted_test (slice_index wanted 3) (slice_index candidates 3) c.fourth.values r.fourth w.fourth hot.fourth (All-head P3 r rows in3)))
+      (alike rows (All-tail AreOneHot r rows h) (All-tail P0 r rows in0) (All-tail P1 r rows in1) (All-tail P2 r rows in2) (All-tail P3 r rows in3))
 
-  pub tests_alike : (rows : List Words) → All AreOneHot rows → HaveValues values rows → All (λ r. is_among wanted r ≡ is_live candidates r) rows
+  pub tests_alike : (rows : List Words) → All AreOneHot rows → HaveValues c rows → All (λ r. is_among wanted r ≡ is_live candidates r) rows
   tests_alike rows h v =
       alike rows h
       (subst (λ n. All (λ r. part_holds n (value_of r.first) ≡ true) rows) (sym v.first) (occurring (λ r. r.first) (λ r k. k.first) rows h))

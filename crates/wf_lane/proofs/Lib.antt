@@ -9,4 +9,6 @@ pub mod RowLemmas
 pub mod BlockLemmas
 pub mod ColumnLemmas
 pub mod WideLaws
+pub mod FewLemmas
+pub mod Joining
 pub mod Lemmas

@@ -1,5 +1,5 @@
 -- Sets of rows as words, a bit a row, and the columns that keep them.
-use Rattle.std.specs.Prelude.{◌≡◌, ℕ, ◌+◌, ◌*◌, ◌<◌, ◌≤◌, ◌==◌, ◌&&◌, Bool, true, not, List, [], map, length, slice_index, bit_and, count_by}
+use Rattle.std.specs.Prelude.{◌≡◌, ℕ, ◌+◌, ◌*◌, ◌<◌, ◌≤◌, ◌==◌, ◌&&◌, Bool, true, not, List, [], map, filter, length, slice_index, bit_and, count_by}
 use Rattle.std.specs.List.{range_with_len}
 use Rattle.std.specs.Simd.Lanes.{chunk, mask_l, zip2}
 use Rattle.wf_model.specs.Lists.{has}
@@ -20,6 +20,10 @@ block_rows = 512
 -- and a set of its rows so many words
 abbrev pub block_words : ℕ
 block_words = 8
+
+-- the rows of one word
+abbrev pub word_rows : ℕ
+word_rows = 64
 
 -- fewer than 2 ^ 32 rows take at most so many blocks
 abbrev pub block_limit : ℕ
@@ -50,6 +54,10 @@ is_among sets r = is_one_of (slice_index sets 0) r.first && is_one_of (slice_ind
 -- one of these rows of a block has the value
 abbrev pub is_met : List ℕ → List ℕ → ℕ → ℕ → Bool
 is_met live words start v = not (ors (zip2 bit_and live (row_sets (is_value v) words start block_words)) == 0)
+
+-- one of these rows, of the first 64, has the value
+abbrev pub is_met_early : ℕ → List ℕ → ℕ → Bool
+is_met_early live words v = not (bit_and live (row_set (is_value v) words 0) == 0)
 
 -- ---- columns
 
@@ -85,6 +93,10 @@ AreMarked values p rows sets = (v k : ℕ) → has (part_values values) v ≡ tr
 -- the values all occur in the column
 abbrev pub OccurIn : Column → ℕ → Type 0
 OccurIn c values = (v : ℕ) → has (part_values values) v ≡ true → has (part_values c.values) v ≡ true
+
+-- of the candidates, those that occur in the column
+abbrev pub IsWanted : Column → ℕ → ℕ → Type 0
+IsWanted c wanted candidates = part_values wanted ≡ filter (has (part_values c.values)) (part_values candidates)
 
 -- these eight words are those of a block
 abbrev pub IsInBlocks : Column → ℕ → Type 0
@@ -124,12 +136,26 @@ pub record OccurInAll (c : Columns) (sets : List ℕ) : Type 0 where
   pub third : OccurIn c.third (slice_index sets 2)
   pub fourth : OccurIn c.fourth (slice_index sets 3)
 
+-- of the candidates of each place, those that occur there
+pub record AreWanted (c : Columns) (wanted candidates : List ℕ) : Type 0 where
+  pub first : IsWanted c.first (slice_index wanted 0) (slice_index candidates 0)
+  pub second : IsWanted c.second (slice_index wanted 1) (slice_index candidates 1)
+  pub third : IsWanted c.third (slice_index wanted 2) (slice_index candidates 2)
+  pub fourth : IsWanted c.fourth (slice_index wanted 3) (slice_index candidates 3)
+
 -- of the values of each place, those are left that no live row of the block has there
 pub record AreAllLeft (c : Columns) (live : List ℕ) (start : ℕ) (left sets : List ℕ) : Type 0 where
   pub first : AreLeft (slice_index left 0) (slice_index sets 0) (is_met live c.first.words.items start)
   pub second : AreLeft (slice_index left 1) (slice_index sets 1) (is_met live c.second.words.items start)
   pub third : AreLeft (slice_index left 2) (slice_index sets 2) (is_met live c.third.words.items start)
   pub fourth : AreLeft (slice_index left 3) (slice_index sets 3) (is_met live c.fourth.words.items start)
+
+-- of the values of each place, those are left that no live row of the first 64 has there
+pub record AreFewLeft (c : Columns) (live : ℕ) (left sets : List ℕ) : Type 0 where
+  pub first : AreLeft (slice_index left 0) (slice_index sets 0) (is_met_early live c.first.words.items)
+  pub second : AreLeft (slice_index left 1) (slice_index sets 1) (is_met_early live c.second.words.items)
+  pub third : AreLeft (slice_index left 2) (slice_index sets 2) (is_met_early live c.third.words.items)
+  pub fourth : AreLeft (slice_index left 3) (slice_index sets 3) (is_met_early live c.fourth.words.items)
 
 -- the words of the live rows joined place by place, and how many rows are alive
 pub record AreJoined (sets : List ℕ) (rows : List Words) (masks : List ℕ) (count : ℕ) : Type 0 where

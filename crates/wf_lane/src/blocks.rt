@@ -6,7 +6,7 @@ ghost use Rattle.wf_model.specs.Lists.{has};
 ghost use Rattle.wf_set.specs.Parts.{part_limit, part_values};
 ghost use Rattle.wf_lane.specs.Words.{ors};
 ghost use Rattle.wf_lane.specs.Table.{AreOneHot};
-ghost use Rattle.wf_lane.specs.Rows.{AreAllLeft, AreCut, AreJoined, AreLeft, IsCut, IsInBlocks, OccurIn, OccurInAll, block_rows, block_words, is_among, is_met, is_one_of, is_value, row_sets, rows_in};
+ghost use Rattle.wf_lane.specs.Rows.{AreAllLeft, AreCut, AreJoined, AreLeft, IsCut, IsInBlocks, IsWanted, OccurIn, OccurInAll, block_rows, block_words, is_among, is_met, is_one_of, is_value, row_sets, rows_in};
 
 use crate::column::{BLOCK_WORDS, Column, Columns};
 use crate::lanes::PartSupport;
@@ -36,7 +36,7 @@ fn count_rows(rows: u64x8) -> u32
 }
 
 /// The set, without the value where it was met.
-fn without_met(set: Part, value: u8, is_met: bool) -> Part
+pub(crate) fn without_met(set: Part, value: u8, is_met: bool) -> Part
     requires { value < part_limit }
     ensures { part_values result
         ≡ cond is_met (filter (λ v. not (v == value)) (part_values set)) (part_values set) }
@@ -91,9 +91,8 @@ impl Column {
     }
 
     /// The candidates that occur.
-    fn wanted(&self, candidates: Part) -> Part
-        ensures wanted { part_values result
-            ≡ filter (has (part_values self.now.values)) (part_values candidates) }
+    pub(crate) fn wanted(&self, candidates: Part) -> Part
+        ensures wanted { IsWanted self.now result candidates }
         ensures occur { OccurIn self.now result }
     {
         meet(candidates, self.values)

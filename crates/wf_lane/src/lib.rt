@@ -3,13 +3,14 @@
 //!
 //! - [`TupleTable`]: rows of values. Where each value is below 64, [`TupleTable::revise`] reads a
 //!   small table as columns of words with one bit each, eight rows a step and the rest one by one;
-//!   a large one as a set of rows for each value of each place, 512 rows a step. Where some value
-//!   is not, it reads the rows one by one.
+//!   a large one as a set of rows for each value of each place, 512 rows a step, or 64 where there
+//!   are no more. Where some value is not, it reads the rows one by one.
 //! - [`first_open`], [`first_empty`], [`count`] and [`meet`]: the sets of a box, one by one.
 #![tactic(auto)]
 
 mod blocks;
 mod column;
+mod few;
 mod lanes;
 pub mod sets;
 pub mod table;

@@ -8,6 +8,7 @@ ghost use Rattle.wf_lane.specs.Table.{AreFirstParts, AreNarrow, AreOneHot, HasSu
 ghost use Rattle.wf_lane.specs.Rows.{AreCut, AreJoined, HasColumns, IsStored, IsWhole, block_limit, block_rows, rows_in, table_in};
 
 use crate::column::{BLOCK_WORDS, Column, Columns};
+use crate::few::WORD_ROWS;
 use crate::lanes::{PartSupport, revise_columns, word_or};
 use crate::wide::{is_narrow, revise_rows};
 use std::alloc::{AllocError, Global};
@@ -173,16 +174,19 @@ fn support_in(columns: &Columns, sets: [Part; 4]) -> PartSupport
     requires one_hot { All AreOneHot (rows_in columns.now) }
     ensures { AreJoined sets (rows_in columns.now) result.masks result.alive }
 {
-    if columns.first.blocks > 0 {
+    if columns.first.blocks == 0 {
+        return revise_columns(
+            &columns.first.words,
+            &columns.second.words,
+            &columns.third.words,
+            &columns.fourth.words,
+            sets,
+        );
+    }
+    if columns.first.words.len() > WORD_ROWS {
         return columns.revise_blocks(sets);
     }
-    revise_columns(
-        &columns.first.words,
-        &columns.second.words,
-        &columns.third.words,
-        &columns.fourth.words,
-        sets,
-    )
+    columns.revise_few(sets)
 }
 
 /// The columns of these rows, which all have this width.

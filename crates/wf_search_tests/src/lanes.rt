@@ -104,23 +104,25 @@ static NEAR: [[u8; 4]; 7] = [
     [2, 2, 0, 0],
 ];
 
-/// The pairs of a value below 40 and one below 30.
-fn all_pairs(alloc: Global) -> Result<Vec<[u8; 4]>, AllocError> {
+/// The pairs of a value below one number and one below another.
+fn all_pairs(alloc: Global, firsts: u8, seconds: u8) -> Result<Vec<[u8; 4]>, AllocError> {
     let mut pairs = Vec::new(alloc);
-    for first in 0..40 {
-        for second in 0..30 {
+    for first in 0..firsts {
+        for second in 0..seconds {
             pairs.push([first, second, 0, 0])?;
         }
     }
     Ok(pairs)
 }
 
-/// Where each pair is a row, the candidates below 40 and 30 are supported where both places have
-/// one.
+/// Where each pair is a row, the candidates below both numbers are supported where both places have
+/// one: in tables of many rows, of 64, which are a word, and of one more.
 #[test]
 fn rows_of_two_places(rt: HostRuntime) -> Result<(), Fail> {
-    let pairs = all_pairs(rt.alloc())?;
-    let all = pairs.as_slice();
+    let many = all_pairs(rt.alloc(), 40, 30)?;
+    let word = all_pairs(rt.alloc(), 8, 8)?;
+    let longer = all_pairs(rt.alloc(), 13, 5)?;
+    let all = many.as_slice();
     let cases = [
         (NEAR.as_slice(), [1, 7, 7, 7], [1, 3], 2),
         (
@@ -138,6 +140,9 @@ fn rows_of_two_places(rt: HostRuntime) -> Result<(), Fail> {
         (all, [0xff00_0000_0007, 6, 0, 0], [7, 6], 6),
         (all, [u64::MAX, 0x4000_0000, 1, 1], [0, 0], 0),
         (all, [0, u64::MAX, 1, 1], [0, 0], 0),
+        (word.as_slice(), [0x81, 0x1fe, 0, 0], [0x81, 0xfe], 14),
+        (word.as_slice(), [u64::MAX, 0x100, 0, 0], [0, 0], 0),
+        (longer.as_slice(), [0x1001, 0x30, 0, 0], [0x1001, 0x10], 2),
     ];
     for (rows, candidates, [first, second], alive) in cases {
         let masks = sets_of([first, second, 0, 0]);

@@ -4,11 +4,11 @@ use Rattle.wf_lane.specs.Words.{joined_words, is_live}
 use Rattle.wf_lane.proofs.Revising.{same_rows}
 use Rattle.wf_lane.proofs.table.support_in.Goals as goal
 
-pub returns : goal.returns
-returns c =
+pub returns-then-columns-eq0 : goal.returns-then-columns-eq0
+returns-then-columns-eq0 c =
     let columns = c.args.columns.now in
     let sets = c.args.sets in
-    let rows = same_rows _ _ _ _ columns.first.words.items columns.second.words.items columns.third.words.items columns.fourth.words.items c.deref.ensures.value c.deref-2.ensures.value c.deref-3.ensures.value c.deref-4.ensures.value in
+    let rows = same_rows _ _ _ _ columns.first.words.items columns.second.words.items columns.third.words.items columns.fourth.words.items c.deref.ensures.value c.deref-then-columns-eq0.ensures.value c.deref-then-columns-eq0-2.ensures.value c.deref-then-columns-eq0-3.ensures.value in
     let e = c.revise_columns.ensures in
     record {
       first = e.first ∙ ap (joined_words sets (λ r. r.first)) rows;
