@@ -6,10 +6,12 @@ use Rattle.json.specs.Lex as lexer
 use Rattle.wf_draft.specs.declared.cursor.Place.{Place}
 use Rattle.wf_draft.specs.declared.cursor.Place.TheVariants.{Fresh, AfterValue, AfterComma}
 
+-- a place of the cursor, as the reader of JSON has it
 abbrev pub place_of : Place → lexer.Place
 place_of Fresh = fresh
 place_of AfterValue = after_value
 place_of AfterComma = after_comma
 
+-- the tokens of the text from there on, up to the first fault
 abbrev pub tokens_at : Place → List ℕ → List Token
 tokens_at place text = punctuate (place_of place) (lex between text)
