@@ -56,13 +56,6 @@ static ON_PATH: [(u32, Option<u32>); 5] = [
     (2, Some(1)),
 ];
 
-/// What is printed of refusals.
-static PRINTED: [(BuildFault, &str); 3] = [
-    (BuildFault::Rounds, "16 Rounds"),
-    (BuildFault::TooManyExecutions, "17 TooManyExecutions"),
-    (BuildFault::OutOfMemory, "15 OutOfMemory"),
-];
-
 /// The complex of the task of a text.
 fn built(alloc: Global, text: &str, rounds: u32) -> Result<Result<Protocol, BuildFault>, Fail> {
     let task = Task::read_text(alloc, text.as_bytes())?;
@@ -131,17 +124,6 @@ fn executions_points_and_views_are_counted(rt: HostRuntime) -> Result<(), Fail> 
         assert!(rt;
             counts(rt.alloc(), text, *rounds)? == *expected,
             "at {place}"
-        );
-    }
-    Ok(())
-}
-
-#[test]
-fn refusals_are_printed(rt: HostRuntime) -> Result<(), Fail> {
-    for (fault, text) in &PRINTED {
-        assert!(rt;
-            format!(in rt.alloc(); "{fault}")?.as_str() == *text,
-            "{text}"
         );
     }
     Ok(())

@@ -1,28 +1,9 @@
 //! Tests of presets.
 
-use crate::named_tasks::{
-    CONSENSUS_OF_TWO, CONSENSUS_OF_TWO_ON_BITS, ONE_NAME, SIX_NAMES, THREE_SET_AGREEMENT,
-    TWO_NAMES, TWO_SET_AGREEMENT,
-};
 use std::alloc::Global;
 use std::test::Fail;
 use wf_preset::{Inputs, renaming, set_agreement};
 use wf_task::{Limit, TaskFault};
-
-/// Processes and k of set agreement tasks, with their inputs and their texts.
-static AGREEMENT_TEXTS: [(u32, u32, Inputs, &str); 4] = [
-    (2, 1, Inputs::Own, CONSENSUS_OF_TWO),
-    (2, 1, Inputs::All(2), CONSENSUS_OF_TWO_ON_BITS),
-    (3, 2, Inputs::Own, TWO_SET_AGREEMENT),
-    (3, 3, Inputs::Own, THREE_SET_AGREEMENT),
-];
-
-/// Processes and names of renaming tasks, with their texts.
-static RENAMING_TEXTS: [(u32, u32, &str); 3] = [
-    (2, 2, TWO_NAMES),
-    (2, 1, ONE_NAME),
-    (3, 6, SIX_NAMES),
-];
 
 const VERTICES: TaskFault = TaskFault::TooMany(Limit::Vertices);
 
@@ -79,30 +60,6 @@ fn agreement_text(
 ) -> Result<Vec<u8>, TaskFault> {
     let task = set_agreement(alloc, processes, k, inputs)?;
     Ok(task.write_text(alloc)?)
-}
-
-/// The text of a renaming task.
-fn renaming_text(alloc: Global, processes: u32, names: u32) -> Result<Vec<u8>, TaskFault> {
-    let task = renaming(alloc, processes, names)?;
-    Ok(task.write_text(alloc)?)
-}
-
-#[test]
-fn set_agreement_tasks_have_their_texts(rt: HostRuntime) -> Result<(), Fail> {
-    for (processes, k, inputs, text) in &AGREEMENT_TEXTS {
-        let written = agreement_text(rt.alloc(), *processes, *k, *inputs)?;
-        assert_eq!(rt; written.as_slice(), text.as_bytes());
-    }
-    Ok(())
-}
-
-#[test]
-fn renaming_tasks_have_their_texts(rt: HostRuntime) -> Result<(), Fail> {
-    for (processes, names, text) in &RENAMING_TEXTS {
-        let written = renaming_text(rt.alloc(), *processes, *names)?;
-        assert_eq!(rt; written.as_slice(), text.as_bytes());
-    }
-    Ok(())
 }
 
 #[test]

@@ -1,13 +1,11 @@
-//! Tasks on their protocol complexes, and the texts of their questions.
+//! Tasks on their protocol complexes.
 
 ghost use Rattle.std.specs.Prelude.{IfOk};
 ghost use Rattle.wf_complex.specs.Protocol.{IsProtocol};
 
 use std::alloc::Global;
 use std::test::Fail;
-use wf_cnf::Question;
 use wf_complex::Protocol;
-use wf_io::Sink;
 use wf_task::Task;
 
 /// The task of a text, and its complex after some rounds.
@@ -17,13 +15,4 @@ pub(crate) fn joined(alloc: Global, text: &str, rounds: u32) -> Result<(Task, Pr
     let task = Task::read_text(alloc, text.as_bytes())?;
     let protocol = Protocol::build(alloc, &task, rounds)?;
     Ok((task, protocol))
-}
-
-/// Whether a question is written, and has this text.
-pub(crate) fn has_text(alloc: Global, question: Question<'_>, text: &str) -> bool {
-    let mut written = Vec::new(alloc);
-    let mut sink = Sink::new(&mut written);
-    let is_whole = question.write(&mut sink).is_ok();
-    drop(sink);
-    is_whole && written.as_slice() == text.as_bytes()
 }

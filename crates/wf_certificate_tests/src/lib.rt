@@ -7,8 +7,6 @@
 #![tactic(auto)]
 
 #[cfg(test)]
-mod argument_texts;
-#[cfg(test)]
 mod arguments;
 #[cfg(test)]
 mod asking;
@@ -19,20 +17,14 @@ mod checkers;
 #[cfg(test)]
 mod clauses;
 #[cfg(test)]
-mod maps;
+mod lifts;
 #[cfg(test)]
 mod posing;
 #[cfg(test)]
 mod proofs;
 #[cfg(test)]
-mod questions;
-#[cfg(test)]
 mod readers;
 #[cfg(test)]
 mod reports;
-#[cfg(test)]
-mod rows;
-#[cfg(test)]
-mod texts;
 #[cfg(test)]
 mod trimming;

@@ -2,7 +2,6 @@
 
 ghost use Rattle.wf_report.specs.Reports.{AreNumbered, body_length};
 
-use crate::rows::{ROWS, Row};
 use std::alloc::{AllocError, Global};
 use std::test::Fail;
 use std::thread::Threads;
@@ -32,30 +31,6 @@ fn judged<R: Threads + Sync>(
     let task = Task::read_text(alloc, task.as_bytes())?;
     let protocol = Protocol::build(alloc, &task, report.header.rounds)?;
     Ok(check(rt, alloc, &task, &protocol, report))
-}
-
-/// What is answered about a row's text.
-fn verdict<R: Threads + Sync>(
-    rt: &R,
-    alloc: Global,
-    row: &Row,
-) -> Result<Result<(), CertFault>, Fail> {
-    match read_report(alloc, row.text.as_bytes()) {
-        Ok(report) => judged(rt, alloc, row.task, &report),
-        Err(fault) => Ok(Err(fault)),
-    }
-}
-
-#[test]
-fn reports_are_answered(rt: HostRuntime) -> Result<(), Fail> {
-    for row in &ROWS {
-        let answer = match verdict(&rt, rt.alloc(), row)? {
-            Ok(()) => format!(in rt.alloc(); "accepted")?,
-            Err(fault) => format!(in rt.alloc(); "{fault}")?,
-        };
-        assert_eq!(rt; answer.as_str(), row.answer, "{}", row.text);
-    }
-    Ok(())
 }
 
 #[test]

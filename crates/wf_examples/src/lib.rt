@@ -73,10 +73,6 @@ pub const AGREEMENT_3_3: &str = concat!(
     r#""version":1}"#,
 );
 
-/// 2-set agreement of two processes with inputs of their own.
-pub const AGREEMENT_2_2: &str =
-    r#"{"version":1,"processes":2,"symmetric":false,"inputs":[[[0,0],[1,1]]],"outputs":[[[0,0],[1,0]],[[0,0],[1,1]],[[0,1],[1,0]],[[0,1],[1,1]]],"delta":[{"in":[[0,0]],"out":[[0]]},{"in":[[1,1]],"out":[[1]]},{"in":[[0,0],[1,1]],"out":[[0,0],[0,1],[1,0],[1,1]]}]}"#;
-
 /// Four processes with inputs of their own, without outputs.
 pub const OWN_4: &str = concat!(
     r#"{"version":1,"processes":4,"symmetric":false,"inputs":[[[0,0],[1,1],[2,2],[3,3]]],"#,
