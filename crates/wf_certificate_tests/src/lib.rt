@@ -1,9 +1,10 @@
-//! Tests of what answers a question and can be checked: reports and their checker, the lines that
-//! are needed of a refutation and its argument in words; and questions as formulas, the maps that
-//! solvers' texts say, and the checker of their proofs.
+//! Tests of what answers a question and can be checked: reports, the lines that are needed of a
+//! refutation and its argument in words, lifted maps, questions of branches, and the checker of
+//! solvers' proofs. Which reports and models are refused, and how questions are written: the rows of
+//! command lines say it.
 //!
-//! Reports are answered as worked by hand, and so is what each proof comes to. Which lines are
-//! needed was worked by hand too, and is what `gallery/trim.py` writes of the same reports.
+//! Which lines are needed was worked by hand, as was what each proof comes to, and is what
+//! `gallery/trim.py` writes of the same reports.
 #![tactic(auto)]
 
 #[cfg(test)]
