@@ -1,7 +1,7 @@
 //! Tests of what answers a question and can be checked: reports, the lines that are needed of a
 //! refutation and its argument in words, lifted maps, questions of branches, and the checker of
-//! solvers' proofs. Which reports and models are refused, and how questions are written: the rows of
-//! command lines say it.
+//! solvers' proofs. Which reports and models are refused, and how questions are written, is said by
+//! the rows of command lines.
 //!
 //! Which lines are needed was worked by hand, as was what each proof comes to, and is what
 //! `gallery/trim.py` writes of the same reports.
