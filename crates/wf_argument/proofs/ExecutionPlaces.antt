@@ -18,13 +18,13 @@ use Rattle.wf_complex.specs.Layout.{turns}
 use Rattle.wf_complex.specs.Protocol.{Built, IsProtocol}
 use Rattle.wf_complex.proofs.Bounds.{suc_times}
 use Rattle.wf_complex.proofs.Executions.{length-lists_of}
-use Rattle.wf_lift.proofs.Places.{begun_by, begun, there_within, MadeOf, made_of, made_there, as_many_numbers}
+use Rattle.wf_trim.proofs.Places.{begun_by, begun, there_within, MadeOf, made_of, made_there, as_many_numbers}
 use Rattle.wf_argument.specs.declared.executions.Span.{Span}
 use Rattle.wf_argument.specs.Table.{spans_of, words_up_to, break_text}
 use Rattle.wf_argument.specs.Text.{others_text, block_text, block_of, word_text, words_text, execution_text}
 use Rattle.wf_argument.proofs.Listing.{rest_of}
 use Rattle.wf_complex.proofs.Lemmas.{as_many_executions}
-use Rattle.wf_lift.proofs.Lemmas.{length-on}
+use Rattle.wf_trim.proofs.Lemmas.{length-on}
 
 -- ---- a list of words by division
 

@@ -23,7 +23,7 @@ use Rattle.wf_argument.specs.Text.{argument_text, is_in, is_step, names, parts_t
 use Rattle.wf_argument.specs.Used.{MarksEach, is_end, is_named, marked_text, more_steps, one_more, points_at, title_of, told_if}
 use Rattle.wf_argument.specs.declared.title.Run.{Run}
 use Rattle.wf_argument.proofs.Parting.{one_run}
-use Rattle.wf_view.proofs.Lemmas.{and_more}
+use Rattle.wf_complex.proofs.Lemmas.{and_more}
 
 -- ---- steps
 

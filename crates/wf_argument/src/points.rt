@@ -8,8 +8,7 @@ ghost use Rattle.wf_argument.specs.Used.{marked_text, told_if};
 
 use std::alloc::AllocError;
 use std::fmt::Write;
-use wf_complex::Protocol;
-use wf_view::put_view;
+use wf_complex::{Protocol, put_view};
 
 /// Adds what the points are that are marked. Where they are classes, processes go by their ranks.
 pub(crate) fn put_points(

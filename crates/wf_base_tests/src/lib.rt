@@ -1,27 +1,33 @@
-//! Tests of the public calls of the crates that the engines stand on, a module for each crate.
+//! Tests of the public calls of the crates that the engines stand on, but for the search: tasks,
+//! reports and their checker, questions of branches, and the checker of solvers' proofs.
 //!
 //! They stand in a crate of their own since a crate with tests is proved twice, with them and
 //! without; here the tests alone are proved, over the contracts of the crates below. What they add
-//! to these contracts: that a call gets its memory and succeeds, that the definitions say what is
-//! meant, by values from outside, and what is printed. Texts of tasks were written by hand or by
-//! another program that makes these tasks, never by this one.
+//! to these contracts: that a call gets its memory and succeeds, and that the definitions say what
+//! is meant, by values from outside. Texts of tasks were written by hand or by another program that
+//! makes these tasks, never by this one. What a command line can show is said by `tests/rows` and
+//! by the scripts in `checks`, and by no test here.
 #![tactic(auto)]
 
 #[cfg(test)]
-mod canonical;
+mod asking;
 #[cfg(test)]
-mod complexes;
+mod branches;
 #[cfg(test)]
-mod named_tasks;
+mod checkers;
 #[cfg(test)]
-mod presets;
+mod clauses;
+#[cfg(test)]
+mod proofs;
+#[cfg(test)]
+mod readers;
+#[cfg(test)]
+mod reports;
 #[cfg(test)]
 mod simplices;
 #[cfg(test)]
 mod supports;
 #[cfg(test)]
 mod tasks;
-#[cfg(test)]
-mod texts;
 #[cfg(test)]
 mod views;

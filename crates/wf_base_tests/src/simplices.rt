@@ -2,7 +2,7 @@
 
 use std::alloc::{AllocError, Global};
 use std::test::Fail;
-use wf_simplex::{Complex, Simplex, SimplexFault, Word, allowed_count, word_count};
+use wf_simplex::{Complex, Simplex, SimplexFault, Word};
 
 /// The vertices of a simplex: processes with their values.
 type Pairs = &'static [(u8, u8)];
@@ -112,19 +112,6 @@ fn put_levels(word: &Word, list: &mut Vec<[u8; 3]>) -> Result<(), AllocError> {
         list.push([word.level(0), word.level(1), word.level(2)])?;
     }
     Ok(())
-}
-
-/// Whether the first of two participants sees the first and the second, and so of the second.
-fn seen(word: &Word) -> Option<[bool; 4]> {
-    if word.size() != 2 {
-        return None;
-    }
-    Some([
-        word.sees(0, 0),
-        word.sees(0, 1),
-        word.sees(1, 0),
-        word.sees(1, 1),
-    ])
 }
 
 #[test]
@@ -238,50 +225,4 @@ fn words_follow_one_another(rt: HostRuntime) -> Result<(), Fail> {
     assert!(rt; words.as_slice() == WORDS.as_slice());
     assert!(rt; allowed.as_slice() == WORDS_OF_PAIRS.as_slice());
     Ok(())
-}
-
-#[test]
-fn words_with_two_at_least_in_the_first_block(rt: HostRuntime) -> Result<(), Fail> {
-    let mut words = Vec::new(rt.alloc());
-    let mut word = Word::first_allowed(3, 2);
-    for _ in 0..100 {
-        put_levels(&word, &mut words)?;
-        if !word.next_allowed(2) {
-            break;
-        }
-    }
-    assert!(rt; words.as_slice() == WORDS_OF_PAIRS.as_slice());
-    Ok(())
-}
-
-/// The numbers of words of one to four with so many at least in the first block.
-fn allowed_counts(m: u8) -> [u32; 4] {
-    if m < 1 || m > 4 {
-        return [0; 4];
-    }
-    [
-        allowed_count(1, m),
-        allowed_count(2, m),
-        allowed_count(3, m),
-        allowed_count(4, m),
-    ]
-}
-
-#[test]
-fn words_are_counted(rt: HostRuntime) {
-    let counts = (word_count(1), word_count(2), word_count(3), word_count(4));
-    assert!(rt; counts == (1, 3, 13, 75));
-    assert!(rt; allowed_counts(1) == [1, 3, 13, 75]);
-    assert!(rt; allowed_counts(2) == [1, 1, 4, 23]);
-    assert!(rt; allowed_counts(3) == [1, 1, 1, 5]);
-    assert!(rt; allowed_counts(4) == [1, 1, 1, 1]);
-}
-
-#[test]
-fn participants_see_earlier_blocks_and_their_own(rt: HostRuntime) {
-    let mut word = Word::first(2);
-    assert!(rt; seen(&word) == Some([true, true, true, true]));
-    // then 0 1: process 1 sees both, process 0 only itself
-    word.next();
-    assert!(rt; seen(&word) == Some([true, false, true, true]));
 }

@@ -2,8 +2,8 @@
 
 use std::alloc::{AllocError, Global};
 use std::test::Fail;
+use wf_check::Support;
 use wf_set::{of_part, only};
-use wf_support::Support;
 use wf_task::Row;
 
 /// A number of sets, a place and a value, and whether it is supported there by tuples with three

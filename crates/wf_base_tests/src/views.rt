@@ -2,7 +2,7 @@
 
 use std::alloc::AllocError;
 use std::test::Fail;
-use wf_view::Views;
+use wf_complex::Views;
 
 /// Processes with their inputs, and the numbers that these views get one after another.
 static NUMBERED: [(u8, u8, u32); 6] = [
@@ -48,15 +48,6 @@ fn one_number_is_one_view(rt: HostRuntime) -> Result<(), Fail> {
     assert!(rt; views.len() == 5);
     assert!(rt; known(&views, 4) == Some((2, Some(1), 0b0100)));
     assert!(rt; parts(&views, 4) == Some([].as_slice()));
-    Ok(())
-}
-
-#[test]
-fn an_input_is_of_process_0(rt: HostRuntime) -> Result<(), Fail> {
-    let mut views = Views::start(rt.alloc());
-    let input = views.base(2, 7)?;
-    assert!(rt; views.normal(input)? == 1);
-    assert!(rt; known(&views, 1) == Some((0, Some(7), 0b0001)));
     Ok(())
 }
 

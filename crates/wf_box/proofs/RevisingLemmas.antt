@@ -2,8 +2,8 @@
 use Rattle.std.proofs.Common.{None, Vec, ℕ, refl}
 use Rattle.wf_lane.specs.Table.{HasSupported}
 use Rattle.wf_lines.specs.declared.line.Line.{Line}
-use Rattle.wf_memo.specs.Revising.{AreKnown, answers_in, found_in}
-use Rattle.wf_memo.specs.declared.memo.Memo.{Memo}
+use Rattle.wf_network.specs.Revising.{AreKnown, answers_in, found_in}
+use Rattle.wf_network.specs.declared.memo.Memo.{Memo}
 use Rattle.wf_network.specs.Problems.{constraints_in, rule_in}
 use Rattle.wf_network.specs.declared.problem.Network.{Network}
 use Rattle.wf_network.proofs.Lemmas.{few_at, rule_known, within_now}

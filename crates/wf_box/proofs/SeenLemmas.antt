@@ -10,9 +10,9 @@ use Rattle.wf_model.specs.Laws.{IsBoxOf}
 use Rattle.wf_set.specs.Sets.{box_of, values_in}
 use Rattle.wf_box.specs.Changes.{IsGrown, taken_back, words_after}
 use Rattle.wf_box.specs.Quiet as quiet
-use Rattle.wf_memo.specs.Revising.{AreKnown}
+use Rattle.wf_network.specs.Revising.{AreKnown}
 use Rattle.wf_box.specs.Boxes.{Grows, IsFor, Tracked, Was, WasClosed, box_after, change_seen, closed_if, put_back}
-use Rattle.wf_memo.specs.declared.memo.Revised.{Revised}
+use Rattle.wf_network.specs.declared.memo.Revised.{Revised}
 use Rattle.wf_box.specs.declared.tracked.Change.{Change}
 
 -- the sets as the box that a clause sees

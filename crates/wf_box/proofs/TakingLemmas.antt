@@ -18,7 +18,7 @@ use Rattle.wf_set.proofs.SetLaws.{values_of_part}
 use Rattle.wf_lines.specs.Lines.{line_of}
 use Rattle.wf_lines.specs.declared.line.Line.{Line}
 use Rattle.wf_lines.specs.declared.line.Line.TheVariants as line
-use Rattle.wf_memo.specs.Revising.{wide_set}
+use Rattle.wf_network.specs.Revising.{wide_set}
 use Rattle.wf_box.specs.Steps.{reached, removals, loss}
 use Rattle.wf_box.specs.declared.taking.Occurrence.{Occurrence}
 use Rattle.wf_set.proofs.Lemmas.{set_at}

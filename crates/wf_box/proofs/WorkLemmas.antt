@@ -9,13 +9,13 @@ use Rattle.wf_box.specs.Changes.{sets_in}
 use Rattle.wf_box.specs.Closes.{EndsAt, IsEmptied, emptied_by}
 use Rattle.wf_lane.specs.Table.{HasSupported}
 use Rattle.wf_network.specs.Problems.{executions_in, rule_in, rule_of}
-use Rattle.wf_memo.specs.Revising.{AreKnown, answers_in, found_at, found_in}
+use Rattle.wf_network.specs.Revising.{AreKnown, answers_in, found_at, found_in}
 use Rattle.wf_box.specs.Steps.{HasRoom, IsPaid, IsSpent, point_if}
 use Rattle.wf_box.specs.Working.{Ends, IsWorking, Proceeds}
 use Rattle.wf_box.specs.declared.closing.Closed.{Closed}
 use Rattle.wf_box.specs.declared.closing.Closed.TheVariants.{Empty, Open}
 use Rattle.wf_network.specs.declared.marks.Marks.{Marks}
-use Rattle.wf_memo.specs.declared.memo.Memo.{Memo}
+use Rattle.wf_network.specs.declared.memo.Memo.{Memo}
 use Rattle.wf_complex.specs.declared.packed.PackedExecution.{PackedExecution}
 use Rattle.wf_network.specs.declared.problem.Network.{Network}
 use Rattle.wf_box.specs.declared.tracked.Tracked.{Tracked}

@@ -9,9 +9,9 @@ use Rattle.wf_model.specs.Laws.{IsBoxOf}
 use Rattle.wf_set.specs.Sets.{box_of, values_in}
 use Rattle.wf_box.specs.Changes.{KeepsTrack}
 use Rattle.wf_box.specs.Kept.{box_kept}
-use Rattle.wf_memo.specs.Revising.{AreKnown, answers_in}
+use Rattle.wf_network.specs.Revising.{AreKnown, answers_in}
 use Rattle.wf_model.specs.Limits.{most_points}
-use Rattle.wf_memo.specs.declared.memo.Revised.{Revised}
+use Rattle.wf_network.specs.declared.memo.Revised.{Revised}
 use Rattle.wf_box.specs.declared.tracked.Change.{Change}
 use Rattle.wf_box.specs.declared.boxed.Box0.TheInside.{Inside}
 use Rattle.wf_box.specs.declared.snapshot.Snapshot.TheInside as snapshot

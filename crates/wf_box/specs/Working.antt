@@ -9,7 +9,7 @@ use Rattle.wf_network.specs.Marks.{bit_of}
 use Rattle.wf_network.specs.Problems.{IsNetwork, constraint_in, constraints_in, executions_in}
 use Rattle.wf_box.specs.Quiet.{IsUntouched, IsUntouchedBut, MarksTell}
 use Rattle.wf_network.specs.Users.{IsUser}
-use Rattle.wf_memo.specs.Revising.{AreKnown, answers_in}
+use Rattle.wf_network.specs.Revising.{AreKnown, answers_in}
 use Rattle.wf_box.specs.Steps.{HasRoom, IsPaid, NamesAt, NamesIn, Reaches, TakesEach, point_if, revision}
 use Rattle.wf_box.specs.declared.taking.Occurrence.{Occurrence}
 use Rattle.wf_network.specs.declared.problem.Network.{Network}

@@ -8,7 +8,7 @@ use crate::boxed::Box0;
 use std::alloc::Global;
 use std::marker::Model;
 use std::mem;
-use wf_memo::Memo;
+use wf_network::Memo;
 
 /// What closing has found out about a problem: a box keeps it, and may leave it to the next box of
 /// the same problem. No result rests on it, and it saves time alone.
@@ -21,8 +21,8 @@ pub struct Answers {
 
 impl Model for Answers {
     ghost use Rattle.std.specs.Prelude.{List, Option};
-    ghost use Rattle.wf_memo.specs.Revising.{answers_in};
-    ghost use Rattle.wf_memo.specs.declared.memo.Revised.{Revised};
+    ghost use Rattle.wf_network.specs.Revising.{answers_in};
+    ghost use Rattle.wf_network.specs.declared.memo.Revised.{Revised};
 
     ghost Value = { List (Option Revised) };
 

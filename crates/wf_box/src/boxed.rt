@@ -16,8 +16,7 @@ use crate::tracked::Tracked;
 use crate::workspace::Workspace;
 use std::alloc::{AllocError, Global};
 use std::marker::Model;
-use wf_memo::Memo;
-use wf_network::{Marks, Problem};
+use wf_network::{Marks, Memo, Problem};
 use wf_set::{Mask, first};
 
 /// A box: a set of values, its candidates, for each point. It keeps a trail of its changes, so that

@@ -14,7 +14,7 @@ ghost use Rattle.wf_lane.specs.Table.{HasSupported};
 ghost use Rattle.wf_network.specs.Problems.{IsNetwork, constraints_in, executions_in, rule_in, rule_number};
 ghost use Rattle.wf_box.specs.Steps.{ClosesTo, NamesAll, NamesLost, Reaches, SweepsTo, box_in};
 ghost use Rattle.wf_box.specs.Closes.{AddsClosing, AreFew, IsEmptied, IsSupported, KeepsSolutions, Leaves, LosesNamed, Takes, emptied_by, sweeps_to_close};
-ghost use Rattle.wf_memo.specs.Revising.{AreSame, found_at, found_in, nibbles_in, parts_in, wide_set, widened};
+ghost use Rattle.wf_network.specs.Revising.{AreSame, found_at, found_in, nibbles_in, parts_in, wide_set, widened};
 ghost use Rattle.wf_box.specs.Working.{AreMarked, IsRevising, IsTakingAt, IsWorkingFor, IsWorkingOn, ProceedsFor, ProceedsOn, Revises, TakesAt};
 
 use crate::boxed::Box0;
@@ -24,11 +24,11 @@ use crate::workspace::Workspace;
 use std::alloc::{AllocError, Global};
 use wf_lane::first_empty;
 use wf_lines::{Line, Lines};
-use wf_memo::{
-    candidates_at, in_nibbles, in_word, narrowed, supported_narrow, supported_nibbles,
-    supported_sets, supported_word, unpacked, unpacked_nibbles,
+use wf_network::{
+    Marks, Network, PackedExecution, Problem, candidates_at, in_nibbles, in_word, narrowed,
+    supported_narrow, supported_nibbles, supported_sets, supported_word, unpacked,
+    unpacked_nibbles,
 };
-use wf_network::{Marks, Network, PackedExecution, Problem};
 use wf_set::part::{self, Part};
 use wf_set::{Mask, difference, is_empty};
 

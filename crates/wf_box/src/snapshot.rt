@@ -9,8 +9,7 @@ use crate::tracked::Tracked;
 use crate::workspace::Workspace;
 use std::alloc::{AllocError, Global};
 use std::marker::Model;
-use wf_memo::Memo;
-use wf_network::Marks;
+use wf_network::{Marks, Memo};
 
 /// The candidates of a box at one moment, which change no more. It takes less memory than the box,
 /// and the box can be made of it again: [`Box0::keep`] and [`Snapshot::to_box`].

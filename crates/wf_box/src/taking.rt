@@ -7,7 +7,7 @@ ghost use Rattle.std.specs.List.{slice_set};
 ghost use Rattle.wf_model.specs.Box.{candidates, count};
 ghost use Rattle.wf_set.specs.Parts.{part_values};
 ghost use Rattle.wf_set.specs.Sets.{box_of, values_in};
-ghost use Rattle.wf_memo.specs.Revising.{wide_set};
+ghost use Rattle.wf_network.specs.Revising.{wide_set};
 ghost use Rattle.wf_box.specs.Closes.{EndsAt};
 ghost use Rattle.wf_box.specs.Steps.{HasRoom, IsSpent, NamesAt, TakesEach, TakesOut, removals};
 

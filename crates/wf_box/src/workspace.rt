@@ -1,8 +1,7 @@
 //! What closing works on.
 
 use crate::tracked::Tracked;
-use wf_memo::Memo;
-use wf_network::Marks;
+use wf_network::{Marks, Memo};
 
 /// The candidates of each point, marks on the executions in which something
 /// may be lost, and answers of the kernel.

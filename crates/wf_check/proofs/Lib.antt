@@ -7,3 +7,6 @@ pub mod FirstLemmas
 pub mod SettledLemmas
 pub mod SupportLemmas
 pub mod TruthLemmas
+mod RowBlockLemmas
+mod BuildLemmas
+mod GroupLemmas

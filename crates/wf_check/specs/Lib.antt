@@ -7,3 +7,5 @@ pub mod Blocks
 pub mod Settled
 pub mod Claims
 pub mod Places
+pub mod RowBlocks
+pub mod Groups

@@ -13,13 +13,13 @@ ghost use Rattle.wf_report.specs.Reports.{AreNumbered, body_length, body_of, rep
 use crate::judge::{Claim, judge_lines};
 use crate::maps::first_violated;
 use crate::support::support_all;
+use crate::tuples::Support;
 use std::alloc::{AllocError, Global};
 use std::marker::Model;
 use std::thread::Threads;
 use wf_complex::Protocol;
 use wf_report::{Body, CertFault, FIRST_LINE, Report};
 use wf_set::Mask;
-use wf_support::Support;
 use wf_task::Task;
 
 /// Accepts a report about a task and its protocol complex, or answers the

@@ -17,12 +17,12 @@ ghost use Rattle.wf_check.specs.Faults.{Judges, Steps};
 
 use crate::boxes::Blocks;
 use crate::support::is_supported;
+use crate::tuples::Support;
 use std::alloc::Global;
 use wf_complex::Protocol;
 use wf_lines::Line;
 use wf_report::CertFault;
 use wf_set::{Mask, is_empty};
-use wf_support::Support;
 use wf_task::Task;
 
 /// A value that a line takes out.

@@ -6,9 +6,9 @@ ghost use Rattle.wf_model.specs.Lists.{has};
 ghost use Rattle.wf_set.specs.Sets.{box_of, values_in};
 ghost use Rattle.wf_check.specs.Places.{tuples_of};
 
+use crate::tuples::Support;
 use std::alloc::{AllocError, Global};
 use wf_set::{Mask, holds, nothing};
-use wf_support::Support;
 use wf_task::Task;
 
 /// The tuples of each rule of the task.

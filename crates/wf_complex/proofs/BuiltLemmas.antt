@@ -16,8 +16,8 @@ use Rattle.wf_model.specs.Problem.{Constraint, number_of, constraint_of, problem
 use Rattle.wf_model.proofs.Basics.{by_place}
 use Rattle.wf_model.proofs.WellFormed.{last_processes}
 use Rattle.wf_model.proofs.Numbers.{Apart, apart_distinct, map_same}
-use Rattle.wf_view.specs.Views.{view_at}
-use Rattle.wf_view.proofs.Lemmas.{number_of-at}
+use Rattle.wf_complex.specs.Views.{view_at}
+use Rattle.wf_complex.proofs.Ranked.{number_of-at}
 use Rattle.wf_complex.specs.declared.layout.Span.{Span}
 use Rattle.wf_complex.specs.Rounds.{views_at, leaves_of}
 use Rattle.wf_complex.specs.Layout.{laid_out}

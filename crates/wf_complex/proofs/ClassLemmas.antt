@@ -4,7 +4,7 @@ use Rattle.std.proofs.lemmas.List.{map-append, get_or-map, length-map, take_more
 use Rattle.std.proofs.lemmas.List.Elements.{recursion_from_All, All-from_recursion, All-get_or, All-push}
 use Rattle.std.proofs.lemmas.Option.{slice_get_within, get_or_from_slice_get}
 use Rattle.wf_model.specs.View.{View, base, normal}
-use Rattle.wf_view.specs.Views.{view_at, count_within}
+use Rattle.wf_complex.specs.Views.{view_at, count_within}
 use Rattle.wf_complex.specs.Rounds.{views_at, Extends}
 use Rattle.wf_complex.specs.Classes.{class_by, most_within}
 use Rattle.wf_complex.proofs.RoundLemmas.{views_kept, within_kept, views_push}

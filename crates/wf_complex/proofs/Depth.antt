@@ -11,8 +11,8 @@ use Rattle.wf_model.proofs.Bridge.{Among, among_append_left, among_append_right,
 use Rattle.wf_model.proofs.Headline.{each_append, each_distinct}
 use Rattle.wf_model.proofs.Numbers.{apart_distinct}
 use Rattle.wf_model.proofs.WellFormed.{words_long}
-use Rattle.wf_view.specs.Views.{view_at, views_within, views_within_each, count_within}
-use Rattle.wf_view.proofs.Lemmas.{no_more}
+use Rattle.wf_complex.specs.Views.{view_at, views_within, views_within_each, count_within}
+use Rattle.wf_complex.proofs.Within.{no_more}
 use Rattle.wf_complex.specs.Rounds.{views_at, leaves, leaves_of}
 use Rattle.wf_complex.proofs.Bounds.{IsSized, suc_times}
 use Rattle.wf_complex.proofs.LayoutLemmas.{product_small}

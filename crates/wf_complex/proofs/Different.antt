@@ -15,8 +15,8 @@ use Rattle.std.proofs.lemmas.List.Kept.{AllPairs-cons}
 use Rattle.wf_model.proofs.Ascending.{Ascends, ascends_filter}
 use Rattle.wf_model.proofs.Headline.{each_distinct, each_filter, each_map}
 use Rattle.wf_model.proofs.Numbers.{Apart, apart_distinct, map_distinct}
-use Rattle.wf_view.specs.Views.{view_at}
-use Rattle.wf_view.proofs.Lemmas.{number_of-at}
+use Rattle.wf_complex.specs.Views.{view_at}
+use Rattle.wf_complex.proofs.Ranked.{number_of-at}
 use Rattle.wf_complex.specs.Rounds.{views_at}
 use Rattle.wf_complex.specs.Numbering.{same_at, first_places}
 use Rattle.wf_model.proofs.Fuel.{length_filter}

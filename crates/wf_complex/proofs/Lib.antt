@@ -18,4 +18,15 @@ pub mod Kept
 pub mod Depth
 pub mod RuleAt
 pub mod ExecutionAt
+pub mod Shown
+pub mod Once
+pub mod Steps
+pub mod Entries
+pub mod Within
+pub mod Ranks
+pub mod Beside
+pub mod Renamed
+pub mod Collecting
+pub mod Ranked
+pub mod Telling
 pub mod Lemmas

@@ -3,7 +3,7 @@ use Rattle.std.specs.Prelude.{◌≡◌, ◌≤◌, ◌+◌, ◌*◌, ℕ, zero,
 use Rattle.wf_model.specs.Simplex.{Simplex, is_ascending}
 use Rattle.wf_model.specs.View.{View, base, seen, views_of, process_of, base_views, round}
 use Rattle.wf_model.specs.Word.{Word, words}
-use Rattle.wf_view.specs.Views.{view_at}
+use Rattle.wf_complex.specs.Views.{view_at}
 use Rattle.wf_complex.specs.declared.rounds.Ids.{Ids}
 use Rattle.wf_complex.specs.declared.rounds.Round.{Round}
 use Rattle.wf_complex.specs.declared.rounds.Sight.{Sight}

@@ -4,14 +4,14 @@ ghost use Rattle.std.specs.Prelude.{◌≡◌, ◌<◌, ◌≤◌, ◌+◌, ◌*
 ghost use Rattle.wf_model.specs.Lists.{distinct};
 ghost use Rattle.wf_model.specs.Limits.{most_number, most_points};
 ghost use Rattle.wf_model.specs.View.{same_view, normal};
-ghost use Rattle.wf_view.specs.Views.{view_at, count_within};
+ghost use Rattle.wf_complex.specs.Views.{view_at, count_within};
 ghost use Rattle.wf_complex.specs.Rounds.{views_at, Extends};
 ghost use Rattle.wf_complex.specs.Classes.{classes_at, most_within, ArePoints};
 ghost use Rattle.wf_complex.specs.Numbering.{picked};
 
 use crate::numbering::number_all;
+use crate::views::Views;
 use std::alloc::{AllocError, Global};
-use wf_view::Views;
 
 /// The points of the last views, in the order of first appearance.
 #[derive(Drop)]

@@ -15,12 +15,12 @@ use crate::firsts::{First, firsts_of};
 use crate::layout::{MOST_EXECUTIONS, execution_count, lay_out, place_count};
 use crate::packed::{PackedExecution, pack};
 use crate::rounds::last_views;
+use crate::views::Views;
 use std::alloc::{AllocError, Global};
 use std::marker::Model;
 use std::sync::Arc;
 use wf_simplex::Simplex;
 use wf_task::Task;
-use wf_view::Views;
 
 /// The most rounds.
 const MOST_ROUNDS: u32 = 8;

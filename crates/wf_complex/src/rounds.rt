@@ -5,9 +5,9 @@ ghost use Rattle.wf_model.specs.Limits.{most_number, most_processes};
 ghost use Rattle.wf_model.specs.View.{base, round, base_views};
 ghost use Rattle.wf_complex.specs.Rounds.{views_at, picked, places_seen, numbers_in, only_if, words_in, IsSight, IsSightOf, AreSights, IsRound, AreKnown, Extends, AreViews, leaves, cost, leaves_of, cost_of_each};
 
+use crate::views::Views;
 use std::alloc::{AllocError, Global};
 use wf_simplex::{Simplex, Word, allowed_count};
-use wf_view::Views;
 
 /// How many answers there are for each place: one for each set of places that it may see.
 const ANSWERS: usize = 16;

@@ -5,8 +5,8 @@ use Rattle.std.specs.Option.{unwrap_or}
 use Rattle.std.proofs.lemmas.Option.{unwrap_or-slice_get}
 use Rattle.wf_model.specs.View.{View, base}
 use Rattle.wf_model.specs.PointsText.{view_text, decision_text, point_text}
-use Rattle.wf_view.specs.Views.{view_at}
-use Rattle.wf_view.proofs.Lemmas.{and_more}
+use Rattle.wf_complex.specs.Views.{view_at}
+use Rattle.wf_complex.proofs.Lemmas.{and_more}
 
 -- ---- the line of a point
 

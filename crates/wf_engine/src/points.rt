@@ -3,7 +3,7 @@
 ghost use Rattle.std.specs.Prelude.{◌≡◌, ◌++◌, ◌<◌, IfOk, OnOk, string_bytes, length, slice_get};
 ghost use Rattle.wf_model.specs.PointsText.{decision_text, point_text, points_text};
 ghost use Rattle.wf_io.specs.Ends.{CanCount, CanRead};
-ghost use Rattle.wf_view.specs.Views.{view_at};
+ghost use Rattle.wf_complex.specs.Views.{view_at};
 ghost use Rattle.wf_complex.specs.Protocol.{IsProtocol};
 ghost use Rattle.wf_engine.specs.Run.{Answers, Asks, answered};
 ghost use Rattle.wf_engine.specs.Texts.{IsTextOf, Lists, undecided_points};
@@ -13,10 +13,9 @@ use crate::steps::{hand_out, read_task};
 use std::alloc::{AllocError, Global};
 use std::fmt::Write as _;
 use std::io::{Read, Write};
-use wf_complex::Protocol;
+use wf_complex::{Protocol, put_view};
 use wf_io::{Sink, Source};
 use wf_task::Task;
-use wf_view::put_view;
 
 /// Reads a task to the reader's end and tells the points of its protocol complex after some rounds
 /// in words, a line for each: who saw what, down to the inputs.

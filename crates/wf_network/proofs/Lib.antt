@@ -4,4 +4,7 @@ pub mod JoinLemmas
 pub mod StandLemmas
 pub mod UserLemmas
 pub mod MarkLemmas
+pub mod LeftLemmas
+pub mod PackedLemmas
+pub mod MemoLemmas
 pub mod Lemmas

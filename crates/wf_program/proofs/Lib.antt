@@ -1,1 +1,11 @@
+pub mod Among
+pub mod Trimming
+pub mod Shortening
+pub mod Accepting
+pub mod Trimmed
+pub mod Explained
+pub mod WasRead
+pub mod LiftSteps
+pub mod LiftTruth
+pub mod LiftCounts
 pub mod Served

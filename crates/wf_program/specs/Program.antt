@@ -24,9 +24,9 @@ use Rattle.wf_engine.specs.Models.{Models}
 use Rattle.wf_engine.specs.Proofs.{Refutes}
 use Rattle.wf_engine.specs.Presets.{WritesPreset}
 use Rattle.wf_argument.specs.Listing.{executions_text}
-use Rattle.wf_rewrite.specs.Trimming.{Trims}
-use Rattle.wf_rewrite.specs.Explaining.{Explains}
-use Rattle.wf_rewrite.specs.Lifting.{Lifts}
+use Rattle.wf_program.specs.Trimming.{Trims}
+use Rattle.wf_program.specs.Explaining.{Explains}
+use Rattle.wf_program.specs.Lifting.{Lifts}
 use Rattle.wf_formula.specs.Branches.{branch_text}
 use Rattle.wf_branches.specs.Branches.{ListsBranch}
 use Rattle.wf_branches.specs.Listing.{branches_text}

@@ -7,8 +7,11 @@ ghost use Rattle.wf_program.specs.Files.{CanAsk};
 ghost use Rattle.wf_program.specs.Program.{DoesWithFile, WithFile, filed_of};
 
 use crate::done::{Done, after_verifying, after_writing};
+use crate::explain::run_explain;
 use crate::files::{Files, Folder};
+use crate::lift::run_lift;
 use crate::refusal::Refusal;
+use crate::trim::run_trim;
 use std::alloc::Global;
 use std::io::{Read, Write};
 use std::thread::Threads;
@@ -16,7 +19,6 @@ use wf_args::Job;
 use wf_branches::{run_join, run_proof_branch, run_verify_branch};
 use wf_engine::{RunFault, run_decisions, run_model, run_proof, run_verify};
 use wf_io::{Sink, Source};
-use wf_rewrite::{run_explain, run_lift, run_trim};
 
 /// What a job does with the task in a file, and with what the source gives about it.
 #[derive(Clone, Copy)]

@@ -11,6 +11,7 @@ ghost use Rattle.wf_program.specs.Files.{CanAsk};
 ghost use Rattle.wf_program.specs.Program.{CanServe, Declines, Does, DoesAlone, Ends, IsAsked, ListsQuestion, Serves, Shows, filed_of};
 
 use crate::done::{AccountLine, Done, after_searching, after_solving, after_writing};
+use crate::executions::run_executions;
 use crate::filed::Filed;
 use crate::files::{Files, Folder};
 use crate::refusal::Refusal;
@@ -29,7 +30,6 @@ use wf_engine::{
 };
 use wf_io::{Sink, Source};
 use wf_pool::Gate;
-use wf_rewrite::run_executions;
 
 /// Runs what the words ask for, the first of which is the program's own name, and answers the exit
 /// status. Where the words could not be had, that is the refusal.

@@ -1,55 +1,18 @@
-//! The program over streams and files of its own: each command writes, tells
-//! and answers what it is to, byte for byte.
+//! The program over streams and files of its own, where a call of theirs fails. What each command
+//! writes, tells and answers, byte for byte, stands in tests/rows.
 
 use crate::ends::Shelf;
-use crate::rows::{BEGINNINGS, DONE, REPORT, Row, VERIFY};
 use crate::running::{Given, Tally, run, run_line};
 use std::test::Fail;
 use wf_args::{Slip, WordsFault};
 use wf_examples::{ONE_PROCESS, PATH_3};
 
-#[test]
-fn jobs_are_done(rt: HostRuntime) -> Result<(), Fail> {
-    for row in &DONE {
-        let Row {
-            words,
-            task,
-            input,
-            output,
-            errors,
-            status,
-        } = *row;
-        let given = Given {
-            file: Shelf {
-                name: "task.json",
-                text: task,
-                fails_at: 0,
-            },
-            ..Given::input(input)
-        };
-        let answer = run_line(&rt, rt.alloc(), words, given)?;
-        let holds = answer.is(output, errors, status);
-        assert!(rt; holds, "{words} is to write {output} and to tell {errors}");
-    }
-    Ok(())
-}
+/// A check of a report about the task in a file.
+const VERIFY: &str = "wfcheck verify --task task.json";
 
-#[test]
-fn words_ask_for_help_or_are_refused(rt: HostRuntime) -> Result<(), Fail> {
-    for row in &BEGINNINGS {
-        let answer = run_line(&rt, rt.alloc(), row.words, Given::input(row.input))?;
-        let holds = answer.status == row.status
-            && begins(&answer.output, row.output)
-            && begins(&answer.errors, row.errors);
-        assert!(rt; holds, "{}", row.words);
-    }
-    Ok(())
-}
-
-/// Whether a text begins so, or is empty where that is.
-fn begins(text: &[u8], front: &str) -> bool {
-    text.starts_with(front.as_bytes()) && text.is_empty() == front.is_empty()
-}
+/// A report of a decision map of the path of length 3.
+const REPORT: &str =
+    "wfcheck report 1\nprocesses 2\nrounds 1\npoints 4\nexecutions 5\nanswer map\nm 0\nm 3\nm 2\nm 1\nend\n";
 
 #[test]
 fn words_that_could_not_be_had_are_the_refusal(rt: HostRuntime) -> Result<(), Fail> {

@@ -1,4 +1,5 @@
-//! The engines, each on its happy path, and where it refuses a text.
+//! Engines, as they are tried with calls that fail. What they answer and refuse is shown by the
+//! rows of command lines.
 
 ghost use Rattle.wf_engine.specs.Verify.{CanVerify};
 
@@ -7,17 +8,14 @@ use std::alloc::Global;
 use std::io::{Read, Write};
 use std::test::Fail;
 use std::thread::Threads;
-use wf_cnf::ModelFault;
 use wf_complex::BuildFault;
 use wf_core::Account;
 use wf_engine::{
-    Form, MAX_WORKERS, Outcome, RunFault, run_cnf, run_decisions, run_find, run_model, run_points,
-    run_proof, run_solve, run_solve_one, run_verify, run_views,
+    Form, MAX_WORKERS, Outcome, RunFault, run_cnf, run_find, run_model, run_points, run_proof,
+    run_solve, run_solve_one, run_views,
 };
-use wf_examples::{PATH_2, RENAMING_2_2};
+use wf_examples::RENAMING_2_2;
 use wf_io::{Sink, Source};
-use wf_report::CertFault;
-use wf_rup::ProofFault;
 use wf_task::TaskFault;
 
 const ONE: &str =
@@ -37,24 +35,12 @@ const TOLD: &str =
 const QUESTION: &str =
     "c wfcheck formula 1\nc processes 1\nc rounds 8\nc points 1\nc executions 1\nc values 5\nc variable 1 * point + place of the value\np cnf 1 1\n1 0\n";
 
-/// The report of a decision map of the path of length 2 after one round.
-const MAP: &str =
-    "wfcheck report 1\nprocesses 2\nrounds 1\npoints 4\nexecutions 5\nanswer map\nm 0\nm 2\nm 1\nm 0\nend\n";
-
-/// The least report about the path of length 2 after one round: points 2 and 3 have two candidates
-/// each once the root is closed, and the lower ones are the map's.
-const LEAST: &str =
-    "wfcheck report 1\nprocesses 2\nrounds 1\npoints 4\nexecutions 5\nanswer least\nm 0\nm 2\nm 1\nm 0\np 0 0 1\np 0 0 2\np 1 1 0\np 1 1 1\np 3 1 2\np 4 0 0\nb 2\nb 3\nf\nend\n";
-
-const DECIDED: &str =
-    "0 p0 saw {p0=0} decides 0\n1 p1 saw {p1=0} decides 2\n2 p0 saw {p0=0, p1=0} decides 1\n3 p1 saw {p0=0, p1=0} decides 0\n";
-
 /// A proof that two processes can't take two names in one round, and what is written of it.
 const PROOF: &str = "c one name\n-1 0\nd 1 0\n";
 
 const REFUTED: &str = "accepted none at 1 round\n";
 
-/// An engine. The last four read a text about the task too.
+/// An engine. The last two read a text about the task too.
 #[derive(Clone, Copy)]
 pub enum Engine {
     /// The search, by so many workers.
@@ -64,9 +50,6 @@ pub enum Engine {
     Views,
     Points,
     Cnf,
-    /// The check of a report, which is to be for these rounds where they are named.
-    Verify(Option<u32>),
-    Decisions,
     Model,
     Proof,
 }
@@ -96,8 +79,6 @@ impl Engine {
             Engine::Views => run_views(alloc, task, sink, rounds).err(),
             Engine::Points => run_points(alloc, task, sink, rounds).err(),
             Engine::Cnf => run_cnf(alloc, task, sink, rounds).err(),
-            Engine::Verify(rounds) => run_verify(rt, alloc, task, text, sink, rounds).err(),
-            Engine::Decisions => run_decisions(rt, alloc, task, text, sink).err(),
             Engine::Model => run_model(rt, alloc, task, text, sink, rounds).err(),
             Engine::Proof => run_proof(alloc, task, text, sink, rounds).err(),
         }
@@ -188,100 +169,6 @@ pub(crate) static ENGINES: [(Asked, &str); 6] = [
     // propagation finds the contradiction
     ((Engine::Proof, RENAMING_2_2, PROOF, 1), REFUTED),
 ];
-
-/// What else engines write of a task.
-static ANSWERED: [(Asked, &str); 10] = [
-    ((Engine::Solve(1, Form::Full), ONE, "", 8), REPORT),
-    ((Engine::Solve(1, Form::Least), PATH_2, "", 1), LEAST),
-    ((Engine::Find(1, Form::Least), PATH_2, "", 1), LEAST),
-    ((Engine::Find(2, Form::Least), PATH_2, "", 1), LEAST),
-    ((Engine::Solve(2, Form::Least), PATH_2, "", 1), LEAST),
-    ((Engine::Verify(None), PATH_2, LEAST, 1), "accepted least\n"),
-    (
-        (Engine::Verify(Some(1)), PATH_2, LEAST, 1),
-        "accepted least at 1 round\n",
-    ),
-    ((Engine::Decisions, PATH_2, LEAST, 1), DECIDED),
-    // the path of length 2 has three values: variables 3 v + 1 to 3 v + 3 for point v
-    (
-        (
-            Engine::Model,
-            PATH_2,
-            "s SATISFIABLE\nv 1 -2 -3 6 8\nv 10 0\n",
-            1,
-        ),
-        MAP,
-    ),
-    ((Engine::Model, PATH_2, "SAT\n1 6 8 9 10 12 0\n", 1), MAP),
-];
-
-/// What engines refuse.
-static REFUSED: [(Asked, RunFault); 11] = [
-    (
-        (Engine::Verify(Some(0)), PATH_2, LEAST, 1),
-        RunFault::OtherRounds,
-    ),
-    (
-        (Engine::Verify(Some(2)), PATH_2, LEAST, 1),
-        RunFault::OtherRounds,
-    ),
-    (
-        (Engine::Model, PATH_2, "s UNSATISFIABLE\n", 1),
-        RunFault::Model(ModelFault::NoModel { line: 2 }),
-    ),
-    (
-        (Engine::Model, PATH_2, "v 1 6\nv x 0\n", 1),
-        RunFault::Model(ModelFault::NotALiteral { line: 2 }),
-    ),
-    (
-        (Engine::Model, PATH_2, "v 13 0\n", 1),
-        RunFault::Model(ModelFault::NoSuchVariable { line: 1 }),
-    ),
-    (
-        (Engine::Model, PATH_2, "v 1 6 7 10 0\n", 1),
-        RunFault::Cert(CertFault::Violates(4)),
-    ),
-    (
-        (Engine::Proof, RENAMING_2_2, "c\nx 0", 1),
-        RunFault::Proof(ProofFault::NotALiteral { line: 2 }),
-    ),
-    (
-        (Engine::Proof, RENAMING_2_2, "7 0", 1),
-        RunFault::Proof(ProofFault::NoSuchVariable { line: 1 }),
-    ),
-    (
-        (Engine::Proof, RENAMING_2_2, "\n0", 1),
-        RunFault::Proof(ProofFault::NotImplied { line: 2 }),
-    ),
-    (
-        (Engine::Proof, RENAMING_2_2, "d 1 2 0\n", 1),
-        RunFault::Proof(ProofFault::NoContradiction { line: 2 }),
-    ),
-    (
-        (Engine::Proof, RENAMING_2_2, "a\u{2}\u{0}", 1),
-        RunFault::Proof(ProofFault::Binary),
-    ),
-];
-
-#[test]
-fn what_is_asked_is_answered(rt: HostRuntime) -> Result<(), Fail> {
-    for ((engine, task, text, rounds), output) in ANSWERED {
-        let ran = run(&rt, rt.alloc(), engine, Case::new(task, text, rounds));
-        let holds = ran.is(None, output.as_bytes(), (0, 0, 0));
-        assert!(rt; holds, "{text} is to give {output}");
-    }
-    Ok(())
-}
-
-#[test]
-fn a_text_that_does_not_hold_is_refused(rt: HostRuntime) -> Result<(), Fail> {
-    for ((engine, task, text, rounds), fault) in REFUSED {
-        let ran = run(&rt, rt.alloc(), engine, Case::new(task, text, rounds));
-        let holds = ran.is(Some(fault), &[], (0, 0, 0));
-        assert!(rt; holds, "{text} is to be refused by {fault:?}");
-    }
-    Ok(())
-}
 
 #[test]
 fn a_task_is_refused_before_another_text_is_read(rt: HostRuntime) -> Result<(), Fail> {

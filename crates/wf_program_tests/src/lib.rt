@@ -1,5 +1,5 @@
-//! Tests of the program and of what it stands on: sources and sinks, words,
-//! engines, and the command line's rows.
+//! Tests of the program and of what it stands on: sources and sinks, engines, and the command line,
+//! where their calls fail.
 #![tactic(auto)]
 
 #[cfg(test)]
@@ -11,12 +11,8 @@ mod engines;
 #[cfg(test)]
 mod failing;
 #[cfg(test)]
-mod rows;
-#[cfg(test)]
 mod running;
 #[cfg(test)]
 mod texts;
 #[cfg(test)]
 mod watched;
-#[cfg(test)]
-mod words;

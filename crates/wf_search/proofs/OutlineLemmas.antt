@@ -22,7 +22,7 @@ use Rattle.wf_set.specs.Sets.{values_in}
 use Rattle.wf_search.specs.declared.outline.Gap.{Gap}
 use Rattle.wf_search.specs.Cover.{each_seen}
 use Rattle.wf_box.specs.Boxes.{Grows, IsFor, Tracked, WasClosed, box_after}
-use Rattle.wf_memo.specs.Revising.{AreKnown}
+use Rattle.wf_network.specs.Revising.{AreKnown}
 use Rattle.wf_box.proofs.Lemmas.{on_true, after_grown, closed_undone, grown_trail, known_none, still_closed}
 use Rattle.wf_search.specs.Outline.{IsClosedBox, IsJustClosed, as_written, gap_seen, gaps_filled, is_to_open}
 use Rattle.wf_search.proofs.SearchLemmas.{branches_are_boxes}

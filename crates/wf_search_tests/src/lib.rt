@@ -1,4 +1,6 @@
-//! Tests of kernels, boxes and searches, with rows worked out by hand.
+//! Tests of the search and of the workers that share it, through their public calls: kernels, boxes
+//! and searches, with rows worked out by hand; and the machine, the board, the handouts and the
+//! pool, in one thread, in a known order, and in several threads, in whatever order.
 #![tactic(auto)]
 
 /// The line of a value that is lost.
@@ -14,11 +16,21 @@ macro_rules! lost {
 }
 
 #[cfg(test)]
+mod boards;
+#[cfg(test)]
 mod boxes;
+#[cfg(test)]
+mod cores;
+#[cfg(test)]
+mod handouts;
+#[cfg(test)]
+mod holds;
 #[cfg(test)]
 mod lanes;
 #[cfg(test)]
 mod marks;
+#[cfg(test)]
+mod pools;
 #[cfg(test)]
 mod searches;
 #[cfg(test)]

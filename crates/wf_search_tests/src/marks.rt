@@ -1,8 +1,7 @@
 //! Marks on executions, and sets that fit into words, worked out by hand.
 
 use std::alloc::AllocError;
-use wf_memo::{in_nibbles, in_word, narrowed, unpacked, unpacked_nibbles};
-use wf_network::{Marks, UserWord};
+use wf_network::{Marks, UserWord, in_nibbles, in_word, narrowed, unpacked, unpacked_nibbles};
 
 #[test]
 fn marks_are_taken_in_order_and_cleared(rt: HostRuntime) -> Result<(), AllocError> {

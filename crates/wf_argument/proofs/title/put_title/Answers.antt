@@ -1,7 +1,7 @@
 use Rattle.std.proofs.Common.{◌++◌, codes, string_bytes}
 use Rattle.wf_argument.specs.Text.{counted}
 use Rattle.wf_argument.specs.Used.{usage_of}
-use Rattle.wf_view.proofs.Lemmas.{and_more}
+use Rattle.wf_complex.proofs.Lemmas.{and_more}
 use Rattle.wf_argument.proofs.title.put_title.Goals as goal
 
 pub returns : goal.returns

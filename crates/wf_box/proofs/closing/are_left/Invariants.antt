@@ -1,4 +1,4 @@
-use Rattle.wf_memo.specs.Revising.{AreSame, found_at}
+use Rattle.wf_network.specs.Revising.{AreSame, found_at}
 use Rattle.wf_box.proofs.closing.are_left.Given as goal
 
 abbrev pub invariant-loop-place : goal.invariant-loop-place

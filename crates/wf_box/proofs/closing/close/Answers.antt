@@ -8,7 +8,7 @@ use Rattle.wf_box.specs.Boxes.{Grows, IsFor, Tracked}
 use Rattle.wf_box.specs.Closes.{KeepsSolutions, Leaves}
 use Rattle.wf_network.specs.Problems.{constraint_seen, executions_in}
 use Rattle.wf_box.specs.Quiet as quiet
-use Rattle.wf_memo.specs.Revising.{AreKnown, answers_in}
+use Rattle.wf_network.specs.Revising.{AreKnown, answers_in}
 use Rattle.wf_box.proofs.ChangeLemmas.{room_now}
 use Rattle.wf_box.proofs.CloseLemmas.{is_box, left_of, solutions_kept, supported_there, was_closed}
 use Rattle.wf_box.proofs.SeenLemmas.{grown_seen, if_was, tracked_seen, was_seen}

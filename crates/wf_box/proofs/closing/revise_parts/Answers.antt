@@ -1,7 +1,7 @@
 use Rattle.std.proofs.Common.{subst}
 use Rattle.wf_lane.specs.Table.{HasSupported}
 use Rattle.wf_network.specs.Problems.{rule_at, rule_in}
-use Rattle.wf_memo.specs.Revising.{found_in, left_of, widened}
+use Rattle.wf_network.specs.Revising.{found_in, left_of, widened}
 use Rattle.wf_box.proofs.RevisingLemmas.{revises_none, revising_still}
 use Rattle.wf_box.proofs.closing.revise_parts.Goals as goal
 

@@ -4,7 +4,7 @@ use Rattle.std.specs.List.{slice_set}
 use Rattle.std.specs.Cmp.Lexicographic.{bytes_decides, pointwise}
 use Rattle.std.proofs.lemmas.Bool.{cases_eq, false≢true}
 use Rattle.std.proofs.lemmas.List.{with_items_is, get_or-set_other}
-use Rattle.wf_memo.specs.Revising.{wide_set}
+use Rattle.wf_network.specs.Revising.{wide_set}
 use Rattle.wf_network.specs.Users.{IsUser}
 use Rattle.wf_box.specs.Steps.{IsNamed, TakesEach}
 use Rattle.wf_box.specs.Changes.{IsGrown, IsTracked}

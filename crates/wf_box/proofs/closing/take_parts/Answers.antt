@@ -6,7 +6,7 @@ use Rattle.wf_model.specs.Closing.{Step, and_then, lost}
 use Rattle.wf_lane.specs.Table.{HasSupported}
 use Rattle.wf_set.specs.Sets.{box_of, values_in}
 use Rattle.wf_network.specs.Problems.{IsWithin, constraint_in, constraint_seen}
-use Rattle.wf_memo.specs.Revising.{found_at, wide_set, widened}
+use Rattle.wf_network.specs.Revising.{found_at, wide_set, widened}
 use Rattle.wf_set.proofs.SetLaws.{values_of_part}
 use Rattle.wf_box.specs.Steps.{NamesLost, loss, point_if, reached, revision, take_present}
 use Rattle.wf_box.specs.Working.{IsSilent}
@@ -17,8 +17,7 @@ use Rattle.wf_box.proofs.QuietLemmas.{nothing_lost, untouched_none, untouched_th
 use Rattle.wf_box.proofs.PlaceLemmas.{loses_nothing, parts_lacked, place_done, no_place_more}
 use Rattle.wf_box.proofs.WorkLemmas.{found_now, proceeds_marked, proceeds_none, proceeds_then, still_working, supported_now}
 use Rattle.wf_model.specs.Box.{count}
-use Rattle.wf_memo.proofs.Lemmas.{left_supports}
-use Rattle.wf_network.proofs.Lemmas.{execution_is, execution_told, execution_within, known_at}
+use Rattle.wf_network.proofs.Lemmas.{left_supports, execution_is, execution_told, execution_within, known_at}
 use Rattle.wf_box.proofs.closing.take_parts.Goals as goal
 
 pub places-init : goal.places-init

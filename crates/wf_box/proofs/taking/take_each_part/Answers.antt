@@ -2,7 +2,7 @@ use Rattle.std.proofs.Common.{◌≡◌, ◌∙◌, [], ap, length, get_or, refl
 use Rattle.std.proofs.lemmas.List.{nil_from_length}
 use Rattle.wf_set.specs.Parts.{part_values}
 use Rattle.wf_set.proofs.SetLaws.{values_of_part}
-use Rattle.wf_memo.specs.Revising.{wide_set}
+use Rattle.wf_network.specs.Revising.{wide_set}
 use Rattle.wf_box.proofs.BulkLemmas.{bulk_fewer, bulk_is_named, bulk_none, bulk_step}
 use Rattle.wf_box.proofs.TakingLemmas.{gone_part, named_part, no_part, some_part, some_value}
 use Rattle.wf_box.proofs.taking.take_each_part.Goals as goal

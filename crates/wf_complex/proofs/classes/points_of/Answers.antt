@@ -1,7 +1,7 @@
 use Rattle.std.proofs.Common.{◌≡◌, ◌<◌, ◌≤◌, ℕ, List, length, map, slice_index, All, ap, sym, ◌∙◌, subst, arith, rules}
 use Rattle.std.proofs.lemmas.List.{length-map}
 use Rattle.wf_model.specs.View.{View, normal}
-use Rattle.wf_view.specs.Views.{view_at, count_within}
+use Rattle.wf_complex.specs.Views.{view_at, count_within}
 use Rattle.wf_complex.specs.Rounds.{views_at}
 use Rattle.wf_complex.specs.Numbering.{picked, AreNumbered}
 use Rattle.wf_complex.specs.Classes.{most_within}

@@ -1,5 +1,5 @@
 use Rattle.std.proofs.Common.{◌<◌, ◌≤◌, length, take, get_or, Some, arith, sym, ap, ◌∙◌, subst}
-use Rattle.wf_view.specs.Views.{view_seen}
+use Rattle.wf_complex.specs.Views.{view_seen}
 use Rattle.wf_complex.specs.Rounds.{views_at, Extends}
 use Rattle.wf_complex.proofs.RoundLemmas.{low, numbers, ascending, own_part, is_view_after, length-views, extends_with}
 use Rattle.wf_complex.proofs.KnownLemmas.{bits_below, parts_are, round_there, known_kept, known_more}

@@ -1,5 +1,5 @@
 use Rattle.std.proofs.Common.{ap, sym, ◌∙◌, ◌∷◌, [], refl, length, subst, length-set}
-use Rattle.wf_memo.specs.Revising.{answers_in}
+use Rattle.wf_network.specs.Revising.{answers_in}
 use Rattle.std.proofs.lemmas.List.{length-map}
 use Rattle.wf_set.specs.Sets.{box_of, values_in}
 use Rattle.wf_box.specs.Boxes.{Grows, IsFor, Tracked}

@@ -1,6 +1,6 @@
 use Rattle.std.proofs.Common.{◌∙◌, ap, subst, sym}
 use Rattle.wf_box.specs.Boxes.{ServeFor, Tracked}
-use Rattle.wf_memo.specs.Revising.{answers_in}
+use Rattle.wf_network.specs.Revising.{answers_in}
 use Rattle.wf_box.proofs.boxed.Box0.swap_answers.Goals as goal
 
 pub returns-clause-serve : goal.returns-clause-serve

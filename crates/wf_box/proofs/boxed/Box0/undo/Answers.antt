@@ -1,5 +1,5 @@
 use Rattle.std.proofs.Common.{◌≡◌, ap, drop, map, sym, take, ◌∙◌, ◌≤◌, length, subst}
-use Rattle.wf_memo.specs.Revising.{answers_in}
+use Rattle.wf_network.specs.Revising.{answers_in}
 use Rattle.std.proofs.lemmas.List.{length-map, take-map}
 use Rattle.std.specs.Bool.{OnTrue}
 use Rattle.wf_set.specs.Sets.{box_of, values_in}

@@ -1,7 +1,7 @@
 use Rattle.std.proofs.Common.{◌<◌, ◌∙◌, length, slice_get, Some, option_map, sym, ap, arith}
 use Rattle.std.proofs.lemmas.List.{length-map}
 use Rattle.std.proofs.lemmas.Option.{slice_get-get_or, slice_get-map}
-use Rattle.wf_view.specs.Views.{view_at}
+use Rattle.wf_complex.specs.Views.{view_at}
 use Rattle.wf_complex.specs.declared.firsts.First.{First}
 use Rattle.wf_complex.proofs.protocol.Protocol.first_of.Goals as goal
 

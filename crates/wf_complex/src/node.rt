@@ -1,0 +1,111 @@
+//! An entry of the table.
+
+ghost use Rattle.std.specs.Prelude.{◌≡◌, ◌≤◌, ◌+◌, ◌*◌, true, length, take};
+ghost use Rattle.wf_model.specs.Lists.{has};
+ghost use Rattle.wf_model.specs.Simplex.{is_ascending};
+ghost use Rattle.wf_complex.specs.Table.{base_node, seen_node, hash_writes};
+ghost use Rattle.wf_complex.specs.Same.{hashed_alike};
+ghost use Rattle.wf_complex.specs.Renaming.{HaveNewNumbers, number_beside, renumbered_node};
+
+use std::hash::{Hash, Hasher};
+
+/// A view, with the views inside it by their numbers. An input has the count 0, and its value in
+/// the first place. Places past the last are 0, so that equal views are equal entries.
+#[derive(Clone, Copy, PartialEq, Eq)]
+pub struct Node {
+    pub process: u8,
+    pub count: u8,
+    pub ids: [u32; 4],
+}
+
+impl Node {
+    /// The numbers of the views inside it.
+    pub fn parts(&self) -> &[u32]
+        requires { self.now.count ≤ 4 }
+        ensures { result.now ≡ take self.now.count self.now.ids }
+    {
+        &self.ids[..usize::from(self.count)]
+    }
+}
+
+/// How many numbers there are.
+const NUMBERS: u64 = 1 << 32;
+
+/// Two numbers are hashed as one, which is less work. The count is left out: entries with the same
+/// numbers seldom differ in it alone.
+impl Hash for Node {
+    ghost hash_input = { hash_writes };
+
+    ghost respects_eq = { hashed_alike };
+
+    fn hash<H: Hasher>(&self, state: &mut H) {
+        let [a, b, c, d] = self.ids;
+        state.write_u64(u64::from(a) + NUMBERS * u64::from(b));
+        state.write_u64(u64::from(c) + NUMBERS * u64::from(d));
+        state.write_u8(self.process);
+    }
+}
+
+/// The entry of an input.
+pub fn input(process: u8, value: u8) -> Node
+    ensures { result ≡ base_node process value }
+{
+    Node {
+        process,
+        count: 0,
+        ids: [u32::from(value), 0, 0, 0],
+    }
+}
+
+/// The entry of a process that saw these.
+pub fn snapshot(process: u8, ids: &[u32]) -> Node
+    requires { length ids.now ≤ 4 }
+    ensures { result ≡ seen_node process ids.now }
+{
+    let count = ids.len() as u8;
+    let four = match ids {
+        [] => [0, 0, 0, 0],
+        [a] => [*a, 0, 0, 0],
+        [a, b] => [*a, *b, 0, 0],
+        [a, b, c] => [*a, *b, *c, 0],
+        [a, b, c, d, ..] => [*a, *b, *c, *d],
+    };
+    Node {
+        process,
+        count,
+        ids: four,
+    }
+}
+
+/// The entry with this process, and with the new number of each view in it. The new numbers stand
+/// beside the old ones, which ascend.
+pub fn renumber(node: Node, process: u8, old: &[u32], new: &[u32]) -> Node
+    requires count { node.count ≤ 4 }
+    requires ascending { is_ascending old.now ≡ true }
+    requires fewer { length new.now ≤ length old.now }
+    requires known { HaveNewNumbers old.now new.now (take node.count node.ids) }
+    ensures { result ≡ renumbered_node process (number_beside old.now new.now) node }
+{
+    let mut ids = node.ids;
+    for place in 0..usize::from(node.count) {
+        ids[place] = number_beside(old, new, ids[place]);
+    }
+    Node {
+        process,
+        count: node.count,
+        ids,
+    }
+}
+
+/// The new number that stands beside this old one.
+pub fn number_beside(old: &[u32], new: &[u32], id: u32) -> u32
+    requires ascending { is_ascending old.now ≡ true }
+    requires fewer { length new.now ≤ length old.now }
+    requires known { has (take (length new.now) old.now) id ≡ true }
+    ensures { result ≡ number_beside old.now new.now id }
+{
+    match old[..new.len()].binary_search(&id) {
+        Ok(place) => new[place],
+        Err(_) => unreachable!(),
+    }
+}

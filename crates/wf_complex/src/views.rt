@@ -1,0 +1,376 @@
+//! The table of views.
+
+ghost use Rattle.std.specs.Prelude.{◌≡◌, ◌==◌, ◌&&◌, nat_lt, slice_index, ◌<◌, ◌≤◌, ◌^◌, bit_or, true, [], ◌+◌, length, take, All, map, is_ok, OnOk, IfOk, IfSome, Some, slice_get};
+ghost use Rattle.std.specs.BTreeSet.{insert_key};
+ghost use Rattle.std.specs.List.{fold};
+ghost use Rattle.std.specs.Ordering.{nat_cmp};
+ghost use Rattle.wf_model.specs.Lists.{has, distinct};
+ghost use Rattle.wf_model.specs.Limits.{most_number};
+ghost use Rattle.wf_model.specs.Simplex.{is_ascending};
+ghost use Rattle.wf_model.specs.View.{base, process_of, same_view, normal};
+ghost use Rattle.wf_model.specs.Problem.{number_of};
+ghost use Rattle.wf_complex.specs.Views.{view_at, view_seen, processes_at, with_view_if, input_of, inner_views, process_bits, count_within, GrowsByAtMost};
+ghost use Rattle.wf_complex.specs.Table.{StandsAt, process_bits_at};
+ghost use Rattle.wf_complex.specs.Renaming.{rank_in, are_lowest, renamed_at, SawAmong, AreInside, AreRenamed};
+
+use crate::node::{Node, input, number_beside, renumber, snapshot};
+use indexmap::IndexSet;
+use std::alloc::{AllocError, Global};
+use std::marker::Model;
+
+/// Views under numbers from 0 on, each once. In contracts a table is the list of its views.
+#[derive(Drop)]
+pub struct Views {
+    // the entry of each view, in the order of their numbers
+    nodes: IndexSet<Node>,
+    // the processes that occur in each view
+    bits: Vec<u8>,
+    // for some entries that were numbered lately their numbers, and else anything
+    recent: [u32; RECENT],
+}
+
+/// How many entries that were numbered lately are looked at first.
+const RECENT: usize = 256;
+
+/// Room is made for so many views inside a view, and more where there are more.
+const ROOM: usize = 16;
+
+impl Model for Views {
+    ghost use Rattle.std.specs.Prelude.{List};
+    ghost use Rattle.wf_model.specs.View.{View};
+    ghost use Rattle.wf_model.specs.ViewCode.{view_list_code};
+    ghost use Rattle.wf_complex.specs.Table.{shown, IsTable};
+
+    ghost Value = { List View };
+
+    ghost coded = { view_list_code };
+
+    ghost view = { λ t. shown t.nodes.keys };
+
+    ghost invariant = { λ t. IsTable t.nodes.keys t.bits.items };
+}
+
+impl Views {
+    ghost use Rattle.wf_complex.specs.Table.{IsEntry, node_view};
+
+    /// A table without views. It takes no memory; later calls take theirs from the same allocator.
+    pub fn start(alloc: Global) -> Views
+        ensures { result ≡ [] }
+    {
+        Views {
+            nodes: IndexSet::new(alloc),
+            bits: Vec::new(alloc),
+            recent: [0; RECENT],
+        }
+    }
+
+    /// How many views there are.
+    pub fn len(&self) -> u32
+        ensures count { result ≡ length self.now }
+        ensures once { distinct same_view self.now ≡ self.now }
+    {
+        self.nodes.len() as u32
+    }
+
+    /// The number of the view of a process before the first round, when it knows its input alone.
+    ///
+    /// Where the view is new it gets the next number. Refused where memory
+    /// runs out, which leaves the table as it was.
+    pub fn base(&mut self, process: u8, value: u8) -> Result<u32, AllocError>
+        requires process { process ≤ 3 }
+        requires room { length self.old < most_number }
+        ensures table { self.new ≡ with_view_if (is_ok result) self.old (base process value) }
+        ensures number { IfOk result (λ n. n ≡ number_of self.new (base process value)) }
+        ensures stands { IfOk result (λ n. slice_get self.new n ≡ Some (base process value)) }
+    {
+        self.number(input(process, value))
+    }
+
+    /// The number of the view of a process that saw these views, named by their numbers in the
+    /// order of their processes, its own among them.
+    ///
+    /// Where the view is new it gets the next number. Refused where memory
+    /// runs out, which leaves the table as it was.
+    pub fn seen(&mut self, process: u8, parts: &[u32]) -> Result<u32, AllocError>
+        requires process { process ≤ 3 }
+        requires numbers { All (λ k. k < length self.old) parts.now }
+        requires ascending { is_ascending (processes_at self.old parts.now) ≡ true }
+        requires own { has (processes_at self.old parts.now) process ≡ true }
+        requires room { length self.old < most_number }
+        ensures table { self.new
+            ≡ with_view_if (is_ok result) self.old (view_seen self.old process parts.now) }
+        ensures number { IfOk result
+            (λ n. n ≡ number_of self.new (view_seen self.old process parts.now)) }
+        ensures stands { IfOk result
+            (λ n. slice_get self.new n ≡ Some (view_seen self.old process parts.now)) }
+    {
+        // for the proof alone, which reads of the table that at most four processes have views
+        let _ = &self.nodes;
+        self.number(snapshot(process, parts))
+    }
+
+    /// The process of a view.
+    pub fn colour(&self, id: u32) -> u8
+        requires { id < length self.now }
+        ensures process { result ≡ process_of (view_at self.now id) }
+    {
+        self.entry(id).process
+    }
+
+    /// The value of an input; `None` for the view of a process that saw views.
+    pub fn input(&self, id: u32) -> Option<u8>
+        requires { id < length self.now }
+        ensures value { result ≡ input_of (view_at self.now id) }
+    {
+        let node = self.entry(id);
+        if node.count == 0 {
+            Some(node.ids[0] as u8)
+        } else {
+            None
+        }
+    }
+
+    /// The processes that occur in a view, at any depth: bit p is set where process p does.
+    pub fn colours_in(&self, id: u32) -> u8
+        requires { id < length self.now }
+        ensures bits { result ≡ process_bits (view_at self.now id) }
+    {
+        self.bits[id as usize]
+    }
+
+    /// The numbers of the views that a view saw, in the order of their
+    /// processes. An input saw none.
+    pub fn parts(&self, id: u32) -> &[u32]
+        requires { id < length self.now }
+        ensures views { map (view_at self.now) result.now ≡ inner_views (view_at self.now id) }
+        ensures earlier { All (λ k. k < id) result.now }
+    {
+        self.entry(id).parts()
+    }
+
+    /// The number of a view with each process replaced by its rank among those that occur in it, at
+    /// every depth. Where no process is left out below another that is the view itself, which is
+    /// seen at once.
+    ///
+    /// Else the views inside it, renamed alike, get numbers too: at most one new view for each
+    /// different view inside. Refused where memory runs out, which leaves each number with its
+    /// view; some of the new views may stand then.
+    pub fn normal(&mut self, id: u32) -> Result<u32, AllocError>
+        requires id { id < length self.old }
+        requires room { length self.old + count_within (view_at self.old id) ≤ most_number }
+        ensures grows { GrowsByAtMost (count_within (view_at self.old id)) self.old self.new }
+        ensures number { IfOk result
+            (λ n. n ≡ number_of self.new (normal (view_at self.old id))) }
+        ensures stands { IfOk result
+            (λ n. slice_get self.new n ≡ Some (normal (view_at self.old id))) }
+    {
+        let alloc = *self.nodes.allocator();
+        let processes = self.colours_in(id);
+        if are_lowest(processes) {
+            return Ok(id);
+        }
+        let inside = self.inside(id)?;
+        let mut numbers = Vec::with_capacity(alloc, inside.len())?;
+        for old in &inside {
+            let number = self.put_renamed(*old, processes, &inside, &numbers)?;
+            numbers.push(number)?;
+        }
+        Ok(number_beside(&inside, &numbers, id))
+    }
+
+    /// The numbers of a view and of the views inside it, ascending.
+    fn inside(&self, id: u32) -> Result<Vec<u32>, AllocError>
+        requires { id < length self.now }
+        ensures { IfOk result (λ ids. AreInside self.now id ids.items) }
+    {
+        let mut open = Vec::with_capacity(*self.nodes.allocator(), ROOM)?;
+        let mut inside = Vec::with_capacity(*self.nodes.allocator(), ROOM)?;
+        open.push_reserved(id);
+        while let Some(greatest) = open.pop() {
+            inside.push(greatest)?;
+            put_all(&mut open, self.parts(greatest))?;
+        }
+        inside.reverse();
+        Ok(inside)
+    }
+
+    /// The number of a view with its processes replaced by their ranks in a set. The new numbers of
+    /// the views in it stand beside their old ones.
+    fn put_renamed(
+        &mut self,
+        id: u32,
+        processes: u8,
+        old: &[u32],
+        new: &[u32],
+    ) -> Result<u32, AllocError>
+        requires id { id < length self.old }
+        requires room { length self.old < most_number }
+        requires ascending { is_ascending old.now ≡ true }
+        requires numbers { All (λ k. k < length self.old) old.now }
+        requires fewer { length new.now ≤ length old.now }
+        requires parts { SawAmong self.old id (take (length new.now) old.now) }
+        requires renamed { AreRenamed self.old (rank_in processes) old.now new.now }
+        ensures table { self.new
+            ≡ with_view_if (is_ok result) self.old (renamed_at self.old (rank_in processes) id) }
+        ensures number { IfOk result
+            (λ n. n ≡ number_of self.new (renamed_at self.old (rank_in processes) id)) }
+        ensures stands { IfOk result
+            (λ n. slice_get self.new n ≡ Some (renamed_at self.old (rank_in processes) id)) }
+    {
+        let node = self.nodes[id as usize];
+        self.number(renumber(node, rank(processes, node.process), old, new))
+    }
+
+    /// The entry of the view of this number.
+    fn entry(&self, id: u32) -> &Node
+        requires { id < length self.now }
+        ensures entry { IsEntry id result.now }
+        ensures view { node_view self.now result.now ≡ view_at self.now id }
+    {
+        &self.nodes[id as usize]
+    }
+
+    /// The number of an entry's view. A new view gets the next number.
+    fn number(&mut self, node: Node) -> Result<u32, AllocError>
+        requires room { length self.old < most_number }
+        requires entry { IsEntry (length self.old) node }
+        ensures table { self.new ≡ with_view_if (is_ok result) self.old (node_view self.old node) }
+        ensures number { IfOk result (λ n. n ≡ number_of self.new (node_view self.old node)) }
+        ensures stands { IfOk result (λ n. slice_get self.new n ≡ Some (node_view self.old node)) }
+    {
+        let slot = slot_of(node);
+        if let Some(number) = recent_number(self.nodes.as_slice(), self.recent[slot], node) {
+            return Ok(number);
+        }
+        let number = self.number_by_hash(node)?;
+        self.recent[slot] = number;
+        Ok(number)
+    }
+
+    /// The same, but for a look at the recent numbers. An entry is hashed once, be it new or old.
+    fn number_by_hash(&mut self, node: Node) -> Result<u32, AllocError>
+        requires room { length self.old < most_number }
+        requires entry { IsEntry (length self.old) node }
+        ensures table { self.new ≡ with_view_if (is_ok result) self.old (node_view self.old node) }
+        ensures number { IfOk result (λ n. n ≡ number_of self.new (node_view self.old node)) }
+        ensures stands { IfOk result (λ n. slice_get self.new n ≡ Some (node_view self.old node)) }
+    {
+        self.bits.reserve(1)?;
+        let (place, is_new) = self.nodes.insert_full(node)?;
+        let number = place as u32;
+        if !is_new {
+            return Ok(number);
+        }
+        let bits = process_bits_seen(&self.bits, node.process, node.parts());
+        self.bits.push_reserved(bits);
+        Ok(number)
+    }
+}
+
+/// The number, where the entry stands there.
+fn recent_number(nodes: &[Node], number: u32, node: Node) -> Option<u32>
+    ensures { IfSome result (λ n. StandsAt nodes.now n node) }
+{
+    let place = number as usize;
+    if place < nodes.len() && nodes[place] == node {
+        Some(number)
+    } else {
+        None
+    }
+}
+
+/// Where among the recent ones an entry is looked for.
+fn slot_of(node: Node) -> usize
+    ensures { result < 256 }
+{
+    let [a, b, c, d] = node.ids;
+    let seen = a
+        .wrapping_add(b.wrapping_mul(3))
+        .wrapping_add(c.wrapping_mul(5))
+        .wrapping_add(d.wrapping_mul(7));
+    let mixed = seen
+        .wrapping_add(16 * u32::from(node.process))
+        .wrapping_mul(0x9e37_79b1);
+    (mixed >> 20) as usize % RECENT
+}
+
+/// The processes that occur in the view of one that saw these.
+fn process_bits_seen(bits: &[u8], process: u8, ids: &[u32]) -> u8
+    requires process { process ≤ 3 }
+    requires numbers { All (λ k. k < length bits.now) ids.now }
+    ensures { result ≡ bit_or (2 ^ process) (process_bits_at bits.now ids.now) }
+{
+    let mut all = 1u8 << process;
+    for id in ids {
+        all |= bits[*id as usize];
+    }
+    all
+}
+
+/// Puts these numbers among others that ascend, each once. There are few others: of the views
+/// inside a view of an execution at most four a round.
+fn put_all(among: &mut Vec<u32>, numbers: &[u32]) -> Result<(), AllocError>
+    ensures { OnOk result
+        (among.new.items ≡ fold (insert_key nat_cmp) among.old.items numbers.now) }
+{
+    for number in numbers {
+        put(among, *number)?;
+    }
+    Ok(())
+}
+
+/// Puts a number before the first that is no lower, unless it stands there.
+fn put(among: &mut Vec<u32>, number: u32) -> Result<(), AllocError>
+    ensures { OnOk result (among.new.items ≡ insert_key nat_cmp among.old.items number) }
+{
+    let place = place_of(among, number);
+    if stands_at(among, place, number) {
+        return Ok(());
+    }
+    among.insert(place, number)?;
+    Ok(())
+}
+
+/// The place of the first number that is no lower than this one.
+fn place_of(numbers: &[u32], number: u32) -> usize
+    ensures within { result ≤ length numbers.now }
+    ensures lower { All (λ n. n < number) (take result numbers.now) }
+    ensures first { result < length numbers.now → number ≤ slice_index numbers.now result }
+{
+    for place in 0..numbers.len() {
+        if numbers[place] >= number {
+            return place;
+        }
+    }
+    numbers.len()
+}
+
+/// Whether the number stands at the place.
+fn stands_at(numbers: &[u32], place: usize, number: u32) -> bool
+    ensures { result ≡ (nat_lt place (length numbers.now)
+        && slice_index numbers.now place == number) }
+{
+    place < numbers.len() && numbers[place] == number
+}
+
+/// Whether a set of processes leaves none out below another, so that each is its own rank: bit p is
+/// set where process p is in the set.
+fn are_lowest(processes: u8) -> bool
+    ensures { result ≡ are_lowest processes }
+{
+    matches!(processes, 0b1 | 0b11 | 0b111 | 0b1111)
+}
+
+/// How many processes of a set are below this one: bit p is set where process p is in the set.
+fn rank(processes: u8, process: u8) -> u8
+    requires { process ≤ 3 }
+    ensures { result ≡ rank_in processes process }
+{
+    let mut rank = 0;
+    for lower in 0..process {
+        if processes >> lower & 1 == 1 {
+            rank += 1;
+        }
+    }
+    rank
+}

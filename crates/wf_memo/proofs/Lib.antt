@@ -1,4 +1,0 @@
-pub mod LeftLemmas
-pub mod PackedLemmas
-pub mod MemoLemmas
-pub mod Lemmas

@@ -1,2 +1,0 @@
--- What contracts say, here and in the crates above.
-pub mod Revising

@@ -1,7 +1,0 @@
-use Rattle.std.proofs.Common.{None}
-use Rattle.wf_engine.proofs.Lemmas.{checked}
-use Rattle.wf_rewrite.specs.Explaining.{AreExplained}
-use Rattle.wf_rewrite.proofs.explain_laws.explaining_is_counted.Goals as goal
-
-pub returns : goal.returns
-returns c = checked None AreExplained

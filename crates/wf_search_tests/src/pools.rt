@@ -1,0 +1,401 @@
+//! Whole problems, by one worker and by several.
+
+ghost use Rattle.std.specs.Prelude.{◌<◌, ◌≤◌};
+
+use crate::holds::{Barred, Hold, Rule};
+use crate::tasks::problem_of;
+use std::alloc::{AllocError, Global};
+use std::process::Abort;
+use std::test::Fail;
+use std::thread::Threads;
+use wf_box::Problem;
+use wf_core::Account;
+use wf_examples::{AGREEMENT_3_2, CONSENSUS_2, PATH_2};
+use wf_handout::{Counter, Handout, Stealing};
+use wf_lines::{Line, Lines};
+use wf_pool::{Answer, Gate, KeptLines, MAX_WORKERS, Open, solve, solve_one, solve_root};
+
+/// The line of a value that is lost.
+macro_rules! lost {
+    ($execution:literal, $process:literal, $value:literal) => {
+        Line::Remove {
+            execution: $execution,
+            process: $process,
+            value: $value,
+        }
+    };
+}
+
+/// The least map of `PATH_2` after one round.
+const MAP: &[u8] = &[0, 2, 1, 0];
+
+/// The lines that lead to it.
+const MAP_LINES: &[Line] = &[
+    lost!(0, 0, 1),
+    lost!(0, 0, 2),
+    lost!(1, 1, 0),
+    lost!(1, 1, 1),
+    lost!(3, 1, 2),
+    lost!(4, 0, 0),
+    Line::Branch { point: 2 },
+    Line::Branch { point: 3 },
+    Line::Found,
+];
+
+/// Of its three branches the first one was searched, and the others cut.
+const FIRST_ALONE: Account = Account {
+    branches: 3,
+    least: 0,
+    searched: 1,
+    cut: 2,
+};
+
+/// The lines that refute `CONSENSUS_2` without a round, whose root has no branches.
+const CONSENSUS_LINES: &[Line] = &[
+    lost!(0, 0, 1),
+    lost!(1, 1, 0),
+    lost!(2, 0, 0),
+    Line::Empty { point: 0 },
+];
+
+const NO_BRANCHES: Account = Account {
+    branches: 0,
+    least: 0,
+    searched: 0,
+    cut: 0,
+};
+
+/// How many lines refute `AGREEMENT_3_2` after one round, and its branches.
+const AGREEMENT_LINES: usize = 714;
+
+const AGREEMENT_ACCOUNT: Account = Account {
+    branches: 64,
+    least: 64,
+    searched: 64,
+    cut: 0,
+};
+
+/// The values of a map, and the lines; none of what there isn't.
+fn parts_of(alloc: Global, answer: Answer) -> (Vec<u8>, Lines) {
+    match answer {
+        Answer::Map(values, lines) => (values, lines),
+        Answer::Nothing(lines) => (Vec::new(alloc), lines),
+    }
+}
+
+/// A task, rounds and the lines that are kept, and what one worker answers: the values of a map, if
+/// any, and the lines; and what it did.
+static ALONE: [(&str, u32, KeptLines, &[u8], &[Line], Account); 5] = [
+    (PATH_2, 1, KeptLines::All, MAP, MAP_LINES, FIRST_ALONE),
+    (PATH_2, 1, KeptLines::Refuting, MAP, &[], FIRST_ALONE),
+    (PATH_2, 1, KeptLines::Neither, MAP, &[], FIRST_ALONE),
+    (
+        CONSENSUS_2,
+        0,
+        KeptLines::All,
+        &[],
+        CONSENSUS_LINES,
+        NO_BRANCHES,
+    ),
+    (
+        AGREEMENT_3_2,
+        1,
+        KeptLines::Neither,
+        &[],
+        &[],
+        AGREEMENT_ACCOUNT,
+    ),
+];
+
+/// What one worker answers: the values of a map, if any, and the lines; and what it did.
+fn run_alone(
+    alloc: Global,
+    task: &str,
+    rounds: u32,
+    kept: KeptLines,
+) -> Result<(Vec<u8>, Lines, Account), Fail> {
+    let problem = problem_of(alloc, task, rounds)?;
+    let (answer, account) = solve_one(alloc, &problem, kept)?;
+    let (values, lines) = parts_of(alloc, answer);
+    Ok((values, lines, account))
+}
+
+/// It stops at the first map.
+#[test]
+fn one_worker_alone(rt: HostRuntime) -> Result<(), Fail> {
+    for (task, rounds, kept, values, lines, wanted) in ALONE {
+        let (found_values, found_lines, account) = run_alone(rt.alloc(), task, rounds, kept)?;
+        assert_eq!(rt;
+            (found_values.as_slice(), found_lines.as_slice(), account),
+            (values, lines, wanted),
+            "{task} {kept:?}"
+        );
+    }
+    Ok(())
+}
+
+/// What a search of the root at once answers: the values of a map, if any, and the lines.
+fn search_root(
+    alloc: Global,
+    task: &str,
+    rounds: u32,
+    kept: KeptLines,
+) -> Result<(Vec<u8>, Lines), Fail> {
+    let problem = problem_of(alloc, task, rounds)?;
+    let answer = solve_root(alloc, &problem, kept)?;
+    Ok(parts_of(alloc, answer))
+}
+
+#[test]
+fn a_root_at_once(rt: HostRuntime) -> Result<(), Fail> {
+    for (task, rounds, kept, values, lines, _) in ALONE {
+        let (found_values, found_lines) = search_root(rt.alloc(), task, rounds, kept)?;
+        assert_eq!(rt;
+            (found_values.as_slice(), found_lines.as_slice()),
+            (values, lines),
+            "{task} {kept:?}"
+        );
+    }
+    Ok(())
+}
+
+/// A run by several workers: the values of a map, if any, the lines, and what the workers did.
+fn run<R: Threads + Sync, H: Handout, G: Gate>(
+    rt: &R,
+    alloc: Global,
+    problem: &Problem,
+    workers: u32,
+    kept: KeptLines,
+    gate: &G,
+) -> Result<(Vec<u8>, Lines, Account), AllocError>
+    requires { (0 < workers) × (workers ≤ MAX_WORKERS) }
+{
+    let (answer, account) = solve::<R, H, G>(rt, alloc, problem, workers, kept, gate)?;
+    let (values, lines) = parts_of(alloc, answer);
+    Ok((values, lines, account))
+}
+
+#[test]
+fn a_root_without_branches(rt: HostRuntime) -> Result<(), Fail> {
+    let problem = problem_of(rt.alloc(), CONSENSUS_2, 0)?;
+    let kept = KeptLines::Refuting;
+    let (_, lines, account) = run::<_, Stealing, _>(
+        &rt,
+        rt.alloc(),
+        &problem,
+        MAX_WORKERS,
+        kept,
+        &Open,
+    )?;
+    assert_eq!(rt; (lines.as_slice(), account), (CONSENSUS_LINES, NO_BRANCHES));
+    Ok(())
+}
+
+/// How many workers there are, what lines are kept, and which workers may not start.
+static REFUTALS: [(u32, KeptLines, Barred); 12] = [
+    (1, KeptLines::All, Barred::Nobody),
+    (1, KeptLines::Refuting, Barred::Nobody),
+    (1, KeptLines::Neither, Barred::Nobody),
+    (2, KeptLines::All, Barred::Nobody),
+    (2, KeptLines::Refuting, Barred::Nobody),
+    (2, KeptLines::Neither, Barred::Nobody),
+    (8, KeptLines::All, Barred::Nobody),
+    (8, KeptLines::Refuting, Barred::Nobody),
+    (8, KeptLines::Neither, Barred::Nobody),
+    (3, KeptLines::Refuting, Barred::Worker(1)),
+    (3, KeptLines::Refuting, Barred::Worker(2)),
+    (3, KeptLines::Refuting, Barred::All),
+];
+
+/// The same answers in each of these runs: these lines where they are kept, and nothing is cut. The
+/// main thread is one of the workers, and does the work of each that may not start.
+fn refutes<R: Threads + Sync + Abort, H: Handout>(
+    rt: &R,
+    alloc: Global,
+    problem: &Problem,
+    wanted: &[Line],
+) -> Result<(), Fail> {
+    for (workers, kept, barred) in &REFUTALS {
+        let workers = (*workers).clamp(1, MAX_WORKERS);
+        let gate = Hold::new(Rule::Nobody, *barred);
+        let (values, lines, account) = run::<R, H, Hold>(
+            rt, alloc, problem, workers, *kept, &gate,
+        )?;
+        let is_right = match kept {
+            KeptLines::All | KeptLines::Refuting => lines.as_slice() == wanted,
+            KeptLines::Neither => lines.is_empty(),
+        };
+        assert!(rt; is_right && values.is_empty());
+        let starts = u64::from(workers - 1);
+        assert_eq!(rt; (account, gate.counts()[1]), (AGREEMENT_ACCOUNT, starts));
+    }
+    Ok(())
+}
+
+#[test]
+fn lines_are_the_same_for_any_number_of_workers(rt: HostRuntime) -> Result<(), Fail> {
+    let problem = problem_of(rt.alloc(), AGREEMENT_3_2, 1)?;
+    let (answer, account) = solve_one(rt.alloc(), &problem, KeptLines::All)?;
+    let (_, lines) = parts_of(rt.alloc(), answer);
+    assert_eq!(rt;
+        (lines.len(), account),
+        (AGREEMENT_LINES, AGREEMENT_ACCOUNT)
+    );
+    refutes::<_, Counter>(&rt, rt.alloc(), &problem, &lines)?;
+    refutes::<_, Stealing>(&rt, rt.alloc(), &problem, &lines)
+}
+
+/// A run in which the least map of `PATH_2` is found: how many workers there are, what lines are
+/// kept, who is held and which workers may not start; how many branches are searched at least and
+/// at most, and the first branch from which on none has a turn.
+type Run = (u32, KeptLines, (Rule, Barred), (u32, u32), usize);
+
+/// Nobody is held, and each worker may start.
+const FREE: (Rule, Barred) = (Rule::Nobody, Barred::Nobody);
+
+/// In these runs the map is found.
+static RUNS: [Run; 18] = [
+    // any number of workers finds it, whatever lines are kept
+    (1, KeptLines::All, FREE, (1, 3), 3),
+    (1, KeptLines::Refuting, FREE, (1, 3), 3),
+    (1, KeptLines::Neither, FREE, (1, 3), 3),
+    (2, KeptLines::All, FREE, (1, 3), 3),
+    (2, KeptLines::Refuting, FREE, (1, 3), 3),
+    (2, KeptLines::Neither, FREE, (1, 3), 3),
+    (8, KeptLines::All, FREE, (1, 3), 3),
+    (8, KeptLines::Refuting, FREE, (1, 3), 3),
+    (8, KeptLines::Neither, FREE, (1, 3), 3),
+    // one worker cuts what lies above the first map
+    (1, KeptLines::Refuting, FREE, (1, 1), 3),
+    // a worker goes on while another one is held at its first branch
+    (
+        2,
+        KeptLines::All,
+        (Rule::FirstTaker, Barred::Nobody),
+        (1, 3),
+        3,
+    ),
+    // branches are cut whose workers see a lower one posted before their first turn
+    (
+        3,
+        KeptLines::All,
+        (Rule::LaterBranches, Barred::Nobody),
+        (1, 1),
+        1,
+    ),
+    // both workers are at a turn before either goes on, so each searches a branch, and the third
+    // is cut
+    (
+        2,
+        KeptLines::All,
+        (Rule::FirstTurns, Barred::Nobody),
+        (2, 2),
+        2,
+    ),
+    // the main thread does the work of each worker that may not start
+    (
+        3,
+        KeptLines::Refuting,
+        (Rule::Nobody, Barred::All),
+        (1, 1),
+        3,
+    ),
+    (
+        MAX_WORKERS,
+        KeptLines::Refuting,
+        (Rule::Nobody, Barred::All),
+        (1, 1),
+        3,
+    ),
+    // of three workers one or two may not start; the first works in the main thread
+    (
+        3,
+        KeptLines::All,
+        (Rule::Nobody, Barred::Worker(1)),
+        (1, 3),
+        3,
+    ),
+    (
+        3,
+        KeptLines::All,
+        (Rule::Nobody, Barred::Worker(2)),
+        (1, 3),
+        3,
+    ),
+    (3, KeptLines::All, (Rule::Nobody, Barred::All), (1, 3), 3),
+];
+
+/// Whether it is an account of three branches, of which the first has a map, and so many were
+/// searched, at least and at most.
+fn is_of_path(account: Account, searched: (u32, u32)) -> bool {
+    let (least, most) = searched;
+    let sum = account.searched.saturating_add(account.cut);
+    (account.branches, account.least, sum) == (3, 0, 3)
+        && least <= account.searched
+        && account.searched <= most
+}
+
+/// The answer is the map in each of these runs, and nobody is held to the end. No more workers are
+/// used than there are branches, and the main thread is one of them.
+fn finds_the_map<R: Threads + Sync + Abort, H: Handout>(
+    rt: &R,
+    alloc: Global,
+    problem: &Problem,
+) -> Result<(), Fail> {
+    for (place, (workers, kept, (rule, barred), searched, idle)) in RUNS.iter().enumerate() {
+        let workers = (*workers).clamp(1, MAX_WORKERS);
+        let gate = Hold::new(*rule, *barred);
+        let (values, lines, account) = run::<R, H, Hold>(
+            rt, alloc, problem, workers, *kept, &gate,
+        )?;
+        let wanted = match kept {
+            KeptLines::All => MAP_LINES,
+            KeptLines::Refuting | KeptLines::Neither => &[],
+        };
+        let is_right = is_of_path(account, *searched) && !gate.had_turn_from(*idle);
+        let starts = u64::from(workers.min(3)).saturating_sub(1);
+        assert_eq!(rt;
+            (values.as_slice(), lines.as_slice(), gate.counts(), is_right),
+            (MAP, wanted, [0, starts, 1, 3, 3], true),
+            "at {place}"
+        );
+    }
+    Ok(())
+}
+
+#[test]
+fn the_map_is_found_by_workers_that_are_held_or_may_not_start(rt: HostRuntime) -> Result<(), Fail> {
+    let problem = problem_of(rt.alloc(), PATH_2, 1)?;
+    finds_the_map::<_, Counter>(&rt, rt.alloc(), &problem)?;
+    finds_the_map::<_, Stealing>(&rt, rt.alloc(), &problem)
+}
+
+/// The same map and lines a thousand times, by three workers and by as many as may be asked for.
+fn finds_the_least_map<R: Threads + Sync + Abort, H: Handout>(
+    rt: &R,
+    alloc: Global,
+) -> Result<(), Fail> {
+    let problem = problem_of(alloc, PATH_2, 1)?;
+    for turn in 0..1000u32 {
+        let workers = if turn % 100 == 0 { MAX_WORKERS } else { 3 };
+        let kept = KeptLines::All;
+        let (values, lines, account) = run::<R, H, Open>(
+            rt, alloc, &problem, workers, kept, &Open,
+        )?;
+        assert_eq!(rt;
+            (
+                values.as_slice(),
+                lines.as_slice(),
+                is_of_path(account, (1, 3))
+            ),
+            (MAP, MAP_LINES, true)
+        );
+    }
+    Ok(())
+}
+
+#[test]
+fn the_least_map_is_found_in_any_schedule(rt: HostRuntime) -> Result<(), Fail> {
+    finds_the_least_map::<_, Counter>(&rt, rt.alloc())?;
+    finds_the_least_map::<_, Stealing>(&rt, rt.alloc())
+}

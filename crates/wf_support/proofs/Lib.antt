@@ -1,3 +1,0 @@
-mod BlockLemmas
-mod BuildLemmas
-mod GroupLemmas

@@ -1,3 +1,0 @@
--- What only this crate's own code and proofs use.
-pub mod Blocks
-pub mod Groups

@@ -1,5 +1,0 @@
-use Rattle.wf_view.proofs.Entries.{process_read}
-use Rattle.wf_view.proofs.views.Views.colour.Goals as goal
-
-pub returns : goal.returns
-returns c = record { process = process_read c.args.self.now c.args.id c.entry.result.now c.entry.ensures.entry c.entry.ensures.view }

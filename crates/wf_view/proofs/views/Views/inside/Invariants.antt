@@ -1,9 +1,0 @@
-use Rattle.std.proofs.Common.{length, reverse}
-use Rattle.wf_view.proofs.Collecting.{IsCollecting, first_of}
-use Rattle.wf_view.proofs.views.Views.inside.Given as goal
-
-abbrev pub invariant-loop-greatest : goal.invariant-loop-greatest
-invariant-loop-greatest l = IsCollecting l.self l.id l.open.items (reverse l.inside.items)
-
-abbrev pub decreases-loop-greatest : goal.decreases-loop-greatest
-decreases-loop-greatest l = first_of (length l.self) (reverse l.inside.items)
