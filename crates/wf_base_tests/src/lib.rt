@@ -30,4 +30,6 @@ mod supports;
 #[cfg(test)]
 mod tasks;
 #[cfg(test)]
+mod texts;
+#[cfg(test)]
 mod views;

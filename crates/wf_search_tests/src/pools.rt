@@ -13,7 +13,7 @@ use wf_core::Account;
 use wf_examples::{AGREEMENT_3_2, CONSENSUS_2, PATH_2};
 use wf_handout::{Counter, Handout, Stealing};
 use wf_lines::{Line, Lines};
-use wf_pool::{Answer, Gate, KeptLines, MAX_WORKERS, Open, solve, solve_one, solve_root};
+use wf_pool::{Answer, Gate, KeptLines, MAX_WORKERS, Open, solve, solve_one};
 
 /// The line of a value that is lost.
 macro_rules! lost {
@@ -65,9 +65,7 @@ const NO_BRANCHES: Account = Account {
     cut: 0,
 };
 
-/// How many lines refute `AGREEMENT_3_2` after one round, and its branches.
-const AGREEMENT_LINES: usize = 714;
-
+/// None of the branches of `AGREEMENT_3_2` after one round has a map.
 const AGREEMENT_ACCOUNT: Account = Account {
     branches: 64,
     least: 64,
@@ -134,31 +132,6 @@ fn one_worker_alone(rt: HostRuntime) -> Result<(), Fail> {
     Ok(())
 }
 
-/// What a search of the root at once answers: the values of a map, if any, and the lines.
-fn search_root(
-    alloc: Global,
-    task: &str,
-    rounds: u32,
-    kept: KeptLines,
-) -> Result<(Vec<u8>, Lines), Fail> {
-    let problem = problem_of(alloc, task, rounds)?;
-    let answer = solve_root(alloc, &problem, kept)?;
-    Ok(parts_of(alloc, answer))
-}
-
-#[test]
-fn a_root_at_once(rt: HostRuntime) -> Result<(), Fail> {
-    for (task, rounds, kept, values, lines, _) in ALONE {
-        let (found_values, found_lines) = search_root(rt.alloc(), task, rounds, kept)?;
-        assert_eq!(rt;
-            (found_values.as_slice(), found_lines.as_slice()),
-            (values, lines),
-            "{task} {kept:?}"
-        );
-    }
-    Ok(())
-}
-
 /// A run by several workers: the values of a map, if any, the lines, and what the workers did.
 fn run<R: Threads + Sync, H: Handout, G: Gate>(
     rt: &R,
@@ -189,60 +162,6 @@ fn a_root_without_branches(rt: HostRuntime) -> Result<(), Fail> {
     )?;
     assert_eq!(rt; (lines.as_slice(), account), (CONSENSUS_LINES, NO_BRANCHES));
     Ok(())
-}
-
-/// How many workers there are, what lines are kept, and which workers may not start.
-static REFUTALS: [(u32, KeptLines, Barred); 12] = [
-    (1, KeptLines::All, Barred::Nobody),
-    (1, KeptLines::Refuting, Barred::Nobody),
-    (1, KeptLines::Neither, Barred::Nobody),
-    (2, KeptLines::All, Barred::Nobody),
-    (2, KeptLines::Refuting, Barred::Nobody),
-    (2, KeptLines::Neither, Barred::Nobody),
-    (8, KeptLines::All, Barred::Nobody),
-    (8, KeptLines::Refuting, Barred::Nobody),
-    (8, KeptLines::Neither, Barred::Nobody),
-    (3, KeptLines::Refuting, Barred::Worker(1)),
-    (3, KeptLines::Refuting, Barred::Worker(2)),
-    (3, KeptLines::Refuting, Barred::All),
-];
-
-/// The same answers in each of these runs: these lines where they are kept, and nothing is cut. The
-/// main thread is one of the workers, and does the work of each that may not start.
-fn refutes<R: Threads + Sync + Abort, H: Handout>(
-    rt: &R,
-    alloc: Global,
-    problem: &Problem,
-    wanted: &[Line],
-) -> Result<(), Fail> {
-    for (workers, kept, barred) in &REFUTALS {
-        let workers = (*workers).clamp(1, MAX_WORKERS);
-        let gate = Hold::new(Rule::Nobody, *barred);
-        let (values, lines, account) = run::<R, H, Hold>(
-            rt, alloc, problem, workers, *kept, &gate,
-        )?;
-        let is_right = match kept {
-            KeptLines::All | KeptLines::Refuting => lines.as_slice() == wanted,
-            KeptLines::Neither => lines.is_empty(),
-        };
-        assert!(rt; is_right && values.is_empty());
-        let starts = u64::from(workers - 1);
-        assert_eq!(rt; (account, gate.counts()[1]), (AGREEMENT_ACCOUNT, starts));
-    }
-    Ok(())
-}
-
-#[test]
-fn lines_are_the_same_for_any_number_of_workers(rt: HostRuntime) -> Result<(), Fail> {
-    let problem = problem_of(rt.alloc(), AGREEMENT_3_2, 1)?;
-    let (answer, account) = solve_one(rt.alloc(), &problem, KeptLines::All)?;
-    let (_, lines) = parts_of(rt.alloc(), answer);
-    assert_eq!(rt;
-        (lines.len(), account),
-        (AGREEMENT_LINES, AGREEMENT_ACCOUNT)
-    );
-    refutes::<_, Counter>(&rt, rt.alloc(), &problem, &lines)?;
-    refutes::<_, Stealing>(&rt, rt.alloc(), &problem, &lines)
 }
 
 /// A run in which the least map of `PATH_2` is found: how many workers there are, what lines are

@@ -13,7 +13,7 @@ use wf_examples::{
     RENAMING_2_3,
 };
 use wf_lines::{Line, Lines};
-use wf_search::{Cover, Found, FoundMap, Never, Stop, search, search_map, search_with, split};
+use wf_search::{Cover, Found, Never, Stop, search, search_with, split};
 
 /// It counts its questions as far as a number goes, and answers yes to those past so many.
 #[derive(Drop)]
@@ -254,36 +254,6 @@ fn roots_are_searched(rt: HostRuntime) -> Result<(), Fail> {
         assert_eq!(rt;
             (asked, is_stopped, values.as_slice(), lines.as_slice()),
             (case.asked, case.is_stopped, case.values, case.lines)
-        );
-    }
-    Ok(())
-}
-
-/// The same without lines.
-fn search_case_for_map(alloc: Global, case: &Case) -> Result<(FoundMap, u32), Fail> {
-    let problem = problem_of(alloc, case.task, case.rounds)?;
-    let root = Box0::root(alloc, &problem)?;
-    let mut limit = Limit {
-        asked: 0,
-        most: case.most,
-    };
-    let mut answers = Answers::new(alloc);
-    let found = search_map(alloc, &problem, root, &mut limit, &mut answers)?;
-    Ok((found, limit.asked))
-}
-
-#[test]
-fn roots_are_searched_without_lines(rt: HostRuntime) -> Result<(), Fail> {
-    for case in &CASES {
-        let (found, asked) = search_case_for_map(rt.alloc(), case)?;
-        let is_stopped = matches!(&found, FoundMap::Stopped);
-        let values = match found {
-            FoundMap::Map(values) => values,
-            FoundMap::Nothing | FoundMap::Stopped => Vec::new(rt.alloc()),
-        };
-        assert_eq!(rt;
-            (asked, is_stopped, values.as_slice()),
-            (case.asked, case.is_stopped, case.values)
         );
     }
     Ok(())

@@ -1,8 +1,44 @@
 //! Whole texts, read from a source and written to a sink.
 
-use crate::ends::{Full, LineFeeds};
+use std::io;
+use std::io::{Read, Write};
 use std::test::Fail;
 use wf_io::{ReadFault, Sink, Source, WriteFault, read_all, write_whole};
+
+/// Takes no byte, and never answers an error.
+#[derive(Drop)]
+pub struct Full;
+
+impl Write for Full {
+    fn write(&mut self, _buf: &[u8]) -> io::Result<usize> {
+        Ok(0)
+    }
+
+    fn flush(&mut self) -> io::Result<()> {
+        Ok(())
+    }
+}
+
+/// Gives line feeds without end, and counts them.
+#[derive(Drop)]
+pub struct LineFeeds<'a> {
+    given: &'a mut usize,
+}
+
+impl<'a> LineFeeds<'a> {
+    /// Adds to this count.
+    pub(crate) fn new(given: &'a mut usize) -> LineFeeds<'a> {
+        LineFeeds { given }
+    }
+}
+
+impl Read for LineFeeds<'_> {
+    fn read(&mut self, buf: &mut [u8]) -> io::Result<usize> {
+        buf.fill(b'\n');
+        *self.given = self.given.saturating_add(buf.len());
+        Ok(buf.len())
+    }
+}
 
 #[test]
 fn a_text_is_read_to_its_end(rt: HostRuntime) -> Result<(), Fail> {
