@@ -26,8 +26,6 @@ mod reports;
 #[cfg(test)]
 mod simplices;
 #[cfg(test)]
-mod supports;
-#[cfg(test)]
 mod tasks;
 #[cfg(test)]
 mod texts;

@@ -3,8 +3,6 @@
 //! - [`check`]: accepts a report about a task, or answers the first reason why it is refused.
 //! - [`Checker`]: the same of reports whose answers are about one box alone.
 //!   It is made once of a task.
-//! - [`Support`]: the tuples of one rule, in blocks of at most 64 where there are many, and which
-//!   values they support.
 //!
 //! It stands on reports, protocol complexes and sets of values alone: what it accepts rests on
 //! nothing of the search.
@@ -22,4 +20,3 @@ mod support;
 mod tuples;
 
 pub use checking::{Checker, check};
-pub use tuples::Support;

@@ -23,7 +23,7 @@ const COLUMN_VALUES: usize = 64;
 ///
 /// A clause sees it as the list of the tuples.
 #[derive(Drop)]
-pub struct Support {
+pub(crate) struct Support {
     tuples: Vec<Row>,
     // those with value v at place p in the group 4 * v + p; no groups where there are few
     groups: Vec<Group>,
@@ -43,7 +43,7 @@ impl Model for Support {
 
 impl Support {
     /// Keeps these tuples: `AllocError` where memory was refused.
-    pub fn of(alloc: Global, tuples: &[Row]) -> Result<Support, AllocError>
+    pub(crate) fn of(alloc: Global, tuples: &[Row]) -> Result<Support, AllocError>
         ensures { IfOk result (λ support. support ≡ tuples.now) }
     {
         let groups = group_all(alloc, tuples)?;
@@ -53,7 +53,7 @@ impl Support {
 
     /// Whether one of the tuples has the value at this place, and all its
     /// values in the sets of their places.
-    pub fn supports(&self, sets: &[Mask], place: usize, value: u8) -> bool
+    pub(crate) fn supports(&self, sets: &[Mask], place: usize, value: u8) -> bool
         ensures { result ≡ is_supported self.now (map values_in sets.now) place value }
     {
         let at = PLACES * value as usize + place % PLACES;
