@@ -1,7 +1,7 @@
 //! The processor time of each stage of a search, one by one.
 
-ghost use Rattle.std.specs.Prelude.{◌≤◌, IfOk};
-ghost use Rattle.wf_box.specs.Boxes.{IsFor};
+ghost use Rattle.std.specs.Prelude.{◌≤◌};
+ghost use Rattle.wf_complex.specs.Protocol.{IsProtocol};
 
 use anyhow::{Result, anyhow};
 use std::io;
@@ -116,21 +116,15 @@ fn run_stages<R: CpuClock + AllocGlobal>(
     last: Last,
 ) -> Result<Spent> {
     let mut spent = Spent::NONE;
-    let problem = join(rt, text, rounds, &mut spent)?;
-    if last == Last::Join {
-        return Ok(spent);
-    }
-    let root = close_root(rt, &problem, &mut spent)?;
-    if last == Last::Search {
-        let mut watch = Watch::start(rt)?;
-        let _found = search(rt.alloc(), &problem, root, &mut Never)?;
-        spent.search = watch.lap()?;
+    let problem = read(rt, text, rounds, &mut spent)?;
+    if last != Last::Join {
+        close_root(rt, &problem, last, &mut spent)?;
     }
     Ok(spent)
 }
 
 /// Reads a task, builds its complex and makes its problem.
-fn join<R: CpuClock + AllocGlobal>(
+fn read<R: CpuClock + AllocGlobal>(
     rt: &R,
     text: &str,
     rounds: u32,
@@ -139,25 +133,52 @@ fn join<R: CpuClock + AllocGlobal>(
     let mut watch = Watch::start(rt)?;
     let task = Task::read_text(rt.alloc(), text.as_bytes())?;
     spent.read = watch.lap()?;
-    let protocol = Protocol::build(rt.alloc(), &task, rounds).map_err(|fault| anyhow!("{fault}"))?;
+    build(rt, &task, rounds, spent)
+}
+
+/// Builds a task's complex and makes its problem.
+fn build<R: CpuClock + AllocGlobal>(
+    rt: &R,
+    task: &Task,
+    rounds: u32,
+    spent: &mut Spent,
+) -> Result<Problem> {
+    let mut watch = Watch::start(rt)?;
+    let protocol = Protocol::build(rt.alloc(), task, rounds).map_err(|fault| anyhow!("{fault}"))?;
     spent.build = watch.lap()?;
-    let problem = Problem::join(rt.alloc(), &task, &protocol)?;
+    join(rt, task, &protocol, spent)
+}
+
+/// Makes the problem of a task on its complex.
+fn join<R: CpuClock + AllocGlobal>(
+    rt: &R,
+    task: &Task,
+    protocol: &Protocol,
+    spent: &mut Spent,
+) -> Result<Problem>
+    requires { IsProtocol task.now protocol.now.rounds protocol.now }
+{
+    let mut watch = Watch::start(rt)?;
+    let problem = Problem::join(rt.alloc(), task, protocol)?;
     spent.join = watch.lap()?;
     Ok(problem)
 }
 
-/// Closes the root of a problem.
+/// Closes the root of a problem, and searches it where that is the last stage.
 fn close_root<R: CpuClock + AllocGlobal>(
     rt: &R,
     problem: &Problem,
+    last: Last,
     spent: &mut Spent,
-) -> Result<Box0>
-    ensures { IfOk result (IsFor problem.now) }
-{
+) -> Result<()> {
     let mut watch = Watch::start(rt)?;
     let mut root = Box0::root(rt.alloc(), problem)?;
     let mut lines = Vec::new(rt.alloc());
     close(rt.alloc(), problem, &mut root, &mut lines)?;
     spent.close = watch.lap()?;
-    Ok(root)
+    if last == Last::Search {
+        let _found = search(rt.alloc(), problem, root, &mut Never)?;
+        spent.search = watch.lap()?;
+    }
+    Ok(())
 }

@@ -20,15 +20,6 @@ fn candidates_of(alloc: Global, boxed: &Box0) -> Result<Vec<u64>, AllocError> {
     Ok(all)
 }
 
-/// The root of a task's problem is closed: how that ends, the lines, and the candidates after it.
-fn close_root(alloc: Global, text: &str, rounds: u32) -> Result<(Closed, Lines, Vec<u64>), Fail> {
-    let problem = problem_of(alloc, text, rounds)?;
-    let mut boxed = Box0::root(alloc, &problem)?;
-    let mut lines: Lines = Vec::new(alloc);
-    let closed = close(alloc, &problem, &mut boxed, &mut lines)?;
-    Ok((closed, lines, candidates_of(alloc, &boxed)?))
-}
-
 /// A closed root.
 struct Root {
     task: &'static str,
@@ -84,16 +75,27 @@ static ROOTS: [Root; 4] = [
     },
 ];
 
+/// Whether the root of a problem, closed, ends so, with these lines and candidates.
+fn is_closed_so(alloc: Global, problem: &Problem, root: &Root) -> Result<bool, AllocError> {
+    let mut boxed = Box0::root(alloc, problem)?;
+    let mut lines: Lines = Vec::new(alloc);
+    let closed = close(alloc, problem, &mut boxed, &mut lines)?;
+    let is_wanted = closed == root.closed && lines.as_slice() == root.lines;
+    Ok(is_wanted && are_left(alloc, &boxed, root.left)?)
+}
+
+/// Whether a box has these candidates.
+fn are_left(alloc: Global, boxed: &Box0, left: &[u64]) -> Result<bool, AllocError> {
+    let candidates = candidates_of(alloc, boxed)?;
+    Ok(candidates.as_slice() == left)
+}
+
 #[test]
 fn roots_are_closed(rt: HostRuntime) -> Result<(), Fail> {
     for root in &ROOTS {
-        let (closed, lines, left) = close_root(rt.alloc(), root.task, root.rounds)?;
-        assert_eq!(rt;
-            (closed, lines.as_slice(), left.as_slice()),
-            (root.closed, root.lines, root.left),
-            "{}",
-            root.task
-        );
+        let problem = problem_of(rt.alloc(), root.task, root.rounds)?;
+        let is_wanted = is_closed_so(rt.alloc(), &problem, root)?;
+        assert!(rt; is_wanted, "{}", root.task);
     }
     Ok(())
 }
@@ -147,36 +149,66 @@ fn closed_root(alloc: Global, text: &str, rounds: u32) -> Result<(Problem, Box0)
     Ok((problem, boxed))
 }
 
-/// Whether a value of point 2 of the path's closed root, tried in a copy of the box and in the box
-/// itself, takes so many sweeps, leaves point 3 these candidates and adds these lines; and whether
-/// the box is as it was.
+/// How many sweeps a value takes, the candidates of point 3 then, and the lines.
+struct Wanted {
+    value: u8,
+    sweeps: u32,
+    third: u64,
+    lines: &'static [Line],
+}
+
+/// Whether a value of point 2 comes to that.
+fn comes_to(
+    alloc: Global,
+    problem: &Problem,
+    boxed: &mut Box0,
+    wanted: &Wanted,
+) -> Result<bool, Fail>
+    requires boxed { IsFor problem.now boxed.old }
+    ensures boxed { OnOk result (IsFor problem.now boxed.new) }
+{
+    let (sweeps, third, lines) = try_in_place(alloc, problem, boxed, wanted.value)?;
+    Ok(sweeps == wanted.sweeps && third == wanted.third && lines.as_slice() == wanted.lines)
+}
+
+/// Whether a value of point 2 of the path's closed root comes to that in a copy of the box and in
+/// the box itself; and whether the box is as it was.
 fn is_tried(
     alloc: Global,
     problem: &Problem,
     boxed: &mut Box0,
-    value: u8,
-    sweeps: u32,
-    third: u64,
-    lines: &[Line],
+    wanted: &Wanted,
 ) -> Result<bool, Fail>
     requires boxed { IsFor problem.now boxed.old }
     ensures boxed { OnOk result (IsFor problem.now boxed.new) }
 {
     let mut copy = boxed.copy(alloc)?;
-    let in_copy = try_in_place(alloc, problem, &mut copy, value)?;
-    let in_place = try_in_place(alloc, problem, boxed, value)?;
-    let left = candidates_of(alloc, boxed)?;
-    let is_wanted = in_place.0 == sweeps && in_place.1 == third && in_place.2.as_slice() == lines;
-    Ok(is_wanted && in_copy == in_place && left.as_slice() == [1, 4, 6, 3].as_slice())
+    let in_copy = comes_to(alloc, problem, &mut copy, wanted)?;
+    let in_place = comes_to(alloc, problem, boxed, wanted)?;
+    Ok(in_copy && in_place && are_left(alloc, boxed, &[1, 4, 6, 3])?)
 }
 
 /// Point 2 has 1 and 2 left.
+static ONE: Wanted = Wanted {
+    value: 1,
+    sweeps: 1,
+    third: 3,
+    lines: &[],
+};
+
+static TWO: Wanted = Wanted {
+    value: 2,
+    sweeps: 2,
+    third: 2,
+    lines: &[lost!(2, 1, 0)],
+};
+
 #[test]
 fn a_box_is_given_an_earlier_state(rt: HostRuntime) -> Result<(), Fail> {
     let (problem, mut boxed) = closed_root(rt.alloc(), PATH_2, 1)?;
     let found = (boxed.points(), boxed.first_open());
-    let one = is_tried(rt.alloc(), &problem, &mut boxed, 1, 1, 3, &[])?;
-    let two = is_tried(rt.alloc(), &problem, &mut boxed, 2, 2, 2, &[lost!(2, 1, 0)])?;
+    let one = is_tried(rt.alloc(), &problem, &mut boxed, &ONE)?;
+    let two = is_tried(rt.alloc(), &problem, &mut boxed, &TWO)?;
     assert_eq!(rt; (found, one, two), ((4, Some(2)), true, true));
     Ok(())
 }
@@ -185,10 +217,10 @@ fn a_box_is_given_an_earlier_state(rt: HostRuntime) -> Result<(), Fail> {
 /// the two have different values on the path, and the same ones in renaming.
 #[test]
 fn an_execution_stands_for_each_rule(rt: HostRuntime) -> Result<(), Fail> {
-    let path = problem_of(rt.alloc(), PATH_2, 1)?;
-    let renaming = problem_of(rt.alloc(), RENAMING_2_2, 1)?;
-    let leads = (&path.network().leads, &renaming.network().leads);
-    assert_eq!(rt; leads.0.as_slice(), [0, 1, 2].as_slice());
-    assert_eq!(rt; leads.1.as_slice(), [0, 0, 2].as_slice());
+    for (text, leads) in [(PATH_2, [0, 1, 2]), (RENAMING_2_2, [0, 0, 2])] {
+        let problem = problem_of(rt.alloc(), text, 1)?;
+        let found = problem.network().leads.as_slice();
+        assert!(rt; found == leads.as_slice(), "{text}");
+    }
     Ok(())
 }
