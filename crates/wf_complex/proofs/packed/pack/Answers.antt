@@ -1,4 +1,4 @@
-use Rattle.std.proofs.Common.{◌≡◌, ◌+◌, ◌*◌, [], ◌++◌, length, map, drop, append_assoc, arith, sym, ap, ◌∙◌}
+use Rattle.std.proofs.Common.{◌+◌, ◌*◌, [], ◌++◌, length, map, drop, append_assoc, arith, sym, ap, ◌∙◌}
 use Rattle.std.proofs.lemmas.List.{map-append}
 use Rattle.wf_complex.specs.Layout.{turns, laid_on, laid_out}
 use Rattle.wf_complex.specs.Packed.{packed_on}
