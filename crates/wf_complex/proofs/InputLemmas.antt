@@ -57,6 +57,9 @@ module _ (m rounds : ℕ) (ss : List Simplex) (i : ℕ) (s : Simplex) (place : i
         length after + cost_of_each m rounds (drop (i + 1) ss) ≤ most
     room_after k most counted room few added = omega (arith, room, few, added, same_cost k counted, ap (cost_of_each m rounds) (drop_more ss i s place ∙ ap (λ x. x ∷ drop (i + 1) ss) (sym is)))
 
+    pub room_for : (k most : ℕ) → k ≡ length ws → length table + cost_of_each m rounds (drop i ss) ≤ most → length first ≤ length table + length s → length first + cost k (length (take n ids)) rounds ≤ most
+    room_for k most counted room few = omega (arith, room, few, same_cost k counted, ap (cost_of_each m rounds) (drop_more ss i s place ∙ ap (λ x. x ∷ drop (i + 1) ss) (sym is)))
+
     pub made_after : (lasts more : List ℕ) → AllByRecursion (λ k. k < length table) lasts → Extends table first → views_at table lasts ≡ flat_map (leaves_of m rounds) (take i ss) →
         views_at after more ≡ views_at first lasts ++ leaves ws rounds (views_at first (take n ids)) → views_at after more ≡ flat_map (leaves_of m rounds) (take (i + 1) ss)
     made_after lasts more within grown made added =

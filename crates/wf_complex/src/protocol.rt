@@ -1,11 +1,13 @@
 //! The r-round protocol complex of a task.
 
-ghost use Rattle.std.specs.Prelude.{◌≡◌, ◌<◌, ◌≤◌, Some, [], length, map, zip, slice_get, All, IfOk};
+ghost use Rattle.std.specs.Prelude.{◌≡◌, ◌<◌, ◌≤◌, Some, [], length, map, zip, slice_get, All, AllPairs, IfOk};
 ghost use Rattle.std.specs.List.{slice_index_or};
 ghost use Rattle.wf_model.specs.Limits.{most_executions, most_inputs, most_points, most_processes, most_rounds};
 ghost use Rattle.wf_model.specs.Simplex.{processes_of};
 ghost use Rattle.wf_model.specs.Task.{IsTaskSimplex};
-ghost use Rattle.wf_complex.specs.Layout.{execution_total};
+ghost use Rattle.wf_complex.specs.Layout.{execution_total, laid_out, place_total};
+ghost use Rattle.wf_complex.specs.Packed.{packed_on};
+ghost use Rattle.wf_complex.specs.Places.{firsts_at, firsts_in};
 ghost use Rattle.wf_complex.specs.Protocol.{ArePacked, Builds, point_in};
 ghost use Rattle.wf_complex.specs.ProtocolMade.{IsMade};
 
@@ -196,19 +198,88 @@ fn complex_from(
     let room = place_count(inputs, first_block, rounds);
     let lasts = last_views(alloc, &mut views, inputs, first_block, rounds, room)?;
     let points = points_of(alloc, &mut views, lasts, symmetric)?;
-    let executions = pack(alloc, inputs, first_block, rounds, points.numbers)?;
-    let spans = lay_out(alloc, inputs, first_block, rounds)?;
-    let firsts = firsts_of(alloc, inputs, &spans, &points.firsts)?;
-    let inputs = inputs.to_vec(alloc)?;
+    let placed = place_all(
+        alloc,
+        inputs,
+        first_block,
+        rounds,
+        points.numbers,
+        &points.firsts,
+    )?;
     Ok(Protocol {
         rounds,
         views,
         view_count: points.view_count,
         classes: points.classes,
-        firsts,
-        inputs,
-        executions: Arc::new(alloc, executions)?,
+        firsts: placed.firsts,
+        inputs: placed.inputs,
+        executions: placed.executions,
     })
+}
+
+/// Input simplices, the executions on them, and where their points appear first.
+#[derive(Drop)]
+struct Placed {
+    inputs: Vec<Simplex>,
+    executions: Arc<Vec<PackedExecution>, Global>,
+    firsts: Vec<First>,
+}
+
+/// These input simplices, the executions on them, whose processes have these points, and where the
+/// points appear that are first at these places.
+fn place_all(
+    alloc: Global,
+    inputs: &[Simplex],
+    first_block: u8,
+    rounds: u32,
+    numbers: Vec<u32>,
+    places: &[u32],
+) -> Result<Placed, AllocError>
+    requires one { 1 ≤ first_block }
+    requires most { first_block ≤ most_processes }
+    requires few { execution_total first_block rounds inputs.now ≤ most_executions }
+    requires inputs { length inputs.now ≤ most_inputs }
+    requires sizes { All (λ s. length s ≤ most_processes) inputs.now }
+    requires numbers { length numbers.items ≡ place_total first_block rounds inputs.now }
+    requires places { All (λ j. j < length numbers.items) places.now }
+    requires ascending { AllPairs (λ i j. i < j) places.now }
+    ensures inputs { IfOk result (λ p. p.inputs.items ≡ inputs.now) }
+    ensures executions { IfOk result (λ p. p.executions.value.items
+        ≡ map (packed_on numbers.items) (laid_out first_block rounds 0 0 inputs.now)) }
+    ensures firsts { IfOk result (λ p. firsts_in p.firsts.items
+        ≡ firsts_at inputs.now (laid_out first_block rounds 0 0 inputs.now) places.now) }
+{
+    let packed = pack(alloc, inputs, first_block, rounds, numbers)?;
+    let firsts = firsts_among(alloc, inputs, first_block, rounds, places)?;
+    let inputs = inputs.to_vec(alloc)?;
+    Ok(Placed {
+        inputs,
+        executions: Arc::new(alloc, packed)?,
+        firsts,
+    })
+}
+
+/// The execution and the process of each of these places, which ascend, among all those of the
+/// executions on these input simplices.
+fn firsts_among(
+    alloc: Global,
+    inputs: &[Simplex],
+    first_block: u8,
+    rounds: u32,
+    places: &[u32],
+) -> Result<Vec<First>, AllocError>
+    requires one { 1 ≤ first_block }
+    requires most { first_block ≤ most_processes }
+    requires few { execution_total first_block rounds inputs.now ≤ most_executions }
+    requires inputs { length inputs.now ≤ most_inputs }
+    requires sizes { All (λ s. length s ≤ most_processes) inputs.now }
+    requires places { All (λ j. j < place_total first_block rounds inputs.now) places.now }
+    requires ascending { AllPairs (λ i j. i < j) places.now }
+    ensures { IfOk result (λ firsts. firsts_in firsts.items
+        ≡ firsts_at inputs.now (laid_out first_block rounds 0 0 inputs.now) places.now) }
+{
+    let spans = lay_out(alloc, inputs, first_block, rounds)?;
+    firsts_of(alloc, inputs, &spans, places)
 }
 
 /// The point of a process, where the processes of a simplex have these points.

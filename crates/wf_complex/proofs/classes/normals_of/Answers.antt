@@ -1,8 +1,20 @@
 use Rattle.std.proofs.Common.{◌<◌, length, All, subst, sym, arith, length-append, ap, ◌∙◌}
 use Rattle.wf_complex.specs.Rounds.{views_at}
-use Rattle.wf_complex.proofs.RoundLemmas.{extends_then}
-use Rattle.wf_complex.proofs.ClassLemmas.{shallow_there, normal_more}
+use Rattle.wf_complex.proofs.RoundLemmas.{extends_longer, extends_then}
+use Rattle.wf_complex.proofs.ClassLemmas.{low, shallow_there, normal_more}
 use Rattle.wf_complex.proofs.classes.normals_of.Goals as goal
+
+pub normal-requires-clause-id : goal.normal-requires-clause-id
+normal-requires-clause-id c =
+    let place : c.loop-id.id-index < length c.args.ids.now = omega arith in
+    let there = low c.args.views.now c.loop-id.views c.loop-id.invariant.extends c.args.ids.now c.loop-id.id-index place c.requires.ids in
+    omega (arith, there, extends_longer c.args.views.now c.loop-id.views c.loop-id.invariant.extends)
+
+pub normal-requires-clause-room : goal.normal-requires-clause-room
+normal-requires-clause-room c =
+    let place : c.loop-id.id-index < length c.args.ids.now = omega arith in
+    let shallow = shallow_there c.args.views.now c.loop-id.views c.loop-id.invariant.extends c.args.ids.now c.loop-id.id-index place c.requires.ids c.requires.shallow in
+    omega (arith, place, shallow, c.loop-id.invariant.few, c.requires.room)
 
 pub loop-id-preserved : goal.loop-id-preserved
 loop-id-preserved c =
