@@ -1,5 +1,4 @@
-use Rattle.std.proofs.Common.{◌≡◌, ◌<◌, ◌+◌, ◌++◌, [], ◌∷◌, ℕ, List, map, vec_items, length, ap, sym, subst, ◌∙◌, arith}
-use Rattle.std.specs.Option.{MatchOption}
+use Rattle.std.proofs.Common.{◌≡◌, ◌<◌, ◌+◌, ◌++◌, map, vec_items, length, ap, ◌∙◌, arith}
 use Rattle.wf_set.specs.Sets.{values_in}
 use Rattle.wf_cnf.specs.Found.{found_with, having}
 use Rattle.wf_cnf.specs.Groups.{group_of}
