@@ -1,4 +1,4 @@
-use Rattle.std.proofs.Common.{◌≡◌, ◌<◌, ◌≤◌, ℕ, length, refl, sym, subst, arith}
+use Rattle.std.proofs.Common.{◌<◌, ◌≤◌, ℕ, length, sym, subst, arith}
 use Rattle.std.proofs.Math.ListN.{length-set}
 use Rattle.wf_network.specs.Limits.{most_words}
 use Rattle.wf_network.specs.Marks.{IsLast, IsNext}

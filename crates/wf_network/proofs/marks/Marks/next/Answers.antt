@@ -1,4 +1,4 @@
-use Rattle.std.proofs.Common.{◌≡◌, ◌<◌, arith, ◌∙◌, ◌+◌, ◌/◌, sym, subst, ap, ℕ, ◌≤◌, length, IfSome}
+use Rattle.std.proofs.Common.{◌≡◌, ◌<◌, arith, ◌∙◌, ◌+◌, ◌/◌, sym, subst, ℕ, ◌≤◌, length, IfSome}
 use Rattle.wf_network.specs.Limits.{most_words}
 use Rattle.wf_network.specs.Marks.{bit_of, IsLast, IsNext}
 use Rattle.wf_network.proofs.MarkLemmas.{found_none, further_word, if_next_from, if_none, last_from, none_after, none_until}
