@@ -9,7 +9,7 @@ ghost use Rattle.wf_formula.specs.Encoding.{at_least_one, question};
 ghost use Rattle.wf_rup.specs.Seen.{KnowsNothing};
 ghost use Rattle.wf_cnf.specs.Patterns.{pattern_seen, patterns_seen};
 ghost use Rattle.wf_cnf.specs.Variables.{IsNumbered};
-ghost use Rattle.wf_cnf.specs.Clauses.{AreCovered, AreFew, HasPoints, clauses_on, denied_at};
+ghost use Rattle.wf_cnf.specs.Clauses.{AreCovered, AreFew, HasPoints, clauses_on, denied_at, formula_on};
 ghost use Rattle.wf_rup.specs.Posed.{IsPosed, KeepsAll, KeepsModelsOfAll};
 
 use crate::patterns::{Pattern, Patterns};
@@ -30,12 +30,29 @@ pub fn pose(alloc: Global, task: &Task, protocol: &Protocol) -> Result<Checker, 
     requires { IsProtocol task.now protocol.now.rounds protocol.now }
     ensures { IfOk result (IsPosed (question task.now protocol.now.rounds)) }
 {
+    let points = protocol.points();
     let variables = Variables::of(alloc, task.values())?;
     let patterns = all_patterns(alloc, task)?;
-    let points = protocol.points();
+    posed(alloc, &variables, &patterns, protocol, points)
+}
+
+/// The same by the variables of the task, its patterns, and how many points the complex has.
+fn posed(
+    alloc: Global,
+    variables: &Variables,
+    patterns: &[Patterns],
+    protocol: &Protocol,
+    points: u32,
+) -> Result<Checker, AllocError>
+    requires numbered { IsNumbered variables.now }
+    requires few { points ≤ most_points }
+    requires covered { AreCovered (map patterns_seen patterns.now) protocol.now }
+    ensures { IfOk result (IsPosed (formula_on (values_in variables.now.values)
+        (map patterns_seen patterns.now) points protocol.now)) }
+{
     let mut posing = Posing::new(alloc, variables.count(points))?;
-    posing.add_points(alloc, &variables, points)?;
-    posing.add_executions(alloc, &variables, &patterns, protocol)?;
+    posing.add_points(alloc, variables, points)?;
+    posing.add_executions(alloc, variables, patterns, protocol)?;
     Ok(posing.checker)
 }
 

@@ -35,6 +35,10 @@ few_tuples t n rule is there =
     let low = get_or-le-sum_by (λ (r : task.Rule). length r.tuples) t.delta n rule (slice_get_within t.delta n rule there) in
     omega (arith, low, ap (λ (r : task.Rule). length r.tuples) (got t.delta n rule rule there), is.limits.tuples)
 
+pub long_tuples : (t : Task) (n : ℕ) (rule : task.Rule) → IsTask t → slice_get t.delta n ≡ Some rule → All (λ tuple. length tuple ≡ length rule.input) rule.tuples
+long_tuples t n rule is there =
+    subst (λ (r : task.Rule). All (λ tuple. length tuple ≡ length r.input) r.tuples) (got t.delta n rule rule there) (is.decision.rules n rule (slice_get_within t.delta n rule there)).long
+
 -- ---- the executions
 
 pub execution_there : (t : Task) (r : ℕ) (b : Built) (rules : List Rule) (n s : ℕ) (ps four : List ℕ) → IsProtocol t r b → map rule_seen rules ≡ t.delta → n < length b.scopes → slice_get b.simplices n ≡ Some s

@@ -5,11 +5,12 @@ use Rattle.std.specs.Int.{bit_at, trailing_zeros, w64}
 use Rattle.std.specs.Int.Bits.{bit_or}
 use Rattle.std.specs.List.{slice_set}
 use Rattle.std.proofs.lemmas.List.{get_or-set_same, get_or-set_other, get_or-replicate}
+use Rattle.std.proofs.Math.ListN.{length-set}
 use Rattle.std.proofs.lemmas.Bool.{cases_eq, cases_lt, false≢true}
 use Rattle.std.proofs.Math.Nat.{div-div-eq-div-mul, div-le_self}
 use Rattle.std.proofs.lemmas.Nat.Bits.{bit_at-trailing_zeros, bit_at-zero, bit_at_ones, bit_at_above, bit_at-lt, bit_at_or}
 use Rattle.std.proofs.lemmas.Nat.Bits.{bit_at_cat_high, bit_at_cat_low}
-use Rattle.wf_network.specs.Marks.{bit_of, IsHalf, IsLast, IsMore, IsNext, MarksOnlyWord, MarksWord, TopsTell}
+use Rattle.wf_network.specs.Marks.{bit_of, IsHalf, IsLast, IsMore, IsNext, KeepsBitsBut, MarksOnlyWord, MarksWord, TopsTell}
 use Rattle.wf_network.specs.declared.users.UserWord.{UserWord}
 
 -- two bits in one word are told apart by their places
@@ -180,3 +181,46 @@ if_next_from words start from (Some n) low before next = next_from words start f
 -- past the last word there is none
 pub last_from : (words : List ℕ) (start from : ℕ) → ((m : ℕ) → start ≤ m → m < from → bit_of words m ≡ 0) → length words ≤ from / 64 → IsLast words start
 last_from words start from before past m after = ⊎_elim (λ (earlier : m < from). before m after earlier) (λ (later : from ≤ m). none_past words from m past later) (cases_lt m from)
+
+-- nor is there one that the tops tell of
+pub none_after : (words tops : List ℕ) (start from : ℕ) → length words ≤ 64 * length tops → TopsTell words tops → ((m : ℕ) → start ≤ m → m < from → bit_of words m ≡ 0) → ((m : ℕ) → from ≤ m → m / 64 ≡ from / 64 → bit_of words m ≡ 0)
+    → IsLast tops (from / 64 + 1) → IsLast words start
+none_after words tops start from within tell before here last m after = none_until words tops start from (m / 64 + 1) within tell before here (λ i past low. last i past) m after (omega arith)
+
+pub if_none : (P : Type 0) (o : Option ℕ) → P → IfNone o P
+if_none P None h = h
+if_none P (Some n) h = tt
+
+-- ---- a word is taken away
+
+-- and its bit of the tops
+pub tells_less : (words tops less : List ℕ) (n : ℕ) → TopsTell words tops → KeepsBitsBut tops less n → TopsTell (slice_set words n 0) less
+tells_less words tops less n tell same i within none = elim (cases_eq i n) [
+  | inl here ↦ ap (slice_index (slice_set words n 0)) here ∙ get_or-set_same words n 0 0 (omega (arith, within, here, length-set {A = ℕ}))
+  | inr other ↦ get_or-set_other words n i 0 0 other ∙ tell i (omega (arith, within, length-set {A = ℕ})) (sym (same i other) ∙ none)
+]
+
+-- then it is 0, and so is each before it of which the tops do not tell
+pub cleared_more : (words tops : List ℕ) (from n : ℕ) → TopsTell words tops → n < length words → ((i : ℕ) → i < from → slice_index words i ≡ 0) → ((i : ℕ) → from ≤ i → i < n → bit_of tops i ≡ 0)
+    → (i : ℕ) → i < n + 1 → slice_index (slice_set words n 0) i ≡ 0
+cleared_more words tops from n tell within before none i low = elim (cases_eq i n) [
+  | inl here ↦ ap (slice_index (slice_set words n 0)) here ∙ get_or-set_same words n 0 0 within
+  | inr other ↦
+      get_or-set_other words n i 0 0 other
+      ∙ ⊎_elim (λ (early : i < from). before i early) (λ (late : from ≤ i). tell i (omega (arith, low, within)) (none i late (omega (arith, low, other)))) (cases_lt i from)
+]
+
+-- all are 0 where the tops tell of none from there on
+pub all_cleared : (words tops : List ℕ) (from end : ℕ) → TopsTell words tops → length words ≤ end → ((i : ℕ) → i < from → slice_index words i ≡ 0) → ((i : ℕ) → from ≤ i → i < end → bit_of tops i ≡ 0) → IsLast words 0
+all_cleared words tops from end tell past before none m after = ap (λ w. bit_at w (m % 64)) (each (m / 64)) ∙ bit_at-zero (m % 64)
+  where
+    each : (i : ℕ) → slice_index words i ≡ 0
+    each i = ⊎_elim (λ (early : i < from). before i early) (λ (late : from ≤ i). ⊎_elim (λ (inside : i < length words). tell i inside (none i late (omega (arith, inside, past)))) (λ (outside : length words ≤ i). past_end words i outside) (cases_lt i (length words))) (cases_lt i from)
+
+-- ---- loops over words end
+
+pub further_word : (count from next : ℕ) → from / 64 < count → from / 64 + 1 ≤ next → 64 * count - 64 * next < 64 * count - from
+further_word count from next within after = omega arith
+
+pub further : (count left from next : ℕ) → left ≡ count → from ≤ next → next < count → left - (next + 1) < count - from
+further count left from next same after within = omega arith

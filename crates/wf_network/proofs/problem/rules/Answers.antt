@@ -5,8 +5,17 @@ use Rattle.wf_model.specs.Task.{inputs}
 use Rattle.wf_network.specs.Problems.{AreAlike, HasTable, IsRuleOf, IsWide, KeepsProcesses, rule_seen}
 use Rattle.wf_lane.specs.Table.{Table}
 use Rattle.wf_complex.proofs.Lemmas.{rule_there}
-use Rattle.wf_network.proofs.JoinLemmas.{alike_more, few_tuples, one_more}
+use Rattle.wf_network.proofs.JoinLemmas.{alike_more, few_tuples, long_tuples, one_more}
 use Rattle.wf_network.proofs.problem.rules.Goals as goal
+
+pub table_of-requires-clause-long : goal.table_of-requires-clause-long
+table_of-requires-clause-long c =
+    let t = c.args.task.now in
+    let n = c.loop-number.number in
+    let s = c.index-inputs-number.result in
+    let same : c.simplices-inputs.result.now ≡ inputs t = c.simplices-inputs.ensures.simplices ∙ c.inputs.ensures.inputs in
+    let there = rule_there t n s s c.tuples-tuples.result.now (c.index-inputs-number.is ∙ ap (λ (xs : List Simplex). get_or xs n s) same) (omega (arith, c.loop-number-test.true, ap length same)) c.tuples-tuples.ensures in
+    long_tuples t n _ c.inputs.ensures.task there
 
 pub table_of-requires-clause-few : goal.table_of-requires-clause-few
 table_of-requires-clause-few c =
