@@ -1,0 +1,4 @@
+-- What contracts say, here and in the crates above.
+pub mod Signs
+pub mod Obstruction
+pub mod Laws

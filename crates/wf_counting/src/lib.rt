@@ -1,0 +1,8 @@
+//! The counting argument: executions with signs, obstructions, and why a task that has an
+//! obstruction has no decision map after any number of rounds.
+//!
+//! Read `specs/Obstruction` first, and then `specs/Laws`. An obstruction is Sperner's lemma and the
+//! index lemma as a certificate: forbidden tuples with weights, whose signed terms cancel on each
+//! face. `specs/Signs` says what the sign of an execution is. The functions below are laws: a body is
+//! empty, and the clauses are what is proved.
+#![tactic(auto)]
