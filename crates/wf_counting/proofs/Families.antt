@@ -2,6 +2,7 @@
 -- lists share.
 use Rattle.std.proofs.Common.{◌≡◌, ℕ, ◌+◌, ◌≤◌, Bool, true, false, List, [], length}
 use Rattle.std.specs.List.{AllByRecursion}
+use Rattle.wf_model.specs.Lists.{has}
 use Rattle.wf_model.specs.Limits.{most_processes}
 use Rattle.wf_model.specs.Task.{Tuple}
 use Rattle.wf_counting.specs.Signs.{same_sign, total, keep}
@@ -25,5 +26,5 @@ pub record IsConsistent (family : Family) : Type 0 where
   pub agrees : (mask : List Bool) (ps : List ℕ) → length ps ≤ most_processes → length mask ≡ length ps → Agrees family mask ps
 
 -- each value of each tuple is one of these
-abbrev pub HasKnownTuples : (ℕ → Bool) → Family → Type 0
-HasKnownTuples known family = (ps : List ℕ) → AllByRecursion (λ x. AllByRecursion (λ a. known a ≡ true) x.1) (family ps)
+abbrev pub HasKnownTuples : List ℕ → Family → Type 0
+HasKnownTuples known family = (ps : List ℕ) → AllByRecursion (λ x. AllByRecursion (λ a. has known a ≡ true) x.1) (family ps)

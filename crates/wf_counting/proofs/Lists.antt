@@ -1,6 +1,8 @@
 -- Lists whose elements all have something, and ascending numbers.
-use Rattle.std.proofs.Common.{◌≡◌, ℕ, suc, ◌==◌, ◌≤◌, false, List, [], ◌∷◌, ◌++◌, map, length, refl, ap, arith}
-use Rattle.std.specs.List.{AllByRecursion}
+use Rattle.std.proofs.Common.{◌≡◌, ℕ, suc, ◌==◌, ◌≤◌, Bool, true, false, List, [], ◌∷◌, ◌++◌, map, flat_map, length, Contains, refl, ap, arith}
+use Rattle.std.specs.List.{AllByRecursion, list_all}
+use Rattle.std.proofs.lemmas.Bool.{and_parts}
+use Rattle.std.proofs.lemmas.List.Elements.{All-contains, All-from_recursion}
 use Rattle.wf_model.specs.Lists.{has}
 use Rattle.wf_counting.specs.Signs.{total}
 
@@ -38,3 +40,27 @@ all_from a (x ∷ xs) b h = (h.0, let d = h.0 in each (λ y. suc x ≤ y) (λ y.
 pub not_there : (i : ℕ) (xs : List ℕ) → AllByRecursion (λ x. (x == i) ≡ false) xs → has xs i ≡ false
 not_there i [] h = refl
 not_there i (x ∷ xs) h = rw h.0 (not_there i xs h.1)
+
+-- ---- parts of lists
+
+front : {X : Type 0} (P : X → Type 0) (xs ys : List X) → AllByRecursion P (xs ++ ys) → AllByRecursion P xs
+front P [] ys h = tt
+front P (x ∷ xs) ys h = (h.0, front P xs ys h.1)
+
+back : {X : Type 0} (P : X → Type 0) (xs ys : List X) → AllByRecursion P (xs ++ ys) → AllByRecursion P ys
+back P [] ys h = h
+back P (x ∷ xs) ys h = back P xs ys h.1
+
+pub both_ends : {X : Type 0} (P : X → Type 0) (xs ys : List X) → AllByRecursion P (xs ++ ys) → AllByRecursion P xs × AllByRecursion P ys
+both_ends P xs ys h = (front P xs ys h, back P xs ys h)
+
+pub each_of_flat : {X Y : Type 0} (P : Y → Type 0) (f : X → List Y) (xs : List X) → AllByRecursion P (flat_map f xs) → AllByRecursion (λ x. AllByRecursion P (f x)) xs
+each_of_flat P f [] h = tt
+each_of_flat P f (x ∷ xs) h = (front P (f x) (flat_map f xs) h, each_of_flat P f xs (back P (f x) (flat_map f xs) h))
+
+pub contained : {X : Type 0} (P : X → Type 0) (xs : List X) (x : X) → AllByRecursion P xs → Contains xs x → P x
+contained P xs x h c = All-contains P xs x (All-from_recursion P xs h) c
+
+pub each_passes : {X : Type 0} (test : X → Bool) (xs : List X) → list_all test xs ≡ true → AllByRecursion (λ x. test x ≡ true) xs
+each_passes test [] h = tt
+each_passes test (x ∷ xs) h = let parts = and_parts (test x) (list_all test xs) h in (parts.0, each_passes test xs parts.1)

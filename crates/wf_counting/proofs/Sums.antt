@@ -42,6 +42,14 @@ pub total_flat : {X Y : Type 0} (f : Y → ℕ) (g : X → List Y) (xs : List X)
 total_flat f g [] = refl
 total_flat f g (x ∷ xs) = total_append f (g x) (flat_map g xs) ∙ ap (λ n. total f (g x) + n) (total_flat f g xs)
 
+pub total_none : {X : Type 0} (xs : List X) → total (λ x. 0) xs ≡ 0
+total_none [] = refl
+total_none (x ∷ xs) = let e = total_none xs in omega (arith, e)
+
+pub total_add : {X : Type 0} (f g : X → ℕ) (xs : List X) → total (λ x. f x + g x) xs ≡ total f xs + total g xs
+total_add f g [] = refl
+total_add f g (x ∷ xs) = let e = total_add f g xs in omega (arith, e)
+
 -- balances add up
 pub total_balanced : {X : Type 0} (a b c d : X → ℕ) (xs : List X) → AllByRecursion (λ x. a x + b x ≡ c x + d x) xs →
     total a xs + total b xs ≡ total c xs + total d xs

@@ -65,14 +65,14 @@ reduced (x ∷ xs) = put x (reduced xs)
 abbrev pub counted : (Bool → List (List ℕ) → ℕ) → Bool → List Signed → ℕ
 counted k b xs = total (λ x. k (same_sign b x.0) x.1) xs
 
-pub same_numbers : (xs ys : List ℕ) → pointwise (λ x y. x == y) xs ys ≡ true → xs ≡ ys
-same_numbers [] [] h = refl
-same_numbers [] (y ∷ ys) h = absurd (false≢true h)
-same_numbers (x ∷ xs) [] h = absurd (false≢true h)
-same_numbers (x ∷ xs) (y ∷ ys) h =
+pub numbers_equal : (xs ys : List ℕ) → pointwise (λ x y. x == y) xs ys ≡ true → xs ≡ ys
+numbers_equal [] [] h = refl
+numbers_equal [] (y ∷ ys) h = absurd (false≢true h)
+numbers_equal (x ∷ xs) [] h = absurd (false≢true h)
+numbers_equal (x ∷ xs) (y ∷ ys) h =
     let parts = and_parts (x == y) (pointwise (λ a b. a == b) xs ys) h in
     let first : x ≡ y = eqb-true x y parts.0 in
-    let rest : xs ≡ ys = same_numbers xs ys parts.1 in
+    let rest : xs ≡ ys = numbers_equal xs ys parts.1 in
     cc
 
 rows_same : (xs ys : List (List ℕ)) → same_rows xs ys ≡ true → xs ≡ ys
@@ -81,7 +81,7 @@ rows_same [] (y ∷ ys) h = absurd (false≢true h)
 rows_same (x ∷ xs) [] h = absurd (false≢true h)
 rows_same (x ∷ xs) (y ∷ ys) h =
     let parts = and_parts (pointwise (λ a b. a == b) x y) (same_rows xs ys) h in
-    let first : x ≡ y = same_numbers x y parts.0 in
+    let first : x ≡ y = numbers_equal x y parts.0 in
     let rest : xs ≡ ys = rows_same xs ys parts.1 in
     cc
 

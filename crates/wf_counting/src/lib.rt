@@ -6,3 +6,7 @@
 //! face. `specs/Signs` says what the sign of an execution is. The functions below are laws: a body is
 //! empty, and the clauses are what is proved.
 #![tactic(auto)]
+
+mod laws;
+
+pub use laws::{an_obstruction_leaves_no_map, signed_executions_agree_on_faces};
