@@ -18,3 +18,4 @@ pub mod Settled
 -- Obstructions.
 pub mod Deciding
 pub mod Obstructed
+pub mod Tested

@@ -2,3 +2,6 @@
 pub mod Signs
 pub mod Obstruction
 pub mod Laws
+pub mod KnownResults
+-- Worked examples: what the definitions give, by computation.
+pub mod Examples

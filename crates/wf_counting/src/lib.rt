@@ -7,6 +7,11 @@
 //! empty, and the clauses are what is proved.
 #![tactic(auto)]
 
+mod known_results;
 mod laws;
 
+pub use known_results::{
+    consensus_has_no_map, renaming_has_no_map, set_agreement_has_no_map,
+    symmetry_breaking_has_no_map,
+};
 pub use laws::{an_obstruction_leaves_no_map, signed_executions_agree_on_faces};
