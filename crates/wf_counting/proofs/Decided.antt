@@ -5,7 +5,7 @@ use Rattle.std.proofs.lemmas.Bool.{and_parts, ltb-true}
 use Rattle.std.proofs.lemmas.List.{length-map}
 use Rattle.std.proofs.lemmas.Nat.{div-mul-add, mod-mul-add}
 use Rattle.wf_model.specs.Lists.{lists_of}
-use Rattle.wf_model.specs.Simplex.{Vertex, Simplex, processes_of, values_of, is_ascending}
+use Rattle.wf_model.specs.Simplex.{Vertex, Simplex, values_of, is_ascending}
 use Rattle.wf_model.specs.Task.{Tuple}
 use Rattle.wf_model.specs.Word.{Word, words}
 use Rattle.wf_model.specs.View.{View, base, base_views, round}
@@ -34,13 +34,6 @@ vertices_back (v ∷ s) h =
 pub lower : (a b : ℕ) (xs : List ℕ) (n : ℕ) → b ≤ a → Between a xs n → Between b xs n
 lower a b [] n le h = omega arith
 lower a b (x ∷ xs) n le h = (let l = h.0 in omega (arith, l, le), h.1)
-
-pub codes_ascend : (a : ℕ) (s : Simplex) (n : ℕ) → Between a (processes_of s) n → AllByRecursion (λ x. x < 256) (values_of s) → Between (a * 256) (map code s) (n * 256)
-codes_ascend a [] n h small = omega (arith, h)
-codes_ascend a (v ∷ s) n h small =
-    let low = h.0 in
-    let x = small.0 in
-    (omega (arith, low), lower (suc v.0 * 256) (suc (code v)) (map code s) (n * 256) (omega (arith, x)) (codes_ascend (suc v.0) s n h.1 small.1))
 
 pub processes_ascend : (a : ℕ) (ps : List ℕ) (n : ℕ) → a ≤ n → is_ascending ps ≡ true → AllByRecursion (λ p. p < n) ps → AllByRecursion (λ p. a ≤ p) ps → Between a ps n
 processes_ascend a [] n le up below from = le

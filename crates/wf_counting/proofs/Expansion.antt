@@ -1,6 +1,7 @@
 -- The terms of a weighted tuple, made from the first place on.
 use Rattle.std.proofs.Common.{◌≡◌, ℕ, ◌==◌, not, Bool, true, false, List, [], ◌∷◌, ◌++◌, map, flat_map, refl, sym, ap, ◌∙◌, inl, inr, append_assoc, if◌then◌else◌}
 use Rattle.std.proofs.lemmas.Bool.{cases_Bool}
+use Rattle.std.proofs.lemmas.List.{append-nil, map-append}
 use Rattle.wf_model.specs.Task.{Tuple}
 use Rattle.wf_counting.specs.Signs.{same_sign}
 use Rattle.wf_counting.specs.Obstruction.{Term, negated, parts, with_place}
@@ -20,17 +21,9 @@ prefixed ps ys positive term = record { positive = same_sign positive term.posit
 
 -- ---- lists
 
-nothing_more : {X : Type 0} (xs : List X) → xs ++ [] ≡ xs
-nothing_more [] = refl
-nothing_more (x ∷ xs) = ap (λ ys. x ∷ ys) (nothing_more xs)
-
-map_append : {X Y : Type 0} (f : X → Y) (xs ys : List X) → map f (xs ++ ys) ≡ map f xs ++ map f ys
-map_append f [] ys = refl
-map_append f (x ∷ xs) ys = ap (λ zs. f x ∷ zs) (map_append f xs ys)
-
 map_flat : {X Y Z : Type 0} (f : Y → Z) (g : X → List Y) (xs : List X) → map f (flat_map g xs) ≡ flat_map (λ x. map f (g x)) xs
 map_flat f g [] = refl
-map_flat f g (x ∷ xs) = map_append f (g x) (flat_map g xs) ∙ ap (λ zs. map f (g x) ++ zs) (map_flat f g xs)
+map_flat f g (x ∷ xs) = map-append f (g x) (flat_map g xs) ∙ ap (λ zs. map f (g x) ++ zs) (map_flat f g xs)
 
 flat_same : {X Y : Type 0} (f g : X → List Y) (xs : List X) → ((x : X) → f x ≡ g x) → flat_map f xs ≡ flat_map g xs
 flat_same f g [] h = refl
@@ -77,8 +70,8 @@ pub expanded_parts : (least : ℕ) (others ps : List ℕ) (ys : Tuple) (positive
     expanded least others ps ys positive weight xs zs ≡ map (prefixed ps ys positive) (parts least others weight xs zs)
 expanded_parts least others ps ys positive weight [] zs = λ i. record {
   positive = sym (same_positive positive) i;
-  labels = sym (nothing_more ps) i;
-  tuple = sym (nothing_more ys) i;
+  labels = sym (append-nil ps) i;
+  tuple = sym (append-nil ys) i;
   weight = weight;
 } ∷ []
 expanded_parts least others ps ys positive weight (x ∷ xs) [] = refl
@@ -91,7 +84,7 @@ expanded_parts least others ps ys positive weight (x ∷ xs) (z ∷ zs) =
           let taken = flat_same (λ b. expanded least others (ps ++ x ∷ []) (ys ++ b ∷ []) (not positive) weight xs zs) (λ b. map (prefixed ps ys positive) (with_value b)) others
           (λ b. expanded_parts least others (ps ++ x ∷ []) (ys ++ b ∷ []) (not positive) weight xs zs
           ∙ map_after (prefixed ps ys positive) (λ (term : Term). negated (with_place x b term)) (prefixed (ps ++ x ∷ []) (ys ++ b ∷ []) (not positive)) rest (negated_before ps ys positive x b)) in
-          rw first ((λ i. skipped i ++ taken i) ∙ ap (λ terms. map (prefixed ps ys positive) rest ++ terms) (sym (map_flat (prefixed ps ys positive) with_value others)) ∙ sym (map_append (prefixed ps ys positive) rest (flat_map with_value others)))
+          rw first ((λ i. skipped i ++ taken i) ∙ ap (λ terms. map (prefixed ps ys positive) rest ++ terms) (sym (map_flat (prefixed ps ys positive) with_value others)) ∙ sym (map-append (prefixed ps ys positive) rest (flat_map with_value others)))
       | inr other ↦
           rw other
           (expanded_parts least others (ps ++ x ∷ []) (ys ++ z ∷ []) positive weight xs zs

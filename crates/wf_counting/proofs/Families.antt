@@ -1,5 +1,5 @@
--- Families: a list of signed tuples for each list of labels, which agree on the parts that two of these
--- lists share.
+-- Families: a list of signed tuples for each list of labels, which agree on the parts that two of
+-- these lists share.
 use Rattle.std.proofs.Common.{◌≡◌, ℕ, ◌+◌, ◌≤◌, Bool, true, false, List, [], length}
 use Rattle.std.specs.List.{AllByRecursion}
 use Rattle.wf_model.specs.Lists.{has}

@@ -16,6 +16,6 @@ pub mod Groups
 pub mod Faces
 pub mod Settled
 -- Obstructions.
-pub mod Deciding
+pub mod FamilyOfMap
 pub mod Obstructed
 pub mod Tested

@@ -18,10 +18,6 @@ pub each : {X : Type 0} (P Q : X → Type 0) → ((x : X) → P x → Q x) → (
 each P Q f [] h = tt
 each P Q f (x ∷ xs) h = (f x h.0, each P Q f xs h.1)
 
-pub append_none : {X : Type 0} (xs : List X) → xs ++ [] ≡ xs
-append_none [] = refl
-append_none (x ∷ xs) = ap (λ ys. x ∷ ys) (append_none xs)
-
 pub pushed : {X : Type 0} (xs : List X) (x : X) → length (xs ++ x ∷ []) ≡ suc (length xs)
 pushed [] x = refl
 pushed (y ∷ xs) x = ap suc (pushed xs x)

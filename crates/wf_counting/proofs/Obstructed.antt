@@ -22,7 +22,7 @@ use Rattle.wf_counting.proofs.Expansion.{parts_expanded}
 use Rattle.wf_counting.proofs.Reduction.{Once, expanded_sum, hit, once_each, term_sum}
 use Rattle.wf_counting.proofs.Groups.{taken_away, vanish}
 use Rattle.wf_counting.proofs.Settled.{listed_rule, settled_everywhere}
-use Rattle.wf_counting.proofs.Deciding.{IsOfTask, ascending_of, family_of_map, simplex_of}
+use Rattle.wf_counting.proofs.FamilyOfMap.{IsOfTask, ascending_of, family_of_map, simplex_of}
 
 first_and_rest : (vs : List ℕ) → 0 < length vs → vs ≡ slice_index vs 0 ∷ drop 1 vs
 first_and_rest [] some = absurd (let bad : ⊥ = omega (arith, some) in bad)

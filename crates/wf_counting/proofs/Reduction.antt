@@ -3,6 +3,7 @@ use Rattle.std.proofs.Common.{◌≡◌, ℕ, suc, ◌+◌, ◌==◌, ◌&&◌, 
 use Rattle.std.specs.List.{AllByRecursion}
 use Rattle.std.specs.Cmp.Lexicographic.{pointwise}
 use Rattle.std.proofs.lemmas.Bool.{cases_Bool, eqb-true, ne_eqb, false≢true, or_cases}
+use Rattle.std.proofs.lemmas.List.{append-nil}
 use Rattle.wf_model.specs.Lists.{has}
 use Rattle.wf_model.specs.Task.{Tuple}
 use Rattle.wf_model.proofs.Ascending.{Ascends}
@@ -12,7 +13,7 @@ use Rattle.wf_counting.proofs.Families.{Family, HasKnownTuples, IsConsistent, si
 use Rattle.wf_counting.specs.Obstruction.{Term}
 use Rattle.wf_counting.proofs.Expansion.{expanded}
 use Rattle.wf_counting.proofs.Sums.{total_add, total_append, total_flat, total_none, total_same}
-use Rattle.wf_counting.proofs.Lists.{append_none, each, pushed, total_same_on}
+use Rattle.wf_counting.proofs.Lists.{each, pushed, total_same_on}
 
 -- the weight where the tuple counts once and is this one
 abbrev pub hit : ℕ → Tuple → Bool → Tuple → ℕ
@@ -115,9 +116,9 @@ signed_total f all b (x ∷ xs) =
     let d = total_add (λ v. f v (same_sign b x.0) x.1) (λ v. signed (f v) b xs) all in
     omega (arith, e, d)
 
-total_even : {X : Type 0} (a b c d : X → ℕ) (xs : List X) → ((x : X) → a x + b x ≡ c x + d x) → total a xs + total b xs ≡ total c xs + total d xs
-total_even a b c d [] h = refl
-total_even a b c d (x ∷ xs) h = let e = total_even a b c d xs h in let k = h x in omega (arith, e, k)
+totals_balance : {X : Type 0} (a b c d : X → ℕ) (xs : List X) → ((x : X) → a x + b x ≡ c x + d x) → total a xs + total b xs ≡ total c xs + total d xs
+totals_balance a b c d [] h = refl
+totals_balance a b c d (x ∷ xs) h = let e = totals_balance a b c d xs h in let k = h x in omega (arith, e, k)
 
 joined : (e : Bool) (a s f : Bool → ℕ) (xt xf yt yf : ℕ) → (a true + s true) + f false ≡ (a false + s false) + f true →
     xt + f (same_sign false e) ≡ xf + f (same_sign true e) → yt + s (same_sign false (not e)) ≡ yf + s (same_sign true (not e)) →
@@ -168,8 +169,8 @@ module _ (family : Family) (is : IsConsistent family) (known : List ℕ) (listed
       term_sum family true (expanded least others ds ys positive w xs zs) + signed (hit w (ys ++ zs)) (same_sign false positive) (family (ds ++ xs))
       ≡ term_sum family false (expanded least others ds ys positive w xs zs) + signed (hit w (ys ++ zs)) (same_sign true positive) (family (ds ++ xs))
   expanded_sum ds ys positive w [] [] small long many =
-      let a : signed (hit w (ys ++ [])) (same_sign false positive) (family (ds ++ [])) ≡ signed (hit w ys) (same_sign false positive) (family ds) = λ i. signed (hit w (append_none ys i)) (same_sign false positive) (family (append_none ds i)) in
-      let b : signed (hit w (ys ++ [])) (same_sign true positive) (family (ds ++ [])) ≡ signed (hit w ys) (same_sign true positive) (family ds) = λ i. signed (hit w (append_none ys i)) (same_sign true positive) (family (append_none ds i)) in
+      let a : signed (hit w (ys ++ [])) (same_sign false positive) (family (ds ++ [])) ≡ signed (hit w ys) (same_sign false positive) (family ds) = λ i. signed (hit w (append-nil ys i)) (same_sign false positive) (family (append-nil ds i)) in
+      let b : signed (hit w (ys ++ [])) (same_sign true positive) (family (ds ++ [])) ≡ signed (hit w ys) (same_sign true positive) (family ds) = λ i. signed (hit w (append-nil ys i)) (same_sign true positive) (family (append-nil ds i)) in
       omega (arith, a, b)
   expanded_sum ds ys positive w [] (z ∷ zs) small long many = absurd (let none : ⊥ = cc in none)
   expanded_sum ds ys positive w (x ∷ xs) [] small long many = absurd (let none : ⊥ = cc in none)
@@ -201,7 +202,7 @@ module _ (family : Family) (is : IsConsistent family) (known : List ℕ) (listed
             let sf = sum_of false in
             let r = reference w ds ys x xs zs long small in
             let h = expanded_sum ds ys positive w xs zs small_face long many_more in
-            let k = total_even (λ v. term_sum family true (with_value v)) (λ v. signed (hit w (ys ++ v ∷ zs)) (same_sign false (not positive)) (family (ds ++ x ∷ xs)))
+            let k = totals_balance (λ v. term_sum family true (with_value v)) (λ v. signed (hit w (ys ++ v ∷ zs)) (same_sign false (not positive)) (family (ds ++ x ∷ xs)))
             (λ v. term_sum family false (with_value v)) (λ v. signed (hit w (ys ++ v ∷ zs)) (same_sign true (not positive)) (family (ds ++ x ∷ xs))) others (λ v. next v (not positive)) in
             let whole = joined positive (λ b. signed (hit w (ys ++ least ∷ zs)) b (family (ds ++ x ∷ xs))) (λ b. total (λ v. signed (hit w (ys ++ v ∷ zs)) b (family (ds ++ x ∷ xs))) others) (λ b. signed (hit w (ys ++ zs)) b (family (ds ++ xs)))
             (term_sum family true face) (term_sum family false face) (total (λ v. term_sum family true (with_value v)) others) (total (λ v. term_sum family false (with_value v)) others) r h k in

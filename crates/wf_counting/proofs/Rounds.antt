@@ -7,7 +7,7 @@ use Rattle.wf_model.specs.Word.{Word, words}
 use Rattle.wf_model.specs.View.{View, base, seen, process_of, round, views_of, visible}
 use Rattle.wf_model.proofs.WellFormed.{words_long}
 use Rattle.wf_counting.specs.Signs.{same_sign, is_even_word, is_even, total, keep}
-use Rattle.wf_counting.proofs.Sums.{total_append, total_map, total_same, total_flat, total_balanced, keep_map, twice, turned_later}
+use Rattle.wf_counting.proofs.Sums.{total_append, total_map, total_same, total_flat, total_balanced, keep_map, not_not, twice, turned_later}
 use Rattle.wf_counting.proofs.Words.{all_cancel, alone, cancelled, counted, round_rows, rows, view_of, with_others}
 
 -- ---- one round
@@ -49,11 +49,7 @@ word_sum k b n old = total (λ w. k (same_sign b (is_even_word w)) (round old w)
 
 turned_words : (k : Bool → List View → ℕ) (n : ℕ) (old : List View) (b : Bool) → total (λ w. k (not (same_sign b (is_even_word w))) (round old w)) (words 1 n) ≡ word_sum k (not b) n old
 turned_words k n old true = refl
-turned_words k n old false = total_same (λ w. k (not (not (is_even_word w))) (round old w)) (λ w. k (is_even_word w) (round old w)) (words 1 n) (λ w. ap (λ c. k c (round old w)) (back (is_even_word w)))
-  where
-    back : (a : Bool) → not (not a) ≡ a
-    back true = refl
-    back false = refl
+turned_words k n old false = total_same (λ w. k (not (not (is_even_word w))) (round old w)) (λ w. k (is_even_word w) (round old w)) (words 1 n) (λ w. ap (λ c. k c (round old w)) (not_not (is_even_word w)))
 
 round_of_places : (k : Bool → List View → ℕ) (g : ℕ → View) (mask : List Bool) → length mask ≤ 4 →
     let n = length mask in

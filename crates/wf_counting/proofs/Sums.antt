@@ -11,11 +11,6 @@ twice false true c = refl
 twice false false true = refl
 twice false false false = refl
 
-pub turned : (a b : Bool) → same_sign (not a) b ≡ not (same_sign a b)
-turned true b = refl
-turned false true = refl
-turned false false = refl
-
 pub turned_later : (a b : Bool) → same_sign a (not b) ≡ not (same_sign a b)
 turned_later true b = refl
 turned_later false b = refl

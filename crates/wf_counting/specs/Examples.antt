@@ -37,7 +37,8 @@ one vs = 1
 abbrev zeros : ℕ → List View
 zeros n = base_views (map (λ p. (p, 0)) (below n))
 
--- of 13 executions of three in one round 7 are even, of 75 of four 38, and of 9 of two in two rounds 5
+-- of 13 executions of three in one round 7 are even, of 75 of four 38, and of 9 of two in two
+-- rounds 5
 pub three_in_one_round : evens one 1 (zeros 3) ∷ odds one 1 (zeros 3) ∷ [] ≡ 7 ∷ 6 ∷ []
 three_in_one_round = refl
 
@@ -69,8 +70,8 @@ parts_of_two_zeros = refl
 abbrev cancelling : Task → ℕ → List WeightedTuple → List Bool
 cancelling t modulus xs = map (λ rule. cancels_on modulus (labels t rule.input) (terms t xs)) t.delta
 
--- Consensus of two: process 0 alone decides 1, process 1 alone decides 0, and they decide 0 and 1, or 1
--- and 0. Each of the terms stands there twice or with both signs, but that of the empty face.
+-- Consensus of two: process 0 alone decides 1, process 1 alone decides 0, and they decide 0 and 1,
+-- or 1 and 0. Each of the terms stands there twice or with both signs, but that of the empty face.
 pub terms_of_consensus : terms consensus two_disagree
     ≡ term true (0 ∷ []) (1 ∷ []) 1
     ∷ term true [] [] 1 ∷ term false (257 ∷ []) (1 ∷ []) 1
@@ -88,8 +89,8 @@ consensus_cancels = refl
 pub consensus_by_three : cancelling consensus 3 two_disagree ≡ false ∷ true ∷ false ∷ []
 consensus_by_three = refl
 
--- Weak symmetry breaking of three: all decide 0, or all decide 1. Vertices have the same label, so each
--- of the terms on vertices and on edges stands there three times.
+-- Weak symmetry breaking of three: all decide 0, or all decide 1. Vertices have the same label, so
+-- each of the terms on vertices and on edges stands there three times.
 pub breaking_adds_up : adds_up 3 1 [] [] (terms (symmetry_breaking 3) three_alike) ≡ true
 breaking_adds_up = refl
 

@@ -1,5 +1,5 @@
--- What is known of the tasks of the field: consensus, set agreement, weak symmetry breaking and renaming
--- with too few names have no decision map, whatever the number of rounds.
+-- What is known of the tasks of the field: consensus, set agreement, weak symmetry breaking and
+-- renaming with too few names have no decision map, whatever the number of rounds.
 use Rattle.std.specs.Prelude.{ℕ, nat_le, nat_lt, ◌||◌, true, List, [], ◌∷◌, ◌++◌, map, filter, length, zip, None}
 use Rattle.wf_model.specs.Lists.{below, lists_of}
 use Rattle.wf_model.specs.Simplex.{complex_of}

@@ -9,8 +9,8 @@ use Rattle.wf_counting.specs.Signs.{evens, odds, keep}
 use Rattle.wf_counting.specs.Obstruction.{WeightedTuple, IsObstruction}
 
 -- A function of the last views of some participants of a simplex, added up over all executions with
--- their signs, gives what it gives over the executions of their face alone. What is taken away stands
--- on the other side.
+-- their signs, gives what it gives over the executions of their face alone. What is taken away
+-- stands on the other side.
 abbrev pub SignedExecutionsAgreeOnFaces : Type 0
 SignedExecutionsAgreeOnFaces = (h : List View → ℕ) (r : ℕ) (s : Simplex) (face : List Bool)
     → length s ≤ most_processes → length face ≡ length s

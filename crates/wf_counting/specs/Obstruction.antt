@@ -1,9 +1,9 @@
 -- Obstructions: why a task has no decision map after any number of rounds.
 --
 -- Some tuples that the task doesn't allow have weights. Whether the values at a simplex are a given
--- tuple is a sum of signed terms on the faces of the simplex: a place with the least value of the task
--- counts as 1 less the places with each other value. The weights of these terms cancel modulo a
--- number, face by face. The empty face alone keeps a sum that isn't 0.
+-- tuple is a sum of signed terms on the faces of the simplex: a place with the least value of the
+-- task counts as 1 less the places with each other value. The weights of these terms cancel modulo
+-- a number, face by face. The empty face alone keeps a sum that isn't 0.
 use Rattle.std.specs.Prelude.{◌≡◌, ◌<◌, ◌+◌, ◌*◌, ◌%◌, ◌==◌, ◌&&◌, ◌||◌, not, ℕ, Bool, true, false, List, [], ◌∷◌, ◌++◌, All, Contains, map, flat_map, drop, length, slice_index, sum_by, if◌then◌else◌}
 use Rattle.std.specs.List.{list_all, slice_index_or}
 use Rattle.std.specs.Cmp.Lexicographic.{pointwise}
@@ -25,8 +25,8 @@ no_rule = record { input = []; tuples = [] }
 abbrev pub rule_at : Task → ℕ → Rule
 rule_at t simplex = slice_index_or t.delta simplex no_rule
 
--- a value of O for each participant, which the task doesn't allow together, and a weight from 1 to the
--- modulus less 1
+-- a value of O for each participant, which the task doesn't allow together, and a weight from 1 to
+-- the modulus less 1
 pub record IsForbidden (t : Task) (modulus : ℕ) (x : WeightedTuple) : Type 0 where
   pub listed : x.simplex < length t.delta
   pub positive : 0 < x.weight
@@ -37,8 +37,8 @@ pub record IsForbidden (t : Task) (modulus : ℕ) (x : WeightedTuple) : Type 0 w
 
 -- ---- faces
 
--- what a face keeps of a vertex: in a symmetric task its input alone, since there processes are known
--- by their ranks; else a number that no other vertex has
+-- what a face keeps of a vertex: in a symmetric task its input alone, since there processes are
+-- known by their ranks; else a number that no other vertex has
 abbrev pub label : Bool → Vertex → ℕ
 label symmetric v = if symmetric then v.1 else v.0 * 256 + v.1
 
@@ -104,8 +104,8 @@ adds_up modulus sum labels tuple terms = weight_at true labels tuple terms % mod
 abbrev pub cancels_on : ℕ → List ℕ → List Term → Bool
 cancels_on modulus labels terms = list_all (λ term. not (same_numbers term.labels labels) || adds_up modulus 0 labels term.tuple terms) terms
 
--- Forbidden tuples whose terms cancel on each simplex of I, and add up to the sum on the empty face. In
--- the model of the task a word may begin with a block of any size.
+-- Forbidden tuples whose terms cancel on each simplex of I, and add up to the sum on the empty
+-- face. In the model of the task a word may begin with a block of any size.
 pub record IsObstruction (t : Task) (modulus sum : ℕ) (xs : List WeightedTuple) : Type 0 where
   pub all_words : first_block t ≡ 1
   pub some : 0 < sum

@@ -1,5 +1,5 @@
--- Signs of executions: the sign of an execution of n participants after r rounds is that of n * r less
--- the number of blocks in all its words.
+-- Signs of executions: the sign of an execution of n participants after r rounds is that of n * r
+-- less the number of blocks in all its words.
 use Rattle.std.specs.Prelude.{ℕ, suc, ◌+◌, ◌%◌, ◌==◌, max, not, Bool, true, false, List, [], ◌∷◌, length, fold, if◌then◌else◌}
 use Rattle.wf_model.specs.Lists.{lists_of}
 use Rattle.wf_model.specs.Word.{Word, words}

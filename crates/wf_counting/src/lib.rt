@@ -3,8 +3,8 @@
 //!
 //! Read `specs/Obstruction` first, and then `specs/Laws`. An obstruction is Sperner's lemma and the
 //! index lemma as a certificate: forbidden tuples with weights, whose signed terms cancel on each
-//! face. `specs/Signs` says what the sign of an execution is. The functions below are laws: a body is
-//! empty, and the clauses are what is proved.
+//! face. `specs/Signs` says what the sign of an execution is. The functions below are laws: a body
+//! is empty, and the clauses are what is proved.
 #![tactic(auto)]
 
 mod known_results;
