@@ -52,7 +52,7 @@ four_disagree = each_at 0 1 ((1 ∷ []) ∷ [])
     ++ each_at 1 1 ((0 ∷ []) ∷ (2 ∷ []) ∷ (3 ∷ []) ∷ [])
     ++ each_at 4 1 ((0 ∷ 1 ∷ []) ∷ (1 ∷ 0 ∷ []) ∷ (1 ∷ 2 ∷ []) ∷ (1 ∷ 3 ∷ []) ∷ (2 ∷ 1 ∷ []) ∷ (3 ∷ 1 ∷ []) ∷ [])
 
--- three processes decide three values, or some decide a value that isn't their input
+-- three processes decide three values, or some decide a value that is no participant's input
 abbrev pub three_decide_three : List WeightedTuple
 three_decide_three = each_at 1 1 ((0 ∷ []) ∷ (2 ∷ []) ∷ [])
     ++ each_at 2 1 ((1 ∷ []) ∷ [])
@@ -61,7 +61,7 @@ three_decide_three = each_at 1 1 ((0 ∷ []) ∷ (2 ∷ []) ∷ [])
     ++ each_at 5 1 ((0 ∷ 1 ∷ []) ∷ (1 ∷ 0 ∷ []) ∷ [])
     ++ each_at 6 1 ((0 ∷ 1 ∷ 2 ∷ []) ∷ (0 ∷ 2 ∷ 1 ∷ []) ∷ (1 ∷ 0 ∷ 2 ∷ []) ∷ (1 ∷ 2 ∷ 0 ∷ []) ∷ (2 ∷ 0 ∷ 1 ∷ []) ∷ (2 ∷ 1 ∷ 0 ∷ []) ∷ [])
 
--- four processes decide four values, or some decide a value that isn't their input
+-- four processes decide four values, or some decide a value that is no participant's input
 abbrev pub four_decide_four : List WeightedTuple
 four_decide_four = each_at 1 1 ((0 ∷ []) ∷ (2 ∷ []) ∷ (3 ∷ []) ∷ [])
     ++ each_at 2 1 ((1 ∷ []) ∷ [])
