@@ -65,7 +65,7 @@ def point_of(view, symmetric):
 
 class Complex:
     """The points of a task after some rounds, by number; and its executions: for each the points at its processes, and what is
-    allowed there; and for each its input simplex and its sign, which is 1 if participants times rounds less blocks is even, else -1."""
+    allowed there; and for each its input simplex and its sign. The sign is 1 if participants times rounds less blocks is even."""
 
     def __init__(self, task, rounds):
         inputs = inputs_of(task)
