@@ -106,7 +106,7 @@ def judge_tuple(found, inputs, allowed, values, it):
     if not 1 <= it.weight < found.modulus:
         raise Refused(f"53 WeightRange {it.line}", f"{at} the weight {it.weight} is not from 1 to {found.modulus - 1}")
     if len(it.values) != len(simplex):
-        words = f"{at} the tuple has {len(it.values)} values, and {len(simplex)} processes take part"
+        words = f"{at} {len(simplex)} processes take part, and the number of values is {len(it.values)}"
         raise Refused(f"54 TupleLength {it.line}", words)
     for value in it.values:
         if value not in values:
@@ -138,10 +138,11 @@ def judge(task, text):
     empty = sums.pop(((), ()), 0)
     if (empty - found.sum) % found.modulus:
         raise Refused("58 OtherSum", f"the sum on the empty face is {empty % found.modulus}, and not {found.sum}")
-    left = {face: rest for (face, rest), total in sums.items() if total % found.modulus}
+    left = {face: (list(rest), total % found.modulus) for (face, rest), total in sums.items() if total % found.modulus}
     for number, simplex in enumerate(inputs):
         face = face_of(task, simplex)
         if face in left:
-            words = f"the sum of {list(left[face])} on the face of input simplex {number}, {lint.shown(simplex)}, is not 0"
+            rest, total = left[face]
+            words = f"on the face of input simplex {number}, {lint.shown(simplex)}, the sum of the values {rest} is {total}, and not 0"
             raise Refused(f"59 NotCancelled {number}", words)
     return found
