@@ -5,6 +5,7 @@ import re
 import shlex
 import shutil
 import signal
+import subprocess
 import sys
 import tempfile
 
@@ -127,7 +128,7 @@ def command(solver, limits):
     with tempfile.TemporaryDirectory() as made:
         formula = pathlib.Path(made) / "one.cnf"
         formula.write_text("p cnf 1 1\n1 0\n")
-        how = {name: runs.subprocess.DEVNULL for name in ("stdin", "stdout", "stderr")}
+        how = {name: subprocess.DEVNULL for name in ("stdin", "stdout", "stderr")}
         try:
             status = Scope(limits).run(["kissat", "-q", NO_FACTOR, formula], Clock(10), **how)
         except (Late, OSError):
@@ -145,8 +146,11 @@ def refusal(said, task):
 
 def main(doc):
     words = asked(doc)
+    sys.stdout.reconfigure(errors="backslashreplace")
     for end in runs.ENDING:
-        signal.signal(end, lambda *_: runs.CUT_OFF.set())
+        # what is ignored, as after `nohup`, stays so
+        if signal.getsignal(end) != signal.SIG_IGN:
+            signal.signal(end, lambda *_: runs.CUT_OFF.set())
     try:
         return answered(words)
     except Stopped:
@@ -187,7 +191,9 @@ def decided(words, rounds, solver, room):
         if solver:
             those[shlex.split(solver)[0]] = lambda: attempt.by_solver(solver, words.clauses)
         answer = first(scope, those)
-        if answer and words.keep:
-            for file in answer.files:
+        for file in answer.files if answer and words.keep else []:
+            try:
                 placed(file, words.keep)
+            except OSError as error:
+                say(f"    {file.name} can't be kept: {error}")
     return answer and answer.word

@@ -5,7 +5,9 @@ import functools
 import pathlib
 import re
 import shlex
+import shutil
 import sys
+import threading
 
 import runs
 from notes import Notes, Room, placed
@@ -57,12 +59,12 @@ class Branches:
     def run(self, calls, up_to_map=False):
         """Has so many branches at once decided, in their order, each by a call that gets a scope. Where a map is enough, one ends all that
         goes on behind it; branches before it go on, since their maps are smaller."""
-        todo, going, maps = iter(calls.items()), {}, []
+        todo, going, maps, over = iter(calls.items()), {}, [], threading.Event()
 
         def some():
             for branch, call in todo:
                 going[branch] = scope = Scope(self.words.limits)
-                if up_to_map and maps:
+                if over.is_set() or runs.CUT_OFF.is_set() or up_to_map and any(it < branch for it in maps):
                     return
                 with contextlib.suppress(Stopped):
                     if answered(f"branch {branch}", functools.partial(call, scope)) == "map":
@@ -79,10 +81,9 @@ class Branches:
             try:
                 for job in concurrent.futures.as_completed([pool.submit(some) for _ in range(many)]):
                     job.result()
-            except BaseException:
-                todo = iter(())
+            finally:
+                over.set()
                 end(lambda it: True)
-                raise
         Scope(self.words.limits).go_on()
 
     def ask_all(self, chosen):
@@ -121,12 +122,11 @@ class Branches:
             checked = [branch for branch in maps if branch in self.fresh]
             return f"map, in branch {min(checked or maps)} of {self.count}" + ("" if checked else ", as noted"), "map"
         if nones < self.count:
-            told = f", {noted} of them as noted" if noted else ""
-            return f"not decided: none in {nones} of {self.count} branches{told}, and nothing is known of the others", None
-        how = "by a proof or a refutation that is accepted"
-        if noted:
-            return f"none: {nones - noted} of {self.count} branches {how}, the other {noted} as noted", "none"
-        return f"none: each of {self.count} branches {how}", "none"
+            return f"not decided: none in {nones} of {self.count} branches{as_noted(noted)}, and nothing is known of the others", None
+        if noted == nones:
+            return f"none: each of {self.count} branches as noted, and not checked in this run", "none"
+        some, others = (f"{nones - noted}", f", the other {noted} as noted") if noted else ("each", "")
+        return f"none: {some} of {self.count} branches by a proof or a refutation that is accepted{others}", "none"
 
     def join(self):
         """Puts the parts together where the search wrote one of each branch up to the first with a map: the report of the whole question,
@@ -140,13 +140,19 @@ class Branches:
             whole = Attempt(Question(self.words.task, self.rounds), made, Scope(self.words.limits), Clock(self.words.seconds))
             with open(whole.file("parts"), "xb") as text:
                 for part in parts:
-                    text.write(part.read_bytes())
+                    with open(part, "rb") as read:
+                        shutil.copyfileobj(read, text)
             ended = whole.wfcheck(["join", *whole.question.about], whole.file("parts"), whole.file("report"))
             say(f"    wfcheck join: {'the report of the whole' if ended.status == 0 else ended.why()} ({ended.taken:.2f} s)")
             if ended.status == 0 and whole.accepted("verify", whole.file("report")):
                 placed(whole.file("report"), self.words.keep)
                 # all that was joined is checked in this run, also what was noted before
                 self.fresh |= {branch: known[branch].word for branch in range(first_map + 1)}
+
+
+def as_noted(number):
+    """How many branches were not checked in this run, in words."""
+    return f", {number} of them as noted" if number else ""
 
 
 def branch_count(words):
@@ -207,13 +213,14 @@ def of_chosen(branches, chosen):
     known = branches.known()
     decided = [branch for branch in chosen if branch in known]
     maps = [branch for branch in decided if known[branch] == "map"]
+    noted = [branch for branch in decided if branch not in branches.fresh]
     if branches.words.branch is not None:
         note = branches.notes.of(chosen[0])
-        text = note.line().strip() if note else "not decided"
+        text = (note.line().strip() if note else known.get(chosen[0], "not decided")) + (", as noted" if noted else "")
     elif maps:
-        text = f"map, in branch {min(maps)} of {branches.count}"
+        text = f"map, in branch {min(maps)} of {branches.count}" + (", as noted" if min(maps) in noted else "")
     else:
-        text = f"none in {len(decided)} of the {len(chosen)} branches of this share"
+        text = f"none in {len(decided)} of the {len(chosen)} branches of this share{as_noted(len(noted))}"
     return text, 0 if maps or len(decided) == len(chosen) else STATUS[None]
 
 
@@ -234,9 +241,9 @@ def main(words, solver):
         print(array(words, count))
         return 0
     chosen = chosen_of(words, count)
-    with contextlib.nullcontext() if words.tally else Room(words.keep) as room:
+    with Room(None if words.looks else words.keep) as room:
         branches = Branches(words, solver, room, count)
-        if not branches.notes.about(words.task, branches.rounds, room):
+        if not branches.notes.about(words.task, branches.rounds, None if words.looks else room):
             raise Refused(f"{words.keep} has no notes about this question: choose another folder")
         rounds = "round" if branches.rounds == 1 else "rounds"
         say(f"{words.task.stem} after {branches.rounds} {rounds}, {count} branches, {len(branches.notes.all())} of them known:")
@@ -251,10 +258,7 @@ def main(words, solver):
             text, status = of_chosen(branches, chosen)
             say(f"    {text}")
             return status
-        try:
-            branches.join()
-        except Late:
-            say(f"    wfcheck join: no end within {words.seconds:g} s")
+        answered("wfcheck join", branches.join)
         return ended(*branches.told(branches.known()))
 
 

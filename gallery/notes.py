@@ -16,13 +16,20 @@ import tempfile
 import typing
 
 ROOMS, LOCK = ".ask-", "lock"
-LINE = re.compile(r"(?P<word>map|none), by (?P<who>.*) in (?P<taken>[\d.]+) s, (?P<size>\d+) bytes with SHA-256 (?P<digest>[0-9a-f]{64}) in (?P<name>[^/\n]+)\n")
+LINE = re.compile(
+    r"(?P<word>map|none), by (?P<who>.*) in (?P<taken>[\d.]+) s, "
+    r"(?P<size>\d+) bytes with SHA-256 (?P<digest>[0-9a-f]{64}) in (?P<name>[^/\n]+)\n")
+# so that the names of files are read as they are written
+TEXT = {"encoding": "utf-8", "errors": "surrogateescape"}
 
 
 def digest(file):
     """The SHA-256 of a file."""
+    found = hashlib.sha256()
     with open(file, "rb") as text:
-        return hashlib.file_digest(text, "sha256").hexdigest()
+        while piece := text.read(1 << 20):
+            found.update(piece)
+    return found.hexdigest()
 
 
 class Room:
@@ -44,8 +51,8 @@ class Room:
         return self
 
     def __exit__(self, *_):
-        self.lock.close()
         shutil.rmtree(self.path, ignore_errors=True)
+        self.lock.close()
 
     @contextlib.contextmanager
     def attempt(self):
@@ -100,7 +107,7 @@ class Notes:
         self.seen, self.doubts, self.refused = {}, {}, set()
 
     def about(self, task, rounds, room):
-        """Whether the folder is about this question; a folder that is about none yet is from now on."""
+        """Whether the folder is about this question. One that is about none yet is from now on, where there is a room for that."""
         about = f"{digest(task)} {rounds} {self.count}\n"
         if room:
             with room.attempt() as made:
@@ -108,13 +115,13 @@ class Notes:
                 with contextlib.suppress(FileExistsError):
                     os.link(made / "question", self.folder / "question")
         file = self.folder / "question"
-        return file.is_file() and file.read_text(errors="replace") == about
+        return file.is_file() and file.read_text(**TEXT) == about
 
     def of(self, branch):
         """The note of a branch; None where there is none that is to be trusted."""
         self.doubts.pop(branch, None)
         try:
-            with open(self.folder / f"branch-{branch}", errors="replace") as file:
+            with open(self.folder / f"branch-{branch}", **TEXT) as file:
                 found = LINE.fullmatch(file.read(1 << 14))
         except FileNotFoundError:
             return None
@@ -150,7 +157,7 @@ class Notes:
         size, name = certificate.stat().st_size, placed(certificate, self.folder).name
         note = Note(answer.word, answer.who, f"{answer.taken:.2f}", size, digest(certificate), name)
         line, place = made / "note", self.folder / f"branch-{branch}"
-        line.write_text(note.line())
+        line.write_text(note.line(), **TEXT)
         try:
             os.link(line, place)
         except FileExistsError:

@@ -2,6 +2,7 @@
 import concurrent.futures
 import re
 import shlex
+import subprocess
 import typing
 
 import runs
@@ -12,7 +13,6 @@ CLAUSES = re.compile(rb"^p cnf \d+ (\d+)$", re.M)
 HEAD = 1 << 14
 EMPTY = re.compile(rb"\n(?=\n)")
 SAYS = re.compile(rb"(?:s )?(UN)?SAT(?:ISFIABLE)?\s*")
-ACCEPTED = re.compile(r"accepted (map|least|none)( in branch \d+ of \d+)? at \d+ rounds?\s*")
 PLACES = {"formula": "cnf", "proof": "drat", "output": "out"}
 
 
@@ -36,6 +36,8 @@ class Question:
         self.about = ["--task", task, "--rounds", rounds]
         self.branch = [] if branch is None else ["--branch", branch]
         self.name = "-".join(map(str, [task.stem, rounds, *self.branch[1:]]))
+        where = f" in branch {branch} of {count}" if self.branch else ""
+        self.accepted = re.compile(rf"accepted (map|least|none){where} at {rounds} rounds?\s*")
 
     def who(self, name):
         """Who says something, with the branch that it is about."""
@@ -69,7 +71,7 @@ class Attempt:
         except Late:
             say(f"    wfcheck {command}: {question.who('no end')} within the {self.clock.seconds:g} s that the question has")
             raise
-        found = ACCEPTED.fullmatch(ended.said) if ended.status == 0 else None
+        found = question.accepted.fullmatch(ended.said) if ended.status == 0 else None
         say(f"    wfcheck {command}: {ended.said.strip() if found else question.who(ended.why())} ({ended.taken:.2f} s)")
         return {"least": "map"}.get(found[1], found[1]) if found else None
 
@@ -93,7 +95,10 @@ class Attempt:
         self.tell(SEARCH, f"says {word} in {ended.taken:.2f} s")
         if is_whole and word == "none":
             report.unlink()
-            self.solve(report)
+            lines = self.solve(report)
+            if lines.status != 1:
+                self.tell(SEARCH, f"has no refutation: {lines.why()}")
+                return None
         accepted = self.accepted("verify", report)
         return Answer(word, SEARCH, ended.taken, [report]) if accepted == word else None
 
@@ -126,7 +131,7 @@ class Attempt:
         begun = self.clock.taken()
         with open(self.file("said"), "xb") as said:
             words = [word.format(**names) for word in solver]
-            status = self.scope.run(words, self.clock, stdin=runs.subprocess.DEVNULL, stdout=said, stderr=said)
+            status = self.scope.run(words, self.clock, stdin=subprocess.DEVNULL, stdout=said, stderr=said)
         if status < 0:
             self.tell(solver[0], f"has no answer: {runs.Ended(status, '', 0).why()}")
             return None
@@ -189,7 +194,7 @@ def answered(name, ask):
     except Late:
         return None
     except OSError as error:
-        say(f"    {name} can't be asked: {error}")
+        say(f"    {name} has no answer: {error}")
         return None
 
 
