@@ -95,12 +95,21 @@ class Attempt:
         self.tell(SEARCH, f"says {word} in {ended.taken:.2f} s")
         if is_whole and word == "none":
             report.unlink()
-            lines = self.solve(report)
-            if lines.status != 1:
-                self.tell(SEARCH, f"has no refutation: {lines.why()}")
+            if not self.has_lines(report):
                 return None
         accepted = self.accepted("verify", report)
         return Answer(word, SEARCH, ended.taken, [report]) if accepted == word else None
+
+    def has_lines(self, report):
+        """Has the search write the lines of its refutation, and says why where it doesn't."""
+        try:
+            ended = self.solve(report)
+        except Late:
+            self.tell(SEARCH, f"has written no refutation within the {self.clock.seconds:g} s that the question has")
+            raise
+        if ended.status != 1:
+            self.tell(SEARCH, f"has no refutation: {ended.why()}")
+        return ended.status == 1
 
     def write_formula(self, most):
         """Writes the formula, where it has no more clauses than a limit."""
