@@ -175,18 +175,19 @@ def answered(words):
     with Room(words.keep) as room:
         for rounds in words.rounds:
             say(f"{words.task.stem} after {rounds} {'round' if rounds == 1 else 'rounds'}:")
-            answer = decided(words, rounds, solver, room)
-            say(f"    {answer or f'not decided within {words.seconds:g} s'}")
+            clock = Clock(words.seconds)
+            answer = decided(words, rounds, solver, room, clock)
+            say(f"    {answer or 'not decided' + (f' within {words.seconds:g} s' if clock.taken() >= words.seconds else '')}")
             if answer == "map":
                 break
     return branches.STATUS[answer]
 
 
-def decided(words, rounds, solver, room):
+def decided(words, rounds, solver, room, clock):
     """The answer of the first that has one within the limit, and None where nobody has."""
     with room.attempt() as made:
         scope = Scope(words.limits)
-        attempt = Attempt(Question(words.task, rounds), made, scope, Clock(words.seconds))
+        attempt = Attempt(Question(words.task, rounds), made, scope, clock)
         those = {SEARCH: attempt.by_search}
         if solver:
             those[shlex.split(solver)[0]] = lambda: attempt.by_solver(solver, words.clauses)

@@ -44,8 +44,9 @@ class Room:
             for left in self.keep.glob(f"{ROOMS}*"):
                 sweep(left)
         self.path = pathlib.Path(tempfile.mkdtemp(prefix=ROOMS, dir=self.keep))
-        self.lock = open(self.path / f"{LOCK}.new", "xb")
+        self.lock = open(self.path / f"{LOCK}.new", "x")
         with contextlib.suppress(OSError):
+            print(os.uname().nodename, file=self.lock, flush=True)
             fcntl.flock(self.lock, fcntl.LOCK_EX | fcntl.LOCK_NB)
             (self.path / f"{LOCK}.new").rename(self.path / LOCK)
         return self
@@ -65,11 +66,12 @@ class Room:
 
 
 def sweep(room):
-    """Takes away the room of a run that is gone."""
-    with contextlib.suppress(OSError):
-        with open(os.open(room / LOCK, os.O_RDWR | os.O_NOFOLLOW), "rb") as lock:
-            fcntl.flock(lock, fcntl.LOCK_EX | fcntl.LOCK_NB)
-            shutil.rmtree(room, ignore_errors=True)
+    """Takes away the room of a run that is gone. That of another machine stays, since its lock may not be seen from here."""
+    with contextlib.suppress(OSError, ValueError):
+        with open(os.open(room / LOCK, os.O_RDWR | os.O_NOFOLLOW)) as lock:
+            if lock.read(1 << 10).strip() == os.uname().nodename:
+                fcntl.flock(lock, fcntl.LOCK_EX | fcntl.LOCK_NB)
+                shutil.rmtree(room, ignore_errors=True)
 
 
 def placed(file, folder):
