@@ -8,6 +8,9 @@ import pathlib
 import sys
 
 sys.dont_write_bytecode = True
+# numbers in texts may have any number of digits, of which Python reads 4,300 if it isn't told
+if hasattr(sys, "set_int_max_str_digits"):
+    sys.set_int_max_str_digits(0)
 ROOT = pathlib.Path(__file__).resolve().parent.parent
 BUILT = ROOT / "bin/wfcheck"
 

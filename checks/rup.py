@@ -1,7 +1,7 @@
 #!/usr/bin/env python3
 """rup.py TASK ROUNDS < PROOF: whether a clausal proof refutes the question of a task, straight from docs/FORMAT.md.
 
-What `wfcheck proof` answers, byte for byte, and slowly: it shares nothing with the program, and is here to be read. A proof is
+What `wfcheck proof` answers, byte for byte, and slowly, most of all a number of millions of digits: it shares nothing with the program, and is here to be read. A proof is
 lemmas and deletions. A lemma follows where unit propagation, with all its literals false, makes a clause that is kept false.
 Literals that hold without an assumption hold from then on, whatever is deleted. Its status is 0 where the proof is accepted, else 2."""
 import collections
