@@ -25,7 +25,7 @@ quick:
 test:
 	checks/gate
 
-# Mutates the definitions one by one; an example or a law has to refuse each. Some six minutes.
+# Mutates the definitions one by one; an example or a law has to refuse each. Some ten minutes.
 definitions:
 	checks/mutate
 

@@ -3,8 +3,8 @@
 
 What `wfcheck verify` answers, byte for byte, and slowly: it shares nothing with the program, and is here to be read. A line is cut
 at its spaces. A box is a set of values for each point, each box that is left is copied, and each tuple is tried for each value. The
-task is read by gallery/lint.py, and its executions and points are those of gallery/second_opinion.py. Its status is 0 where the
-report is accepted, else 2."""
+task is read by gallery/lint.py, and its executions and points are those of gallery/second_opinion.py. An obstruction is judged by
+gallery/obstructions.py. Its status is 0 where the report is accepted, else 2."""
 import itertools
 import pathlib
 import sys
@@ -13,6 +13,7 @@ import common
 
 sys.path.insert(0, str(common.ROOT / "gallery"))
 import lint  # noqa: E402
+import obstructions  # noqa: E402
 import second_opinion  # noqa: E402
 
 LONGEST, MOST_ROUNDS, MOST_EXECUTIONS = 16_777_216, 8, 500_000
@@ -130,8 +131,19 @@ def check_lines(made, lines, least=None):
         raise Refused("28 Unfinished")
 
 
+def at_rounds(rounds):
+    return f"at {rounds} round{'s' if rounds != 1 else ''}"
+
+
 def accepted(task, text, rounds=None):
-    """What is answered about a report that is accepted; with rounds, those that it has to be about."""
+    """What is answered about a report that is accepted; with rounds, those that it has to be about. An obstruction is about all."""
+    said = text.decode("latin-1")
+    if obstructions.is_obstruction(said):
+        try:
+            obstructions.judge(task, said)
+        except obstructions.Refused as refused:
+            raise Refused(refused.line)
+        return f"accepted none {'at every number of rounds' if rounds is None else at_rounds(rounds)}"
     header, answer, body = read(text)
     if rounds not in (None, header[1]):
         raise Refused("36 OtherRounds")
@@ -150,7 +162,7 @@ def accepted(task, text, rounds=None):
         check_map(made, values)
     if answer != "map":
         check_lines(made, [it for it in body if it[1] != "m"], values if answer == "least" else None)
-    return f"accepted {answer}" if rounds is None else f"accepted {answer} at {rounds} round{'s' if rounds != 1 else ''}"
+    return f"accepted {answer}" if rounds is None else f"accepted {answer} {at_rounds(rounds)}"
 
 
 def judged(task, text, rounds=None):

@@ -1,178 +1,268 @@
-"""A question branch by branch, for gallery/ask: each is a job of its own, and what is accepted of one is noted in a folder.
-
-A note is a file `branch-I` with one line, which is written whole or not at all: so a run that was cut off leaves no half of one, and
-a branch that has a note is not asked again. The folder says which question it is about, and is refused for another one."""
+"""A question branch by branch, for gallery/ask: each is a job of its own, and what is accepted of one is noted in the folder of --keep."""
 import concurrent.futures
-import hashlib
-import os
+import contextlib
+import functools
 import pathlib
 import re
 import shlex
-import subprocess
+import shutil
 import sys
-import time
+import threading
 
-FILES = {"none": ["said", "out"], "map": ["cnf", "said", "out", "drat"]}
+import runs
+from notes import Notes, Room, placed
+from questions import Attempt, Question, answered
+from runs import Clock, Late, Refused, Scope, Stopped, Undecided, say
 
-
-class Notes:
-    """What is known of the branches of one question."""
-
-    def __init__(self, ask, folder, task, rounds, count):
-        self.folder, self.count = folder, count
-        digest = hashlib.sha256(task.read_bytes()).hexdigest()
-        about = f"{digest} {rounds} {count}\n"
-        if not (folder / "question").is_file():
-            self.write("question", about)
-        elif (folder / "question").read_text() != about:
-            ask.refuse(f"{folder} has notes about another question: choose another folder")
-
-    def write(self, name, text):
-        part = self.folder / f".{name}.{os.getpid()}.{time.monotonic_ns()}"
-        part.write_text(text)
-        part.rename(self.folder / name)
-
-    def of(self, branch):
-        """The note of a branch; None where there is none."""
-        file = self.folder / f"branch-{branch}"
-        return file.read_text().strip() if file.is_file() else None
-
-    def all(self):
-        return {branch: note for branch in range(self.count) if (note := self.of(branch))}
+STATUS = {"map": 0, "none": 1, None: 3}
+MOST_JOBS, SHOWN = 1000, 40
 
 
-def branch_count(ask, task, rounds):
-    """How many branches there are. Where the question is refused, that is the end."""
-    status, said, _ = ask.program(["branches", "--rounds", rounds], task)
-    if status:
-        ask.refuse_question(said, task)
-    return int(next(line.split()[1] for line in said.split("\n") if line.startswith("branches ")))
+class Branches:
+    """The branches of one question, with what is known of them."""
+
+    def __init__(self, words, solver, room, count):
+        self.words, self.solver, self.room, self.count = words, solver, room, count
+        self.rounds = words.rounds[0]
+        self.notes = Notes(words.keep, count)
+        # what was accepted in this run, by branch
+        self.fresh = {}
+
+    def attempt(self, branch, made, scope):
+        question = Question(self.words.task, self.rounds, branch, self.count)
+        return Attempt(question, made, scope, Clock(self.words.seconds))
+
+    def ask(self, branch, scope):
+        """Asks the solver about a branch, or the search where there is none, and notes what is accepted of it."""
+        if note := self.notes.of(branch):
+            return note.word
+        with self.room.attempt() as made:
+            attempt = self.attempt(branch, made, scope)
+            answer = attempt.by_solver(self.solver, self.words.clauses) if self.solver else attempt.by_search()
+            if answer:
+                self.notes.keep(branch, answer, made)
+                self.fresh[branch] = answer.word
+            return answer and answer.word
+
+    def recheck(self, branch, note, scope):
+        """Has what a note names accepted again: a proof, or a part."""
+        with self.room.attempt() as made:
+            name = self.words.keep / note.name
+            word = self.attempt(branch, made, scope).accepted("proof" if name.suffix == ".drat" else "verify", name)
+            if word == note.word:
+                self.fresh[branch] = word
+            else:
+                say(f"    the note of branch {branch} is not trusted: {note.name} is not accepted as {note.word}")
+                self.notes.refused.add(note)
+            return word
+
+    def run(self, calls, up_to_map=False):
+        """Has so many branches at once decided, in their order, each by a call that gets a scope. Where a map is enough, one ends all that
+        goes on behind it; branches before it go on, since their maps are smaller."""
+        todo, going, maps, over = iter(calls.items()), {}, [], threading.Event()
+
+        def some():
+            for branch, call in todo:
+                going[branch] = scope = Scope(self.words.limits)
+                if over.is_set() or runs.CUT_OFF.is_set() or up_to_map and any(it < branch for it in maps):
+                    return
+                with contextlib.suppress(Stopped):
+                    if answered(f"branch {branch}", functools.partial(call, scope)) == "map":
+                        maps.append(branch)
+                        end(lambda it: up_to_map and it > branch)
+
+        def end(is_over):
+            for branch, scope in list(going.items()):
+                if is_over(branch):
+                    scope.end()
+
+        many = self.words.jobs or 1
+        with concurrent.futures.ThreadPoolExecutor(many) as pool:
+            try:
+                for job in concurrent.futures.as_completed([pool.submit(some) for _ in range(many)]):
+                    job.result()
+            finally:
+                over.set()
+                end(lambda it: True)
+        Scope(self.words.limits).go_on()
+
+    def ask_all(self, chosen):
+        """Asks about those branches that have no note, up to the first map. A map that is noted is accepted again first."""
+        known = self.notes.all()
+        self.tell_doubts()
+        maps = {branch: note for branch, note in known.items() if note.word == "map" and branch in chosen}
+        self.run({branch: functools.partial(self.recheck, branch, note) for branch, note in maps.items()})
+        if "map" not in self.fresh.values():
+            left = [branch for branch in chosen if branch not in known or branch in maps]
+            self.run({branch: functools.partial(self.ask, branch) for branch in left}, up_to_map=True)
+
+    def recheck_all(self):
+        """Has all that is noted accepted again."""
+        known = self.notes.all()
+        self.tell_doubts()
+        self.run({branch: functools.partial(self.recheck, branch, note) for branch, note in known.items()})
+
+    def tell_doubts(self):
+        """Says which notes are not trusted, and why."""
+        for branch, why in self.notes.doubts.items():
+            say(f"    the note of branch {branch} is not trusted: {why}")
+
+    def known(self):
+        """What is accepted in this run or noted, by branch."""
+        return {branch: note.word for branch, note in self.notes.all().items()} | self.fresh
+
+    def told(self, known):
+        """What is known comes to, in words, and the answer. What was not checked in this run is told as noted."""
+        maps = [branch for branch, word in known.items() if word == "map"]
+        nones = len(known) - len(maps)
+        noted = sum(branch not in self.fresh for branch in known if branch not in maps)
+        if not self.count:
+            return "none: the question has no branch", "none"
+        if maps:
+            checked = [branch for branch in maps if branch in self.fresh]
+            return f"map, in branch {min(checked or maps)} of {self.count}" + ("" if checked else ", as noted"), "map"
+        if nones < self.count:
+            return f"not decided: none in {nones} of {self.count} branches{as_noted(noted)}, and nothing is known of the others", None
+        if noted == nones:
+            return f"none: each of {self.count} branches as noted, and not checked in this run", "none"
+        some, others = (f"{nones - noted}", f", the other {noted} as noted") if noted else ("each", "")
+        return f"none: {some} of {self.count} branches by a proof or a refutation that is accepted{others}", "none"
+
+    def join(self):
+        """Puts the parts together where the search wrote one of each branch up to the first with a map: the report of the whole question,
+        which is checked. Where a solver was asked about some of them there is none."""
+        known = self.notes.all()
+        first_map = next((branch for branch, note in known.items() if note.word == "map"), self.count - 1)
+        parts = [self.words.keep / known[branch].name for branch in range(first_map + 1) if branch in known]
+        if len(parts) <= first_map or any(it.suffix != ".report" for it in parts) or not parts:
+            return
+        with self.room.attempt() as made:
+            whole = Attempt(Question(self.words.task, self.rounds), made, Scope(self.words.limits), Clock(self.words.seconds))
+            with open(whole.file("parts"), "xb") as text:
+                for part in parts:
+                    with open(part, "rb") as read:
+                        shutil.copyfileobj(read, text)
+            ended = whole.wfcheck(["join", *whole.question.about], whole.file("parts"), whole.file("report"))
+            say(f"    wfcheck join: {'the report of the whole' if ended.status == 0 else ended.why()} ({ended.taken:.2f} s)")
+            if ended.status == 0 and whole.accepted("verify", whole.file("report")):
+                placed(whole.file("report"), self.words.keep)
+                # all that was joined is checked in this run, also what was noted before
+                self.fresh |= {branch: known[branch].word for branch in range(first_map + 1)}
 
 
-def begin(question, solver):
-    """Has the solver, or the search where there is none, begin with a question."""
-    if not solver:
-        return question.begin_search()
-    question.write_formula()
-    return question.begin_solver(solver)
+def as_noted(number):
+    """How many branches were not checked in this run, in words."""
+    return f", {number} of them as noted" if number else ""
 
 
-def decide(ask, notes, task, rounds, branch, solver, seconds):
-    """Asks about a branch, as `answered` does; of one that was cut off nothing is kept."""
-    question = ask.Question(task, rounds, notes.folder, branch)
-    question.clear()
+def branch_count(words):
+    """How many branches there are."""
     try:
-        return answered(ask, notes, question, branch, solver, seconds)
-    except ask.Stopped:
-        question.clear()
-        raise
+        ended = Scope(words.limits).wfcheck(["branches", "--rounds", words.rounds[0]], Clock(words.seconds), words.task)
+    except Late:
+        raise Undecided(f"the branches are not listed within {words.seconds:g} s")
+    if ended.status == 2:
+        raise Refused(ended.said)
+    found = re.search(r"^branches (\d+)$", ended.said, re.M)
+    if ended.status or not found:
+        raise Undecided(f"the branches are not listed: {ended.why()}")
+    return int(found[1])
 
 
-def answered(ask, notes, question, branch, solver, seconds):
-    """Asks the solver about a branch, or the search where there is none, and notes what is accepted of it."""
-    begun, is_late = time.monotonic(), False
-    run = begin(question, solver)
-    try:
-        run.wait(seconds)
-    except subprocess.TimeoutExpired:
-        is_late = True
-    finally:
-        run.kill()
-        run.wait()
-    ask.go_on()
-    if is_late:
-        question.clear()
-        return None
-    taken = time.monotonic() - begun
-    who = solver.split()[0] if solver else "the search"
-    answer = question.of_solver(question.who(who), taken) if solver else question.of_search(taken)
-    if answer:
-        size = question.file("drat" if solver else "report").stat().st_size if answer == "none" else 0
-        notes.write(f"branch-{branch}", f"{answer}, by {who} in {taken:.2f} s" + (f", {size} bytes of proof" if size else "") + "\n")
-        for kind in ["cnf", *FILES[answer]]:
-            question.file(kind).unlink(missing_ok=True)
-    return answer
-
-
-def run_jobs(ask, notes, words, rounds, solver, chosen):
-    """Asks about the branches that have no note, so many at once, up to the first map."""
-    left = [branch for branch in chosen if not notes.of(branch)]
-    pool = concurrent.futures.ThreadPoolExecutor(words.jobs or 1)
-    try:
-        jobs = [pool.submit(decide, ask, notes, words.task, rounds, branch, solver, words.seconds) for branch in left]
-        for job in concurrent.futures.as_completed(jobs):
-            if job.result() == "map":
-                break
-    except KeyboardInterrupt:
-        ask.stop()
-        raise
-    finally:
-        pool.shutdown(cancel_futures=True)
-
-
-def told(notes):
-    """What all notes come to, in words, and the answer."""
-    known = notes.all()
-    maps = [branch for branch, note in known.items() if note.startswith("map")]
-    nones = len(known) - len(maps)
-    if not notes.count:
-        return "none: the question has no branch", "none"
-    if maps:
-        return f"map, in branch {min(maps)} of {notes.count}", "map"
-    if nones == notes.count:
-        return f"none: each of {notes.count} branches by a proof or a refutation that is accepted", "none"
-    return f"not decided: none in {nones} of {notes.count} branches, and nothing is known of the others", None
-
-
-def joined(ask, notes, words, rounds):
-    """Puts the parts together where the search wrote one of each branch up to the first with a map: the report of the whole question,
-    which is checked. Where a solver was asked about some of them there is none."""
-    known = notes.all()
-    first_map = next((branch for branch, note in known.items() if note.startswith("map")), notes.count - 1)
-    parts = [ask.Question(words.task, rounds, notes.folder, branch).file("report") for branch in range(first_map + 1)]
-    if not all(branch in known and part.is_file() and part.stat().st_size for branch, part in enumerate(parts)):
-        return
-    whole = ask.Question(words.task, rounds, notes.folder)
-    with open(whole.file("parts"), "wb") as text:
-        for part in parts:
-            text.write(part.read_bytes())
-    status, report, taken = ask.program(["join", *whole.about], whole.file("parts"))
-    print(f"    wfcheck join: {'the report of the whole' if status == 0 else report.strip()} ({taken:.2f} s)", flush=True)
-    whole.file("parts").unlink()
-    if status == 0:
-        whole.file("report").write_text(report)
-        ask.checked(["verify", *whole.about], whole.file("report"), None)
-
-
-def array(words, rounds, count):
-    """The script of an array of jobs, one for each branch."""
-    command = [sys.argv[0], words.task, rounds, "--keep", words.keep, "--seconds", f"{words.seconds:g}"]
+def array(words, count):
+    """The script of an array of jobs, one for each branch or, where these are too many, for a share of them."""
+    jobs = min(count, MOST_JOBS)
+    command = [pathlib.Path(sys.argv[0]).resolve(), words.task.resolve(), words.rounds[0], "--keep", words.keep.resolve()]
+    command += ["--seconds", f"{words.seconds:g}", "--memory", f"{words.memory:g}", "--disk", f"{words.disk:g}", "--clauses", words.clauses]
     command += ["--solver", words.solver] if words.solver else []
+    which = '--branch "$SLURM_ARRAY_TASK_ID"' if jobs == count else f'--share "$SLURM_ARRAY_TASK_ID/{jobs}"'
     return "\n".join([
         "#!/bin/sh",
-        f"#SBATCH --job-name={re.sub('[^a-zA-Z0-9_-]', '-', words.task.stem)}-{rounds}",
-        f"#SBATCH --array=0-{count - 1}",
+        f"#SBATCH --job-name={re.sub('[^a-zA-Z0-9_-]', '-', words.task.stem)}-{words.rounds[0]}",
+        f"#SBATCH --array=0-{jobs - 1}",
         f"cd {shlex.quote(str(pathlib.Path.cwd()))} || exit 2",
-        f'exec {shlex.join(map(str, command))} --branch "$SLURM_ARRAY_TASK_ID"',
+        f"exec {shlex.join(map(str, command))} {which}",
     ])
 
 
-def main(ask, words, solver):
-    rounds = words.rounds[0]
-    count = branch_count(ask, words.task, rounds)
-    if words.array and not count:
-        ask.refuse("there is no branch, so no array is needed: ask without --array")
+def shown(numbers):
+    """Numbers in words, those that follow one another as FIRST..LAST, up to a limit."""
+    ranges = []
+    for number in numbers:
+        if ranges and ranges[-1][1] == number - 1:
+            ranges[-1][1] = number
+        else:
+            ranges.append([number, number])
+    words = [str(first) if first == last else f"{first}..{last}" for first, last in ranges]
+    return ", ".join(words[:SHOWN]) + (", .." if len(words) > SHOWN else "")
+
+
+def tally(branches):
+    """Says what is noted, and what is missing, and asks nothing."""
+    known = branches.known()
+    branches.tell_doubts()
+    for word in ("map", "none"):
+        if found := [branch for branch, it in known.items() if it == word]:
+            say(f"    {word}: {len(found)} of {branches.count} branches: {shown(found)}")
+    if missing := [branch for branch in range(branches.count) if branch not in known]:
+        say(f"    missing: {len(missing)} of {branches.count} branches: {shown(missing)}")
+
+
+def of_chosen(branches, chosen):
+    """What there is to say of the branches that were chosen, and the status: 0 where each of them is decided, or one has a map."""
+    known = branches.known()
+    decided = [branch for branch in chosen if branch in known]
+    maps = [branch for branch in decided if known[branch] == "map"]
+    noted = [branch for branch in decided if branch not in branches.fresh]
+    if branches.words.branch is not None:
+        note = branches.notes.of(chosen[0])
+        text = (note.line().strip() if note else known.get(chosen[0], "not decided")) + (", as noted" if noted else "")
+    elif maps:
+        text = f"map, in branch {min(maps)} of {branches.count}" + (", as noted" if min(maps) in noted else "")
+    else:
+        text = f"none in {len(decided)} of the {len(chosen)} branches of this share{as_noted(len(noted))}"
+    return text, 0 if maps or len(decided) == len(chosen) else STATUS[None]
+
+
+def chosen_of(words, count):
+    """The branches that are asked."""
+    if words.branch is not None:
+        if not 0 <= words.branch < count:
+            raise Refused(f"there are {count} branches, numbered from 0")
+        return [words.branch]
+    return range(words.share[0], count, words.share[1]) if words.share else range(count)
+
+
+def main(words, solver):
+    count = branch_count(words)
     if words.array:
-        print(array(words, rounds, count))
+        if not count:
+            raise Refused("there is no branch, so no array is needed: ask without --array")
+        print(array(words, count))
         return 0
-    if words.branch is not None and not 0 <= words.branch < count:
-        ask.refuse(f"there are {count} branches, numbered from 0")
-    notes = Notes(ask, words.keep, words.task, rounds, count)
-    chosen = range(count) if words.branch is None else [words.branch]
-    print(f"{words.task.stem} after {rounds} {'round' if rounds == 1 else 'rounds'}, {count} branches, {len(notes.all())} of them known:", flush=True)
-    run_jobs(ask, notes, words, rounds, solver, chosen)
-    if words.branch is None:
-        joined(ask, notes, words, rounds)
-    text, answer = told(notes) if words.branch is None else (notes.of(words.branch) or "not decided", None)
-    print(f"    {text}", flush=True)
-    return ask.STATUS[answer if words.branch is None else (text.split(",")[0] if text != "not decided" else None)]
+    chosen = chosen_of(words, count)
+    with Room(None if words.looks else words.keep) as room:
+        branches = Branches(words, solver, room, count)
+        if not branches.notes.about(words.task, branches.rounds, None if words.looks else room):
+            raise Refused(f"{words.keep} has no notes about this question: choose another folder")
+        rounds = "round" if branches.rounds == 1 else "rounds"
+        say(f"{words.task.stem} after {branches.rounds} {rounds}, {count} branches, {len(branches.notes.all())} of them known:")
+        if words.tally:
+            tally(branches)
+            return ended(*branches.told(branches.known()))
+        if words.recheck:
+            branches.recheck_all()
+            return ended(*branches.told(dict(sorted(branches.fresh.items()))))
+        branches.ask_all(chosen)
+        if words.branch is not None or words.share:
+            text, status = of_chosen(branches, chosen)
+            say(f"    {text}")
+            return status
+        answered("wfcheck join", branches.join)
+        return ended(*branches.told(branches.known()))
+
+
+def ended(text, answer):
+    """Says what all comes to, and returns the status."""
+    say(f"    {text}")
+    return STATUS[answer]

@@ -46,7 +46,7 @@ class Refused(Exception):
 def value_of(text):
     """The JSON value of a text of bytes."""
     if len(text) > LONGEST:
-        raise Refused("1 TooLong", f"the file has {len(text)} bytes, and {LONGEST} are read")
+        raise Refused("1 TooLong", f"the file has more than {LONGEST} bytes")
     if not text.strip():
         raise Refused("2 NotJson", "the file is empty")
     if text.startswith(b"wfcheck "):
@@ -320,7 +320,7 @@ def main():
     words.add_argument("task")
     try:
         with open(words.parse_args().task, "rb") as file:
-            text = file.read()
+            text = file.read(LONGEST + 1)
         value, rules = read(text)
     except OSError as error:
         print(f"lint.py: {error}", file=sys.stderr)

@@ -4,13 +4,19 @@
 It shares nothing with the program: it is here to be read in ten minutes, and is slow. The task is read by lint.py, and the report's
 text by reports.py. It says `holds: map`, `holds: least` or `holds: none`, or says in words what is wrong, as with a report of none
 that has no lines, or why it can't read the report, and ends with status 1. Whether a map is the least one it looks at where the
-report has the lines for it."""
+report has the lines for it.
+
+The report may be an obstruction, which obstructions.py judges. Then it says `holds: none at every number of rounds`, or what is
+wrong. It also gives random values to the points after 0, 1 and 2 rounds, and counts the executions as the obstruction says, if there
+are at most 20,000 of them."""
 import argparse
 import itertools
+import random
 import sys
 
 sys.dont_write_bytecode = True
 import lint  # noqa: E402
+import obstructions  # noqa: E402
 import reports  # noqa: E402
 
 
@@ -59,12 +65,12 @@ def point_of(view, symmetric):
 
 class Complex:
     """The points of a task after some rounds, by number; and its executions: for each the points at its processes, and what is
-    allowed there."""
+    allowed there; and for each its input simplex and its sign. The sign is 1 if participants times rounds less blocks is even."""
 
     def __init__(self, task, rounds):
         inputs = inputs_of(task)
         allowed = {simplex_of(e["in"]): {tuple(t) for t in e["out"]} for e in task["delta"]}
-        self.numbers, self.executions = {}, []
+        self.numbers, self.executions, self.signed = {}, [], []
         for s in inputs:
             for round_words in itertools.product(words_of(task, s), repeat=rounds):
                 views = [(p, v) for p, v in s]
@@ -72,6 +78,7 @@ class Complex:
                     views = seen_after(views, word)
                 points = [self.numbers.setdefault(point_of(v, task["symmetric"]), len(self.numbers)) for v in views]
                 self.executions.append(([p for p, _ in s], points, allowed[s]))
+                self.signed.append((s, (-1) ** sum(len(s) - len(set(word)) for word in round_words)))
         self.points = len(self.numbers)
         self.values = {v for s in task["outputs"] for _, v in s}
 
@@ -126,11 +133,35 @@ class Complex:
         return f"{len(boxes)} cases are not closed" if boxes else None
 
 
-MOST_ROUNDS, MOST_EXECUTIONS = 8, 500_000
+MOST_ROUNDS, MOST_EXECUTIONS, MOST_COUNTED = 8, 500_000, 20_000
+
+
+def executions_of(task, rounds):
+    return sum(len(words_of(task, s)) ** rounds for s in inputs_of(task))
+
+
+def wrong_count(task, found):
+    """Tries what an obstruction says: whatever values the points have, the signed executions have the sum of their tuples' weights."""
+    inputs, values, choose = inputs_of(task), obstructions.values_of(task), random.Random(1)
+    weights = {(inputs[it.simplex], it.values): it.weight for it in found.tuples}
+    for rounds in range(3):
+        made = Complex(task, rounds) if executions_of(task, rounds) <= MOST_COUNTED else None
+        for _ in range(5 if made else 0):
+            at = [choose.choice(values) for _ in range(made.points)]
+            tuples = [(s, tuple(at[v] for v in points)) for (s, _), (_, points, _) in zip(made.signed, made.executions)]
+            count = sum(sign * weights.get(it, 0) for (_, sign), it in zip(made.signed, tuples)) % found.modulus
+            if count != found.sum:
+                return f"where the points after {rounds} rounds have the values {at}, the count is {count}, and not {found.sum}"
+    return None
 
 
 def judge(task, text):
     """The answer of a report, and what is wrong with it or None."""
+    if obstructions.is_obstruction(text):
+        try:
+            return "none at every number of rounds", wrong_count(task, obstructions.judge(task, text))
+        except obstructions.Refused as refused:
+            return None, refused.words
     try:
         header, answer, values, steps = reports.read(text)
     except reports.Unreadable as fault:
@@ -138,7 +169,7 @@ def judge(task, text):
     rounds = header["rounds"]
     if rounds > MOST_ROUNDS:
         return None, f"there are more than {MOST_ROUNDS} rounds"
-    if sum(len(words_of(task, s)) ** rounds for s in inputs_of(task)) > MOST_EXECUTIONS:
+    if executions_of(task, rounds) > MOST_EXECUTIONS:
         return None, f"there are more than {MOST_EXECUTIONS:,} executions"
     made = Complex(task, rounds)
     right = {"processes": task["processes"], "points": made.points, "executions": len(made.executions)}
@@ -159,7 +190,7 @@ def given(name, about):
     asked = words.parse_args()
     try:
         with open(asked.task, "rb") as task_file, open(asked.report, "rb") as report_file:
-            return lint.read(task_file.read())[0], report_file.read().decode("ascii", "replace")
+            return lint.read(task_file.read(lint.LONGEST + 1))[0], report_file.read(reports.LONGEST + 1).decode("ascii", "replace")
     except OSError as error:
         sys.exit(f"{name}: {error}")
     except lint.Refused as refused:

@@ -1,0 +1,21 @@
+-- Sums, signs and families.
+pub mod Sums
+pub mod Lists
+pub mod Families
+-- Executions.
+pub mod Words
+pub mod Rounds
+pub mod Signed
+pub mod Decided
+pub mod Ranks
+pub mod Renaming
+-- Terms.
+pub mod Expansion
+pub mod Reduction
+pub mod Groups
+pub mod Faces
+pub mod Settled
+-- Obstructions.
+pub mod FamilyOfMap
+pub mod Obstructed
+pub mod Tested

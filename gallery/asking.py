@@ -1,0 +1,200 @@
+"""The words of gallery/ask, and the question as a whole: the search and a solver are asked side by side."""
+import argparse
+import pathlib
+import re
+import shlex
+import shutil
+import signal
+import subprocess
+import sys
+import tempfile
+
+import branches
+import runs
+from notes import Room, placed
+from questions import PLACES, SEARCH, Attempt, Question, first
+from runs import Clock, Late, Limits, Refused, Scope, Stopped, Undecided, say
+
+SOLVERS = {
+    "cadical": "cadical -q --no-binary {formula} {proof}",
+    "kissat": "kissat -q --no-binary --no-factor {formula} {proof}",
+    "cryptominisat5": "cryptominisat5 --verb 0 {formula}",
+    "minisat": "minisat -verb=0 {formula} {output}",
+}
+# bounded variable addition, which Kissat has from version 4.0 on: lemmas over variables that the formula doesn't have are refused
+NO_FACTOR, SATISFIABLE = "--no-factor", 10
+SEARCH_ALONE = "search"
+NO_SOLVER = "no SAT solver is on the path (Debian has the packages cadical, cryptominisat and minisat): the search alone is asked"
+REFUSED, CUT_OFF = 2, 130
+GB = 1 << 30
+
+
+def parsed(doc):
+    """The words as they stand."""
+    words = argparse.ArgumentParser(
+        description=doc, formatter_class=argparse.RawDescriptionHelpFormatter, usage="ask TASK ROUNDS [options]", prog="ask")
+    words.add_argument("task")
+    words.add_argument("rounds")
+    words.add_argument("--solver")
+    words.add_argument("--seconds", type=float, default=60)
+    words.add_argument("--clauses", type=int, default=20_000_000)
+    words.add_argument("--memory", type=float, default=4)
+    words.add_argument("--disk", type=float, default=4)
+    words.add_argument("--keep", type=pathlib.Path)
+    words.add_argument("--jobs", type=int)
+    chosen = words.add_mutually_exclusive_group()
+    chosen.add_argument("--branch", type=int)
+    chosen.add_argument("--share")
+    chosen.add_argument("--array", choices=["slurm"])
+    chosen.add_argument("--tally", type=pathlib.Path)
+    chosen.add_argument("--recheck", type=pathlib.Path)
+    return words, words.parse_args()
+
+
+def asked(doc):
+    """The words, the task's file, and the rounds in turn."""
+    words, found = parsed(doc)
+    judge_numbers(words, found)
+    path = pathlib.Path(found.task)
+    found.task = path if path.is_file() else runs.HERE / f"{found.task.removesuffix('.json')}.json"
+    if not found.task.is_file():
+        words.error(f"{path} is no file, and no task of gallery/")
+    rounds = re.fullmatch(r"(\d+)(?:\.\.(\d+))?", found.rounds, re.A)
+    first_rounds, last = (int(rounds[1]), int(rounds[2] or rounds[1])) if rounds else (1, 0)
+    if first_rounds > last:
+        words.error(f"{found.rounds} is no number of rounds, and not FIRST..LAST")
+    found.rounds = range(first_rounds, last + 1)
+    if found.by_branch and first_rounds < last:
+        words.error("branches are those of one number of rounds, and not of FIRST..LAST")
+    if found.solver not in (None, SEARCH_ALONE):
+        wrong = wrong_command(SOLVERS.get(found.solver, found.solver))
+        if wrong:
+            words.error(f"--solver: {wrong}")
+    if not runs.PROGRAM.is_file():
+        words.error("bin/wfcheck is not there: `make build` leaves it")
+    judge_folder(words, found)
+    return found
+
+
+def judge_numbers(words, found):
+    """Refuses numbers that mean nothing, and finds out whether branches are asked."""
+    share = re.fullmatch(r"(\d+)/(\d+)", found.share, re.A) if found.share else None
+    if found.share and not (share and int(share[1]) < int(share[2])):
+        words.error("--share is to be K/N, where K is below N")
+    found.share = (int(share[1]), int(share[2])) if share else None
+    found.looks = found.tally or found.recheck
+    found.by_branch = bool(found.jobs is not None or found.branch is not None or found.share or found.array or found.looks)
+    if found.jobs is not None and found.jobs < 1:
+        words.error("--jobs is to be above 0")
+    for name in ("seconds", "memory", "disk"):
+        if not 0 < getattr(found, name) < 1e9:
+            words.error(f"--{name} is to be above 0, and below 1,000,000,000")
+    if found.clauses < 0:
+        words.error("--clauses is to be 0 or more")
+    found.limits = Limits(int(found.memory * GB), int(found.disk * GB))
+
+
+def judge_folder(words, found):
+    """Finds the folder that keeps, and makes it where it may be new."""
+    if found.looks:
+        if found.keep:
+            words.error("--tally and --recheck name the folder themselves, without --keep")
+        if not found.looks.is_dir():
+            words.error(f"{found.looks} is no folder")
+        found.keep = found.looks
+    if found.by_branch and not found.keep:
+        words.error("branches need --keep: the folder has what is known of them")
+    try:
+        if found.keep:
+            found.keep.mkdir(parents=True, exist_ok=True)
+    except OSError as error:
+        words.error(f"--keep: {error}")
+
+
+def wrong_command(solver):
+    """Why a solver's words can't be run; None where they can."""
+    try:
+        words = [word.format(**PLACES) for word in shlex.split(solver)]
+    except (KeyError, IndexError, ValueError, AttributeError):
+        return f"{solver!r} has a quote that is not closed, or other places than {', '.join(map('{{{}}}'.format, PLACES))}"
+    return None if words and shutil.which(words[0]) else f"{words[0] if words else solver!r} is not on the path"
+
+
+def command(solver, limits):
+    """The command of a solver: of Kissat without the option that an older one doesn't know."""
+    words = SOLVERS.get(solver, solver)
+    if solver != "kissat":
+        return words
+    with tempfile.TemporaryDirectory() as made:
+        formula = pathlib.Path(made) / "one.cnf"
+        formula.write_text("p cnf 1 1\n1 0\n")
+        how = {name: subprocess.DEVNULL for name in ("stdin", "stdout", "stderr")}
+        try:
+            status = Scope(limits).run(["kissat", "-q", NO_FACTOR, formula], Clock(10), **how)
+        except (Late, OSError):
+            status = None
+    return words if status == SATISFIABLE else words.replace(f" {NO_FACTOR}", "")
+
+
+def refusal(said, task):
+    """What the program says of a question that it refuses, and where that is told in words."""
+    if not said.startswith("wfcheck: "):
+        return said.rstrip("\n")
+    about_task = re.match(r"wfcheck: (?:[1-9]|1[0-4]|18) ", said)
+    return said + (f"gallery/lint.py {task} says where, in words" if about_task else 'docs/FORMAT.md, "Refusals", says what that means')
+
+
+def main(doc):
+    words = asked(doc)
+    sys.stdout.reconfigure(errors="backslashreplace")
+    for end in runs.ENDING:
+        # what is ignored, as after `nohup`, stays so
+        if signal.getsignal(end) != signal.SIG_IGN:
+            signal.signal(end, lambda *_: runs.CUT_OFF.set())
+    try:
+        return answered(words)
+    except Stopped:
+        print("cut off" + (": begun again by the same words it goes on where it was" if words.by_branch else ""), file=sys.stderr)
+        return CUT_OFF
+    except Refused as refused:
+        print(refusal(str(refused), words.task), file=sys.stderr)
+        return REFUSED
+    except Undecided as why:
+        print(f"ask: {why}", file=sys.stderr)
+        return branches.STATUS[None]
+
+
+def answered(words):
+    """Asks, and returns the status that the answer has."""
+    solver = words.solver or next(filter(shutil.which, SOLVERS), None)
+    if not solver and not words.looks:
+        print(NO_SOLVER, file=sys.stderr)
+    solver = None if solver in (None, SEARCH_ALONE) or words.looks or words.array else command(solver, words.limits)
+    if words.by_branch:
+        return branches.main(words, solver)
+    with Room(words.keep) as room:
+        for rounds in words.rounds:
+            say(f"{words.task.stem} after {rounds} {'round' if rounds == 1 else 'rounds'}:")
+            clock = Clock(words.seconds)
+            answer = decided(words, rounds, solver, room, clock)
+            say(f"    {answer or 'not decided' + (f' within {words.seconds:g} s' if clock.taken() >= words.seconds else '')}")
+            if answer == "map":
+                break
+    return branches.STATUS[answer]
+
+
+def decided(words, rounds, solver, room, clock):
+    """The answer of the first that has one within the limit, and None where nobody has."""
+    with room.attempt() as made:
+        scope = Scope(words.limits)
+        attempt = Attempt(Question(words.task, rounds), made, scope, clock)
+        those = {SEARCH: attempt.by_search}
+        if solver:
+            those[shlex.split(solver)[0]] = lambda: attempt.by_solver(solver, words.clauses)
+        answer = first(scope, those)
+        for file in answer.files if answer and words.keep else []:
+            try:
+                placed(file, words.keep)
+            except OSError as error:
+                say(f"    {file.name} can't be kept: {error}")
+    return answer and answer.word

@@ -1,0 +1,169 @@
+"""The folder of `ask --keep`: the room in which a run works, what it puts into place there, and the notes about branches.
+
+Nothing in the folder is ever written over or followed to another place: each attempt works in a folder of its own inside, and a file
+that is accepted gets the first free name. A note is a file `branch-I` with one line, which names the certificate of its branch and has
+its SHA-256. It is trusted only while that very certificate is there; so a note says that the certificate was accepted once, and
+`ask --recheck` has it accepted again."""
+import contextlib
+import fcntl
+import hashlib
+import itertools
+import os
+import pathlib
+import re
+import shutil
+import tempfile
+import typing
+
+ROOMS, LOCK = ".ask-", "lock"
+LINE = re.compile(
+    r"(?P<word>map|none), by (?P<who>.*) in (?P<taken>[\d.]+) s, "
+    r"(?P<size>\d+) bytes with SHA-256 (?P<digest>[0-9a-f]{64}) in (?P<name>[^/\n]+)\n")
+# so that the names of files are read as they are written
+TEXT = {"encoding": "utf-8", "errors": "surrogateescape"}
+
+
+def digest(file):
+    """The SHA-256 of a file."""
+    found = hashlib.sha256()
+    with open(file, "rb") as text:
+        while piece := text.read(1 << 20):
+            found.update(piece)
+    return found.hexdigest()
+
+
+class Room:
+    """A folder for the files of one run, inside the folder that keeps, or among the temporary ones. It goes when the run ends; what a
+    run that was killed left inside the folder goes when the next one begins, which sees by the lock that nobody works there."""
+
+    def __init__(self, keep):
+        self.keep = keep
+
+    def __enter__(self):
+        if self.keep:
+            for left in self.keep.glob(f"{ROOMS}*"):
+                sweep(left)
+        self.path = pathlib.Path(tempfile.mkdtemp(prefix=ROOMS, dir=self.keep))
+        self.lock = open(self.path / f"{LOCK}.new", "x")
+        with contextlib.suppress(OSError):
+            print(os.uname().nodename, file=self.lock, flush=True)
+            fcntl.flock(self.lock, fcntl.LOCK_EX | fcntl.LOCK_NB)
+            (self.path / f"{LOCK}.new").rename(self.path / LOCK)
+        return self
+
+    def __exit__(self, *_):
+        shutil.rmtree(self.path, ignore_errors=True)
+        self.lock.close()
+
+    @contextlib.contextmanager
+    def attempt(self):
+        """A folder for one attempt."""
+        path = pathlib.Path(tempfile.mkdtemp(dir=self.path))
+        try:
+            yield path
+        finally:
+            shutil.rmtree(path, ignore_errors=True)
+
+
+def sweep(room):
+    """Takes away the room of a run that is gone. That of another machine stays, since its lock may not be seen from here."""
+    with contextlib.suppress(OSError, ValueError):
+        with open(os.open(room / LOCK, os.O_RDWR | os.O_NOFOLLOW)) as lock:
+            if lock.read(1 << 10).strip() == os.uname().nodename:
+                fcntl.flock(lock, fcntl.LOCK_EX | fcntl.LOCK_NB)
+                shutil.rmtree(room, ignore_errors=True)
+
+
+def placed(file, folder):
+    """Puts a file into a folder, under its own name or the next that is free, and returns that. Where the same bytes are there they stay."""
+    for number in itertools.count(1):
+        place = folder / (file.name if number == 1 else f"{file.stem}.{number}{file.suffix}")
+        try:
+            os.link(file, place, follow_symlinks=False)
+            return place
+        except FileExistsError:
+            if place.is_file() and not place.is_symlink() and place.stat().st_size == file.stat().st_size and digest(place) == digest(file):
+                return place
+
+
+class Note(typing.NamedTuple):
+    """What is noted of a branch."""
+    word: str
+    who: str
+    taken: str
+    size: int
+    digest: str
+    name: str
+
+    def line(self):
+        return f"{self.word}, by {self.who} in {self.taken} s, {self.size} bytes with SHA-256 {self.digest} in {self.name}\n"
+
+
+class Notes:
+    """What is known of the branches of one question."""
+
+    def __init__(self, folder, count):
+        self.folder, self.count = folder, count
+        # the SHA-256 of each certificate by what tells that it is the same, so that none is read twice; why a note is not trusted; and the
+        # notes whose certificates were refused in this run
+        self.seen, self.doubts, self.refused = {}, {}, set()
+
+    def about(self, task, rounds, room):
+        """Whether the folder is about this question. One that is about none yet is from now on, where there is a room for that."""
+        about = f"{digest(task)} {rounds} {self.count}\n"
+        if room:
+            with room.attempt() as made:
+                (made / "question").write_text(about)
+                with contextlib.suppress(FileExistsError):
+                    os.link(made / "question", self.folder / "question")
+        file = self.folder / "question"
+        return file.is_file() and file.read_text(**TEXT) == about
+
+    def of(self, branch):
+        """The note of a branch; None where there is none that is to be trusted."""
+        self.doubts.pop(branch, None)
+        try:
+            with open(self.folder / f"branch-{branch}", **TEXT) as file:
+                found = LINE.fullmatch(file.read(1 << 14))
+        except FileNotFoundError:
+            return None
+        note = Note(**{**found.groupdict(), "size": int(found["size"])}) if found else None
+        doubt = self.doubt(note) if note else "it names no certificate"
+        if doubt:
+            self.doubts[branch] = doubt
+        return None if doubt else note
+
+    def doubt(self, note):
+        """Why a note is not trusted; None where it is."""
+        if note in self.refused:
+            return f"{note.name} was refused"
+        file = self.folder / note.name
+        if not file.is_file():
+            return f"{note.name} is not there"
+        about = file.stat()
+        if about.st_size != note.size:
+            return f"{note.name} has {about.st_size} bytes, and not {note.size}"
+        key = (about.st_ino, about.st_size, about.st_mtime_ns, about.st_ctime_ns)
+        if key not in self.seen:
+            self.seen[key] = digest(file)
+        return None if self.seen[key] == note.digest else f"{note.name} has another SHA-256"
+
+    def all(self):
+        return {branch: note for branch in range(self.count) if (note := self.of(branch))}
+
+    def keep(self, branch, answer, made):
+        """Puts the certificate of an answer into place, and then notes it, where no other run has noted the branch meanwhile."""
+        if note := self.of(branch):
+            return note
+        certificate = answer.files[0]
+        size, name = certificate.stat().st_size, placed(certificate, self.folder).name
+        note = Note(answer.word, answer.who, f"{answer.taken:.2f}", size, digest(certificate), name)
+        line, place = made / "note", self.folder / f"branch-{branch}"
+        line.write_text(note.line(), **TEXT)
+        try:
+            os.link(line, place)
+        except FileExistsError:
+            if other := self.of(branch):
+                return other
+            line.replace(place)
+        return note

@@ -1,0 +1,220 @@
+"""A question for `ask`, and one attempt to answer it: by the search or by a SAT solver, and then by the check of what that wrote."""
+import concurrent.futures
+import re
+import shlex
+import subprocess
+import typing
+
+import runs
+from runs import Late, Refused, say
+
+SEARCH = "the search"
+CLAUSES = re.compile(rb"^p cnf \d+ (\d+)$", re.M)
+HEAD = 1 << 14
+EMPTY = re.compile(rb"\n(?=\n)")
+SAYS = re.compile(rb"(?:s )?(UN)?SAT(?:ISFIABLE)?\s*")
+PLACES = {"formula": "cnf", "proof": "drat", "output": "out"}
+
+
+class NoFormula(Exception):
+    """Why a solver is not asked."""
+
+
+class Answer(typing.NamedTuple):
+    """What is accepted, whose it is, in how many seconds, and the files that show it, of which the first is the certificate."""
+    word: str
+    who: str
+    taken: float
+    files: list
+
+
+class Question:
+    """A task and a number of rounds, or one branch of that, with how many branches there are."""
+
+    def __init__(self, task, rounds, branch=None, count=None):
+        self.task, self.rounds, self.number, self.count = task, rounds, branch, count
+        self.about = ["--task", task, "--rounds", rounds]
+        self.branch = [] if branch is None else ["--branch", branch]
+        self.name = "-".join(map(str, [task.stem, rounds, *self.branch[1:]]))
+        where = f" in branch {branch} of {count}" if self.branch else ""
+        self.accepted = re.compile(rf"accepted (map|least|none){where} at {rounds} rounds?\s*")
+
+    def who(self, name):
+        """Who says something, with the branch that it is about."""
+        return f"branch {self.number}: {name}" if self.branch else name
+
+    def head(self):
+        """What stands before a report that is about the branch alone."""
+        return f"wfcheck part 1\nbranch {self.number}\nbranches {self.count}\n" if self.branch else ""
+
+
+class Attempt:
+    """One attempt at a question, with a folder and a clock of its own."""
+
+    def __init__(self, question, folder, scope, clock):
+        self.question, self.folder, self.scope, self.clock = question, folder, scope, clock
+
+    def file(self, kind):
+        return self.folder / f"{self.question.name}.{kind}"
+
+    def tell(self, name, text):
+        say(f"    {self.question.who(name)} {text}")
+
+    def wfcheck(self, words, given, wrote=None, look=None):
+        return self.scope.wfcheck(words, self.clock, given, wrote, look)
+
+    def accepted(self, command, file):
+        """What wfcheck accepts a file as, a map or none; None where it refuses it."""
+        question = self.question
+        try:
+            ended = self.wfcheck([command, *question.about, *question.branch], file)
+        except Late:
+            say(f"    wfcheck {command}: {question.who('no end')} within the {self.clock.seconds:g} s that the question has")
+            raise
+        found = question.accepted.fullmatch(ended.said) if ended.status == 0 else None
+        say(f"    wfcheck {command}: {ended.said.strip() if found else question.who(ended.why())} ({ended.taken:.2f} s)")
+        return {"least": "map"}.get(found[1], found[1]) if found else None
+
+    def solve(self, wrote, *form):
+        """Has the search answer, and returns how it ended."""
+        words = ["solve", "--rounds", self.question.rounds, "--workers", 1, *self.question.branch, *form]
+        ended = self.wfcheck(words, self.question.task, wrote)
+        if ended.status == 2:
+            raise Refused(ended.said)
+        return ended
+
+    def by_search(self):
+        """The search's answer, where its report is accepted. The whole question is asked for the verdict first: the lines of a refutation may
+        be very many, and are asked for once it is known that there is one."""
+        is_whole, report = not self.question.branch, self.file("report")
+        ended = self.solve(report, *["--verdict"] * is_whole)
+        if ended.status not in (0, 1):
+            self.tell(SEARCH, f"has no answer: {ended.why()}")
+            return None
+        word = "none" if ended.status else "map"
+        self.tell(SEARCH, f"says {word} in {ended.taken:.2f} s")
+        if is_whole and word == "none":
+            report.unlink()
+            if not self.has_lines(report):
+                return None
+        accepted = self.accepted("verify", report)
+        return Answer(word, SEARCH, ended.taken, [report]) if accepted == word else None
+
+    def has_lines(self, report):
+        """Has the search write the lines of its refutation, and says why where it doesn't."""
+        try:
+            ended = self.solve(report)
+        except Late:
+            self.tell(SEARCH, f"has written no refutation within the {self.clock.seconds:g} s that the question has")
+            raise
+        if ended.status != 1:
+            self.tell(SEARCH, f"has no refutation: {ended.why()}")
+        return ended.status == 1
+
+    def write_formula(self, most):
+        """Writes the formula, where it has no more clauses than a limit."""
+        formula = self.file("cnf")
+
+        def look():
+            with open(formula, "rb") as text:
+                found = CLAUSES.search(text.read(HEAD))
+            if found and int(found[1]) > most:
+                raise NoFormula(f"the formula has {int(found[1]):,} clauses, more than {most:,} (--clauses)")
+
+        ended = self.wfcheck(["cnf", "--rounds", self.question.rounds, *self.question.branch], self.question.task, formula, look)
+        if ended.status == 2:
+            raise Refused(ended.said)
+        if ended.status:
+            raise NoFormula(f"there is no formula: {ended.why()}")
+        look()
+
+    def by_solver(self, words, most):
+        """A solver's answer, where its model or its proof is accepted."""
+        solver = shlex.split(words)
+        try:
+            self.write_formula(most)
+        except NoFormula as why:
+            self.tell(solver[0], f"is left out: {why}")
+            return None
+        names = {name: str(self.file(kind)) for name, kind in PLACES.items()}
+        begun = self.clock.taken()
+        with open(self.file("said"), "xb") as said:
+            words = [word.format(**names) for word in solver]
+            status = self.scope.run(words, self.clock, stdin=subprocess.DEVNULL, stdout=said, stderr=said)
+        if status < 0:
+            self.tell(solver[0], f"has no answer: {runs.Ended(status, '', 0).why()}")
+            return None
+        return self.judged(solver[0], self.clock.taken() - begun)
+
+    def judged(self, name, taken):
+        """The answer of a solver that has ended, where it is accepted."""
+        says, text = self.verdict()
+        if says == "map":
+            self.tell(name, f"says map in {taken:.2f} s")
+            return self.of_model(name, taken, text)
+        if says == "none" and self.file("drat").is_file():
+            return self.of_proof(name, taken)
+        self.tell(name, "says none, and writes no proof that could be checked" if says else "says nothing")
+        return None
+
+    def verdict(self):
+        """What a solver says, and the file that has its model if it is a map."""
+        files = [it for it in (self.file("out"), self.file("said")) if it.is_file()]
+        for file in files:
+            for line in runs.pieces(file, self.clock):
+                if found := SAYS.fullmatch(line):
+                    return "none" if found[1] else "map", files[0]
+        return None, None
+
+    def of_proof(self, name, taken):
+        """A solver's proof, where it is accepted."""
+        proof = self.file("drat")
+        written = f"{lemmas(proof, self.clock):,} lemmas and {proof.stat().st_size:,} bytes"
+        self.tell(name, f"says none in {taken:.2f} s, with a proof of {written}")
+        return Answer("none", name, taken, [proof]) if self.accepted("proof", proof) == "none" else None
+
+    def of_model(self, name, taken, text):
+        """The report of a solver's model, of a branch as a part: a map of the question may lie in another branch."""
+        plain, report = self.file("plain"), self.file("map")
+        ended = self.wfcheck(["model", *self.question.about], text, plain)
+        say(f"    wfcheck model: {'a decision map' if ended.status == 0 else self.question.who(ended.why())} ({ended.taken:.2f} s)")
+        if ended.status:
+            return None
+        report.write_bytes(self.question.head().encode() + plain.read_bytes())
+        return Answer("map", name, taken, [report, text]) if self.accepted("verify", report) == "map" else None
+
+
+def lemmas(proof, clock):
+    """How many lines of a proof are no deletions and no comments, and not empty: the line feeds that other bytes follow."""
+    count, last = 0, b"\n"
+    with open(proof, "rb") as text:
+        while read := text.read(1 << 20):
+            clock.go_on()
+            piece, last = last + read, read[-1:]
+            others = piece.count(b"\nd") + piece.count(b"\nc") + (len(EMPTY.findall(piece)) if b"\n\n" in piece else 0)
+            count += piece.count(b"\n", 0, -1) - others
+    return count
+
+
+def answered(name, ask):
+    """What one of those who are asked answers; None where its time is over, and where the system refuses it something."""
+    try:
+        return ask()
+    except Late:
+        return None
+    except OSError as error:
+        say(f"    {name} has no answer: {error}")
+        return None
+
+
+def first(scope, asked):
+    """The first answer that is accepted; then the others are stopped. `asked` has a call for each name."""
+    with concurrent.futures.ThreadPoolExecutor(len(asked)) as pool:
+        jobs = [pool.submit(answered, name, ask) for name, ask in asked.items()]
+        try:
+            for job in concurrent.futures.as_completed(jobs):
+                if answer := job.result():
+                    return answer
+        finally:
+            scope.end()
+    return None

@@ -1,0 +1,170 @@
+"""What `ask` starts: each program in a process group of its own, with limits, by one clock.
+
+Nothing that was started goes on once its question is answered, its time is over or the run is cut off: then its whole group is killed,
+and so it is where the program itself has ended and a child of it goes on."""
+import ctypes
+import os
+import pathlib
+import resource
+import signal
+import subprocess
+import sys
+import tempfile
+import threading
+import time
+import typing
+
+HERE = pathlib.Path(__file__).resolve().parent
+PROGRAM = HERE.parent / "bin/wfcheck"
+# how many bytes are read of what a program says
+TOLD = 1 << 20
+# a program that one of these ended was most likely ended with all of this run, which then gets the signal within a second
+ENDING = (signal.SIGHUP, signal.SIGINT, signal.SIGTERM)
+SHELL, DIE_WITH_PARENT = 128, 1
+LONGEST_PAUSE = 0.01
+LIBC = ctypes.CDLL(None)
+CUT_OFF = threading.Event()
+
+
+class Stopped(Exception):
+    """The run was cut off, or another answer came first: what was going on counts for nothing."""
+
+
+class Late(Exception):
+    """The time that a question has is over."""
+
+
+class Undecided(Exception):
+    """Why there is no answer."""
+
+
+class Refused(Exception):
+    """What the program says of a question that it refuses."""
+
+
+class Limits(typing.NamedTuple):
+    """What each process that is started may take, in bytes: of memory, and for one file."""
+    memory: int
+    file: int
+
+
+class Ended(typing.NamedTuple):
+    """How a program ended: its status, what it said, and the seconds that it took."""
+    status: int
+    said: str
+    taken: float
+
+    def why(self):
+        """Why it didn't end well, in one line."""
+        if self.status == -signal.SIGXFSZ:
+            return "it wrote more than one file may have (--disk)"
+        if self.status < 0:
+            return f"it was ended by {signal.Signals(-self.status).name}"
+        return self.said.strip() or f"it ended with status {self.status}"
+
+
+class Clock:
+    """The time of one question, of which the search, the solver and the checks take their parts."""
+
+    def __init__(self, seconds):
+        self.begun, self.seconds = time.monotonic(), seconds
+
+    def taken(self):
+        return time.monotonic() - self.begun
+
+    def go_on(self):
+        """Raises Late once the time is over."""
+        if self.taken() >= self.seconds:
+            raise Late
+
+
+class Scope:
+    """What belongs together: once `end` is called, all that was started in it is stopped."""
+
+    def __init__(self, limits):
+        self.limits, self.ended = limits, threading.Event()
+
+    def end(self):
+        self.ended.set()
+
+    def go_on(self):
+        """Raises Stopped once the scope has ended or the run was cut off."""
+        if self.ended.is_set() or CUT_OFF.is_set():
+            raise Stopped
+
+    def run(self, words, clock, **how):
+        """Runs a program, as `Child.wait` does, and returns its status."""
+        self.go_on()
+        look = how.pop("look", None)
+        return Child(words, self, how).wait(clock, look)
+
+    def wfcheck(self, words, clock, given, wrote=None, look=None):
+        """Runs wfcheck over a file. What it writes goes to a file that must not be there yet, or is told with what it says."""
+        begun = time.monotonic()
+        with open(given, "rb") as read, tempfile.TemporaryFile() as told, open(wrote or os.devnull, "xb" if wrote else "ab") as write:
+            status = self.run([PROGRAM, *map(str, words)], clock, look=look, stdin=read, stdout=write if wrote else told, stderr=told)
+            told.seek(0)
+            return Ended(status, told.read(TOLD).decode(errors="replace"), time.monotonic() - begun)
+
+
+class Child:
+    """A program that was started, with all that it starts."""
+
+    def __init__(self, words, scope, how):
+        self.scope = scope
+        self.process = subprocess.Popen(words, start_new_session=True, preexec_fn=limited(scope.limits), **how)
+
+    def wait(self, clock, look=None):
+        """Waits for the end and returns the status, and calls `look` again and again until then. Raises Late or Stopped if that comes
+        first. None of the group is left in any case."""
+        pause = 0.0005
+        try:
+            while not self.has_ended():
+                clock.go_on()
+                self.scope.go_on()
+                if look:
+                    look()
+                time.sleep(pause)
+                pause = min(pause * 1.5, LONGEST_PAUSE)
+        finally:
+            os.killpg(self.process.pid, signal.SIGKILL)
+            status = self.process.wait()
+        if status in [it for end in ENDING for it in (-end, SHELL + end)]:
+            CUT_OFF.wait(1)
+        self.scope.go_on()
+        return status
+
+    def has_ended(self):
+        """Whether the program has ended; it keeps its number until `wait` asks for its status, so that the group can be named by it."""
+        return os.waitid(os.P_PID, self.process.pid, os.WEXITED | os.WNOWAIT | os.WNOHANG) is not None
+
+
+def limited(limits):
+    """Sets the limits in a process that is about to become another program, and has it end where this one is killed."""
+    wanted = {resource.RLIMIT_AS: limits.memory, resource.RLIMIT_FSIZE: limits.file, resource.RLIMIT_CORE: 0}
+    found = {kind: resource.getrlimit(kind)[1] for kind in wanted}
+    least = {kind: most if found[kind] == resource.RLIM_INFINITY else min(most, found[kind]) for kind, most in wanted.items()}
+
+    def limit():
+        for kind, most in least.items():
+            resource.setrlimit(kind, (most, most))
+        LIBC.prctl(DIE_WITH_PARENT, signal.SIGKILL)
+    return limit
+
+
+def say(text):
+    """Prints a line at once. Where that fails, nobody would see the answer, and the run ends."""
+    try:
+        print(text, flush=True)
+    except OSError as error:
+        sys.stdout = open(os.devnull, "w")
+        raise Undecided(f"what there is to say can't be written: {error}")
+
+
+def pieces(file, clock):
+    """The lines of a file, those that are too long in pieces."""
+    with open(file, "rb") as text:
+        for number, piece in enumerate(iter(lambda: text.readline(1 << 16), b"")):
+            if number % 4096 == 0:
+                clock.go_on()
+            yield piece
