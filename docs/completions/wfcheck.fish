@@ -1,7 +1,7 @@
 # made by docs/make-manual: keep this file in a folder of $fish_complete_path
 complete -c wfcheck -f
 complete -c wfcheck -n __fish_use_subcommand -a solve -d 'Read a task on standard input, and write its least decision map, or a refutation that there is none'
-complete -c wfcheck -n __fish_use_subcommand -a verify -d 'Read a report on standard input, and check it without a search'
+complete -c wfcheck -n __fish_use_subcommand -a verify -d 'Read a report or an obstruction on standard input, and check it without a search'
 complete -c wfcheck -n __fish_use_subcommand -a views -d 'Read a task on standard input, and list the points of its protocol complex by first appearance'
 complete -c wfcheck -n __fish_use_subcommand -a points -d 'Tell in words who saw what at each point of a task\'s protocol complex, with --rounds, or with --task also what a report decides there'
 complete -c wfcheck -n __fish_use_subcommand -a branches -d 'Read a task on standard input, and list the branches into which its question is cut, each of which can be decided by itself'
@@ -25,7 +25,7 @@ complete -c wfcheck -n '__fish_seen_subcommand_from solve' -l progress -d 'Tell 
 complete -c wfcheck -n '__fish_seen_subcommand_from solve' -l branch -x -d 'One branch of the question alone: its number in the list that branches writes, from 0'
 complete -c wfcheck -n '__fish_seen_subcommand_from solve' -l help -d 'Print help'
 complete -c wfcheck -n '__fish_seen_subcommand_from verify' -l task -r -F -d 'The file that has the task'
-complete -c wfcheck -n '__fish_seen_subcommand_from verify' -l rounds -x -d 'How many rounds the report is to be for: one for others is refused, and the answer tells them'
+complete -c wfcheck -n '__fish_seen_subcommand_from verify' -l rounds -x -d 'How many rounds the report is to be for: one for others is refused, and the answer tells them; an obstruction is for all'
 complete -c wfcheck -n '__fish_seen_subcommand_from verify' -l branch -x -d 'One branch of the question alone: its number in the list that branches writes, from 0'
 complete -c wfcheck -n '__fish_seen_subcommand_from verify' -l help -d 'Print help'
 complete -c wfcheck -n '__fish_seen_subcommand_from views' -l rounds -x -d 'How many rounds of immediate snapshots, 0 to 8'

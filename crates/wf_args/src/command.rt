@@ -152,7 +152,7 @@ fn verify_command<'a>(alloc: Global) -> Result<Command<'a>, AllocError>
     let command = subcommand(
         alloc,
         "verify",
-        "Read a report on standard input, and check it without a search",
+        "Read a report or an obstruction on standard input, and check it without a search",
     )
     .arg(task(alloc));
     let command = taking(
@@ -160,7 +160,7 @@ fn verify_command<'a>(alloc: Global) -> Result<Command<'a>, AllocError>
         optional(
             alloc,
             "rounds",
-            "How many rounds the report is to be for: one for others is refused, and the answer tells them",
+            "How many rounds the report is to be for: one for others is refused, and the answer tells them; an obstruction is for all",
         ),
     );
     taking(command, branch(alloc))

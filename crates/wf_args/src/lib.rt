@@ -54,7 +54,7 @@ pub enum Job {
         /// Whether it is told how the search goes on.
         progress: bool,
     },
-    /// Check a report about a task.
+    /// Check a report or an obstruction about a task.
     Verify {
         /// The file that has the task.
         task: String,

@@ -18,6 +18,8 @@ mod checkers;
 #[cfg(test)]
 mod clauses;
 #[cfg(test)]
+mod obstructions;
+#[cfg(test)]
 mod proofs;
 #[cfg(test)]
 mod readers;

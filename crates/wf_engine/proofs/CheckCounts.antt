@@ -30,7 +30,7 @@ checks_alone is_text t r (Ok a) is = (refl, refl)
 checks_alone is_text t r (Err (run.Cert e)) is = (refl, refl)
 checks_alone is_text t r (Err e) is = (sym (beyond t r.rounds e is).0, (beyond t r.rounds e is).1)
 
-verified : {X : Type 0} (rounds : Option ℕ) (is_text : Task → Report → X → List ℕ → Type 0) (t : Task) (r : Result Report RunFault) (answer : Result (X × List ℕ) RunFault) → Next (IsVerifiedFor rounds is_text t) r answer → by_result failed_writes r ≡ 0
+pub verified : {X : Type 0} (rounds : Option ℕ) (is_text : Task → Report → X → List ℕ → Type 0) (t : Task) (r : Result Report RunFault) (answer : Result (X × List ℕ) RunFault) → Next (IsVerifiedFor rounds is_text t) r answer → by_result failed_writes r ≡ 0
     → (by_result failed_reads r ≡ by_result failed_reads answer) × (by_result failed_writes answer ≡ 0)
 verified None is_text t (Ok r) answer n w = checks_alone is_text t r answer n
 verified (Some rounds) is_text t (Ok r) answer (inl (same, n)) w = checks_alone is_text t r answer n

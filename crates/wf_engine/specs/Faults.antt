@@ -15,12 +15,14 @@ use Rattle.wf_cnf.specs.declared.solver.ModelFault.{ModelFault}
 use Rattle.wf_cnf.specs.declared.solver.ModelFault.TheVariants as model
 use Rattle.wf_rup.specs.declared.proof.ProofFault.{ProofFault}
 use Rattle.wf_rup.specs.declared.proof.ProofFault.TheVariants as proof
+use Rattle.wf_obstruction.specs.declared.fault.ObstructionFault.{ObstructionFault}
+use Rattle.wf_obstruction.specs.declared.fault.ObstructionFault.TheVariants as obstruction
 use Rattle.wf_engine.specs.declared.fault.PartFault.{PartFault}
 use Rattle.wf_engine.specs.declared.fault.PartFault.TheVariants as part
 use Rattle.wf_engine.specs.declared.fault.Printed.{Printed}
 use Rattle.wf_engine.specs.declared.fault.Printed.TheVariants as printed
 use Rattle.wf_engine.specs.declared.fault.RunFault.{RunFault}
-use Rattle.wf_engine.specs.declared.fault.RunFault.TheVariants.{TooLong, Task, Build, Cert, Model, Proof, OtherRounds, NoMap, NoBranch, OtherPart, NotInBranch, NoPart, InPart, TooManyParts, OutOfMemory, Read, Write}
+use Rattle.wf_engine.specs.declared.fault.RunFault.TheVariants.{TooLong, Task, Build, Cert, Model, Proof, Obstruction, OtherRounds, NoMap, NoBranch, OtherPart, NotInBranch, NoPart, InPart, TooManyParts, OutOfMemory, Read, Write}
 
 -- a text that is too long is one refusal, and so is out of memory, wherever they came
 abbrev pub of_read : ReadFault → RunFault
@@ -66,6 +68,20 @@ proof_text (proof.NoContradiction line) = codes "41 NoContradiction " ++ decimal
 proof_text proof.Binary = codes "42 Binary: ask the solver for text by --no-binary"
 proof_text proof.OutOfMemory = task_text.fault_text task.OutOfMemory
 
+-- what is printed of weighted tuples that are no obstruction
+abbrev pub obstruction_text : ObstructionFault → List ℕ
+obstruction_text obstruction.FirstBlock = codes "50 FirstBlock"
+obstruction_text obstruction.SumRange = codes "51 SumRange"
+obstruction_text (obstruction.NoSimplex line) = codes "52 NoSimplex " ++ decimal line
+obstruction_text (obstruction.WeightRange line) = codes "53 WeightRange " ++ decimal line
+obstruction_text (obstruction.TupleLength line) = codes "54 TupleLength " ++ decimal line
+obstruction_text (obstruction.NoSuchValue line) = codes "55 NoSuchValue " ++ decimal line
+obstruction_text (obstruction.Allowed line) = codes "56 Allowed " ++ decimal line
+obstruction_text obstruction.TooManyTerms = codes "57 TooManyTerms"
+obstruction_text obstruction.OtherSum = codes "58 OtherSum"
+obstruction_text (obstruction.NotCancelled simplex) = codes "59 NotCancelled " ++ decimal simplex
+obstruction_text obstruction.OutOfMemory = task_text.fault_text task.OutOfMemory
+
 -- what is printed of a part about a branch that is not accepted
 abbrev pub part_fault_text : PartFault → List ℕ
 part_fault_text (part.Report e) = report_faults.fault_text e
@@ -80,6 +96,7 @@ fault_text (Build e) = build_text.fault_text e
 fault_text (Cert e) = report_faults.fault_text e
 fault_text (Model e) = model_text e
 fault_text (Proof e) = proof_text e
+fault_text (Obstruction e) = obstruction_text e
 fault_text OtherRounds = codes "36 OtherRounds"
 fault_text NoMap = codes "43 NoMap"
 fault_text (NoBranch branches) = codes "44 NoBranch " ++ decimal branches

@@ -14,10 +14,12 @@ use Rattle.wf_check.specs.Truth.{HoldsOf}
 use Rattle.wf_engine.specs.declared.outcome.Outcome.{Outcome}
 use Rattle.wf_engine.specs.declared.outcome.Outcome.TheVariants.{Map, Nothing}
 use Rattle.wf_engine.specs.declared.outcome.Accepted.{Accepted}
+use Rattle.wf_engine.specs.declared.outcome.Verified.TheVariants.{Obstruction}
 use Rattle.wf_engine.specs.Texts.{Finds, map_body, none_body, text_of_report}
 use Rattle.wf_engine.specs.Models.{Models}
 use Rattle.wf_engine.specs.Proofs.{Refutes}
 use Rattle.wf_engine.specs.Verify.{Decides, Verifies, accepted_of, accepted_text}
+use Rattle.wf_engine.specs.Certificates.{VerifiesCertificate, never_text}
 
 -- the source gave the bytes of this task
 abbrev pub GaveTask : Reading → Reading → Task → Type 0
@@ -94,3 +96,13 @@ RefutationsAreTrue =
     (rounds : ℕ) (task task' proof proof' : Reading) (sink sink' : Writing)
     → Refutes rounds task task' proof proof' sink sink' (Ok tt)
     → (t : Task) × GaveTask task task' t × HasNoDecisionMap t rounds × Wrote sink sink' (accepted_text (Some rounds) (none []))
+
+-- ---- what an obstruction shows
+
+-- If an obstruction is accepted, the source of the task gave its bytes. After every number of rounds
+-- no function on the views is a decision map. The sink took the line that says so.
+abbrev pub ObstructionsAreTrue : Type 0
+ObstructionsAreTrue =
+    (rounds : Option ℕ) (task task' source source' : Reading) (sink sink' : Writing)
+    → VerifiesCertificate rounds task task' source source' sink sink' (Ok Obstruction)
+    → (t : Task) × GaveTask task task' t × ((r : ℕ) → HasNoDecisionMap t r) × Wrote sink sink' (never_text rounds)

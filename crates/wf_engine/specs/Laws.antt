@@ -18,6 +18,9 @@ use Rattle.wf_engine.specs.Run.{HasComplex, by_result, failed_reads, failed_writ
 use Rattle.wf_engine.specs.Presets.{WritesPreset}
 use Rattle.wf_engine.specs.Texts.{Finds, IsFound, Solves, Lists, outcome_of}
 use Rattle.wf_engine.specs.Verify.{ChecksText, Decides, Verifies}
+use Rattle.wf_engine.specs.Certificates.{VerifiesCertificate}
+use Rattle.wf_engine.specs.declared.outcome.Verified.{Verified}
+use Rattle.wf_engine.specs.declared.outcome.Verified.TheVariants as verified
 use Rattle.wf_engine.specs.Models.{Models}
 use Rattle.wf_engine.specs.Proofs.{Refutes, most_proof_bytes}
 use Rattle.wf_engine.specs.Headline.{GaveTask}
@@ -84,6 +87,19 @@ abbrev pub VerifyingIsCounted : Type 0
 VerifyingIsCounted =
     (rounds : Option ℕ) (task task' reports reports' : Reading) (sink sink' : Writing) (result : Result Accepted RunFault)
     → Verifies rounds task task' reports reports' sink sink' result → IsChecked most_bytes task task' reports reports' sink sink' result
+
+abbrev pub VerifyingCertificatesIsCounted : Type 0
+VerifyingCertificatesIsCounted =
+    (rounds : Option ℕ) (task task' source source' : Reading) (sink sink' : Writing) (result : Result Verified RunFault)
+    → VerifiesCertificate rounds task task' source source' sink sink' result → IsChecked most_bytes task task' source source' sink sink' result
+
+-- A certificate that is accepted as a report is a report that a check accepts. So what is true of
+-- accepted reports is true of it.
+abbrev pub AcceptedReportsAreVerified : Type 0
+AcceptedReportsAreVerified =
+    (rounds : Option ℕ) (task task' source source' : Reading) (sink sink' : Writing) (accepted : Accepted)
+    → VerifiesCertificate rounds task task' source source' sink sink' (Ok (verified.Report accepted))
+    → Verifies rounds task task' source source' sink sink' (Ok accepted)
 
 abbrev pub DecidingIsCounted : Type 0
 DecidingIsCounted =

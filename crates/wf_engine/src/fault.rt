@@ -1,7 +1,7 @@
 //! Why a run is refused.
 
 ghost use Rattle.std.specs.Prelude.{◌≡◌, Some};
-ghost use Rattle.wf_engine.specs.Faults.{of_read, of_task, of_build, of_report_fault, of_model, of_proof, fault_text, model_text, part_fault_text, printed_text, proof_text};
+ghost use Rattle.wf_engine.specs.Faults.{of_read, of_task, of_build, of_report_fault, of_model, of_proof, fault_text, model_text, obstruction_text, part_fault_text, printed_text, proof_text};
 ghost use Rattle.wf_engine.specs.declared.fault.RunFault.TheVariants.{OutOfMemory, Write};
 
 use std::alloc::AllocError;
@@ -9,6 +9,7 @@ use std::fmt;
 use wf_cnf::ModelFault;
 use wf_complex::BuildFault;
 use wf_io::{ReadFault, WriteFault};
+use wf_obstruction::ObstructionFault;
 use wf_report::CertFault;
 use wf_rup::ProofFault;
 use wf_task::TaskFault;
@@ -59,6 +60,9 @@ pub enum RunFault {
         /// How many branches there are.
         branches: u32,
     },
+    /// 50 to 59: the weighted tuples of an obstruction are none of the task's. A tuple is named by
+    /// its line.
+    Obstruction(ObstructionFault),
     /// 15: memory ran out.
     OutOfMemory,
     /// 30: a call of the reader answered an error.
@@ -108,6 +112,7 @@ impl RunFault {
             RunFault::InPart { branch, fault } => Printed::InPart(branch, fault),
             RunFault::Model(fault) => printed_model(fault),
             RunFault::Proof(fault) => printed_proof(fault),
+            RunFault::Obstruction(fault) => printed_obstruction(fault),
             RunFault::OtherRounds => Printed::Words("36 OtherRounds", None),
             RunFault::NoMap => Printed::Words("43 NoMap", None),
             RunFault::NoBranch { branches } => Printed::Words(
@@ -157,6 +162,27 @@ fn printed_proof(fault: ProofFault) -> Printed
             Printed::Words("42 Binary: ask the solver for text by --no-binary", None)
         }
         ProofFault::OutOfMemory => Printed::Task(TaskFault::OutOfMemory),
+    }
+}
+
+/// What is printed of weighted tuples that are no obstruction.
+fn printed_obstruction(fault: ObstructionFault) -> Printed
+    ensures { printed_text result ≡ obstruction_text fault }
+{
+    match fault {
+        ObstructionFault::FirstBlock => Printed::Words("50 FirstBlock", None),
+        ObstructionFault::SumRange => Printed::Words("51 SumRange", None),
+        ObstructionFault::NoSimplex { tuple } => Printed::Words("52 NoSimplex", Some(tuple)),
+        ObstructionFault::WeightRange { tuple } => Printed::Words("53 WeightRange", Some(tuple)),
+        ObstructionFault::TupleLength { tuple } => Printed::Words("54 TupleLength", Some(tuple)),
+        ObstructionFault::NoSuchValue { tuple } => Printed::Words("55 NoSuchValue", Some(tuple)),
+        ObstructionFault::Allowed { tuple } => Printed::Words("56 Allowed", Some(tuple)),
+        ObstructionFault::TooManyTerms => Printed::Words("57 TooManyTerms", None),
+        ObstructionFault::OtherSum => Printed::Words("58 OtherSum", None),
+        ObstructionFault::NotCancelled { simplex } => {
+            Printed::Words("59 NotCancelled", Some(simplex))
+        }
+        ObstructionFault::OutOfMemory => Printed::Task(TaskFault::OutOfMemory),
     }
 }
 

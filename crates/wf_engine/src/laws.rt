@@ -1,7 +1,7 @@
 //! Laws of runs: that what they say is true, and what holds after each, whatever it answers.
 
-ghost use Rattle.wf_engine.specs.Headline.{AcceptancesAreTrue, AnswersAreTrue, DecisionsAreTrue, ModelsAreTrue, RefutationsAreTrue};
-ghost use Rattle.wf_engine.specs.Laws.{DecidingIsCounted, FindingIsCounted, ListingIsCounted, ModellingIsCounted, ModelsAreAccepted, PresetsAreCounted, ProvingIsCounted, SolvedReportsAreAccepted, SolvingIsCounted, SolvingIsFinding, VerifyingIsCounted};
+ghost use Rattle.wf_engine.specs.Headline.{AcceptancesAreTrue, AnswersAreTrue, DecisionsAreTrue, ModelsAreTrue, ObstructionsAreTrue, RefutationsAreTrue};
+ghost use Rattle.wf_engine.specs.Laws.{AcceptedReportsAreVerified, DecidingIsCounted, FindingIsCounted, ListingIsCounted, ModellingIsCounted, ModelsAreAccepted, PresetsAreCounted, ProvingIsCounted, SolvedReportsAreAccepted, SolvingIsCounted, SolvingIsFinding, VerifyingCertificatesIsCounted, VerifyingIsCounted};
 
 /// What a search writes is true: the source gave the bytes of a task, and the sink took the report
 /// of its least decision map over the points after so many rounds; or a report that there is none,
@@ -36,6 +36,19 @@ pub fn refutations_are_true()
     ensures { RefutationsAreTrue }
 {}
 
+/// What is accepted as an obstruction is true: the source of the task gave its bytes, and after
+/// every number of rounds no function on the views is a decision map, whatever the obstruction's
+/// bytes are.
+pub fn obstructions_are_true()
+    ensures { ObstructionsAreTrue }
+{}
+
+/// A certificate that is accepted as a report is a report that [`run_verify`](crate::run_verify)
+/// accepts, with the same answer and the same line.
+pub fn accepted_reports_are_verified()
+    ensures { AcceptedReportsAreVerified }
+{}
+
 /// A search takes at most one byte more than a text may have, tells each failed call, and writes
 /// nothing where it is refused for anything but a failed write.
 pub fn solving_is_counted()
@@ -64,6 +77,13 @@ pub fn listing_is_counted()
 /// failed call, and writes nothing where it is refused for anything but a failed write.
 pub fn verifying_is_counted()
     ensures { VerifyingIsCounted }
+{}
+
+/// A check of a certificate takes at most one byte more than a text may have of each of its two
+/// sources, tells each failed call, and writes nothing if it is refused for anything but a failed
+/// write.
+pub fn verifying_certificates_is_counted()
+    ensures { VerifyingCertificatesIsCounted }
 {}
 
 /// A telling of decisions takes at most one byte more than a text may have of

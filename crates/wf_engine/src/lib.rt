@@ -10,7 +10,9 @@
 //! - [`run_cnf`]: a task's text in, and the question whether it has a
 //!   decision map, as a formula, out.
 //! - [`run_verify`]: a task's text and a report's in, and what is accepted out.
-//! - [`run_decisions`]: the same, and what the report's map decides at each point out.
+//! - [`run_verify_certificate`]: a task's text and a certificate's in, which is a report or an
+//!   obstruction, and what is accepted out.
+//! - [`run_decisions`]: a task's text and a report's in, and what the report's map decides at each point out.
 //! - [`run_model`]: a task's text and a SAT solver's output in, and the report of the map that the
 //!   solver's model gives out.
 //! - [`run_proof`]: a task's text and a SAT solver's clausal proof in, and
@@ -27,9 +29,10 @@
 //! by step in `specs/Run.antt`). The laws say what follows from the relation alone:
 //! first of all that what is answered, accepted and told is true ([`answers_are_true`],
 //! [`acceptances_are_true`], [`decisions_are_true`], [`models_are_true`],
-//! [`refutations_are_true`], stated alone in `specs/Headline.antt`).
+//! [`refutations_are_true`], [`obstructions_are_true`], stated alone in `specs/Headline.antt`).
 #![tactic(auto)]
 
+mod certificate;
 mod cnf;
 mod decisions;
 mod fault;
@@ -45,18 +48,20 @@ mod steps;
 mod verify;
 mod views;
 
+pub use certificate::{judge, run_verify_certificate};
 pub use cnf::run_cnf;
 pub use decisions::run_decisions;
 pub use fault::{PartFault, RunFault};
 pub use find::{run_find, run_find_one, run_find_watched};
 pub use laws::{
-    acceptances_are_true, answers_are_true, deciding_is_counted, decisions_are_true,
-    finding_is_counted, listing_is_counted, modelling_is_counted, models_are_accepted,
-    models_are_true, presets_are_counted, proving_is_counted, refutations_are_true,
-    solved_reports_are_accepted, solving_is_counted, solving_is_finding, verifying_is_counted,
+    acceptances_are_true, accepted_reports_are_verified, answers_are_true, deciding_is_counted,
+    decisions_are_true, finding_is_counted, listing_is_counted, modelling_is_counted,
+    models_are_accepted, models_are_true, obstructions_are_true, presets_are_counted,
+    proving_is_counted, refutations_are_true, solved_reports_are_accepted, solving_is_counted,
+    solving_is_finding, verifying_certificates_is_counted, verifying_is_counted,
 };
 pub use model::run_model;
-pub use outcome::{Accepted, Outcome};
+pub use outcome::{Accepted, Outcome, Verified};
 pub use points::{run_points, write_points};
 pub use preset::run_preset;
 pub use proof::{MOST_PROOF_BYTES, read_proof_from, run_proof};

@@ -4,7 +4,7 @@ ghost use Rattle.std.specs.Prelude.{◌≡◌, IfOk, string_bytes};
 ghost use Rattle.wf_io.specs.Ends.{CanRead};
 ghost use Rattle.wf_report.specs.Reports.{AreNumbered, body_length, body_of, report_seen};
 ghost use Rattle.wf_engine.specs.Run.{Reads, answered};
-ghost use Rattle.wf_engine.specs.Verify.{CanVerify, Checks, IsAccepted, IsReportOf, IsVerified, IsVerifiedFor, Judges, Verifies, accepted_text, accepted_words, accepted_of, seen};
+ghost use Rattle.wf_engine.specs.Verify.{CanVerify, Checks, ChecksText, IsAccepted, IsReportOf, IsVerified, IsVerifiedFor, Judges, Verifies, accepted_text, accepted_words, accepted_of, seen};
 
 use crate::fault::RunFault;
 use crate::outcome::Accepted;
@@ -76,6 +76,20 @@ fn report_of(alloc: Global, text: &[u8]) -> Result<Report, RunFault>
     ensures few { IfOk result (λ report. AreNumbered (body_length report.body)) }
 {
     Ok(read_report(alloc, text)?)
+}
+
+/// What is accepted of a report's text about a task, with the text that says so.
+pub(crate) fn check_text<T: Threads + Sync>(
+    rt: &T,
+    alloc: Global,
+    task: &Task,
+    text: &[u8],
+    rounds: Option<u32>,
+) -> Result<(Accepted, Vec<u8>), RunFault>
+    ensures { ChecksText rounds task.now text.now (answered result) }
+{
+    let report = report_of(alloc, text)?;
+    verify(rt, alloc, task, &report, rounds)
 }
 
 /// What is accepted of a report about a task, with its text. Where rounds are

@@ -13,13 +13,14 @@ use Rattle.wf_io.specs.Ends.{CanCount, CanWrite}
 use Rattle.wf_io.specs.Texts.{Told, Tells}
 use Rattle.wf_engine.specs.declared.outcome.Outcome.{Outcome}
 use Rattle.wf_engine.specs.declared.outcome.Outcome.TheVariants.{Map, Nothing}
-use Rattle.wf_engine.specs.declared.outcome.Accepted.{Accepted}
+use Rattle.wf_engine.specs.declared.outcome.Verified.{Verified}
 use Rattle.wf_engine.specs.declared.fault.RunFault.{RunFault}
 use Rattle.wf_engine.specs.declared.fault.RunFault.TheVariants as run
 use Rattle.wf_engine.specs.Faults.{fault_text}
 use Rattle.wf_engine.specs.Run.{Ran}
 use Rattle.wf_engine.specs.Texts.{Finds, Solves, Lists, SearchesInOrder, undecided_points}
-use Rattle.wf_engine.specs.Verify.{Verifies, Decides}
+use Rattle.wf_engine.specs.Verify.{Decides}
+use Rattle.wf_engine.specs.Certificates.{VerifiesCertificate}
 use Rattle.wf_engine.specs.Models.{Models}
 use Rattle.wf_engine.specs.Proofs.{Refutes}
 use Rattle.wf_engine.specs.Presets.{WritesPreset}
@@ -107,7 +108,7 @@ abbrev pub searched : Result Outcome RunFault → Result Done Refusal
 searched (Ok outcome) = Ok (record { status = outcome_status outcome; account = None })
 searched (Err e) = Err (Run e)
 
-abbrev pub verified : Result Accepted RunFault → Result Done Refusal
+abbrev pub verified : Result Verified RunFault → Result Done Refusal
 verified (Ok accepted) = Ok (record { status = 0; account = None })
 verified (Err e) = Err (Run e)
 
@@ -126,7 +127,7 @@ Ended {X = X} answered does task task' source source' sink sink' done =
 
 -- what a job does with the task in its file
 abbrev pub DoesWithFile : Filed → DoesBoth (Result Done Refusal)
-DoesWithFile (filed.Verify rounds) task task' source source' sink sink' done = Ended verified (Verifies rounds) task task' source source' sink sink' done
+DoesWithFile (filed.Verify rounds) task task' source source' sink sink' done = Ended verified (VerifiesCertificate rounds) task task' source source' sink sink' done
 DoesWithFile (filed.VerifyBranch rounds branch) task task' source source' sink sink' done =
     Ended written (VerifiesBranch rounds branch) task task' source source' sink sink' done
 DoesWithFile (filed.Join rounds) task task' source source' sink sink' done = Ended written (Joins rounds) task task' source source' sink sink' done

@@ -7,7 +7,7 @@ ghost use Rattle.wf_program.specs.Program.{outcome_status, searched, solved, ver
 use crate::refusal::Refusal;
 use std::fmt;
 use wf_core::Account;
-use wf_engine::{Accepted, Outcome, RunFault};
+use wf_engine::{Outcome, RunFault, Verified};
 
 /// What was done: its exit status, and the account that is to be told.
 #[derive(Clone, Copy, Debug)]
@@ -38,7 +38,7 @@ impl fmt::Display for AccountLine {
 }
 
 /// What is answered after a check.
-pub(crate) fn after_verifying(found: Result<Accepted, RunFault>) -> Result<Done, Refusal>
+pub(crate) fn after_verifying(found: Result<Verified, RunFault>) -> Result<Done, Refusal>
     ensures { result ≡ verified found }
 {
     match found {

@@ -17,13 +17,13 @@ use std::io::{Read, Write};
 use std::thread::Threads;
 use wf_args::Job;
 use wf_branches::{run_join, run_proof_branch, run_verify_branch};
-use wf_engine::{RunFault, run_decisions, run_model, run_proof, run_verify};
+use wf_engine::{RunFault, run_decisions, run_model, run_proof, run_verify_certificate};
 use wf_io::{Sink, Source};
 
 /// What a job does with the task in a file, and with what the source gives about it.
 #[derive(Clone, Copy)]
 pub(crate) enum Filed {
-    /// Check a report, for these rounds where any are asked for.
+    /// Check a report or an obstruction, for these rounds if any are asked for.
     Verify(Option<u32>),
     /// Check a part about the branch of this number, for so many rounds.
     VerifyBranch { rounds: u32, branch: u32 },
@@ -124,7 +124,7 @@ impl Filed {
     {
         match self {
             Filed::Verify(rounds) => {
-                after_verifying(run_verify(rt, alloc, task, source, sink, rounds))
+                after_verifying(run_verify_certificate(rt, alloc, task, source, sink, rounds))
             }
             Filed::VerifyBranch { rounds, branch } => {
                 after_writing(run_verify_branch(rt, alloc, task, source, sink, rounds, branch))

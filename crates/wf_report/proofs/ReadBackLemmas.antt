@@ -99,7 +99,7 @@ has_words (b ∷ l) ws h = by_test (b == 10) (b == 32) refl refl h (has_words l)
 
 -- ---- a word and a number
 
-when_true : {X : Type 0} (t : Bool) (o : Option X) (x : X) → cond t o None ≡ Some x → (t ≡ true) × (o ≡ Some x)
+pub when_true : {X : Type 0} (t : Bool) (o : Option X) (x : X) → cond t o None ≡ Some x → (t ≡ true) × (o ≡ Some x)
 when_true true o x h = (refl, h)
 when_true false o x h = absurd (let bad : ⊥ = cc in bad)
 
@@ -132,7 +132,7 @@ value_there l a h = by_number (number_of_line (codes "m") l) refl h
 
 -- ---- steps
 
-text_by_words : (l w : List ℕ) (ws : List (List ℕ)) → words_of l ≡ Some (w ∷ ws) → l ≡ w ++ words_text ws
+pub text_by_words : (l w : List ℕ) (ws : List (List ℕ)) → words_of l ≡ Some (w ∷ ws) → l ≡ w ++ words_text ws
 text_by_words l w ws e =
     let has = has_words l (w ∷ ws) e in
     let first : has.first ≡ w = let k = has.words_are in cc in
@@ -253,7 +253,7 @@ front_there (l ∷ ls) =
 
 -- ---- bodies and reports
 
-then_ok : {X Y : Type 0} (r : Reading X) (f : X → Reading Y) (y : Y) → then_read r f ≡ Ok y → (x : X) × (r ≡ Ok x) × (f x ≡ Ok y)
+pub then_ok : {X Y : Type 0} (r : Reading X) (f : X → Reading Y) (y : Y) → then_read r f ≡ Ok y → (x : X) × (r ≡ Ok x) × (f x ≡ Ok y)
 then_ok (Ok x) f y h = (x, refl, h)
 then_ok (Err e) f y h = absurd (let bad : ⊥ = cc in bad)
 
@@ -298,7 +298,7 @@ body_there (l ∷ ls) b h = by_tests (same_text l (line (codes "answer map") [])
     by_tests false false true s_is t_is u_is h = of_least (std.same_text l (line (codes "answer least") []) (sym u_is)) h
     by_tests false false false s_is t_is u_is h = absurd (let bad : ⊥ = cc in bad)
 
-fixed_there : (k : ℕ) (wanted : List ℕ) (ls rest : List (List ℕ)) → fixed_at k wanted ls ≡ Ok rest → ls ≡ wanted ∷ rest
+pub fixed_there : (k : ℕ) (wanted : List ℕ) (ls rest : List (List ℕ)) → fixed_at k wanted ls ≡ Ok rest → ls ≡ wanted ∷ rest
 fixed_there k wanted [] rest h = absurd (let bad : ⊥ = cc in bad)
 fixed_there k wanted (l ∷ ls) rest h = by_test (same_text l wanted) refl h
   where
@@ -306,7 +306,7 @@ fixed_there k wanted (l ∷ ls) rest h = by_test (same_text l wanted) refl h
     by_test true e h = let same : ls ≡ rest = cc in (λ i. std.same_text l wanted (sym e) i ∷ same i)
     by_test false e h = absurd (let bad : ⊥ = cc in bad)
 
-number_found : (k : ℕ) (name : List ℕ) (ls : List (List ℕ)) (p : ℕ × List (List ℕ)) → number_at k name ls ≡ Ok p → (ls ≡ line name (p.0 ∷ []) ∷ p.1) × (p.0 ≤ most_number)
+pub number_found : (k : ℕ) (name : List ℕ) (ls : List (List ℕ)) (p : ℕ × List (List ℕ)) → number_at k name ls ≡ Ok p → (ls ≡ line name (p.0 ∷ []) ∷ p.1) × (p.0 ≤ most_number)
 number_found k name [] p h = absurd (let bad : ⊥ = cc in bad)
 number_found k name (l ∷ ls) p h = by_number (number_of_line name l) refl (sym (number_at_line k name l ls) ∙ h)
   where

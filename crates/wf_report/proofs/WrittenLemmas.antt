@@ -227,7 +227,7 @@ body_read (least m ls) h =
     ∙ least_by_front (lines_of (flat_map value_line m ++ steps)) (lines_of steps) m (front_read m steps h.0 (no_front ls h.1))
     ∙ ap (λ r. then_read r (λ xs. Ok (least m xs))) (steps_are (any_step 2) (7 + length m) (lines_of steps) ∙ items_read (any_step 2) line_text ls (7 + length m) (each_step ls h.1))
 
-number_there : (k : ℕ) (name rest : List ℕ) (n : ℕ) → lacks 10 name ≡ true → lacks 32 name ≡ true → same_text name name ≡ true → n ≤ most_number → number_at k name (lines_of (line name (n ∷ []) ++ rest)) ≡ Ok (n, lines_of rest)
+pub number_there : (k : ℕ) (name rest : List ℕ) (n : ℕ) → lacks 10 name ≡ true → lacks 32 name ≡ true → same_text name name ≡ true → n ≤ most_number → number_at k name (lines_of (line name (n ∷ []) ++ rest)) ≡ Ok (n, lines_of rest)
 number_there k name rest n h space same within =
     ap (number_at k name) (is_line name (n ∷ []) h (within, tt) rest)
     ∙ number_at_line k name (line name (n ∷ [])) (lines_of rest)

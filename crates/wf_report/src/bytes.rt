@@ -7,7 +7,7 @@ ghost use Rattle.wf_report.specs.Reading.{lacks};
 
 /// What stands before the first such byte, and what stands behind it; `None`
 /// where it stands nowhere.
-pub(crate) fn cut(text: &[u8], byte: u8) -> Option<(&[u8], &[u8])>
+pub fn cut(text: &[u8], byte: u8) -> Option<(&[u8], &[u8])>
     ensures cases { MatchOption result (lacks byte text.now ≡ true) (λ parts.
         (text.now ≡ parts.0.now ++ byte ∷ parts.1.now) × (lacks byte parts.0.now ≡ true)) }
 {
@@ -21,7 +21,7 @@ pub(crate) fn cut(text: &[u8], byte: u8) -> Option<(&[u8], &[u8])>
 
 /// The number that a word spells, if it is at most this: decimal, without
 /// sign and without a 0 before another digit.
-pub(crate) fn number(word: &[u8], most: u32) -> Option<u32>
+pub fn number(word: &[u8], most: u32) -> Option<u32>
     ensures { result ≡ number_upto most word.now }
 {
     if is_misspelt(word) {

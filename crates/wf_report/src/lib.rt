@@ -5,6 +5,8 @@
 //! - [`write_report`], [`read_report`]: from a report to its text, and from a text to its report.
 //! - [`Form`]: how much of an answer a report has.
 //! - [`CertFault`]: why a text is no report, or why a report is not accepted.
+//! - [`cut`] and [`number`]: what stands before a byte and behind it, and the number that a word
+//!   spells.
 //!
 //! The laws say that the text of a report is read as that report, and that
 //! what is read as a report is its text.
@@ -18,6 +20,7 @@ mod reading;
 mod report;
 mod writing;
 
+pub use bytes::{cut, number};
 pub use fault::CertFault;
 pub use form::Form;
 pub use laws::{reports_are_read_as_written, reports_are_written_as_read};

@@ -1,0 +1,10 @@
+pub mod Codes
+pub mod Counts
+pub mod Runs
+pub mod Parts
+pub mod Steps
+pub mod Places
+pub mod Balance
+pub mod Faults
+pub mod TaskTerms
+pub mod TaskFaces

@@ -1,0 +1,5 @@
+pub mod NextLine
+pub mod TupleLines
+pub mod ValueWords
+pub mod Written
+pub mod ReadBack
