@@ -21,9 +21,9 @@ use wf_obstruction_text::{Obstruction, is_obstruction_text, line_of_tuple, read_
 use wf_report::CertFault;
 use wf_task::{LONGEST, Task};
 
-/// Reads a task to its reader's end, and then a certificate about it to its own reader's end; checks
-/// the certificate; and writes what is accepted. If the first line says that it is an obstruction, it
-/// is checked as one. Otherwise it is a report, and is checked as
+/// Reads a task to its reader's end, and then a certificate about it to its own reader's end.
+/// Checks the certificate, and writes what is accepted. If the first line says that the certificate
+/// is an obstruction, it is checked as one. Otherwise the certificate is a report, and is checked as
 /// [`run_verify`](crate::run_verify) does.
 ///
 /// If an obstruction is accepted, no function on the views is a decision map, after any number of
@@ -200,8 +200,7 @@ fn by_line(tuples: &[WeightedTuple], fault: ObstructionFault) -> ObstructionFaul
     }
 }
 
-/// The line that tells that an obstruction is accepted, and for how many rounds, if these were asked
-/// for.
+/// The line that tells that an obstruction is accepted, with the rounds if these were asked for.
 fn never_text(alloc: Global, rounds: Option<u32>) -> Result<String, AllocError>
     ensures { IfOk result (λ text. string_bytes text ≡ never_text rounds) }
 {

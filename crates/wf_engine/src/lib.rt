@@ -12,7 +12,8 @@
 //! - [`run_verify`]: a task's text and a report's in, and what is accepted out.
 //! - [`run_verify_certificate`]: a task's text and a certificate's in, which is a report or an
 //!   obstruction, and what is accepted out.
-//! - [`run_decisions`]: a task's text and a report's in, and what the report's map decides at each point out.
+//! - [`run_decisions`]: a task's text and a report's in, and what the report's map decides at each
+//!   point out.
 //! - [`run_model`]: a task's text and a SAT solver's output in, and the report of the map that the
 //!   solver's model gives out.
 //! - [`run_proof`]: a task's text and a SAT solver's clausal proof in, and

@@ -16,9 +16,6 @@ pub small_row : (zs : Tuple) → All (λ x. x ≤ 255) zs → SmallValues zs
 small_row zs h = each_other (λ x. x ≤ 255) (λ x. x < 256) (λ x few. omega (arith, few)) zs (recursion_from_All (λ x. x ≤ 255) zs h)
 
 module _ (modulus least weight : ℕ) (others : List ℕ) (few : weight ≤ modulus) (so : All (λ v. v < 256) others) (symmetric : Bool) (s : Simplex) (is : IsTaskSimplex s) (four : length s ≤ 4) (zs : Tuple) (sz : All (λ x. x ≤ 255) zs) (long : length zs ≡ length s) where
-  abbrev labels_of_it : List ℕ
-  labels_of_it = map (label symmetric) s
-
   good_at : (at : ℕ) → AllByRecursion (IsGood modulus (length (drop at (map (label symmetric) s)))) (parts least others weight (drop at (map (label symmetric) s)) (drop at zs))
   good_at at =
       parts_good modulus least others weight few (recursion_from_All (λ v. v < 256) others so) (drop at (map (label symmetric) s)) (drop at zs)

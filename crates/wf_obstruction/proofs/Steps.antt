@@ -126,21 +126,11 @@ all_set f old start number items order done are =
 
 -- ---- one value more
 
-pub next_piece : {X : Type 0} (f : ℕ → List X) (items new : List X) (value : ℕ) (rest values : List ℕ) → values ≡ value ∷ rest → new ≡ items ++ f value → new ++ flat_map f rest ≡ items ++ flat_map f values
-next_piece f items new value rest values split put =
-    ap (λ l. l ++ flat_map f rest) put ∙ append_assoc items (f value) (flat_map f rest) ∙ sym (ap (λ l. items ++ flat_map f l) split)
-
 pub all_pieces : {X : Type 0} (f : ℕ → List X) (start : ℕ) (old items : List X) (values others : List ℕ) → values ≡ [] → items ++ flat_map f values ≡ old ++ flat_map f others → items ≡ take start old ++ (drop start old ++ flat_map f others)
 all_pieces f start old items values others done same =
     sym (append-nil items) ∙ sym (ap (λ l. items ++ flat_map f l) done) ∙ same
     ∙ ap (λ l. l ++ flat_map f others) (sym (take_drop start old))
     ∙ append_assoc (take start old) (drop start old) (flat_map f others)
-
-pub still_taken : {X : Type 0} (end : ℕ) (items more new old : List X) → end ≤ length items → new ≡ items ++ more → take end items ≡ old → take end new ≡ old
-still_taken end items more new old few put kept = ap (take end) put ∙ take-append-le end items more few ∙ kept
-
-pub still_long : {X : Type 0} (end : ℕ) (items more new : List X) → end ≤ length items → new ≡ items ++ more → end ≤ length new
-still_long end items more new few put = let l = length-append items more in let e = ap length put in omega (arith, l, e, few)
 
 -- ---- from the last place to the first
 
