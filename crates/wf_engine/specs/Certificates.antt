@@ -1,5 +1,5 @@
--- A run over two sources: a task, and a certificate about it. A certificate is an obstruction if its
--- first line says so, and is a report otherwise.
+-- A run over two sources: a task, and a certificate about it. A certificate is an obstruction if
+-- its first line says so, and is a report otherwise.
 use Rattle.std.specs.Prelude.{◌≡◌, ◌<◌, ◌==◌, ◌⊎◌, ℕ, true, false, not, List, [], ◌∷◌, ◌++◌, length, codes, Option, None, Some, Result, Ok, Err, if◌then◌else◌}
 use Rattle.wf_model.specs.Limits.{most_bytes}
 use Rattle.wf_model.specs.Task.{Task}
@@ -51,8 +51,8 @@ by_line xs fault = fault
 abbrev pub fault_of : Task → Obstruction → Option ObstructionFault
 fault_of t o = obstruction_fault t o.modulus o.sum o.tuples
 
--- An obstruction that is accepted: it is about the task and has no fault. So no function on the views
--- is a decision map, after any number of rounds.
+-- An obstruction that is accepted: it is about the task and has no fault. So no function on the
+-- views is a decision map, after any number of rounds.
 pub record IsSound (t : Task) (o : Obstruction) : Type 0 where
   pub front : front_fault t o ≡ None
   pub faultless : fault_of t o ≡ None

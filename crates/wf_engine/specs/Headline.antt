@@ -99,8 +99,8 @@ RefutationsAreTrue =
 
 -- ---- what an obstruction shows
 
--- If an obstruction is accepted, the source of the task gave its bytes. After every number of rounds
--- no function on the views is a decision map. The sink took the line that says so.
+-- If an obstruction is accepted, the source of the task gave its bytes. After every number of
+-- rounds no function on the views is a decision map. The sink took the line that says so.
 abbrev pub ObstructionsAreTrue : Type 0
 ObstructionsAreTrue =
     (rounds : Option ℕ) (task task' source source' : Reading) (sink sink' : Writing)

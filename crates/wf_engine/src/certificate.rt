@@ -23,7 +23,7 @@ use wf_task::{LONGEST, Task};
 
 /// Reads a task to its reader's end, and then a certificate about it to its own reader's end.
 /// Checks the certificate, and writes what is accepted. If the first line says that the certificate
-/// is an obstruction, it is checked as one. Otherwise the certificate is a report, and is checked as
+/// is an obstruction, it is checked as one. Otherwise it is a report, and is checked as
 /// [`run_verify`](crate::run_verify) does.
 ///
 /// If an obstruction is accepted, no function on the views is a decision map, after any number of

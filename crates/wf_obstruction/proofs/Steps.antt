@@ -1,7 +1,7 @@
 -- Loops over some of the elements of a vector.
 use Rattle.std.proofs.Common.{◌≡◌, ℕ, zero, suc, ◌+◌, ◌-◌, ◌<◌, ◌≤◌, List, [], ◌∷◌, ◌++◌, map, flat_map, take, drop, get_or, slice_index, length, refl, sym, ap, ap₂, ◌∙◌, arith, append-nil, append_assoc, drop-cons, length-drop}
 use Rattle.std.specs.List.{slice_set}
-use Rattle.std.proofs.lemmas.List.{get_or_append_left, get_or-drop, get_or-take, length-append, length-take-le, map-append, take-append-le, take_more}
+use Rattle.std.proofs.lemmas.List.{get_or_append_left, get_or-drop, get_or-take, length-take-le, map-append, take_more}
 
 pub take_all : {X : Type 0} (xs : List X) (n : ℕ) → n ≡ length xs → take n xs ≡ xs
 take_all [] zero h = refl

@@ -40,8 +40,8 @@ sums_fault t modulus sum xs =
     else if not (adds_up modulus sum [] [] (terms t xs)) then Some OtherSum
     else option_map NotCancelled (first_uncancelled t modulus xs)
 
--- the first reason why the tuples are no obstruction: the numbers in front, the tuples in order, the
--- sums
+-- the first reason why the tuples are no obstruction: the numbers in front, the tuples in order,
+-- the sums
 abbrev pub obstruction_fault : Task → ℕ → ℕ → List WeightedTuple → Option ObstructionFault
 obstruction_fault t modulus sum xs =
     if not (first_block t == 1) then Some FirstBlock

@@ -23,8 +23,8 @@ use wf_simplex::Simplex;
 use wf_task::Task;
 
 /// Whether the weighted tuples are an obstruction of the task modulo a number, with this sum on the
-/// empty face. Then the task has no decision map after any number of rounds. Else the first fault is
-/// answered, in the order of [`ObstructionFault`], or that memory ran out.
+/// empty face. Then the task has no decision map after any number of rounds. Otherwise answers the
+/// first fault, in the order of [`ObstructionFault`], or that memory ran out.
 ///
 /// It takes memory for 16 bytes a term, of at most 16,777,216 terms.
 pub fn is_obstruction(

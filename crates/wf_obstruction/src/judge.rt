@@ -1,13 +1,13 @@
 //! Weighted tuples one by one.
 
-ghost use Rattle.std.specs.Prelude.{◌≡◌, ◌<◌, ◌≤◌, All, length, map, MatchOption};
+ghost use Rattle.std.specs.Prelude.{◌≡◌, ◌<◌};
 ghost use Rattle.std.specs.List.{list_any, list_all};
 ghost use Rattle.wf_model.specs.Lists.{has};
-ghost use Rattle.wf_model.specs.Task.{IsTask, values};
+ghost use Rattle.wf_model.specs.Task.{values};
 ghost use Rattle.wf_set.specs.Sets.{values_in};
-ghost use Rattle.wf_counting.specs.Obstruction.{parts, same_numbers, terms};
+ghost use Rattle.wf_counting.specs.Obstruction.{same_numbers};
 ghost use Rattle.wf_obstruction.specs.Tuples.{tuple_seen, tuples_seen};
-ghost use Rattle.wf_obstruction.specs.Judge.{Judges, most_terms, tuple_fault, tuples_fault};
+ghost use Rattle.wf_obstruction.specs.Judge.{Judges, tuple_fault, tuples_fault};
 
 use crate::fault::ObstructionFault;
 use crate::tuple::WeightedTuple;

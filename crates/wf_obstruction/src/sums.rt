@@ -1,6 +1,6 @@
 //! Sums of terms.
 
-ghost use Rattle.std.specs.Prelude.{◌≡◌, ◌<◌, ◌==◌, ◌||◌, ◌&&◌, ℕ, IfOk, nat_lt, not};
+ghost use Rattle.std.specs.Prelude.{◌≡◌, ◌<◌, ◌==◌, ◌||◌, ◌&&◌, ℕ, IfOk, not};
 ghost use Rattle.wf_model.specs.Lists.{has};
 ghost use Rattle.wf_obstruction.specs.Terms.{AreLeft, is_left};
 

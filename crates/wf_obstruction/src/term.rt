@@ -1,6 +1,6 @@
 //! Terms: weights where faces have values.
 
-ghost use Rattle.std.specs.Prelude.{◌≡◌, ◌≤◌, ◌<◌, ◌^◌};
+ghost use Rattle.std.specs.Prelude.{◌≡◌, ◌<◌, ◌^◌};
 ghost use Rattle.wf_obstruction.specs.Terms.{IsRoomy, opposed, placed};
 
 /// A weight where a face has some values.

@@ -43,8 +43,8 @@ pub(crate) fn put_terms(
     Ok(())
 }
 
-/// Gives the terms from a number on one place more. If the place has the least value, the terms stay
-/// as they are, and behind them come their opposites with each other value there.
+/// Gives the terms from a number on one place more. If the place has the least value, the terms
+/// stay as they are, and behind them come their opposites with each other value there.
 fn put_place(
     base: &Base,
     place: Place,

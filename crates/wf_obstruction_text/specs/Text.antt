@@ -53,7 +53,7 @@ begins_as_obstruction text = begins_with (line (codes "wfcheck obstruction 1") [
 abbrev pub first_line : ℕ
 first_line = 6
 
--- the line of the tuple at this place, where the tuples from this line on follow one at this simplex
+-- the line of the tuple at this place, if the tuples from this line on follow one at this simplex
 abbrev pub line_from : ℕ → Option ℕ → List WeightedTuple → ℕ → ℕ
 line_from k before [] place = k
 line_from k before (x ∷ xs) place =

@@ -2,7 +2,7 @@
 //!
 //! - [`Obstruction`]: what a text lists.
 //! - [`write_obstruction`], [`read_obstruction`]: from an obstruction to its text, and back.
-//! - [`is_obstruction_text`]: whether a text begins as one of an obstruction, by its [`FIRST_LINE`].
+//! - [`is_obstruction_text`]: whether the first line of a text is [`FIRST_LINE`].
 //! - [`line_of_tuple`]: the line at which a tuple stands.
 //!
 //! The laws say that the text of an obstruction is read as that obstruction, and that what is read
