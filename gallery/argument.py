@@ -1,8 +1,9 @@
 #!/usr/bin/env python3
-"""argument.py TASK REPORT: a report of none as an argument that a person can read, as `wfcheck explain` writes it.
+"""argument.py TASK REPORT: a report of none as an argument that a person can read, as `wfcheck explain` writes it. REPORT may also
+be the text of an obstruction.
 
-It is written from the definitions in crates/wf_argument/specs and shares no code with the program. It takes the report as it is:
-`second_opinion.py` says whether it holds."""
+It is written from the definitions in crates/wf_argument/specs and crates/wf_obstruction_words/specs, and shares no code with the
+program. It takes the report as it is: `second_opinion.py` says whether it holds."""
 import itertools
 import sys
 
@@ -10,6 +11,7 @@ from reports import Unreadable, read
 from second_opinion import faces, given, judge, point_of, seen_after, simplex_of, words_of
 
 DEEPEST, MOST_TOLD = 12, 8
+OBSTRUCTION, MOST_TUPLES = "wfcheck obstruction 1\n", 24
 
 
 def listed(texts, between, last):
@@ -152,8 +154,61 @@ def text_of(task, report):
     return "".join(line + "\n" for line in lines)
 
 
+def obstruction_of(text):
+    """The numbers of the header by their names, and the weighted tuples: a simplex, a weight and the values."""
+    header, tuples, simplex = {}, [], None
+    for line in text.split("\n")[1:-2]:
+        name, *words = line.split(" ")
+        numbers = [int(word) for word in words]
+        if name == "s":
+            simplex = numbers[0]
+        elif name == "t":
+            tuples.append((simplex, numbers[0], tuple(numbers[1:])))
+        else:
+            header[name] = numbers[0]
+    return header, tuples
+
+
+def decisions_text(values, tuples):
+    """What is decided: one of these tuples, which are different and ascend."""
+    first, told = tuples[0], [" ".join(map(str, values)) for values in tuples]
+    if len(first) >= 2 and tuples == [(value,) * len(first) for value in values]:
+        return "all decide the same"
+    if len(first) >= 3 and tuples == list(itertools.permutations(first)):
+        return f"decide {listed([str(x) for x in first], ', ', ' and ')}, one each"
+    if len(told) <= MOST_TUPLES:
+        return f"decide {any_of(told)}"
+    return f"decide {', '.join(told[:MOST_TUPLES])}, or one of {len(told) - MOST_TUPLES} more"
+
+
+def obstruction_text_of(task, text):
+    """An obstruction in words."""
+    header, tuples = obstruction_of(text)
+    inputs = sorted({f for s in task["inputs"] for f in faces(simplex_of(s))}, key=lambda s: (len(s), s))
+    values = sorted({v for s in task["outputs"] for _, v in s})
+    lines = []
+    for (simplex, weight), group in itertools.groupby(sorted(set(tuples)), lambda it: it[:2]):
+        vertices = ", ".join(f"p{p}={x}" for p, x in (inputs[simplex] if simplex < len(inputs) else ()))
+        times = f", {weight} times each" if weight > 1 else ""
+        lines.append(f"\n  of {{{vertices}}} that {decisions_text(values, [it[2] for it in group])}{times}")
+    modulus = header["modulus"]
+    symmetric = " In a symmetric task points are views up to the names of the processes." if task["symmetric"] else ""
+    signs = ("An execution of n processes after r rounds counts with a minus sign if n * r and the number of blocks in its words"
+             " differ by an odd number.\n")
+    return "".join([
+        f"No decision map after any number of rounds: a count modulo {modulus}.\n\n",
+        f"Give each point any value.{symmetric} Count the executions{','.join(lines)}.\n",
+        signs if modulus > 2 else "",
+        "The task allows none of these decisions. But whatever values the points have, the count is ",
+        f"{header['sum']} modulo {modulus}. So it is not 0.\n",
+    ])
+
+
 def main():
     task, text = given("argument.py", __doc__)
+    if text.startswith(OBSTRUCTION):
+        sys.stdout.write(obstruction_text_of(task, text))
+        return
     try:
         sys.stdout.write(text_of(task, text))
     except (Unreadable, KeyError, IndexError, ValueError) as fault:

@@ -18,6 +18,8 @@ mod checkers;
 #[cfg(test)]
 mod clauses;
 #[cfg(test)]
+mod finder;
+#[cfg(test)]
 mod obstructions;
 #[cfg(test)]
 mod proofs;
@@ -33,3 +35,5 @@ mod tasks;
 mod texts;
 #[cfg(test)]
 mod views;
+#[cfg(test)]
+mod words;

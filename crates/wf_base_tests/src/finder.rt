@@ -1,0 +1,66 @@
+//! Tests of the finder: tasks of which it is known whether they have an obstruction.
+
+use std::test::Fail;
+use wf_examples::{CONSENSUS_2, RENAMING_2_3};
+use wf_finder::{Found, find_obstruction};
+use wf_task::Task;
+
+/// Consensus of two processes, whose first block has both.
+const FIRST_BLOCK: &str = concat!(
+    r#"{"delta":[{"in":[[0,0]],"out":[[0]]},{"in":[[1,1]],"out":[[1]]},{"in":[[0,0],[1,"#,
+    r#"1]],"out":[[0,0],[1,1]]}],"first_block":2,"inputs":[[[0,0],[1,1]]],"#,
+    r#""outputs":[[[0,0],[1,0]],[[0,1],[1,1]]],"processes":2,"symmetric":false,"#,
+    r#""version":2}"#,
+);
+
+/// A task of three processes with an obstruction modulo 4, and none modulo 2.
+const FOUR: &str = concat!(
+    r#"{"delta":[{"in":[[0,0]],"out":[[0],[1],[2]]},{"in":[[1,0]],"out":[[0],[1],[2]]},"#,
+    r#"{"in":[[2,0]],"out":[[0],[1],[2]]},{"in":[[0,0],[1,0]],"out":[[0,0],[0,1],[0,2],"#,
+    r#"[1,0],[1,2],[2,0],[2,1],[2,2]]},{"in":[[0,0],[2,0]],"out":[[0,0],[0,1],[0,2],[1,"#,
+    r#"0],[1,2],[2,0],[2,1],[2,2]]},{"in":[[1,0],[2,0]],"out":[[0,0],[0,1],[0,2],[1,0],"#,
+    r#"[1,2],[2,0],[2,1],[2,2]]},{"in":[[0,0],[1,0],[2,0]],"out":[[0,1,0],[0,1,2],[0,2,"#,
+    r#"0],[1,0,2],[1,2,0]]}],"inputs":[[[0,0],[1,0],[2,0]]],"outputs":[[[0,0],[1,0]],"#,
+    r#"[[0,0],[2,1]],[[0,2],[1,0]],[[0,2],[1,1]],[[0,2],[1,2]],[[0,2],[2,0]],[[0,2],[2,"#,
+    r#"1]],[[0,2],[2,2]],[[1,0],[2,0]],[[1,0],[2,1]],[[1,2],[2,1]],[[1,2],[2,2]],[[0,"#,
+    r#"0],[1,1],[2,0]],[[0,0],[1,1],[2,2]],[[0,0],[1,2],[2,0]],[[0,1],[1,0],[2,2]],[[0,"#,
+    r#"1],[1,2],[2,0]]],"processes":3,"symmetric":true,"version":1}"#,
+);
+
+/// Each alone may not decide the input of the other one, and they may not decide differently.
+#[test]
+fn consensus(rt: HostRuntime) -> Result<(), Fail> {
+    let alloc = rt.alloc();
+    let task = Task::read_text(alloc, CONSENSUS_2.as_bytes())?;
+    let found = find_obstruction(alloc, &task, 2)?.expect(&rt, "an obstruction");
+    assert_eq!(rt; found.sum, 1);
+    assert_eq!(rt; found.tuples.len(), 4);
+    let Found { sum: _, tuples } = found;
+    let simplices: Vec<u32> = tuples.iter().map(|one| one.simplex).collect(alloc)?;
+    assert_eq!(rt; simplices.as_slice(), [0, 1, 2, 2].as_slice());
+    Ok(())
+}
+
+/// Two tasks that have a decision map.
+#[test]
+fn none(rt: HostRuntime) -> Result<(), Fail> {
+    let alloc = rt.alloc();
+    let task = Task::read_text(alloc, RENAMING_2_3.as_bytes())?;
+    assert!(rt; find_obstruction(alloc, &task, 2)?.is_none());
+    assert!(rt; find_obstruction(alloc, &task, 2_147_483_647)?.is_none());
+    assert!(rt; find_obstruction(alloc, &task, 1)?.is_none());
+    let task = Task::read_text(alloc, FIRST_BLOCK.as_bytes())?;
+    assert!(rt; find_obstruction(alloc, &task, 2)?.is_none());
+    Ok(())
+}
+
+/// A power of a prime may have an obstruction where the prime has none.
+#[test]
+fn four(rt: HostRuntime) -> Result<(), Fail> {
+    let alloc = rt.alloc();
+    let task = Task::read_text(alloc, FOUR.as_bytes())?;
+    assert!(rt; find_obstruction(alloc, &task, 2)?.is_none());
+    let found = find_obstruction(alloc, &task, 4)?.expect(&rt, "an obstruction");
+    assert_eq!(rt; found.sum, 2);
+    Ok(())
+}

@@ -1,0 +1,125 @@
+//! Why the finder gave up, and its limits.
+
+ghost use Rattle.std.specs.Prelude.{◌≡◌, ◌<◌, ◌≤◌, MatchResult};
+ghost use Rattle.wf_finder.specs.declared.fault.FinderFault.TheVariants.{OutOfMemory, TooManyEntries, TooManyEquations, TooManySteps, TooManyUnknowns};
+
+use std::alloc::{AllocError, AllocFailed};
+use wf_obstruction::ObstructionFault;
+
+/// The most unknowns of a system.
+pub const MOST_UNKNOWNS: u64 = 4_000_000;
+
+/// The most equations of a system.
+pub const MOST_EQUATIONS: u64 = 4_000_000;
+
+/// The most entries that are kept at a time: factors of unknowns in equations, notes of which
+/// equations were taken away from which, and weights.
+pub const MOST_ENTRIES: u64 = 40_000_000;
+
+/// The most steps for a prime power. In a step a factor of an equation is taken away from another
+/// one.
+pub const MOST_STEPS: u64 = 1_073_741_824;
+
+/// Why the finder gave up. It says nothing about whether the task has an obstruction.
+#[derive(Clone, Copy, Debug, PartialEq, Eq)]
+pub enum FinderFault {
+    /// The system has more than [`MOST_UNKNOWNS`] unknowns.
+    TooManyUnknowns {
+        /// How many there are, or were when the finder gave up.
+        count: u64,
+    },
+    /// The system has more than [`MOST_EQUATIONS`] equations.
+    TooManyEquations {
+        /// How many there were when the finder gave up.
+        count: u64,
+    },
+    /// More than [`MOST_ENTRIES`] entries would have to be kept.
+    TooManyEntries {
+        /// How many there were when the finder gave up.
+        count: u64,
+    },
+    /// More than [`MOST_STEPS`] steps would be needed.
+    TooManySteps {
+        /// How many there were when the finder gave up.
+        count: u64,
+    },
+    /// The checker refuses what was found, for this reason. That it can only be too many terms is
+    /// not proved.
+    Refused {
+        /// The reason.
+        fault: ObstructionFault,
+    },
+    /// A number that the finder keeps names nothing, or doesn't divide another one. No task is
+    /// known for which this comes. That it never comes is not proved.
+    Internal,
+    /// Memory ran out.
+    OutOfMemory,
+}
+
+impl From<AllocError> for FinderFault {
+    ghost from_gives = { λ _ fault. fault ≡ OutOfMemory };
+
+    fn from(_refused: AllocError) -> FinderFault {
+        FinderFault::OutOfMemory
+    }
+}
+
+impl<T: Drop> From<AllocFailed<T>> for FinderFault {
+    ghost from_gives = { λ _ fault. fault ≡ OutOfMemory };
+
+    fn from(_refused: AllocFailed<T>) -> FinderFault {
+        FinderFault::OutOfMemory
+    }
+}
+
+/// Refuses more unknowns than [`MOST_UNKNOWNS`].
+pub(crate) fn judge_unknowns(count: u64) -> Result<(), FinderFault>
+    ensures { MatchResult result (λ _. count ≤ MOST_UNKNOWNS)
+        (λ fault. (MOST_UNKNOWNS < count) × (fault ≡ TooManyUnknowns count)) }
+{
+    if count > MOST_UNKNOWNS {
+        return Err(FinderFault::TooManyUnknowns { count });
+    }
+    Ok(())
+}
+
+/// Refuses more equations than [`MOST_EQUATIONS`].
+pub(crate) fn judge_equations(count: u64) -> Result<(), FinderFault>
+    ensures { MatchResult result (λ _. count ≤ MOST_EQUATIONS)
+        (λ fault. (MOST_EQUATIONS < count) × (fault ≡ TooManyEquations count)) }
+{
+    if count > MOST_EQUATIONS {
+        return Err(FinderFault::TooManyEquations { count });
+    }
+    Ok(())
+}
+
+/// Refuses more entries than [`MOST_ENTRIES`].
+pub(crate) fn judge_entries(count: u64) -> Result<(), FinderFault>
+    ensures { MatchResult result (λ _. count ≤ MOST_ENTRIES)
+        (λ fault. (MOST_ENTRIES < count) × (fault ≡ TooManyEntries count)) }
+{
+    if count > MOST_ENTRIES {
+        return Err(FinderFault::TooManyEntries { count });
+    }
+    Ok(())
+}
+
+/// Refuses more steps than [`MOST_STEPS`].
+pub(crate) fn judge_steps(count: u64) -> Result<(), FinderFault>
+    ensures { MatchResult result (λ _. count ≤ MOST_STEPS)
+        (λ fault. (MOST_STEPS < count) × (fault ≡ TooManySteps count)) }
+{
+    if count > MOST_STEPS {
+        return Err(FinderFault::TooManySteps { count });
+    }
+    Ok(())
+}
+
+/// A place in a list as a number of four bytes.
+pub(crate) fn number(place: usize) -> Result<u32, FinderFault> {
+    match u32::try_from(place) {
+        Ok(number) => Ok(number),
+        Err(_) => Err(FinderFault::Internal),
+    }
+}

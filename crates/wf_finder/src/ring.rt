@@ -1,0 +1,98 @@
+//! Arithmetic modulo a power of a prime.
+
+ghost use Rattle.std.specs.Prelude.{◌<◌};
+
+/// The most doublings of a number below 2^32.
+const MOST_DOUBLINGS: u8 = 32;
+
+/// The numbers modulo a power of a prime.
+#[derive(Clone, Copy)]
+pub(crate) struct Ring {
+    /// The power.
+    pub(crate) modulus: u32,
+    /// The prime.
+    pub(crate) prime: u32,
+    ghost some: { 0 < modulus },
+    ghost some_prime: { 0 < prime },
+}
+
+impl Ring {
+    /// A number and a product, added.
+    #[inline]
+    pub(crate) fn add_product(self, number: u32, factor: u32, times: u32) -> u32 {
+        if self.modulus == 2 {
+            return number ^ (factor & times);
+        }
+        let product = u64::from(factor) * u64::from(times);
+        ((u64::from(number) + product) % u64::from(self.modulus)) as u32
+    }
+
+    /// The sum of two numbers.
+    pub(crate) fn sum(self, number: u32, other: u32) -> u32 {
+        self.add_product(number, other, 1)
+    }
+
+    /// The product of two numbers.
+    pub(crate) fn product(self, factor: u32, times: u32) -> u32 {
+        self.add_product(0, factor, times)
+    }
+
+    /// What gives 0 when it is added to a number.
+    pub(crate) fn negative(self, number: u32) -> u32 {
+        (self.modulus - number % self.modulus) % self.modulus
+    }
+
+    /// Whether a number has an inverse.
+    pub(crate) fn is_unit(self, number: u32) -> bool {
+        number % self.prime != 0
+    }
+
+    /// The inverse of a number that has one.
+    ///
+    /// It is a power of the number, as the numbers with an inverse are a group.
+    pub(crate) fn inverse(self, unit: u32) -> u32 {
+        if unit == 1 {
+            return 1;
+        }
+        let count = self.modulus - self.modulus / self.prime;
+        self.power(unit, count.saturating_sub(1))
+    }
+
+    /// A number to this power.
+    fn power(self, number: u32, exponent: u32) -> u32 {
+        let mut result_so_far = 1;
+        let mut square = number;
+        let mut left = exponent;
+        for _ in 0..MOST_DOUBLINGS {
+            if left % 2 == 1 {
+                result_so_far = self.product(result_so_far, square);
+            }
+            square = self.product(square, square);
+            left /= 2;
+        }
+        result_so_far
+    }
+
+    /// The largest power of the prime that divides a number other than 0.
+    pub(crate) fn part(self, number: u32) -> u32 {
+        let mut part = 1u32;
+        for _ in 0..MOST_DOUBLINGS {
+            let next = part.saturating_mul(self.prime);
+            if !divides(next, number) {
+                return part;
+            }
+            part = next;
+        }
+        part
+    }
+
+    /// How often this number goes into the modulus.
+    pub(crate) fn share(self, number: u32) -> u32 {
+        self.modulus / number.max(1)
+    }
+}
+
+/// Whether the first number divides the second.
+pub(crate) fn divides(divisor: u32, number: u32) -> bool {
+    divisor != 0 && number % divisor == 0
+}

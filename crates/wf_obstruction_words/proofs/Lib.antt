@@ -1,0 +1,6 @@
+mod Ascending
+mod Firsts
+mod Listing
+mod Runs
+mod Sorting
+mod Whole

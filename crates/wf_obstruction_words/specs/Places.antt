@@ -1,0 +1,19 @@
+-- What stands at a place of a list, behind what parts it from the place before.
+use Rattle.std.specs.Prelude.{ℕ, zero, suc, ◌==◌, false, List, [], ◌++◌, slice_index, codes, decimal, if◌then◌else◌}
+use Rattle.wf_model.specs.Simplex.{Simplex, processes_of, values_of}
+use Rattle.wf_model.specs.PointsText.{process_text}
+
+-- what stands before the element at a place of a list of this length
+abbrev pub separator : List ℕ → List ℕ → ℕ → ℕ → List ℕ
+separator between last zero size = []
+separator between last (suc n) size = if suc (suc n) == size then last else between
+
+-- what stands before an element, if all but the first have this text before them
+abbrev pub before_at : List ℕ → ℕ → List ℕ
+before_at text zero = []
+before_at text (suc n) = text
+
+abbrev pub vertex_in : Simplex → ℕ → List ℕ
+vertex_in s place =
+    before_at (codes ", ") place
+    ++ (process_text false (slice_index (processes_of s) place) ++ (codes "=" ++ decimal (slice_index (values_of s) place)))
