@@ -131,8 +131,8 @@ fn verify_obstruction(
     accept(alloc, task, &obstruction, rounds)
 }
 
-/// The obstruction of a text.
-fn obstruction_of(alloc: Global, text: &[u8]) -> Result<Obstruction, RunFault>
+/// The obstruction of a text. It is refused if its text is none: `1 TooLong`, `20 Syntax`.
+pub fn obstruction_of(alloc: Global, text: &[u8]) -> Result<Obstruction, RunFault>
     ensures { IsObstructionOf text.now (read_as_obstruction result) }
 {
     Ok(read_obstruction(alloc, text)?)
@@ -148,13 +148,18 @@ fn accept(
     ensures { JudgesObstruction rounds task.now (obstruction_seen obstruction.now)
         (answered result) }
 {
-    judge(alloc, task, obstruction)?;
+    judge_obstruction(alloc, task, obstruction)?;
     let text = never_text(alloc, rounds)?;
     Ok((Verified::Obstruction, text.into_bytes()))
 }
 
-/// Accepts an obstruction that is about a task and has no fault.
-pub fn judge(alloc: Global, task: &Task, obstruction: &Obstruction) -> Result<(), RunFault>
+/// Accepts an obstruction that is about a task and has no fault. Else it is refused by its header
+/// (21), by its first fault (50 to 59), or since memory ran out.
+pub fn judge_obstruction(
+    alloc: Global,
+    task: &Task,
+    obstruction: &Obstruction,
+) -> Result<(), RunFault>
     ensures { IsSoundOrRefused task.now (obstruction_seen obstruction.now) result }
 {
     if obstruction.processes != u32::from(task.processes()) {

@@ -19,7 +19,8 @@
 //! - [`run_proof`]: a task's text and a SAT solver's clausal proof in, and
 //!   that no decision map is accepted out.
 //! - [`run_preset`]: the canonical text of a [`Preset`] out.
-//! - [`read_task`], [`read_report_from`], [`read_proof_from`], [`check_report`], [`write_points`],
+//! - [`read_task`], [`read_report_from`], [`read_proof_from`], [`report_of`], [`obstruction_of`],
+//!   [`check_report`], [`judge_obstruction`], [`write_points`],
 //!   [`pose_problem`], [`lines_kept`], [`map_body`], [`report_text`], [`accepted_words`],
 //!   [`hand_out`]: steps that runs share, for those of other crates too.
 //! - [`RunFault`]: why a run is refused, with its number and its name;
@@ -49,7 +50,7 @@ mod steps;
 mod verify;
 mod views;
 
-pub use certificate::{judge, run_verify_certificate};
+pub use certificate::{judge_obstruction, obstruction_of, run_verify_certificate};
 pub use cnf::run_cnf;
 pub use decisions::run_decisions;
 pub use fault::{PartFault, RunFault};
@@ -70,7 +71,7 @@ pub use solve::{
     lines_kept, map_body, pose_problem, report_text, run_solve, run_solve_one, run_solve_watched,
 };
 pub use steps::{hand_out, read_task};
-pub use verify::{accepted_words, check_report, read_report_from, run_verify};
+pub use verify::{accepted_words, check_report, read_report_from, report_of, run_verify};
 pub use views::run_views;
 pub use wf_pool::MAX_WORKERS;
 pub use wf_preset::{Inputs, Preset};

@@ -70,8 +70,8 @@ pub fn read_report_from<C: Read>(alloc: Global, source: &mut Source<C>) -> Resul
     report_of(alloc, &text)
 }
 
-/// The report of a text.
-fn report_of(alloc: Global, text: &[u8]) -> Result<Report, RunFault>
+/// The report of a text. It is refused if its text is none: `1 TooLong`, `20 Syntax`.
+pub fn report_of(alloc: Global, text: &[u8]) -> Result<Report, RunFault>
     ensures read { IsReportOf text.now (seen result) }
     ensures few { IfOk result (λ report. AreNumbered (body_length report.body)) }
 {
