@@ -4,6 +4,7 @@ pub mod Shortening
 pub mod Accepting
 pub mod Trimmed
 pub mod Explained
+pub mod ExplainCounts
 pub mod WasRead
 pub mod LiftSteps
 pub mod LiftTruth

@@ -1,12 +1,14 @@
-//! Telling a report in words: what a map decides, or why there is none.
+//! Telling a certificate in words: what a map decides, why there is no map, or why there is none
+//! after any number of rounds.
 
-ghost use Rattle.std.specs.Prelude.{◌≡◌, None, IfOk};
+ghost use Rattle.std.specs.Prelude.{◌≡◌, IfOk};
 ghost use Rattle.wf_io.specs.Ends.{CanRead};
 ghost use Rattle.wf_complex.specs.Protocol.{IsProtocol};
 ghost use Rattle.wf_report.specs.Reports.{AreNumbered, body_length, body_of, report_seen};
-ghost use Rattle.wf_engine.specs.Run.{answered};
-ghost use Rattle.wf_engine.specs.Verify.{CanVerify, Checks, IsVerified};
-ghost use Rattle.wf_program.specs.Explaining.{AreExplained, Explains, body_explained};
+ghost use Rattle.wf_obstruction_text.specs.Seen.{obstruction_seen};
+ghost use Rattle.wf_engine.specs.Run.{Reads, answered};
+ghost use Rattle.wf_engine.specs.Verify.{CanVerify, IsVerified};
+ghost use Rattle.wf_program.specs.Explaining.{AreExplained, Explains, ExplainsBoth, ExplainsObstruction, ExplainsReport, ExplainsText, TellsObstruction, body_explained};
 
 use crate::trim::shortened;
 use std::alloc::{AllocError, Global};
@@ -14,49 +16,120 @@ use std::io::{Read, Write};
 use std::thread::Threads;
 use wf_argument::write_argument;
 use wf_complex::Protocol;
-use wf_engine::{RunFault, check_report, hand_out, read_report_from, read_task, write_points};
-use wf_io::{Sink, Source};
+use wf_engine::{
+    RunFault, check_report, hand_out, judge_obstruction, obstruction_of, read_task, report_of,
+    write_points,
+};
+use wf_io::{Sink, Source, read_all};
+use wf_obstruction_text::{Obstruction, is_obstruction_text};
+use wf_obstruction_words::write_obstruction_argument;
 use wf_report::{Body, Report};
-use wf_task::Task;
+use wf_task::{LONGEST, Task};
 
-/// Reads a task and a report about it, and checks the report, as
-/// [`run_verify`](wf_engine::run_verify) does; then it writes in words, where the report has a map,
-/// the points of the protocol complex with what the map decides at each, and where it says that
-/// there is none, the argument that its lines make, without those that are not needed.
+/// Reads a task and a certificate about it, and checks the certificate, as
+/// [`run_verify_certificate`](wf_engine::run_verify_certificate) does. Then it writes in words what
+/// the certificate says:
+///
+/// - a report with a map: the points of the protocol complex with what the map decides at each;
+/// - a report that there is no map: the argument that its lines make, without those that are not
+///   needed;
+/// - an obstruction: why there is no map after any number of rounds.
 pub fn run_explain<T: Threads + Sync, R: Read, C: Read, W: Write>(
     rt: &T,
     alloc: Global,
     task_source: &mut Source<R>,
-    report_source: &mut Source<C>,
+    source: &mut Source<C>,
     sink: &mut Sink<W>,
 ) -> Result<(), RunFault>
-    requires { CanVerify task_source.old report_source.old sink.old }
-    ensures { Explains task_source.old task_source.new report_source.old report_source.new
+    requires { CanVerify task_source.old source.old sink.old }
+    ensures { Explains task_source.old task_source.new source.old source.new
         sink.old sink.new result }
 {
-    let answer = explain_sources(rt, alloc, task_source, report_source);
+    let answer = explain_sources(rt, alloc, task_source, source);
     hand_out(sink, answer)
 }
 
-/// The report of a source in words, where it is about another source's task.
+/// The certificate of a source in words, if it is about another source's task.
 fn explain_sources<T: Threads + Sync, R: Read, C: Read>(
     rt: &T,
     alloc: Global,
     task_source: &mut Source<R>,
-    report_source: &mut Source<C>,
+    source: &mut Source<C>,
 ) -> Result<((), Vec<u8>), RunFault>
     requires task { CanRead task_source.old }
-    requires report { CanRead report_source.old }
-    ensures { Checks None AreExplained task_source.old task_source.new
-        report_source.old report_source.new (answered result) }
+    requires certificate { CanRead source.old }
+    ensures { ExplainsBoth task_source.old task_source.new source.old source.new
+        (answered result) }
 {
     let task = read_task(alloc, task_source)?;
-    let report = read_report_from(alloc, report_source)?;
-    explain_report(rt, alloc, &task, report)
+    explain_source(rt, alloc, &task, source)
+}
+
+/// The certificate of a source in words, if it is about the task.
+fn explain_source<T: Threads + Sync, C: Read>(
+    rt: &T,
+    alloc: Global,
+    task: &Task,
+    source: &mut Source<C>,
+) -> Result<((), Vec<u8>), RunFault>
+    requires { CanRead source.old }
+    ensures { Reads (ExplainsText task.now) source.old source.new (answered result) }
+{
+    let text = read_all(alloc, source, LONGEST)?;
+    explain_text(rt, alloc, task, &text)
+}
+
+/// The certificate of a text in words, if it is about the task.
+fn explain_text<T: Threads + Sync>(
+    rt: &T,
+    alloc: Global,
+    task: &Task,
+    text: &[u8],
+) -> Result<((), Vec<u8>), RunFault>
+    ensures { ExplainsText task.now text.now (answered result) }
+{
+    if is_obstruction_text(text) {
+        explain_obstruction(alloc, task, text)
+    } else {
+        explain_report(rt, alloc, task, text)
+    }
+}
+
+/// The obstruction of a text in words, if it is one of the task.
+fn explain_obstruction(alloc: Global, task: &Task, text: &[u8]) -> Result<((), Vec<u8>), RunFault>
+    ensures { ExplainsObstruction task.now text.now (answered result) }
+{
+    let obstruction = obstruction_of(alloc, text)?;
+    tell_obstruction(alloc, task, &obstruction)
+}
+
+/// An obstruction in words, if it is one of the task.
+fn tell_obstruction(
+    alloc: Global,
+    task: &Task,
+    obstruction: &Obstruction,
+) -> Result<((), Vec<u8>), RunFault>
+    ensures { TellsObstruction task.now (obstruction_seen obstruction.now) (answered result) }
+{
+    judge_obstruction(alloc, task, obstruction)?;
+    Ok(((), write_obstruction_argument(alloc, task, obstruction)?))
+}
+
+/// The report of a text in words, if it is about the task.
+fn explain_report<T: Threads + Sync>(
+    rt: &T,
+    alloc: Global,
+    task: &Task,
+    text: &[u8],
+) -> Result<((), Vec<u8>), RunFault>
+    ensures { ExplainsReport task.now text.now (answered result) }
+{
+    let report = report_of(alloc, text)?;
+    tell_report(rt, alloc, task, report)
 }
 
 /// A report about a task in words.
-fn explain_report<T: Threads + Sync>(
+fn tell_report<T: Threads + Sync>(
     rt: &T,
     alloc: Global,
     task: &Task,

@@ -4,7 +4,8 @@ ghost use Rattle.wf_program.specs.Explaining.{ExplainingIsCounted, ExplanationsA
 
 /// What an explanation writes are the words for a report about the task and the rounds of the
 /// report that it read, with the same answer and some of its lines, which is true: where the words
-/// say that there is no decision map, no function on the views is one.
+/// say that there is no decision map, no function on the views is one. Or they are the words for an
+/// obstruction, and after every number of rounds no function on the views is a decision map.
 pub fn explanations_are_true()
     ensures { ExplanationsAreTrue }
 {}
