@@ -7,7 +7,7 @@ use wf_obstruction::{
     is_obstruction,
 };
 use wf_obstruction_text::{
-    line_of_tuple, obstructions_are_read_as_written, obstructions_are_written_as_read,
+    Obstruction, line_of_tuple, obstructions_are_read_as_written, obstructions_are_written_as_read,
     read_obstruction, write_obstruction,
 };
 use wf_task::Task;
@@ -22,15 +22,21 @@ fn an_obstruction_is_read_accepted_and_written(rt: HostRuntime) -> Result<(), Fa
     let alloc = rt.alloc();
     let task = Task::read_text(alloc, CONSENSUS_2.as_bytes())?;
     let obstruction = read_obstruction(alloc, DISAGREEMENT.as_bytes())?;
-    let (modulus, tuples) = (obstruction.modulus, &obstruction.tuples);
-    assert!(rt; is_obstruction(alloc, &task, modulus, 1, tuples).is_ok());
+    let modulus = obstruction.modulus;
+    assert!(rt; is_obstruction(alloc, &task, modulus, 1, &obstruction.tuples).is_ok());
     // the last tuple stands at line 12, behind three lines of simplices
-    assert_eq!(rt; line_of_tuple(tuples, 3), 12);
-    // without it the terms on both processes together do not cancel
-    let fewer = is_obstruction(alloc, &task, modulus, 1, &tuples[..3]);
-    assert_eq!(rt; fewer, Err(ObstructionFault::NotCancelled { simplex: 0 }));
+    assert_eq!(rt; line_of_tuple(&obstruction.tuples, 3), 12);
     let written = write_obstruction(alloc, &obstruction)?;
     assert_eq!(rt; written.as_slice(), DISAGREEMENT.as_bytes());
+    // without the last tuple the terms of process 0 alone do not cancel
+    let Obstruction {
+        tuples: mut fewer,
+        ..
+    } = obstruction;
+    let last = fewer.pop();
+    assert!(rt; last.is_some());
+    let fault = is_obstruction(alloc, &task, modulus, 1, &fewer);
+    assert_eq!(rt; fault, Err(ObstructionFault::NotCancelled { simplex: 0 }));
     an_obstruction_has_no_fault();
     faultless_tuples_are_an_obstruction();
     obstructions_are_read_as_written();
