@@ -167,6 +167,9 @@ lift_asked rows = needed piece.Task (task_of rows) (λ path. this_job_on path (�
 abbrev pub executions_asked : List Row → Asked
 executions_asked rows = needed piece.Rounds (rounds_of rows) (λ rounds. this_job (job.Executions rounds))
 
+abbrev pub obstruction_asked : List Row → Asked
+obstruction_asked rows = this_job (job.Obstruction (number_of (codes "modulus") rows) (has_flag (codes "progress") rows))
+
 -- the options of a preset
 abbrev pub options_of : List Row → ℕ → Options
 options_of rows processes = record {
@@ -201,6 +204,7 @@ jobs = (codes "solve", solve_asked)
     ∷ (codes "explain", explain_asked)
     ∷ (codes "lift", lift_asked)
     ∷ (codes "executions", executions_asked)
+    ∷ (codes "obstruction", obstruction_asked)
     ∷ (codes "preset", preset_job_asked) ∷ []
 
 -- what the subcommand of this name asks for, by its options

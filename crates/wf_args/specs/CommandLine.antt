@@ -1,5 +1,5 @@
 -- The command line as it is read: its subcommands, with their options and what these take.
-use Rattle.std.specs.Prelude.{List, [], ◌∷◌, Some, true, false, codes, pos}
+use Rattle.std.specs.Prelude.{ℕ, List, [], ◌∷◌, Some, true, false, codes, pos}
 use Rattle.clap.specs.Simple.{App, Shape, new_rule, new_shape}
 use Rattle.clap.specs.Walk.{Rule, Text}
 use Rattle.clap.specs.declared.builder.action.ArgAction.TheVariants.{Set, SetTrue}
@@ -27,6 +27,14 @@ task_option = record (new_rule (codes "task")) { long = Some (codes "task"); act
 -- `--workers W`, from 1 to as many as a run may have
 abbrev pub workers_option : Rule
 workers_option = record (number_option (codes "workers")) { parser = Some (parser.Signed (pos 1) (pos most_workers)) }
+
+-- the largest modulus that may be asked for
+abbrev pub largest_modulus : ℕ
+largest_modulus = 2147483647
+
+-- `--modulus M`
+abbrev pub modulus_option : Rule
+modulus_option = record (number_option (codes "modulus")) { parser = Some (parser.Signed (pos 2) (pos largest_modulus)) }
 
 -- a word without a name
 abbrev pub kind_word : Rule
@@ -88,6 +96,9 @@ lift = subcommand (codes "lift") (required task_option ∷ number_option (codes 
 abbrev pub executions : Shape
 executions = subcommand (codes "executions") (rounds ∷ [])
 
+abbrev pub obstruction : Shape
+obstruction = subcommand (codes "obstruction") (modulus_option ∷ flag_option (codes "progress") ∷ [])
+
 abbrev pub preset : Shape
 preset = subcommand (codes "preset")
     (required kind_word ∷ required (number_option (codes "processes")) ∷ number_option (codes "k")
@@ -97,5 +108,5 @@ preset = subcommand (codes "preset")
 abbrev pub command_line : App
 command_line = record {
   top = record (new_shape (codes "wfcheck")) { is_leaf = false; has_version = true; subcommand_required = true };
-  subs = solve ∷ verify ∷ views ∷ points ∷ branches ∷ join ∷ cnf ∷ model ∷ proof ∷ trim ∷ explain ∷ lift ∷ executions ∷ preset ∷ [];
+  subs = solve ∷ verify ∷ views ∷ points ∷ branches ∷ join ∷ cnf ∷ model ∷ proof ∷ trim ∷ explain ∷ lift ∷ executions ∷ obstruction ∷ preset ∷ [];
 }

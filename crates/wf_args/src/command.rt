@@ -5,7 +5,7 @@ ghost use Rattle.clap.specs.Words.{app_of};
 ghost use Rattle.wf_args.specs.CommandLine as line;
 ghost use Rattle.wf_args.specs.Building.{Adds, IsLeaf, IsOption, Takes, with_first};
 
-use crate::limits::MOST_WORKERS;
+use crate::limits::{LARGEST_MODULUS, LEAST_MODULUS, MOST_WORKERS};
 use crate::version::VERSION;
 use clap::{Arg, ArgAction, Command, value_parser};
 use std::alloc::{AllocError, Global};
@@ -17,6 +17,10 @@ const KINDS: &str =
 /// What the help of `proof` says of the texts.
 const PROOFS: &str =
     "The proof is DRAT as text, as CaDiCaL and Kissat write it with --no-binary: lemmas and deletions. Each lemma has to\nfollow by unit propagation from the formula and the lemmas before it, and the contradiction at last. Then the\ntask has no decision map after these rounds, whatever the solver did, and the answer is: accepted none at R rounds.\nA proof is refused where a lemma does not follow so, which those that need RAT do not, or where it ends too soon.";
+
+/// What the help of `obstruction` says of the answers.
+const OBSTRUCTIONS: &str =
+    "Status 0: an obstruction is written; verify accepts it, and explain tells it in words.\nStatus 1: none was found, and standard error tells which moduli were tried. The task may still have no decision map.\nExample: wfcheck obstruction < gallery/set-agreement-3-2.json";
 
 fn number<'a>(alloc: Global, name: &'a str, help: &'a str) -> Arg<'a>
     ensures { IsOption (line.required (line.number_option name.now)) result }
@@ -323,6 +327,40 @@ fn executions_command<'a>(alloc: Global) -> Result<Command<'a>, AllocError>
     .arg(rounds(alloc))
 }
 
+/// The modulus of an obstruction, which may be left out.
+fn modulus<'a>(alloc: Global) -> Arg<'a>
+    ensures { IsOption line.modulus_option result }
+{
+    let least = LEAST_MODULUS as i64;
+    let largest = LARGEST_MODULUS as i64;
+    optional(
+        alloc,
+        "modulus",
+        "The modulus to count by, 2 to 2147483647; without it 2, 3, 4, 5, 7, 8, 9 and 2147483647 are tried in turn",
+    )
+    .value_parser(value_parser!(u32).range(least..=largest))
+}
+
+fn obstruction_command<'a>(alloc: Global) -> Result<Command<'a>, AllocError>
+    ensures { IfOk result (IsLeaf line.obstruction) }
+{
+    let command = subcommand(
+        alloc,
+        "obstruction",
+        "Read a task on standard input, and look for an obstruction: a short certificate that it has no decision map after any number of rounds",
+    )
+    .after_help(OBSTRUCTIONS)
+    .arg(modulus(alloc));
+    taking(
+        command,
+        flag(
+            alloc,
+            "progress",
+            "Tell on standard error how many unknowns and equations there are",
+        ),
+    )
+}
+
 /// The kind of a preset.
 fn kind<'a>(alloc: Global) -> Arg<'a>
     ensures { IsOption (line.required line.kind_word) result }
@@ -413,5 +451,6 @@ pub(crate) fn whole_command<'a>(alloc: Global) -> Result<Command<'a>, AllocError
     let command = adding(command, explain_command(alloc));
     let command = adding(command, lift_command(alloc));
     let command = adding(command, executions_command(alloc));
+    let command = adding(command, obstruction_command(alloc));
     adding(command, preset_command(alloc))
 }

@@ -6,7 +6,7 @@ ghost use Rattle.clap.specs.Words.{first_of, found_of, rows_of, subcommand_rows_
 ghost use Rattle.wf_args.specs.Job.{CanBeDone};
 ghost use Rattle.wf_args.specs.declared.WordsFault.TheVariants as fault;
 ghost use Rattle.wf_args.specs.declared.slip.Slip.TheVariants as slip;
-ghost use Rattle.wf_args.specs.Asked.{Answers, this_or_slip, asked_in, asked_of, branch_job, branches_asked, cnf_asked, executions_asked, explain_asked, has_flag, join_asked, lift_asked, model_asked, number_of, points_asked, preset_job_asked, proof_asked, solve_asked, trim_asked, verify_asked, verify_branch, verify_whole, views_asked, workers_of};
+ghost use Rattle.wf_args.specs.Asked.{Answers, this_or_slip, asked_in, asked_of, branch_job, branches_asked, cnf_asked, executions_asked, explain_asked, has_flag, join_asked, lift_asked, model_asked, number_of, obstruction_asked, points_asked, preset_job_asked, proof_asked, solve_asked, this_job, trim_asked, verify_asked, verify_branch, verify_whole, views_asked, workers_of};
 
 use crate::forms::form_of;
 use crate::limits::MOST_WORKERS;
@@ -91,6 +91,7 @@ fn job_of(alloc: Global, name: &str, found: &ArgMatches<'_>) -> Result<Job, Word
         "explain" => explain_job(alloc, found),
         "lift" => lift_job(alloc, found),
         "executions" => this(executions_job(found)),
+        "obstruction" => this(Ok(obstruction_job(found))),
         "preset" => this(preset_job(found)),
         _ => Err(missing(Piece::Command)),
     }
@@ -342,6 +343,17 @@ fn executions_job(found: &ArgMatches<'_>) -> Result<Job, Slip>
 {
     let rounds = number(found, "rounds").ok_or(Slip::Missing(Piece::Rounds))?;
     Ok(Job::Executions { rounds })
+}
+
+/// The job of `obstruction`.
+fn obstruction_job(found: &ArgMatches<'_>) -> Job
+    ensures asked { this_job result ≡ obstruction_asked (rows_of (found_of found.now)) }
+    ensures can_be_done { CanBeDone result }
+{
+    Job::Obstruction {
+        modulus: number(found, "modulus"),
+        progress: flag(found, "progress"),
+    }
 }
 
 /// The job of `preset`.

@@ -142,6 +142,13 @@ pub enum Job {
         /// How many rounds the map is to be for, where they are asked for; else it is one more.
         rounds: Option<u32>,
     },
+    /// Look for an obstruction of a task, by which it has no decision map after any number of rounds.
+    Obstruction {
+        /// The modulus, where one is asked for; else some are tried in turn.
+        modulus: Option<u32>,
+        /// Whether it is told how the finder goes on.
+        progress: bool,
+    },
     /// List the executions of a task's protocol complex after some rounds.
     Executions {
         /// How many rounds.

@@ -1,15 +1,15 @@
 -- What holds after every run of the program.
 use Rattle.std.specs.Prelude.{◌≡◌, ◌+◌, ◌*◌, ◌≤◌, ◌==◌, ◌⊎◌, ℕ, Option, Some, None, Result, Ok, if◌then◌else◌}
 use Rattle.wf_model.specs.Limits.{most_bytes}
-use Rattle.wf_core.specs.declared.Account.{Account}
 use Rattle.wf_io.specs.Seen.{Reading, Writing}
 use Rattle.wf_engine.specs.Proofs.{most_proof_bytes}
 use Rattle.wf_branches.specs.Joining.{most_parts_bytes}
 use Rattle.wf_args.specs.declared.Job.{Job}
 use Rattle.wf_args.specs.declared.Job.TheVariants.{Verify, VerifyBranch, Decisions, Join, Model, Proof, Trim, Explain, Lift}
 use Rattle.wf_args.specs.declared.WordsFault.{WordsFault}
+use Rattle.wf_program.specs.declared.done.Note.{Note}
 use Rattle.wf_program.specs.Files.{Filing, Opens}
-use Rattle.wf_program.specs.Program.{GivenWords, IsAsked, Serves, TellsAccount}
+use Rattle.wf_program.specs.Program.{GivenWords, IsAsked, Serves, TellsNote}
 
 -- how many files a job opens
 abbrev pub file_count : Result Job WordsFault → ℕ
@@ -53,13 +53,13 @@ pub record IsFiled {F : Type 0} (asked : Result Job WordsFault) (folder folder' 
 
 -- The status is at most 4, and 4 exactly where one call of the source, the sink, the folder or the
 -- file that it opened failed. At most one byte more is taken than the text may have that the job
--- reads. At 0 and 1 nothing is told but an account, and nothing is written at 2 and 3.
+-- reads. At 0 and 1 nothing is told but a note, and nothing is written at 2 and 3.
 pub record IsServed {F : Type 0} (asked : Result Job WordsFault) (folder folder' : Filing F) (source source' : Reading) (sink sink' errors errors' : Writing) (status : ℕ) : Type 0 where
   pub most : status ≤ 4
   pub files : (failed : ℕ) × IsFiled asked folder folder' failed
       × (source'.failures + sink'.failures + failed ≡ (source.failures + sink.failures) + failed_calls status)
   pub taken : source'.taken ≤ source.taken + (most_read asked + 1)
-  pub quiet : status ≤ 1 → (account : Option Account) × TellsAccount errors errors' account
+  pub quiet : status ≤ 1 → (note : Option Note) × TellsNote errors errors' note
   pub unwritten : (status ≡ 2) ⊎ (status ≡ 3) → sink' ≡ sink
 
 -- `folder` is the folder before the run

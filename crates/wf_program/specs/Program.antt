@@ -4,7 +4,7 @@ use Rattle.std.specs.declared.alloc.Global.{Global}
 use Rattle.clap.specs.Words.{kind_of}
 use Rattle.clap.specs.declared.error.Error.{Error}
 use Rattle.clap.specs.declared.error.ErrorKind.TheVariants as kind
-use Rattle.wf_core.specs.declared.Account.{Account}
+use Rattle.wf_core.specs.declared.Account as core
 use Rattle.wf_model.specs.Task.{Task}
 use Rattle.wf_model.specs.ViewsText.{views_text}
 use Rattle.wf_formula.specs.Dimacs.{question_text}
@@ -35,19 +35,25 @@ use Rattle.wf_branches.specs.Joining.{Joins}
 use Rattle.wf_branches.specs.Refuting.{RefutesBranch}
 use Rattle.wf_branches.specs.Solving.{SolvesBranch}
 use Rattle.wf_branches.specs.Verifying.{VerifiesBranch}
+use Rattle.wf_obstruction_engine.specs.Finding.{FindsObstruction, gave_up_text, tried_text}
+use Rattle.wf_obstruction_engine.specs.declared.finding.Finding.{Finding}
+use Rattle.wf_obstruction_engine.specs.declared.finding.Finding.TheVariants.{Found, NotFound, GaveUp}
 use Rattle.wf_args.specs.Asked.{Answers, job_asked}
 use Rattle.wf_args.specs.Slips.{slip_line}
 use Rattle.wf_args.specs.declared.Job.{Job}
-use Rattle.wf_args.specs.declared.Job.TheVariants.{Solve, SolveBranch, Verify, VerifyBranch, Views, Points, Branches, Join, Cnf, Model, Proof, Decisions, Trim, Explain, Lift, Executions, Preset}
+use Rattle.wf_args.specs.declared.Job.TheVariants.{Solve, SolveBranch, Verify, VerifyBranch, Views, Points, Branches, Join, Cnf, Model, Proof, Decisions, Trim, Explain, Lift, Executions, Obstruction, Preset}
 use Rattle.wf_args.specs.declared.WordsFault.{WordsFault}
 use Rattle.wf_args.specs.declared.WordsFault.TheVariants as fault
 use Rattle.wf_program.specs.Files.{Opening, Opens, opened, refused, Filing, CanAsk, after_asking, unread}
 use Rattle.wf_program.specs.AccountText.{account_line}
 use Rattle.wf_program.specs.VersionText.{version_line}
 use Rattle.wf_program.specs.declared.done.Done.{Done}
+use Rattle.wf_program.specs.declared.done.Note.{Note}
+use Rattle.wf_program.specs.declared.done.Note.TheVariants.{Account, NoObstruction}
 use Rattle.wf_program.specs.declared.filed.Filed.{Filed}
 use Rattle.wf_program.specs.declared.filed.Filed.TheVariants as filed
 use Rattle.wf_program.specs.declared.refusal.Refusal.{Refusal}
+use Rattle.wf_program.specs.declared.refusal.Refusal.TheVariants as refusal
 use Rattle.wf_program.specs.declared.refusal.Refusal.TheVariants.{Run, Words, Clap}
 
 -- ---- refusals
@@ -61,6 +67,7 @@ fault_status e = 2
 
 abbrev pub refusal_status : Refusal → ℕ
 refusal_status (Run e) = fault_status e
+refusal_status (refusal.GaveUp at) = 2
 refusal_status (Words slip) = 2
 refusal_status (Clap e negative) = 2
 
@@ -71,6 +78,7 @@ refusal_line name = codes "wfcheck: " ++ (name ++ 10 ∷ [])
 -- what is told of a refusal, where it is known
 abbrev pub refusal_text : Refusal → Option (List ℕ)
 refusal_text (Run e) = Some (refusal_line (fault_text e))
+refusal_text (refusal.GaveUp at) = Some (refusal_line (gave_up_text at))
 refusal_text (Words slip) = Some (refusal_line (codes "32 Words") ++ slip_line slip)
 refusal_text (Clap e negative) = None
 
@@ -86,12 +94,17 @@ abbrev pub IsAsked : GivenWords → Result Job WordsFault → Type 0
 IsAsked (Ok words) asked = Answers (job_asked (map string_bytes words.items)) asked
 IsAsked (Err e) asked = asked ≡ Err e
 
--- ---- the account of a search
+-- ---- notes
 
--- an account is told, or nothing
-abbrev pub TellsAccount : Writing → Writing → Option Account → Type 0
-TellsAccount old new (Some a) = Told old new (account_line a)
-TellsAccount old new None = new ≡ old
+-- the account of a search, or the moduli without an obstruction
+abbrev pub note_line : Note → List ℕ
+note_line (Account a) = account_line a
+note_line (NoObstruction tried) = tried_text tried ++ 10 ∷ []
+
+-- a note is told, or nothing
+abbrev pub TellsNote : Writing → Writing → Option Note → Type 0
+TellsNote old new (Some note) = Told old new (note_line note)
+TellsNote old new None = new ≡ old
 
 -- ---- what is done, or why it is refused
 
@@ -100,20 +113,27 @@ outcome_status Map = 0
 outcome_status Nothing = 1
 
 -- a search whose account is told, and one without an account
-abbrev pub solved : Result (Outcome × Account) RunFault → Result Done Refusal
-solved (Ok (outcome, a)) = Ok (record { status = outcome_status outcome; account = Some a })
+abbrev pub solved : Result (Outcome × core.Account) RunFault → Result Done Refusal
+solved (Ok (outcome, a)) = Ok (record { status = outcome_status outcome; note = Some (Account a) })
 solved (Err e) = Err (Run e)
 
 abbrev pub searched : Result Outcome RunFault → Result Done Refusal
-searched (Ok outcome) = Ok (record { status = outcome_status outcome; account = None })
+searched (Ok outcome) = Ok (record { status = outcome_status outcome; note = None })
 searched (Err e) = Err (Run e)
 
+-- a search for an obstruction
+abbrev pub sought : Result Finding RunFault → Result Done Refusal
+sought (Ok Found) = Ok (record { status = 0; note = None })
+sought (Ok (NotFound tried)) = Ok (record { status = 1; note = Some (NoObstruction tried) })
+sought (Ok (GaveUp at)) = Err (refusal.GaveUp at)
+sought (Err e) = Err (Run e)
+
 abbrev pub verified : Result Verified RunFault → Result Done Refusal
-verified (Ok accepted) = Ok (record { status = 0; account = None })
+verified (Ok accepted) = Ok (record { status = 0; note = None })
 verified (Err e) = Err (Run e)
 
 abbrev pub written : Result (Unit {0}) RunFault → Result Done Refusal
-written (Ok done) = Ok (record { status = 0; account = None })
+written (Ok done) = Ok (record { status = 0; note = None })
 written (Err e) = Err (Run e)
 
 -- what is done with the task of one source and what another gives, and the text that is written
@@ -163,7 +183,7 @@ ListsOf text_of rounds source source' sink sink' done =
 -- what a job without a file does
 abbrev pub DoesAlone : Job → Reading → Reading → Writing → Writing → Result Done Refusal → Type 0
 DoesAlone (Solve rounds workers form true progress) source source' sink sink' done =
-    (result : Result (Outcome × Account) RunFault) × Solves rounds form source source' sink sink' result
+    (result : Result (Outcome × core.Account) RunFault) × Solves rounds form source source' sink sink' result
     × (workers ≡ 1 → SearchesInOrder result) × (done ≡ solved result)
 DoesAlone (Solve rounds workers form false progress) source source' sink sink' done =
     (result : Result Outcome RunFault) × Finds rounds form source source' sink sink' result × (done ≡ searched result)
@@ -175,6 +195,8 @@ DoesAlone (Branches rounds) source source' sink sink' done = ListsOf branches_te
 DoesAlone (Executions rounds) source source' sink sink' done = ListsOf executions_text rounds source source' sink sink' done
 DoesAlone (Cnf rounds branch) source source' sink sink' done =
     (result : Result (Unit {0}) RunFault) × ListsQuestion branch rounds source source' sink sink' result × (done ≡ written result)
+DoesAlone (Obstruction modulus progress) source source' sink sink' done =
+    (result : Result Finding RunFault) × FindsObstruction modulus source source' sink sink' result × (done ≡ sought result)
 DoesAlone (Preset preset) source source' sink sink' done =
     (result : Result (Unit {0}) RunFault) × WritesPreset preset sink sink' result × (source' ≡ source) × (done ≡ written result)
 DoesAlone job source source' sink sink' done = ⊥
@@ -241,7 +263,7 @@ DoesAsked opens (Err e) folder folder' source source' sink sink' done = (folder'
 
 -- the exit status; an account that is asked for is told, and so is a refusal, and nothing else
 abbrev pub Ends : Writing → Writing → Result Done Refusal → ℕ → Type 0
-Ends errors errors' (Ok done) result = (result ≡ done.status) × TellsAccount errors errors' done.account
+Ends errors errors' (Ok done) result = (result ≡ done.status) × TellsNote errors errors' done.note
 Ends errors errors' (Err e) result = (result ≡ refusal_status e) × Tells errors errors' (refusal_text e)
 
 -- the words were judged, what they ask for was done, and it was told how that ended

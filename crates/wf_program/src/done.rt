@@ -2,23 +2,44 @@
 
 ghost use Rattle.std.specs.Prelude.{◌≡◌, Some};
 ghost use Rattle.wf_program.specs.AccountText.{account_line};
-ghost use Rattle.wf_program.specs.Program.{outcome_status, searched, solved, verified, written};
+ghost use Rattle.wf_program.specs.Program.{note_line, outcome_status, searched, solved, sought, verified, written};
 
 use crate::refusal::Refusal;
 use std::fmt;
 use wf_core::Account;
 use wf_engine::{Outcome, RunFault, Verified};
+use wf_obstruction_engine::{Finding, Tried};
 
-/// What was done: its exit status, and the account that is to be told.
+/// What was done: its exit status, and what is to be told on the error stream.
 #[derive(Clone, Copy, Debug)]
 pub(crate) struct Done {
     pub(crate) status: u8,
-    pub(crate) account: Option<Account>,
+    pub(crate) note: Option<Note>,
+}
+
+/// What is told of a run that was not refused.
+#[derive(Clone, Copy, Debug)]
+pub(crate) enum Note {
+    /// The account of a search.
+    Account(Account),
+    /// There is no obstruction modulo these numbers.
+    NoObstruction(Tried),
+}
+
+impl fmt::Display for Note {
+    ghost output = { λ note. Some (note_line note) };
+
+    fn fmt<W: fmt::Write>(&self, f: &mut fmt::Formatter<W>) -> fmt::Result {
+        match *self {
+            Note::Account(account) => write!(f, "{}", AccountLine(account)),
+            Note::NoObstruction(tried) => writeln!(f, "{tried}"),
+        }
+    }
 }
 
 /// The line that tells an account.
 #[derive(Clone, Copy, Debug)]
-pub(crate) struct AccountLine(pub(crate) Account);
+struct AccountLine(Account);
 
 impl fmt::Display for AccountLine {
     ghost output = { λ line. Some (account_line line.0) };
@@ -44,7 +65,7 @@ pub(crate) fn after_verifying(found: Result<Verified, RunFault>) -> Result<Done,
     match found {
         Ok(_) => Ok(Done {
             status: 0,
-            account: None,
+            note: None,
         }),
         Err(fault) => Err(Refusal::Run(fault)),
     }
@@ -57,7 +78,7 @@ pub(crate) fn after_solving(found: Result<(Outcome, Account), RunFault>) -> Resu
     match found {
         Ok((outcome, account)) => Ok(Done {
             status: status_of(outcome),
-            account: Some(account),
+            note: Some(Note::Account(account)),
         }),
         Err(fault) => Err(Refusal::Run(fault)),
     }
@@ -70,7 +91,7 @@ pub(crate) fn after_searching(found: Result<Outcome, RunFault>) -> Result<Done, 
     match found {
         Ok(outcome) => Ok(Done {
             status: status_of(outcome),
-            account: None,
+            note: None,
         }),
         Err(fault) => Err(Refusal::Run(fault)),
     }
@@ -93,8 +114,26 @@ pub(crate) fn after_writing(found: Result<(), RunFault>) -> Result<Done, Refusal
     match found {
         Ok(()) => Ok(Done {
             status: 0,
-            account: None,
+            note: None,
         }),
+        Err(fault) => Err(Refusal::Run(fault)),
+    }
+}
+
+/// What is answered after a search for an obstruction.
+pub(crate) fn after_seeking(found: Result<Finding, RunFault>) -> Result<Done, Refusal>
+    ensures { result ≡ sought found }
+{
+    match found {
+        Ok(Finding::Found) => Ok(Done {
+            status: 0,
+            note: None,
+        }),
+        Ok(Finding::NotFound(tried)) => Ok(Done {
+            status: 1,
+            note: Some(Note::NoObstruction(tried)),
+        }),
+        Ok(Finding::GaveUp(gave_up)) => Err(Refusal::GaveUp(gave_up)),
         Err(fault) => Err(Refusal::Run(fault)),
     }
 }

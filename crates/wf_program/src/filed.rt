@@ -77,6 +77,7 @@ impl Filed {
             | Job::Branches { .. }
             | Job::Cnf { .. }
             | Job::Executions { .. }
+            | Job::Obstruction { .. }
             | Job::Preset(_) => return None,
         };
         Some((filed, task.as_str()))

@@ -6,11 +6,12 @@ ghost use Rattle.wf_io.specs.Ends.{CanCount, CanWrite};
 ghost use Rattle.wf_io.specs.Texts.{Tells};
 ghost use Rattle.wf_engine.specs.Texts.{Finds, SearchesInOrder, Solves};
 ghost use Rattle.wf_branches.specs.Solving.{SolvesBranch};
+ghost use Rattle.wf_obstruction_engine.specs.Finding.{FindsObstruction};
 ghost use Rattle.wf_args.specs.Job.{CanBeDone};
 ghost use Rattle.wf_program.specs.Files.{CanAsk};
 ghost use Rattle.wf_program.specs.Program.{CanServe, Declines, Does, DoesAlone, Ends, IsAsked, ListsQuestion, Serves, Shows, filed_of};
 
-use crate::done::{AccountLine, Done, after_searching, after_solving, after_writing};
+use crate::done::{Done, after_searching, after_seeking, after_solving, after_writing};
 use crate::executions::run_executions;
 use crate::filed::Filed;
 use crate::files::{Files, Folder};
@@ -29,20 +30,22 @@ use wf_engine::{
     run_solve, run_solve_watched, run_views,
 };
 use wf_io::{Sink, Source};
+use wf_finder::{Listener, Silent};
+use wf_obstruction_engine::{Finding, run_obstruction};
 use wf_pool::Gate;
 
 /// Runs what the words ask for, the first of which is the program's own name, and answers the exit
 /// status. Where the words could not be had, that is the refusal.
 ///
-/// 0: a map was found, a report or a proof is accepted, or the text was written. 1: there is no
-/// map. 2: the task, the rounds, the report, the proof or the words are refused. 3: memory ran out.
+/// 0: a map or an obstruction was found, a report or a proof is accepted, or the text was written.
+/// 1: there is no map, or no obstruction was found. 2: the task, the rounds, the report, the proof or the words are refused. 3: memory ran out.
 /// 4: a read or a write failed, or a file could not be opened. A refusal is one line on `errors`,
 /// with a second one where words are read that make no job, and so is the account of a search that
 /// was not refused, where the words ask for it.
 ///
 /// Where the words ask for progress, the gate is told of a search while it goes on. What a gate
 /// does with that is the caller's: what it writes is no part of `errors`.
-pub fn run_program<T: Threads + Sync, F: Files, G: Gate, R: Read, W: Write, E: Write>(
+pub fn run_program<T: Threads + Sync, F: Files, G: Gate + Listener, R: Read, W: Write, E: Write>(
     rt: &T,
     alloc: Global,
     folder: &mut Folder<F>,
@@ -72,7 +75,7 @@ fn job_of(alloc: Global, words: Result<Vec<String>, WordsFault>) -> Result<Job, 
 }
 
 /// Does what a job asks for.
-fn do_job<T: Threads + Sync, F: Files, G: Gate, R: Read, W: Write>(
+fn do_job<T: Threads + Sync, F: Files, G: Gate + Listener, R: Read, W: Write>(
     rt: &T,
     alloc: Global,
     folder: &mut Folder<F>,
@@ -94,7 +97,7 @@ fn do_job<T: Threads + Sync, F: Files, G: Gate, R: Read, W: Write>(
 }
 
 /// Does what a job without a file asks for.
-fn do_alone<T: Threads + Sync, G: Gate, R: Read, W: Write>(
+fn do_alone<T: Threads + Sync, G: Gate + Listener, R: Read, W: Write>(
     rt: &T,
     alloc: Global,
     gate: &G,
@@ -141,6 +144,10 @@ fn do_alone<T: Threads + Sync, G: Gate, R: Read, W: Write>(
         }
         Job::Executions { rounds } => {
             after_writing(run_executions(alloc, source, sink, *rounds))
+        }
+        Job::Obstruction { modulus, progress } => {
+            let listener = if *progress { Some(gate) } else { None };
+            after_seeking(seek_source(alloc, listener, source, sink, *modulus))
         }
         Job::Preset(preset) => after_writing(run_preset(alloc, sink, *preset)),
         Job::Verify { .. }
@@ -218,6 +225,24 @@ fn search_source<G: Gate, R: Read, W: Write>(
     }
 }
 
+/// Looks for an obstruction of the source's task. If there is a listener, it is told how the search
+/// goes on.
+fn seek_source<L: Listener, R: Read, W: Write>(
+    alloc: Global,
+    listener: Option<&L>,
+    source: &mut Source<R>,
+    sink: &mut Sink<W>,
+    modulus: Option<u32>,
+) -> Result<Finding, RunFault>
+    requires { CanCount source.old sink.old }
+    ensures { FindsObstruction modulus source.old source.new sink.old sink.new result }
+{
+    match listener {
+        Some(listener) => run_obstruction(alloc, source, sink, modulus, listener),
+        None => run_obstruction(alloc, source, sink, modulus, &Silent),
+    }
+}
+
 /// Writes the question of the source's task, or that of one of its branches.
 fn ask_source<R: Read, W: Write>(
     alloc: Global,
@@ -263,16 +288,15 @@ fn show<W: Write, T: Display>(alloc: Global, sink: &mut Sink<W>, text: &T) -> Re
     after_writing(hand_out(sink, answer))
 }
 
-/// The exit status; an account is told, or a refusal. Nothing more can be
-/// done where that fails too.
+/// The exit status. A note is told, or a refusal. Nothing more can be done if that fails too.
 fn end<E: Write>(alloc: Global, errors: &mut Sink<E>, done: Result<Done, Refusal>) -> u8
     requires { CanWrite errors.old }
     ensures { Ends errors.old errors.new done result }
 {
     match done {
         Ok(done) => {
-            if let Some(account) = done.account {
-                tell(alloc, errors, AccountLine(account));
+            if let Some(note) = done.note {
+                tell(alloc, errors, note);
             }
             done.status
         }

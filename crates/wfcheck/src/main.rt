@@ -11,6 +11,7 @@ use std::sync::atomic::AtomicU64;
 use std::sync::atomic::Ordering::SeqCst;
 use std::{env, fs, io, rt};
 use wf_args::WordsFault;
+use wf_finder::Listener;
 use wf_io::{Sink, Source};
 use wf_pool::{Gate, Moment};
 use wf_program::{Files, Folder, run_program};
@@ -80,6 +81,16 @@ impl<R: Eprint + Sync> Gate for Progress<'_, R> {
                 let _told = eprintln!(self.rt; "settled {settled} of {branches}");
             }
         }
+    }
+}
+
+impl<R: Eprint + Sync> Listener for Progress<'_, R> {
+    fn system(&self, modulus: u32, unknowns: u64) {
+        let _told = eprintln!(self.rt; "modulo {modulus}: {unknowns} unknowns");
+    }
+
+    fn equations(&self, modulus: u32, count: u64) {
+        let _told = eprintln!(self.rt; "modulo {modulus}: {count} equations taken in");
     }
 }
 

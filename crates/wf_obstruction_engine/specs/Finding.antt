@@ -1,0 +1,92 @@
+-- A run that looks for an obstruction of the task of a source, and writes what is found.
+use Rattle.std.specs.Prelude.{◌≡◌, ◌==◌, ◌++◌, ℕ, ⊥, Unit, Bool, true, List, [], ◌∷◌, Option, None, Some, Result, Ok, Err, codes, decimal}
+use Rattle.wf_model.specs.Lists.{has}
+use Rattle.wf_model.specs.Task.{Task, first_block}
+use Rattle.wf_io.specs.Seen.{Reading, Writing}
+use Rattle.wf_obstruction.specs.declared.fault.ObstructionFault.TheVariants.{FirstBlock}
+use Rattle.wf_obstruction_text.specs.Text.{Obstruction, obstruction_of}
+use Rattle.wf_engine.specs.Run.{Hands, IsTaskOf, Next, Reads}
+use Rattle.wf_engine.specs.Certificates.{IsSound}
+use Rattle.wf_engine.specs.declared.fault.RunFault.{RunFault}
+use Rattle.wf_engine.specs.declared.fault.RunFault.TheVariants as run
+use Rattle.wf_obstruction_engine.specs.declared.finding.Finding.{Finding}
+use Rattle.wf_obstruction_engine.specs.declared.finding.Finding.TheVariants.{Found, NotFound, GaveUp}
+use Rattle.wf_obstruction_engine.specs.declared.finding.GaveUp as gave_up
+use Rattle.wf_obstruction_engine.specs.declared.finding.Limit.{Limit}
+use Rattle.wf_obstruction_engine.specs.declared.finding.Limit.TheVariants as limit
+use Rattle.wf_obstruction_engine.specs.declared.finding.Tried.{Tried}
+use Rattle.wf_obstruction_engine.specs.declared.finding.Tried.TheVariants as tried
+
+-- ---- the answer
+
+-- the moduli that are tried in turn, if none is asked for
+abbrev pub moduli : List ℕ
+moduli = 2 ∷ 3 ∷ 4 ∷ 5 ∷ 7 ∷ 8 ∷ 9 ∷ 2147483647 ∷ []
+
+-- the modulus is the one that is asked for, or one of these
+abbrev pub is_tried : Option ℕ → ℕ → Bool
+is_tried (Some asked) modulus = modulus == asked
+is_tried None modulus = has moduli modulus
+
+-- A text that is written: it is read as an obstruction of the task, which `verify` accepts. So no
+-- function on the views is a decision map, after any number of rounds.
+pub record IsWritten (asked : Option ℕ) (t : Task) (text : List ℕ) : Type 0 where
+  pub obstruction : Obstruction
+  pub read : obstruction_of text ≡ Ok obstruction
+  pub tried : is_tried asked obstruction.modulus ≡ true
+  pub sound : IsSound t obstruction
+
+-- an obstruction is the answer if one was found, and otherwise the empty text is
+abbrev pub IsTextOf : Option ℕ → Task → Finding → List ℕ → Type 0
+IsTextOf asked t Found text = IsWritten asked t text
+IsTextOf asked t (NotFound moduli) text = text ≡ []
+IsTextOf asked t (GaveUp where) text = text ≡ []
+
+abbrev pub IsAnswer : Option ℕ → Task → Result (Finding × List ℕ) RunFault → Type 0
+IsAnswer asked t (Ok answer) = IsTextOf asked t answer.0 answer.1
+IsAnswer asked t (Err run.OutOfMemory) = Unit {0}
+IsAnswer asked t (Err e) = ⊥
+
+-- a task with a first block is refused
+abbrev pub Answers : Option ℕ → Task → Result (Finding × List ℕ) RunFault → Type 0
+Answers asked t (Ok answer) = (first_block t ≡ 1) × IsTextOf asked t answer.0 answer.1
+Answers asked t (Err (run.Obstruction FirstBlock)) = first_block t ≡ 1 → ⊥
+Answers asked t (Err run.OutOfMemory) = Unit {0}
+Answers asked t (Err e) = ⊥
+
+-- ---- the run
+
+abbrev pub SeeksIn : Option ℕ → Reading → Reading → Result (Finding × List ℕ) RunFault → Type 0
+SeeksIn asked source source' result =
+    (t : Result Task RunFault) × Reads IsTaskOf source source' t × Next (Answers asked) t result
+
+-- what was found was written; if the search gave up, the sink is as it was
+abbrev pub HandsFinding : Writing → Writing → Result (Finding × List ℕ) RunFault → Result Finding RunFault → Type 0
+HandsFinding old new (Ok (GaveUp where, text)) result = (result ≡ Ok (GaveUp where)) × (new ≡ old)
+HandsFinding old new answer result = Hands old new answer result
+
+-- an obstruction of the source's task was looked for, and what was found was written
+abbrev pub FindsObstruction : Option ℕ → Reading → Reading → Writing → Writing → Result Finding RunFault → Type 0
+FindsObstruction asked source source' sink sink' result =
+    (answer : Result (Finding × List ℕ) RunFault) × SeeksIn asked source source' answer × HandsFinding sink sink' answer result
+
+-- ---- what is told
+
+-- the moduli without an obstruction
+abbrev pub tried_text : Tried → List ℕ
+tried_text (tried.Only modulus) = codes "no obstruction modulo " ++ decimal modulus
+tried_text tried.Each = codes "no obstruction modulo 2, 3, 4, 5, 7, 8, 9, 2147483647"
+tried_text tried.AllNumbers = codes "no obstruction for any modulus"
+
+abbrev pub limit_text : Limit → List ℕ
+limit_text (limit.Unknowns count) = decimal count ++ codes " unknowns"
+limit_text (limit.Equations count) = decimal count ++ codes " equations"
+limit_text (limit.Entries count) = decimal count ++ codes " entries"
+limit_text (limit.Steps count) = decimal count ++ codes " steps"
+limit_text limit.Terms = codes "more terms than verify adds up"
+limit_text limit.Length = codes "a longer text than verify reads"
+limit_text limit.Internal = codes "an internal error"
+
+-- where the search gave up
+abbrev pub gave_up_text : gave_up.GaveUp → List ℕ
+gave_up_text at = codes "60 GaveUp modulo " ++ (decimal at.modulus ++ (codes ": " ++ limit_text at.limit))

@@ -1,0 +1,3 @@
+-- What contracts say, here and in the crates above.
+pub mod Finding
+pub mod Laws

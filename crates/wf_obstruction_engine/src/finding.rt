@@ -1,0 +1,96 @@
+//! What a search for an obstruction came to.
+
+ghost use Rattle.std.specs.Prelude.{Some};
+ghost use Rattle.wf_obstruction_engine.specs.Finding.{gave_up_text, limit_text, tried_text};
+
+use std::fmt;
+
+/// What a search for an obstruction came to.
+#[derive(Clone, Copy, Debug, PartialEq, Eq)]
+pub enum Finding {
+    /// An obstruction was found, and its text is the answer.
+    Found,
+    /// None was found modulo these numbers.
+    NotFound(Tried),
+    /// The search stopped at a limit. That says nothing about the task.
+    GaveUp(GaveUp),
+}
+
+/// The moduli without an obstruction. Its text says so.
+#[derive(Clone, Copy, Debug, PartialEq, Eq)]
+pub enum Tried {
+    /// This one alone.
+    Only(u32),
+    /// Each of [`MODULI`](crate::MODULI).
+    Each,
+    /// All numbers: the system of the task has a solution over the integers.
+    AllNumbers,
+}
+
+/// Where a search for an obstruction stopped before its end. Its text begins with the number of the
+/// refusal, 60.
+#[derive(Clone, Copy, Debug, PartialEq, Eq)]
+pub struct GaveUp {
+    /// The modulus.
+    pub modulus: u32,
+    /// The limit.
+    pub limit: Limit,
+}
+
+/// A limit of the search for an obstruction.
+#[derive(Clone, Copy, Debug, PartialEq, Eq)]
+pub enum Limit {
+    /// The system has too many unknowns: so many.
+    Unknowns(u64),
+    /// It has too many equations: so many at least.
+    Equations(u64),
+    /// So many entries would have to be kept.
+    Entries(u64),
+    /// So many steps were taken.
+    Steps(u64),
+    /// The tuples that were found have more terms than `verify` adds up.
+    Terms,
+    /// The text of the tuples that were found is longer than `verify` reads.
+    Length,
+    /// The tuples that were found are refused, or a number names nothing. No task is known for
+    /// which this comes, and that none exists is not proved.
+    Internal,
+}
+
+impl fmt::Display for Tried {
+    ghost output = { λ tried. Some (tried_text tried) };
+
+    fn fmt<W: fmt::Write>(&self, f: &mut fmt::Formatter<W>) -> fmt::Result {
+        match *self {
+            Tried::Only(modulus) => write!(f, "no obstruction modulo {modulus}"),
+            Tried::Each => {
+                write!(f, "no obstruction modulo 2, 3, 4, 5, 7, 8, 9, 2147483647")
+            }
+            Tried::AllNumbers => write!(f, "no obstruction for any modulus"),
+        }
+    }
+}
+
+impl fmt::Display for GaveUp {
+    ghost output = { λ gave_up. Some (gave_up_text gave_up) };
+
+    fn fmt<W: fmt::Write>(&self, f: &mut fmt::Formatter<W>) -> fmt::Result {
+        write!(f, "60 GaveUp modulo {}: {}", self.modulus, self.limit)
+    }
+}
+
+impl fmt::Display for Limit {
+    ghost output = { λ limit. Some (limit_text limit) };
+
+    fn fmt<W: fmt::Write>(&self, f: &mut fmt::Formatter<W>) -> fmt::Result {
+        match *self {
+            Limit::Unknowns(count) => write!(f, "{count} unknowns"),
+            Limit::Equations(count) => write!(f, "{count} equations"),
+            Limit::Entries(count) => write!(f, "{count} entries"),
+            Limit::Steps(count) => write!(f, "{count} steps"),
+            Limit::Terms => write!(f, "more terms than verify adds up"),
+            Limit::Length => write!(f, "a longer text than verify reads"),
+            Limit::Internal => write!(f, "an internal error"),
+        }
+    }
+}

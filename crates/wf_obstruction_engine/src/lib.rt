@@ -1,0 +1,22 @@
+//! Finding an obstruction, from the bytes of a task to the bytes of the obstruction.
+//!
+//! - [`run_obstruction`]: reads a task, looks for an obstruction, and writes it.
+//! - [`Finding`]: what the search came to.
+//! - [`Tried`]: the moduli without an obstruction.
+//! - [`GaveUp`], [`Limit`]: where and why the search stopped before its end.
+//! - [`MODULI`]: the moduli that are tried if none is asked for.
+//! - [`found_obstructions_are_true`], [`seeking_is_counted`]: laws.
+//!
+//! What is written was read again and judged, as `verify` does it. So nobody has to trust the
+//! finder. That the finder finds an obstruction if there is one is tested, and not proved.
+#![tactic(auto)]
+
+mod finding;
+mod laws;
+mod run;
+mod search;
+
+pub use finding::{Finding, GaveUp, Limit, Tried};
+pub use laws::{found_obstructions_are_true, seeking_is_counted};
+pub use run::run_obstruction;
+pub use search::MODULI;

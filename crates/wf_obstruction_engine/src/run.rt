@@ -1,0 +1,132 @@
+//! A run: from a task's bytes to an obstruction's.
+
+ghost use Rattle.std.specs.Prelude.{◌≡◌, OnOk};
+ghost use Rattle.wf_io.specs.Ends.{CanCount, CanRead};
+ghost use Rattle.wf_engine.specs.Run.{answered};
+ghost use Rattle.wf_obstruction_engine.specs.Finding.{Answers, FindsObstruction, IsAnswer, IsWritten, SeeksIn, is_tried};
+
+use crate::finding::{Finding, GaveUp, Limit};
+use crate::search::{MODULI, Sought, Stopped, seek};
+use std::alloc::Global;
+use std::io::{Read, Write};
+use wf_engine::{RunFault, hand_out, judge_obstruction, obstruction_of, read_task};
+use wf_finder::Listener;
+use wf_io::{Sink, Source};
+use wf_obstruction::ObstructionFault;
+use wf_obstruction_text::{Obstruction, write_obstruction};
+use wf_task::Task;
+
+/// Reads a task to the reader's end, and looks for an obstruction of the task: modulo a number if
+/// one is asked for, or else modulo each of [`MODULI`] up to the first that has one. Writes what is
+/// found, and otherwise nothing.
+///
+/// What is written is an obstruction of the task. So no function on the views is a decision map,
+/// after any number of rounds. If none is found or the search gave up, nothing is proved of the
+/// task.
+///
+/// # Errors
+/// `50 FirstBlock`: the task has a first block, and obstructions are for tasks without one. The
+/// faults of reading and writing, as in each run.
+pub fn run_obstruction<L: Listener, R: Read, W: Write>(
+    alloc: Global,
+    source: &mut Source<R>,
+    sink: &mut Sink<W>,
+    modulus: Option<u32>,
+    listener: &L,
+) -> Result<Finding, RunFault>
+    requires { CanCount source.old sink.old }
+    ensures { FindsObstruction modulus source.old source.new sink.old sink.new result }
+{
+    match find_in_source(alloc, source, modulus, listener) {
+        Ok((Finding::GaveUp(gave_up), _)) => Ok(Finding::GaveUp(gave_up)),
+        answer => hand_out(sink, answer),
+    }
+}
+
+/// The answer for a source's task, with its text.
+fn find_in_source<L: Listener, R: Read>(
+    alloc: Global,
+    source: &mut Source<R>,
+    modulus: Option<u32>,
+    listener: &L,
+) -> Result<(Finding, Vec<u8>), RunFault>
+    requires { CanRead source.old }
+    ensures { SeeksIn modulus source.old source.new (answered result) }
+{
+    let task = read_task(alloc, source)?;
+    find_in_task(alloc, &task, modulus, listener)
+}
+
+/// The answer for a task, with its text.
+fn find_in_task<L: Listener>(
+    alloc: Global,
+    task: &Task,
+    modulus: Option<u32>,
+    listener: &L,
+) -> Result<(Finding, Vec<u8>), RunFault>
+    ensures { Answers modulus task.now (answered result) }
+{
+    if task.first_block() != 1 {
+        return Err(RunFault::Obstruction(ObstructionFault::FirstBlock));
+    }
+    match seek(alloc, task, modulus, listener) {
+        Ok(Sought::Found(obstruction)) => written(alloc, task, modulus, &obstruction),
+        Ok(Sought::NotFound(tried)) => Ok((Finding::NotFound(tried), Vec::new(alloc))),
+        Err(Stopped::GaveUp(gave_up)) => Ok((Finding::GaveUp(gave_up), Vec::new(alloc))),
+        Err(Stopped::OutOfMemory) => Err(RunFault::OutOfMemory),
+    }
+}
+
+/// The text of what was found, if the text is accepted.
+fn written(
+    alloc: Global,
+    task: &Task,
+    asked: Option<u32>,
+    found: &Obstruction,
+) -> Result<(Finding, Vec<u8>), RunFault>
+    ensures { IsAnswer asked task.now (answered result) }
+{
+    let text = write_obstruction(alloc, found)?;
+    match accept(alloc, task, asked, &text) {
+        Ok(()) => Ok((Finding::Found, text)),
+        Err(fault) => match limit_of(fault) {
+            None => Err(RunFault::OutOfMemory),
+            Some(limit) => {
+                let modulus = found.modulus;
+                Ok((Finding::GaveUp(GaveUp { modulus, limit }), Vec::new(alloc)))
+            }
+        },
+    }
+}
+
+/// Accepts a text that is an obstruction of the task, modulo a number that is to be tried. The text
+/// is read and judged as `verify` does it.
+fn accept(alloc: Global, task: &Task, asked: Option<u32>, text: &[u8]) -> Result<(), RunFault>
+    ensures { OnOk result (IsWritten asked task.now text.now) }
+{
+    let obstruction = obstruction_of(alloc, text)?;
+    if !is_tried(asked, obstruction.modulus) {
+        return Err(RunFault::Obstruction(ObstructionFault::SumRange));
+    }
+    judge_obstruction(alloc, task, &obstruction)
+}
+
+/// Whether a modulus is the one that is asked for, or one of [`MODULI`] if none is.
+fn is_tried(asked: Option<u32>, modulus: u32) -> bool
+    ensures { result ≡ is_tried asked modulus }
+{
+    match asked {
+        Some(asked) => modulus == asked,
+        None => MODULI.contains(&modulus),
+    }
+}
+
+/// The limit that keeps a text from being accepted; none if memory ran out.
+fn limit_of(fault: RunFault) -> Option<Limit> {
+    match fault {
+        RunFault::OutOfMemory => None,
+        RunFault::TooLong => Some(Limit::Length),
+        RunFault::Obstruction(ObstructionFault::TooManyTerms) => Some(Limit::Terms),
+        _ => Some(Limit::Internal),
+    }
+}
