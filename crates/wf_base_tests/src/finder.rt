@@ -2,7 +2,7 @@
 
 use std::test::Fail;
 use wf_examples::{CONSENSUS_2, RENAMING_2_3};
-use wf_finder::{Found, find_obstruction};
+use wf_finder::{Found, Problem, Silent, find_obstruction, has_integer_solution};
 use wf_task::Task;
 
 /// Consensus of two processes, whose first block has both.
@@ -32,7 +32,8 @@ const FOUR: &str = concat!(
 fn consensus(rt: HostRuntime) -> Result<(), Fail> {
     let alloc = rt.alloc();
     let task = Task::read_text(alloc, CONSENSUS_2.as_bytes())?;
-    let found = find_obstruction(alloc, &task, 2)?.expect(&rt, "an obstruction");
+    let problem = Problem::of(alloc, &task)?;
+    let found = find_obstruction(alloc, &task, &problem, 2, &Silent)?.expect(&rt, "an obstruction");
     assert_eq!(rt; found.sum, 1);
     assert_eq!(rt; found.tuples.len(), 4);
     let Found { sum: _, tuples } = found;
@@ -46,11 +47,14 @@ fn consensus(rt: HostRuntime) -> Result<(), Fail> {
 fn none(rt: HostRuntime) -> Result<(), Fail> {
     let alloc = rt.alloc();
     let task = Task::read_text(alloc, RENAMING_2_3.as_bytes())?;
-    assert!(rt; find_obstruction(alloc, &task, 2)?.is_none());
-    assert!(rt; find_obstruction(alloc, &task, 2_147_483_647)?.is_none());
-    assert!(rt; find_obstruction(alloc, &task, 1)?.is_none());
+    let problem = Problem::of(alloc, &task)?;
+    assert!(rt; find_obstruction(alloc, &task, &problem, 2, &Silent)?.is_none());
+    assert!(rt; find_obstruction(alloc, &task, &problem, 2_147_483_647, &Silent)?.is_none());
+    assert!(rt; find_obstruction(alloc, &task, &problem, 1, &Silent)?.is_none());
+    assert!(rt; has_integer_solution(alloc, &problem, &Silent)?);
     let task = Task::read_text(alloc, FIRST_BLOCK.as_bytes())?;
-    assert!(rt; find_obstruction(alloc, &task, 2)?.is_none());
+    let problem = Problem::of(alloc, &task)?;
+    assert!(rt; find_obstruction(alloc, &task, &problem, 2, &Silent)?.is_none());
     Ok(())
 }
 
@@ -59,8 +63,10 @@ fn none(rt: HostRuntime) -> Result<(), Fail> {
 fn four(rt: HostRuntime) -> Result<(), Fail> {
     let alloc = rt.alloc();
     let task = Task::read_text(alloc, FOUR.as_bytes())?;
-    assert!(rt; find_obstruction(alloc, &task, 2)?.is_none());
-    let found = find_obstruction(alloc, &task, 4)?.expect(&rt, "an obstruction");
+    let problem = Problem::of(alloc, &task)?;
+    assert!(rt; find_obstruction(alloc, &task, &problem, 2, &Silent)?.is_none());
+    let found = find_obstruction(alloc, &task, &problem, 4, &Silent)?.expect(&rt, "an obstruction");
     assert_eq!(rt; found.sum, 2);
+    assert!(rt; !has_integer_solution(alloc, &problem, &Silent)?);
     Ok(())
 }

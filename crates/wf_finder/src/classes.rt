@@ -40,8 +40,11 @@ pub(crate) struct Class {
 
 impl Class {
     /// The number of the class without a place.
-    pub(crate) fn facet(&self, place: u8) -> u32 {
-        self.facets.get(place as usize).copied().unwrap_or(0)
+    pub(crate) fn facet(&self, place: u8) -> Result<u32, FinderFault> {
+        match self.facets.get(place as usize) {
+            Some(facet) => Ok(*facet),
+            None => Err(FinderFault::Internal),
+        }
     }
 }
 
@@ -121,7 +124,7 @@ impl Classes {
         let common = common(alloc, task, members)?;
         self.tuples.extend_from_slice(&common)?;
         let end = self.tuples.len();
-        let size = size_of(task, member.simplex);
+        let size = size_of(task, member.simplex)?;
         let labels = member.labels;
         let facets = self.facets(size, labels)?;
         self.classes.push(Class {
@@ -141,8 +144,9 @@ impl Classes {
         let mut facets = [0; MOST_PLACES];
         for place in 0..size {
             let facet = self.number_of(without(labels, behind(size, place)))?;
-            if let Some(slot) = facets.get_mut(place as usize) {
-                *slot = facet;
+            match facets.get_mut(place as usize) {
+                Some(slot) => *slot = facet,
+                None => return Err(FinderFault::Internal),
             }
         }
         Ok(facets)
@@ -162,6 +166,11 @@ impl Classes {
         self.classes.len()
     }
 
+    /// How many tuples the classes have, the empty one with them.
+    pub(crate) fn count_tuples(&self) -> u64 {
+        self.tuples.len() as u64
+    }
+
     /// The class of a number; 0 is the empty face.
     pub(crate) fn class(&self, number: u32) -> Result<Class, FinderFault> {
         match self.classes.get(number as usize) {
@@ -179,10 +188,10 @@ impl Classes {
     }
 
     /// Whether all members of a class allow a tuple.
-    pub(crate) fn allows(&self, class: Class, tuple: u64) -> bool {
+    pub(crate) fn allows(&self, class: Class, tuple: u64) -> Result<bool, FinderFault> {
         match self.tuples.get(class.first..class.end) {
-            Some(tuples) => tuples.binary_search(&tuple).is_ok(),
-            None => false,
+            Some(tuples) => Ok(tuples.binary_search(&tuple).is_ok()),
+            None => Err(FinderFault::Internal),
         }
     }
 
@@ -211,7 +220,7 @@ fn members(alloc: Global, task: &Task) -> Result<Vec<Member>, FinderFault> {
     let mut members = Vec::new(alloc);
     for (place, simplex) in task.inputs().simplices().iter().enumerate() {
         members.push(Member {
-            labels: labels(simplex, task.symmetric()),
+            labels: labels(simplex, task.symmetric())?,
             simplex: number(place)?,
         })?;
     }
@@ -220,33 +229,35 @@ fn members(alloc: Global, task: &Task) -> Result<Vec<Member>, FinderFault> {
 }
 
 /// The labels of a simplex: in a symmetric task its values, else its vertices.
-fn labels(simplex: &Simplex, symmetric: bool) -> u64 {
+fn labels(simplex: &Simplex, symmetric: bool) -> Result<u64, FinderFault> {
     let mut labels = 0;
     for place in 0..simplex.colours() {
         let process = simplex.colour(place);
-        let value = u64::from(simplex.value(process).unwrap_or(0));
-        let label = if symmetric {
-            value + 1
-        } else {
-            u64::from(process) * VALUES + value + 1
+        let Some(value) = simplex.value(process) else {
+            return Err(FinderFault::Internal);
         };
-        labels = with_last(labels, label);
+        let before = if symmetric {
+            0
+        } else {
+            u64::from(process) * VALUES
+        };
+        labels = with_last(labels, before + u64::from(value) + 1);
     }
-    labels
+    Ok(labels)
 }
 
 /// How many processes take part in an input simplex.
-fn size_of(task: &Task, simplex: u32) -> u8 {
+fn size_of(task: &Task, simplex: u32) -> Result<u8, FinderFault> {
     match task.inputs().simplices().get(simplex as usize) {
-        Some(simplex) => simplex.colours(),
-        None => 0,
+        Some(simplex) => Ok(simplex.colours()),
+        None => Err(FinderFault::Internal),
     }
 }
 
 /// The tuples that all these members allow, ascending.
 fn common(alloc: Global, task: &Task, members: &[Member]) -> Result<Vec<u64>, FinderFault> {
     let Some((first, others)) = members.split_first() else {
-        return Ok(Vec::new(alloc));
+        return Err(FinderFault::Internal);
     };
     let rows_of_first = rows(task, first.simplex)?;
     let mut tuples = lists(alloc, rows_of_first)?;

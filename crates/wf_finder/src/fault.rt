@@ -1,24 +1,14 @@
 //! Why the finder gave up, and its limits.
 
 ghost use Rattle.std.specs.Prelude.{◌≡◌, ◌<◌, ◌≤◌, MatchResult};
-ghost use Rattle.wf_finder.specs.declared.fault.FinderFault.TheVariants.{OutOfMemory, TooManyEntries, TooManyEquations, TooManySteps, TooManyUnknowns};
+ghost use Rattle.wf_finder.specs.declared.fault.FinderFault.TheVariants.{OutOfMemory, TooManyEntries, TooManyEquations};
 
 use std::alloc::{AllocError, AllocFailed};
+use wf_elimination::{EliminationFault, MOST_ENTRIES, MOST_STEPS, MOST_UNKNOWNS};
 use wf_obstruction::ObstructionFault;
-
-/// The most unknowns of a system.
-pub const MOST_UNKNOWNS: u64 = 4_000_000;
 
 /// The most equations of a system.
 pub const MOST_EQUATIONS: u64 = 4_000_000;
-
-/// The most entries that are kept at a time: factors of unknowns in equations, notes of which
-/// equations were taken away from which, and weights.
-pub const MOST_ENTRIES: u64 = 40_000_000;
-
-/// The most steps for a prime power. In a step a factor of an equation is taken away from another
-/// one.
-pub const MOST_STEPS: u64 = 1_073_741_824;
 
 /// Why the finder gave up. It says nothing about whether the task has an obstruction.
 #[derive(Clone, Copy, Debug, PartialEq, Eq)]
@@ -72,15 +62,16 @@ impl<T: Drop> From<AllocFailed<T>> for FinderFault {
     }
 }
 
-/// Refuses more unknowns than [`MOST_UNKNOWNS`].
-pub(crate) fn judge_unknowns(count: u64) -> Result<(), FinderFault>
-    ensures { MatchResult result (λ _. count ≤ MOST_UNKNOWNS)
-        (λ fault. (MOST_UNKNOWNS < count) × (fault ≡ TooManyUnknowns count)) }
-{
-    if count > MOST_UNKNOWNS {
-        return Err(FinderFault::TooManyUnknowns { count });
+impl From<EliminationFault> for FinderFault {
+    fn from(fault: EliminationFault) -> FinderFault {
+        match fault {
+            EliminationFault::TooManyUnknowns { count } => FinderFault::TooManyUnknowns { count },
+            EliminationFault::TooManyEntries { count } => FinderFault::TooManyEntries { count },
+            EliminationFault::TooManySteps { count } => FinderFault::TooManySteps { count },
+            EliminationFault::Internal => FinderFault::Internal,
+            EliminationFault::OutOfMemory => FinderFault::OutOfMemory,
+        }
     }
-    Ok(())
 }
 
 /// Refuses more equations than [`MOST_EQUATIONS`].
@@ -101,17 +92,6 @@ pub(crate) fn judge_entries(count: u64) -> Result<(), FinderFault>
 {
     if count > MOST_ENTRIES {
         return Err(FinderFault::TooManyEntries { count });
-    }
-    Ok(())
-}
-
-/// Refuses more steps than [`MOST_STEPS`].
-pub(crate) fn judge_steps(count: u64) -> Result<(), FinderFault>
-    ensures { MatchResult result (λ _. count ≤ MOST_STEPS)
-        (λ fault. (MOST_STEPS < count) × (fault ≡ TooManySteps count)) }
-{
-    if count > MOST_STEPS {
-        return Err(FinderFault::TooManySteps { count });
     }
     Ok(())
 }

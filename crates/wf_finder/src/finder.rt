@@ -7,11 +7,12 @@ ghost use Rattle.wf_counting.specs.Obstruction.{IsObstruction};
 ghost use Rattle.wf_obstruction.specs.Tuples.{tuples_seen};
 
 use crate::fault::FinderFault;
-use crate::powers::prime_powers;
+use crate::listener::Listener;
 use crate::problem::Problem;
 use crate::tuples::row;
 use crate::weights::Answer;
 use std::alloc::Global;
+use wf_elimination::prime_powers;
 use wf_obstruction::{ObstructionFault, WeightedTuple, is_obstruction};
 use wf_task::Task;
 
@@ -38,14 +39,16 @@ struct Placed {
 ///
 /// It looks modulo each prime power that the modulus is made of, the primes ascending. The first
 /// that has an obstruction gives the answer, multiplied by the others. The same task and modulus
-/// give the same answer.
+/// give the same answer. The problem is that of the task.
 ///
 /// # Errors
 /// The finder gave up at one of its limits, or memory ran out.
-pub fn find_obstruction(
+pub fn find_obstruction<L: Listener>(
     alloc: Global,
     task: &Task,
+    problem: &Problem,
     modulus: u32,
+    listener: &L,
 ) -> Result<Option<Found>, FinderFault>
     ensures first_block { 1 < first_block task.now → result ≡ Ok None }
     ensures obstruction { IfOk result (λ answer. IfSome answer (λ found.
@@ -56,7 +59,7 @@ pub fn find_obstruction(
     if task.first_block() != 1 {
         return Ok(None);
     }
-    let Some(found) = candidate(alloc, task, modulus)? else {
+    let Some(found) = candidate(alloc, task, problem, modulus, listener)? else {
         return Ok(None);
     };
     match is_obstruction(alloc, task, modulus, found.sum, &found.tuples) {
@@ -67,12 +70,17 @@ pub fn find_obstruction(
 }
 
 /// What may be an obstruction of a task whose words may all be.
-fn candidate(alloc: Global, task: &Task, modulus: u32) -> Result<Option<Found>, FinderFault> {
-    let problem = Problem::of(alloc, task)?;
+fn candidate<L: Listener>(
+    alloc: Global,
+    task: &Task,
+    problem: &Problem,
+    modulus: u32,
+    listener: &L,
+) -> Result<Option<Found>, FinderFault> {
     for ring in &prime_powers(alloc, modulus)? {
-        if let Some(answer) = problem.answer(alloc, *ring)? {
-            let times = modulus / ring.modulus;
-            return Ok(Some(place(alloc, task, &problem, &answer, times)?));
+        if let Some(answer) = problem.answer(alloc, *ring, listener)? {
+            let times = modulus / ring.modulus();
+            return Ok(Some(place(alloc, task, problem, &answer, times)?));
         }
     }
     Ok(None)

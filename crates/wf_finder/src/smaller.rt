@@ -1,12 +1,11 @@
 //! Smaller answers: only as many tuples as are needed, those with the fewest terms first.
 
-use crate::classes::Classes;
 use crate::digits::{behind, number_at, with, without};
-use crate::elimination::{Contradiction, Elimination};
 use crate::fault::{FinderFault, number};
-use crate::ring::Ring;
+use crate::problem::Problem;
 use crate::weights::{Answer, Weighted, add_up};
 use std::alloc::Global;
+use wf_elimination::{Contradiction, Elimination, Ring};
 
 /// A tuple at a class. First come those of small classes with few terms.
 #[derive(Clone, Copy, PartialEq, Eq, PartialOrd, Ord)]
@@ -39,18 +38,13 @@ struct Search {
 }
 
 /// A tuple at a class, as a candidate.
-pub(crate) fn ranked(
-    classes: &Classes,
-    values: &[u64],
-    class: u32,
-    tuple: u64,
-) -> Result<Candidate, FinderFault> {
-    let size = classes.class(class)?.size;
-    let least = values.first().copied().unwrap_or(0);
+pub(crate) fn ranked(problem: &Problem, class: u32, tuple: u64) -> Result<Candidate, FinderFault> {
+    let size = problem.classes.class(class)?.size;
+    let least = problem.least()?;
     let mut terms = 1u64;
     for place in 0..size {
         if number_at(tuple, behind(size, place)) == least {
-            terms = terms.saturating_mul(values.len() as u64);
+            terms = terms.saturating_mul(problem.values.len() as u64);
         }
     }
     Ok(Candidate {
@@ -65,19 +59,18 @@ pub(crate) fn ranked(
 /// do.
 pub(crate) fn first_of(
     alloc: Global,
-    classes: &Classes,
-    values: &[u64],
+    problem: &Problem,
     ring: Ring,
     candidates: &[Candidate],
 ) -> Result<Option<Answer>, FinderFault> {
     let mut search = Search {
         ring,
         elimination: Elimination::new(alloc, ring)?,
-        keys: keys(alloc, classes, values, candidates)?,
+        keys: keys(alloc, problem, candidates)?,
         terms: Vec::new(alloc),
     };
-    search.add_unknowns(classes)?;
-    match search.contradiction(classes, values, candidates)? {
+    search.add_unknowns(problem)?;
+    match search.contradiction(problem, candidates)? {
         Some(found) => Ok(Some(search.answer(alloc, candidates, found)?)),
         None => Ok(None),
     }
@@ -86,15 +79,14 @@ pub(crate) fn first_of(
 /// The classes and tuples of the terms of these tuples, and the empty face, in order.
 fn keys(
     alloc: Global,
-    classes: &Classes,
-    values: &[u64],
+    problem: &Problem,
     candidates: &[Candidate],
 ) -> Result<Vec<Term>, FinderFault> {
     let mut keys = Vec::new(alloc);
     keys.push(key(0, 0))?;
     let mut terms = Vec::new(alloc);
     for candidate in candidates {
-        expand(classes, values, *candidate, &mut terms)?;
+        expand(problem, *candidate, &mut terms)?;
         add_keys(&terms, &mut keys)?;
     }
     keys.sort_unstable();
@@ -121,9 +113,9 @@ fn key(class: u32, tuple: u64) -> Term {
 
 impl Search {
     /// Adds an unknown for each key.
-    fn add_unknowns(&mut self, classes: &Classes) -> Result<(), FinderFault> {
+    fn add_unknowns(&mut self, problem: &Problem) -> Result<(), FinderFault> {
         for key in &self.keys {
-            let class = classes.class(key.class)?;
+            let class = problem.classes.class(key.class)?;
             self.elimination.add_unknown(class.size)?;
         }
         Ok(())
@@ -132,12 +124,11 @@ impl Search {
     /// Takes in the terms of the tuples, up to a contradiction.
     fn contradiction(
         &mut self,
-        classes: &Classes,
-        values: &[u64],
+        problem: &Problem,
         candidates: &[Candidate],
     ) -> Result<Option<Contradiction>, FinderFault> {
         for (place, candidate) in candidates.iter().enumerate() {
-            expand(classes, values, *candidate, &mut self.terms)?;
+            expand(problem, *candidate, &mut self.terms)?;
             self.add_terms()?;
             let found = self.elimination.take_in(number(place)?)?;
             if found.is_some() {
@@ -187,8 +178,7 @@ impl Search {
 
 /// Puts the terms of a tuple into the list, and nothing else.
 fn expand(
-    classes: &Classes,
-    values: &[u64],
+    problem: &Problem,
     candidate: Candidate,
     terms: &mut Vec<Term>,
 ) -> Result<(), FinderFault> {
@@ -196,32 +186,30 @@ fn expand(
     terms.push(key(candidate.class, candidate.tuple))?;
     for later in 0..candidate.size {
         let place = behind(candidate.size, later);
-        expand_at(classes, values, place, terms)?;
+        expand_at(problem, place, terms)?;
     }
     Ok(())
 }
 
 /// Replaces each term with the least value at a place by those that it stands for. The terms have
 /// all places up to this one.
-fn expand_at(
-    classes: &Classes,
-    values: &[u64],
-    place: u8,
-    terms: &mut Vec<Term>,
-) -> Result<(), FinderFault> {
-    let least = values.first().copied().unwrap_or(0);
+fn expand_at(problem: &Problem, place: u8, terms: &mut Vec<Term>) -> Result<(), FinderFault> {
+    let least = problem.least()?;
     for at in 0..terms.len() {
         let Some(term) = terms.get(at).copied() else {
             return Err(FinderFault::Internal);
         };
-        let class = classes.class(term.class)?;
+        let class = problem.classes.class(term.class)?;
         let behind = behind(class.size, place);
         if number_at(term.tuple, behind) == least {
             let rest = without(term.tuple, behind);
-            add_others(values, term, rest, behind, terms)?;
-            if let Some(slot) = terms.get_mut(at) {
-                slot.class = class.facet(place);
-                slot.tuple = rest;
+            add_others(&problem.values, term, rest, behind, terms)?;
+            match terms.get_mut(at) {
+                Some(slot) => {
+                    slot.class = class.facet(place)?;
+                    slot.tuple = rest;
+                }
+                None => return Err(FinderFault::Internal),
             }
         }
     }

@@ -6,13 +6,18 @@
 //! class without the place. Where such equations contradict one another, their multipliers give
 //! weights of tuples: those vanish where a tuple is allowed, and their terms cancel face by face.
 
-use crate::classes::{Class, Classes};
-use crate::digits::{behind, number_at, with, without};
-use crate::elimination::{Contradiction, Elimination, Multiplier};
+use crate::classes::Class;
+use crate::digits::{behind, number_at, with};
+use crate::equations::Equations;
 use crate::fault::{FinderFault, judge_entries, judge_equations, number};
-use crate::ring::Ring;
+use crate::listener::Listener;
+use crate::problem::Problem;
 use crate::weights::{Answer, Weighted, add_up};
 use std::alloc::Global;
+use wf_elimination::{Contradiction, Elimination, Multiplier, Ring};
+
+/// A listener is told of the powers of two of equations from this one on.
+const FIRST_TOLD: u64 = 65_536;
 
 /// An equation: a class, a place of it, and values at the others.
 #[derive(Clone, Copy)]
@@ -22,53 +27,70 @@ struct Equation {
     rest: u64,
 }
 
-/// An unknown in the equation with these values.
-#[derive(Clone, Copy, PartialEq, Eq, PartialOrd, Ord)]
-struct Term {
-    rest: u64,
-    unknown: u32,
-    factor: u32,
-}
-
 /// The equations so far.
 #[derive(Drop)]
 struct System {
     ring: Ring,
+    // what gives 0 when 1 is added
+    minus: u32,
     // the least value of the task
     least: u64,
     elimination: Elimination,
-    equations: Vec<Equation>,
-    // of the equations at a class and a place
-    terms: Vec<Term>,
+    // those that were taken in
+    taken: Vec<Equation>,
+    // those at a class and a place
+    equations: Equations,
 }
 
-/// Weights that the system of a task gives modulo a prime power, if its equations contradict one
-/// another.
-pub(crate) fn solve(
+/// Weights that the system of a task with a value gives modulo a prime power, if its equations
+/// contradict one another.
+pub(crate) fn solve<L: Listener>(
     alloc: Global,
-    classes: &Classes,
-    values: &[u64],
+    problem: &Problem,
     ring: Ring,
+    listener: &L,
 ) -> Result<Option<Answer>, FinderFault> {
-    let mut system = System {
-        ring,
-        least: values.first().copied().unwrap_or(0),
-        elimination: Elimination::new(alloc, ring)?,
-        equations: Vec::new(alloc),
-        terms: Vec::new(alloc),
-    };
-    system.add_unknowns(classes)?;
-    match system.contradiction(classes)? {
-        Some(found) => Ok(Some(system.answer(alloc, classes, values, found)?)),
+    let mut system = System::of(alloc, problem, ring)?;
+    match system.run(problem, listener)? {
+        Some(found) => Ok(Some(system.answer(alloc, problem, found)?)),
         None => Ok(None),
     }
 }
 
+/// A value below the modulus for each unknown of the system of a task with a value, if its
+/// equations don't contradict one another modulo a prime.
+pub(crate) fn solution<L: Listener>(
+    alloc: Global,
+    problem: &Problem,
+    ring: Ring,
+    listener: &L,
+) -> Result<Option<Vec<u32>>, FinderFault> {
+    let mut system = System::of(alloc, problem, ring)?;
+    match system.run(problem, listener)? {
+        Some(_) => Ok(None),
+        None => Ok(Some(system.elimination.solution(alloc)?)),
+    }
+}
+
 impl System {
+    /// The unknowns of the system, and no equation.
+    fn of(alloc: Global, problem: &Problem, ring: Ring) -> Result<System, FinderFault> {
+        let mut system = System {
+            ring,
+            minus: ring.negative(1),
+            least: problem.least()?,
+            elimination: Elimination::new(alloc, ring)?,
+            taken: Vec::new(alloc),
+            equations: Equations::new(alloc),
+        };
+        system.add_unknowns(problem)?;
+        Ok(system)
+    }
+
     /// Adds an unknown for each tuple of each class.
-    fn add_unknowns(&mut self, classes: &Classes) -> Result<(), FinderFault> {
-        for place in 0..classes.count() {
-            let class = classes.class(number(place)?)?;
+    fn add_unknowns(&mut self, problem: &Problem) -> Result<(), FinderFault> {
+        for place in 0..problem.classes.count() {
+            let class = problem.classes.class(number(place)?)?;
             self.add_unknowns_of(class)?;
         }
         Ok(())
@@ -82,10 +104,27 @@ impl System {
         Ok(())
     }
 
+    /// Takes in the equations up to a contradiction, and tells the listener.
+    fn run<L: Listener>(
+        &mut self,
+        problem: &Problem,
+        listener: &L,
+    ) -> Result<Option<Contradiction>, FinderFault> {
+        let modulus = self.ring.modulus();
+        listener.system(modulus, problem.classes.count_tuples());
+        let found = self.contradiction(problem, listener)?;
+        listener.equations(modulus, self.taken.len() as u64);
+        Ok(found)
+    }
+
     /// Takes in the equations class by class, up to a contradiction.
-    fn contradiction(&mut self, classes: &Classes) -> Result<Option<Contradiction>, FinderFault> {
-        for place in 1..classes.count() {
-            let found = self.take_in_class(classes, number(place)?)?;
+    fn contradiction<L: Listener>(
+        &mut self,
+        problem: &Problem,
+        listener: &L,
+    ) -> Result<Option<Contradiction>, FinderFault> {
+        for place in 1..problem.classes.count() {
+            let found = self.take_in_class(problem, number(place)?, listener)?;
             if found.is_some() {
                 return Ok(found);
             }
@@ -94,18 +133,16 @@ impl System {
     }
 
     /// Takes in the equations of a class.
-    fn take_in_class(
+    fn take_in_class<L: Listener>(
         &mut self,
-        classes: &Classes,
+        problem: &Problem,
         number: u32,
+        listener: &L,
     ) -> Result<Option<Contradiction>, FinderFault> {
-        let class = classes.class(number)?;
+        let class = problem.classes.class(number)?;
         for place in 0..class.size {
-            self.terms.clear();
-            self.add_tuples(classes, class, place)?;
-            self.add_facet(classes, class, place)?;
-            self.terms.sort_unstable();
-            let found = self.take_in_place(number, class.size, place)?;
+            self.equations.fill(&problem.classes, class, place)?;
+            let found = self.take_in_place(number, class.size, place, listener)?;
             if found.is_some() {
                 return Ok(found);
             }
@@ -113,52 +150,24 @@ impl System {
         Ok(None)
     }
 
-    /// Adds the unknowns of a class to the terms of the equations at a place.
-    fn add_tuples(
-        &mut self,
-        classes: &Classes,
-        class: Class,
-        place: u8,
-    ) -> Result<(), FinderFault> {
-        for unknown in class.first..class.end {
-            self.terms.push(Term {
-                rest: without(classes.tuple(unknown)?, behind(class.size, place)),
-                unknown: number(unknown)?,
-                factor: 1,
-            })?;
-        }
-        Ok(())
-    }
-
-    /// Takes the unknowns of the class without the place away.
-    fn add_facet(&mut self, classes: &Classes, class: Class, place: u8) -> Result<(), FinderFault> {
-        let facet = classes.class(class.facet(place))?;
-        for unknown in facet.first..facet.end {
-            self.terms.push(Term {
-                rest: classes.tuple(unknown)?,
-                unknown: number(unknown)?,
-                factor: self.ring.negative(1),
-            })?;
-        }
-        Ok(())
-    }
-
-    /// Takes in the equations at a place of a class, whose terms are in order.
-    fn take_in_place(
+    /// Takes in the equations at a place of a class.
+    fn take_in_place<L: Listener>(
         &mut self,
         class: u32,
         size: u8,
         place: u8,
+        listener: &L,
     ) -> Result<Option<Contradiction>, FinderFault> {
-        for at in 0..self.terms.len() {
-            let Some(term) = self.terms.get(at).copied() else {
+        for at in 0..self.equations.terms.len() {
+            let Some(term) = self.equations.terms.get(at).copied() else {
                 return Err(FinderFault::Internal);
             };
             if !self.is_left_out(term.rest, size, place) {
-                self.elimination.add(term.unknown, term.factor)?;
-                if self.ends(at, term.rest) {
+                let factor = if term.negative { self.minus } else { 1 };
+                self.elimination.add(term.unknown, factor)?;
+                if self.equations.ends(at, term.rest) {
                     let rest = term.rest;
-                    let found = self.take_in(Equation { class, place, rest })?;
+                    let found = self.take_in(Equation { class, place, rest }, listener)?;
                     if found.is_some() {
                         return Ok(found);
                     }
@@ -175,33 +184,32 @@ impl System {
         (0..place).any(|earlier| number_at(rest, behind(others, earlier)) == self.least)
     }
 
-    /// Whether the term at a place is the last one with these values.
-    fn ends(&self, at: usize, rest: u64) -> bool {
-        match self.terms.get(at.saturating_add(1)) {
-            Some(next) => next.rest != rest,
-            None => true,
-        }
-    }
-
     /// Takes in an equation, all of whose unknowns are added.
-    fn take_in(&mut self, equation: Equation) -> Result<Option<Contradiction>, FinderFault> {
-        let place = self.equations.len();
-        judge_equations((place as u64).saturating_add(1))?;
-        self.equations.push(equation)?;
-        self.elimination.take_in(number(place)?)
+    fn take_in<L: Listener>(
+        &mut self,
+        equation: Equation,
+        listener: &L,
+    ) -> Result<Option<Contradiction>, FinderFault> {
+        let place = self.taken.len();
+        let count = (place as u64).saturating_add(1);
+        judge_equations(count)?;
+        self.taken.push(equation)?;
+        if count >= FIRST_TOLD && count.is_power_of_two() {
+            listener.equations(self.ring.modulus(), count);
+        }
+        Ok(self.elimination.take_in(number(place)?)?)
     }
 
     /// The weights that a contradiction gives.
     fn answer(
         &self,
         alloc: Global,
-        classes: &Classes,
-        values: &[u64],
+        problem: &Problem,
         found: Contradiction,
     ) -> Result<Answer, FinderFault> {
         let mut weighted = Vec::new(alloc);
         for multiplier in &self.elimination.multipliers(alloc, found)? {
-            self.add_weights(classes, values, *multiplier, &mut weighted)?;
+            self.add_weights(problem, *multiplier, &mut weighted)?;
             judge_entries(weighted.len() as u64)?;
         }
         Ok(Answer {
@@ -213,16 +221,15 @@ impl System {
     /// Adds the weights of so many times an equation.
     fn add_weights(
         &self,
-        classes: &Classes,
-        values: &[u64],
+        problem: &Problem,
         multiplier: Multiplier,
         weighted: &mut Vec<Weighted>,
     ) -> Result<(), FinderFault> {
-        let Some(equation) = self.equations.get(multiplier.equation as usize) else {
+        let Some(equation) = self.taken.get(multiplier.equation as usize) else {
             return Err(FinderFault::Internal);
         };
-        let class = classes.class(equation.class)?;
-        for value in values {
+        let class = problem.classes.class(equation.class)?;
+        for value in &problem.values {
             weighted.push(Weighted {
                 class: equation.class,
                 tuple: with(equation.rest, behind(class.size, equation.place), *value),
@@ -231,7 +238,7 @@ impl System {
         }
         if class.size > 1 {
             weighted.push(Weighted {
-                class: class.facet(equation.place),
+                class: class.facet(equation.place)?,
                 tuple: equation.rest,
                 weight: self.ring.negative(multiplier.factor),
             })?;

@@ -1,8 +1,8 @@
 //! Weights of tuples.
 
 use crate::fault::{FinderFault, judge_entries};
-use crate::ring::Ring;
 use std::alloc::Global;
+use wf_elimination::Ring;
 
 /// A tuple at a class, and its weight.
 #[derive(Clone, Copy, PartialEq, Eq, PartialOrd, Ord)]
@@ -59,7 +59,7 @@ impl Answer {
     pub(crate) fn scaled(self, ring: Ring) -> Answer {
         let Answer { sum, mut tuples } = self;
         let part = ring.part(sum);
-        let times = ring.inverse(sum / part.max(1));
+        let times = ring.inverse(sum / part);
         for one in tuples.iter_mut() {
             one.weight = ring.product(one.weight, times);
         }

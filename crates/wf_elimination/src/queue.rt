@@ -1,6 +1,6 @@
 //! Sets of numbers of which the least is taken first.
 
-use crate::fault::FinderFault;
+use crate::fault::{EliminationFault, number};
 use std::alloc::{AllocError, Global};
 
 /// How many bits a word has.
@@ -43,59 +43,65 @@ impl Queue {
     }
 
     /// Puts a number in.
-    pub(crate) fn put(&mut self, number: u32) -> Result<(), FinderFault> {
+    pub(crate) fn put(&mut self, number: u32) -> Result<(), EliminationFault> {
         let word = number / BITS;
         let head = (word / BITS) as usize;
         match self.words.get_mut(word as usize) {
             Some(bits) => *bits |= 1 << (number % BITS),
-            None => return Err(FinderFault::Internal),
+            None => return Err(EliminationFault::Internal),
         }
         match self.heads.get_mut(head) {
             Some(bits) => *bits |= 1 << (word % BITS),
-            None => return Err(FinderFault::Internal),
+            None => return Err(EliminationFault::Internal),
         }
         self.start = self.start.min(head);
         Ok(())
     }
 
     /// Takes the least number out.
-    pub(crate) fn take(&mut self) -> Option<u32> {
+    pub(crate) fn take(&mut self) -> Result<Option<u32>, EliminationFault> {
         let end = self.heads.len();
         for head in self.start..end {
-            let bits = self.heads.get(head).copied().unwrap_or(0);
+            let bits = self.heads[head];
             if bits != 0 {
                 self.start = head;
                 return self.take_below(head, bits);
             }
         }
         self.start = end;
-        None
+        Ok(None)
     }
 
-    /// Takes the least number out that is below this head.
-    fn take_below(&mut self, head: usize, head_bits: u64) -> Option<u32> {
+    /// Takes the least number out that is below this head, which has these bits.
+    fn take_below(&mut self, head: usize, head_bits: u64) -> Result<Option<u32>, EliminationFault> {
         let place = (head << WORD_BITS) | head_bits.trailing_zeros() as usize;
-        let word = self.words.get_mut(place)?;
+        let Some(word) = self.words.get_mut(place) else {
+            return Err(EliminationFault::Internal);
+        };
         let bits = *word;
         let rest = bits & bits.wrapping_sub(1);
         *word = rest;
         if rest == 0 {
-            if let Some(head) = self.heads.get_mut(head) {
-                *head &= head_bits.wrapping_sub(1);
+            match self.heads.get_mut(head) {
+                Some(head) => *head &= head_bits.wrapping_sub(1),
+                None => return Err(EliminationFault::Internal),
             }
         }
-        let number = (place << WORD_BITS) | bits.trailing_zeros() as usize;
-        u32::try_from(number).ok()
+        let taken = (place << WORD_BITS) | bits.trailing_zeros() as usize;
+        Ok(Some(number(taken)?))
     }
 
     /// Takes a number out, and maybe others near it: for a queue that is to be emptied.
-    pub(crate) fn forget(&mut self, number: u32) {
+    pub(crate) fn forget(&mut self, number: u32) -> Result<(), EliminationFault> {
         let word = number / BITS;
-        if let Some(bits) = self.words.get_mut(word as usize) {
-            *bits = 0;
+        match self.words.get_mut(word as usize) {
+            Some(bits) => *bits = 0,
+            None => return Err(EliminationFault::Internal),
         }
-        if let Some(bits) = self.heads.get_mut((word / BITS) as usize) {
-            *bits = 0;
+        match self.heads.get_mut((word / BITS) as usize) {
+            Some(bits) => *bits = 0,
+            None => return Err(EliminationFault::Internal),
         }
+        Ok(())
     }
 }

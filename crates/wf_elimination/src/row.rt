@@ -1,12 +1,12 @@
 //! The equation that is worked on: a sum of unknowns, each with a factor, that is 0.
 
-use crate::fault::{FinderFault, judge_unknowns, number};
+use crate::fault::{EliminationFault, judge_unknowns, number};
 use crate::queue::Queue;
 use crate::ring::{Ring, divides};
 use std::alloc::{AllocError, Global};
 
-/// How many levels there are. The constant is the only unknown of level 0.
-pub(crate) const LEVELS: u8 = 5;
+/// How many levels of unknowns there are: from 0 on. The constant is the only unknown of level 0.
+pub const LEVELS: u8 = 5;
 
 /// An unknown and its factor in an equation.
 #[derive(Clone, Copy)]
@@ -27,6 +27,29 @@ struct Unknown {
     level: u8,
     // whether its level lists it
     listed: bool,
+}
+
+/// An entry that an equation may be solved for.
+#[derive(Clone, Copy)]
+struct Pivot {
+    place: usize,
+    unknown: u32,
+    // whether its factor is 1 or -1
+    sign: bool,
+    // in how many kept equations its unknown occurs
+    met: u32,
+}
+
+impl Pivot {
+    /// Whether it is to be taken and not the other one: first come those of which the factor is 1
+    /// or -1, so that factors stay small; then those whose unknown occurs in fewer kept equations;
+    /// then those whose unknown has a greater number.
+    fn goes_before(self, other: Pivot) -> bool {
+        if self.sign != other.sign {
+            return self.sign;
+        }
+        self.met < other.met || self.met == other.met && self.unknown > other.unknown
+    }
 }
 
 /// The unknowns of a level.
@@ -65,7 +88,10 @@ impl Row {
     }
 
     /// One unknown more, of this level.
-    pub(crate) fn add_unknown(&mut self, level: u8) -> Result<u32, FinderFault> {
+    pub(crate) fn add_unknown(&mut self, level: u8) -> Result<u32, EliminationFault> {
+        if level >= LEVELS {
+            return Err(EliminationFault::Internal);
+        }
         let place = self.unknowns.len();
         judge_unknowns((place as u64).saturating_add(1))?;
         self.unknowns.push(Unknown {
@@ -80,9 +106,14 @@ impl Row {
 
     /// Adds a multiple of an unknown.
     #[inline]
-    pub(crate) fn add(&mut self, ring: Ring, entry: Entry, times: u32) -> Result<(), FinderFault> {
+    pub(crate) fn add(
+        &mut self,
+        ring: Ring,
+        entry: Entry,
+        times: u32,
+    ) -> Result<(), EliminationFault> {
         let Some(unknown) = self.unknowns.get_mut(entry.unknown as usize) else {
-            return Err(FinderFault::Internal);
+            return Err(EliminationFault::Internal);
         };
         unknown.factor = ring.add_product(unknown.factor, entry.factor, times);
         if unknown.listed {
@@ -95,9 +126,9 @@ impl Row {
     }
 
     /// Lists an unknown at its level.
-    fn list(&mut self, unknown: u32, level: u8, rank: Option<u32>) -> Result<(), FinderFault> {
+    fn list(&mut self, unknown: u32, level: u8, rank: Option<u32>) -> Result<(), EliminationFault> {
         let Some(level) = self.levels.get_mut(level as usize) else {
-            return Err(FinderFault::Internal);
+            return Err(EliminationFault::Internal);
         };
         level.listed.push(unknown)?;
         match rank {
@@ -107,24 +138,37 @@ impl Row {
     }
 
     /// The next solved equation of this level whose unknown may have a factor, oldest first.
-    pub(crate) fn next_due(&mut self, level: u8) -> Result<Option<u32>, FinderFault> {
+    pub(crate) fn next_due(&mut self, level: u8) -> Result<Option<u32>, EliminationFault> {
         let Some(level) = self.levels.get_mut(level as usize) else {
-            return Err(FinderFault::Internal);
+            return Err(EliminationFault::Internal);
         };
-        let Some(rank) = level.due.take() else {
+        let Some(rank) = level.due.take()? else {
             return Ok(None);
         };
         match level.solved.get(rank as usize) {
             Some(solved) => Ok(Some(*solved)),
-            None => Err(FinderFault::Internal),
+            None => Err(EliminationFault::Internal),
         }
     }
 
     /// The factor of an unknown.
-    pub(crate) fn factor(&self, unknown: u32) -> u32 {
+    pub(crate) fn factor(&self, unknown: u32) -> Result<u32, EliminationFault> {
         match self.unknowns.get(unknown as usize) {
-            Some(unknown) => unknown.factor,
-            None => 0,
+            Some(unknown) => Ok(unknown.factor),
+            None => Err(EliminationFault::Internal),
+        }
+    }
+
+    /// How many unknowns there are.
+    pub(crate) fn count(&self) -> usize {
+        self.unknowns.len()
+    }
+
+    /// The numbers of the equations that are solved for an unknown of this level, oldest first.
+    pub(crate) fn solved(&self, level: u8) -> Result<&[u32], EliminationFault> {
+        match self.levels.get(level as usize) {
+            Some(level) => Ok(&level.solved),
+            None => Err(EliminationFault::Internal),
         }
     }
 
@@ -133,19 +177,19 @@ impl Row {
         &mut self,
         level: u8,
         entries: &mut Vec<Entry>,
-    ) -> Result<(), FinderFault> {
+    ) -> Result<(), EliminationFault> {
         let Some(level) = self.levels.get_mut(level as usize) else {
-            return Err(FinderFault::Internal);
+            return Err(EliminationFault::Internal);
         };
         for number in &level.listed {
             let Some(unknown) = self.unknowns.get_mut(*number as usize) else {
-                return Err(FinderFault::Internal);
+                return Err(EliminationFault::Internal);
             };
             let factor = unknown.factor;
             unknown.factor = 0;
             unknown.listed = false;
             if let Some(rank) = unknown.rank {
-                level.due.forget(rank);
+                level.due.forget(rank)?;
             }
             if factor != 0 {
                 entries.push(Entry {
@@ -159,49 +203,56 @@ impl Row {
     }
 
     /// Whether this number divides each factor at this level.
-    pub(crate) fn is_divided(&self, level: u8, divisor: u32) -> bool {
-        match self.levels.get(level as usize) {
-            Some(level) => level
-                .listed
-                .iter()
-                .all(|unknown| divides(divisor, self.factor(*unknown))),
-            None => true,
+    pub(crate) fn is_divided(&self, level: u8, divisor: u32) -> Result<bool, EliminationFault> {
+        let Some(level) = self.levels.get(level as usize) else {
+            return Err(EliminationFault::Internal);
+        };
+        for unknown in &level.listed {
+            if !divides(divisor, self.factor(*unknown)?) {
+                return Ok(false);
+            }
         }
+        Ok(true)
     }
 
-    /// The place of the entry to solve for: it has an inverse, and its unknown occurs in the fewest
-    /// kept equations; of several the one with the greatest number.
-    pub(crate) fn best(&self, ring: Ring, entries: &[Entry]) -> Option<usize> {
-        let mut best = None;
-        let mut best_met = u32::MAX;
-        let mut best_unknown = 0;
+    /// The place of the entry to solve for, if one of them has an inverse.
+    pub(crate) fn best(
+        &self,
+        ring: Ring,
+        entries: &[Entry],
+    ) -> Result<Option<usize>, EliminationFault> {
+        let mut best: Option<Pivot> = None;
         for (place, entry) in entries.iter().enumerate() {
             if ring.is_unit(entry.factor) {
-                let met = self.met(entry.unknown);
-                let less = met < best_met || met == best_met && entry.unknown > best_unknown;
-                if best.is_none() || less {
-                    best = Some(place);
-                    best_met = met;
-                    best_unknown = entry.unknown;
+                let pivot = self.pivot(ring, place, *entry)?;
+                if best.is_none_or(|best| pivot.goes_before(best)) {
+                    best = Some(pivot);
                 }
             }
         }
-        best
+        Ok(best.map(|pivot| pivot.place))
     }
 
-    /// In how many kept equations an unknown occurs.
-    fn met(&self, unknown: u32) -> u32 {
-        match self.unknowns.get(unknown as usize) {
-            Some(unknown) => unknown.met,
-            None => 0,
+    /// The entry at this place, as one that the equation may be solved for.
+    fn pivot(&self, ring: Ring, place: usize, entry: Entry) -> Result<Pivot, EliminationFault> {
+        match self.unknowns.get(entry.unknown as usize) {
+            Some(unknown) => Ok(Pivot {
+                place,
+                unknown: entry.unknown,
+                sign: ring.is_sign(entry.factor),
+                met: unknown.met,
+            }),
+            None => Err(EliminationFault::Internal),
         }
     }
 
     /// Notes that a kept equation has this unknown.
-    pub(crate) fn meet(&mut self, unknown: u32) {
-        if let Some(unknown) = self.unknowns.get_mut(unknown as usize) {
-            unknown.met = unknown.met.saturating_add(1);
+    pub(crate) fn meet(&mut self, unknown: u32) -> Result<(), EliminationFault> {
+        match self.unknowns.get_mut(unknown as usize) {
+            Some(unknown) => unknown.met = unknown.met.saturating_add(1),
+            None => return Err(EliminationFault::Internal),
         }
+        Ok(())
     }
 
     /// Notes that the equation of this number is solved for an unknown of this level.
@@ -210,15 +261,16 @@ impl Row {
         unknown: u32,
         level: u8,
         solved: u32,
-    ) -> Result<(), FinderFault> {
+    ) -> Result<(), EliminationFault> {
         let Some(level) = self.levels.get_mut(level as usize) else {
-            return Err(FinderFault::Internal);
+            return Err(EliminationFault::Internal);
         };
         let rank = number(level.solved.len())?;
         level.solved.push(solved)?;
         level.due.make_room(rank)?;
-        if let Some(unknown) = self.unknowns.get_mut(unknown as usize) {
-            unknown.rank = Some(rank);
+        match self.unknowns.get_mut(unknown as usize) {
+            Some(unknown) => unknown.rank = Some(rank),
+            None => return Err(EliminationFault::Internal),
         }
         Ok(())
     }

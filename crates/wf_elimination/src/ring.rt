@@ -5,18 +5,34 @@ ghost use Rattle.std.specs.Prelude.{◌<◌};
 /// The most doublings of a number below 2^32.
 const MOST_DOUBLINGS: u8 = 32;
 
-/// The numbers modulo a power of a prime.
+/// The numbers modulo a power of a prime: those from 0 to below the modulus. Only such numbers may
+/// be given to its methods.
 #[derive(Clone, Copy)]
-pub(crate) struct Ring {
-    /// The power.
-    pub(crate) modulus: u32,
-    /// The prime.
-    pub(crate) prime: u32,
+pub struct Ring {
+    // the power
+    modulus: u32,
+    // the prime
+    prime: u32,
     ghost some: { 0 < modulus },
     ghost some_prime: { 0 < prime },
 }
 
 impl Ring {
+    /// The numbers modulo this power of this prime.
+    pub(crate) fn of(power: u32, prime: u32) -> Ring {
+        Ring {
+            modulus: power.max(1),
+            prime: prime.max(1),
+        }
+    }
+
+    /// The modulus, a power of a prime.
+    pub fn modulus(self) -> u32
+        ensures { 0 < result }
+    {
+        self.modulus
+    }
+
     /// A number and a product, added.
     #[inline]
     pub(crate) fn add_product(self, number: u32, factor: u32, times: u32) -> u32 {
@@ -28,17 +44,17 @@ impl Ring {
     }
 
     /// The sum of two numbers.
-    pub(crate) fn sum(self, number: u32, other: u32) -> u32 {
+    pub fn sum(self, number: u32, other: u32) -> u32 {
         self.add_product(number, other, 1)
     }
 
     /// The product of two numbers.
-    pub(crate) fn product(self, factor: u32, times: u32) -> u32 {
+    pub fn product(self, factor: u32, times: u32) -> u32 {
         self.add_product(0, factor, times)
     }
 
     /// What gives 0 when it is added to a number.
-    pub(crate) fn negative(self, number: u32) -> u32 {
+    pub fn negative(self, number: u32) -> u32 {
         (self.modulus - number % self.modulus) % self.modulus
     }
 
@@ -47,10 +63,15 @@ impl Ring {
         number % self.prime != 0
     }
 
-    /// The inverse of a number that has one.
+    /// Whether a number is 1 or what gives 0 when 1 is added to it.
+    pub(crate) fn is_sign(self, number: u32) -> bool {
+        number == 1 || number == self.modulus - 1
+    }
+
+    /// The inverse of a number that has one: of one that the prime doesn't divide.
     ///
     /// It is a power of the number, as the numbers with an inverse are a group.
-    pub(crate) fn inverse(self, unit: u32) -> u32 {
+    pub fn inverse(self, unit: u32) -> u32 {
         if unit == 1 {
             return 1;
         }
@@ -74,22 +95,33 @@ impl Ring {
     }
 
     /// The largest power of the prime that divides a number other than 0.
-    pub(crate) fn part(self, number: u32) -> u32 {
-        let mut part = 1u32;
-        for _ in 0..MOST_DOUBLINGS {
-            let next = part.saturating_mul(self.prime);
-            if !divides(next, number) {
-                return part;
-            }
-            part = next;
-        }
-        part
+    pub fn part(self, number: u32) -> u32
+        ensures { 0 < result }
+    {
+        power_in(number, self.prime)
     }
 
-    /// How often this number goes into the modulus.
-    pub(crate) fn share(self, number: u32) -> u32 {
-        self.modulus / number.max(1)
+    /// How often a divisor goes into the modulus.
+    pub(crate) fn share(self, divisor: u32) -> u32
+        requires { 0 < divisor }
+    {
+        self.modulus / divisor
     }
+}
+
+/// The largest power of a prime that divides a number other than 0.
+pub(crate) fn power_in(number: u32, prime: u32) -> u32
+    ensures { 0 < result }
+{
+    let mut power = 1u32;
+    for _ in 0..MOST_DOUBLINGS {
+        let next = power.saturating_mul(prime);
+        if next == 0 || number % next != 0 {
+            return power;
+        }
+        power = next;
+    }
+    power
 }
 
 /// Whether the first number divides the second.

@@ -1,0 +1,64 @@
+//! What shows a contradiction.
+
+use crate::elimination::Elimination;
+use crate::fault::EliminationFault;
+use crate::kept::{Contradiction, Multiplier, Origin, Span};
+use std::alloc::Global;
+
+impl Elimination {
+    /// The multipliers with which the equations that came in add up to a contradiction that this
+    /// elimination told: the constant of the contradiction alone is left. First comes that of the
+    /// equation that came in last, then that of the latest kept one. An equation may have several.
+    ///
+    /// # Errors
+    /// Memory ran out.
+    pub fn multipliers(
+        &self,
+        alloc: Global,
+        found: Contradiction,
+    ) -> Result<Vec<Multiplier>, EliminationFault> {
+        let mut multipliers = Vec::new(alloc);
+        multipliers.push(Multiplier {
+            equation: found.equation,
+            factor: found.times,
+        })?;
+        let mut owed = Vec::new(alloc);
+        owed.resize(self.solved.len(), 0)?;
+        self.owe(&mut owed, found.uses, found.times)?;
+        for (place, solved) in self.solved.iter().enumerate().rev() {
+            let Some(factor) = owed.get(place).copied() else {
+                return Err(EliminationFault::Internal);
+            };
+            if let (true, Some(equation)) = (factor != 0, solved.origin.equation) {
+                let factor = self.undivided(factor, solved.origin)?;
+                multipliers.push(Multiplier { equation, factor })?;
+                self.owe(&mut owed, solved.origin.uses, factor)?;
+            }
+        }
+        Ok(multipliers)
+    }
+
+    /// How often the equation that came in stands in so many times the kept one.
+    fn undivided(&self, factor: u32, origin: Origin) -> Result<u32, EliminationFault> {
+        let whole = self.ring.product(factor, origin.times);
+        if origin.divisor == 0 || whole % origin.divisor != 0 {
+            return Err(EliminationFault::Internal);
+        }
+        Ok(whole / origin.divisor)
+    }
+
+    /// Takes away what these uses stand for, so many times.
+    fn owe(&self, owed: &mut Vec<u32>, uses: Span, times: u32) -> Result<(), EliminationFault> {
+        let Some(uses) = self.uses.get(uses.first..uses.end) else {
+            return Err(EliminationFault::Internal);
+        };
+        let back = self.ring.negative(times);
+        for used in uses {
+            let Some(place) = owed.get_mut(used.solved as usize) else {
+                return Err(EliminationFault::Internal);
+            };
+            *place = self.ring.add_product(*place, used.times, back);
+        }
+        Ok(())
+    }
+}

@@ -1,0 +1,123 @@
+//! Solutions over the integers.
+
+use crate::equations::Equations;
+use crate::fault::{FinderFault, number};
+use crate::listener::Listener;
+use crate::problem::Problem;
+use crate::system::solution;
+use std::alloc::Global;
+use wf_elimination::{Ring, prime_powers};
+
+/// The prime modulo which a solution is sought: the largest one below 2^31.
+const LARGE_PRIME: u32 = 2_147_483_647;
+
+/// The constant is the first unknown.
+const CONSTANT: i64 = 1;
+
+/// Whether the finder finds a solution over the integers of the equations of a task. Then no
+/// modulus has an obstruction, as the solution is one modulo each number too. If it finds none, the
+/// task may have obstructions or not.
+///
+/// It seeks a solution modulo a large prime, reads each value above the half as a negative number,
+/// and checks with these integers that the constant is 1 and that each equation holds. That a
+/// solution shows what it is said to show is not proved.
+///
+/// # Errors
+/// The finder gave up at one of its limits, or memory ran out.
+pub fn has_integer_solution<L: Listener>(
+    alloc: Global,
+    problem: &Problem,
+    listener: &L,
+) -> Result<bool, FinderFault> {
+    if problem.values.is_empty() {
+        return Ok(false);
+    }
+    let ring = large_prime(alloc)?;
+    match solution(alloc, problem, ring, listener)? {
+        Some(values) => Solution { values }.holds(alloc, problem),
+        None => Ok(false),
+    }
+}
+
+/// The numbers modulo the large prime.
+fn large_prime(alloc: Global) -> Result<Ring, FinderFault> {
+    match prime_powers(alloc, LARGE_PRIME)?.first() {
+        Some(ring) => Ok(*ring),
+        None => Err(FinderFault::Internal),
+    }
+}
+
+/// What may be a solution over the integers, modulo the large prime.
+#[derive(Drop)]
+struct Solution {
+    // a value for each unknown
+    values: Vec<u32>,
+}
+
+impl Solution {
+    /// Whether the constant is 1 and each equation holds: also those that follow from others.
+    fn holds(&self, alloc: Global, problem: &Problem) -> Result<bool, FinderFault> {
+        if self.value(0)? != CONSTANT {
+            return Ok(false);
+        }
+        let mut equations = Equations::new(alloc);
+        for place in 1..problem.classes.count() {
+            if !self.holds_at(problem, number(place)?, &mut equations)? {
+                return Ok(false);
+            }
+        }
+        Ok(true)
+    }
+
+    /// Whether each equation of a class holds.
+    fn holds_at(
+        &self,
+        problem: &Problem,
+        number: u32,
+        equations: &mut Equations,
+    ) -> Result<bool, FinderFault> {
+        let class = problem.classes.class(number)?;
+        for place in 0..class.size {
+            equations.fill(&problem.classes, class, place)?;
+            if !self.fits(equations)? {
+                return Ok(false);
+            }
+        }
+        Ok(true)
+    }
+
+    /// Whether the terms of each of these equations add up to 0.
+    ///
+    /// No sum leaves the range of `i64`: there are at most 4,000,000 unknowns, each stands in an
+    /// equation once at most, and its value is below 2^30 or so many below 0. If one did, it would
+    /// be told, and not taken for another sum.
+    fn fits(&self, equations: &Equations) -> Result<bool, FinderFault> {
+        let mut sum = 0i64;
+        for (at, term) in equations.terms.iter().enumerate() {
+            let value = self.value(term.unknown)?;
+            let signed = if term.negative { -value } else { value };
+            sum = match sum.checked_add(signed) {
+                Some(sum) => sum,
+                None => return Err(FinderFault::Internal),
+            };
+            if equations.ends(at, term.rest) {
+                if sum != 0 {
+                    return Ok(false);
+                }
+                sum = 0;
+            }
+        }
+        Ok(true)
+    }
+
+    /// The value of an unknown as an integer: those above the half of the prime are negative.
+    fn value(&self, unknown: u32) -> Result<i64, FinderFault> {
+        match self.values.get(unknown as usize) {
+            Some(value) if *value > LARGE_PRIME / 2 => {
+                Ok(i64::from(*value) - i64::from(LARGE_PRIME))
+            }
+            Some(value) => Ok(i64::from(*value)),
+            None => Err(FinderFault::Internal),
+        }
+    }
+}
