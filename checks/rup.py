@@ -17,7 +17,7 @@ import formula  # noqa: E402
 
 BLANKS = b" \t\r\n"
 NUMBER = re.compile(rb"-?[0-9]*")
-COMMENT = re.compile(rb"c[^\n]*")
+COMMENT = re.compile(rb"[c%][^\n]*")
 
 
 class Refused(Exception):
@@ -92,7 +92,7 @@ def steps(text, variables):
         if text[at] in BLANKS:
             line += text[at:at + 1] == b"\n"
             at += 1
-        elif between and text[at] in b"c":
+        elif between and text[at] in b"c%":
             at = COMMENT.match(text, at).end()
         elif between and text[at] in b"d":
             is_deletion = True

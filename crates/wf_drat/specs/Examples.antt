@@ -19,6 +19,14 @@ in_line n = record { variables = 3; line = n; reading = Blank; is_deletion = fal
 pub a_lemma_behind_a_comment : steps_in (codes "c 1 0\n1 -2 0\n") ≡ lemma 2 (pos 1 ∷ neg 2 ∷ []) ∷ []
 a_lemma_behind_a_comment = refl
 
+-- PicoSAT begins so
+pub a_lemma_behind_a_header : steps_in (codes "%RUPD32 3 4\n1 -2 0\n") ≡ lemma 2 (pos 1 ∷ neg 2 ∷ []) ∷ []
+a_lemma_behind_a_header = refl
+
+-- within a step it is no comment
+pub a_percent_sign_within_a_step : end_of (codes "1 % 0\n") ≡ broken_in 1 NotALiteral
+a_percent_sign_within_a_step = refl
+
 pub the_line_behind_them : end_of (codes "c 1 0\n1 -2 0\n") ≡ open_in (in_line 3)
 the_line_behind_them = refl
 

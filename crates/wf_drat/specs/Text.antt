@@ -65,11 +65,11 @@ number_turn s is_negative value =
 abbrev pub is_between_steps : State → Bool
 is_between_steps s = not s.is_deletion && length s.clause == 0
 
--- between two steps c begins a comment and d a deletion; a is the mark of a
--- lemma in the binary form
+-- between two steps c or % begins a comment, and d a deletion; a is the mark
+-- of a lemma in the binary form
 abbrev pub mark_turn : ℕ → Turn
 mark_turn byte =
-    if byte == 99 then GoesOn Comment
+    if byte == 99 || byte == 37 then GoesOn Comment
     else if byte == 100 then BeginsDeletion
     else if byte == 97 then Stops Binary
     else stray_turn byte

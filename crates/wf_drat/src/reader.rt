@@ -308,7 +308,8 @@ fn mark_turn(byte: u8) -> Turn
     ensures { result ≡ mark_turn byte }
 {
     match byte {
-        b'c' => Turn::GoesOn {
+        // the second is how PicoSAT begins the first line
+        b'c' | b'%' => Turn::GoesOn {
             reading: Reading::Comment,
         },
         b'd' => Turn::BeginsDeletion,
