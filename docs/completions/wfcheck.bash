@@ -4,7 +4,7 @@ _wfcheck() {
     local words
     COMPREPLY=()
     if [ "$COMP_CWORD" -eq 1 ]; then
-        mapfile -t COMPREPLY < <(compgen -W "solve verify views points branches join cnf model proof trim explain lift executions preset help --help --version" -- "$cur")
+        mapfile -t COMPREPLY < <(compgen -W "solve verify views points branches join cnf model proof trim explain lift executions obstruction preset help --help --version" -- "$cur")
         return
     fi
     case ${COMP_WORDS[1]}:$prev in
@@ -64,6 +64,7 @@ _wfcheck() {
             ;;
         lift:--rounds) return ;;
         executions:--rounds) return ;;
+        obstruction:--modulus) return ;;
         preset:--processes) return ;;
         preset:--k) return ;;
         preset:--values) return ;;
@@ -83,8 +84,9 @@ _wfcheck() {
         explain) words="--task --help" ;;
         lift) words="--task --rounds --help" ;;
         executions) words="--rounds --help" ;;
+        obstruction) words="--modulus --progress --help" ;;
         preset) words="set-agreement renaming --processes --k --values --names --help" ;;
-        help) words="solve verify views points branches join cnf model proof trim explain lift executions preset" ;;
+        help) words="solve verify views points branches join cnf model proof trim explain lift executions obstruction preset" ;;
         *) return ;;
     esac
     mapfile -t COMPREPLY < <(compgen -W "$words" -- "$cur")

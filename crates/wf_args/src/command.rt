@@ -292,7 +292,7 @@ fn explain_command<'a>(alloc: Global) -> Result<Command<'a>, AllocError>
     subcommand(
         alloc,
         "explain",
-        "Read a report on standard input, check it, and write in words why there is no decision map, or what its map decides",
+        "Read a report or an obstruction on standard input, check it, and write in words why there is no decision map, or what its map decides",
     )
     .arg(task(alloc))
 }
