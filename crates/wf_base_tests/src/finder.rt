@@ -63,7 +63,7 @@ fn consensus(rt: HostRuntime) -> Result<(), Fail> {
 /// The constant, one tuple of each process alone and two of both are unknowns. Each alone has an
 /// equation, both have two at the first place, and the first one at the second place contradicts.
 #[test]
-fn told(rt: HostRuntime) -> Result<(), Fail> {
+fn a_listener_is_told(rt: HostRuntime) -> Result<(), Fail> {
     let alloc = rt.alloc();
     let task = Task::read_text(alloc, CONSENSUS_2.as_bytes())?;
     let problem = Problem::of(alloc, &task)?;
