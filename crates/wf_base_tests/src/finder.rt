@@ -1,8 +1,9 @@
 //! Tests of the finder: tasks of which it is known whether they have an obstruction.
 
+use std::cell::Cell;
 use std::test::Fail;
 use wf_examples::{CONSENSUS_2, RENAMING_2_3};
-use wf_finder::{Found, Problem, Silent, find_obstruction, has_integer_solution};
+use wf_finder::{Found, Listener, Problem, Silent, find_obstruction, has_integer_solution};
 use wf_task::Task;
 
 /// Consensus of two processes, whose first block has both.
@@ -27,6 +28,23 @@ const FOUR: &str = concat!(
     r#"1],[1,2],[2,0]]],"processes":3,"symmetric":true,"version":1}"#,
 );
 
+/// Keeps what it is told last.
+#[derive(Drop)]
+struct Told {
+    unknowns: Cell<u64>,
+    equations: Cell<u64>,
+}
+
+impl Listener for Told {
+    fn system(&self, _modulus: u32, unknowns: u64) {
+        self.unknowns.set(unknowns);
+    }
+
+    fn equations(&self, _modulus: u32, count: u64) {
+        self.equations.set(count);
+    }
+}
+
 /// Each alone may not decide the input of the other one, and they may not decide differently.
 #[test]
 fn consensus(rt: HostRuntime) -> Result<(), Fail> {
@@ -42,7 +60,24 @@ fn consensus(rt: HostRuntime) -> Result<(), Fail> {
     Ok(())
 }
 
-/// Two tasks that have a decision map.
+/// The constant, one tuple of each process alone and two of both are unknowns. Each alone has an
+/// equation, both have two at the first place, and the first one at the second place contradicts.
+#[test]
+fn a_listener_is_told(rt: HostRuntime) -> Result<(), Fail> {
+    let alloc = rt.alloc();
+    let task = Task::read_text(alloc, CONSENSUS_2.as_bytes())?;
+    let problem = Problem::of(alloc, &task)?;
+    let listener = Told {
+        unknowns: Cell::new(0),
+        equations: Cell::new(0),
+    };
+    assert!(rt; !has_integer_solution(alloc, &problem, &listener)?);
+    assert_eq!(rt; listener.unknowns.get(), 5);
+    assert_eq!(rt; listener.equations.get(), 5);
+    Ok(())
+}
+
+/// A task that has a decision map.
 #[test]
 fn none(rt: HostRuntime) -> Result<(), Fail> {
     let alloc = rt.alloc();
@@ -52,6 +87,13 @@ fn none(rt: HostRuntime) -> Result<(), Fail> {
     assert!(rt; find_obstruction(alloc, &task, &problem, 2_147_483_647, &Silent)?.is_none());
     assert!(rt; find_obstruction(alloc, &task, &problem, 1, &Silent)?.is_none());
     assert!(rt; has_integer_solution(alloc, &problem, &Silent)?);
+    Ok(())
+}
+
+/// A task whose first block has several processes has none that is looked for.
+#[test]
+fn first_block(rt: HostRuntime) -> Result<(), Fail> {
+    let alloc = rt.alloc();
     let task = Task::read_text(alloc, FIRST_BLOCK.as_bytes())?;
     let problem = Problem::of(alloc, &task)?;
     assert!(rt; find_obstruction(alloc, &task, &problem, 2, &Silent)?.is_none());

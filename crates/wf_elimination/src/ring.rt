@@ -19,10 +19,13 @@ pub struct Ring {
 
 impl Ring {
     /// The numbers modulo this power of this prime.
-    pub(crate) fn of(power: u32, prime: u32) -> Ring {
+    pub(crate) fn of(power: u32, prime: u32) -> Ring
+        requires a_power { 0 < power }
+        requires a_prime { 0 < prime }
+    {
         Ring {
-            modulus: power.max(1),
-            prime: prime.max(1),
+            modulus: power,
+            prime,
         }
     }
 

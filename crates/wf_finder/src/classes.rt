@@ -205,7 +205,7 @@ impl Classes {
         let Some(members) = self.members.get(class.first_member..class.end_member) else {
             return Err(FinderFault::Internal);
         };
-        let row = crate::tuples::row(tuple, class.size);
+        let row = crate::tuples::row(tuple, class.size)?;
         for member in members {
             if rows(task, member.simplex)?.binary_search(&row).is_err() {
                 return Ok(member.simplex);

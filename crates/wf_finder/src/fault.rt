@@ -4,7 +4,7 @@ ghost use Rattle.std.specs.Prelude.{◌≡◌, ◌<◌, ◌≤◌, MatchResult};
 ghost use Rattle.wf_finder.specs.declared.fault.FinderFault.TheVariants.{OutOfMemory, TooManyEntries, TooManyEquations};
 
 use std::alloc::{AllocError, AllocFailed};
-use wf_elimination::{EliminationFault, MOST_ENTRIES, MOST_STEPS, MOST_UNKNOWNS};
+use wf_elimination::{EliminationFault, MOST_ENTRIES};
 use wf_obstruction::ObstructionFault;
 
 /// The most equations of a system.
@@ -13,7 +13,7 @@ pub const MOST_EQUATIONS: u64 = 4_000_000;
 /// Why the finder gave up. It says nothing about whether the task has an obstruction.
 #[derive(Clone, Copy, Debug, PartialEq, Eq)]
 pub enum FinderFault {
-    /// The system has more than [`MOST_UNKNOWNS`] unknowns.
+    /// The system has more than [`MOST_UNKNOWNS`](crate::MOST_UNKNOWNS) unknowns.
     TooManyUnknowns {
         /// How many there are, or were when the finder gave up.
         count: u64,
@@ -28,7 +28,7 @@ pub enum FinderFault {
         /// How many there were when the finder gave up.
         count: u64,
     },
-    /// More than [`MOST_STEPS`] steps would be needed.
+    /// More than [`MOST_STEPS`](crate::MOST_STEPS) steps would be needed.
     TooManySteps {
         /// How many there were when the finder gave up.
         count: u64,

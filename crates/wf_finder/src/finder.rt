@@ -118,7 +118,7 @@ fn weighted_tuples(alloc: Global, placed: &[Placed]) -> Result<Vec<WeightedTuple
         tuples.push(WeightedTuple {
             simplex: one.simplex,
             weight: one.weight,
-            tuple: row(one.tuple, one.size),
+            tuple: row(one.tuple, one.size)?,
         })?;
     }
     Ok(tuples)

@@ -11,7 +11,7 @@ use wf_elimination::{Ring, prime_powers};
 /// The prime modulo which a solution is sought: the largest one below 2^31.
 const LARGE_PRIME: u32 = 2_147_483_647;
 
-/// The constant is the first unknown.
+/// The value of the constant, the first unknown.
 const CONSTANT: i64 = 1;
 
 /// Whether the finder finds a solution over the integers of the equations of a task. Then no
@@ -88,16 +88,20 @@ impl Solution {
 
     /// Whether the terms of each of these equations add up to 0.
     ///
-    /// No sum leaves the range of `i64`: there are at most 4,000,000 unknowns, each stands in an
-    /// equation once at most, and its value is below 2^30 or so many below 0. If one did, it would
-    /// be told, and not taken for another sum.
+    /// No sum leaves the range of `i64`: there are at most 4,000,000 unknowns, an unknown stands in
+    /// an equation once at most, and its value is between -2^30 and 2^30. So sums are between -2^52
+    /// and 2^52. If one left the range, the finder would give up.
     fn fits(&self, equations: &Equations) -> Result<bool, FinderFault> {
         let mut sum = 0i64;
         for (at, term) in equations.terms.iter().enumerate() {
             let value = self.value(term.unknown)?;
-            let signed = if term.negative { -value } else { value };
-            sum = match sum.checked_add(signed) {
-                Some(sum) => sum,
+            let next = if term.negative {
+                sum.checked_sub(value)
+            } else {
+                sum.checked_add(value)
+            };
+            sum = match next {
+                Some(next) => next,
                 None => return Err(FinderFault::Internal),
             };
             if equations.ends(at, term.rest) {

@@ -38,13 +38,16 @@ fn list(row: &Row) -> u64 {
 }
 
 /// The tuple of a list of so many digits.
-pub(crate) fn row(list: u64, size: u8) -> Row {
+pub(crate) fn row(list: u64, size: u8) -> Result<Row, FinderFault> {
     let mut values = [0; MOST_PLACES];
     for (place, value) in values.iter_mut().enumerate() {
         let digit = number_at(list, behind(size, place as u8));
         *value = (digit % VALUES) as u8;
     }
-    Row::new(&values[..size.clamp(1, 4) as usize])
+    if size == 0 || size as usize > MOST_PLACES {
+        return Err(FinderFault::Internal);
+    }
+    Ok(Row::new(&values[..size as usize]))
 }
 
 /// Keeps the tuples that the other ones have too, which are ascending.
