@@ -5,7 +5,7 @@ use Rattle.std.specs.List.{sum_by}
 use Rattle.std.proofs.lemmas.Bool.{cases_eq, false≢true}
 use Rattle.std.proofs.lemmas.List.Sums.{sum_by-cons}
 use Rattle.wf_rup.specs.Deleted.{AreAlike}
-use Rattle.wf_rup.specs.Index.{IsHashOf, mixed}
+use Rattle.wf_rup.specs.Index.{IsHashOf, first_step, joined, mixed, second_step, sum_of_each}
 use Rattle.wf_rup.specs.Stored.{IsDistinct, has}
 use Rattle.wf_rup.proofs.TrailLemmas.{other_test, same_test}
 use Rattle.wf_rup.proofs.UnitLemmas.{All-has, has-behind, has-first}
@@ -124,8 +124,12 @@ both-ways false false h k = refl
 alike-has : (c d : List ℕ) → AreAlike c d → (l : ℕ) → has c l ≡ has d l
 alike-has c d alike l = both-ways (has c l) (has d l) (All-has (λ m. has d m ≡ true) c l alike.1) (All-has (λ m. has c m ≡ true) d l alike.0)
 
+same-sums : (c d : List ℕ) (h k step : ℕ) → AreAlike c d → (one : IsHashOf c h) → (two : IsHashOf d k) → sum_of_each step one.each ≡ sum_of_each step two.each
+same-sums c d h k step alike one two =
+    ap (λ n. n % 2 ^ 64) (same-sum (mixed step) one.each two.each (once-of one.each one.distinct) (once-of two.each two.distinct)
+    (λ l. one.same l ∙ alike-has c d alike l ∙ sym (two.same l)))
+
 pub same-hash : (c d : List ℕ) (h k : ℕ) → AreAlike c d → IsHashOf c h → IsHashOf d k → h ≡ k
 same-hash c d h k alike one two =
-    one.sum ∙ ap (λ n. n % 2 ^ 32) (same-sum mixed one.each two.each (once-of one.each one.distinct) (once-of two.each two.distinct)
-    (λ l. one.same l ∙ alike-has c d alike l ∙ sym (two.same l)))
-    ∙ sym two.sum
+    one.sum ∙ ap (λ n. joined n (sum_of_each second_step one.each)) (same-sums c d h k first_step alike one two)
+    ∙ ap (λ n. joined (sum_of_each first_step two.each) n) (same-sums c d h k second_step alike one two) ∙ sym two.sum

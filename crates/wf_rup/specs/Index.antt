@@ -1,5 +1,5 @@
 -- Where the entries of the index stand, and what hash a clause has.
-use Rattle.std.specs.Prelude.{◌≡◌, ℕ, ◌<◌, ◌*◌, ◌/◌, ◌%◌, ◌^◌, List, [], All, Contains, get_or, length, set, bit_xor}
+use Rattle.std.specs.Prelude.{◌≡◌, ℕ, ◌<◌, ◌+◌, ◌*◌, ◌/◌, ◌%◌, ◌^◌, List, [], All, Contains, get_or, length, set, bit_xor}
 use Rattle.std.specs.List.{sum_by}
 use Rattle.wf_rup.specs.Deleted.{AreAlike}
 use Rattle.wf_rup.specs.Stored.{IsDistinct, has}
@@ -28,15 +28,43 @@ FindsStillBut taken old new = (entry : Entry) → (entry ≡ taken → ⊥) → 
 
 -- ---- hashes
 
--- what a literal adds to the hash of its clause
-unfoldable pub mixed : ℕ → ℕ
-mixed l =
-    let spread = l * 2654435761 % 2 ^ 32 in
-    bit_xor spread (spread / 2 ^ 15) * 2246822519 % 2 ^ 32
+-- the steps of two generators: the first 64 bits behind the point of the golden ratio and of √2
+-- (the latter made odd)
+abbrev pub first_step : ℕ
+first_step = 0x9e37_79b9_7f4a_7c15
+
+abbrev pub second_step : ℕ
+second_step = 0x6a09_e667_f3bc_c909
+
+-- the factors of the generator splitmix64
+abbrev pub first_factor : ℕ
+first_factor = 0xbf58_476d_1ce4_e5b9
+
+abbrev pub second_factor : ℕ
+second_factor = 0x94d0_49bb_1331_11eb
+
+-- what it gives at a state
+unfoldable pub finished : ℕ → ℕ
+finished state =
+    let once = bit_xor state (state / 2 ^ 30) * first_factor % 2 ^ 64 in
+    let twice = bit_xor once (once / 2 ^ 27) * second_factor % 2 ^ 64 in
+    bit_xor twice (twice / 2 ^ 31)
+
+-- what a literal adds to a sum: what the generator with this step, from 0 on, gives after so many
+unfoldable pub mixed : ℕ → ℕ → ℕ
+mixed step literal = finished ((literal + 1) * step % 2 ^ 64)
+
+-- the sum over the literals
+abbrev pub sum_of_each : ℕ → List ℕ → ℕ
+sum_of_each step literals = sum_by (mixed step) literals % 2 ^ 64
+
+-- the hash of literals with these sums
+unfoldable pub joined : ℕ → ℕ → ℕ
+joined first second = finished ((finished first + second) % 2 ^ 64) / 2 ^ 32
 
 -- the hash of literals that stand once each
 abbrev pub hash_of_each : List ℕ → ℕ
-hash_of_each literals = sum_by mixed literals % 2 ^ 32
+hash_of_each literals = joined (sum_of_each first_step literals) (sum_of_each second_step literals)
 
 -- the hash of the clause, in which a literal counts once
 pub record IsHashOf (clause : List ℕ) (hash : ℕ) : Type 0 where
