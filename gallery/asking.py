@@ -10,9 +10,10 @@ import sys
 import tempfile
 
 import branches
+import never
 import runs
-from notes import Room, placed
-from questions import PLACES, SEARCH, Attempt, Question, first
+from notes import Room, keep
+from questions import FEWER_ROUNDS, PLACES, SEARCH, Attempt, Question, first
 from runs import Clock, Late, Limits, Refused, Scope, Stopped, Undecided, say
 
 SOLVERS = {
@@ -41,6 +42,7 @@ def parsed(doc):
     words.add_argument("--memory", type=float, default=4)
     words.add_argument("--disk", type=float, default=4)
     words.add_argument("--keep", type=pathlib.Path)
+    words.add_argument("--no-obstruction", action="store_true")
     words.add_argument("--jobs", type=int)
     chosen = words.add_mutually_exclusive_group()
     chosen.add_argument("--branch", type=int)
@@ -166,21 +168,49 @@ def main(doc):
 
 def answered(words):
     """Asks, and returns the status that the answer has."""
+    if has_obstruction(words):
+        return of_never(words)
     solver = words.solver or next(filter(shutil.which, SOLVERS), None)
     if not solver and not words.looks:
         print(NO_SOLVER, file=sys.stderr)
     solver = None if solver in (None, SEARCH_ALONE) or words.looks or words.array else command(solver, words.limits)
     if words.by_branch:
         return branches.main(words, solver)
+    answers = {}
     with Room(words.keep) as room:
         for rounds in words.rounds:
             say(f"{words.task.stem} after {rounds} {'round' if rounds == 1 else 'rounds'}:")
             clock = Clock(words.seconds)
-            answer = decided(words, rounds, solver, room, clock)
+            answers[rounds] = answer = decided(words, rounds, solver, room, clock)
             say(f"    {answer or 'not decided' + (f' within {words.seconds:g} s' if clock.taken() >= words.seconds else '')}")
             if answer == "map":
                 break
+    say(f"{words.task.stem}: {summary(answers)}")
     return branches.STATUS[answer]
+
+
+def has_obstruction(words):
+    """Whether the task has an obstruction that is accepted: one that is found, or where nothing is asked one that is kept."""
+    if words.no_obstruction or words.array:
+        return False
+    return never.is_kept(words) if words.looks else never.is_never(words)
+
+
+def of_never(words):
+    """The status of a task that has no map after any number of rounds. All its branches are decided then."""
+    if not words.by_branch:
+        say(f"{words.task.stem}: never")
+    return 0 if words.branch is not None or words.share else branches.STATUS["none"]
+
+
+def summary(answers):
+    """What the answers by rounds come to. A map after some rounds gives one after more, so none there is none after fewer, too."""
+    most = max((rounds for rounds, answer in answers.items() if answer == "none"), default=None)
+    least = next((rounds for rounds, answer in answers.items() if answer == "map"), None)
+    if least == 0 or None not in (most, least) and most == least - 1:
+        return f"from {least}"
+    told = [f"none up to {most}"] * (most is not None) + [f"map at {least}"] * (least is not None)
+    return ", ".join(told) or "not decided"
 
 
 def decided(words, rounds, solver, room, clock):
@@ -189,12 +219,11 @@ def decided(words, rounds, solver, room, clock):
         scope = Scope(words.limits)
         attempt = Attempt(Question(words.task, rounds), made, scope, clock)
         those = {SEARCH: attempt.by_search}
+        if rounds and rounds == words.rounds[0]:
+            those[FEWER_ROUNDS] = attempt.by_fewer_rounds
         if solver:
             those[shlex.split(solver)[0]] = lambda: attempt.by_solver(solver, words.clauses)
         answer = first(scope, those)
         for file in answer.files if answer and words.keep else []:
-            try:
-                placed(file, words.keep)
-            except OSError as error:
-                say(f"    {file.name} can't be kept: {error}")
+            keep(file, words.keep)
     return answer and answer.word

@@ -178,6 +178,7 @@ def array(words, count):
     command = [pathlib.Path(sys.argv[0]).resolve(), words.task.resolve(), words.rounds[0], "--keep", words.keep.resolve()]
     command += ["--seconds", f"{words.seconds:g}", "--memory", f"{words.memory:g}", "--disk", f"{words.disk:g}", "--clauses", words.clauses]
     command += ["--solver", words.solver] if words.solver else []
+    command += ["--no-obstruction"] if words.no_obstruction else []
     which = '--branch "$SLURM_ARRAY_TASK_ID"' if jobs == count else f'--share "$SLURM_ARRAY_TASK_ID/{jobs}"'
     return "\n".join([
         "#!/bin/sh",

@@ -15,6 +15,8 @@ import shutil
 import tempfile
 import typing
 
+from runs import say
+
 ROOMS, LOCK = ".ask-", "lock"
 LINE = re.compile(
     r"(?P<word>map|none), by (?P<who>.*) in (?P<taken>[\d.]+) s, "
@@ -84,6 +86,14 @@ def placed(file, folder):
         except FileExistsError:
             if place.is_file() and not place.is_symlink() and place.stat().st_size == file.stat().st_size and digest(place) == digest(file):
                 return place
+
+
+def keep(file, folder):
+    """Puts a file that is accepted into a folder, and says why if it can't be kept."""
+    try:
+        placed(file, folder)
+    except OSError as error:
+        say(f"    {file.name} can't be kept: {error}")
 
 
 class Note(typing.NamedTuple):

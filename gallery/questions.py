@@ -6,9 +6,12 @@ import subprocess
 import typing
 
 import runs
-from runs import Late, Refused, say
+from runs import Clock, Late, Refused, say
 
 SEARCH = "the search"
+FEWER_ROUNDS = "the search after fewer rounds"
+# the share of a question's time in which a map after fewer rounds is looked for
+SHARE = 0.1
 CLAUSES = re.compile(rb"^p cnf \d+ (\d+)$", re.M)
 HEAD = 1 << 14
 EMPTY = re.compile(rb"\n(?=\n)")
@@ -110,6 +113,28 @@ class Attempt:
         if ended.status != 1:
             self.tell(SEARCH, f"has no refutation: {ended.why()}")
         return ended.status == 1
+
+    def by_fewer_rounds(self):
+        """A map after fewer rounds, lifted to these. The search looks for one in a short share of the time."""
+        clock = Clock(self.clock.seconds * SHARE)
+        for rounds in range(self.question.rounds):
+            report = self.file(f"after-{rounds}")
+            ended = self.scope.wfcheck(["solve", "--rounds", rounds, "--workers", 1, "--verdict"], clock, self.question.task, report)
+            if ended.status == 0:
+                self.tell(f"the search after {rounds} {'round' if rounds == 1 else 'rounds'}", f"says map in {ended.taken:.2f} s")
+                return self.lifted(report, ended.taken)
+            if ended.status != 1:
+                return None
+        return None
+
+    def lifted(self, report, taken):
+        """The map of a report of fewer rounds, for these rounds."""
+        lifted = self.file("lifted")
+        ended = self.wfcheck(["lift", *self.question.about], report, lifted)
+        say(f"    wfcheck lift: {ended.why() if ended.status else f'a map for {self.question.rounds} rounds'} ({ended.taken:.2f} s)")
+        if ended.status:
+            return None
+        return Answer("map", FEWER_ROUNDS, taken, [lifted]) if self.accepted("verify", lifted) == "map" else None
 
     def write_formula(self, most):
         """Writes the formula, where it has no more clauses than a limit."""

@@ -167,6 +167,21 @@ def symmetry_broken(n):
     return lambda _start, end: len(end) < n or len(set(end.values())) > 1
 
 
+def one_stands_out(n):
+    """In each execution one decides 1, and where all n take part, one decides 0, too."""
+    return lambda _start, end: 1 in end.values() and (len(end) < n or 0 in end.values())
+
+
+def all_slots(n, values):
+    """Where all n take part, each of so many values is decided."""
+    return lambda _start, end: len(end) < n or len(set(end.values())) == values
+
+
+def adaptive_names(_start, end):
+    """Different names, and where k take part these are below 2k - 1."""
+    return all_differ(_start, end) and max(end.values()) < 2 * len(end) - 1
+
+
 def one_leader(n):
     """Nowhere are there two leaders (1), and where all n take part there is one."""
     return lambda _start, end: sum(end.values()) == 1 if len(end) == n else sum(end.values()) <= 1
@@ -175,6 +190,11 @@ def one_leader(n):
 def one_winner(_start, end):
     """One of those that take part wins (0), whoever they are."""
     return list(end.values()).count(0) == 1
+
+
+def winners(most):
+    """One or more of those that take part win (0), but at most so many."""
+    return lambda _start, end: 1 <= list(end.values()).count(0) <= most
 
 
 def splitter(_start, end):
@@ -195,6 +215,11 @@ def near(whole):
 def quasi_consensus(start, end):
     """Two processes decide as in consensus, or process 0 decides 1 and process 1 decides 0."""
     return set(end.values()) <= set(start.values()) and (len(set(end.values())) == 1 or end == {0: 1, 1: 0})
+
+
+def equality_negated(start, end):
+    """Two processes decide the same if their inputs differ, and else not. Who is alone decides anything."""
+    return len(end) < 2 or (start[0] == start[1]) == (end[0] != end[1])
 
 
 def commit_adopt(start, end):
@@ -251,6 +276,25 @@ def on_edge(edges):
     return legal
 
 
+def in_star(start, end):
+    """Inputs and decisions are the vertices of a star with the centre 0: all decide vertices of one edge, and none but inputs and what
+    lies between them."""
+    between = set(start.values()) | ({0} if len(set(start.values())) > 1 else set())
+    return set(end.values()) <= between and len(set(end.values()) - {0}) <= 1
+
+
+# a simplex for each choice of those that take part, with its decisions; two triangles on one edge and a third meet in one vertex,
+# 1 at process 0
+HOURGLASS = {
+    (0,): [(0,)], (1,): [(1,)], (2,): [(1,)], (1, 2): [(1, 1)],
+    (0, 1): [(0, 2), (1, 2), (1, 1)], (0, 2): [(0, 2), (1, 2), (1, 1)], (0, 1, 2): [(0, 2, 2), (1, 2, 2), (1, 1, 1)],
+}
+
+
+def in_hourglass(_start, end):
+    return tuple(end.values()) in HOURGLASS[tuple(end)]
+
+
 # Subdivisions and surfaces
 
 
@@ -297,6 +341,14 @@ SOCK = ANNULUS + [tuple(v + 3 for v in each) for each in CAPPED]
 # The projective plane with six vertices: each two are an edge. 0, 1, 2 is no triangle of it, and 0, 1, 4 is one.
 PLANE = [(0, 1, 4), (0, 1, 5), (0, 2, 3), (0, 2, 4), (0, 3, 5), (1, 2, 3), (1, 2, 5), (1, 3, 4), (2, 4, 5), (3, 4, 5)]
 
+# The torus with seven vertices: each two are an edge. 0, 1, 4 is no triangle of it, and 0, 1, 3 is one.
+TORUS = [tuple(sorted((i + v) % 7 for v in corner)) for i in range(7) for corner in [(0, 1, 3), (0, 2, 3)]]
+PUNCTURED = [each for each in TORUS if each != (0, 1, 3)]
+# A Klein bottle: three rows of three vertices, each row a circle. After the last row comes the first one, the other way round.
+ROWS = [[0, 1, 2], [3, 4, 5], [6, 7, 8], [0, 2, 1]]
+KLEIN = [corner for row, after in zip(ROWS, ROWS[1:]) for i, k in SIDES
+         for corner in [(row[i], row[k], after[k]), (row[i], after[i], after[k])]]
+
 
 def gallery():
     bits = (0, 1)
@@ -306,6 +358,7 @@ def gallery():
     yield task("quasi-consensus-2", 2, all_of(2, bits), quasi_consensus, bits)
     for n, k in [(3, 2), (3, 3), (4, 2), (4, 3), (4, 4)]:
         yield task(f"set-agreement-{n}-{k}", n, own(n), agreement(k), range(n))
+    yield task("set-agreement-4-2-condition", 4, [(0, 0, 1, 2)], agreement(2), range(3))
     for k in (2, 3):
         yield task(f"set-agreement-3-{k}-all", 3, all_of(3, range(3)), agreement(k), range(3))
     for n in (2, 3):
@@ -316,16 +369,23 @@ def gallery():
         yield task(f"renaming-{n}-names-{names}", n, same(n), all_differ, range(names), symmetric=True)
     for n in (3, 4):
         yield task(f"renaming-{n}-names-{n}-named", n, same(n), all_differ, range(n))
+    yield task("renaming-3-adaptive", 3, same(3), adaptive_names, range(5), symmetric=True)
     for n in (2, 3, 4):
         yield task(f"symmetry-breaking-{n}", n, same(n), symmetry_broken(n), bits, symmetric=True)
     yield task("symmetry-breaking-3-named", 3, same(3), symmetry_broken(3), bits)
-    yield task("symmetry-breaking-3-values-3", 3, same(3), symmetry_broken(3), range(3), symmetric=True)
+    for n in (3, 4):
+        yield task(f"symmetry-breaking-{n}-values-3", n, same(n), symmetry_broken(n), range(3), symmetric=True)
+    yield task("symmetry-breaking-3-strong", 3, same(3), one_stands_out(3), bits, symmetric=True)
+    yield task("slots-4-values-3", 4, same(4), all_slots(4, 3), range(3), symmetric=True)
     for n in (2, 3):
         yield task(f"leader-election-{n}", n, same(n), one_leader(n), bits, symmetric=True)
     yield task("leader-election-3-named", 3, same(3), one_leader(3), bits)
     for n in (2, 3):
         yield task(f"test-and-set-{n}", n, same(n), one_winner, bits)
         yield task(f"splitter-{n}", n, same(n), splitter, range(3), symmetric=True)
+    yield task("test-and-set-3-winners-2", 3, same(3), winners(2), bits)
+    yield task("equality-negation-2", 2, all_of(2, range(3)), equality_negated, bits)
+    yield task("equality-negation-2-bits", 2, all_of(2, bits), equality_negated, bits)
     for n, whole in [(2, 3), (2, 9), (2, 27), (3, 2), (3, 3), (3, 9), (3, 27)]:
         yield task(f"approximate-{n}-by-{whole}", n, all_of(n, bits), near(whole), range(whole + 1))
     yield task("approximate-3-by-27-mixed", 3, [(0, 0, 1)], near(27), range(28))
@@ -343,7 +403,13 @@ def gallery():
     yield loop_agreement("loop-hollow", own(3), HOLLOW, SIDES)
     yield loop_agreement("loop-projective", own(3), PLANE, SIDES)
     yield loop_agreement("loop-projective-face", own(3), PLANE, [(0, 1), (1, 4), (4, 0)])
+    yield loop_agreement("loop-klein", own(3), KLEIN, SIDES)
+    yield loop_agreement("loop-torus", own(3), TORUS, [(0, 1), (1, 4), (4, 0)])
+    yield loop_agreement("loop-torus-punctured", own(3), PUNCTURED, [(0, 1), (1, 3), (3, 0)])
     yield task("edge-agreement-3-cycle-4", 3, [(1, 2, 3)], on_edge([(0, 1), (1, 2), (2, 3), (3, 0)]), range(4))
+    yield task("edge-agreement-3-cycle-4-all", 3, all_of(3, range(4)), on_edge([(0, 1), (1, 2), (2, 3), (3, 0)]), range(4))
+    yield task("edge-agreement-3-star", 3, all_of(3, range(4)), in_star, range(4))
+    yield task("hourglass", 3, same(3), in_hourglass, range(3))
     yield task("majority-3", 3, all_of(3, bits), majority, bits)
     yield task("no-minority-3", 3, all_of(3, bits), no_minority, bits)
 

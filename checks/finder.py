@@ -1,0 +1,108 @@
+"""Small tasks, and what `wfcheck obstruction` has to say of each: a part of checks/fuzz.
+
+Each task is asked about modulo 2 and 3, and without a modulus; the kept ones modulo 4, 8 and 9 as well. The program has to find an
+obstruction exactly where gallery/finding.py does, and gallery/obstructions.py has to accept what it finds. It may say that no modulus
+has an obstruction only where gallery/finding.py finds whole numbers that show it."""
+import itertools
+import json
+import random
+import re
+
+import common  # noqa: F401, which finds the modules of gallery/ for checks/fuzz
+import finding
+import lint
+import obstructions
+
+ROOT = common.ROOT
+PRIMES = [2, 3]
+POWERS = [2, 3, 4, 8, 9]
+# tasks of tests/obstructions, and the moduli of POWERS that have an obstruction
+KEPT = {
+    "modulo-4": [3, 4, 8, 9],
+    "modulo-4-symmetric": [3, 4, 8, 9],
+    "modulo-9-symmetric": [2, 4, 8, 9],
+}
+NONE_FOUND = re.compile(r"no obstruction (?:(for any modulus)|modulo (\d+(?:, \d+)*))\n")
+# a larger modulus is not asked of gallery/finding.py in a case
+LARGEST = 9
+
+
+def random_task(choose):
+    """A task of two or three processes with two or three values. In a symmetric one some simplices with the same inputs have different
+    rules."""
+    processes, values = choose.choice([2, 2, 3, 3, 3]), range(choose.choice([2, 2, 3]))
+    symmetric = choose.random() < 0.5
+    inputs = {tuple((p, choose.randrange(2)) for p in range(processes)) for _ in range(choose.choice([1, 1, 2]))}
+    outputs = [list(enumerate(it)) for it in itertools.product(values, repeat=processes)]
+    density, rules, delta = [choose.choice([0.3, 0.5, 0.7, 0.85]) for _ in range(processes)], {}, []
+    for simplex in lint.complex_of(sorted(inputs)):
+        key = tuple(value for _, value in simplex) if symmetric else simplex
+        every = list(itertools.product(values, repeat=len(simplex)))
+        if key not in rules or choose.random() < 0.1:
+            rules[key] = [it for it in every if choose.random() < density[len(simplex) - 1]] or [choose.choice(every)]
+        delta.append({"in": simplex, "out": rules[key]})
+    task = {"version": 1, "processes": processes, "symmetric": symmetric, "inputs": sorted(inputs), "outputs": outputs, "delta": delta}
+    return json.dumps(task, separators=(",", ":")).encode()
+
+
+def case(seed, number):
+    """The text of a task by its number, and the moduli by which it is asked about."""
+    return random_task(random.Random(f"{seed}:{number}")), PRIMES
+
+
+def kept():
+    """The texts of the kept tasks by their names, and the moduli that have an obstruction."""
+    return {name: ((ROOT / f"tests/obstructions/{name}.json").read_bytes(), having) for name, having in KEPT.items()}
+
+
+def wrong(run, text, moduli, having=None):
+    """What is wrong with what the program says of a task, or None."""
+    task = lint.read(text)[0]
+    for modulus in moduli:
+        found = finding.find(task, modulus)
+        if found:
+            obstructions.judge(task, finding.text_of(task, modulus, found))
+        if having is not None and bool(found) != (modulus in having):
+            return f"gallery/finding.py finds {'an' if found else 'no'} obstruction modulo {modulus}"
+        ran = run(["obstruction", "--modulus", str(modulus)], text)
+        if fault := wrong_modulus(task, modulus, found, ran):
+            return f"modulo {modulus}: {fault}"
+    return wrong_whole(task, run(["obstruction"], text))
+
+
+def wrong_modulus(task, modulus, found, ran):
+    """What is wrong with what the program says of a task and a modulus, or None."""
+    if found:
+        return wrong_found(task, modulus, ran)
+    right = (ran.returncode, ran.stdout, ran.stderr) == (1, b"", f"no obstruction modulo {modulus}\n".encode())
+    return None if right else f"there is none: {shown(ran)}"
+
+
+def wrong_found(task, modulus, ran):
+    """What is wrong with an obstruction that the program writes, by this modulus if there is one, or None."""
+    if (ran.returncode, ran.stderr) != (0, b""):
+        return f"there is one: {shown(ran)}"
+    try:
+        judged = obstructions.judge(task, ran.stdout.decode())
+    except (obstructions.Refused, UnicodeDecodeError) as refused:
+        return f"what is found is refused: {refused}"
+    return None if modulus in (None, judged.modulus) else f"the obstruction is modulo {judged.modulus}"
+
+
+def wrong_whole(task, ran):
+    """What is wrong with what the program says of a task without a modulus, or None."""
+    if ran.returncode == 0:
+        return wrong_found(task, None, ran)
+    said = NONE_FOUND.fullmatch(ran.stderr.decode(errors="replace"))
+    if ran.returncode != 1 or ran.stdout or not said:
+        return shown(ran)
+    if said[1]:
+        return None if finding.has_integers(task) else "some modulus has an obstruction, and it says that none has"
+    for modulus in [it for it in map(int, said[2].split(", ")) if it <= LARGEST]:
+        if finding.find(task, modulus):
+            return f"it says that there is none, and there is one modulo {modulus}"
+    return None
+
+
+def shown(ran):
+    return f"status {ran.returncode}, {ran.stderr[:80]}, {len(ran.stdout)} bytes written"

@@ -1,0 +1,67 @@
+"""The answer for every number of rounds, for gallery/ask: `wfcheck obstruction` looks for an obstruction of the task, and `wfcheck verify`
+has to accept it. If none is found, that says nothing about the task."""
+import re
+
+from notes import Room, keep
+from questions import answered
+from runs import Clock, Late, Refused, Scope, say
+
+ACCEPTED = "accepted none at every number of rounds"
+FIRST_BLOCK, GAVE_UP = "wfcheck: 50 FirstBlock", "wfcheck: 60 GaveUp"
+MODULUS = re.compile(r"^modulus (\d+)$", re.M)
+
+
+def is_never(words):
+    """Whether an obstruction of the task is found and accepted. It is asked for once, with as much time as a number of rounds has."""
+    with Room(words.keep) as room, room.attempt() as made:
+        file, scope, clock = made / f"{words.task.stem}.obstruction", Scope(words.limits), Clock(words.seconds)
+        found = answered("wfcheck obstruction", lambda: is_found(words, file, scope, clock))
+        if found and words.keep:
+            keep(file, words.keep)
+    return bool(found)
+
+
+def is_kept(words):
+    """Whether the folder of --tally or --recheck has an obstruction of the task, and it is accepted."""
+    file = words.keep / f"{words.task.stem}.obstruction"
+    if not file.is_file():
+        return False
+    say(f"{words.task.stem} after every number of rounds:")
+    return bool(answered("wfcheck verify", lambda: is_accepted(words, file, Scope(words.limits), Clock(words.seconds))))
+
+
+def is_found(words, file, scope, clock):
+    """Whether an obstruction is found and accepted. A task with a first block has none, and nothing is said of it."""
+    try:
+        ended = scope.wfcheck(["obstruction"], clock, words.task, file)
+    except Late:
+        say(f"{words.task.stem} after every number of rounds:\n    wfcheck obstruction: no end within the {clock.seconds:g} s that it has")
+        raise
+    if ended.said.startswith(FIRST_BLOCK):
+        return False
+    if ended.status == 2 and not ended.said.startswith(GAVE_UP):
+        raise Refused(ended.said)
+    say(f"{words.task.stem} after every number of rounds:")
+    say(f"    wfcheck obstruction: {ended.why() if ended.status else in_words(file)} ({ended.taken:.2f} s)")
+    return ended.status == 0 and is_accepted(words, file, scope, clock)
+
+
+def is_accepted(words, file, scope, clock):
+    """Whether `verify` accepts an obstruction of the task; then there is no map, and the last line says so."""
+    try:
+        ended = scope.wfcheck(["verify", "--task", words.task], clock, file)
+    except Late:
+        say(f"    wfcheck verify: no end within the {clock.seconds:g} s that the obstruction has")
+        raise
+    accepted = ended.status == 0 and ended.said.strip() == ACCEPTED
+    say(f"    wfcheck verify: {ACCEPTED if accepted else ended.why()} ({ended.taken:.2f} s)")
+    if accepted:
+        say(f"    never: no map after any number of rounds (obstruction {in_words(file)})")
+    return accepted
+
+
+def in_words(file):
+    """The modulus of an obstruction, and how many tuples it weighs."""
+    text = file.read_text(errors="replace")
+    modulus, tuples = MODULUS.search(text), text.count("\nt ")
+    return f"modulo {modulus[1] if modulus else '?'}, {tuples:,} {'tuple' if tuples == 1 else 'tuples'}"
