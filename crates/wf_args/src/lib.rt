@@ -142,7 +142,7 @@ pub enum Job {
         /// How many rounds the map is to be for, where they are asked for; else it is one more.
         rounds: Option<u32>,
     },
-    /// Look for an obstruction of a task, by which it has no decision map after any number of rounds.
+    /// Look for an obstruction of a task: with one there is no decision map for any rounds.
     Obstruction {
         /// The modulus, where one is asked for; else some are tried in turn.
         modulus: Option<u32>,

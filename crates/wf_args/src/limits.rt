@@ -6,4 +6,5 @@ pub(crate) const MOST_WORKERS: u32 = 64;
 
 /// The least and the largest modulus that the finder of obstructions may be asked for.
 pub(crate) const LEAST_MODULUS: u32 = 2;
+
 pub(crate) const LARGEST_MODULUS: u32 = 2_147_483_647;

@@ -7,15 +7,14 @@ use Rattle.wf_io.specs.Texts.{Wrote}
 use Rattle.wf_engine.specs.declared.fault.RunFault.{RunFault}
 use Rattle.wf_engine.specs.declared.fault.RunFault.TheVariants as run
 use Rattle.wf_engine.specs.Headline.{GaveTask}
-use Rattle.wf_engine.specs.Laws.{IsCounted}
 use Rattle.wf_engine.specs.Run.{IsTaskOf, Next, Reads, by_result, failed_reads, failed_writes}
 use Rattle.wf_engine.proofs.Counts.{Told, few, handed, judged}
 use Rattle.wf_engine.proofs.Headline.{task_read}
 use Rattle.wf_obstruction_engine.specs.declared.finding.Finding.{Finding}
 use Rattle.wf_obstruction_engine.specs.declared.finding.Finding.TheVariants.{Found, NotFound, GaveUp}
 use Rattle.wf_obstruction_engine.specs.declared.finding.GaveUp as gave_up
-use Rattle.wf_obstruction_engine.specs.Finding.{Answers, FindsObstruction, HandsFinding, IsWritten, SeeksIn}
-use Rattle.wf_obstruction_engine.specs.Laws.{FoundObstructionsAreTrue, IsSeekingCounted, SeekingIsCounted}
+use Rattle.wf_obstruction_engine.specs.Finding.{Answers, HandsFinding, IsWritten, SeeksIn}
+use Rattle.wf_obstruction_engine.specs.Laws.{FoundObstructionsAreTrue, SeekingIsCounted}
 
 -- ---- what was found
 
@@ -30,7 +29,7 @@ module _ (asked : Option ℕ) (source source' : Reading) (sink sink' : Writing) 
   of_answer : (answer : Result (Finding × List ℕ) RunFault) → SeeksIn asked source source' answer → HandsFinding sink sink' answer (Ok Found) → Right
   of_answer (Ok (Found, text)) (task, reads, next) (same, wrote) = of_task text task reads next wrote
   of_answer (Ok (NotFound tried, text)) seeks (same, wrote) = absurd (let bad : ⊥ = cc in bad)
-  of_answer (Ok (GaveUp where, text)) seeks (same, kept) = absurd (let bad : ⊥ = cc in bad)
+  of_answer (Ok (GaveUp at, text)) seeks (same, kept) = absurd (let bad : ⊥ = cc in bad)
   of_answer (Err e) seeks (same, kept) = absurd (let bad : ⊥ = cc in bad)
 
 pub found_true : FoundObstructionsAreTrue
@@ -53,26 +52,26 @@ answered asked (Err e) answer n w = (sym (ap (by_result failed_reads) n), ap (by
 -- what holds of the sink, whatever the answer is
 record IsHanded (old new : Writing) (answer : Result (Finding × List ℕ) RunFault) (result : Result Finding RunFault) : Type 0 where
   told : Told old new answer result
-  untouched : (where : gave_up.GaveUp) → result ≡ Ok (GaveUp where) → new ≡ old
+  untouched : (at : gave_up.GaveUp) → result ≡ Ok (GaveUp at) → new ≡ old
 
-kept : (old new : Writing) (where : gave_up.GaveUp) (text : List ℕ) → new ≡ old → IsHanded old new (Ok (GaveUp where, text)) (Ok (GaveUp where))
-kept old new where text same =
+kept : (old new : Writing) (at : gave_up.GaveUp) (text : List ℕ) → new ≡ old → IsHanded old new (Ok (GaveUp at, text)) (Ok (GaveUp at))
+kept old new at text same =
     let failures : new.failures ≡ old.failures = ap (λ s. s.failures) same in
     record { told = record { reads = refl; writes = omega (arith, failures); unwritten = tt }; untouched = λ w is. same }
 
 hands : (old new : Writing) (answer : Result (Finding × List ℕ) RunFault) (result : Result Finding RunFault) → HandsFinding old new answer result
     → by_result failed_writes answer ≡ 0 → IsHanded old new answer result
 hands old new (Ok (Found, text)) (Ok x) h w =
-    record { told = handed old new (Ok (Found, text)) (Ok x) h w; untouched = λ where is. absurd (let same = h.0 in let bad : ⊥ = cc in bad) }
+    record { told = handed old new (Ok (Found, text)) (Ok x) h w; untouched = λ at is. absurd (let same = h.0 in let bad : ⊥ = cc in bad) }
 hands old new (Ok (NotFound tried, text)) (Ok x) h w =
-    record { told = handed old new (Ok (NotFound tried, text)) (Ok x) h w; untouched = λ where is. absurd (let same = h.0 in let bad : ⊥ = cc in bad) }
-hands old new (Ok (GaveUp where, text)) result h w = subst (IsHanded old new (Ok (GaveUp where, text))) (sym h.0) (kept old new where text h.1)
+    record { told = handed old new (Ok (NotFound tried, text)) (Ok x) h w; untouched = λ at is. absurd (let same = h.0 in let bad : ⊥ = cc in bad) }
+hands old new (Ok (GaveUp at, text)) result h w = subst (IsHanded old new (Ok (GaveUp at, text))) (sym h.0) (kept old new at text h.1)
 hands old new (Ok (Found, text)) (Err e) h w =
-    record { told = handed old new (Ok (Found, text)) (Err e) h w; untouched = λ where is. absurd (let bad : ⊥ = cc in bad) }
+    record { told = handed old new (Ok (Found, text)) (Err e) h w; untouched = λ at is. absurd (let bad : ⊥ = cc in bad) }
 hands old new (Ok (NotFound tried, text)) (Err e) h w =
-    record { told = handed old new (Ok (NotFound tried, text)) (Err e) h w; untouched = λ where is. absurd (let bad : ⊥ = cc in bad) }
+    record { told = handed old new (Ok (NotFound tried, text)) (Err e) h w; untouched = λ at is. absurd (let bad : ⊥ = cc in bad) }
 hands old new (Err e) result h w =
-    record { told = handed old new (Err e) result h w; untouched = λ where is. h.1 }
+    record { told = handed old new (Err e) result h w; untouched = λ at is. h.1 }
 
 pub seeking_counted : SeekingIsCounted
 seeking_counted asked source source' sink sink' result (answer, (t, (text, (given, gave, is), j), n), h) =

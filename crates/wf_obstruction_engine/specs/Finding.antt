@@ -40,7 +40,7 @@ pub record IsWritten (asked : Option ℕ) (t : Task) (text : List ℕ) : Type 0 
 abbrev pub IsTextOf : Option ℕ → Task → Finding → List ℕ → Type 0
 IsTextOf asked t Found text = IsWritten asked t text
 IsTextOf asked t (NotFound moduli) text = text ≡ []
-IsTextOf asked t (GaveUp where) text = text ≡ []
+IsTextOf asked t (GaveUp at) text = text ≡ []
 
 abbrev pub IsAnswer : Option ℕ → Task → Result (Finding × List ℕ) RunFault → Type 0
 IsAnswer asked t (Ok answer) = IsTextOf asked t answer.0 answer.1
@@ -62,7 +62,7 @@ SeeksIn asked source source' result =
 
 -- what was found was written; if the search gave up, the sink is as it was
 abbrev pub HandsFinding : Writing → Writing → Result (Finding × List ℕ) RunFault → Result Finding RunFault → Type 0
-HandsFinding old new (Ok (GaveUp where, text)) result = (result ≡ Ok (GaveUp where)) × (new ≡ old)
+HandsFinding old new (Ok (GaveUp at, text)) result = (result ≡ Ok (GaveUp at)) × (new ≡ old)
 HandsFinding old new answer result = Hands old new answer result
 
 -- an obstruction of the source's task was looked for, and what was found was written

@@ -22,7 +22,7 @@ FoundObstructionsAreTrue =
 -- the calls are counted as in each run, and nothing is written if the search gave up
 pub record IsSeekingCounted (source source' : Reading) (sink sink' : Writing) (result : Result Finding RunFault) : Type 0 where
   pub counted : IsCounted source source' sink sink' result
-  pub untouched : (where : gave_up.GaveUp) → result ≡ Ok (GaveUp where) → sink' ≡ sink
+  pub untouched : (at : gave_up.GaveUp) → result ≡ Ok (GaveUp at) → sink' ≡ sink
 
 abbrev pub SeekingIsCounted : Type 0
 SeekingIsCounted =

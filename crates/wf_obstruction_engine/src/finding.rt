@@ -63,9 +63,7 @@ impl fmt::Display for Tried {
     fn fmt<W: fmt::Write>(&self, f: &mut fmt::Formatter<W>) -> fmt::Result {
         match *self {
             Tried::Only(modulus) => write!(f, "no obstruction modulo {modulus}"),
-            Tried::Each => {
-                write!(f, "no obstruction modulo 2, 3, 4, 5, 7, 8, 9, 2147483647")
-            }
+            Tried::Each => { write!(f, "no obstruction modulo 2, 3, 4, 5, 7, 8, 9, 2147483647") }
             Tried::AllNumbers => write!(f, "no obstruction for any modulus"),
         }
     }

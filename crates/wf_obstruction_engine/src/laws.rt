@@ -2,8 +2,8 @@
 
 ghost use Rattle.wf_obstruction_engine.specs.Laws.{FoundObstructionsAreTrue, SeekingIsCounted};
 
-/// If an obstruction is told to be found, the source gave the bytes of a task, and the sink took the
-/// text of an obstruction of that task. So the task has no decision map after any number of rounds.
+/// If an obstruction is told to be found, the source gave the bytes of a task, and the sink took
+/// the text of an obstruction of that task. So no number of rounds has a decision map.
 pub fn found_obstructions_are_true()
     ensures { FoundObstructionsAreTrue }
 {}

@@ -124,7 +124,9 @@ fn stopped(modulus: u32, fault: FinderFault) -> Stopped {
         FinderFault::TooManyEquations { count } => Limit::Equations(count),
         FinderFault::TooManyEntries { count } => Limit::Entries(count),
         FinderFault::TooManySteps { count } => Limit::Steps(count),
-        FinderFault::Refused { fault: ObstructionFault::TooManyTerms } => Limit::Terms,
+        FinderFault::Refused {
+            fault: ObstructionFault::TooManyTerms,
+        } => Limit::Terms,
         FinderFault::Refused { .. } | FinderFault::Internal => Limit::Internal,
     };
     Stopped::GaveUp(GaveUp { modulus, limit })

@@ -29,8 +29,8 @@ use wf_engine::{
     Form, Outcome, RunFault, hand_out, run_cnf, run_find, run_find_watched, run_points, run_preset,
     run_solve, run_solve_watched, run_views,
 };
-use wf_io::{Sink, Source};
 use wf_finder::{Listener, Silent};
+use wf_io::{Sink, Source};
 use wf_obstruction_engine::{Finding, run_obstruction};
 use wf_pool::Gate;
 
@@ -38,13 +38,14 @@ use wf_pool::Gate;
 /// status. Where the words could not be had, that is the refusal.
 ///
 /// 0: a map or an obstruction was found, a report or a proof is accepted, or the text was written.
-/// 1: there is no map, or no obstruction was found. 2: the task, the rounds, the report, the proof or the words are refused. 3: memory ran out.
-/// 4: a read or a write failed, or a file could not be opened. A refusal is one line on `errors`,
-/// with a second one where words are read that make no job, and so is the account of a search that
-/// was not refused, where the words ask for it.
+/// 1: there is no map, or no obstruction was found. 2: the task, the rounds, the report, the proof
+/// or the words are refused, or the search for an obstruction gave up. 3: memory ran out. 4: a read
+/// or a write failed, or a file could not be opened. A refusal is one line on `errors`, with a
+/// second one where words are read that make no job. A note is one line too: the account of a
+/// search that was not refused, if the words ask for it, or the moduli without an obstruction.
 ///
-/// Where the words ask for progress, the gate is told of a search while it goes on. What a gate
-/// does with that is the caller's: what it writes is no part of `errors`.
+/// If the words ask for progress, the gate is told of a search while it goes on. What a gate does
+/// with that is the caller's: what it writes is no part of `errors`.
 pub fn run_program<T: Threads + Sync, F: Files, G: Gate + Listener, R: Read, W: Write, E: Write>(
     rt: &T,
     alloc: Global,
