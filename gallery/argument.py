@@ -83,29 +83,40 @@ class Argument:
         return [value for value in self.made.values if (point, value) not in self.lost]
 
     def take(self, execution, process, values):
-        processes, points, allowed, words = self.made.executions[execution]
-        place, needed, reasons = processes.index(process), [], {}
-        point = points[place]
+        """Takes values from a process in turn. A step ends before a value for which it would have to cite itself."""
+        processes, points, allowed, _ = self.made.executions[execution]
+        place = processes.index(process)
+        taken, needed, reasons = [], [], set()
         for value in values:
-            for tuple_ in (t for t in allowed if t[place] == value):
-                needed.append(tuple_)
-                gone = [pair for pair in zip(points, tuple_) if pair in self.lost]
-                if gone:
-                    reasons.setdefault(gone[0][0], {})[gone[0][1]] = self.lost[gone[0]]
-            self.lost.setdefault((point, value), self.step)
-        names = row([f"v{v}" for v in points])
+            tuples = [it for it in allowed if it[place] == value]
+            gone = [[pair for pair in zip(points, it) if pair in self.lost] for it in tuples]
+            why = {pairs[0] for pairs in gone if pairs}
+            if taken and any(self.lost[pair] == self.step for pair in why):
+                self.tell(execution, place, taken, needed, reasons)
+                taken, needed, reasons = [], [], set()
+            taken.append(value)
+            needed += tuples
+            reasons |= why
+            self.lost.setdefault((points[place], value), self.step)
+        self.tell(execution, place, taken, needed, reasons)
+
+    def tell(self, execution, place, taken, needed, reasons):
+        """A step that has taken values: the tuples that they need, and the losses for which none of these can be decided."""
+        processes, points, _, words = self.made.executions[execution]
+        point, names = points[place], row([f"v{v}" for v in points])
         if not needed:
             claim = f"no tuple at {names} has it"
         elif len(needed) <= MOST_TOLD:
             claim = f"{names} would be " + any_of([row([str(x) for x in t]) for t in needed])
         else:
             claim = f"{names} would be one of {len(needed)} tuples"
-        told = [f"v{v} is not " + ", ".join(itertools.starmap(loss_text, sorted(reasons[v].items()))) for v in sorted(reasons)]
+        by_point = itertools.groupby(sorted(reasons), lambda pair: pair[0])
+        told = [f"v{v} is not " + ", ".join(loss_text(value, self.lost[v, value]) for _, value in pairs) for v, pairs in by_point]
         because = ", but " + ", and ".join(told) if told else ""
         left = self.left(point)
         rest = f" So v{point} is {left[0]}." if len(left) == 1 else ""
         where = f"in execution {execution}, {words_text(processes, words)}"
-        self.say(f"{self.step}. v{point} is not {any_of([str(x) for x in values])}: {where}, {claim}{because}.{rest}")
+        self.say(f"{self.step}. v{point} is not {any_of([str(x) for x in taken])}: {where}, {claim}{because}.{rest}")
         self.step += 1
 
     def enter(self):

@@ -1,3 +1,4 @@
+mod Citing
 pub mod ExecutionPlaces
 mod Listing
 mod Margins
@@ -5,6 +6,7 @@ mod Parting
 mod Pieces
 mod Places
 pub mod Reasoning
+mod Stepping
 mod Taking
 mod Trails
 mod Usage

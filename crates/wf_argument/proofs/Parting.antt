@@ -1,5 +1,5 @@
 -- Part by part: what is told, and what is still to come.
-use Rattle.std.proofs.Common.{◌≡◌, ℕ, ◌<◌, ◌==◌, ◌&&◌, ◌++◌, List, [], ◌∷◌, drop, map, length, get_or, Bool, true, false, cond, Option, Some, None, append_assoc, refl, sym, ap, ◌∙◌, arith}
+use Rattle.std.proofs.Common.{◌≡◌, ℕ, ◌<◌, ◌+◌, ◌==◌, ◌&&◌, ◌++◌, List, [], ◌∷◌, drop, map, length, get_or, Bool, true, false, cond, Option, Some, None, append_assoc, refl, sym, ap, ◌∙◌, arith}
 use Rattle.std.specs.Option.{is_some}
 use Rattle.std.proofs.lemmas.Bool.{eqb-true, and_parts}
 use Rattle.wf_model.specs.Execution.{Execution}
@@ -11,8 +11,8 @@ use Rattle.wf_lines.specs.declared.line.Line.{Line}
 use Rattle.wf_argument.specs.Parts.{Part, takes, before_parts, parts_of}
 use Rattle.wf_argument.specs.State as state
 use Rattle.wf_argument.specs.State.{Case, after}
-use Rattle.wf_argument.specs.Subject.{after_same, and_values, begun_text, executions_in, now_if, one_if, or_lines, problem_in, same_values, to_come}
-use Rattle.wf_argument.specs.Text.{case_text, part_text, parts_text}
+use Rattle.wf_argument.specs.Subject.{after_same, and_values, begun_text, executions_in, now_if, one_if, or_lines, problem_in, same_values, steps_to_come, to_come}
+use Rattle.wf_argument.specs.Text.{case_text, part_steps, part_text, parts_text, steps_made}
 use Rattle.wf_argument.specs.Trail.{begun, first_case}
 use Rattle.wf_argument.specs.declared.state.Case as trail
 use Rattle.wf_argument.specs.declared.state.State.{State}
@@ -48,10 +48,22 @@ told_part p es s next part parts later t0 t1 are told is =
     ∙ append_assoc t0 (part_text p es s part) (parts_text p es (after p s part) later)
     ∙ ap (λ parts. t0 ++ parts_text p es (Some s) parts) (sym are)
 
+-- how many steps a part makes, and those that follow
+pub counted_part : (p : Problem) (s : state.State) (next : Option state.State) (part : Part) (parts later : List Part) (n n' : ℕ) → parts ≡ part ∷ later → n' ≡ n + part_steps p s part → next ≡ after p s part
+    → n' + steps_made p next later ≡ n + steps_made p (Some s) parts
+counted_part p s next part parts later n n' are more is =
+    let after_it : steps_made p next later ≡ steps_made p (after p s part) later = ap (λ next. steps_made p next later) is in
+    let whole : steps_made p (Some s) parts ≡ part_steps p s part + steps_made p (after p s part) later = ap (steps_made p (Some s)) are in
+    omega (arith, more, after_it, whole)
+
 -- what is to come after one line, if more is to be said
 pub after_one : (x : Subject) (ls : List Line) (s : State) (b : Bool) → to_come x ls s (one_if b) ≡ parts_text (problem_in x) (executions_in x) (now_if b s) (parts_of (map line_of (drop 1 ls)))
 after_one x ls s true = refl
 after_one x ls s false = refl
+
+pub steps_after_one : (x : Subject) (ls : List Line) (s : State) (b : Bool) → steps_to_come x ls s (one_if b) ≡ steps_made (problem_in x) (now_if b s) (parts_of (map line_of (drop 1 ls)))
+steps_after_one x ls s true = refl
+steps_after_one x ls s false = refl
 
 -- ---- cases
 

@@ -12,8 +12,8 @@ use Rattle.wf_model.specs.Check.{place_of}
 use Rattle.wf_complex.specs.Protocol.{Built, IsProtocol}
 use Rattle.wf_complex.proofs.Lemmas.{constraint_there, got, rule_inside, rule_there}
 use Rattle.wf_argument.specs.Places.{place_in}
-use Rattle.wf_argument.specs.State.{Gone, State, Taking, after_taking, left_at, needed, points_in, take_each}
-use Rattle.wf_argument.specs.Text.{claim_text, execution_text, grounds_text, indented, rest_text, told_taking}
+use Rattle.wf_argument.specs.State.{Gone, State, Taking, left_at, needed, points_in, take_each}
+use Rattle.wf_argument.specs.Text.{claim_text, execution_text, grounds_text, indented, rest_text, taking_text, told_taking}
 use Rattle.wf_argument.specs.declared.reasons.Reason.{Reason}
 
 -- ---- a process and its point
@@ -121,23 +121,11 @@ there t r b e n c place points tuples built inside on are listed h =
 pub told_nobody : (p : Problem) (es : List Execution) (s : State) (e c : ℕ) (values t : List ℕ) → place_of 0 c (constraint_at p e).scope ≡ None → t ≡ t ++ told_taking p es s e values (place_of 0 c (constraint_at p e).scope)
 told_nobody p es s e c values t none = sym (ap (λ at. t ++ told_taking p es s e values at) none ∙ append-nil t)
 
-pub told_found : (p : Problem) (es : List Execution) (s : State) (e c place : ℕ) (values points : List ℕ) (tuples noted : List Tuple) (why : List Reason) (gone : Gone) → IsFound (constraint_at p e) c place points tuples
-    → noted ≡ flat_map (needed tuples place) values → why ≡ (take_each tuples points s.number place (get_or points place 0) s.gone values).reasons → gone ≡ (take_each tuples points s.number place (get_or points place 0) s.gone values).gone
-    → indented s.depth (claim_text s.number (get_or points place 0) values e ++ (execution_text (slice_get es e) ++ (codes ", " ++ (grounds_text points noted why ++ rest_text (get_or points place 0) (left_at p.values gone (get_or points place 0))))))
-    ≡ told_taking p es s e values (place_of 0 c (constraint_at p e).scope)
-told_found p es s e c place values points tuples noted why gone f are rest then =
-    let v = get_or points place 0 in
+-- a step that has taken values from a point
+pub told_found : (p : Problem) (es : List Execution) (s : State) (e place v : ℕ) (values points : List ℕ) (tuples noted : List Tuple) (why : List Reason) (gone : Gone) → points ≡ points_in (constraint_at p e) → tuples ≡ (constraint_at p e).tuples
+    → noted ≡ flat_map (needed tuples place) values → why ≡ (take_each tuples points s.number place v s.gone values).reasons → gone ≡ (take_each tuples points s.number place v s.gone values).gone
+    → indented s.depth (claim_text s.number v values e ++ (execution_text (slice_get es e) ++ (codes ", " ++ (grounds_text points noted why ++ rest_text v (left_at p.values gone v))))) ≡ taking_text p es s e values (place, v)
+told_found p es s e place v values points tuples noted why gone points_are tuples_are are rest then =
     let line : List Tuple → List Reason → Gone → List ℕ → List ℕ = λ noted why gone points. indented s.depth (claim_text s.number v values e ++ (execution_text (slice_get es e) ++ (codes ", " ++ (grounds_text points noted why ++ rest_text v (left_at p.values gone v))))) in
     (λ i. line (are i) (rest i) (then i) points)
-    ∙ (λ i. let done : Taking = take_each (f.tuples_are i) (f.points_are i) s.number place v s.gone values in line (flat_map (needed (f.tuples_are i) place) values) done.reasons done.gone (f.points_are i))
-    ∙ ap (told_taking p es s e values) (sym f.at)
-
-pub gone_found : (p : Problem) (s : State) (e c place : ℕ) (values points : List ℕ) (tuples : List Tuple) (gone : Gone) → IsFound (constraint_at p e) c place points tuples
-    → gone ≡ (take_each tuples points s.number place (get_or points place 0) s.gone values).gone
-    → record s { number = suc s.number; gone = gone } ≡ after_taking p s e values (place_of 0 c (constraint_at p e).scope)
-gone_found p s e c place values points tuples gone f then =
-    let v = get_or points place 0 in
-    let next : Gone → State = λ gone. record s { number = suc s.number; gone = gone } in
-    ap next then
-    ∙ (λ i. next (take_each (f.tuples_are i) (f.points_are i) s.number place v s.gone values).gone)
-    ∙ ap (after_taking p s e values) (sym f.at)
+    ∙ (λ i. let done : Taking = take_each (tuples_are i) (points_are i) s.number place v s.gone values in line (flat_map (needed (tuples_are i) place) values) done.reasons done.gone (points_are i))

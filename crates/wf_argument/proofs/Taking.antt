@@ -1,29 +1,32 @@
 -- A step that takes values in turn.
-use Rattle.std.proofs.Common.{◌≡◌, ℕ, ◌+◌, ◌<◌, List, ◌++◌, drop, flat_map, fold, get_or, length, append_assoc, sym, ap, ◌∙◌}
-use Rattle.std.proofs.lemmas.List.{drop_more}
+use Rattle.std.proofs.Common.{◌≡◌, ℕ, ◌+◌, ◌<◌, List, [], ◌∷◌, ◌++◌, flat_map, get_or, length, take, append-nil, sym, ap, ◌∙◌}
+use Rattle.std.proofs.lemmas.Grind.{flat_map-append}
+use Rattle.std.proofs.lemmas.List.{take_more}
+use Rattle.std.proofs.lemmas.List.Sums.{fold_more}
 use Rattle.wf_model.specs.Task.{Tuple}
-use Rattle.wf_argument.specs.State.{Gone, State, Taking, needed, take, taken, with_reasons}
+use Rattle.wf_argument.specs.State as state
+use Rattle.wf_argument.specs.State.{Gone, State, Taking, needed, taken, take_each, with_reasons}
 use Rattle.wf_argument.specs.declared.reasons.Reason.{Reason}
 
 -- one value more
-pub taking_more : (tuples : List Tuple) (points : List ℕ) (n place v a : ℕ) (values : List ℕ) (i : ℕ) (gone gone' : Gone) (reasons reasons' : List Reason) (whole : Taking) → i < length values → get_or values i 0 ≡ a
-    → gone' ≡ taken n v gone a → reasons' ≡ with_reasons gone points reasons (needed tuples place a)
-    → fold (take tuples points n place v) (record { gone = gone; reasons = reasons }) (drop i values) ≡ whole
-    → fold (take tuples points n place v) (record { gone = gone'; reasons = reasons' }) (drop (i + 1) values) ≡ whole
-taking_more tuples points n place v a values i gone gone' reasons reasons' whole inside is g r told =
-    (λ j. fold (take tuples points n place v) (record { gone = g j; reasons = r j }) (drop (i + 1) values))
-    ∙ ap (λ b. fold (take tuples points n place v) (take tuples points n place v (record { gone = gone; reasons = reasons }) b) (drop (i + 1) values)) (sym is)
-    ∙ ap (fold (take tuples points n place v) (record { gone = gone; reasons = reasons })) (sym (drop_more values i 0 inside))
-    ∙ told
+pub taking_more : (tuples : List Tuple) (points : List ℕ) (n place v : ℕ) (values : List ℕ) (i : ℕ) (first gone gone' : Gone) (reasons reasons' : List Reason) → i < length values
+    → gone' ≡ taken n v gone (get_or values i 0) → reasons' ≡ with_reasons gone points reasons (needed tuples place (get_or values i 0))
+    → record { gone = gone; reasons = reasons } ≡ take_each tuples points n place v first (take i values)
+    → record { gone = gone'; reasons = reasons' } ≡ take_each tuples points n place v first (take (i + 1) values)
+taking_more tuples points n place v values i first gone gone' reasons reasons' inside g r told =
+    let step : Taking → Taking = λ t. state.take tuples points n place v t (get_or values i 0) in
+    let both : Gone → List Reason → Taking = λ gone reasons. record { gone = gone; reasons = reasons } in
+    (λ j. both (g j) (r j)) ∙ ap step told ∙ sym (fold_more (state.take tuples points n place v) (both first []) values i 0 inside)
 
-pub needed_more : (tuples : List Tuple) (place a : ℕ) (values : List ℕ) (i : ℕ) (noted noted' whole : List Tuple) → i < length values → get_or values i 0 ≡ a → noted' ≡ noted ++ needed tuples place a
-    → noted ++ flat_map (needed tuples place) (drop i values) ≡ whole → noted' ++ flat_map (needed tuples place) (drop (i + 1) values) ≡ whole
-needed_more tuples place a values i noted noted' whole inside is more told =
-    ap (λ xs. xs ++ flat_map (needed tuples place) (drop (i + 1) values)) more
-    ∙ append_assoc noted (needed tuples place a) (flat_map (needed tuples place) (drop (i + 1) values))
-    ∙ ap (λ b. noted ++ (needed tuples place b ++ flat_map (needed tuples place) (drop (i + 1) values))) (sym is)
-    ∙ ap (λ xs. noted ++ flat_map (needed tuples place) xs) (sym (drop_more values i 0 inside))
-    ∙ told
+pub needed_more : (tuples : List Tuple) (place : ℕ) (values : List ℕ) (i : ℕ) (noted noted' : List Tuple) → i < length values → noted' ≡ noted ++ needed tuples place (get_or values i 0)
+    → noted ≡ flat_map (needed tuples place) (take i values) → noted' ≡ flat_map (needed tuples place) (take (i + 1) values)
+needed_more tuples place values i noted noted' inside more told =
+    let a = get_or values i 0 in
+    more
+    ∙ ap (λ xs. xs ++ needed tuples place a) told
+    ∙ ap (λ xs. flat_map (needed tuples place) (take i values) ++ xs) (sym (append-nil (needed tuples place a)))
+    ∙ sym (flat_map-append (needed tuples place) (take i values) (a ∷ []))
+    ∙ ap (flat_map (needed tuples place)) (sym (take_more values i 0 inside))
 
 abbrev with_gone : Gone → State → State
 with_gone gone s = record s { gone = gone }

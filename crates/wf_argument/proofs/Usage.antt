@@ -1,5 +1,5 @@
 -- What an argument uses: marks, counts, and the words on points.
-use Rattle.std.proofs.Common.{◌≡◌, ℕ, zero, suc, ◌+◌, ◌<◌, ◌≤◌, ◌==◌, ◌&&◌, ◌||◌, ◌++◌, List, [], ◌∷◌, drop, map, flat_map, length, get_or, Bool, true, false, cond, not, Option, Some, None, codes, append_assoc, refl, sym, ap, ◌∙◌, arith}
+use Rattle.std.proofs.Common.{◌≡◌, ℕ, zero, suc, ◌+◌, ◌<◌, ◌≤◌, ◌||◌, ◌++◌, List, [], ◌∷◌, drop, map, flat_map, length, get_or, Bool, true, false, cond, Some, codes, append_assoc, refl, sym, ap, ◌∙◌, arith}
 use Rattle.std.specs.List.{count_by, enumerate_from, filter, list_any, range_with_len, slice_get}
 use Rattle.std.specs.Option.{unwrap_or}
 use Rattle.std.proofs.lemmas.List.{drop_all, drop_more, length-map}
@@ -17,67 +17,14 @@ use Rattle.wf_argument.specs.State.{start}
 use Rattle.wf_model.proofs.Basics.{or_none}
 use Rattle.wf_lines.specs.Lines.{line_of}
 use Rattle.wf_lines.specs.declared.line.Line.{Line}
-use Rattle.wf_argument.specs.Parts.{takes, closes, splits, before_parts, parts_of}
-use Rattle.wf_argument.specs.Subject.{after_same, same_values}
-use Rattle.wf_argument.specs.Text.{argument_text, is_in, is_step, names, parts_text, point_text, title_text, used_count, used_points}
-use Rattle.wf_argument.specs.Used.{MarksEach, is_end, is_named, marked_text, more_steps, one_more, points_at, title_of, told_if}
-use Rattle.wf_argument.specs.declared.title.Run.{Run}
-use Rattle.wf_argument.proofs.Parting.{one_run}
+use Rattle.wf_argument.specs.Parts.{parts_of}
+use Rattle.wf_argument.specs.Text.{argument_text, is_in, names, parts_text, point_text, steps_made, title_text, used_count, used_points}
+use Rattle.wf_argument.specs.Used.{MarksEach, is_named, marked_text, points_at, title_of, told_if}
 use Rattle.wf_complex.proofs.Lemmas.{and_more}
-
--- ---- steps
-
-abbrev run : ℕ → ℕ → Run
-run e c = record { execution = e; process = c }
 
 -- one element more
 count_more : {X : Type 0} (p : X → Bool) (x : X) (xs : List X) → count_by p (x ∷ xs) ≡ cond (p x) 1 0 + count_by p xs
 count_more p x xs = sum_by-cons (λ x. cond (p x) 1 0) x xs
-
-record Counts (ls : List refutation.Line) : Type 0 where
-  pub alone : more_steps None ls ≡ count_by is_step (parts_of ls)
-  pub after : (e c a : ℕ) → count_by is_step (parts_of (remove e c a ∷ ls)) ≡ suc (more_steps (Some (run e c)) ls)
-
-counts : (ls : List refutation.Line) → Counts ls
-counts [] = record { alone = refl; after = λ e c a. refl }
-counts (found ∷ ls) = record { alone = refl; after = λ e c a. refl }
-counts (empty v ∷ ls) =
-    let rest = counts ls in let one = count_more is_step (closes v) (parts_of ls) in record {
-      alone = omega (arith, rest.alone, one);
-      after = λ e c a. omega (arith, rest.alone, one, count_more is_step (takes e c (a ∷ [])) (closes v ∷ parts_of ls));
-    }
-counts (branch v ∷ ls) =
-    let rest = counts ls in let one = count_more is_step (splits v) (parts_of ls) in record {
-      alone = omega (arith, rest.alone, one);
-      after = λ e c a. omega (arith, rest.alone, one, count_more is_step (takes e c (a ∷ [])) (splits v ∷ parts_of ls));
-    }
-counts (remove f d b ∷ ls) = let rest = counts ls in record {
-  alone = sym (rest.after f d b);
-  after = λ e c a. ap (λ parts. count_by is_step (before_parts e c a parts)) (one_run f d b ls) ∙ by e c a (ap (count_by is_step) (sym (one_run f d b ls)) ∙ rest.after f d b) ((e == f) && (c == d));
-}
-  where
-    by : (e c a : ℕ) → count_by is_step (takes f d (b ∷ same_values f d ls) ∷ parts_of (after_same f d ls)) ≡ suc (more_steps (Some (run f d)) ls) → (t : Bool)
-        → count_by is_step (cond t (takes e c (a ∷ b ∷ same_values f d ls) ∷ parts_of (after_same f d ls)) (takes e c (a ∷ []) ∷ takes f d (b ∷ same_values f d ls) ∷ parts_of (after_same f d ls))) ≡ suc (one_more (not t) (more_steps (Some (run f d)) ls))
-    by e c a told true = omega (arith, told, count_more is_step (takes f d (b ∷ same_values f d ls)) (parts_of (after_same f d ls)), count_more is_step (takes e c (a ∷ b ∷ same_values f d ls)) (parts_of (after_same f d ls)))
-    by e c a told false = omega (arith, told, count_more is_step (takes e c (a ∷ [])) (takes f d (b ∷ same_values f d ls) ∷ parts_of (after_same f d ls)))
-
-pub steps_all : (ls : List Line) (before : Option Run) (i n : ℕ) → length ls ≤ i → n + more_steps before (map line_of (drop i ls)) ≡ more_steps None (map line_of ls) → n ≡ count_by is_step (parts_of (map line_of ls))
-steps_all ls before i n past told =
-    let none : more_steps before (map line_of (drop i ls)) ≡ 0 = ap (λ xs. more_steps before (map line_of xs)) (drop_all i ls past) in
-    omega (arith, told, none, (counts (map line_of ls)).alone)
-
-pub steps_ended : (ls : List Line) (before : Option Run) (i n : ℕ) (d : Line) → i < length ls → is_end (line_of (get_or ls i d)) ≡ true → n + more_steps before (map line_of (drop i ls)) ≡ more_steps None (map line_of ls)
-    → n ≡ count_by is_step (parts_of (map line_of ls))
-steps_ended ls before i n d inside is told =
-    let at = line_of (get_or ls i d) in
-    let none : more_steps before (map line_of (drop i ls)) ≡ 0 = ap (λ xs. more_steps before (map line_of xs)) (drop_more ls i d inside) ∙ ended before at (map line_of (drop (i + 1) ls)) is in
-    omega (arith, told, none, (counts (map line_of ls)).alone)
-  where
-    ended : (before : Option Run) (l : refutation.Line) (ls : List refutation.Line) → is_end l ≡ true → more_steps before (l ∷ ls) ≡ 0
-    ended before (remove e c a) ls is = absurd (let bad : ⊥ = cc in bad)
-    ended before (empty v) ls is = absurd (let bad : ⊥ = cc in bad)
-    ended before (branch v) ls is = absurd (let bad : ⊥ = cc in bad)
-    ended before found ls is = refl
 
 -- ---- marks
 
@@ -170,35 +117,35 @@ point_line t0 t1 t2 t3 v view first second third =
 -- ---- the whole
 
 -- what is found of the lines
-pub record IsUsed (b : Built) (ls : List refutation.Line) (executions points : List Bool) (steps used count : ℕ) : Type 0 where
-  pub steps_are : steps ≡ count_by is_step (parts_of ls)
+pub record IsUsed (t : Task) (b : Built) (ls : List refutation.Line) (executions points : List Bool) (steps used count : ℕ) : Type 0 where
+  pub steps_are : steps ≡ steps_made (problem_of t b.rounds) (Some (start (problem_of t b.rounds))) (parts_of ls)
   pub used_are : used ≡ count_by (λ is_marked. is_marked) executions
   pub count_is : count ≡ length b.scopes
   pub executions_are : MarksEach (length b.scopes) executions (λ e. list_any (is_in e) ls)
   pub points_are : MarksEach (length b.points) points (λ v. list_any (is_named b.scopes v) ls)
 
-title_is : (t : Task) (b : Built) (ls : List refutation.Line) (marks points : List Bool) (steps used count : ℕ) → IsProtocol t b.rounds b → IsUsed b ls marks points steps used count → title_of b.rounds steps used count ≡ title_text (problem_of t b.rounds) b.rounds ls
+title_is : (t : Task) (b : Built) (ls : List refutation.Line) (marks points : List Bool) (steps used count : ℕ) → IsProtocol t b.rounds b → IsUsed t b ls marks points steps used count → title_of b.rounds steps used count ≡ title_text (problem_of t b.rounds) b.rounds ls
 title_is t b ls marks points steps used count built h =
     let p = problem_of t b.rounds in
     let many : length b.scopes ≡ length p.constraints = ap length built.scopes_are ∙ length-map p.constraints (λ k. k.scope) in
     let used_is : used ≡ used_count p ls = h.used_are ∙ counted_marks marks (length b.scopes) (λ e. list_any (is_in e) ls) h.executions_are ∙ ap (λ n. count_by (λ e. list_any (is_in e) ls) (below n)) many in
     λ i. title_of b.rounds (h.steps_are i) (used_is i) ((h.count_is ∙ many) i)
 
-points_told : (t : Task) (b : Built) (ls : List refutation.Line) (marks points : List Bool) (steps used count : ℕ) → IsProtocol t b.rounds b → IsUsed b ls marks points steps used count
+points_told : (t : Task) (b : Built) (ls : List refutation.Line) (marks points : List Bool) (steps used count : ℕ) → IsProtocol t b.rounds b → IsUsed t b ls marks points steps used count
     → marked_text t.symmetric points 0 b.points ≡ flat_map (point_text t.symmetric) (used_points (problem_of t b.rounds) ls (view_points t b.rounds))
 points_told t b ls marks points steps used count built h =
     marked_named t.symmetric (problem_of t b.rounds) b.scopes points b.points ls built.scopes_are h.points_are
     ∙ ap (λ views. flat_map (point_text t.symmetric) (used_points (problem_of t b.rounds) ls views)) built.points_are
 
 -- the title, the points and then the parts
-pub whole : (t : Task) (b : Built) (ls : List refutation.Line) (marks points : List Bool) (steps used count : ℕ) (t0 t1 t2 t3 t4 t5 text : List ℕ) → IsProtocol t b.rounds b → IsUsed b ls marks points steps used count
+pub whole : (t : Task) (b : Built) (ls : List refutation.Line) (marks points : List Bool) (steps used count : ℕ) (parts t0 t1 t2 t3 t4 t5 text : List ℕ) → IsProtocol t b.rounds b → IsUsed t b ls marks points steps used count
     → t0 ≡ [] → t1 ≡ t0 ++ title_of b.rounds steps used count → t2 ≡ t1 ++ codes "Points\n" → t3 ≡ t2 ++ marked_text t.symmetric points 0 b.points → t4 ≡ t3 ++ codes "Argument\n"
-    → t5 ≡ t4 ++ parts_text (problem_of t b.rounds) (executions t b.rounds) (Some (start (problem_of t b.rounds))) (parts_of ls) → text ≡ t5 → text ≡ argument_text t b.rounds ls
-whole t b ls marks points steps used count t0 t1 t2 t3 t4 t5 text built h none first second third fourth fifth is =
+    → parts ≡ [] ++ parts_text (problem_of t b.rounds) (executions t b.rounds) (Some (start (problem_of t b.rounds))) (parts_of ls) → t5 ≡ t4 ++ parts → text ≡ t5 → text ≡ argument_text t b.rounds ls
+whole t b ls marks points steps used count parts t0 t1 t2 t3 t4 t5 text built h none first second third fourth told fifth is =
     let title = title_of b.rounds steps used count in
     let points_text = marked_text t.symmetric points 0 b.points in
     let rest = parts_text (problem_of t b.rounds) (executions t b.rounds) (Some (start (problem_of t b.rounds))) (parts_of ls) in
     is
     ∙ and_more t0 t1 t5 title (codes "Points\n" ++ (points_text ++ (codes "Argument\n" ++ rest))) first
-    (and_more t1 t2 t5 (codes "Points\n") (points_text ++ (codes "Argument\n" ++ rest)) second (and_more t2 t3 t5 points_text (codes "Argument\n" ++ rest) third (and_more t3 t4 t5 (codes "Argument\n") rest fourth fifth)))
+    (and_more t1 t2 t5 (codes "Points\n") (points_text ++ (codes "Argument\n" ++ rest)) second (and_more t2 t3 t5 points_text (codes "Argument\n" ++ rest) third (and_more t3 t4 t5 (codes "Argument\n") rest fourth (fifth ∙ ap (λ xs. t4 ++ xs) told))))
     ∙ (λ i. none i ++ (title_is t b ls marks points steps used count built h i ++ (codes "Points\n" ++ (points_told t b ls marks points steps used count built h i ++ (codes "Argument\n" ++ rest)))))

@@ -1,14 +1,16 @@
 -- Worked examples, by computation.
-use Rattle.std.specs.Prelude.{◌≡◌, ℕ, [], ◌∷◌, map, replicate, Option, Some, None, codes, refl}
+use Rattle.std.specs.Prelude.{◌≡◌, ℕ, true, [], ◌∷◌, map, replicate, Option, Some, None, codes, refl}
 use Rattle.std.specs.Fmt.{digits}
-use Rattle.wf_model.specs.ExampleTasks.{path, consensus, renaming_2_2}
+use Rattle.wf_model.specs.ExampleTasks.{one, edge, path, consensus, renaming_2_2}
 use Rattle.wf_model.specs.Problem.{Constraint}
 use Rattle.wf_model.specs.Refutation.{remove, empty, branch}
+use Rattle.wf_model.specs.Simplex.{complex_of}
+use Rattle.wf_model.specs.Task.{Task}
 use Rattle.wf_argument.specs.declared.losses.Loss.{Loss}
 use Rattle.wf_argument.specs.declared.reasons.Reason.{Reason}
 use Rattle.wf_argument.specs.Listing.{executions_text}
 use Rattle.wf_argument.specs.Parts.{parts_of, takes, closes, splits}
-use Rattle.wf_argument.specs.State.{Gone, first_gone, needed, points_in, taken, take_in, with_reasons}
+use Rattle.wf_argument.specs.State.{Gone, first_gone, needed, points_in, steps_in, taken, take_in, with_reasons}
 use Rattle.wf_argument.specs.Text.{argument_text, words_text, any_text, number_text, needed_text, reasons_text}
 
 abbrev lost : ℕ → Option ℕ → Loss
@@ -64,13 +66,20 @@ each_reason_once = refl
 pub gone_once : taken 9 1 ([] ∷ (lost 0 (Some 2) ∷ []) ∷ []) 0 ≡ [] ∷ (lost 0 (Some 2) ∷ []) ∷ []
 gone_once = refl
 
--- one point at both places of an execution: what a step takes first is a
--- reason of what it takes then
+-- one point at both places of an execution: what is taken first is a reason of what is taken then,
+-- so that a step of its own takes it
 abbrev one_point_twice : Constraint
 one_point_twice = record { scope = (0, 0) ∷ (1, 0) ∷ []; tuples = (1 ∷ 0 ∷ []) ∷ [] }
 
 pub taken_in_turn : take_in one_point_twice 4 (0, 0) ([] ∷ []) (0 ∷ 1 ∷ []) ≡ record { gone = (lost 0 (Some 4) ∷ lost 1 (Some 4) ∷ []) ∷ []; reasons = reason 0 0 (Some 4) ∷ [] }
 taken_in_turn = refl
+
+pub in_two_steps : steps_in one_point_twice 4 (0, 0) ([] ∷ []) (2 ∷ 0 ∷ 1 ∷ 3 ∷ []) ≡ (2 ∷ 0 ∷ []) ∷ (1 ∷ 3 ∷ []) ∷ []
+in_two_steps = refl
+
+-- the same values, where an earlier step took the first of them
+pub in_one_step : steps_in one_point_twice 4 (0, 0) ((lost 0 (Some 2) ∷ []) ∷ []) (0 ∷ 1 ∷ []) ≡ (0 ∷ 1 ∷ []) ∷ []
+in_one_step = refl
 
 -- consensus of two after one round
 pub consensus_argument : argument_text consensus 1 (remove 0 0 1 ∷ remove 1 1 0 ∷ remove 3 1 1 ∷ remove 4 0 0 ∷ remove 2 0 1 ∷ empty 2 ∷ []) ≡ codes "No decision map after 1 round: 5 steps over 5 of 5 executions.\n\nPoints\n  v0 is p0 saw {p0=0}\n  v1 is p1 saw {p1=1}\n  v2 is p0 saw {p0=0, p1=1}\n  v3 is p1 saw {p0=0, p1=1}\nArgument\n  1. v0 is not 1: in execution 0, {p0}, no tuple at (v0) has it. So v0 is 0.\n  2. v1 is not 0: in execution 1, {p1}, no tuple at (v1) has it. So v1 is 1.\n  3. v3 is not 1: in execution 3, {p0}{p1}, (v0, v3) would be (1, 1), but v0 is not 1 [1]. So v3 is 0.\n  4. v2 is not 0: in execution 4, {p1}{p0}, (v2, v1) would be (0, 0), but v1 is not 0 [2]. So v2 is 1.\n  5. v2 is not 1: in execution 2, {p0 p1}, (v2, v3) would be (1, 1), but v3 is not 1 [3].\n  v2 has no value left.\n"
@@ -87,9 +96,26 @@ pub path_argument_without_rounds : argument_text (path 3) 0 (remove 0 0 1 ∷ re
 unfolding digits
 path_argument_without_rounds = refl
 
+-- two processes that can't tell who they are: one point stands at both places of an execution, and
+-- a step ends before a value for which it would have to cite itself
+abbrev alike : Task
+alike = record {
+  processes = 2;
+  symmetric = true;
+  least_block = None;
+  delta = record { input = one 0 0; tuples = (0 ∷ []) ∷ (1 ∷ []) ∷ (2 ∷ []) ∷ [] }
+      ∷ record { input = one 1 0; tuples = (0 ∷ []) ∷ (1 ∷ []) ∷ (2 ∷ []) ∷ [] }
+      ∷ record { input = edge 0 0; tuples = (0 ∷ 1 ∷ []) ∷ [] } ∷ [];
+  outputs = complex_of (edge 0 1 ∷ one 0 1 ∷ one 0 2 ∷ one 1 0 ∷ one 1 2 ∷ []);
+}
+
+pub argument_about_one_point : argument_text alike 0 (remove 2 0 1 ∷ remove 2 0 2 ∷ remove 2 0 0 ∷ empty 0 ∷ []) ≡ codes "No decision map after 0 rounds: 2 steps over 1 of 3 executions.\n\nPoints\n  v0 is #0=0\nArgument\n  1. v0 is not 1 or 2: in execution 2, {p0 p1}, no tuple at (v0, v0) has it. So v0 is 0.\n  2. v0 is not 0: in execution 2, {p0 p1}, (v0, v0) would be (0, 1), but v0 is not 1 [1].\n  v0 has no value left.\n"
+unfolding digits
+argument_about_one_point = refl
+
 -- only the points of which the lines speak are told; a line that names no
 -- participant of an execution is left out
-pub a_line_that_names_nobody : argument_text consensus 0 (remove 0 1 1 ∷ remove 0 0 1 ∷ empty 1 ∷ []) ≡ codes "No decision map after 0 rounds: 2 steps over 1 of 3 executions.\n\nPoints\n  v0 is p0=0\n  v1 is p1=1\nArgument\n  1. v0 is not 1: in execution 0, {p0}, no tuple at (v0) has it. So v0 is 0.\n  v1 has no value left.\n"
+pub a_line_that_names_nobody : argument_text consensus 0 (remove 0 1 1 ∷ remove 0 0 1 ∷ empty 1 ∷ []) ≡ codes "No decision map after 0 rounds: 1 step over 1 of 3 executions.\n\nPoints\n  v0 is p0=0\n  v1 is p1=1\nArgument\n  1. v0 is not 1: in execution 0, {p0}, no tuple at (v0) has it. So v0 is 0.\n  v1 has no value left.\n"
 unfolding digits
 a_line_that_names_nobody = refl
 

@@ -2,10 +2,12 @@
 pub mod Parts
 pub mod State
 pub mod Text
+pub mod Laws
 pub mod Table
 pub mod Listing
 -- What they say of the program's own: what it keeps, and what it is to tell.
 pub mod Places
+pub mod Seats
 pub mod Subject
 pub mod Trail
 pub mod Used

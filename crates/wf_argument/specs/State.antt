@@ -1,7 +1,7 @@
 -- What is gone after some parts of an argument, by which steps, and what each
 -- step rests on. A loss is a value and the step that took it, and none where
 -- a case supposes another value; a reason is a point with a loss.
-use Rattle.std.specs.Prelude.{ℕ, suc, ◌==◌, Bool, not, List, [], ◌∷◌, ◌++◌, map, filter, fold, replicate, min, Option, Some, None, if◌then◌else◌}
+use Rattle.std.specs.Prelude.{ℕ, suc, ◌==◌, Bool, false, not, List, [], ◌∷◌, ◌++◌, map, filter, fold, replicate, min, Option, Some, None, if◌then◌else◌}
 use Rattle.std.specs.List.{list_any, slice_index_or, slice_set}
 use Rattle.std.specs.Ordering.{nat_cmp, ordering_then}
 use Rattle.std.specs.declared.cmp.Ordering.{Ordering}
@@ -102,6 +102,39 @@ take_each tuples points n place v gone values = fold (take tuples points n place
 abbrev pub take_in : Constraint → ℕ → ℕ × ℕ → Gone → List ℕ → Taking
 take_in k n at gone values = take_each k.tuples (points_in k) n at.0 at.1 gone values
 
+-- ---- the steps of a part
+
+-- whether a reason is a loss by step n
+abbrev pub is_step : ℕ → Option ℕ → Bool
+is_step n None = false
+is_step n (Some m) = n == m
+
+abbrev pub cites : ℕ → Option Reason → Bool
+cites n None = false
+cites n (Some x) = is_step n x.loss.step
+
+-- whether step n would have to cite itself for a value at a place of an execution
+abbrev pub cites_itself : List Tuple → List ℕ → ℕ → ℕ → Gone → ℕ → Bool
+cites_itself tuples points n place gone a = list_any (λ tuple. cites n (first_gone gone points tuple)) (needed tuples place a)
+
+-- the values of each step, where step n has these so far, and others are still to come: a step ends
+-- before a value for which it would have to cite itself
+abbrev pub steps_from : List Tuple → List ℕ → ℕ → ℕ → ℕ → Gone → List ℕ → List ℕ → List (List ℕ)
+steps_from tuples points n place v gone so_far [] = so_far ∷ []
+steps_from tuples points n place v gone so_far (a ∷ values) =
+    if cites_itself tuples points n place gone a
+    then so_far ∷ steps_from tuples points (suc n) place v (taken (suc n) v gone a) (a ∷ []) values
+    else steps_from tuples points n place v (taken n v gone a) (so_far ++ (a ∷ [])) values
+
+-- the values of each step, where step n begins with the first
+abbrev pub in_steps : List Tuple → List ℕ → ℕ → ℕ → ℕ → Gone → List ℕ → List (List ℕ)
+in_steps tuples points n place v gone [] = []
+in_steps tuples points n place v gone (a ∷ values) = steps_from tuples points n place v (taken n v gone a) (a ∷ []) values
+
+-- the same in an execution
+abbrev pub steps_in : Constraint → ℕ → ℕ × ℕ → Gone → List ℕ → List (List ℕ)
+steps_in k n at gone values = in_steps k.tuples (points_in k) n at.0 at.1 gone values
+
 -- ---- from part to part
 
 -- the most suppositions that are told apart: what is under more counts as under so many
@@ -139,9 +172,13 @@ abbrev pub entered : ℕ → List Case → Option State
 entered n [] = None
 entered n (x ∷ later) = Some (record { number = n; depth = x.depth; gone = x.gone; later = later })
 
+-- after a step that takes these values
+abbrev pub after_step : Constraint → ℕ × ℕ → State → List ℕ → State
+after_step k at s values = record s { number = suc s.number; gone = (take_in k s.number at s.gone values).gone }
+
 abbrev pub after_taking : Problem → State → ℕ → List ℕ → Option (ℕ × ℕ) → State
 after_taking p s e values None = s
-after_taking p s e values (Some at) = record s { number = suc s.number; gone = (take_in (constraint_at p e) s.number at s.gone values).gone }
+after_taking p s e values (Some at) = let k = constraint_at p e in fold (after_step k at) s (steps_in k s.number at s.gone values)
 
 -- a part that names no participant of an execution is left out
 abbrev pub after : Problem → State → Part → Option State

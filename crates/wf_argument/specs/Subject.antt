@@ -1,7 +1,7 @@
 -- What an argument is about, and what is still to be told.
-use Rattle.std.specs.Prelude.{◌≡◌, ℕ, Bool, true, false, ◌&&◌, ◌==◌, ◌++◌, List, [], ◌∷◌, drop, map, Option, Some, None, codes, decimal, if◌then◌else◌}
+use Rattle.std.specs.Prelude.{◌≡◌, ◌<◌, ℕ, Bool, true, false, ◌&&◌, ◌==◌, ◌++◌, List, [], ◌∷◌, drop, length, map, Option, Some, None, codes, decimal, if◌then◌else◌}
 use Rattle.wf_model.specs.Execution.{Execution, executions}
-use Rattle.wf_model.specs.Problem.{Problem, problem_of}
+use Rattle.wf_model.specs.Problem.{Problem, constraint_at, problem_of}
 use Rattle.wf_model.specs.Refutation as refutation
 use Rattle.wf_model.specs.Refutation.{remove, empty, branch, found}
 use Rattle.wf_lines.specs.Lines.{line_of}
@@ -9,9 +9,12 @@ use Rattle.wf_lines.specs.declared.line.Line.{Line}
 use Rattle.wf_complex.specs.Protocol.{IsProtocol}
 use Rattle.wf_argument.specs.Parts.{parts_of}
 use Rattle.wf_argument.specs.Table.{table_of}
+use Rattle.wf_argument.specs.Seats.{point_at}
 use Rattle.wf_argument.specs.State as state
-use Rattle.wf_argument.specs.Text.{indented, name, parts_text}
+use Rattle.wf_argument.specs.State.{points_in}
+use Rattle.wf_argument.specs.Text.{indented, name, parts_text, steps_made, told_taking}
 use Rattle.wf_argument.specs.Trail.{state_of}
+use Rattle.wf_argument.specs.declared.seat.Seat.{Seat}
 use Rattle.wf_argument.specs.declared.state.Case.{Case}
 use Rattle.wf_argument.specs.declared.state.State.{State}
 use Rattle.wf_argument.specs.declared.subject.Subject.{Subject}
@@ -45,6 +48,28 @@ one_if false = None
 abbrev pub to_come : Subject → List Line → State → Option ℕ → List ℕ
 to_come x ls s None = []
 to_come x ls s (Some n) = parts_text (problem_in x) (executions_in x) (Some (state_of s)) (parts_of (map line_of (drop n ls)))
+
+-- how many steps are still to be told then
+abbrev pub steps_to_come : Subject → List Line → State → Option ℕ → ℕ
+steps_to_come x ls s None = 0
+steps_to_come x ls s (Some n) = steps_made (problem_in x) (Some (state_of s)) (parts_of (map line_of (drop n ls)))
+
+-- ---- a process in an execution
+
+-- its points and its tuples are those of an execution that is there
+pub record IsSeat (x : Subject) (seat : Seat) : Type 0 where
+  pub execution : seat.execution < length x.protocol.now.simplices
+  pub inside : seat.place < length seat.points.now
+  pub points : seat.points.now ≡ points_in (constraint_at (problem_in x) seat.execution)
+  pub tuples : seat.tuples.now ≡ (constraint_at (problem_in x) seat.execution).tuples
+
+-- what is told where these values are still to be taken
+abbrev pub taking_left : Subject → Seat → State → List ℕ → List ℕ
+taking_left x seat s values = told_taking (problem_in x) (executions_in x) (state_of s) seat.execution values (Some (seat.place, point_at seat))
+
+-- how far the argument is once they are taken
+abbrev pub state_after : Subject → Seat → State → List ℕ → state.State
+state_after x seat s values = state.after_taking (problem_in x) (state_of s) seat.execution values (Some (seat.place, point_at seat))
 
 -- ---- lines that go together
 

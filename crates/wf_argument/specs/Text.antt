@@ -1,6 +1,6 @@
 -- An argument in words that a task has no decision map after some rounds: the text of a
 -- refutation's lines, for people.
-use Rattle.std.specs.Prelude.{ℕ, zero, suc, ◌==◌, Bool, false, List, [], ◌∷◌, ◌++◌, map, filter, flat_map, length, zip, count_by, nat_le, true, Option, Some, None, slice_get, codes, decimal, if◌then◌else◌}
+use Rattle.std.specs.Prelude.{ℕ, zero, suc, ◌==◌, Bool, false, List, [], ◌∷◌, ◌++◌, ◌+◌, map, filter, flat_map, length, zip, count_by, nat_le, Option, Some, None, slice_get, codes, decimal, if◌then◌else◌}
 use Rattle.std.specs.List.{enumerate_from, list_any}
 use Rattle.wf_model.specs.Lists.{below, has}
 use Rattle.wf_model.specs.Word.{Word}
@@ -15,7 +15,7 @@ use Rattle.wf_model.specs.Check.{place_of}
 use Rattle.wf_model.specs.Refutation.{Line, remove, empty, branch, found}
 use Rattle.wf_argument.specs.declared.reasons.Reason.{Reason}
 use Rattle.wf_argument.specs.Parts.{Part, takes, closes, splits, parts_of}
-use Rattle.wf_argument.specs.State.{Case, State, start, left_at, needed, points_in, take_in, cases_at, after}
+use Rattle.wf_argument.specs.State.{Case, State, start, left_at, needed, points_in, take_in, steps_in, cases_at, after_step, after}
 
 -- ---- words
 
@@ -147,9 +147,14 @@ abbrev pub case_text : List Case → List ℕ
 case_text [] = []
 case_text (x ∷ later) = indented x.depth (codes "Case " ++ (name x.point ++ (codes " = " ++ decimal x.value)))
 
+-- steps one after another, each with the values that it takes
+abbrev pub steps_text : Problem → List Execution → State → ℕ → ℕ × ℕ → List (List ℕ) → List ℕ
+steps_text p es s e at [] = []
+steps_text p es s e at (values ∷ steps) = taking_text p es s e values at ++ steps_text p es (after_step (constraint_at p e) at s values) e at steps
+
 abbrev pub told_taking : Problem → List Execution → State → ℕ → List ℕ → Option (ℕ × ℕ) → List ℕ
 told_taking p es s e values None = []
-told_taking p es s e values (Some at) = taking_text p es s e values at
+told_taking p es s e values (Some at) = steps_text p es s e at (steps_in (constraint_at p e) s.number at s.gone values)
 
 abbrev pub end_text : State → ℕ → List ℕ
 end_text s v = indented s.depth (name v ++ codes " has no value left.") ++ case_text s.later
@@ -189,14 +194,25 @@ names p v found = false
 abbrev pub used_count : Problem → List Line → ℕ
 used_count p ls = count_by (λ e. list_any (is_in e) ls) (below (length p.constraints))
 
-abbrev pub is_step : Part → Bool
-is_step (takes e c values) = true
-is_step (closes v) = false
-is_step (splits v) = true
+-- how many steps a part makes that takes values
+abbrev pub taking_steps : Problem → State → ℕ → List ℕ → Option (ℕ × ℕ) → ℕ
+taking_steps p s e values None = 0
+taking_steps p s e values (Some at) = length (steps_in (constraint_at p e) s.number at s.gone values)
+
+abbrev pub part_steps : Problem → State → Part → ℕ
+part_steps p s (takes e c values) = taking_steps p s e values (place_of 0 c (constraint_at p e).scope)
+part_steps p s (closes v) = 0
+part_steps p s (splits v) = 1
+
+-- how many steps the parts make from a state on
+abbrev pub steps_made : Problem → Option State → List Part → ℕ
+steps_made p None parts = 0
+steps_made p (Some s) [] = 0
+steps_made p (Some s) (part ∷ parts) = part_steps p s part + steps_made p (after p s part) parts
 
 abbrev pub title_text : Problem → ℕ → List Line → List ℕ
 title_text p r ls =
-    codes "No decision map after " ++ (counted r (codes "round") ++ (codes ": " ++ (counted (count_by is_step (parts_of ls)) (codes "step")
+    codes "No decision map after " ++ (counted r (codes "round") ++ (codes ": " ++ (counted (steps_made p (Some (start p)) (parts_of ls)) (codes "step")
     ++ (codes " over " ++ (decimal (used_count p ls) ++ (codes " of " ++ (counted (length p.constraints) (codes "execution") ++ codes ".\n\n")))))))
 
 -- what a point is

@@ -1,12 +1,11 @@
--- Which executions and points lines speak of, as marks; and how many steps they make.
-use Rattle.std.specs.Prelude.{◌≡◌, ◌<◌, ℕ, suc, ◌==◌, ◌&&◌, ◌||◌, ◌++◌, Bool, true, false, not, List, [], ◌∷◌, map, filter, flat_map, length, Option, Some, None, codes, decimal, if◌then◌else◌}
+-- Which executions and points lines speak of, as marks; and the title.
+use Rattle.std.specs.Prelude.{◌≡◌, ◌<◌, ℕ, ◌==◌, ◌||◌, ◌++◌, Bool, true, false, List, [], map, filter, flat_map, length, codes, decimal}
 use Rattle.std.specs.List.{enumerate_from, slice_index_or}
 use Rattle.wf_model.specs.Lists.{has}
 use Rattle.wf_model.specs.Problem.{Participant}
 use Rattle.wf_model.specs.Refutation.{Line, remove, empty, branch, found}
 use Rattle.wf_model.specs.View.{View}
 use Rattle.wf_argument.specs.Text.{counted, point_text}
-use Rattle.wf_argument.specs.declared.title.Run.{Run}
 
 -- the numbers that pass are marked too
 pub record AreMarked (old new : List Bool) (test : ℕ → Bool) : Type 0 where
@@ -36,41 +35,6 @@ marked_text ranks marks n views = flat_map (point_text ranks) (filter (λ at. sl
 abbrev pub told_if : Bool → List ℕ → List ℕ
 told_if true text = text
 told_if false text = []
-
--- ---- steps
-
--- the process and the execution that a line takes a value from
-abbrev pub run_of : Line → Option Run
-run_of (remove e c a) = Some (record { execution = e; process = c })
-run_of (empty v) = None
-run_of (branch v) = None
-run_of found = None
-
-abbrev pub is_run : Option Run → ℕ → ℕ → Bool
-is_run None e c = false
-is_run (Some x) e c = (x.execution == e) && (x.process == c)
-
--- whether a step begins with a line, after one of this run
-abbrev pub begins : Option Run → Line → Bool
-begins before (remove e c a) = not (is_run before e c)
-begins before (empty v) = false
-begins before (branch v) = true
-begins before found = false
-
-abbrev pub is_end : Line → Bool
-is_end (remove e c a) = false
-is_end (empty v) = false
-is_end (branch v) = false
-is_end found = true
-
-abbrev pub one_more : Bool → ℕ → ℕ
-one_more true n = suc n
-one_more false n = n
-
--- the steps that begin with one of these lines, up to the end
-abbrev pub more_steps : Option Run → List Line → ℕ
-more_steps before [] = 0
-more_steps before (l ∷ ls) = if is_end l then 0 else one_more (begins before l) (more_steps (run_of l) ls)
 
 -- ---- the title
 

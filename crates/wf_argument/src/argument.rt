@@ -7,7 +7,7 @@ ghost use Rattle.wf_argument.specs.Text.{argument_text};
 
 use crate::parts::put_lines;
 use crate::points::put_points;
-use crate::title::{put_title, step_count};
+use crate::title::put_title;
 use crate::used::{count, used_executions, used_points};
 use std::alloc::{AllocError, Global};
 use std::fmt::Write;
@@ -28,17 +28,19 @@ pub fn write_argument(
 {
     let executions = used_executions(alloc, protocol, lines)?;
     let points = used_points(alloc, protocol, lines)?;
+    let mut parts = String::new(alloc);
+    let steps = put_lines(alloc, &mut parts, task, protocol, lines)?;
     let mut text = String::new(alloc);
     put_title(
         &mut text,
         protocol.rounds(),
-        step_count(lines),
+        steps,
         count(executions.as_slice()),
         protocol.executions(),
     )?;
     writeln!(text, "Points")?;
     put_points(&mut text, protocol, task.symmetric(), points.as_slice())?;
     writeln!(text, "Argument")?;
-    put_lines(alloc, &mut text, task, protocol, lines)?;
+    text.push_str(parts.as_str())?;
     Ok(text.into_bytes())
 }

@@ -1,11 +1,13 @@
 //! What a step rests on.
 
-ghost use Rattle.std.specs.Prelude.{◌≡◌, ◌<◌, ◌∷◌, ◌++◌, [], flat_map, length, map, slice_index, vec_items, OnOk};
-ghost use Rattle.wf_argument.specs.State.{first_gone, needed, take_each, with_reason, with_reasons};
+ghost use Rattle.std.specs.Prelude.{◌≡◌, ◌<◌, ◌≤◌, ◌∷◌, ◌++◌, [], drop, flat_map, length, map, suc, take, vec_items, IfOk, OnOk};
+ghost use Rattle.wf_argument.specs.Seats.{point_at, steps_at, taken_at};
+ghost use Rattle.wf_argument.specs.State.{cites, cites_itself, first_gone, is_step, needed, taken, with_reason, with_reasons};
 ghost use Rattle.wf_argument.specs.Trail.{state_of};
 
 use crate::losses::Loss;
 use crate::reasons::{Reason, add_reason, first_gone, has_at};
+use crate::seat::Seat;
 use crate::state::State;
 use std::alloc::{AllocError, Global};
 use wf_task::Row;
@@ -31,55 +33,70 @@ impl Grounds {
         }
     }
 
-    /// The next step takes these values in turn at a place of an execution with these tuples and
-    /// points, and what it rests on is noted.
-    pub(crate) fn take_each(
+    /// The next step takes the first of these values in turn, up to one for which it would have to
+    /// cite itself, and what it rests on is noted. Answers how many.
+    pub(crate) fn take_step(
         &mut self,
-        tuples: &[Row],
-        points: &[u32],
-        place: u8,
+        seat: &Seat,
         values: &[u8],
         state: &mut State,
-    ) -> Result<(), AllocError>
-        requires { place < length points.now }
-        ensures needed { OnOk result (self.new.needed.items
-            ≡ flat_map (needed tuples.now place) values.now) }
-        ensures reasons { let s = state_of state.old in let v = slice_index points.now place in
-            let done = take_each tuples.now points.now s.number place v s.gone values.now in
-            OnOk result (self.new.reasons.items ≡ done.reasons) }
-        ensures state { let s = state_of state.old in let v = slice_index points.now place in
-            let done = take_each tuples.now points.now s.number place v s.gone values.now in
-            OnOk result (state_of state.new ≡ record s { gone = done.gone }) }
+    ) -> Result<usize, AllocError>
+        requires inside { seat.now.place < length seat.now.points.now }
+        requires some { 0 < length values.now }
+        ensures steps { let s = state_of state.old in let x = seat.now in IfOk result (λ count.
+            steps_at x s.number s.gone values.now ≡ take count values.now
+            ∷ steps_at x (suc s.number) (state_of state.new).gone (drop count values.now)) }
+        ensures needed { let x = seat.now in IfOk result (λ count. self.new.needed.items
+            ≡ flat_map (needed x.tuples.now x.place) (take count values.now)) }
+        ensures reasons { let s = state_of state.old in IfOk result (λ count.
+            self.new.reasons.items ≡ (taken_at seat.now s (take count values.now)).reasons) }
+        ensures state { let s = state_of state.old in IfOk result (λ count. state_of state.new
+            ≡ record s { gone = (taken_at seat.now s (take count values.now)).gone }) }
+        ensures some { IfOk result (λ count. 0 < count) }
+        ensures within { IfOk result (λ count. count ≤ length values.now) }
         ensures values { state.new.values ≡ state.old.values }
     {
         self.needed.clear();
         self.reasons.clear();
-        let point = points[place as usize];
-        for value in values {
-            self.note(tuples, points, place, *value, &state.gone)?;
-            state.take(point, *value)?;
+        self.take_value(seat, values[0], state)?;
+        for place in 1..values.len() {
+            let value = values[place];
+            if cites_itself(seat, value, state) {
+                return Ok(place);
+            }
+            self.take_value(seat, value, state)?;
         }
+        Ok(values.len())
+    }
+
+    /// The next step takes a value, and what it rests on there is noted.
+    fn take_value(&mut self, seat: &Seat, value: u8, state: &mut State) -> Result<(), AllocError>
+        requires { seat.now.place < length seat.now.points.now }
+        ensures needed { let x = seat.now in OnOk result (self.new.needed.items
+            ≡ self.old.needed.items ++ needed x.tuples.now x.place value) }
+        ensures reasons { let x = seat.now in let needed = needed x.tuples.now x.place value in
+            let gone = (state_of state.old).gone in OnOk result (self.new.reasons.items
+            ≡ with_reasons gone x.points.now self.old.reasons.items needed) }
+        ensures state { let s = state_of state.old in OnOk result (state_of state.new
+            ≡ record s { gone = taken s.number (point_at seat.now) s.gone value }) }
+        ensures values { state.new.values ≡ state.old.values }
+    {
+        self.note(seat, value, &state.gone)?;
+        state.take(seat.points[seat.place as usize], value)?;
         Ok(())
     }
 
-    /// Notes the tuples with this value at this place, and why they can't be decided.
-    fn note(
-        &mut self,
-        tuples: &[Row],
-        points: &[u32],
-        place: u8,
-        value: u8,
-        gone: &[Vec<Loss>],
-    ) -> Result<(), AllocError>
-        ensures needed { OnOk result (self.new.needed.items
-            ≡ self.old.needed.items ++ needed tuples.now place value) }
-        ensures reasons { let needed = needed tuples.now place value in
-            OnOk result (self.new.reasons.items
-            ≡ with_reasons (map vec_items gone.now) points.now self.old.reasons.items needed) }
+    /// Notes the tuples with this value of a process, and why they can't be decided.
+    fn note(&mut self, seat: &Seat, value: u8, gone: &[Vec<Loss>]) -> Result<(), AllocError>
+        ensures needed { let x = seat.now in OnOk result (self.new.needed.items
+            ≡ self.old.needed.items ++ needed x.tuples.now x.place value) }
+        ensures reasons { let x = seat.now in let needed = needed x.tuples.now x.place value in
+            let gone = map vec_items gone.now in OnOk result (self.new.reasons.items
+            ≡ with_reasons gone x.points.now self.old.reasons.items needed) }
     {
-        for tuple in tuples {
-            if has_at(tuple, place, value) {
-                self.note_tuple(tuple, points, gone)?;
+        for tuple in seat.tuples {
+            if has_at(tuple, seat.place, value) {
+                self.note_tuple(tuple, seat.points, gone)?;
             }
         }
         Ok(())
@@ -102,5 +119,39 @@ impl Grounds {
             add_reason(&mut self.reasons, reason)?;
         }
         Ok(())
+    }
+}
+
+/// Whether the next step would have to cite itself for a value of a process.
+fn cites_itself(seat: &Seat, value: u8, state: &State) -> bool
+    ensures { let x = seat.now in let s = state_of state.now in
+        result ≡ cites_itself x.tuples.now x.points.now s.number x.place s.gone value }
+{
+    for tuple in seat.tuples {
+        if has_at(tuple, seat.place, value) && cites(tuple, seat.points, state) {
+            return true;
+        }
+    }
+    false
+}
+
+/// Whether the next step is why a tuple can't be decided at these points.
+fn cites(tuple: &Row, points: &[u32], state: &State) -> bool
+    ensures { let s = state_of state.now in
+        result ≡ cites s.number (first_gone s.gone points.now tuple.now) }
+{
+    match first_gone(&state.gone, points, tuple.as_slice()) {
+        None => false,
+        Some(reason) => is_step(state.number, reason.loss.step),
+    }
+}
+
+/// Whether it is the step of this number.
+fn is_step(number: usize, step: Option<usize>) -> bool
+    ensures { result ≡ is_step number step }
+{
+    match step {
+        None => false,
+        Some(step) => number == step,
     }
 }

@@ -8,8 +8,8 @@ ghost use Rattle.wf_lines.specs.Lines.{line_of};
 ghost use Rattle.wf_set.specs.Sets.{values_in};
 ghost use Rattle.wf_argument.specs.Parts.{parts_of};
 ghost use Rattle.wf_argument.specs.State.{cases_at, entered, start};
-ghost use Rattle.wf_argument.specs.Subject.{IsMatched, after_same, begun_text, executions_in, now_if, one_if, problem_in, same_value, same_values, to_come};
-ghost use Rattle.wf_argument.specs.Text.{any_text, end_text, indented, name, number_text, parts_text, split_text, step_text};
+ghost use Rattle.wf_argument.specs.Subject.{IsMatched, after_same, begun_text, executions_in, now_if, one_if, problem_in, same_value, same_values, steps_to_come, to_come};
+ghost use Rattle.wf_argument.specs.Text.{any_text, end_text, indented, name, number_text, parts_text, split_text, step_text, steps_made};
 ghost use Rattle.wf_argument.specs.Trail.{state_of, values_of};
 
 use crate::executions::Executions;
@@ -25,19 +25,22 @@ use wf_lines::Line;
 use wf_set::{Mask, split_first};
 use wf_task::Task;
 
-/// Adds the parts of the argument that these lines make.
+/// Adds the parts of the argument that these lines make. Answers how many steps they make.
 pub(crate) fn put_lines(
     alloc: Global,
     text: &mut String,
     task: &Task,
     protocol: &Protocol,
     lines: &[Line],
-) -> Result<(), AllocError>
+) -> Result<usize, AllocError>
     requires { IsProtocol task.now protocol.now.rounds protocol.now }
-    ensures { let p = problem_of task.now protocol.now.rounds in
+    ensures text { let p = problem_of task.now protocol.now.rounds in
         let es = executions task.now protocol.now.rounds in
         OnOk result (string_bytes text.new ≡ string_bytes text.old
         ++ parts_text p es (Some (start p)) (parts_of (map line_of lines.now))) }
+    ensures steps { let p = problem_of task.now protocol.now.rounds in
+        IfOk result (λ steps. steps
+        ≡ steps_made p (Some (start p)) (parts_of (map line_of lines.now))) }
 {
     // a protocol complex has no more executions than the table has room for
     let _count = protocol.executions();
@@ -49,7 +52,7 @@ pub(crate) fn put_lines(
     };
     let mut state = State::start(alloc, protocol.points(), task.values())?;
     put_parts(alloc, text, &subject, lines, &mut state)?;
-    Ok(())
+    Ok(state.number - 1)
 }
 
 /// Adds the parts that these lines make from a state on, until all is said.
@@ -63,10 +66,13 @@ fn put_parts(
     requires subject { IsMatched subject.now }
     requires number { state.old.number ≡ 1 }
     requires values { values_of state.old ≡ (problem_in subject.now).values }
-    ensures { let p = problem_in subject.now in let es = executions_in subject.now in
+    ensures text { let p = problem_in subject.now in let es = executions_in subject.now in
         let parts = parts_of (map line_of lines.now) in
         OnOk result (string_bytes text.new ≡ string_bytes text.old
         ++ parts_text p es (Some (state_of state.old)) parts) }
+    ensures number { let p = problem_in subject.now in
+        let parts = parts_of (map line_of lines.now) in
+        OnOk result (state.new.number ≡ 1 + steps_made p (Some (state_of state.old)) parts) }
 {
     let mut grounds = Grounds::new(alloc);
     let mut values = Vec::new(alloc);
@@ -93,15 +99,18 @@ fn put_part(
 ) -> Result<Option<usize>, AllocError>
     requires subject { IsMatched subject.now }
     requires some { 0 < length lines.now }
-    requires few { state.old.number + 1 < 2 ^ 64 }
+    requires few { state.old.number + length lines.now < 2 ^ 64 }
     requires values { values_of state.old ≡ (problem_in subject.now).values }
     ensures text { let x = subject.now in let ls = lines.now in IfOk result (λ count.
         string_bytes text.new ++ to_come x ls state.new count
         ≡ string_bytes text.old ++ to_come x ls state.old (Some 0)) }
     ensures count { IfOk result (λ count. IfSome count (λ n. 0 < n)) }
     ensures lines { IfOk result (λ count. IfSome count (λ n. n ≤ length lines.now)) }
+    ensures steps { let x = subject.now in let ls = lines.now in IfOk result (λ count.
+        state.new.number + steps_to_come x ls state.new count
+        ≡ state.old.number + steps_to_come x ls state.old (Some 0)) }
     ensures number { IfOk result (λ count.
-        IfSome count (λ _. state.new.number ≤ state.old.number + 1)) }
+        IfSome count (λ n. state.new.number ≤ state.old.number + n)) }
     ensures values { state.new.values ≡ state.old.values }
 {
     match lines[0] {
@@ -147,6 +156,7 @@ fn set_values(
         OnOk result (values.new.items ≡ first ∷ same_values execution process rest) }
     ensures after { let rest = map line_of (drop 1 lines.now) in IfOk result (λ count.
         map line_of (drop count lines.now) ≡ after_same execution process rest) }
+    ensures count { IfOk result (λ count. count ≡ length values.new.items) }
     ensures some { IfOk result (λ count. 0 < count) }
     ensures within { IfOk result (λ count. count ≤ length lines.now) }
 {
@@ -181,6 +191,7 @@ fn put_end(text: &mut String, point: u32, state: &mut State) -> Result<bool, All
         OnOk result (string_bytes text.new ≡ string_bytes text.old ++ end_text s point) }
     ensures state { let s = state_of state.old in
         IfOk result (λ is_going. now_if is_going state.new ≡ entered s.number s.later) }
+    ensures number { state.new.number ≡ state.old.number }
     ensures values { state.new.values ≡ state.old.values }
 {
     put_emptied(text, state.depth, point)?;
@@ -212,6 +223,7 @@ fn put_split(
     ensures state { let s = state_of state.old in
         let cases = cases_at (values_of state.old) s point ++ s.later in
         IfOk result (λ is_going. now_if is_going state.new ≡ entered (suc s.number) cases) }
+    ensures number { OnOk result (state.new.number ≡ state.old.number + 1) }
     ensures values { state.new.values ≡ state.old.values }
 {
     list_values(values, state.left(point))?;

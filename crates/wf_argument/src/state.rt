@@ -115,6 +115,7 @@ impl State {
         ensures state { let s = state_of self.old in
             let cases = cases_at (values_of self.old) s point ++ s.later in
             IfOk result (λ case. begun case self.new ≡ entered s.number cases) }
+        ensures number { self.new.number ≡ self.old.number }
         ensures values { self.new.values ≡ self.old.values }
     {
         let depth = self.depth.saturating_add(1).min(DEEPEST);
@@ -132,6 +133,7 @@ impl State {
         ensures case { IfOk result (λ case. case ≡ first_case (state_of self.old).later) }
         ensures state { let s = state_of self.old in
             IfOk result (λ case. begun case self.new ≡ entered s.number s.later) }
+        ensures number { self.new.number ≡ self.old.number }
         ensures values { self.new.values ≡ self.old.values }
     {
         'back: while let Some(entry) = self.trail.pop() {
@@ -161,6 +163,7 @@ impl State {
         ensures state { let s = state_of self.old in
             let cases = map (case_of (values_of self.old) depth s.gone point) (values_in values) in
             OnOk result (Some (state_of self.new) ≡ entered s.number (cases ++ s.later)) }
+        ensures number { self.new.number ≡ self.old.number }
         ensures values { self.new.values ≡ self.old.values }
     {
         let Some(split) = split_first(values) else {
@@ -186,6 +189,7 @@ impl State {
     fn suppose(&mut self, point: u32, lost: Mask) -> Result<(), AllocError>
         ensures state { OnOk result (state_of self.new
             ≡ losing (state_of self.old) point (map in_this_case (values_in lost))) }
+        ensures number { self.new.number ≡ self.old.number }
         ensures values { self.new.values ≡ self.old.values }
     {
         let mut left = lost;
@@ -201,6 +205,7 @@ impl State {
     fn lose(&mut self, point: u32, loss: Loss) -> Result<(), AllocError>
         ensures state { OnOk result (state_of self.new
             ≡ losing (state_of self.old) point (loss ∷ [])) }
+        ensures number { self.new.number ≡ self.old.number }
         ensures values { self.new.values ≡ self.old.values }
     {
         if (point as usize) < self.gone.len() {

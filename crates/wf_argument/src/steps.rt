@@ -1,17 +1,18 @@
 //! The steps that take values.
 
-ghost use Rattle.std.specs.Prelude.{◌≡◌, ◌<◌, [], ◌++◌, ◌+◌, ◌^◌, codes, get_or, length, slice_get, string_bytes, OnOk};
+ghost use Rattle.std.specs.Prelude.{◌≡◌, ◌<◌, ◌≤◌, [], ◌++◌, ◌+◌, ◌^◌, codes, drop, get_or, length, slice_get, string_bytes, IfOk, OnOk};
 ghost use Rattle.wf_model.specs.Simplex.{processes_of};
 ghost use Rattle.wf_model.specs.Task.{inputs};
 ghost use Rattle.wf_model.specs.Problem.{constraint_at};
 ghost use Rattle.wf_model.specs.Check.{place_of};
 ghost use Rattle.wf_argument.specs.Places.{place_in};
 ghost use Rattle.wf_argument.specs.State.{after_taking, left_at};
-ghost use Rattle.wf_argument.specs.Subject.{IsMatched, executions_in, problem_in};
+ghost use Rattle.wf_argument.specs.Subject.{IsMatched, IsSeat, executions_in, problem_in, state_after, taking_left};
 ghost use Rattle.wf_argument.specs.Text.{claim_text, execution_text, grounds_text, indented, rest_text, told_taking};
 ghost use Rattle.wf_argument.specs.Trail.{state_of, values_of};
 
 use crate::grounds::Grounds;
+use crate::seat::Seat;
 use crate::state::State;
 use crate::subject::Subject;
 use crate::words::{put_any, put_margin, put_needed, put_reasons, put_rest};
@@ -29,8 +30,8 @@ struct Step<'a> {
     points: &'a [u32],
 }
 
-/// Adds a step that takes values from a process in an execution, and takes them. Where it takes no
-/// part there, nothing is said.
+/// Adds the steps that take values from a process in an execution, and takes them. Where it takes
+/// no part there, nothing is said.
 pub(crate) fn put_taking(
     text: &mut String,
     subject: &Subject,
@@ -41,7 +42,7 @@ pub(crate) fn put_taking(
     grounds: &mut Grounds,
 ) -> Result<(), AllocError>
     requires subject { IsMatched subject.now }
-    requires few { state.old.number + 1 < 2 ^ 64 }
+    requires few { state.old.number + length values.now < 2 ^ 64 }
     requires values { values_of state.old ≡ (problem_in subject.now).values }
     ensures text { let p = problem_in subject.now in let s = state_of state.old in
         let at = place_of 0 process (constraint_at p execution).scope in
@@ -63,16 +64,78 @@ pub(crate) fn put_taking(
     };
     let points = protocol.points_of(execution);
     let tuples = subject.task.tuples(number);
-    grounds.take_each(tuples, points, place, values, state)?;
-    let step = Step {
+    let seat = Seat {
         execution,
-        point: points[place as usize],
-        values,
+        place,
         points,
+        tuples,
+    };
+    put_steps(text, subject, &seat, values, state, grounds)?;
+    Ok(())
+}
+
+/// Adds the steps that take values from a process where it takes part, and takes them.
+fn put_steps(
+    text: &mut String,
+    subject: &Subject,
+    seat: &Seat,
+    values: &[u8],
+    state: &mut State,
+    grounds: &mut Grounds,
+) -> Result<(), AllocError>
+    requires subject { IsMatched subject.now }
+    requires seat { IsSeat subject.now seat.now }
+    requires few { state.old.number + length values.now < 2 ^ 64 }
+    requires values { values_of state.old ≡ (problem_in subject.now).values }
+    ensures text { OnOk result (string_bytes text.new
+        ≡ string_bytes text.old ++ taking_left subject.now seat.now state.old values.now) }
+    ensures state { OnOk result (state_of state.new
+        ≡ state_after subject.now seat.now state.old values.now) }
+    ensures values { state.new.values ≡ state.old.values }
+{
+    let mut told = 0;
+    'steps: while told < values.len() {
+        let rest = &values[told..];
+        told += put_next(text, subject, seat, rest, state, grounds)?;
+    }
+    Ok(())
+}
+
+/// Adds the step that takes the first of these values, and takes its values. Answers how many.
+fn put_next(
+    text: &mut String,
+    subject: &Subject,
+    seat: &Seat,
+    values: &[u8],
+    state: &mut State,
+    grounds: &mut Grounds,
+) -> Result<usize, AllocError>
+    requires subject { IsMatched subject.now }
+    requires seat { IsSeat subject.now seat.now }
+    requires some { 0 < length values.now }
+    requires few { state.old.number + 1 < 2 ^ 64 }
+    requires values { values_of state.old ≡ (problem_in subject.now).values }
+    ensures text { let x = subject.now in IfOk result (λ count.
+        string_bytes text.new ++ taking_left x seat.now state.new (drop count values.now)
+        ≡ string_bytes text.old ++ taking_left x seat.now state.old values.now) }
+    ensures state { let x = subject.now in IfOk result (λ count.
+        state_after x seat.now state.new (drop count values.now)
+        ≡ state_after x seat.now state.old values.now) }
+    ensures number { OnOk result (state.new.number ≡ state.old.number + 1) }
+    ensures some { IfOk result (λ count. 0 < count) }
+    ensures within { IfOk result (λ count. count ≤ length values.now) }
+    ensures values { state.new.values ≡ state.old.values }
+{
+    let count = grounds.take_step(seat, values, state)?;
+    let step = Step {
+        execution: seat.execution,
+        point: seat.points[seat.place as usize],
+        values: &values[..count],
+        points: seat.points,
     };
     put_step(text, subject, &step, state, grounds)?;
     state.number += 1;
-    Ok(())
+    Ok(count)
 }
 
 /// The place of a process in an input simplex, if it is there.

@@ -1,6 +1,11 @@
-use Rattle.std.proofs.Common.{◌++◌, map, string_bytes, ap, ◌∙◌}
+use Rattle.std.proofs.Common.{◌++◌, Some, map, string_bytes, ap, ◌∙◌}
 use Rattle.std.specs.List.{count_by}
 use Rattle.wf_lines.specs.Lines.{line_of}
+use Rattle.wf_model.specs.Execution.{executions}
+use Rattle.wf_model.specs.Problem.{problem_of}
+use Rattle.wf_argument.specs.Parts.{parts_of}
+use Rattle.wf_argument.specs.State.{start}
+use Rattle.wf_argument.specs.Text.{parts_text}
 use Rattle.wf_argument.specs.Used.{marked_text, title_of}
 use Rattle.wf_argument.proofs.Usage.{whole}
 use Rattle.wf_argument.proofs.argument.write_argument.Goals as goal
@@ -9,12 +14,12 @@ pub returns : goal.returns
 returns c =
     let t = c.args.task.now in let b = c.args.protocol.now in
     let marks = c.in_ok-executions.executions.items in let points = c.in_ok-points.points.items in
-    let steps = c.step_count.result in let used = c.count.result in let count = c.executions.result in
-    let t0 = string_bytes c.new-text.result in let t2 = string_bytes c.writeln.new.self in
-    whole t b (map line_of c.args.lines.now) marks points steps used count t0 (string_bytes c.put_title.new.text) t2 (string_bytes c.put_points.new.text) (string_bytes c.writeln-2.new.self) (string_bytes c.put_lines.new.text) c.into_bytes.result.items
+    let steps = c.in_ok-steps.steps in let used = c.count.result in let count = c.executions.result in
+    let t0 = string_bytes c.new-text.result in let t2 = string_bytes c.writeln.new.self in let t4 = string_bytes c.writeln-2.new.self in
+    whole t b (map line_of c.args.lines.now) marks points steps used count (string_bytes c.put_lines.new.text) t0 (string_bytes c.put_title.new.text) t2 (string_bytes c.put_points.new.text) t4 (string_bytes c.push_str.new.self) c.into_bytes.result.items
     c.requires
     (record {
-      steps_are = c.step_count.ensures;
+      steps_are = c.in_ok-steps.ensures.steps;
       used_are = c.count.ensures ∙ ap (count_by (λ is_marked. is_marked)) c.as_slice.ensures.value;
       count_is = c.executions.ensures.executions;
       executions_are = c.in_ok-executions.ensures;
@@ -25,5 +30,6 @@ returns c =
     c.in_ok-writeln.ensures.bytes
     (c.in_ok-put_points.ensures ∙ ap (λ marks. t2 ++ marked_text c.symmetric.result marks 0 b.points) c.as_slice-2.ensures.value ∙ ap (λ ranks. t2 ++ marked_text ranks points 0 b.points) c.symmetric.ensures)
     c.in_ok-writeln-2.ensures.bytes
-    c.in_ok-put_lines.ensures
+    (c.in_ok-steps.ensures.text ∙ ap (λ xs. xs ++ parts_text (problem_of t b.rounds) (executions t b.rounds) (Some (start (problem_of t b.rounds))) (parts_of (map line_of c.args.lines.now))) c.new-parts.ensures.bytes)
+    (c.in_ok-push_str.ensures.bytes ∙ ap (λ xs. t4 ++ xs) c.as_str.ensures.value)
     (ap (λ v. v.items) c.into_bytes.ensures.value)

@@ -1,13 +1,14 @@
-use Rattle.std.proofs.Common.{◌∷◌, ◌++◌, suc, Some, drop, map, string_bytes, sym, ap, ◌∙◌}
+use Rattle.std.proofs.Common.{◌∷◌, ◌++◌, ◌+◌, suc, Some, drop, length, map, string_bytes, sym, ap, ◌∙◌, arith}
 use Rattle.wf_model.specs.Check.{place_of}
 use Rattle.wf_model.specs.Problem.{constraint_at}
 use Rattle.wf_lines.specs.Lines.{line_of}
 use Rattle.wf_argument.specs.Parts.{takes, closes, splits, parts_of}
 use Rattle.wf_argument.specs.State.{after_taking, cases_at, entered}
-use Rattle.wf_argument.specs.Subject.{executions_in, problem_in, same_values, to_come}
+use Rattle.wf_argument.specs.Subject.{executions_in, problem_in, same_values, steps_to_come, to_come}
 use Rattle.wf_argument.specs.Text.{split_text, told_taking}
 use Rattle.wf_argument.specs.Trail.{state_of}
-use Rattle.wf_argument.proofs.Parting.{after_one, first_line, one_run, told_part}
+use Rattle.wf_argument.proofs.Parting.{after_one, counted_part, first_line, one_run, steps_after_one, told_part}
+use Rattle.wf_argument.proofs.Stepping.{few_steps, numbered}
 use Rattle.wf_argument.proofs.parts.put_part.Goals as goal
 
 pub returns-in_ok-put_taking-in-Remove-clause-text : goal.returns-in_ok-put_taking-in-Remove-clause-text
@@ -42,4 +43,49 @@ returns-in_ok-is_going-in-Branch-clause-text c =
     ∙ told_part p es s _ (splits v) (parts_of (map line_of lines)) (parts_of (map line_of (drop 1 lines))) (string_bytes c.args.text.now) (string_bytes c.put_split.new.text)
     (ap parts_of (first_line lines _ _ c.requires.some c.in-Branch.is))
     (split.ensures.text ∙ ap (λ values. string_bytes c.args.text.now ++ split_text values s v) c.requires.values)
+    (split.ensures.state ∙ ap (λ values. entered (suc s.number) (cases_at values s v ++ s.later)) c.requires.values)
+
+pub put_taking-requires-in-Remove-clause-few : goal.put_taking-requires-in-Remove-clause-few
+put_taking-requires-in-Remove-clause-few c = let set = c.in_ok-count-in-Remove in omega (arith, c.requires.few, set.ensures.count, set.ensures.within, ap length c.deref.ensures.value)
+
+pub returns-in_ok-put_taking-in-Remove-clause-steps : goal.returns-in_ok-put_taking-in-Remove-clause-steps
+returns-in_ok-put_taking-in-Remove-clause-steps c =
+    let x = c.args.subject.now in let p = problem_in x in
+    let s = state_of c.args.state.now in let lines = c.args.lines.now in
+    let run = c.in-Remove in let e = run.execution in let process = run.process in
+    let set = c.in_ok-count-in-Remove in let taking = c.in_ok-put_taking-in-Remove.ensures in
+    let rest = map line_of (drop 1 lines) in
+    let values = c.deref.ensures.value ∙ set.ensures.values in
+    let at = place_of 0 process (constraint_at p e).scope in
+    let taken = taking.state ∙ ap (λ vs. after_taking p s e vs at) values in
+    counted_part p s (Some (state_of c.put_taking.new.state)) (takes e process (run.value ∷ same_values e process rest)) (parts_of (map line_of lines)) (parts_of (map line_of (drop set.count lines))) _ _
+    (ap parts_of (first_line lines _ _ c.requires.some run.is) ∙ one_run e process run.value rest ∙ ap (λ ls. takes e process (run.value ∷ same_values e process rest) ∷ parts_of ls) (sym set.ensures.after))
+    (ap (λ s. s.number) taken ∙ numbered p s e (run.value ∷ same_values e process rest) at)
+    (ap (λ s. Some s) taken)
+
+pub returns-in_ok-put_taking-in-Remove-clause-number : goal.returns-in_ok-put_taking-in-Remove-clause-number
+returns-in_ok-put_taking-in-Remove-clause-number c =
+    let p = problem_in c.args.subject.now in let s = state_of c.args.state.now in
+    let e = c.in-Remove.execution in let values = c.deref.result.now in
+    let at = place_of 0 c.in-Remove.process (constraint_at p e).scope in
+    let set = c.in_ok-count-in-Remove in let taking = c.in_ok-put_taking-in-Remove.ensures in
+    omega (arith, ap (λ s. s.number) taking.state, numbered p s e values at, few_steps p s e values at, ap length c.deref.ensures.value, set.ensures.count)
+
+pub returns-in_ok-is_going-in-Empty-clause-steps : goal.returns-in_ok-is_going-in-Empty-clause-steps
+returns-in_ok-is_going-in-Empty-clause-steps c =
+    let x = c.args.subject.now in let p = problem_in x in
+    let s = state_of c.args.state.now in let lines = c.args.lines.now in
+    let ended = c.in_ok-is_going-in-Empty in
+    ap (λ n. c.put_end.new.state.number + n) (ap (steps_to_come x lines c.put_end.new.state) c.one_if.ensures ∙ steps_after_one x lines c.put_end.new.state ended.is_going)
+    ∙ counted_part p s _ (closes c.in-Empty.point) (parts_of (map line_of lines)) (parts_of (map line_of (drop 1 lines))) _ _
+    (ap parts_of (first_line lines _ _ c.requires.some c.in-Empty.is)) (omega (arith, ended.ensures.number)) ended.ensures.state
+
+pub returns-in_ok-is_going-in-Branch-clause-steps : goal.returns-in_ok-is_going-in-Branch-clause-steps
+returns-in_ok-is_going-in-Branch-clause-steps c =
+    let x = c.args.subject.now in let p = problem_in x in
+    let s = state_of c.args.state.now in let lines = c.args.lines.now in let v = c.in-Branch.point in
+    let split = c.in_ok-is_going-in-Branch in
+    ap (λ n. c.put_split.new.state.number + n) (ap (steps_to_come x lines c.put_split.new.state) c.one_if-in-Branch.ensures ∙ steps_after_one x lines c.put_split.new.state split.is_going)
+    ∙ counted_part p s _ (splits v) (parts_of (map line_of lines)) (parts_of (map line_of (drop 1 lines))) _ _
+    (ap parts_of (first_line lines _ _ c.requires.some c.in-Branch.is)) split.ensures.number
     (split.ensures.state ∙ ap (λ values. entered (suc s.number) (cases_at values s v ++ s.later)) c.requires.values)

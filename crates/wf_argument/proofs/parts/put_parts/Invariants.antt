@@ -1,11 +1,12 @@
 use Rattle.std.proofs.Common.{◌≡◌, ◌≤◌, ◌++◌, ◌+◌, ◌-◌, length, string_bytes, Some}
-use Rattle.wf_argument.specs.Subject.{problem_in, to_come}
+use Rattle.wf_argument.specs.Subject.{problem_in, steps_to_come, to_come}
 use Rattle.wf_argument.specs.Trail.{values_of}
 use Rattle.wf_argument.proofs.parts.put_parts.Given as goal
 
 abbrev pub invariant-parts : goal.invariant-parts
 invariant-parts l = record {
   text : string_bytes l.text ++ to_come l.subject l.lines l.state (Some l.told) ≡ string_bytes l.initial.text ++ to_come l.subject l.lines l.initial.state (Some 0);
+  steps : l.state.number + steps_to_come l.subject l.lines l.state (Some l.told) ≡ l.initial.state.number + steps_to_come l.subject l.lines l.initial.state (Some 0);
   number : l.state.number ≤ l.told + 1;
   within : l.told ≤ length l.lines;
   values : values_of l.state ≡ (problem_in l.subject).values;

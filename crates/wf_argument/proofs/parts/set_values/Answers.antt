@@ -7,6 +7,9 @@ returns-in_err-push-clause-values c = failed c.from_residual.result _ c.from_res
 pub returns-in_err-push-clause-after : goal.returns-in_err-push-clause-after
 returns-in_err-push-clause-after c = none_given c.from_residual.result _ c.from_residual.ensures.0
 
+pub returns-in_err-push-clause-count : goal.returns-in_err-push-clause-count
+returns-in_err-push-clause-count c = none_given c.from_residual.result _ c.from_residual.ensures.0
+
 pub returns-in_err-push-clause-some : goal.returns-in_err-push-clause-some
 returns-in_err-push-clause-some c = none_given c.from_residual.result _ c.from_residual.ensures.0
 
@@ -18,6 +21,9 @@ returns-in_err-push-2-clause-values c = failed c.from_residual-in_err-push-2.res
 
 pub returns-in_err-push-2-clause-after : goal.returns-in_err-push-2-clause-after
 returns-in_err-push-2-clause-after c = none_given c.from_residual-in_err-push-2.result _ c.from_residual-in_err-push-2.ensures.0
+
+pub returns-in_err-push-2-clause-count : goal.returns-in_err-push-2-clause-count
+returns-in_err-push-2-clause-count c = none_given c.from_residual-in_err-push-2.result _ c.from_residual-in_err-push-2.ensures.0
 
 pub returns-in_err-push-2-clause-some : goal.returns-in_err-push-2-clause-some
 returns-in_err-push-2-clause-some c = none_given c.from_residual-in_err-push-2.result _ c.from_residual-in_err-push-2.ensures.0

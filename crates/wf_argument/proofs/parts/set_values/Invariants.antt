@@ -1,4 +1,4 @@
-use Rattle.std.proofs.Common.{◌≡◌, ◌∷◌, ◌++◌, drop, map}
+use Rattle.std.proofs.Common.{◌≡◌, ◌∷◌, ◌++◌, drop, length, map}
 use Rattle.wf_lines.specs.Lines.{line_of}
 use Rattle.wf_argument.specs.Subject.{after_same, same_values}
 use Rattle.wf_argument.proofs.parts.set_values.Given as goal
@@ -6,5 +6,6 @@ use Rattle.wf_argument.proofs.parts.set_values.Given as goal
 abbrev pub invariant-loop-place : goal.invariant-loop-place
 invariant-loop-place l = record {
   listed : l.values.items ++ same_values l.execution l.process (map line_of (drop l.place l.lines)) ≡ l.first ∷ same_values l.execution l.process (map line_of (drop 1 l.lines));
+  count : l.place ≡ length l.values.items;
   after : after_same l.execution l.process (map line_of (drop l.place l.lines)) ≡ after_same l.execution l.process (map line_of (drop 1 l.lines));
 }

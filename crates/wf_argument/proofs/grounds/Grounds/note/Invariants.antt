@@ -4,6 +4,6 @@ use Rattle.wf_argument.proofs.grounds.Grounds.note.Given as goal
 
 abbrev pub invariant-loop-tuple : goal.invariant-loop-tuple
 invariant-loop-tuple l = record {
-  tuples : l.self.needed.items ++ needed (drop l.tuple-index l.tuples) l.place l.value ≡ l.initial.self.needed.items ++ needed l.tuples l.place l.value;
-  why : with_reasons (map vec_items l.gone) l.points l.self.reasons.items (needed (drop l.tuple-index l.tuples) l.place l.value) ≡ with_reasons (map vec_items l.gone) l.points l.initial.self.reasons.items (needed l.tuples l.place l.value);
+  tuples : l.self.needed.items ++ needed (drop l.tuple-index l.seat.tuples.now) l.seat.place l.value ≡ l.initial.self.needed.items ++ needed l.seat.tuples.now l.seat.place l.value;
+  why : with_reasons (map vec_items l.gone) l.seat.points.now l.self.reasons.items (needed (drop l.tuple-index l.seat.tuples.now) l.seat.place l.value) ≡ with_reasons (map vec_items l.gone) l.seat.points.now l.initial.self.reasons.items (needed l.seat.tuples.now l.seat.place l.value);
 }

@@ -12,5 +12,6 @@ lost-preserved c =
           ∙ losing_twice s v (in_this_case c.in-Some.split.0 ∷ []) rest
           ∙ ap (λ xs. losing s v (map in_this_case xs)) (sym c.in-Some.ensures)
           ∙ c.lost.invariant.state;
+      number = c.in_ok-lose.ensures.number ∙ c.lost.invariant.number;
       values = c.in_ok-lose.ensures.values ∙ c.lost.invariant.values;
     }

@@ -7,6 +7,7 @@ use Rattle.wf_argument.proofs.state.State.suppose.Given as goal
 abbrev pub invariant-lost : goal.invariant-lost
 invariant-lost l = record {
   state : losing (state_of l.self) l.point (map in_this_case (values_in l.left)) ≡ losing (state_of l.initial.self) l.point (map in_this_case (values_in l.initial.left));
+  number : l.self.number ≡ l.initial.self.number;
   values : l.self.values ≡ l.initial.self.values;
 }
 

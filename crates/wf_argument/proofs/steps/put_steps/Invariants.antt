@@ -1,0 +1,15 @@
+use Rattle.std.proofs.Common.{◌≡◌, ◌≤◌, ◌++◌, ◌+◌, ◌-◌, drop, length, string_bytes}
+use Rattle.wf_argument.specs.Subject.{state_after, taking_left}
+use Rattle.wf_argument.proofs.steps.put_steps.Given as goal
+
+abbrev pub invariant-steps : goal.invariant-steps
+invariant-steps l = record {
+  text : string_bytes l.text ++ taking_left l.subject l.seat l.state (drop l.told l.values) ≡ string_bytes l.initial.text ++ taking_left l.subject l.seat l.initial.state l.values;
+  state : state_after l.subject l.seat l.state (drop l.told l.values) ≡ state_after l.subject l.seat l.initial.state l.values;
+  number : l.state.number ≤ l.initial.state.number + l.told;
+  within : l.told ≤ length l.values;
+  values : l.state.values ≡ l.initial.state.values;
+}
+
+abbrev pub decreases-steps : goal.decreases-steps
+decreases-steps l = length l.values - l.told
