@@ -8,7 +8,8 @@ import json
 import random
 import re
 
-import common  # noqa: F401, which finds the modules of gallery/ for checks/fuzz
+import common
+# checks/fuzz has put gallery/ on the path
 import finding
 import lint
 import obstructions
