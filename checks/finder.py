@@ -8,7 +8,8 @@ import json
 import random
 import re
 
-import common  # noqa: F401, which finds the modules of gallery/ for checks/fuzz
+import common
+# checks/fuzz has put gallery/ on the path
 import finding
 import lint
 import obstructions
@@ -18,6 +19,7 @@ PRIMES = [2, 3]
 POWERS = [2, 3, 4, 8, 9]
 # tasks of tests/obstructions, and the moduli of POWERS that have an obstruction
 KEPT = {
+    "modulo-4-alone": [4, 8],
     "modulo-4": [3, 4, 8, 9],
     "modulo-4-symmetric": [3, 4, 8, 9],
     "modulo-9-symmetric": [2, 4, 8, 9],
