@@ -45,8 +45,8 @@ returns-in_ok-is_going-in-Branch-clause-text c =
     (split.ensures.text ∙ ap (λ values. string_bytes c.args.text.now ++ split_text values s v) c.requires.values)
     (split.ensures.state ∙ ap (λ values. entered (suc s.number) (cases_at values s v ++ s.later)) c.requires.values)
 
-pub put_taking-requires-in-Remove-clause-few : goal.put_taking-requires-in-Remove-clause-few
-put_taking-requires-in-Remove-clause-few c = let set = c.in_ok-count-in-Remove in omega (arith, c.requires.few, set.ensures.count, set.ensures.within, ap length c.deref.ensures.value)
+pub put_taking-requires-clause-few : goal.put_taking-requires-clause-few
+put_taking-requires-clause-few c = let set = c.in_ok-count-in-Remove in omega (arith, c.requires.few, set.ensures.count, set.ensures.within, ap length c.deref.ensures.value)
 
 pub returns-in_ok-put_taking-in-Remove-clause-steps : goal.returns-in_ok-put_taking-in-Remove-clause-steps
 returns-in_ok-put_taking-in-Remove-clause-steps c =
