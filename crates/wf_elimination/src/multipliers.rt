@@ -24,7 +24,18 @@ impl Elimination {
         })?;
         let mut owed = Vec::new(alloc);
         owed.resize(self.solved.len(), 0)?;
-        self.owe(&mut owed, found.uses, found.times)?;
+        self.pay_all(found, &mut owed, &mut multipliers)?;
+        Ok(multipliers)
+    }
+
+    /// Adds the multipliers that the uses of a contradiction stand for. Nothing is owed before.
+    fn pay_all(
+        &self,
+        found: Contradiction,
+        owed: &mut Vec<u32>,
+        multipliers: &mut Vec<Multiplier>,
+    ) -> Result<(), EliminationFault> {
+        self.owe(owed, found.uses, found.times)?;
         for (place, solved) in self.solved.iter().enumerate().rev() {
             let Some(factor) = owed.get(place).copied() else {
                 return Err(EliminationFault::Internal);
@@ -32,10 +43,10 @@ impl Elimination {
             if let (true, Some(equation)) = (factor != 0, solved.origin.equation) {
                 let factor = self.undivided(factor, solved.origin)?;
                 multipliers.push(Multiplier { equation, factor })?;
-                self.owe(&mut owed, solved.origin.uses, factor)?;
+                self.owe(owed, solved.origin.uses, factor)?;
             }
         }
-        Ok(multipliers)
+        Ok(())
     }
 
     /// How often the equation that came in stands in so many times the kept one.

@@ -6,7 +6,7 @@ use crate::kept::Solved;
 use crate::row::LEVELS;
 use std::alloc::Global;
 
-/// The value of the constant, which is no unknown number but 1.
+/// The value of the constant.
 const CONSTANT: u32 = 1;
 
 impl Elimination {

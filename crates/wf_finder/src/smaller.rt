@@ -63,13 +63,7 @@ pub(crate) fn first_of(
     ring: Ring,
     candidates: &[Candidate],
 ) -> Result<Option<Answer>, FinderFault> {
-    let mut search = Search {
-        ring,
-        elimination: Elimination::new(alloc, ring)?,
-        keys: keys(alloc, problem, candidates)?,
-        terms: Vec::new(alloc),
-    };
-    search.add_unknowns(problem)?;
+    let mut search = Search::of(alloc, problem, ring, candidates)?;
     match search.contradiction(problem, candidates)? {
         Some(found) => Ok(Some(search.answer(alloc, candidates, found)?)),
         None => Ok(None),
@@ -112,6 +106,23 @@ fn key(class: u32, tuple: u64) -> Term {
 }
 
 impl Search {
+    /// The unknowns for the terms of these tuples, and no equation.
+    fn of(
+        alloc: Global,
+        problem: &Problem,
+        ring: Ring,
+        candidates: &[Candidate],
+    ) -> Result<Search, FinderFault> {
+        let mut search = Search {
+            ring,
+            elimination: Elimination::new(alloc, ring)?,
+            keys: keys(alloc, problem, candidates)?,
+            terms: Vec::new(alloc),
+        };
+        search.add_unknowns(problem)?;
+        Ok(search)
+    }
+
     /// Adds an unknown for each key.
     fn add_unknowns(&mut self, problem: &Problem) -> Result<(), FinderFault> {
         for key in &self.keys {
