@@ -1,5 +1,5 @@
 -- A run that looks for an obstruction of the task of a source, and writes what is found.
-use Rattle.std.specs.Prelude.{◌≡◌, ◌==◌, ◌++◌, ℕ, ⊥, Unit, Bool, true, List, [], ◌∷◌, Option, None, Some, Result, Ok, Err, codes, decimal}
+use Rattle.std.specs.Prelude.{◌≡◌, ◌==◌, ◌++◌, ℕ, Bool, true, List, [], ◌∷◌, Option, None, Some, Result, Ok, Err, codes, decimal}
 use Rattle.wf_model.specs.Lists.{has}
 use Rattle.wf_model.specs.Task.{Task, first_block}
 use Rattle.wf_io.specs.Seen.{Reading, Writing}
@@ -39,7 +39,7 @@ pub record IsWritten (asked : Option ℕ) (t : Task) (text : List ℕ) : Type 0 
 -- an obstruction is the answer if one was found, and otherwise the empty text is
 abbrev pub IsTextOf : Option ℕ → Task → Finding → List ℕ → Type 0
 IsTextOf asked t Found text = IsWritten asked t text
-IsTextOf asked t (NotFound moduli) text = text ≡ []
+IsTextOf asked t (NotFound without) text = text ≡ []
 IsTextOf asked t (GaveUp at) text = text ≡ []
 
 abbrev pub IsAnswer : Option ℕ → Task → Result (Finding × List ℕ) RunFault → Type 0

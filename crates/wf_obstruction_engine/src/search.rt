@@ -38,7 +38,7 @@ pub(crate) fn seek<L: Listener>(
 ) -> Result<Sought, Stopped> {
     let problem = match Problem::of(alloc, task) {
         Ok(problem) => problem,
-        Err(fault) => return Err(stopped(modulus.unwrap_or(MODULI[0]), fault)),
+        Err(fault) => return Err(why_stopped(modulus.unwrap_or(MODULI[0]), fault)),
     };
     let search = Search {
         alloc,
@@ -89,7 +89,7 @@ impl<L: Listener> Search<'_, L> {
         match find_obstruction(self.alloc, self.task, self.problem, modulus, self.listener) {
             Ok(Some(found)) => Ok(Some(obstruction(self.task, modulus, found))),
             Ok(None) => Ok(None),
-            Err(fault) => Err(stopped(modulus, fault)),
+            Err(fault) => Err(why_stopped(modulus, fault)),
         }
     }
 
@@ -117,7 +117,7 @@ fn obstruction(task: &Task, modulus: u32, found: Found) -> Obstruction {
 }
 
 /// Why the finder's fault modulo a number leaves no answer.
-fn stopped(modulus: u32, fault: FinderFault) -> Stopped {
+fn why_stopped(modulus: u32, fault: FinderFault) -> Stopped {
     let limit = match fault {
         FinderFault::OutOfMemory => return Stopped::OutOfMemory,
         FinderFault::TooManyUnknowns { count } => Limit::Unknowns(count),
