@@ -9,6 +9,7 @@ import subprocess
 import sys
 import tempfile
 
+import arrays
 import branches
 import never
 import runs
@@ -47,7 +48,7 @@ def parsed(doc):
     chosen = words.add_mutually_exclusive_group()
     chosen.add_argument("--branch", type=int)
     chosen.add_argument("--share")
-    chosen.add_argument("--array", choices=["slurm"])
+    chosen.add_argument("--array", choices=list(arrays.ENGINES))
     chosen.add_argument("--tally", type=pathlib.Path)
     chosen.add_argument("--recheck", type=pathlib.Path)
     return words, words.parse_args()
@@ -138,6 +139,12 @@ def command(solver, limits):
     return words if status == SATISFIABLE else words.replace(f" {NO_FACTOR}", "")
 
 
+def by_path(solver):
+    """The words of a solver, which is named by its path: a job may have another path to look it up in."""
+    name, *rest = shlex.split(solver)
+    return shlex.join([str(pathlib.Path(shutil.which(name)).absolute()), *rest])
+
+
 def refusal(said, task):
     """What the program says of a question that it refuses, and where that is told in words."""
     if not said.startswith("wfcheck: "):
@@ -173,7 +180,9 @@ def answered(words):
     solver = words.solver or next(filter(shutil.which, SOLVERS), None)
     if not solver and not words.looks:
         print(NO_SOLVER, file=sys.stderr)
-    solver = None if solver in (None, SEARCH_ALONE) or words.looks or words.array else command(solver, words.limits)
+    solver = None if solver in (None, SEARCH_ALONE) or words.looks else command(solver, words.limits)
+    if words.array:
+        return branches.main(words, by_path(solver) if solver else SEARCH_ALONE)
     if words.by_branch:
         return branches.main(words, solver)
     answers = {}

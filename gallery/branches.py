@@ -2,20 +2,20 @@
 import concurrent.futures
 import contextlib
 import functools
-import pathlib
 import re
-import shlex
 import shutil
-import sys
 import threading
 
+import arrays
 import runs
 from notes import Notes, Room, placed
 from questions import Attempt, Question, answered
 from runs import Clock, Late, Refused, Scope, Stopped, Undecided, say
 
 STATUS = {"map": 0, "none": 1, None: 3}
-MOST_JOBS, SHOWN = 1000, 40
+SHOWN = 40
+# among so many of the lowest branches runs begin at different places
+WINDOW = 16
 
 
 class Branches:
@@ -27,15 +27,20 @@ class Branches:
         self.notes = Notes(words.keep, count)
         # what was accepted in this run, by branch
         self.fresh = {}
+        # while a map that another run has noted is looked at
+        self.looks = threading.Lock()
 
     def attempt(self, branch, made, scope):
         question = Question(self.words.task, self.rounds, branch, self.count)
         return Attempt(question, made, scope, Clock(self.words.seconds))
 
     def ask(self, branch, scope):
-        """Asks the solver about a branch, or the search where there is none, and notes what is accepted of it."""
+        """Asks the solver about a branch, or the search where there is none, and notes what is accepted of it. Another run may have decided
+        it meanwhile, or have found a map in a branch below."""
         if note := self.notes.of(branch):
             return note.word
+        if self.map_below(branch, scope) is not None:
+            return None
         with self.room.attempt() as made:
             attempt = self.attempt(branch, made, scope)
             answer = attempt.by_solver(self.solver, self.words.clauses) if self.solver else attempt.by_search()
@@ -43,6 +48,14 @@ class Branches:
                 self.notes.keep(branch, answer, made)
                 self.fresh[branch] = answer.word
             return answer and answer.word
+
+    def map_below(self, branch, scope):
+        """A branch below this one that has a map which is accepted in this run. Such maps are smaller."""
+        with self.looks:
+            for lower, note in self.notes.maps_below(branch):
+                if self.fresh.get(lower) == "map" or self.recheck(lower, note, scope) == "map":
+                    return lower
+        return None
 
     def recheck(self, branch, note, scope):
         """Has what a note names accepted again: a proof, or a part."""
@@ -64,8 +77,10 @@ class Branches:
         def some():
             for branch, call in todo:
                 going[branch] = scope = Scope(self.words.limits)
-                if over.is_set() or runs.CUT_OFF.is_set() or up_to_map and any(it < branch for it in maps):
+                if over.is_set() or runs.CUT_OFF.is_set():
                     return
+                if up_to_map and any(it < branch for it in maps):
+                    continue
                 with contextlib.suppress(Stopped):
                     if answered(f"branch {branch}", functools.partial(call, scope)) == "map":
                         maps.append(branch)
@@ -93,8 +108,15 @@ class Branches:
         maps = {branch: note for branch, note in known.items() if note.word == "map" and branch in chosen}
         self.run({branch: functools.partial(self.recheck, branch, note) for branch, note in maps.items()})
         if "map" not in self.fresh.values():
-            left = [branch for branch in chosen if branch not in known or branch in maps]
+            left = self.turned([branch for branch in chosen if branch not in known or branch in maps])
             self.run({branch: functools.partial(self.ask, branch) for branch in left}, up_to_map=True)
+
+    def turned(self, left):
+        """Branches in the order in which they are asked: the lowest first, but among a few of them each run that is at work in the folder
+        begins at another place."""
+        begin = self.room.place() * (self.words.jobs or 1) % WINDOW
+        windows = [left[at:at + WINDOW] for at in range(0, len(left), WINDOW)]
+        return [branch for window in windows for branch in window[begin:] + window[:begin]]
 
     def recheck_all(self):
         """Has all that is noted accepted again."""
@@ -172,23 +194,6 @@ def branch_count(words):
     return int(found[1])
 
 
-def array(words, count):
-    """The script of an array of jobs, one for each branch or, where these are too many, for a share of them."""
-    jobs = min(count, MOST_JOBS)
-    command = [pathlib.Path(sys.argv[0]).resolve(), words.task.resolve(), words.rounds[0], "--keep", words.keep.resolve()]
-    command += ["--seconds", f"{words.seconds:g}", "--memory", f"{words.memory:g}", "--disk", f"{words.disk:g}", "--clauses", words.clauses]
-    command += ["--solver", words.solver] if words.solver else []
-    command += ["--no-obstruction"] if words.no_obstruction else []
-    which = '--branch "$SLURM_ARRAY_TASK_ID"' if jobs == count else f'--share "$SLURM_ARRAY_TASK_ID/{jobs}"'
-    return "\n".join([
-        "#!/bin/sh",
-        f"#SBATCH --job-name={re.sub('[^a-zA-Z0-9_-]', '-', words.task.stem)}-{words.rounds[0]}",
-        f"#SBATCH --array=0-{jobs - 1}",
-        f"cd {shlex.quote(str(pathlib.Path.cwd()))} || exit 2",
-        f"exec {shlex.join(map(str, command))} {which}",
-    ])
-
-
 def shown(numbers):
     """Numbers in words, those that follow one another as FIRST..LAST, up to a limit."""
     ranges = []
@@ -218,6 +223,10 @@ def of_chosen(branches, chosen):
     decided = [branch for branch in chosen if branch in known]
     maps = [branch for branch in decided if known[branch] == "map"]
     noted = [branch for branch in decided if branch not in branches.fresh]
+    lower = min((branch for branch, word in branches.fresh.items() if word == "map" and branch not in chosen), default=None)
+    undecided = [branch for branch in chosen if branch not in known]
+    if undecided and lower is not None and min(undecided) > lower:
+        return f"map, in branch {lower} of {branches.count}: branches above it are not asked", 0
     if branches.words.branch is not None:
         note = branches.notes.of(chosen[0])
         text = (note.line().strip() if note else known.get(chosen[0], "not decided")) + (", as noted" if noted else "")
@@ -242,7 +251,7 @@ def main(words, solver):
     if words.array:
         if not count:
             raise Refused("there is no branch, so no array is needed: ask without --array")
-        print(array(words, count))
+        print(arrays.array(words, solver, count))
         return 0
     chosen = chosen_of(words, count)
     with Room(None if words.looks else words.keep) as room:

@@ -57,6 +57,10 @@ class Room:
         shutil.rmtree(self.path, ignore_errors=True)
         self.lock.close()
 
+    def place(self):
+        """The place of this run among those that have a room in the folder: 0 for one that is alone there."""
+        return sorted({self.path.name, *(it.name for it in self.keep.glob(f"{ROOMS}*"))}).index(self.path.name) if self.keep else 0
+
     @contextlib.contextmanager
     def attempt(self):
         """A folder for one attempt."""
@@ -117,6 +121,8 @@ class Notes:
         # the SHA-256 of each certificate by what tells that it is the same, so that none is read twice; why a note is not trusted; and the
         # notes whose certificates were refused in this run
         self.seen, self.doubts, self.refused = {}, {}, set()
+        # the branches that were noted to have none
+        self.nones = set()
 
     def about(self, task, rounds, room):
         """Whether the folder is about this question. One that is about none yet is from now on, where there is a room for that."""
@@ -157,6 +163,15 @@ class Notes:
         if key not in self.seen:
             self.seen[key] = digest(file)
         return None if self.seen[key] == note.digest else f"{note.name} has another SHA-256"
+
+    def maps_below(self, branch):
+        """The branches below this one that are noted to have a map, with their notes."""
+        for lower in range(branch):
+            if lower not in self.nones and (note := self.of(lower)):
+                if note.word == "map":
+                    yield lower, note
+                else:
+                    self.nones.add(lower)
 
     def all(self):
         return {branch: note for branch in range(self.count) if (note := self.of(branch))}

@@ -1,5 +1,6 @@
 """A question for `ask`, and one attempt to answer it: by the search or by a SAT solver, and then by the check of what that wrote."""
 import concurrent.futures
+import pathlib
 import re
 import shlex
 import subprocess
@@ -156,10 +157,11 @@ class Attempt:
     def by_solver(self, words, most):
         """A solver's answer, where its model or its proof is accepted."""
         solver = shlex.split(words)
+        who = pathlib.PurePath(solver[0]).name
         try:
             self.write_formula(most)
         except NoFormula as why:
-            self.tell(solver[0], f"is left out: {why}")
+            self.tell(who, f"is left out: {why}")
             return None
         names = {name: str(self.file(kind)) for name, kind in PLACES.items()}
         begun = self.clock.taken()
@@ -167,9 +169,9 @@ class Attempt:
             words = [word.format(**names) for word in solver]
             status = self.scope.run(words, self.clock, stdin=subprocess.DEVNULL, stdout=said, stderr=said)
         if status < 0:
-            self.tell(solver[0], f"has no answer: {runs.Ended(status, '', 0).why()}")
+            self.tell(who, f"has no answer: {runs.Ended(status, '', 0).why()}")
             return None
-        return self.judged(solver[0], self.clock.taken() - begun)
+        return self.judged(who, self.clock.taken() - begun)
 
     def judged(self, name, taken):
         """The answer of a solver that has ended, where it is accepted."""
