@@ -2,18 +2,24 @@
 import concurrent.futures
 import contextlib
 import functools
+import os
+import pathlib
 import re
 import shutil
+import tempfile
 import threading
+import typing
 
 import arrays
 import runs
-from notes import Notes, Room, placed
-from questions import Attempt, Question, answered
+from notes import Notes, Room, digest, placed
+from questions import WITHOUT_LINES, Attempt, Question, answered
 from runs import Clock, Late, Refused, Scope, Stopped, Undecided, say
 
 STATUS = {"map": 0, "none": 1, None: 3}
 SHOWN = 40
+# what share of the points is open in a branch that is nearly as large as the whole
+LARGE, OPEN = 0.9, re.compile(r"^branch \d+ (\d+) \d+$", re.M)
 # among so many of the lowest branches runs begin at different places
 WINDOW = 16
 
@@ -59,6 +65,9 @@ class Branches:
 
     def recheck(self, branch, note, scope):
         """Has what a note names accepted again: a proof, or a part."""
+        if not note.has_lines():
+            say(f"    branch {branch}: {note.who} can't be checked again")
+            return None
         with self.room.attempt() as made:
             name = self.words.keep / note.name
             word = self.attempt(branch, made, scope).accepted("proof" if name.suffix == ".drat" else "verify", name)
@@ -129,6 +138,10 @@ class Branches:
         for branch, why in self.notes.doubts.items():
             say(f"    the note of branch {branch} is not trusted: {why}")
 
+    def without_lines(self):
+        """The branches of which the search's answer alone is noted."""
+        return [branch for branch, note in self.notes.all().items() if not note.has_lines()]
+
     def known(self):
         """What is accepted in this run or noted, by branch."""
         return {branch: note.word for branch, note in self.notes.all().items()} | self.fresh
@@ -136,19 +149,25 @@ class Branches:
     def told(self, known):
         """What is known comes to, in words, and the answer. What was not checked in this run is told as noted."""
         maps = [branch for branch, word in known.items() if word == "map"]
-        nones = len(known) - len(maps)
-        noted = sum(branch not in self.fresh for branch in known if branch not in maps)
         if not self.count:
             return "none: the question has no branch", "none"
         if maps:
             checked = [branch for branch in maps if branch in self.fresh]
             return f"map, in branch {min(checked or maps)} of {self.count}" + ("" if checked else ", as noted"), "map"
-        if nones < self.count:
-            return f"not decided: none in {nones} of {self.count} branches{as_noted(noted)}, and nothing is known of the others", None
-        if noted == nones:
-            return f"none: each of {self.count} branches as noted, and not checked in this run", "none"
-        some, others = (f"{nones - noted}", f", the other {noted} as noted") if noted else ("each", "")
-        return f"none: {some} of {self.count} branches by a proof or a refutation that is accepted{others}", "none"
+        noted, unseen = [branch for branch in known if branch not in self.fresh], self.without_lines()
+        if len(known) < self.count:
+            others = "nothing is known of the others"
+            if left := [branch for branch in unseen if branch not in known]:
+                others = f"of {len(left)} others the search's answer alone, which has no lines and can't be checked again"
+            known_of = f"{as_noted(len(noted))}{alone(unseen, known)}"
+            return f"not decided: none in {len(known)} of {self.count} branches{known_of}, and {others}", None
+        if len(noted) == self.count:
+            return f"none: each of {self.count} branches as noted{alone(unseen, noted)}, and not checked in this run", "none"
+        fresh = [branch for branch in unseen if branch in self.fresh]
+        others = [f"{len(noted)} as noted{alone(unseen, noted)}"] * bool(noted) + [f"{len(fresh)} by {WITHOUT_LINES}"] * bool(fresh)
+        some = f"{self.count - len(noted) - len(fresh)}" if others else "each"
+        accepted = f"none: {some} of {self.count} branches by a proof or a refutation that is accepted"
+        return accepted + f", the other {', and '.join(others)}" * bool(others), "none"
 
     def join(self):
         """Puts the parts together where the search wrote one of each branch up to the first with a map: the report of the whole question,
@@ -180,18 +199,39 @@ def as_noted(number):
     return f", {number} of them as noted" if number else ""
 
 
-def branch_count(words):
-    """How many branches there are."""
-    try:
-        ended = Scope(words.limits).wfcheck(["branches", "--rounds", words.rounds[0]], Clock(words.seconds), words.task)
-    except Late:
-        raise Undecided(f"the branches are not listed within {words.seconds:g} s")
-    if ended.status == 2:
-        raise Refused(ended.said)
-    found = re.search(r"^branches (\d+)$", ended.said, re.M)
-    if ended.status or not found:
+def alone(unseen, known):
+    """How many of some branches are known by the search's answer alone, in words."""
+    number = sum(branch in known for branch in unseen)
+    return f", {number} of them by {WITHOUT_LINES}" if number else ""
+
+
+class Listed(typing.NamedTuple):
+    """How many branches there are, how many points, in how many branches most of these are open, and what tells which question it is."""
+    count: int
+    points: int
+    large: int
+    about: dict
+
+
+def listed(words):
+    """What `wfcheck branches` lists, and what the program says of itself."""
+    scope, clock = Scope(words.limits), Clock(words.seconds)
+    with tempfile.TemporaryDirectory() as made:
+        file = pathlib.Path(made) / "branches"
+        try:
+            ended = scope.wfcheck(["branches", "--rounds", words.rounds[0]], clock, words.task, file)
+            version = scope.wfcheck(["--version"], clock, os.devnull)
+        except Late:
+            raise Undecided(f"the branches are not listed within {words.seconds:g} s")
+        if ended.status == 2:
+            raise Refused(ended.said)
+        text, branches = file.read_text(errors="replace"), digest(file)
+    count, points = (re.search(rf"^{name} (\d+)$", text, re.M) for name in ("branches", "points"))
+    if ended.status or not count or not points:
         raise Undecided(f"the branches are not listed: {ended.why()}")
-    return int(found[1])
+    large = sum(int(it) >= LARGE * int(points[1]) for it in OPEN.findall(text))
+    about = {"task": digest(words.task), "rounds": words.rounds[0], "branches": branches, "program": version.said.strip()}
+    return Listed(int(count[1]), int(points[1]), large, about)
 
 
 def shown(numbers):
@@ -213,6 +253,8 @@ def tally(branches):
     for word in ("map", "none"):
         if found := [branch for branch, it in known.items() if it == word]:
             say(f"    {word}: {len(found)} of {branches.count} branches: {shown(found)}")
+    if unseen := branches.without_lines():
+        say(f"    by {WITHOUT_LINES}: {len(unseen)} of {branches.count} branches: {shown(unseen)}")
     if missing := [branch for branch in range(branches.count) if branch not in known]:
         say(f"    missing: {len(missing)} of {branches.count} branches: {shown(missing)}")
 
@@ -233,7 +275,7 @@ def of_chosen(branches, chosen):
     elif maps:
         text = f"map, in branch {min(maps)} of {branches.count}" + (", as noted" if min(maps) in noted else "")
     else:
-        text = f"none in {len(decided)} of the {len(chosen)} branches of this share{as_noted(len(noted))}"
+        text = f"none in {len(decided)} of the {len(chosen)} branches of this share{as_noted(len(noted))}{alone(branches.without_lines(), decided)}"
     return text, 0 if maps or len(decided) == len(chosen) else STATUS[None]
 
 
@@ -247,7 +289,8 @@ def chosen_of(words, count):
 
 
 def main(words, solver):
-    count = branch_count(words)
+    question = listed(words)
+    count = question.count
     if words.array:
         if not count:
             raise Refused("there is no branch, so no array is needed: ask without --array")
@@ -256,8 +299,8 @@ def main(words, solver):
     chosen = chosen_of(words, count)
     with Room(None if words.looks else words.keep) as room:
         branches = Branches(words, solver, room, count)
-        if not branches.notes.about(words.task, branches.rounds, None if words.looks else room):
-            raise Refused(f"{words.keep} has no notes about this question: choose another folder")
+        if why := branches.notes.not_about(question.about, None if words.looks else room):
+            raise Refused(f"{words.keep} {why}: choose another folder")
         rounds = "round" if branches.rounds == 1 else "rounds"
         say(f"{words.task.stem} after {branches.rounds} {rounds}, {count} branches, {len(branches.notes.all())} of them known:")
         if words.tally:

@@ -17,6 +17,9 @@ import typing
 
 from runs import say
 
+VERDICT = "verdict"
+# what tells one question from another, in words
+NAMES = {"rounds": "number of rounds", "branches": "list of branches", "program": "version of the program"}
 ROOMS, LOCK = ".ask-", "lock"
 LINE = re.compile(
     r"(?P<word>map|none), by (?P<who>.*) in (?P<taken>[\d.]+) s, "
@@ -109,6 +112,10 @@ class Note(typing.NamedTuple):
     digest: str
     name: str
 
+    def has_lines(self):
+        """Whether the certificate can be checked again: the search's answer alone can't be."""
+        return self.word != "none" or not self.name.endswith(f".{VERDICT}")
+
     def line(self):
         return f"{self.word}, by {self.who} in {self.taken} s, {self.size} bytes with SHA-256 {self.digest} in {self.name}\n"
 
@@ -124,16 +131,26 @@ class Notes:
         # the branches that were noted to have none
         self.nones = set()
 
-    def about(self, task, rounds, room):
-        """Whether the folder is about this question. One that is about none yet is from now on, where there is a room for that."""
-        about = f"{digest(task)} {rounds} {self.count}\n"
+    def not_about(self, about, room):
+        """Why the folder is not about this question, by the names and words that say which one it is; None where it is. A folder that is about
+        none yet is about this one from now on, where there is a room for that."""
+        text, file = "".join(f"{name} {it}\n" for name, it in about.items()), self.folder / "question"
         if room:
             with room.attempt() as made:
-                (made / "question").write_text(about)
+                (made / "question").write_text(text)
                 with contextlib.suppress(FileExistsError):
-                    os.link(made / "question", self.folder / "question")
-        file = self.folder / "question"
-        return file.is_file() and file.read_text(**TEXT) == about
+                    os.link(made / "question", file)
+        if not file.is_file():
+            return "has no notes"
+        with open(file, **TEXT) as lines:
+            found = lines.read(1 << 14)
+        if found == text:
+            return None
+        words = dict(line.split(" ", 1) for line in found.split("\n") if " " in line)
+        other = next((name for name in about if name in words and words[name] != str(about[name])), None)
+        if other and words.keys() == about.keys():
+            return f"has notes about another {NAMES.get(other, other)}: {words[other]}, and not {about[other]}"
+        return "has notes about another question, or of an older version of this script"
 
     def of(self, branch):
         """The note of a branch; None where there is none that is to be trusted."""

@@ -7,6 +7,7 @@ import subprocess
 import typing
 
 import runs
+from notes import VERDICT
 from runs import Clock, Late, Refused, say
 
 SEARCH = "the search"
@@ -15,6 +16,8 @@ FEWER_ROUNDS = "the search after fewer rounds"
 SHARE = 0.1
 CLAUSES = re.compile(rb"^p cnf \d+ (\d+)$", re.M)
 HEAD = 1 << 14
+# how many bytes of a report `verify` reads; and who gives an answer that has no lines
+LONGEST, WITHOUT_LINES = 16_777_216, "the search's answer, without lines"
 EMPTY = re.compile(rb"\n(?=\n)")
 SAYS = re.compile(rb"(?:s )?(UN)?SAT(?:ISFIABLE)?\s*")
 PLACES = {"formula": "cnf", "proof": "drat", "output": "out"}
@@ -97,12 +100,25 @@ class Attempt:
             return None
         word = "none" if ended.status else "map"
         self.tell(SEARCH, f"says {word} in {ended.taken:.2f} s")
+        if not is_whole and word == "none" and report.stat().st_size > LONGEST:
+            return self.without_lines(report.stat().st_size)
         if is_whole and word == "none":
             report.unlink()
             if not self.has_lines(report):
                 return None
         accepted = self.accepted("verify", report)
         return Answer(word, SEARCH, ended.taken, [report]) if accepted == word else None
+
+    def without_lines(self, size):
+        """The search's answer alone, where the lines of a branch's refutation are more than `verify` reads. It is asked for by itself, with as
+        much time again, and nothing else is accepted: that it holds is what the program's contract says."""
+        self.tell(SEARCH, f"has written {size:,} bytes, and `verify` reads {LONGEST:,}: it is asked for the answer without lines")
+        verdict, self.clock = self.file(VERDICT), Clock(self.clock.seconds)
+        ended = self.solve(verdict, "--verdict")
+        text = verdict.read_text(errors="replace") if verdict.stat().st_size < HEAD else ""
+        is_none = ended.status == 1 and text.startswith(self.question.head()) and text.endswith("\nanswer none\nend\n")
+        self.tell(WITHOUT_LINES, f"says none in {ended.taken:.2f} s" if is_none else f"is missing: {ended.why()}")
+        return Answer("none", WITHOUT_LINES, ended.taken, [verdict]) if is_none else None
 
     def has_lines(self, report):
         """Has the search write the lines of its refutation, and says why where it doesn't."""
