@@ -13,7 +13,7 @@ import typing
 import arrays
 import runs
 from notes import Notes, Room, digest, placed
-from questions import WITHOUT_LINES, Attempt, Question, answered
+from questions import LONGEST, WITHOUT_LINES, Attempt, Question, answered
 from runs import Clock, Late, Refused, Scope, Stopped, Undecided, say
 
 STATUS = {"map": 0, "none": 1, None: 3}
@@ -169,6 +169,14 @@ class Branches:
         accepted = f"none: {some} of {self.count} branches by a proof or a refutation that is accepted"
         return accepted + f", the other {', and '.join(others)}" * bool(others), "none"
 
+    def verify(self, whole):
+        """Has the report of the whole accepted once more, where it is not longer than `verify` reads."""
+        size = whole.file("report").stat().st_size
+        if size > LONGEST:
+            say(f"    the report of the whole has {size:,} bytes, and wfcheck verify reads {LONGEST:,}: wfcheck join has checked it")
+        else:
+            whole.accepted("verify", whole.file("report"))
+
     def join(self):
         """Puts the parts together where the search wrote one of each branch up to the first with a map: the report of the whole question,
         which is checked. Where a solver was asked about some of them there is none."""
@@ -191,7 +199,7 @@ class Branches:
                 placed(whole.file("report"), self.words.keep)
                 # `join` has checked all that it joined, also what was noted before
                 self.fresh |= {branch: known[branch].word for branch in range(first_map + 1)}
-                whole.accepted("verify", whole.file("report"))
+                self.verify(whole)
 
 
 def as_noted(number):

@@ -13,11 +13,13 @@ import pathlib
 import re
 import shutil
 import tempfile
+import time
 import typing
 
-from runs import say
+from runs import not_cut_off, say
 
 VERDICT = "verdict"
+TRIES, PAUSE = 20, 0.05
 # what tells one question from another, in words
 NAMES = {"rounds": "number of rounds", "branches": "list of branches", "program": "version of the program"}
 ROOMS, LOCK = ".ask-", "lock"
@@ -33,6 +35,7 @@ def digest(file):
     found = hashlib.sha256()
     with open(file, "rb") as text:
         while piece := text.read(1 << 20):
+            not_cut_off()
             found.update(piece)
     return found.hexdigest()
 
@@ -57,7 +60,7 @@ class Room:
         return self
 
     def __exit__(self, *_):
-        shutil.rmtree(self.path, ignore_errors=True)
+        clear(self.path)
         self.lock.close()
 
     def place(self):
@@ -71,7 +74,16 @@ class Room:
         try:
             yield path
         finally:
-            shutil.rmtree(path, ignore_errors=True)
+            clear(path)
+
+
+def clear(folder):
+    """Takes a folder away. What was killed may have written there until a moment ago, so it is tried again."""
+    for _ in range(TRIES):
+        shutil.rmtree(folder, ignore_errors=True)
+        if not folder.exists():
+            return
+        time.sleep(PAUSE)
 
 
 def sweep(room):
@@ -80,7 +92,7 @@ def sweep(room):
         with open(os.open(room / LOCK, os.O_RDWR | os.O_NOFOLLOW)) as lock:
             if lock.read(1 << 10).strip() == os.uname().nodename:
                 fcntl.flock(lock, fcntl.LOCK_EX | fcntl.LOCK_NB)
-                shutil.rmtree(room, ignore_errors=True)
+                clear(room)
 
 
 def placed(file, folder):
@@ -158,10 +170,12 @@ class Notes:
         try:
             with open(self.folder / f"branch-{branch}", **TEXT) as file:
                 found = LINE.fullmatch(file.read(1 << 14))
+            note = Note(**{**found.groupdict(), "size": int(found["size"])}) if found else None
+            doubt = self.doubt(note) if note else "it names no certificate"
         except FileNotFoundError:
             return None
-        note = Note(**{**found.groupdict(), "size": int(found["size"])}) if found else None
-        doubt = self.doubt(note) if note else "it names no certificate"
+        except OSError as error:
+            doubt = str(error)
         if doubt:
             self.doubts[branch] = doubt
         return None if doubt else note

@@ -197,6 +197,7 @@ class Attempt:
             return self.of_model(name, taken, text)
         if says == "none" and self.file("drat").is_file():
             return self.of_proof(name, taken)
+        self.scope.settle()
         self.tell(name, "says none, and writes no proof that could be checked" if says else "says nothing")
         return None
 

@@ -22,6 +22,8 @@ TOLD = 1 << 20
 ENDING = (signal.SIGHUP, signal.SIGINT, signal.SIGTERM)
 SHELL, DIE_WITH_PARENT = 128, 1
 LONGEST_PAUSE = 0.01
+# in seconds: how long after a child this run may get a signal that both get
+GRACE = 0.5
 LIBC = ctypes.CDLL(None)
 CUT_OFF = threading.Event()
 
@@ -63,6 +65,12 @@ class Ended(typing.NamedTuple):
         return self.said.strip() or f"it ended with status {self.status}"
 
 
+def not_cut_off():
+    """Raises Stopped once the run was cut off."""
+    if CUT_OFF.is_set():
+        raise Stopped
+
+
 class Clock:
     """The time of one question, of which the search, the solver and the checks take their parts."""
 
@@ -73,7 +81,8 @@ class Clock:
         return time.monotonic() - self.begun
 
     def go_on(self):
-        """Raises Late once the time is over."""
+        """Raises Late once the time is over, and Stopped once the run was cut off."""
+        not_cut_off()
         if self.taken() >= self.seconds:
             raise Late
 
@@ -89,8 +98,14 @@ class Scope:
 
     def go_on(self):
         """Raises Stopped once the scope has ended or the run was cut off."""
-        if self.ended.is_set() or CUT_OFF.is_set():
+        not_cut_off()
+        if self.ended.is_set():
             raise Stopped
+
+    def settle(self):
+        """Waits a moment where a child ended without an answer: it may have met a signal that this run gets, too. Raises Stopped then."""
+        CUT_OFF.wait(GRACE)
+        self.go_on()
 
     def run(self, words, clock, **how):
         """Runs a program, as `Child.wait` does, and returns its status."""
