@@ -13,6 +13,7 @@ import arrays
 import branches
 import never
 import runs
+import table
 from notes import Room, keep
 from questions import FEWER_ROUNDS, PLACES, SEARCH, Attempt, Question, first
 from runs import Clock, Late, Limits, Refused, Scope, Stopped, Undecided, say
@@ -45,6 +46,7 @@ def parsed(doc):
     words.add_argument("--keep", type=pathlib.Path)
     words.add_argument("--no-obstruction", action="store_true")
     words.add_argument("--jobs", type=int)
+    words.add_argument("--table", type=pathlib.Path)
     chosen = words.add_mutually_exclusive_group()
     chosen.add_argument("--branch", type=int)
     chosen.add_argument("--share")
@@ -94,6 +96,9 @@ def judge_numbers(words, found):
             words.error(f"--{name} is to be above 0, and below 1,000,000,000")
     if found.clauses < 0:
         words.error("--clauses is to be 0 or more")
+    if found.table and (found.branch is not None or found.share or found.array or found.tally):
+        words.error("--table is about whole questions that are asked, and not about --branch, --share, --array or --tally")
+    found.table = table.Table(found.table)
     found.limits = Limits(int(found.memory * GB), int(found.disk * GB))
 
 
@@ -182,15 +187,17 @@ def answered(words):
         print(NO_SOLVER, file=sys.stderr)
     solver = None if solver in (None, SEARCH_ALONE) or words.looks else command(solver, words.limits)
     if words.array:
-        return branches.main(words, by_path(solver) if solver else SEARCH_ALONE)
+        return branches.main(words, by_path(solver) if solver else SEARCH_ALONE, Clock(words.seconds))
     if words.by_branch:
-        return branches.main(words, solver)
+        return branches.main(words, solver, Clock(words.seconds))
     answers = {}
     with Room(words.keep) as room:
         for rounds in words.rounds:
             say(f"{words.task.stem} after {rounds} {'round' if rounds == 1 else 'rounds'}:")
             clock = Clock(words.seconds)
-            answers[rounds] = answer = decided(words, rounds, solver, room, clock)
+            answers[rounds], certificate = decided(words, rounds, solver, room, clock)
+            answer = answers[rounds]
+            words.table.add(words.task, rounds, answer, certificate, clock.taken())
             say(f"    {answer or 'not decided' + (f' within {words.seconds:g} s' if clock.taken() >= words.seconds else '')}")
             if answer == "map":
                 break
@@ -223,7 +230,7 @@ def summary(answers):
 
 
 def decided(words, rounds, solver, room, clock):
-    """The answer of the first that has one within the limit, and None where nobody has."""
+    """The answer of the first that has one within the limit, and its certificate as a table has it; None for both where nobody has."""
     with room.attempt() as made:
         scope = Scope(words.limits)
         attempt = Attempt(Question(words.task, rounds), made, scope, clock)
@@ -235,4 +242,4 @@ def decided(words, rounds, solver, room, clock):
         answer = first(scope, those)
         for file in answer.files if answer and words.keep else []:
             keep(file, words.keep)
-    return answer and answer.word
+        return (answer.word, table.of_file(answer.files[0])) if answer else (None, None)

@@ -6,12 +6,14 @@ import os
 import pathlib
 import re
 import shutil
+import sys
 import tempfile
 import threading
 import typing
 
 import arrays
 import runs
+import table
 from notes import Notes, Room, digest, placed
 from questions import LONGEST, WITHOUT_LINES, Attempt, Question, answered
 from runs import Clock, Late, Refused, Scope, Stopped, Undecided, say
@@ -33,6 +35,10 @@ class Branches:
         self.notes = Notes(words.keep, count)
         # what was accepted in this run, by branch
         self.fresh = {}
+        # the branches that had no end in their time
+        self.late = []
+        # the report that the parts were joined to
+        self.joined = None
         # while a map that another run has noted is looked at
         self.looks = threading.Lock()
 
@@ -49,7 +55,11 @@ class Branches:
             return None
         with self.room.attempt() as made:
             attempt = self.attempt(branch, made, scope)
-            answer = attempt.by_solver(self.solver, self.words.clauses) if self.solver else attempt.by_search()
+            try:
+                answer = attempt.by_solver(self.solver, self.words.clauses) if self.solver else attempt.by_search()
+            except Late:
+                self.late.append(branch)
+                raise
             if answer:
                 self.notes.keep(branch, answer, made)
                 self.fresh[branch] = answer.word
@@ -81,19 +91,22 @@ class Branches:
     def run(self, calls, up_to_map=False):
         """Has so many branches at once decided, in their order, each by a call that gets a scope. Where a map is enough, one ends all that
         goes on behind it; branches before it go on, since their maps are smaller."""
-        todo, going, maps, over = iter(calls.items()), {}, [], threading.Event()
+        todo, going, maps, over, done = iter(calls.items()), {}, [], threading.Event(), []
 
         def some():
             for branch, call in todo:
-                going[branch] = scope = Scope(self.words.limits)
                 if over.is_set() or runs.CUT_OFF.is_set():
                     return
+                going[branch] = scope = Scope(self.words.limits)
+                # a map that comes from now on ends the scope
                 if up_to_map and any(it < branch for it in maps):
-                    continue
+                    scope.end()
                 with contextlib.suppress(Stopped):
                     if answered(f"branch {branch}", functools.partial(call, scope)) == "map":
                         maps.append(branch)
                         end(lambda it: up_to_map and it > branch)
+                del going[branch]
+                done.append(branch)
 
         def end(is_over):
             for branch, scope in list(going.items()):
@@ -101,7 +114,8 @@ class Branches:
                     scope.end()
 
         many = self.words.jobs or 1
-        with concurrent.futures.ThreadPoolExecutor(many) as pool:
+        told = runs.telling(lambda: f"{len(done)} of {len(calls)} branches are done, and these go on: {shown(sorted([*going]))}")
+        with concurrent.futures.ThreadPoolExecutor(many) as pool, told:
             try:
                 for job in concurrent.futures.as_completed([pool.submit(some) for _ in range(many)]):
                     job.result()
@@ -119,6 +133,8 @@ class Branches:
         if "map" not in self.fresh.values():
             left = self.turned([branch for branch in chosen if branch not in known or branch in maps])
             self.run({branch: functools.partial(self.ask, branch) for branch in left}, up_to_map=True)
+        if self.late:
+            say(f"    no end within the {self.words.seconds:g} s of a branch: {shown(sorted(self.late))}")
 
     def turned(self, left):
         """Branches in the order in which they are asked: the lowest first, but among a few of them each run that is at work in the folder
@@ -169,6 +185,21 @@ class Branches:
         accepted = f"none: {some} of {self.count} branches by a proof or a refutation that is accepted"
         return accepted + f", the other {', and '.join(others)}" * bool(others), "none"
 
+    def in_table(self, answer, known):
+        """The answer in a table, with what it rests on where that was not checked in this run."""
+        if answer != "none":
+            return answer
+        noted, alone_ = any(branch not in self.fresh for branch in known), any(branch in known for branch in self.without_lines())
+        return answer + ", as noted" * noted + ", partly without lines" * alone_
+
+    def certificate(self, answer):
+        """The report that the parts were joined to, or where there is none the certificates of all branches, or that of the map."""
+        notes = self.notes.all()
+        if self.joined or not answer or not notes:
+            return table.of_file(self.joined) if self.joined else None
+        least = next((branch for branch, note in notes.items() if note.word == "map"), None)
+        return table.of_notes(notes.values()) if least is None else table.of_file(self.words.keep / notes[least].name)
+
     def verify(self, whole):
         """Has the report of the whole accepted once more, where it is not longer than `verify` reads."""
         size = whole.file("report").stat().st_size
@@ -196,7 +227,7 @@ class Branches:
             ended = whole.wfcheck(["join", *whole.question.about], whole.file("parts"), whole.file("report"))
             say(f"    wfcheck join: {'the report of the whole' if ended.status == 0 else ended.why()} ({ended.taken:.2f} s)")
             if ended.status == 0:
-                placed(whole.file("report"), self.words.keep)
+                self.joined = placed(whole.file("report"), self.words.keep)
                 # `join` has checked all that it joined, also what was noted before
                 self.fresh |= {branch: known[branch].word for branch in range(first_map + 1)}
                 self.verify(whole)
@@ -219,6 +250,13 @@ class Listed(typing.NamedTuple):
     points: int
     large: int
     about: dict
+
+    def is_doubtful(self):
+        return 2 * self.large > self.count > 1
+
+    def doubt(self):
+        """Why branches may not help."""
+        return f"nearly all of the {self.points:,} points are open in {self.large} of {self.count} branches: each may take as long as the whole"
 
 
 def listed(words):
@@ -296,34 +334,47 @@ def chosen_of(words, count):
     return range(words.share[0], count, words.share[1]) if words.share else range(count)
 
 
-def main(words, solver):
+def write_array(words, solver, question):
+    """Writes the script of an array of jobs."""
+    if not question.count:
+        raise Refused("there is no branch, so no array is needed: ask without --array")
+    if question.is_doubtful():
+        print(question.doubt(), file=sys.stderr)
+    print(arrays.array(words, solver, question.count))
+
+
+def main(words, solver, clock):
+    """Asks about branches, or looks at what is known of them, and returns the status."""
     question = listed(words)
-    count = question.count
     if words.array:
-        if not count:
-            raise Refused("there is no branch, so no array is needed: ask without --array")
-        print(arrays.array(words, solver, count))
+        write_array(words, solver, question)
         return 0
-    chosen = chosen_of(words, count)
+    chosen = chosen_of(words, question.count)
     with Room(None if words.looks else words.keep) as room:
-        branches = Branches(words, solver, room, count)
+        branches = Branches(words, solver, room, question.count)
         if why := branches.notes.not_about(question.about, None if words.looks else room):
             raise Refused(f"{words.keep} {why}: choose another folder")
         rounds = "round" if branches.rounds == 1 else "rounds"
-        say(f"{words.task.stem} after {branches.rounds} {rounds}, {count} branches, {len(branches.notes.all())} of them known:")
+        say(f"{words.task.stem} after {branches.rounds} {rounds}, {question.count} branches, {len(branches.notes.all())} of them known:")
         if words.tally:
             tally(branches)
             return ended(*branches.told(branches.known()))
         if words.recheck:
             branches.recheck_all()
-            return ended(*branches.told(dict(sorted(branches.fresh.items()))))
-        branches.ask_all(chosen)
-        if words.branch is not None or words.share:
-            text, status = of_chosen(branches, chosen)
-            say(f"    {text}")
-            return status
-        answered("wfcheck join", branches.join)
-        return ended(*branches.told(branches.known()))
+            known = dict(sorted(branches.fresh.items()))
+        else:
+            if question.is_doubtful():
+                say(f"    {question.doubt()}")
+            branches.ask_all(chosen)
+            if words.branch is not None or words.share:
+                text, status = of_chosen(branches, chosen)
+                say(f"    {text}")
+                return status
+            answered("wfcheck join", branches.join)
+            known = branches.known()
+        text, answer = branches.told(known)
+        words.table.add(words.task, branches.rounds, branches.in_table(answer, known), branches.certificate(answer), clock.taken())
+        return ended(text, answer)
 
 
 def ended(text, answer):

@@ -2,6 +2,7 @@
 
 Nothing that was started goes on once its question is answered, its time is over or the run is cut off: then its whole group is killed,
 and so it is where the program itself has ended and a child of it goes on."""
+import contextlib
 import ctypes
 import os
 import pathlib
@@ -26,6 +27,10 @@ LONGEST_PAUSE = 0.01
 GRACE = 0.5
 LIBC = ctypes.CDLL(None)
 CUT_OFF = threading.Event()
+# so that lines of several threads don't mix
+ONE_LINE = threading.Lock()
+# in seconds: how often it is told what goes on
+PERIOD = 2
 
 
 class Stopped(Exception):
@@ -170,10 +175,32 @@ def limited(limits):
 def say(text):
     """Prints a line at once. Where that fails, nobody would see the answer, and the run ends."""
     try:
-        print(text, flush=True)
+        with ONE_LINE:
+            sys.stdout.write(f"{text}\n")
+            sys.stdout.flush()
     except OSError as error:
         sys.stdout = open(os.devnull, "w")
         raise Undecided(f"what there is to say can't be written: {error}")
+
+
+@contextlib.contextmanager
+def telling(what):
+    """Tells what goes on, as a call says it, again and again where standard error is a terminal."""
+    over = threading.Event()
+
+    def tell():
+        while not over.wait(PERIOD):
+            with contextlib.suppress(OSError), ONE_LINE:
+                sys.stderr.write(f"    .. {what()}\n")
+                sys.stderr.flush()
+
+    teller = threading.Thread(target=tell, daemon=True)
+    if sys.stderr.isatty():
+        teller.start()
+    try:
+        yield
+    finally:
+        over.set()
 
 
 def pieces(file, clock):
