@@ -147,7 +147,8 @@ def command(solver, limits):
 def by_path(solver):
     """The words of a solver, which is named by its path: a job may have another path to look it up in."""
     name, *rest = shlex.split(solver)
-    return shlex.join([str(pathlib.Path(shutil.which(name)).absolute()), *rest])
+    path = str(pathlib.Path(shutil.which(name)).absolute())
+    return " ".join(word if re.fullmatch(r"[\w./=+{}-]+", word, re.A) else shlex.quote(word) for word in [path, *rest])
 
 
 def refusal(said, task):
