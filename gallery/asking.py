@@ -243,4 +243,4 @@ def decided(words, rounds, solver, room, clock):
         answer = first(scope, those)
         for file in answer.files if answer and words.keep else []:
             keep(file, words.keep)
-        return (answer.word, table.of_file(answer.files[0])) if answer else (None, None)
+        return (answer.word, words.table.of_file(answer.files[0])) if answer else (None, None)

@@ -13,7 +13,6 @@ import typing
 
 import arrays
 import runs
-import table
 from notes import Notes, Room, digest, placed
 from questions import LONGEST, WITHOUT_LINES, Attempt, Question, answered
 from runs import Clock, Late, Refused, Scope, Stopped, Undecided, say
@@ -31,8 +30,8 @@ class Branches:
 
     def __init__(self, words, solver, room, count):
         self.words, self.solver, self.room, self.count = words, solver, room, count
-        self.rounds = words.rounds[0]
-        self.notes = Notes(words.keep, count)
+        self.rounds, self.chosen = words.rounds[0], chosen_of(words, count)
+        self.notes = Notes(words.keep)
         # what was accepted in this run, by branch
         self.fresh = {}
         # the branches that had no end in their time
@@ -124,14 +123,14 @@ class Branches:
                 end(lambda it: True)
         Scope(self.words.limits).go_on()
 
-    def ask_all(self, chosen):
+    def ask_all(self):
         """Asks about those branches that have no note, up to the first map. A map that is noted is accepted again first."""
-        known = self.notes.all()
+        known = self.notes.all(self.chosen)
         self.tell_doubts()
-        maps = {branch: note for branch, note in known.items() if note.word == "map" and branch in chosen}
+        maps = {branch: note for branch, note in known.items() if note.word == "map"}
         self.run({branch: functools.partial(self.recheck, branch, note) for branch, note in maps.items()})
         if "map" not in self.fresh.values():
-            left = self.turned([branch for branch in chosen if branch not in known or branch in maps])
+            left = self.turned([branch for branch in self.chosen if branch not in known or branch in maps])
             self.run({branch: functools.partial(self.ask, branch) for branch in left}, up_to_map=True)
         if self.late:
             say(f"    no end within the {self.words.seconds:g} s of a branch: {shown(sorted(self.late))}")
@@ -145,7 +144,7 @@ class Branches:
 
     def recheck_all(self):
         """Has all that is noted accepted again."""
-        known = self.notes.all()
+        known = self.notes.all(self.chosen)
         self.tell_doubts()
         self.run({branch: functools.partial(self.recheck, branch, note) for branch, note in known.items()})
 
@@ -156,11 +155,11 @@ class Branches:
 
     def without_lines(self):
         """The branches of which the search's answer alone is noted."""
-        return [branch for branch, note in self.notes.all().items() if not note.has_lines()]
+        return [branch for branch, note in self.notes.all(self.chosen).items() if not note.has_lines()]
 
     def known(self):
         """What is accepted in this run or noted, by branch."""
-        return {branch: note.word for branch, note in self.notes.all().items()} | self.fresh
+        return {branch: note.word for branch, note in self.notes.all(self.chosen).items()} | self.fresh
 
     def told(self, known):
         """What is known comes to, in words, and the answer. What was not checked in this run is told as noted."""
@@ -194,11 +193,11 @@ class Branches:
 
     def certificate(self, answer):
         """The report that the parts were joined to, or where there is none the certificates of all branches, or that of the map."""
-        notes = self.notes.all()
+        lines, notes = self.words.table, self.notes.all(self.chosen)
         if self.joined or not answer or not notes:
-            return table.of_file(self.joined) if self.joined else None
-        least = next((branch for branch, note in notes.items() if note.word == "map"), None)
-        return table.of_notes(notes.values()) if least is None else table.of_file(self.words.keep / notes[least].name)
+            return lines.of_file(self.joined) if self.joined else None
+        least = next((note for note in notes.values() if note.word == "map"), None)
+        return lines.of_file(self.words.keep / least.name) if least else lines.of_notes(notes.values())
 
     def verify(self, whole):
         """Has the report of the whole accepted once more, where it is not longer than `verify` reads."""
@@ -211,7 +210,7 @@ class Branches:
     def join(self):
         """Puts the parts together where the search wrote one of each branch up to the first with a map: the report of the whole question,
         which is checked. Where a solver was asked about some of them there is none."""
-        known = self.notes.all()
+        known = self.notes.all(self.chosen)
         first_map = next((branch for branch, note in known.items() if note.word == "map"), self.count - 1)
         parts = [self.words.keep / known[branch].name for branch in range(first_map + 1) if branch in known]
         if len(parts) <= first_map or any(it.suffix != ".report" for it in parts) or not parts:
@@ -305,9 +304,9 @@ def tally(branches):
         say(f"    missing: {len(missing)} of {branches.count} branches: {shown(missing)}")
 
 
-def of_chosen(branches, chosen):
+def of_chosen(branches):
     """What there is to say of the branches that were chosen, and the status: 0 where each of them is decided, or one has a map."""
-    known = branches.known()
+    known, chosen = branches.known(), branches.chosen
     decided = [branch for branch in chosen if branch in known]
     maps = [branch for branch in decided if known[branch] == "map"]
     noted = [branch for branch in decided if branch not in branches.fresh]
@@ -349,13 +348,14 @@ def main(words, solver, clock):
     if words.array:
         write_array(words, solver, question)
         return 0
-    chosen = chosen_of(words, question.count)
     with Room(None if words.looks else words.keep) as room:
         branches = Branches(words, solver, room, question.count)
         if why := branches.notes.not_about(question.about, None if words.looks else room):
             raise Refused(f"{words.keep} {why}: choose another folder")
         rounds = "round" if branches.rounds == 1 else "rounds"
-        say(f"{words.task.stem} after {branches.rounds} {rounds}, {question.count} branches, {len(branches.notes.all())} of them known:")
+        some = f" {len(branches.chosen)} of them in this run," if len(branches.chosen) < question.count else ""
+        known = len(branches.notes.all(branches.chosen))
+        say(f"{words.task.stem} after {branches.rounds} {rounds}, {question.count} branches,{some} {known} of them known:")
         if words.tally:
             tally(branches)
             return ended(*branches.told(branches.known()))
@@ -365,9 +365,9 @@ def main(words, solver, clock):
         else:
             if question.is_doubtful():
                 say(f"    {question.doubt()}")
-            branches.ask_all(chosen)
+            branches.ask_all()
             if words.branch is not None or words.share:
-                text, status = of_chosen(branches, chosen)
+                text, status = of_chosen(branches)
                 say(f"    {text}")
                 return status
             answered("wfcheck join", branches.join)

@@ -26,7 +26,7 @@ def is_never(words):
 
 def note(words, file, clock):
     """Notes an obstruction that was accepted in the table."""
-    words.table.add(words.task, table.EVERY, "never", table.of_file(file), clock.taken())
+    words.table.add(words.task, table.EVERY, "never", words.table.of_file(file), clock.taken())
 
 
 def is_kept(words):

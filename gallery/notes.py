@@ -135,8 +135,8 @@ class Note(typing.NamedTuple):
 class Notes:
     """What is known of the branches of one question."""
 
-    def __init__(self, folder, count):
-        self.folder, self.count = folder, count
+    def __init__(self, folder):
+        self.folder = folder
         # the SHA-256 of each certificate by what tells that it is the same, so that none is read twice; why a note is not trusted; and the
         # notes whose certificates were refused in this run
         self.seen, self.doubts, self.refused = {}, {}, set()
@@ -164,13 +164,17 @@ class Notes:
             return f"has notes about another {NAMES.get(other, other)}: {words[other]}, and not {about[other]}"
         return "has notes about another question, or of an older version of this script"
 
+    def line_of(self, branch):
+        """What is noted of a branch, whether it is to be trusted or not."""
+        with open(self.folder / f"branch-{branch}", **TEXT) as file:
+            found = LINE.fullmatch(file.read(1 << 14))
+        return Note(**{**found.groupdict(), "size": int(found["size"])}) if found else None
+
     def of(self, branch):
         """The note of a branch; None where there is none that is to be trusted."""
         self.doubts.pop(branch, None)
         try:
-            with open(self.folder / f"branch-{branch}", **TEXT) as file:
-                found = LINE.fullmatch(file.read(1 << 14))
-            note = Note(**{**found.groupdict(), "size": int(found["size"])}) if found else None
+            note = self.line_of(branch)
             doubt = self.doubt(note) if note else "it names no certificate"
         except FileNotFoundError:
             return None
@@ -198,14 +202,17 @@ class Notes:
     def maps_below(self, branch):
         """The branches below this one that are noted to have a map, with their notes."""
         for lower in range(branch):
-            if lower not in self.nones and (note := self.of(lower)):
-                if note.word == "map":
-                    yield lower, note
-                else:
-                    self.nones.add(lower)
+            note = None
+            with contextlib.suppress(OSError):
+                note = None if lower in self.nones else self.line_of(lower)
+            if note and note.word == "none":
+                self.nones.add(lower)
+            elif note and (trusted := self.of(lower)):
+                yield lower, trusted
 
-    def all(self):
-        return {branch: note for branch in range(self.count) if (note := self.of(branch))}
+    def all(self, chosen):
+        """The notes of some branches. Those of others are not looked at, since their certificates may be large and many."""
+        return {branch: note for branch in chosen if (note := self.of(branch))}
 
     def keep(self, branch, answer, made):
         """Puts the certificate of an answer into place, and then notes it, where no other run has noted the branch meanwhile."""

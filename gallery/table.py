@@ -19,22 +19,22 @@ class Certificate(typing.NamedTuple):
     digest: str = NOTHING
 
 
-def of_file(file):
-    """A certificate that is one file: a report, a solver's proof, the report of its model, a lifted map or an obstruction."""
-    return Certificate(file.suffix[1:], file.stat().st_size, digest(file))
-
-
-def of_notes(notes):
-    """The certificates of branches: their bytes together, and the SHA-256 of the notes, one behind another."""
-    text = "".join(note.line() for note in notes).encode(errors="surrogateescape")
-    return Certificate("branches", sum(note.size for note in notes), hashlib.sha256(text).hexdigest())
-
-
 class Table:
     """A file of values with tabs between them, to which lines are appended, or none."""
 
     def __init__(self, file):
         self.file = file
+
+    def of_file(self, file):
+        """A certificate that is one file: a report, a solver's proof, the report of its model, a lifted map or an obstruction. None without a
+        table, so that large files are not read for nothing."""
+        return Certificate(file.suffix[1:], file.stat().st_size, digest(file)) if self.file else None
+
+    @staticmethod
+    def of_notes(notes):
+        """The certificates of branches: their bytes together, and the SHA-256 of the notes, one behind another."""
+        text = "".join(note.line() for note in notes).encode(errors="surrogateescape")
+        return Certificate("branches", sum(note.size for note in notes), hashlib.sha256(text).hexdigest())
 
     def add(self, task, rounds, answer, certificate, seconds):
         """Appends a line, and a header before it where the file is new. Several runs may do so at once."""
