@@ -3,6 +3,7 @@ import concurrent.futures
 import pathlib
 import re
 import shlex
+import signal
 import subprocess
 import typing
 
@@ -16,6 +17,8 @@ FEWER_ROUNDS = "the search after fewer rounds"
 SHARE = 0.1
 CLAUSES = re.compile(rb"^p cnf \d+ (\d+)$", re.M)
 HEAD = 1 << 14
+# how a search ends that has written too many lines: it has an answer, or met the limit of a file
+TOO_LONG = 1, -signal.SIGXFSZ
 # how many bytes of a report `verify` reads; and who gives an answer that has no lines
 LONGEST, WITHOUT_LINES = 16_777_216, "the search's answer, without lines"
 EMPTY = re.compile(rb"\n(?=\n)")
@@ -95,13 +98,13 @@ class Attempt:
         be very many, and are asked for once it is known that there is one."""
         is_whole, report = not self.question.branch, self.file("report")
         ended = self.solve(report, *["--verdict"] * is_whole)
+        if not is_whole and ended.status in TOO_LONG and report.stat().st_size > LONGEST:
+            return self.without_lines(report.stat().st_size)
         if ended.status not in (0, 1):
             self.tell(SEARCH, f"has no answer: {ended.why()}")
             return None
         word = "none" if ended.status else "map"
         self.tell(SEARCH, f"says {word} in {ended.taken:.2f} s")
-        if not is_whole and word == "none" and report.stat().st_size > LONGEST:
-            return self.without_lines(report.stat().st_size)
         if is_whole and word == "none":
             report.unlink()
             if not self.has_lines(report):
