@@ -201,10 +201,12 @@ class Notes:
 
     def maps_below(self, branch):
         """The branches below this one that are noted to have a map, with their notes."""
-        for lower in range(branch):
+        numbers = (it.name.removeprefix("branch-") for it in self.folder.glob("branch-*"))
+        there = {int(it) for it in numbers if re.fullmatch(r"\d{1,9}", it, re.A)}
+        for lower in sorted(it for it in there - self.nones if it < branch):
             note = None
             with contextlib.suppress(OSError):
-                note = None if lower in self.nones else self.line_of(lower)
+                note = self.line_of(lower)
             if note and note.word == "none":
                 self.nones.add(lower)
             elif note and (trusted := self.of(lower)):
