@@ -9,9 +9,11 @@ import subprocess
 import sys
 import tempfile
 
+import arrays
 import branches
 import never
 import runs
+import table
 from notes import Room, keep
 from questions import FEWER_ROUNDS, PLACES, SEARCH, Attempt, Question, first
 from runs import Clock, Late, Limits, Refused, Scope, Stopped, Undecided, say
@@ -44,10 +46,11 @@ def parsed(doc):
     words.add_argument("--keep", type=pathlib.Path)
     words.add_argument("--no-obstruction", action="store_true")
     words.add_argument("--jobs", type=int)
+    words.add_argument("--table", type=pathlib.Path)
     chosen = words.add_mutually_exclusive_group()
     chosen.add_argument("--branch", type=int)
     chosen.add_argument("--share")
-    chosen.add_argument("--array", choices=["slurm"])
+    chosen.add_argument("--array", choices=list(arrays.ENGINES))
     chosen.add_argument("--tally", type=pathlib.Path)
     chosen.add_argument("--recheck", type=pathlib.Path)
     return words, words.parse_args()
@@ -93,6 +96,9 @@ def judge_numbers(words, found):
             words.error(f"--{name} is to be above 0, and below 1,000,000,000")
     if found.clauses < 0:
         words.error("--clauses is to be 0 or more")
+    if found.table and (found.branch is not None or found.share or found.array or found.tally):
+        words.error("--table is about whole questions that are asked, and not about --branch, --share, --array or --tally")
+    found.table = table.Table(found.table)
     found.limits = Limits(int(found.memory * GB), int(found.disk * GB))
 
 
@@ -138,6 +144,13 @@ def command(solver, limits):
     return words if status == SATISFIABLE else words.replace(f" {NO_FACTOR}", "")
 
 
+def by_path(solver):
+    """The words of a solver, which is named by its path: a job may have another path to look it up in."""
+    name, *rest = shlex.split(solver)
+    path = str(pathlib.Path(shutil.which(name)).absolute())
+    return " ".join(word if re.fullmatch(r"[\w./=+{}-]+", word, re.A) else shlex.quote(word) for word in [path, *rest])
+
+
 def refusal(said, task):
     """What the program says of a question that it refuses, and where that is told in words."""
     if not said.startswith("wfcheck: "):
@@ -173,15 +186,19 @@ def answered(words):
     solver = words.solver or next(filter(shutil.which, SOLVERS), None)
     if not solver and not words.looks:
         print(NO_SOLVER, file=sys.stderr)
-    solver = None if solver in (None, SEARCH_ALONE) or words.looks or words.array else command(solver, words.limits)
+    solver = None if solver in (None, SEARCH_ALONE) or words.looks else command(solver, words.limits)
+    if words.array:
+        return branches.main(words, by_path(solver) if solver else SEARCH_ALONE, Clock(words.seconds))
     if words.by_branch:
-        return branches.main(words, solver)
+        return branches.main(words, solver, Clock(words.seconds))
     answers = {}
     with Room(words.keep) as room:
         for rounds in words.rounds:
             say(f"{words.task.stem} after {rounds} {'round' if rounds == 1 else 'rounds'}:")
             clock = Clock(words.seconds)
-            answers[rounds] = answer = decided(words, rounds, solver, room, clock)
+            answers[rounds], certificate = decided(words, rounds, solver, room, clock)
+            answer = answers[rounds]
+            words.table.add(words.task, rounds, answer, certificate, clock.taken())
             say(f"    {answer or 'not decided' + (f' within {words.seconds:g} s' if clock.taken() >= words.seconds else '')}")
             if answer == "map":
                 break
@@ -214,7 +231,7 @@ def summary(answers):
 
 
 def decided(words, rounds, solver, room, clock):
-    """The answer of the first that has one within the limit, and None where nobody has."""
+    """The answer of the first that has one within the limit, and its certificate as a table has it; None for both where nobody has."""
     with room.attempt() as made:
         scope = Scope(words.limits)
         attempt = Attempt(Question(words.task, rounds), made, scope, clock)
@@ -226,4 +243,4 @@ def decided(words, rounds, solver, room, clock):
         answer = first(scope, those)
         for file in answer.files if answer and words.keep else []:
             keep(file, words.keep)
-    return answer and answer.word
+        return (answer.word, words.table.of_file(answer.files[0])) if answer else (None, None)

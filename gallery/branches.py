@@ -2,20 +2,27 @@
 import concurrent.futures
 import contextlib
 import functools
+import os
 import pathlib
 import re
-import shlex
 import shutil
 import sys
+import tempfile
 import threading
+import typing
 
+import arrays
 import runs
-from notes import Notes, Room, placed
-from questions import Attempt, Question, answered
+from notes import Notes, Room, digest, placed
+from questions import LONGEST, WITHOUT_LINES, Attempt, Question, answered
 from runs import Clock, Late, Refused, Scope, Stopped, Undecided, say
 
 STATUS = {"map": 0, "none": 1, None: 3}
-MOST_JOBS, SHOWN = 1000, 40
+SHOWN = 40
+# what share of the points is open in a branch that is nearly as large as the whole
+LARGE, OPEN = 0.9, re.compile(r"^branch \d+ (\d+) \d+$", re.M)
+# among so many of the lowest branches runs begin at different places
+WINDOW = 16
 
 
 class Branches:
@@ -23,29 +30,53 @@ class Branches:
 
     def __init__(self, words, solver, room, count):
         self.words, self.solver, self.room, self.count = words, solver, room, count
-        self.rounds = words.rounds[0]
-        self.notes = Notes(words.keep, count)
+        self.rounds, self.chosen = words.rounds[0], chosen_of(words, count)
+        self.notes = Notes(words.keep)
         # what was accepted in this run, by branch
         self.fresh = {}
+        # the branches that had no end in their time
+        self.late = []
+        # the report that the parts were joined to
+        self.joined = None
+        # while a map that another run has noted is looked at
+        self.looks = threading.Lock()
 
     def attempt(self, branch, made, scope):
         question = Question(self.words.task, self.rounds, branch, self.count)
         return Attempt(question, made, scope, Clock(self.words.seconds))
 
     def ask(self, branch, scope):
-        """Asks the solver about a branch, or the search where there is none, and notes what is accepted of it."""
+        """Asks the solver about a branch, or the search where there is none, and notes what is accepted of it. Another run may have decided
+        it meanwhile, or have found a map in a branch below."""
         if note := self.notes.of(branch):
             return note.word
+        if self.map_below(branch, scope) is not None:
+            return None
         with self.room.attempt() as made:
             attempt = self.attempt(branch, made, scope)
-            answer = attempt.by_solver(self.solver, self.words.clauses) if self.solver else attempt.by_search()
+            try:
+                answer = attempt.by_solver(self.solver, self.words.clauses) if self.solver else attempt.by_search()
+            except Late:
+                self.late.append(branch)
+                raise
             if answer:
                 self.notes.keep(branch, answer, made)
                 self.fresh[branch] = answer.word
             return answer and answer.word
 
+    def map_below(self, branch, scope):
+        """A branch below this one that has a map which is accepted in this run. Such maps are smaller."""
+        with self.looks:
+            for lower, note in self.notes.maps_below(branch):
+                if self.fresh.get(lower) == "map" or self.recheck(lower, note, scope) == "map":
+                    return lower
+        return None
+
     def recheck(self, branch, note, scope):
         """Has what a note names accepted again: a proof, or a part."""
+        if not note.has_lines():
+            say(f"    branch {branch}: {note.who} can't be checked again")
+            return None
         with self.room.attempt() as made:
             name = self.words.keep / note.name
             word = self.attempt(branch, made, scope).accepted("proof" if name.suffix == ".drat" else "verify", name)
@@ -59,17 +90,22 @@ class Branches:
     def run(self, calls, up_to_map=False):
         """Has so many branches at once decided, in their order, each by a call that gets a scope. Where a map is enough, one ends all that
         goes on behind it; branches before it go on, since their maps are smaller."""
-        todo, going, maps, over = iter(calls.items()), {}, [], threading.Event()
+        todo, going, maps, over, done = iter(calls.items()), {}, [], threading.Event(), []
 
         def some():
             for branch, call in todo:
-                going[branch] = scope = Scope(self.words.limits)
-                if over.is_set() or runs.CUT_OFF.is_set() or up_to_map and any(it < branch for it in maps):
+                if over.is_set() or runs.CUT_OFF.is_set():
                     return
+                going[branch] = scope = Scope(self.words.limits)
+                # a map that comes from now on ends the scope
+                if up_to_map and any(it < branch for it in maps):
+                    scope.end()
                 with contextlib.suppress(Stopped):
                     if answered(f"branch {branch}", functools.partial(call, scope)) == "map":
                         maps.append(branch)
                         end(lambda it: up_to_map and it > branch)
+                del going[branch]
+                done.append(branch)
 
         def end(is_over):
             for branch, scope in list(going.items()):
@@ -77,7 +113,8 @@ class Branches:
                     scope.end()
 
         many = self.words.jobs or 1
-        with concurrent.futures.ThreadPoolExecutor(many) as pool:
+        told = runs.telling(lambda: f"{len(done)} of {len(calls)} branches are done, and these go on: {shown(sorted([*going]))}")
+        with concurrent.futures.ThreadPoolExecutor(many) as pool, told:
             try:
                 for job in concurrent.futures.as_completed([pool.submit(some) for _ in range(many)]):
                     job.result()
@@ -86,19 +123,28 @@ class Branches:
                 end(lambda it: True)
         Scope(self.words.limits).go_on()
 
-    def ask_all(self, chosen):
+    def ask_all(self):
         """Asks about those branches that have no note, up to the first map. A map that is noted is accepted again first."""
-        known = self.notes.all()
+        known = self.notes.all(self.chosen)
         self.tell_doubts()
-        maps = {branch: note for branch, note in known.items() if note.word == "map" and branch in chosen}
+        maps = {branch: note for branch, note in known.items() if note.word == "map"}
         self.run({branch: functools.partial(self.recheck, branch, note) for branch, note in maps.items()})
         if "map" not in self.fresh.values():
-            left = [branch for branch in chosen if branch not in known or branch in maps]
+            left = self.turned([branch for branch in self.chosen if branch not in known or branch in maps])
             self.run({branch: functools.partial(self.ask, branch) for branch in left}, up_to_map=True)
+        if self.late:
+            say(f"    no end within the {self.words.seconds:g} s of a branch: {shown(sorted(self.late))}")
+
+    def turned(self, left):
+        """Branches in the order in which they are asked: the lowest first, but among a few of them each run that is at work in the folder
+        begins at another place."""
+        begin = self.room.place() * (self.words.jobs or 1) % WINDOW
+        windows = [left[at:at + WINDOW] for at in range(0, len(left), WINDOW)]
+        return [branch for window in windows for branch in window[begin:] + window[:begin]]
 
     def recheck_all(self):
         """Has all that is noted accepted again."""
-        known = self.notes.all()
+        known = self.notes.all(self.chosen)
         self.tell_doubts()
         self.run({branch: functools.partial(self.recheck, branch, note) for branch, note in known.items()})
 
@@ -107,31 +153,64 @@ class Branches:
         for branch, why in self.notes.doubts.items():
             say(f"    the note of branch {branch} is not trusted: {why}")
 
+    def without_lines(self):
+        """The branches of which the search's answer alone is noted."""
+        return [branch for branch, note in self.notes.all(self.chosen).items() if not note.has_lines()]
+
     def known(self):
         """What is accepted in this run or noted, by branch."""
-        return {branch: note.word for branch, note in self.notes.all().items()} | self.fresh
+        return {branch: note.word for branch, note in self.notes.all(self.chosen).items()} | self.fresh
 
     def told(self, known):
         """What is known comes to, in words, and the answer. What was not checked in this run is told as noted."""
         maps = [branch for branch, word in known.items() if word == "map"]
-        nones = len(known) - len(maps)
-        noted = sum(branch not in self.fresh for branch in known if branch not in maps)
         if not self.count:
             return "none: the question has no branch", "none"
         if maps:
             checked = [branch for branch in maps if branch in self.fresh]
             return f"map, in branch {min(checked or maps)} of {self.count}" + ("" if checked else ", as noted"), "map"
-        if nones < self.count:
-            return f"not decided: none in {nones} of {self.count} branches{as_noted(noted)}, and nothing is known of the others", None
-        if noted == nones:
-            return f"none: each of {self.count} branches as noted, and not checked in this run", "none"
-        some, others = (f"{nones - noted}", f", the other {noted} as noted") if noted else ("each", "")
-        return f"none: {some} of {self.count} branches by a proof or a refutation that is accepted{others}", "none"
+        noted, unseen = [branch for branch in known if branch not in self.fresh], self.without_lines()
+        if len(known) < self.count:
+            others = "nothing is known of the others"
+            if left := [branch for branch in unseen if branch not in known]:
+                others = f"of {len(left)} others the search's answer alone, which has no lines and can't be checked again"
+            known_of = f"{as_noted(len(noted))}{alone(unseen, known)}"
+            return f"not decided: none in {len(known)} of {self.count} branches{known_of}, and {others}", None
+        if len(noted) == self.count:
+            return f"none: each of {self.count} branches as noted{alone(unseen, noted)}, and not checked in this run", "none"
+        fresh = [branch for branch in unseen if branch in self.fresh]
+        others = [f"{len(noted)} as noted{alone(unseen, noted)}"] * bool(noted) + [f"{len(fresh)} by {WITHOUT_LINES}"] * bool(fresh)
+        some = f"{self.count - len(noted) - len(fresh)}" if others else "each"
+        accepted = f"none: {some} of {self.count} branches by a proof or a refutation that is accepted"
+        return accepted + f", the other {', and '.join(others)}" * bool(others), "none"
+
+    def in_table(self, answer, known):
+        """The answer in a table, with what it rests on where that was not checked in this run."""
+        if answer != "none":
+            return answer
+        noted, alone_ = any(branch not in self.fresh for branch in known), any(branch in known for branch in self.without_lines())
+        return answer + ", as noted" * noted + ", partly without lines" * alone_
+
+    def certificate(self, answer):
+        """The report that the parts were joined to, or where there is none the certificates of all branches, or that of the map."""
+        lines, notes = self.words.table, self.notes.all(self.chosen)
+        if self.joined or not answer or not notes:
+            return lines.of_file(self.joined) if self.joined else None
+        least = next((note for note in notes.values() if note.word == "map"), None)
+        return lines.of_file(self.words.keep / least.name) if least else lines.of_notes(notes.values())
+
+    def verify(self, whole):
+        """Has the report of the whole accepted once more, where it is not longer than `verify` reads."""
+        size = whole.file("report").stat().st_size
+        if size > LONGEST:
+            say(f"    the report of the whole has {size:,} bytes, and wfcheck verify reads {LONGEST:,}: wfcheck join has checked it")
+        else:
+            whole.accepted("verify", whole.file("report"))
 
     def join(self):
         """Puts the parts together where the search wrote one of each branch up to the first with a map: the report of the whole question,
         which is checked. Where a solver was asked about some of them there is none."""
-        known = self.notes.all()
+        known = self.notes.all(self.chosen)
         first_map = next((branch for branch, note in known.items() if note.word == "map"), self.count - 1)
         parts = [self.words.keep / known[branch].name for branch in range(first_map + 1) if branch in known]
         if len(parts) <= first_map or any(it.suffix != ".report" for it in parts) or not parts:
@@ -147,10 +226,10 @@ class Branches:
             ended = whole.wfcheck(["join", *whole.question.about], whole.file("parts"), whole.file("report"))
             say(f"    wfcheck join: {'the report of the whole' if ended.status == 0 else ended.why()} ({ended.taken:.2f} s)")
             if ended.status == 0:
-                placed(whole.file("report"), self.words.keep)
+                self.joined = placed(whole.file("report"), self.words.keep)
                 # `join` has checked all that it joined, also what was noted before
                 self.fresh |= {branch: known[branch].word for branch in range(first_map + 1)}
-                whole.accepted("verify", whole.file("report"))
+                self.verify(whole)
 
 
 def as_noted(number):
@@ -158,35 +237,46 @@ def as_noted(number):
     return f", {number} of them as noted" if number else ""
 
 
-def branch_count(words):
-    """How many branches there are."""
-    try:
-        ended = Scope(words.limits).wfcheck(["branches", "--rounds", words.rounds[0]], Clock(words.seconds), words.task)
-    except Late:
-        raise Undecided(f"the branches are not listed within {words.seconds:g} s")
-    if ended.status == 2:
-        raise Refused(ended.said)
-    found = re.search(r"^branches (\d+)$", ended.said, re.M)
-    if ended.status or not found:
+def alone(unseen, known):
+    """How many of some branches are known by the search's answer alone, in words."""
+    number = sum(branch in known for branch in unseen)
+    return f", {number} of them by {WITHOUT_LINES}" if number else ""
+
+
+class Listed(typing.NamedTuple):
+    """How many branches there are, how many points, in how many branches most of these are open, and what tells which question it is."""
+    count: int
+    points: int
+    large: int
+    about: dict
+
+    def is_doubtful(self):
+        return 2 * self.large > self.count > 1
+
+    def doubt(self):
+        """Why branches may not help."""
+        return f"nearly all of the {self.points:,} points are open in {self.large} of {self.count} branches: each may take as long as the whole"
+
+
+def listed(words):
+    """What `wfcheck branches` lists, and what the program says of itself."""
+    scope, clock = Scope(words.limits), Clock(words.seconds)
+    with tempfile.TemporaryDirectory() as made:
+        file = pathlib.Path(made) / "branches"
+        try:
+            ended = scope.wfcheck(["branches", "--rounds", words.rounds[0]], clock, words.task, file)
+            version = scope.wfcheck(["--version"], clock, os.devnull)
+        except Late:
+            raise Undecided(f"the branches are not listed within {words.seconds:g} s")
+        if ended.status == 2:
+            raise Refused(ended.said)
+        text, branches = file.read_text(errors="replace"), digest(file)
+    count, points = (re.search(rf"^{name} (\d+)$", text, re.M) for name in ("branches", "points"))
+    if ended.status or not count or not points:
         raise Undecided(f"the branches are not listed: {ended.why()}")
-    return int(found[1])
-
-
-def array(words, count):
-    """The script of an array of jobs, one for each branch or, where these are too many, for a share of them."""
-    jobs = min(count, MOST_JOBS)
-    command = [pathlib.Path(sys.argv[0]).resolve(), words.task.resolve(), words.rounds[0], "--keep", words.keep.resolve()]
-    command += ["--seconds", f"{words.seconds:g}", "--memory", f"{words.memory:g}", "--disk", f"{words.disk:g}", "--clauses", words.clauses]
-    command += ["--solver", words.solver] if words.solver else []
-    command += ["--no-obstruction"] if words.no_obstruction else []
-    which = '--branch "$SLURM_ARRAY_TASK_ID"' if jobs == count else f'--share "$SLURM_ARRAY_TASK_ID/{jobs}"'
-    return "\n".join([
-        "#!/bin/sh",
-        f"#SBATCH --job-name={re.sub('[^a-zA-Z0-9_-]', '-', words.task.stem)}-{words.rounds[0]}",
-        f"#SBATCH --array=0-{jobs - 1}",
-        f"cd {shlex.quote(str(pathlib.Path.cwd()))} || exit 2",
-        f"exec {shlex.join(map(str, command))} {which}",
-    ])
+    large = sum(int(it) >= LARGE * int(points[1]) for it in OPEN.findall(text))
+    about = {"task": digest(words.task), "rounds": words.rounds[0], "branches": branches, "program": version.said.strip()}
+    return Listed(int(count[1]), int(points[1]), large, about)
 
 
 def shown(numbers):
@@ -208,23 +298,29 @@ def tally(branches):
     for word in ("map", "none"):
         if found := [branch for branch, it in known.items() if it == word]:
             say(f"    {word}: {len(found)} of {branches.count} branches: {shown(found)}")
+    if unseen := branches.without_lines():
+        say(f"    by {WITHOUT_LINES}: {len(unseen)} of {branches.count} branches: {shown(unseen)}")
     if missing := [branch for branch in range(branches.count) if branch not in known]:
         say(f"    missing: {len(missing)} of {branches.count} branches: {shown(missing)}")
 
 
-def of_chosen(branches, chosen):
+def of_chosen(branches):
     """What there is to say of the branches that were chosen, and the status: 0 where each of them is decided, or one has a map."""
-    known = branches.known()
+    known, chosen = branches.known(), branches.chosen
     decided = [branch for branch in chosen if branch in known]
     maps = [branch for branch in decided if known[branch] == "map"]
     noted = [branch for branch in decided if branch not in branches.fresh]
+    lower = min((branch for branch, word in branches.fresh.items() if word == "map" and branch not in chosen), default=None)
+    undecided = [branch for branch in chosen if branch not in known]
+    if undecided and lower is not None and min(undecided) > lower:
+        return f"map, in branch {lower} of {branches.count}: branches above it are not asked", 0
     if branches.words.branch is not None:
         note = branches.notes.of(chosen[0])
         text = (note.line().strip() if note else known.get(chosen[0], "not decided")) + (", as noted" if noted else "")
     elif maps:
         text = f"map, in branch {min(maps)} of {branches.count}" + (", as noted" if min(maps) in noted else "")
     else:
-        text = f"none in {len(decided)} of the {len(chosen)} branches of this share{as_noted(len(noted))}"
+        text = f"none in {len(decided)} of the {len(chosen)} branches of this share{as_noted(len(noted))}{alone(branches.without_lines(), decided)}"
     return text, 0 if maps or len(decided) == len(chosen) else STATUS[None]
 
 
@@ -237,33 +333,48 @@ def chosen_of(words, count):
     return range(words.share[0], count, words.share[1]) if words.share else range(count)
 
 
-def main(words, solver):
-    count = branch_count(words)
+def write_array(words, solver, question):
+    """Writes the script of an array of jobs."""
+    if not question.count:
+        raise Refused("there is no branch, so no array is needed: ask without --array")
+    if question.is_doubtful():
+        print(question.doubt(), file=sys.stderr)
+    print(arrays.array(words, solver, question.count))
+
+
+def main(words, solver, clock):
+    """Asks about branches, or looks at what is known of them, and returns the status."""
+    question = listed(words)
     if words.array:
-        if not count:
-            raise Refused("there is no branch, so no array is needed: ask without --array")
-        print(array(words, count))
+        write_array(words, solver, question)
         return 0
-    chosen = chosen_of(words, count)
     with Room(None if words.looks else words.keep) as room:
-        branches = Branches(words, solver, room, count)
-        if not branches.notes.about(words.task, branches.rounds, None if words.looks else room):
-            raise Refused(f"{words.keep} has no notes about this question: choose another folder")
+        branches = Branches(words, solver, room, question.count)
+        if why := branches.notes.not_about(question.about, None if words.looks else room):
+            raise Refused(f"{words.keep} {why}: choose another folder")
         rounds = "round" if branches.rounds == 1 else "rounds"
-        say(f"{words.task.stem} after {branches.rounds} {rounds}, {count} branches, {len(branches.notes.all())} of them known:")
+        some = f" {len(branches.chosen)} of them in this run," if len(branches.chosen) < question.count else ""
+        known = len(branches.notes.all(branches.chosen))
+        say(f"{words.task.stem} after {branches.rounds} {rounds}, {question.count} branches,{some} {known} of them known:")
         if words.tally:
             tally(branches)
             return ended(*branches.told(branches.known()))
         if words.recheck:
             branches.recheck_all()
-            return ended(*branches.told(dict(sorted(branches.fresh.items()))))
-        branches.ask_all(chosen)
-        if words.branch is not None or words.share:
-            text, status = of_chosen(branches, chosen)
-            say(f"    {text}")
-            return status
-        answered("wfcheck join", branches.join)
-        return ended(*branches.told(branches.known()))
+            known = dict(sorted(branches.fresh.items()))
+        else:
+            if question.is_doubtful():
+                say(f"    {question.doubt()}")
+            branches.ask_all()
+            if words.branch is not None or words.share:
+                text, status = of_chosen(branches)
+                say(f"    {text}")
+                return status
+            answered("wfcheck join", branches.join)
+            known = branches.known()
+        text, answer = branches.told(known)
+        words.table.add(words.task, branches.rounds, branches.in_table(answer, known), branches.certificate(answer), clock.taken())
+        return ended(text, answer)
 
 
 def ended(text, answer):

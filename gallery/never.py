@@ -2,6 +2,7 @@
 has to accept it. If none is found, that says nothing about the task."""
 import re
 
+import table
 from notes import Room, keep
 from questions import answered
 from runs import Clock, Late, Refused, Scope, say
@@ -18,7 +19,14 @@ def is_never(words):
         found = answered("wfcheck obstruction", lambda: is_found(words, file, scope, clock))
         if found and words.keep:
             keep(file, words.keep)
+        if found:
+            note(words, file, clock)
     return bool(found)
+
+
+def note(words, file, clock):
+    """Notes an obstruction that was accepted in the table."""
+    words.table.add(words.task, table.EVERY, "never", words.table.of_file(file), clock.taken())
 
 
 def is_kept(words):
@@ -27,7 +35,11 @@ def is_kept(words):
     if not file.is_file():
         return False
     say(f"{words.task.stem} after every number of rounds:")
-    return bool(answered("wfcheck verify", lambda: is_accepted(words, file, Scope(words.limits), Clock(words.seconds))))
+    clock = Clock(words.seconds)
+    accepted = answered("wfcheck verify", lambda: is_accepted(words, file, Scope(words.limits), clock))
+    if accepted:
+        note(words, file, clock)
+    return bool(accepted)
 
 
 def is_found(words, file, scope, clock):

@@ -13,10 +13,15 @@ import pathlib
 import re
 import shutil
 import tempfile
+import time
 import typing
 
-from runs import say
+from runs import not_cut_off, say
 
+VERDICT = "verdict"
+TRIES, PAUSE = 20, 0.05
+# what tells one question from another, in words
+NAMES = {"rounds": "number of rounds", "branches": "list of branches", "program": "version of the program"}
 ROOMS, LOCK = ".ask-", "lock"
 LINE = re.compile(
     r"(?P<word>map|none), by (?P<who>.*) in (?P<taken>[\d.]+) s, "
@@ -30,6 +35,7 @@ def digest(file):
     found = hashlib.sha256()
     with open(file, "rb") as text:
         while piece := text.read(1 << 20):
+            not_cut_off()
             found.update(piece)
     return found.hexdigest()
 
@@ -54,8 +60,12 @@ class Room:
         return self
 
     def __exit__(self, *_):
-        shutil.rmtree(self.path, ignore_errors=True)
+        clear(self.path)
         self.lock.close()
+
+    def place(self):
+        """The place of this run among those that have a room in the folder: 0 for one that is alone there."""
+        return sorted({self.path.name, *(it.name for it in self.keep.glob(f"{ROOMS}*"))}).index(self.path.name) if self.keep else 0
 
     @contextlib.contextmanager
     def attempt(self):
@@ -64,7 +74,16 @@ class Room:
         try:
             yield path
         finally:
-            shutil.rmtree(path, ignore_errors=True)
+            clear(path)
+
+
+def clear(folder):
+    """Takes a folder away. What was killed may have written there until a moment ago, so it is tried again."""
+    for _ in range(TRIES):
+        shutil.rmtree(folder, ignore_errors=True)
+        if not folder.exists():
+            return
+        time.sleep(PAUSE)
 
 
 def sweep(room):
@@ -73,7 +92,7 @@ def sweep(room):
         with open(os.open(room / LOCK, os.O_RDWR | os.O_NOFOLLOW)) as lock:
             if lock.read(1 << 10).strip() == os.uname().nodename:
                 fcntl.flock(lock, fcntl.LOCK_EX | fcntl.LOCK_NB)
-                shutil.rmtree(room, ignore_errors=True)
+                clear(room)
 
 
 def placed(file, folder):
@@ -105,6 +124,10 @@ class Note(typing.NamedTuple):
     digest: str
     name: str
 
+    def has_lines(self):
+        """Whether the certificate can be checked again: the search's answer alone can't be."""
+        return self.word != "none" or not self.name.endswith(f".{VERDICT}")
+
     def line(self):
         return f"{self.word}, by {self.who} in {self.taken} s, {self.size} bytes with SHA-256 {self.digest} in {self.name}\n"
 
@@ -112,33 +135,51 @@ class Note(typing.NamedTuple):
 class Notes:
     """What is known of the branches of one question."""
 
-    def __init__(self, folder, count):
-        self.folder, self.count = folder, count
+    def __init__(self, folder):
+        self.folder = folder
         # the SHA-256 of each certificate by what tells that it is the same, so that none is read twice; why a note is not trusted; and the
         # notes whose certificates were refused in this run
         self.seen, self.doubts, self.refused = {}, {}, set()
+        # the branches that were noted to have none
+        self.nones = set()
 
-    def about(self, task, rounds, room):
-        """Whether the folder is about this question. One that is about none yet is from now on, where there is a room for that."""
-        about = f"{digest(task)} {rounds} {self.count}\n"
+    def not_about(self, about, room):
+        """Why the folder is not about this question, by the names and words that say which one it is; None where it is. A folder that is about
+        none yet is about this one from now on, where there is a room for that."""
+        text, file = "".join(f"{name} {it}\n" for name, it in about.items()), self.folder / "question"
         if room:
             with room.attempt() as made:
-                (made / "question").write_text(about)
+                (made / "question").write_text(text)
                 with contextlib.suppress(FileExistsError):
-                    os.link(made / "question", self.folder / "question")
-        file = self.folder / "question"
-        return file.is_file() and file.read_text(**TEXT) == about
+                    os.link(made / "question", file)
+        if not file.is_file():
+            return "has no notes"
+        with open(file, **TEXT) as lines:
+            found = lines.read(1 << 14)
+        if found == text:
+            return None
+        words = dict(line.split(" ", 1) for line in found.split("\n") if " " in line)
+        other = next((name for name in about if name in words and words[name] != str(about[name])), None)
+        if other and words.keys() == about.keys():
+            return f"has notes about another {NAMES.get(other, other)}: {words[other]}, and not {about[other]}"
+        return "has notes about another question, or of an older version of this script"
+
+    def line_of(self, branch):
+        """What is noted of a branch, whether it is to be trusted or not."""
+        with open(self.folder / f"branch-{branch}", **TEXT) as file:
+            found = LINE.fullmatch(file.read(1 << 14))
+        return Note(**{**found.groupdict(), "size": int(found["size"])}) if found else None
 
     def of(self, branch):
         """The note of a branch; None where there is none that is to be trusted."""
         self.doubts.pop(branch, None)
         try:
-            with open(self.folder / f"branch-{branch}", **TEXT) as file:
-                found = LINE.fullmatch(file.read(1 << 14))
+            note = self.line_of(branch)
+            doubt = self.doubt(note) if note else "it names no certificate"
         except FileNotFoundError:
             return None
-        note = Note(**{**found.groupdict(), "size": int(found["size"])}) if found else None
-        doubt = self.doubt(note) if note else "it names no certificate"
+        except OSError as error:
+            doubt = str(error)
         if doubt:
             self.doubts[branch] = doubt
         return None if doubt else note
@@ -158,8 +199,22 @@ class Notes:
             self.seen[key] = digest(file)
         return None if self.seen[key] == note.digest else f"{note.name} has another SHA-256"
 
-    def all(self):
-        return {branch: note for branch in range(self.count) if (note := self.of(branch))}
+    def maps_below(self, branch):
+        """The branches below this one that are noted to have a map, with their notes."""
+        numbers = (it.name.removeprefix("branch-") for it in self.folder.glob("branch-*"))
+        there = {int(it) for it in numbers if re.fullmatch(r"\d{1,9}", it, re.A)}
+        for lower in sorted(it for it in there - self.nones if it < branch):
+            note = None
+            with contextlib.suppress(OSError):
+                note = self.line_of(lower)
+            if note and note.word == "none":
+                self.nones.add(lower)
+            elif note and (trusted := self.of(lower)):
+                yield lower, trusted
+
+    def all(self, chosen):
+        """The notes of some branches. Those of others are not looked at, since their certificates may be large and many."""
+        return {branch: note for branch in chosen if (note := self.of(branch))}
 
     def keep(self, branch, answer, made):
         """Puts the certificate of an answer into place, and then notes it, where no other run has noted the branch meanwhile."""

@@ -1,11 +1,14 @@
 """A question for `ask`, and one attempt to answer it: by the search or by a SAT solver, and then by the check of what that wrote."""
 import concurrent.futures
+import pathlib
 import re
 import shlex
+import signal
 import subprocess
 import typing
 
 import runs
+from notes import VERDICT
 from runs import Clock, Late, Refused, say
 
 SEARCH = "the search"
@@ -14,6 +17,10 @@ FEWER_ROUNDS = "the search after fewer rounds"
 SHARE = 0.1
 CLAUSES = re.compile(rb"^p cnf \d+ (\d+)$", re.M)
 HEAD = 1 << 14
+# how a search ends that has written too many lines: it has an answer, or met the limit of a file
+TOO_LONG = 1, -signal.SIGXFSZ
+# how many bytes of a report `verify` reads; and who gives an answer that has no lines
+LONGEST, WITHOUT_LINES = 16_777_216, "the search's answer, without lines"
 EMPTY = re.compile(rb"\n(?=\n)")
 SAYS = re.compile(rb"(?:s )?(UN)?SAT(?:ISFIABLE)?\s*")
 PLACES = {"formula": "cnf", "proof": "drat", "output": "out"}
@@ -91,6 +98,8 @@ class Attempt:
         be very many, and are asked for once it is known that there is one."""
         is_whole, report = not self.question.branch, self.file("report")
         ended = self.solve(report, *["--verdict"] * is_whole)
+        if not is_whole and ended.status in TOO_LONG and report.stat().st_size > LONGEST:
+            return self.without_lines(report.stat().st_size)
         if ended.status not in (0, 1):
             self.tell(SEARCH, f"has no answer: {ended.why()}")
             return None
@@ -102,6 +111,17 @@ class Attempt:
                 return None
         accepted = self.accepted("verify", report)
         return Answer(word, SEARCH, ended.taken, [report]) if accepted == word else None
+
+    def without_lines(self, size):
+        """The search's answer alone, where the lines of a branch's refutation are more than `verify` reads. It is asked for by itself, with as
+        much time again, and nothing else is accepted: that it holds is what the program's contract says."""
+        self.tell(SEARCH, f"has written {size:,} bytes, and `verify` reads {LONGEST:,}: it is asked for the answer without lines")
+        verdict, self.clock = self.file(VERDICT), Clock(self.clock.seconds)
+        ended = self.solve(verdict, "--verdict")
+        text = verdict.read_text(errors="replace") if verdict.stat().st_size < HEAD else ""
+        is_none = ended.status == 1 and text.startswith(self.question.head()) and text.endswith("\nanswer none\nend\n")
+        self.tell(WITHOUT_LINES, f"says none in {ended.taken:.2f} s" if is_none else f"is missing: {ended.why()}")
+        return Answer("none", WITHOUT_LINES, ended.taken, [verdict]) if is_none else None
 
     def has_lines(self, report):
         """Has the search write the lines of its refutation, and says why where it doesn't."""
@@ -156,10 +176,11 @@ class Attempt:
     def by_solver(self, words, most):
         """A solver's answer, where its model or its proof is accepted."""
         solver = shlex.split(words)
+        who = pathlib.PurePath(solver[0]).name
         try:
             self.write_formula(most)
         except NoFormula as why:
-            self.tell(solver[0], f"is left out: {why}")
+            self.tell(who, f"is left out: {why}")
             return None
         names = {name: str(self.file(kind)) for name, kind in PLACES.items()}
         begun = self.clock.taken()
@@ -167,9 +188,9 @@ class Attempt:
             words = [word.format(**names) for word in solver]
             status = self.scope.run(words, self.clock, stdin=subprocess.DEVNULL, stdout=said, stderr=said)
         if status < 0:
-            self.tell(solver[0], f"has no answer: {runs.Ended(status, '', 0).why()}")
+            self.tell(who, f"has no answer: {runs.Ended(status, '', 0).why()}")
             return None
-        return self.judged(solver[0], self.clock.taken() - begun)
+        return self.judged(who, self.clock.taken() - begun)
 
     def judged(self, name, taken):
         """The answer of a solver that has ended, where it is accepted."""
@@ -179,6 +200,7 @@ class Attempt:
             return self.of_model(name, taken, text)
         if says == "none" and self.file("drat").is_file():
             return self.of_proof(name, taken)
+        self.scope.settle()
         self.tell(name, "says none, and writes no proof that could be checked" if says else "says nothing")
         return None
 

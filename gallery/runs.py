@@ -2,6 +2,7 @@
 
 Nothing that was started goes on once its question is answered, its time is over or the run is cut off: then its whole group is killed,
 and so it is where the program itself has ended and a child of it goes on."""
+import contextlib
 import ctypes
 import os
 import pathlib
@@ -22,8 +23,14 @@ TOLD = 1 << 20
 ENDING = (signal.SIGHUP, signal.SIGINT, signal.SIGTERM)
 SHELL, DIE_WITH_PARENT = 128, 1
 LONGEST_PAUSE = 0.01
+# in seconds: how long after a child this run may get a signal that both get
+GRACE = 0.5
 LIBC = ctypes.CDLL(None)
 CUT_OFF = threading.Event()
+# so that lines of several threads don't mix
+ONE_LINE = threading.Lock()
+# in seconds: how often it is told what goes on
+PERIOD = 2
 
 
 class Stopped(Exception):
@@ -63,6 +70,12 @@ class Ended(typing.NamedTuple):
         return self.said.strip() or f"it ended with status {self.status}"
 
 
+def not_cut_off():
+    """Raises Stopped once the run was cut off."""
+    if CUT_OFF.is_set():
+        raise Stopped
+
+
 class Clock:
     """The time of one question, of which the search, the solver and the checks take their parts."""
 
@@ -73,7 +86,8 @@ class Clock:
         return time.monotonic() - self.begun
 
     def go_on(self):
-        """Raises Late once the time is over."""
+        """Raises Late once the time is over, and Stopped once the run was cut off."""
+        not_cut_off()
         if self.taken() >= self.seconds:
             raise Late
 
@@ -89,8 +103,14 @@ class Scope:
 
     def go_on(self):
         """Raises Stopped once the scope has ended or the run was cut off."""
-        if self.ended.is_set() or CUT_OFF.is_set():
+        not_cut_off()
+        if self.ended.is_set():
             raise Stopped
+
+    def settle(self):
+        """Waits a moment where a child ended without an answer: it may have met a signal that this run gets, too. Raises Stopped then."""
+        CUT_OFF.wait(GRACE)
+        self.go_on()
 
     def run(self, words, clock, **how):
         """Runs a program, as `Child.wait` does, and returns its status."""
@@ -155,10 +175,32 @@ def limited(limits):
 def say(text):
     """Prints a line at once. Where that fails, nobody would see the answer, and the run ends."""
     try:
-        print(text, flush=True)
+        with ONE_LINE:
+            sys.stdout.write(f"{text}\n")
+            sys.stdout.flush()
     except OSError as error:
         sys.stdout = open(os.devnull, "w")
         raise Undecided(f"what there is to say can't be written: {error}")
+
+
+@contextlib.contextmanager
+def telling(what):
+    """Tells what goes on, as a call says it, again and again where standard error is a terminal."""
+    over = threading.Event()
+
+    def tell():
+        while not over.wait(PERIOD):
+            with contextlib.suppress(OSError), ONE_LINE:
+                sys.stderr.write(f"    .. {what()}\n")
+                sys.stderr.flush()
+
+    teller = threading.Thread(target=tell, daemon=True)
+    if sys.stderr.isatty():
+        teller.start()
+    try:
+        yield
+    finally:
+        over.set()
 
 
 def pieces(file, clock):
