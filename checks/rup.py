@@ -1,8 +1,8 @@
 #!/usr/bin/env python3
-"""rup.py TASK ROUNDS < PROOF: whether a clausal proof refutes the question of a task, straight from docs/FORMAT.md.
+"""rup.py TASK ROUNDS [--branch I] < PROOF: whether a clausal proof refutes the question of a task, straight from docs/FORMAT.md.
 
-What `wfcheck proof` answers, byte for byte, and slowly, most of all a number of millions of digits: it shares nothing with the program, and is here to be read. A proof is
-lemmas and deletions. A lemma follows where unit propagation, with all its literals false, makes a clause that is kept false.
+What `wfcheck proof` answers, byte for byte, and slowly, most of all a number of millions of digits: it shares nothing with the program,
+and is here to be read. With --branch the proof is about that branch alone, which has to be there. A proof is lemmas and deletions. A lemma follows where unit propagation, with all its literals false, makes a clause that is kept false.
 Literals that hold without an assumption hold from then on, whatever is deleted. Its status is 0 where the proof is accepted, else 2."""
 import collections
 import json
@@ -14,6 +14,7 @@ import common
 
 sys.path.insert(0, str(common.ROOT / "gallery"))
 import formula  # noqa: E402
+import independent  # noqa: E402
 
 BLANKS = b" \t\r\n"
 NUMBER = re.compile(rb"-?[0-9]*")
@@ -116,9 +117,10 @@ def steps(text, variables):
     raise Refused(f"41 NoContradiction {line}")
 
 
-def question(task, rounds):
-    """The number of variables of a task's question, and its clauses."""
-    lines = [line.split() for line in formula.text(task, rounds).splitlines() if line[0] != "c"]
+def question(task, rounds, branch=None):
+    """The number of variables of a task's question, or of that of a branch, and its clauses."""
+    text = formula.text(task, rounds) if branch is None else independent.cnf(task, rounds, branch)
+    lines = [line.split() for line in text.splitlines() if line[0] != "c"]
     return int(lines[0][2]), [list(map(int, line[:-1])) for line in lines[1:]]
 
 
@@ -139,19 +141,26 @@ def judge(kept, variables, text):
     return None
 
 
-def accepted(rounds):
-    """The line that says that there is no decision map."""
-    return f"accepted none at {rounds} round{'' if rounds == 1 else 's'}\n"
+def place(task, rounds, branch):
+    """Where a branch is, as the line that says what is accepted tells it."""
+    return "" if branch is None else f" in branch {branch} of {len(independent.split(independent.opinion.Complex(task, rounds)))}"
+
+
+def accepted(rounds, where=""):
+    """The line that says that there is no decision map, or none there."""
+    return f"accepted none{where} at {rounds} round{'' if rounds == 1 else 's'}\n"
 
 
 def main():
     script = common.Script(__doc__)
     script.add_argument("task", type=pathlib.Path, metavar="TASK")
     script.add_argument("rounds", type=int, metavar="ROUNDS")
+    script.add_argument("--branch", type=int, metavar="I")
     asked = script.asked()
-    variables, clauses = question(json.loads(asked.task.read_bytes()), asked.rounds)
+    task = json.loads(asked.task.read_bytes())
+    variables, clauses = question(task, asked.rounds, asked.branch)
     refusal = judge(Kept(clauses), variables, sys.stdin.buffer.read())
-    sys.stdout.write(f"wfcheck: {refusal}\n" if refusal else accepted(asked.rounds))
+    sys.stdout.write(f"wfcheck: {refusal}\n" if refusal else accepted(asked.rounds, place(task, asked.rounds, asked.branch)))
     return 2 if refusal else 0
 
 
