@@ -1,3 +1,3 @@
-pub mod Adding
-pub mod Answering
-pub mod Found
+pub mod OptionsAndCommands
+pub mod ParsedWords
+pub mod MatchGetters

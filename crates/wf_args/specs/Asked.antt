@@ -25,8 +25,8 @@ use Rattle.wf_args.specs.declared.WordsFault.TheVariants as fault
 use Rattle.wf_args.specs.declared.presets.Options.{Options}
 use Rattle.wf_args.specs.declared.slip.Piece.{Piece}
 use Rattle.wf_args.specs.declared.slip.Piece.TheVariants as piece
-use Rattle.wf_args.specs.declared.slip.Slip.{Slip}
-use Rattle.wf_args.specs.declared.slip.Slip.TheVariants as slip
+use Rattle.wf_args.specs.declared.slip.Mistake.{Mistake}
+use Rattle.wf_args.specs.declared.slip.Mistake.TheVariants as slip
 
 abbrev pub Path : Type 0
 Path = String Global
@@ -37,7 +37,7 @@ Path = String Global
 pub data Asked : Type 0 where
   this_job : Job → Asked
   this_job_on : Text → (Path → Job) → Asked
-  no_job : Slip → Asked
+  no_job : Mistake → Asked
   refused : Kinds → Bool → Asked
 
 -- ---- the options of a subcommand
@@ -55,7 +55,7 @@ abbrev pub has_flag : Text → List Row → Bool
 has_flag name rows = option_map_or (λ text. bytes_eq text (codes "true")) (first_of name rows) false
 
 -- what is asked with something that is to be given; where it is not, that is the slip
-abbrev pub given : {X : Type 0} → Slip → Option X → (X → Asked) → Asked
+abbrev pub given : {X : Type 0} → Mistake → Option X → (X → Asked) → Asked
 given slip (Some x) asks = asks x
 given slip None asks = no_job slip
 
@@ -64,7 +64,7 @@ abbrev pub needed : {X : Type 0} → Piece → Option X → (X → Asked) → As
 needed what = given (slip.Missing what)
 
 -- a job without a file, or the slip by which there is none
-abbrev pub this_or_slip : Result Job Slip → Asked
+abbrev pub this_or_slip : Result Job Mistake → Asked
 this_or_slip (Ok j) = this_job j
 this_or_slip (Err s) = no_job s
 
@@ -180,7 +180,7 @@ options_of rows processes = record {
 }
 
 -- the job of a preset, or the slip by which there is none
-abbrev pub this_preset : Result Preset Slip → Asked
+abbrev pub this_preset : Result Preset Mistake → Asked
 this_preset (Ok preset) = this_job (job.Preset preset)
 this_preset (Err s) = no_job s
 

@@ -7,8 +7,8 @@ use Rattle.wf_preset.specs.declared.named.Preset.{Preset}
 use Rattle.wf_preset.specs.declared.named.Preset.TheVariants as preset
 use Rattle.wf_args.specs.declared.presets.Options.{Options}
 use Rattle.wf_args.specs.declared.slip.Piece.TheVariants.{K, Names, Renaming, SetAgreement, Values}
-use Rattle.wf_args.specs.declared.slip.Slip.{Slip}
-use Rattle.wf_args.specs.declared.slip.Slip.TheVariants.{Beside, Needs, OtherKind}
+use Rattle.wf_args.specs.declared.slip.Mistake.{Mistake}
+use Rattle.wf_args.specs.declared.slip.Mistake.TheVariants.{Beside, Needs, OtherKind}
 
 -- the processes have their own inputs, unless there is a number of values
 abbrev pub inputs_asked : Option ℕ → Inputs
@@ -16,20 +16,20 @@ inputs_asked None = Own
 inputs_asked (Some values) = All values
 
 -- set agreement needs `--k`, takes `--values`, and has no `--names`
-abbrev pub agreement_asked : ℕ → Option ℕ → Option ℕ → Option ℕ → Result Preset Slip
+abbrev pub agreement_asked : ℕ → Option ℕ → Option ℕ → Option ℕ → Result Preset Mistake
 agreement_asked n k values (Some names) = Err (Beside Names SetAgreement)
 agreement_asked n None values None = Err (Needs SetAgreement K)
 agreement_asked n (Some k) values None = Ok (preset.SetAgreement n k (inputs_asked values))
 
 -- renaming needs `--names`, and has neither `--k` nor `--values`
-abbrev pub renaming_asked : ℕ → Option ℕ → Option ℕ → Option ℕ → Result Preset Slip
+abbrev pub renaming_asked : ℕ → Option ℕ → Option ℕ → Option ℕ → Result Preset Mistake
 renaming_asked n (Some k) values names = Err (Beside K Renaming)
 renaming_asked n None (Some values) names = Err (Beside Values Renaming)
 renaming_asked n None None None = Err (Needs Renaming Names)
 renaming_asked n None None (Some names) = Ok (preset.Renaming n names)
 
 -- another kind is no preset
-abbrev pub preset_asked : List ℕ → Options → Result Preset Slip
+abbrev pub preset_asked : List ℕ → Options → Result Preset Mistake
 preset_asked kind o =
     if bytes_eq kind (codes "set-agreement") then agreement_asked o.processes o.k o.values o.names
     else (if bytes_eq kind (codes "renaming") then renaming_asked o.processes o.k o.values o.names else Err OtherKind)

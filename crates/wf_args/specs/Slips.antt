@@ -3,8 +3,8 @@ use Rattle.std.specs.Prelude.{ℕ, List, [], ◌∷◌, ◌++◌, codes, decimal
 use Rattle.wf_model.specs.Limits.{most_workers}
 use Rattle.wf_args.specs.declared.slip.Piece.{Piece}
 use Rattle.wf_args.specs.declared.slip.Piece.TheVariants as piece
-use Rattle.wf_args.specs.declared.slip.Slip.{Slip}
-use Rattle.wf_args.specs.declared.slip.Slip.TheVariants as slip
+use Rattle.wf_args.specs.declared.slip.Mistake.{Mistake}
+use Rattle.wf_args.specs.declared.slip.Mistake.TheVariants as slip
 
 -- a piece of the command line as it is written there, or as help names it
 abbrev pub piece_text : Piece → List ℕ
@@ -25,7 +25,7 @@ piece_text piece.SetAgreement = codes "set-agreement"
 piece_text piece.Renaming = codes "renaming"
 
 -- what is wrong, and with which pieces
-abbrev pub slip_text : Slip → List ℕ
+abbrev pub slip_text : Mistake → List ℕ
 slip_text slip.NotText = codes "one of the words is no UTF-8 text"
 slip_text (slip.Missing what) = codes "the argument '" ++ (piece_text what ++ codes "' is missing")
 slip_text (slip.Needs who what) =
@@ -38,5 +38,5 @@ slip_text slip.OtherKind = codes "a preset is 'set-agreement' or 'renaming'"
 slip_text slip.Workers = codes "'--workers' takes a number from 1 to " ++ decimal most_workers
 
 -- the line that tells it
-abbrev pub slip_line : Slip → List ℕ
+abbrev pub slip_line : Mistake → List ℕ
 slip_line s = codes "error: " ++ (slip_text s ++ 10 ∷ [])

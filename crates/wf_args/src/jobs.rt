@@ -5,13 +5,13 @@ ghost use Rattle.wf_model.specs.Limits.{most_workers};
 ghost use Rattle.clap.specs.Words.{first_of, found_of, rows_of, subcommand_rows_of};
 ghost use Rattle.wf_args.specs.Job.{CanBeDone};
 ghost use Rattle.wf_args.specs.declared.WordsFault.TheVariants as fault;
-ghost use Rattle.wf_args.specs.declared.slip.Slip.TheVariants as slip;
+ghost use Rattle.wf_args.specs.declared.slip.Mistake.TheVariants as slip;
 ghost use Rattle.wf_args.specs.Asked.{Answers, this_or_slip, asked_in, asked_of, branch_job, branches_asked, cnf_asked, executions_asked, explain_asked, has_flag, join_asked, lift_asked, model_asked, number_of, obstruction_asked, points_asked, preset_job_asked, proof_asked, solve_asked, this_job, trim_asked, verify_asked, verify_branch, verify_whole, views_asked, workers_of};
 
 use crate::forms::form_of;
 use crate::limits::MOST_WORKERS;
 use crate::presets::Options;
-use crate::{Job, Piece, Slip, WordsFault};
+use crate::{Job, Mistake, Piece, WordsFault};
 use clap::ArgMatches;
 use std::alloc::Global;
 use wf_report::Form;
@@ -98,7 +98,7 @@ fn job_of(alloc: Global, name: &str, found: &ArgMatches<'_>) -> Result<Job, Word
 }
 
 /// A job without a file, or its slip.
-fn this(found: Result<Job, Slip>) -> Result<Job, WordsFault>
+fn this(found: Result<Job, Mistake>) -> Result<Job, WordsFault>
     requires { IfOk found CanBeDone }
     ensures asked { Answers (this_or_slip found) result }
     ensures can_be_done { IfOk result CanBeDone }
@@ -113,18 +113,18 @@ fn this(found: Result<Job, Slip>) -> Result<Job, WordsFault>
 fn missing(what: Piece) -> WordsFault
     ensures { result ≡ fault.Words (slip.Missing what) }
 {
-    WordsFault::Words(Slip::Missing(what))
+    WordsFault::Words(Mistake::Missing(what))
 }
 
 /// The job of `solve`. There is none with both `--verdict` and `--least`, nor
 /// with both `--branch` and `--account`.
-fn solve_job(found: &ArgMatches<'_>) -> Result<Job, Slip>
+fn solve_job(found: &ArgMatches<'_>) -> Result<Job, Mistake>
     ensures asked { this_or_slip result ≡ solve_asked (rows_of (found_of found.now)) }
     ensures can_be_done { IfOk result CanBeDone }
 {
-    let rounds = number(found, "rounds").ok_or(Slip::Missing(Piece::Rounds))?;
-    let workers = workers(found).ok_or(Slip::Workers)?;
-    let form = form_of(flag(found, "verdict"), flag(found, "least")).ok_or(Slip::Beside(
+    let rounds = number(found, "rounds").ok_or(Mistake::Missing(Piece::Rounds))?;
+    let workers = workers(found).ok_or(Mistake::Workers)?;
+    let form = form_of(flag(found, "verdict"), flag(found, "least")).ok_or(Mistake::Beside(
         Piece::Verdict,
         Piece::Least,
     ))?;
@@ -149,12 +149,12 @@ fn branch_job(
     form: Form,
     account: bool,
     progress: bool,
-) -> Result<Job, Slip>
+) -> Result<Job, Mistake>
     ensures asked { this_or_slip result ≡ branch_job rounds branch form account progress }
     ensures can_be_done { IfOk result CanBeDone }
 {
     if account {
-        return Err(Slip::Beside(Piece::Branch, Piece::Account));
+        return Err(Mistake::Beside(Piece::Branch, Piece::Account));
     }
     Ok(Job::SolveBranch {
         rounds,
@@ -187,7 +187,7 @@ fn verify_branch(alloc: Global, found: &ArgMatches<'_>, branch: u32) -> Result<J
             branch,
         }),
         (None, _) => Err(missing(Piece::Task)),
-        (Some(_), None) => Err(WordsFault::Words(Slip::Needs(Piece::Branch, Piece::Rounds))),
+        (Some(_), None) => Err(WordsFault::Words(Mistake::Needs(Piece::Branch, Piece::Rounds))),
     }
 }
 
@@ -206,11 +206,11 @@ fn verify_whole(alloc: Global, found: &ArgMatches<'_>) -> Result<Job, WordsFault
 }
 
 /// The job of `views`.
-fn views_job(found: &ArgMatches<'_>) -> Result<Job, Slip>
+fn views_job(found: &ArgMatches<'_>) -> Result<Job, Mistake>
     ensures asked { this_or_slip result ≡ views_asked (rows_of (found_of found.now)) }
     ensures can_be_done { IfOk result CanBeDone }
 {
-    let rounds = number(found, "rounds").ok_or(Slip::Missing(Piece::Rounds))?;
+    let rounds = number(found, "rounds").ok_or(Mistake::Missing(Piece::Rounds))?;
     Ok(Job::Views { rounds })
 }
 
@@ -224,17 +224,17 @@ fn points_job(alloc: Global, found: &ArgMatches<'_>) -> Result<Job, WordsFault>
         (None, Some(task)) => Ok(Job::Decisions {
             task: String::from_str(alloc, task)?,
         }),
-        (Some(_), Some(_)) => Err(WordsFault::Words(Slip::Beside(Piece::Rounds, Piece::Task))),
-        (None, None) => Err(WordsFault::Words(Slip::Neither(Piece::Rounds, Piece::Task))),
+        (Some(_), Some(_)) => Err(WordsFault::Words(Mistake::Beside(Piece::Rounds, Piece::Task))),
+        (None, None) => Err(WordsFault::Words(Mistake::Neither(Piece::Rounds, Piece::Task))),
     }
 }
 
 /// The job of `branches`.
-fn branches_job(found: &ArgMatches<'_>) -> Result<Job, Slip>
+fn branches_job(found: &ArgMatches<'_>) -> Result<Job, Mistake>
     ensures asked { this_or_slip result ≡ branches_asked (rows_of (found_of found.now)) }
     ensures can_be_done { IfOk result CanBeDone }
 {
-    let rounds = number(found, "rounds").ok_or(Slip::Missing(Piece::Rounds))?;
+    let rounds = number(found, "rounds").ok_or(Mistake::Missing(Piece::Rounds))?;
     Ok(Job::Branches { rounds })
 }
 
@@ -254,11 +254,11 @@ fn join_job(alloc: Global, found: &ArgMatches<'_>) -> Result<Job, WordsFault>
 }
 
 /// The job of `cnf`.
-fn cnf_job(found: &ArgMatches<'_>) -> Result<Job, Slip>
+fn cnf_job(found: &ArgMatches<'_>) -> Result<Job, Mistake>
     ensures asked { this_or_slip result ≡ cnf_asked (rows_of (found_of found.now)) }
     ensures can_be_done { IfOk result CanBeDone }
 {
-    let rounds = number(found, "rounds").ok_or(Slip::Missing(Piece::Rounds))?;
+    let rounds = number(found, "rounds").ok_or(Mistake::Missing(Piece::Rounds))?;
     Ok(Job::Cnf {
         rounds,
         branch: number(found, "branch"),
@@ -337,11 +337,11 @@ fn lift_job(alloc: Global, found: &ArgMatches<'_>) -> Result<Job, WordsFault>
 }
 
 /// The job of `executions`.
-fn executions_job(found: &ArgMatches<'_>) -> Result<Job, Slip>
+fn executions_job(found: &ArgMatches<'_>) -> Result<Job, Mistake>
     ensures asked { this_or_slip result ≡ executions_asked (rows_of (found_of found.now)) }
     ensures can_be_done { IfOk result CanBeDone }
 {
-    let rounds = number(found, "rounds").ok_or(Slip::Missing(Piece::Rounds))?;
+    let rounds = number(found, "rounds").ok_or(Mistake::Missing(Piece::Rounds))?;
     Ok(Job::Executions { rounds })
 }
 
@@ -357,13 +357,13 @@ fn obstruction_job(found: &ArgMatches<'_>) -> Job
 }
 
 /// The job of `preset`.
-fn preset_job(found: &ArgMatches<'_>) -> Result<Job, Slip>
+fn preset_job(found: &ArgMatches<'_>) -> Result<Job, Mistake>
     ensures asked { this_or_slip result ≡ preset_job_asked (rows_of (found_of found.now)) }
     ensures can_be_done { IfOk result CanBeDone }
 {
-    let kind = text(found, "kind").ok_or(Slip::Missing(Piece::Kind))?;
+    let kind = text(found, "kind").ok_or(Mistake::Missing(Piece::Kind))?;
     let options = Options {
-        processes: number(found, "processes").ok_or(Slip::Missing(Piece::Processes))?,
+        processes: number(found, "processes").ok_or(Mistake::Missing(Piece::Processes))?,
         k: number(found, "k"),
         values: number(found, "values"),
         names: number(found, "names"),

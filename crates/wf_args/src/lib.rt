@@ -20,7 +20,7 @@ use crate::command::whole_command;
 use crate::jobs::job_in;
 use clap::ArgMatches;
 use clap::error::ErrorKind;
-pub use slip::{Piece, Slip};
+pub use slip::{Mistake, Piece};
 use std::alloc::{AllocError, Global};
 use std::io;
 pub use version::{LOGIC, VERSION};
@@ -169,7 +169,7 @@ pub enum WordsFault {
         negative: bool,
     },
     /// The words are read but ask for what this program refuses, or one of them is no text.
-    Words(Slip),
+    Words(Mistake),
     /// Memory ran out.
     OutOfMemory,
 }
@@ -194,7 +194,7 @@ impl From<io::Error> for WordsFault {
     fn from(error: io::Error) -> WordsFault {
         match error.kind() {
             io::ErrorKind::OutOfMemory => WordsFault::OutOfMemory,
-            _ => WordsFault::Words(Slip::NotText),
+            _ => WordsFault::Words(Mistake::NotText),
         }
     }
 }

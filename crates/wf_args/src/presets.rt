@@ -3,7 +3,7 @@
 ghost use Rattle.std.specs.Prelude.{◌≡◌};
 ghost use Rattle.wf_args.specs.Presets.{agreement_asked, inputs_asked, preset_asked, renaming_asked};
 
-use crate::slip::{Piece, Slip};
+use crate::slip::{Mistake, Piece};
 use wf_preset::{Inputs, Preset};
 
 /// The options of `preset`, as they were given.
@@ -18,7 +18,7 @@ pub(crate) struct Options {
 impl Options {
     /// The preset of a kind with these options. It is a slip to ask for another kind, to leave out
     /// an option that the kind needs, and to give one of the other kind.
-    pub(crate) fn preset(self, kind: &str) -> Result<Preset, Slip>
+    pub(crate) fn preset(self, kind: &str) -> Result<Preset, Mistake>
         ensures { result ≡ preset_asked kind.now self }
     {
         if kind == "set-agreement" {
@@ -26,17 +26,17 @@ impl Options {
         } else if kind == "renaming" {
             self.renaming()
         } else {
-            Err(Slip::OtherKind)
+            Err(Mistake::OtherKind)
         }
     }
 
     /// The set agreement with these options.
-    fn set_agreement(self) -> Result<Preset, Slip>
+    fn set_agreement(self) -> Result<Preset, Mistake>
         ensures { result ≡ agreement_asked self.processes self.k self.values self.names }
     {
         match (self.k, self.names) {
-            (_, Some(_)) => Err(Slip::Beside(Piece::Names, Piece::SetAgreement)),
-            (None, None) => Err(Slip::Needs(Piece::SetAgreement, Piece::K)),
+            (_, Some(_)) => Err(Mistake::Beside(Piece::Names, Piece::SetAgreement)),
+            (None, None) => Err(Mistake::Needs(Piece::SetAgreement, Piece::K)),
             (Some(k), None) => Ok(Preset::SetAgreement {
                 processes: self.processes,
                 k,
@@ -46,13 +46,13 @@ impl Options {
     }
 
     /// The renaming with these options.
-    fn renaming(self) -> Result<Preset, Slip>
+    fn renaming(self) -> Result<Preset, Mistake>
         ensures { result ≡ renaming_asked self.processes self.k self.values self.names }
     {
         match (self.k, self.values, self.names) {
-            (Some(_), _, _) => Err(Slip::Beside(Piece::K, Piece::Renaming)),
-            (None, Some(_), _) => Err(Slip::Beside(Piece::Values, Piece::Renaming)),
-            (None, None, None) => Err(Slip::Needs(Piece::Renaming, Piece::Names)),
+            (Some(_), _, _) => Err(Mistake::Beside(Piece::K, Piece::Renaming)),
+            (None, Some(_), _) => Err(Mistake::Beside(Piece::Values, Piece::Renaming)),
+            (None, None, None) => Err(Mistake::Needs(Piece::Renaming, Piece::Names)),
             (None, None, Some(names)) => Ok(Preset::Renaming {
                 processes: self.processes,
                 names,

@@ -68,7 +68,7 @@ impl fmt::Display for Piece {
 
 /// Why words that are read make no job. Its text says which of them it is about.
 #[derive(Clone, Copy, Debug, PartialEq, Eq)]
-pub enum Slip {
+pub enum Mistake {
     /// One of the words is no text.
     NotText,
     /// This has to be given, and is not.
@@ -85,22 +85,22 @@ pub enum Slip {
     Workers,
 }
 
-impl fmt::Display for Slip {
+impl fmt::Display for Mistake {
     ghost output = { λ slip. Some (slip_text slip) };
 
     fn fmt<W: fmt::Write>(&self, f: &mut fmt::Formatter<W>) -> fmt::Result {
         match self {
-            Slip::NotText => write!(f, "one of the words is no UTF-8 text"),
-            Slip::Missing(what) => write!(f, "the argument '{what}' is missing"),
-            Slip::Needs(who, what) => write!(f, "'{who}' needs the argument '{what}'"),
-            Slip::Neither(one, other) => {
+            Mistake::NotText => write!(f, "one of the words is no UTF-8 text"),
+            Mistake::Missing(what) => write!(f, "the argument '{what}' is missing"),
+            Mistake::Needs(who, what) => write!(f, "'{who}' needs the argument '{what}'"),
+            Mistake::Neither(one, other) => {
                 write!(f, "one of the arguments '{one}' and '{other}' is needed")
             }
-            Slip::Beside(one, other) => {
+            Mistake::Beside(one, other) => {
                 write!(f, "the argument '{one}' cannot be used with '{other}'")
             }
-            Slip::OtherKind => write!(f, "a preset is 'set-agreement' or 'renaming'"),
-            Slip::Workers => write!(f, "'--workers' takes a number from 1 to {MOST_WORKERS}"),
+            Mistake::OtherKind => write!(f, "a preset is 'set-agreement' or 'renaming'"),
+            Mistake::Workers => write!(f, "'--workers' takes a number from 1 to {MOST_WORKERS}"),
         }
     }
 }

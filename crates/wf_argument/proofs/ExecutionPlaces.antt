@@ -19,10 +19,10 @@ use Rattle.wf_complex.specs.Protocol.{Built, IsProtocol}
 use Rattle.wf_complex.proofs.Bounds.{suc_times}
 use Rattle.wf_complex.proofs.Executions.{length-lists_of}
 use Rattle.wf_trim.proofs.Places.{begun_by, begun, there_within, MadeOf, made_of, made_there, as_many_numbers}
-use Rattle.wf_argument.specs.declared.executions.Span.{Span}
+use Rattle.wf_argument.specs.declared.executions.ExecutionRange.{ExecutionRange}
 use Rattle.wf_argument.specs.Table.{spans_of, words_up_to, break_text}
 use Rattle.wf_argument.specs.Text.{others_text, block_text, block_of, word_text, words_text, execution_text}
-use Rattle.wf_argument.proofs.Listing.{rest_of}
+use Rattle.wf_argument.proofs.ListsInWords.{rest_of}
 use Rattle.wf_complex.proofs.Lemmas.{as_many_executions}
 use Rattle.wf_trim.proofs.Lemmas.{length-on}
 
@@ -239,7 +239,7 @@ read_at xs i x d low is = sym (get_or_from_slice_get xs i x d (slice_get_read xs
 -- an execution of the task, with its simplex, its span and its text
 pub record IsFound (t : Task) (r e s : ℕ) : Type 0 where
   pub rule : Rule
-  pub span : Span
+  pub span : ExecutionRange
   pub rule_there : slice_get t.delta s ≡ Some rule
   pub span_there : slice_get (spans_of (first_block t) r 0 (inputs t)) s ≡ Some span
   pub begun : span.first ≤ e
@@ -255,8 +255,8 @@ found_there t r b e s h on =
     let lists = lists_of (words m (length rule.input)) r in
     let before = length (flat_map (executions_on m r) (take at.number t.delta)) in
     let number : at.number ≡ s = omega (arith, at.numbered) in
-    let spans : List Span = spans_of m r 0 (inputs t) in
-    let span : Span = record { first = 0 + before; count = turns m (length rule.input) r } in
+    let spans : List ExecutionRange = spans_of m r 0 (inputs t) in
+    let span : ExecutionRange = record { first = 0 + before; count = turns m (length rule.input) r } in
     let low : at.place < length lists = omega (arith, at.within, length-on m r rule, length-lists_of m (length rule.input) r) in
     let offset : e - (0 + before) ≡ at.place = omega (arith, at.at) in
     let (ws, ws_there) = there_within lists at.place low in
@@ -285,18 +285,18 @@ pub as_many : (t : Task) (r : ℕ) (b : Built) → IsProtocol t r b → length b
 as_many t r b h = ap length h.simplices_are ∙ as_many_numbers (executions_on (first_block t) r) t.delta 0 ∙ sym (as_many_executions t r b h)
 
 -- what the look-ups of an execution give
-pub record IsLookedUp (t : Task) (r e s : ℕ) (simplex : Simplex) (span : Span) (ws : List Word) : Type 0 where
+pub record IsLookedUp (t : Task) (r e s : ℕ) (simplex : Simplex) (span : ExecutionRange) (ws : List Word) : Type 0 where
   pub begun : span.first ≤ e
   pub count : span.count ≡ length (lists_of ws r)
   pub place : e - span.first < span.count
   pub long : All (λ w. length w ≡ length simplex) ws
   pub text : words_text (processes_of simplex) (slice_index_or (lists_of ws r) (e - span.first) []) ≡ execution_text (slice_get (executions t r) e)
 
-pub looked_up : (t : Task) (r e s : ℕ) (simplex : Simplex) (span : Span) (ws : List Word) → (f : IsFound t r e s) → simplex ≡ f.rule.input → span ≡ f.span → ws ≡ words (first_block t) (length f.rule.input)
+pub looked_up : (t : Task) (r e s : ℕ) (simplex : Simplex) (span : ExecutionRange) (ws : List Word) → (f : IsFound t r e s) → simplex ≡ f.rule.input → span ≡ f.span → ws ≡ words (first_block t) (length f.rule.input)
     → IsLookedUp t r e s simplex span ws
 looked_up t r e s simplex span ws f on at are =
-    let first : span.first ≡ f.span.first = ap (λ (x : Span). x.first) at in
-    let count : span.count ≡ f.span.count = ap (λ (x : Span). x.count) at in
+    let first : span.first ≡ f.span.first = ap (λ (x : ExecutionRange). x.first) at in
+    let count : span.count ≡ f.span.count = ap (λ (x : ExecutionRange). x.count) at in
     record {
       begun = omega (arith, first, f.begun);
       count = count ∙ f.count ∙ ap (λ xs. length (lists_of xs r)) (sym are);

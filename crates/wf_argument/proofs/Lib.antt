@@ -1,12 +1,12 @@
-mod Citing
+mod CitedSteps
 pub mod ExecutionPlaces
-mod Listing
+mod ListsInWords
 mod Margins
-mod Parting
+mod TextParts
 mod Pieces
 mod Places
-pub mod Reasoning
-mod Stepping
-mod Taking
+pub mod GoneTuples
+mod PartSteps
+mod TakenValues
 mod Trails
 mod Usage

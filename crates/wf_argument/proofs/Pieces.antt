@@ -9,11 +9,11 @@ use Rattle.wf_model.specs.PointsText.{process_text}
 use Rattle.wf_io.specs.Seen.{Writing}
 use Rattle.wf_io.specs.Texts.{PutsText, TookBeginning}
 use Rattle.wf_io.specs.declared.sink.WriteFault.{WriteFault}
-use Rattle.wf_io.proofs.Putting.{IsPut, begun, went_on, stopped, last_put}
+use Rattle.wf_io.proofs.PagePieces.{IsPut, begun, went_on, stopped, last_put}
 use Rattle.wf_argument.specs.Listing.{before_process}
 use Rattle.wf_argument.specs.Table.{break_text}
 use Rattle.wf_argument.specs.Text.{block_text, others_text, word_text, words_text}
-use Rattle.wf_argument.proofs.Listing.{rest_of}
+use Rattle.wf_argument.proofs.ListsInWords.{rest_of}
 use Rattle.wf_argument.proofs.ExecutionPlaces.{AreTold, all_told, none_told, one_more_round, to_come}
 
 -- ---- two pieces

@@ -9,8 +9,8 @@ use Rattle.wf_set.specs.Sets.{values_in}
 use Rattle.wf_argument.specs.State.{Gone, losses, with_losses, has_loss, loss_among, taken, left_at, in_this_case, case_of, entered}
 use Rattle.wf_argument.specs.Trail.{later, later_from, losing}
 use Rattle.wf_argument.specs.declared.losses.Loss.{Loss}
-use Rattle.wf_argument.specs.declared.state.Entry.{Entry}
-use Rattle.wf_argument.specs.declared.state.Entry.TheVariants.{Lost, Later}
+use Rattle.wf_argument.specs.declared.state.UndoStep.{UndoStep}
+use Rattle.wf_argument.specs.declared.state.UndoStep.TheVariants.{Lost, Later}
 
 -- ---- losses
 
@@ -27,15 +27,15 @@ given_back (l ∷ gone) (suc v) xs = ap (λ rest. l ∷ rest) (given_back gone v
 -- ---- entries
 
 -- one more entry
-pub later_push : (values : List ℕ) (trail : List Entry) (e : Entry) (gone : Gone) → later values (trail ++ e ∷ []) gone ≡ later_from values (e ∷ reverse trail) gone
+pub later_push : (values : List ℕ) (trail : List UndoStep) (e : UndoStep) (gone : Gone) → later values (trail ++ e ∷ []) gone ≡ later_from values (e ∷ reverse trail) gone
 later_push values trail e gone = ap (λ es. later_from values es gone) (reverse-append trail (e ∷ []))
 
 -- the last entry is taken back
-pub later_popped : (values : List ℕ) (trail before : List Entry) (e : Entry) (gone : Gone) → before ≡ trail ++ e ∷ [] → later values before gone ≡ later_from values (e ∷ reverse trail) gone
+pub later_popped : (values : List ℕ) (trail before : List UndoStep) (e : UndoStep) (gone : Gone) → before ≡ trail ++ e ∷ [] → later values before gone ≡ later_from values (e ∷ reverse trail) gone
 later_popped values trail before e gone is = ap (λ es. later values es gone) is ∙ later_push values trail e gone
 
 -- a point loses values, and the way back has how many were lost before
-pub later_lost : (values : List ℕ) (trail after : List Entry) (gone : Gone) (v n : ℕ) (xs : List Loss) → after ≡ trail ++ Lost v n ∷ [] → n ≡ length (losses gone v)
+pub later_lost : (values : List ℕ) (trail after : List UndoStep) (gone : Gone) (v n : ℕ) (xs : List Loss) → after ≡ trail ++ Lost v n ∷ [] → n ≡ length (losses gone v)
     → later values after (with_losses gone v xs) ≡ later values trail gone
 later_lost values trail after gone v n xs is long =
     later_popped values trail after (Lost v n) (with_losses gone v xs) is
@@ -97,7 +97,7 @@ taken_now n v a gone is = ap (λ b. cond b gone (with_losses gone v (record { va
 
 -- ---- a case that begins
 
-pub entered_first : (n depth v a : ℕ) (values : List ℕ) (trail after : List Entry) (set others lost : List ℕ) (gone : Gone) (s : state.State) → after ≡ trail ++ Later v depth others ∷ [] → values_in set ≡ a ∷ values_in others
+pub entered_first : (n depth v a : ℕ) (values : List ℕ) (trail after : List UndoStep) (set others lost : List ℕ) (gone : Gone) (s : state.State) → after ≡ trail ++ Later v depth others ∷ [] → values_in set ≡ a ∷ values_in others
     → values_in lost ≡ filter (λ b. not (b == a)) (left_at values gone v)
     → s ≡ losing (record { number = n; depth = depth; gone = gone; later = later values after gone }) v (map in_this_case (values_in lost))
     → Some s ≡ entered n (map (case_of values depth gone v) (values_in set) ++ later values trail gone)

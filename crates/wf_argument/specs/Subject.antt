@@ -14,7 +14,7 @@ use Rattle.wf_argument.specs.State as state
 use Rattle.wf_argument.specs.State.{points_in}
 use Rattle.wf_argument.specs.Text.{indented, name, parts_text, steps_made, told_taking}
 use Rattle.wf_argument.specs.Trail.{state_of}
-use Rattle.wf_argument.specs.declared.seat.Seat.{Seat}
+use Rattle.wf_argument.specs.declared.seat.Participant.{Participant}
 use Rattle.wf_argument.specs.declared.state.Case.{Case}
 use Rattle.wf_argument.specs.declared.state.State.{State}
 use Rattle.wf_argument.specs.declared.subject.Subject.{Subject}
@@ -57,18 +57,18 @@ steps_to_come x ls s (Some n) = steps_made (problem_in x) (Some (state_of s)) (p
 -- ---- a process in an execution
 
 -- its points and its tuples are those of an execution that is there
-pub record IsSeat (x : Subject) (seat : Seat) : Type 0 where
+pub record IsSeat (x : Subject) (seat : Participant) : Type 0 where
   pub execution : seat.execution < length x.protocol.now.simplices
   pub inside : seat.place < length seat.points.now
   pub points : seat.points.now ≡ points_in (constraint_at (problem_in x) seat.execution)
   pub tuples : seat.tuples.now ≡ (constraint_at (problem_in x) seat.execution).tuples
 
 -- what is told where these values are still to be taken
-abbrev pub taking_left : Subject → Seat → State → List ℕ → List ℕ
+abbrev pub taking_left : Subject → Participant → State → List ℕ → List ℕ
 taking_left x seat s values = told_taking (problem_in x) (executions_in x) (state_of s) seat.execution values (Some (seat.place, point_at seat))
 
 -- how far the argument is once they are taken
-abbrev pub state_after : Subject → Seat → State → List ℕ → state.State
+abbrev pub state_after : Subject → Participant → State → List ℕ → state.State
 state_after x seat s values = state.after_taking (problem_in x) (state_of s) seat.execution values (Some (seat.place, point_at seat))
 
 -- ---- lines that go together

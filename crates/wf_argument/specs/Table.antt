@@ -6,19 +6,19 @@ use Rattle.wf_model.specs.Simplex.{Simplex, processes_of}
 use Rattle.wf_model.specs.Task.{Task, inputs, first_block}
 use Rattle.wf_model.specs.Word.{Word, words}
 use Rattle.wf_complex.specs.Layout.{turns}
-use Rattle.wf_argument.specs.declared.executions.Span.{Span}
+use Rattle.wf_argument.specs.declared.executions.ExecutionRange.{ExecutionRange}
 use Rattle.wf_argument.specs.Text.{words_text}
-use Rattle.wf_argument.specs.declared.executions.Found.{Found}
+use Rattle.wf_argument.specs.declared.executions.LocatedExecution.{LocatedExecution}
 use Rattle.wf_argument.specs.declared.executions.Members.{Members}
 use Rattle.wf_argument.specs.declared.executions.Executions.TheInside.{Inside}
 
 -- what a clause sees of it
 pub record Table : Type 0 where
-  pub spans : List Span  -- of each input simplex, the first of its executions and how many there are
+  pub spans : List ExecutionRange  -- of each input simplex, the first of its executions and how many there are
   pub words : List (List Word)  -- those of one participant, of two, of three and of four
 
 -- the spans of these simplices, of which the first one's executions begin here
-abbrev pub spans_of : ℕ → ℕ → ℕ → List Simplex → List Span
+abbrev pub spans_of : ℕ → ℕ → ℕ → List Simplex → List ExecutionRange
 spans_of m r first [] = []
 spans_of m r first (s ∷ ss) = record { first = first; count = turns m (length s) r } ∷ spans_of m r (first + turns m (length s) r) ss
 
@@ -46,13 +46,13 @@ members_in m = take m.count m.processes
 
 -- its place is one of those among the lists of words for its rounds, and each
 -- word is one of its participants
-pub record IsWhole (f : Found) : Type 0 where
+pub record IsWhole (f : LocatedExecution) : Type 0 where
   pub count : f.count ≡ length (lists_of f.words.now f.rounds)
   pub place : f.place < f.count
   pub long : All (λ w. length w ≡ length f.simplex) f.words.now
 
-abbrev pub words_found : Found → List Word
+abbrev pub words_found : LocatedExecution → List Word
 words_found f = slice_index_or (lists_of f.words.now f.rounds) f.place []
 
-abbrev pub text_of : Found → List ℕ
+abbrev pub text_of : LocatedExecution → List ℕ
 text_of f = words_text (processes_of f.simplex) (words_found f)

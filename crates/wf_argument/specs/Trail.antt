@@ -7,20 +7,20 @@ use Rattle.wf_argument.specs.State as state
 use Rattle.wf_argument.specs.State.{Gone, losses, with_losses, case_of}
 use Rattle.wf_argument.specs.declared.losses.Loss.{Loss}
 use Rattle.wf_argument.specs.declared.state.Case.{Case}
-use Rattle.wf_argument.specs.declared.state.Entry.{Entry}
-use Rattle.wf_argument.specs.declared.state.Entry.TheVariants.{Lost, Later}
+use Rattle.wf_argument.specs.declared.state.UndoStep.{UndoStep}
+use Rattle.wf_argument.specs.declared.state.UndoStep.TheVariants.{Lost, Later}
 use Rattle.wf_argument.specs.declared.state.State.{State}
 
 -- The last entry comes first: a point has its first losses alone again, or cases are to come, each
 -- a value of a point where this is gone.
-abbrev pub later_from : List ℕ → List Entry → Gone → List state.Case
+abbrev pub later_from : List ℕ → List UndoStep → Gone → List state.Case
 later_from values [] gone = []
 later_from values (Lost v n ∷ below) gone = later_from values below (slice_set gone v (take n (losses gone v)))
 later_from values (Later v depth set ∷ below) gone =
     map (case_of values depth gone v) (values_in set) ++ later_from values below gone
 
 -- the cases that are still to come
-abbrev pub later : List ℕ → List Entry → Gone → List state.Case
+abbrev pub later : List ℕ → List UndoStep → Gone → List state.Case
 later values trail gone = later_from values (reverse trail) gone
 
 -- the values of the outputs

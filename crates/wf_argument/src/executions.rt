@@ -24,7 +24,7 @@ const MOST_PROCESSES: u8 = 4;
 
 /// The first execution on an input simplex, and how many there are.
 #[derive(Clone, Copy, Debug)]
-pub(crate) struct Span {
+pub(crate) struct ExecutionRange {
     first: u32,
     count: u32,
 }
@@ -36,7 +36,7 @@ pub(crate) struct Span {
 /// A clause sees it as a `Table`; `table_of` is that of a task after some rounds.
 #[derive(Drop)]
 pub struct Executions {
-    spans: Vec<Span>,
+    spans: Vec<ExecutionRange>,
     // the words of one participant, of two and so on
     words: Vec<Vec<Word>>,
 }
@@ -80,7 +80,12 @@ impl Executions {
     }
 
     /// The execution of this number.
-    pub(crate) fn find<'a>(&'a self, task: &Task, protocol: &Protocol, execution: u32) -> Found<'a>
+    pub(crate) fn find<'a>(
+        &'a self,
+        task: &Task,
+        protocol: &Protocol,
+        execution: u32,
+    ) -> LocatedExecution<'a>
         requires protocol { IsProtocol task.now protocol.now.rounds protocol.now }
         requires table { self.now ≡ table_of task.now protocol.now.rounds }
         requires execution { execution < length protocol.now.simplices }
@@ -94,7 +99,7 @@ impl Executions {
         let span = spans[number];
         let table = self.words.as_slice();
         let words = table[simplex.colours() as usize - 1].as_slice();
-        Found {
+        LocatedExecution {
             simplex,
             words,
             rounds: protocol.rounds(),
@@ -107,7 +112,7 @@ impl Executions {
 /// An execution that was looked up: its input simplex, the words of as many participants, and its
 /// place among the `count` lists of words for so many rounds.
 #[derive(Clone, Copy)]
-pub(crate) struct Found<'a> {
+pub(crate) struct LocatedExecution<'a> {
     pub(crate) simplex: Simplex,
     pub(crate) words: &'a [Word],
     pub(crate) rounds: u32,
@@ -151,7 +156,7 @@ fn spans_of(
     inputs: &[Simplex],
     first_block: u8,
     rounds: u32,
-) -> Result<Vec<Span>, AllocError>
+) -> Result<Vec<ExecutionRange>, AllocError>
     requires one { 1 ≤ first_block }
     requires most { first_block ≤ most_processes }
     requires few { execution_total first_block rounds inputs.now ≤ most_executions }
@@ -161,7 +166,7 @@ fn spans_of(
     let mut first = 0;
     for simplex in inputs {
         let count = turn_count(simplex.colours(), first_block, rounds);
-        spans.push(Span { first, count })?;
+        spans.push(ExecutionRange { first, count })?;
         first += count;
     }
     Ok(spans)
@@ -185,7 +190,7 @@ fn turn_count(size: u8, first_block: u8, rounds: u32) -> u32
 }
 
 /// Adds the words of an execution; before the first round those who take part.
-fn put_words(text: &mut String, found: &Found<'_>) -> Result<(), AllocError>
+fn put_words(text: &mut String, found: &LocatedExecution<'_>) -> Result<(), AllocError>
     requires { IsWhole found.now }
     ensures { OnOk result (string_bytes text.new ≡ string_bytes text.old ++ text_of found.now) }
 {

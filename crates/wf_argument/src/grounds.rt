@@ -7,7 +7,7 @@ ghost use Rattle.wf_argument.specs.Trail.{state_of};
 
 use crate::losses::Loss;
 use crate::reasons::{Reason, add_reason, first_gone, has_at};
-use crate::seat::Seat;
+use crate::seat::Participant;
 use crate::state::State;
 use std::alloc::{AllocError, Global};
 use wf_task::Row;
@@ -37,7 +37,7 @@ impl Grounds {
     /// cite itself, and what it rests on is noted. Answers how many.
     pub(crate) fn take_step(
         &mut self,
-        seat: &Seat,
+        seat: &Participant,
         values: &[u8],
         state: &mut State,
     ) -> Result<usize, AllocError>
@@ -70,7 +70,12 @@ impl Grounds {
     }
 
     /// The next step takes a value, and what it rests on there is noted.
-    fn take_value(&mut self, seat: &Seat, value: u8, state: &mut State) -> Result<(), AllocError>
+    fn take_value(
+        &mut self,
+        seat: &Participant,
+        value: u8,
+        state: &mut State,
+    ) -> Result<(), AllocError>
         requires { seat.now.place < length seat.now.points.now }
         ensures needed { let x = seat.now in OnOk result (self.new.needed.items
             ≡ self.old.needed.items ++ needed x.tuples.now x.place value) }
@@ -87,7 +92,7 @@ impl Grounds {
     }
 
     /// Notes the tuples with this value of a process, and why they can't be decided.
-    fn note(&mut self, seat: &Seat, value: u8, gone: &[Vec<Loss>]) -> Result<(), AllocError>
+    fn note(&mut self, seat: &Participant, value: u8, gone: &[Vec<Loss>]) -> Result<(), AllocError>
         ensures needed { let x = seat.now in OnOk result (self.new.needed.items
             ≡ self.old.needed.items ++ needed x.tuples.now x.place value) }
         ensures reasons { let x = seat.now in let needed = needed x.tuples.now x.place value in
@@ -123,7 +128,7 @@ impl Grounds {
 }
 
 /// Whether the next step would have to cite itself for a value of a process.
-fn cites_itself(seat: &Seat, value: u8, state: &State) -> bool
+fn cites_itself(seat: &Participant, value: u8, state: &State) -> bool
     ensures { let x = seat.now in let s = state_of state.now in
         result ≡ cites_itself x.tuples.now x.points.now s.number x.place s.gone value }
 {

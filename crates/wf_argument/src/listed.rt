@@ -11,7 +11,7 @@ ghost use Rattle.wf_argument.specs.Listing.{before_process, execution_line, exec
 ghost use Rattle.wf_argument.specs.Table.{IsWhole, break_text, table_of, text_of};
 ghost use Rattle.wf_argument.specs.Text.{block_text, word_text};
 
-use crate::executions::{Executions, Found, block_of, members_of};
+use crate::executions::{Executions, LocatedExecution, block_of, members_of};
 use std::io::Write;
 use wf_complex::Protocol;
 use wf_io::{Page, Sink, WriteFault};
@@ -125,7 +125,7 @@ fn put_point<W: Write>(page: &mut Page, sink: &mut Sink<W>, point: u32) -> Resul
 fn put_words<W: Write>(
     page: &mut Page,
     sink: &mut Sink<W>,
-    found: &Found<'_>,
+    found: &LocatedExecution<'_>,
 ) -> Result<(), WriteFault>
     requires open { CanWrite sink.old }
     requires whole { IsWhole found.now }

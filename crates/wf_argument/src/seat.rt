@@ -4,7 +4,7 @@ use wf_task::Row;
 
 /// Where a process takes part in an execution.
 #[derive(Clone, Copy, Debug)]
-pub(crate) struct Seat<'a> {
+pub(crate) struct Participant<'a> {
     /// The execution.
     pub(crate) execution: u32,
     /// The place of the process among those who take part.

@@ -20,7 +20,7 @@ const DEEPEST: u8 = 12;
 
 /// A step of the way back.
 #[derive(Clone, Copy, Debug, Drop)]
-pub(crate) enum Entry {
+pub(crate) enum UndoStep {
     /// The point had so many losses before.
     Lost {
         /// The number of the point.
@@ -62,7 +62,7 @@ pub(crate) struct State {
     /// The values of the outputs.
     pub(crate) values: Mask,
     /// The way back: the last step was taken last.
-    pub(crate) trail: Vec<Entry>,
+    pub(crate) trail: Vec<UndoStep>,
 }
 
 impl State {
@@ -120,7 +120,7 @@ impl State {
     {
         let depth = self.depth.saturating_add(1).min(DEEPEST);
         let values = self.left(point);
-        self.trail.push(Entry::Later {
+        self.trail.push(UndoStep::Later {
             point,
             depth,
             values,
@@ -138,8 +138,8 @@ impl State {
     {
         'back: while let Some(entry) = self.trail.pop() {
             match entry {
-                Entry::Lost { point, before } => give_back(&mut self.gone, point, before),
-                Entry::Later {
+                UndoStep::Lost { point, before } => give_back(&mut self.gone, point, before),
+                UndoStep::Later {
                     point,
                     depth,
                     values,
@@ -171,7 +171,7 @@ impl State {
         };
         let (value, others) = split;
         let lost = without(self.left(point), value);
-        self.trail.push(Entry::Later {
+        self.trail.push(UndoStep::Later {
             point,
             depth,
             values: others,
@@ -210,7 +210,7 @@ impl State {
     {
         if (point as usize) < self.gone.len() {
             let before = self.gone[point as usize].len();
-            self.trail.push(Entry::Lost { point, before })?;
+            self.trail.push(UndoStep::Lost { point, before })?;
             add_loss(&mut self.gone, point as usize, loss)?;
         }
         Ok(())

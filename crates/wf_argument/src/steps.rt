@@ -12,7 +12,7 @@ ghost use Rattle.wf_argument.specs.Text.{claim_text, execution_text, grounds_tex
 ghost use Rattle.wf_argument.specs.Trail.{state_of, values_of};
 
 use crate::grounds::Grounds;
-use crate::seat::Seat;
+use crate::seat::Participant;
 use crate::state::State;
 use crate::subject::Subject;
 use crate::words::{put_any, put_margin, put_needed, put_reasons, put_rest};
@@ -22,7 +22,7 @@ use wf_task::Task;
 
 /// A step that takes values from a point of an execution.
 #[derive(Clone, Copy, Debug)]
-struct Step<'a> {
+struct Removal<'a> {
     execution: u32,
     point: u32,
     values: &'a [u8],
@@ -64,7 +64,7 @@ pub(crate) fn put_taking(
     };
     let points = protocol.points_of(execution);
     let tuples = subject.task.tuples(number);
-    let seat = Seat {
+    let seat = Participant {
         execution,
         place,
         points,
@@ -78,7 +78,7 @@ pub(crate) fn put_taking(
 fn put_steps(
     text: &mut String,
     subject: &Subject,
-    seat: &Seat,
+    seat: &Participant,
     values: &[u8],
     state: &mut State,
     grounds: &mut Grounds,
@@ -105,7 +105,7 @@ fn put_steps(
 fn put_next(
     text: &mut String,
     subject: &Subject,
-    seat: &Seat,
+    seat: &Participant,
     values: &[u8],
     state: &mut State,
     grounds: &mut Grounds,
@@ -127,7 +127,7 @@ fn put_next(
     ensures values { state.new.values ≡ state.old.values }
 {
     let count = grounds.take_step(seat, values, state)?;
-    let step = Step {
+    let step = Removal {
         execution: seat.execution,
         point: seat.points[seat.place as usize],
         values: &values[..count],
@@ -156,7 +156,7 @@ fn place_of(task: &Task, number: u32, process: u8) -> Option<u8>
 fn put_step(
     text: &mut String,
     subject: &Subject,
-    step: &Step,
+    step: &Removal,
     state: &State,
     grounds: &Grounds,
 ) -> Result<(), AllocError>
@@ -183,7 +183,7 @@ fn put_step(
 }
 
 /// Adds what the step of a number says of the point, and where.
-fn put_claim(text: &mut String, number: usize, step: &Step) -> Result<(), AllocError>
+fn put_claim(text: &mut String, number: usize, step: &Removal) -> Result<(), AllocError>
     ensures { let v = step.now.point in OnOk result (string_bytes text.new ≡ string_bytes text.old
         ++ claim_text number v step.now.values.now step.now.execution) }
 {

@@ -3,7 +3,9 @@
 use std::cell::Cell;
 use std::test::Fail;
 use wf_examples::{CONSENSUS_2, RENAMING_2_3};
-use wf_finder::{Found, Listener, Problem, Silent, find_obstruction, has_integer_solution};
+use wf_finder::{
+    CommonTuples, FoundObstruction, Listener, Silent, find_obstruction, has_integer_solution,
+};
 use wf_task::Task;
 
 /// Consensus of two processes, whose first block has both.
@@ -50,11 +52,11 @@ impl Listener for Told {
 fn consensus(rt: HostRuntime) -> Result<(), Fail> {
     let alloc = rt.alloc();
     let task = Task::read_text(alloc, CONSENSUS_2.as_bytes())?;
-    let problem = Problem::of(alloc, &task)?;
+    let problem = CommonTuples::of(alloc, &task)?;
     let found = find_obstruction(alloc, &task, &problem, 2, &Silent)?.expect(&rt, "an obstruction");
     assert_eq!(rt; found.sum, 1);
     assert_eq!(rt; found.tuples.len(), 4);
-    let Found { sum: _, tuples } = found;
+    let FoundObstruction { sum: _, tuples } = found;
     let simplices: Vec<u32> = tuples.iter().map(|one| one.simplex).collect(alloc)?;
     assert_eq!(rt; simplices.as_slice(), [0, 1, 2, 2].as_slice());
     Ok(())
@@ -66,7 +68,7 @@ fn consensus(rt: HostRuntime) -> Result<(), Fail> {
 fn a_listener_is_told(rt: HostRuntime) -> Result<(), Fail> {
     let alloc = rt.alloc();
     let task = Task::read_text(alloc, CONSENSUS_2.as_bytes())?;
-    let problem = Problem::of(alloc, &task)?;
+    let problem = CommonTuples::of(alloc, &task)?;
     let listener = Told {
         unknowns: Cell::new(0),
         equations: Cell::new(0),
@@ -82,7 +84,7 @@ fn a_listener_is_told(rt: HostRuntime) -> Result<(), Fail> {
 fn none(rt: HostRuntime) -> Result<(), Fail> {
     let alloc = rt.alloc();
     let task = Task::read_text(alloc, RENAMING_2_3.as_bytes())?;
-    let problem = Problem::of(alloc, &task)?;
+    let problem = CommonTuples::of(alloc, &task)?;
     assert!(rt; find_obstruction(alloc, &task, &problem, 2, &Silent)?.is_none());
     assert!(rt; find_obstruction(alloc, &task, &problem, 2_147_483_647, &Silent)?.is_none());
     assert!(rt; find_obstruction(alloc, &task, &problem, 1, &Silent)?.is_none());
@@ -95,7 +97,7 @@ fn none(rt: HostRuntime) -> Result<(), Fail> {
 fn first_block(rt: HostRuntime) -> Result<(), Fail> {
     let alloc = rt.alloc();
     let task = Task::read_text(alloc, FIRST_BLOCK.as_bytes())?;
-    let problem = Problem::of(alloc, &task)?;
+    let problem = CommonTuples::of(alloc, &task)?;
     assert!(rt; find_obstruction(alloc, &task, &problem, 2, &Silent)?.is_none());
     Ok(())
 }
@@ -105,7 +107,7 @@ fn first_block(rt: HostRuntime) -> Result<(), Fail> {
 fn four(rt: HostRuntime) -> Result<(), Fail> {
     let alloc = rt.alloc();
     let task = Task::read_text(alloc, FOUR.as_bytes())?;
-    let problem = Problem::of(alloc, &task)?;
+    let problem = CommonTuples::of(alloc, &task)?;
     assert!(rt; find_obstruction(alloc, &task, &problem, 2, &Silent)?.is_none());
     let found = find_obstruction(alloc, &task, &problem, 4, &Silent)?.expect(&rt, "an obstruction");
     assert_eq!(rt; found.sum, 2);

@@ -15,14 +15,14 @@ use Rattle.wf_core.specs.declared.event.Event.TheVariants.{Take, Look, Post, Sea
 use Rattle.wf_core.specs.Core.{State as Core, Is, Saw, after, start}
 use Rattle.wf_core.specs.Count.{times, times_in}
 use Rattle.wf_core.proofs.Lemmas.{set_at, set_else, at_set, at_replicate, put_at, times-append, times_same, times_other, total_set}
-use Rattle.wf_board.specs.declared.table.View.{View}
+use Rattle.wf_board.specs.declared.table.SeatView.{SeatView}
 use Rattle.wf_board.specs.Desk.{BoardId, fresh_desk, known, looked, posted, searched, is_cut}
 use Rattle.wf_board.specs.Rule.{Stands}
 use Rattle.wf_board.specs.Shows.{Agree, Shows, StartIsShown, LookIsEvent, PostIsEvent, SearchedIsEvent, CutIsEvent, TakeIsShown, EndIsShown}
 use Rattle.wf_board.proofs.Views.{stands_kept, stands_before, stands_not}
 
 -- a list that the step leaves alone, and a status that the event does not touch
-same_list : (f : View → List ℕ) (views : List View) (w : ℕ) (v u : View) (c d : Core) (x : Status) → get_elem? views w ≡ some v → f u ≡ f v
+same_list : (f : SeatView → List ℕ) (views : List SeatView) (w : ℕ) (v u : SeatView) (c d : Core) (x : Status) → get_elem? views w ≡ some v → f u ≡ f v
     → ((i : ℕ) → Is c i x → Is d i x) → ((i : ℕ) → Is d i x → Is c i x) → Agree f views c x → Agree f (set views w u) d x
 same_list f views w v u c d x at e there back a = record {
   listed = λ i p. there i (⊎_elim
@@ -38,7 +38,7 @@ same_list f views w v u c d x at e there back a = record {
 }
 
 -- the list that gets the branch, and the status that the branch gets
-more_list : (f : View → List ℕ) (views : List View) (w : ℕ) (v u : View) (c d : Core) (x : Status) (b : ℕ) → get_elem? views w ≡ some v → f u ≡ f v ++ b ∷ []
+more_list : (f : SeatView → List ℕ) (views : List SeatView) (w : ℕ) (v u : SeatView) (c d : Core) (x : Status) (b : ℕ) → get_elem? views w ≡ some v → f u ≡ f v ++ b ∷ []
     → ((i : ℕ) → Is c i x → Is d i x) → Is d b x → ((i : ℕ) → Is d i x → (i ≡ b) ⊎ Is c i x) → ¬ (Is c b x) → Agree f views c x → Agree f (set views w u) d x
 more_list f views w v u c d x b at e there new back absent a = record {
   listed = λ i p. ⊎_elim
@@ -86,19 +86,19 @@ module _ (c : Core) (was : Status) (b : ℕ) (now : Status) (l : ℕ) (seen : Li
   back_new : (i : ℕ) → Is d i now → (i ≡ b) ⊎ Is c i now
   back_new i p = ⊎_elim (λ (t : (i ≡ b) × (now ≡ now)). inl t.0) (λ (t : (i ≢ b) × Is c i now). inr t.1) (at_set c.branches b i now now p)
 
-abbrev Sees : List View → List ℕ → Type 0
-Sees views seen = (w : ℕ) (v : View) → get_elem? views w ≡ some v → (n : ℕ) × (v.seen ≡ n ∷ []) × (slice_get seen w ≡ Some n)
+abbrev Sees : List SeatView → List ℕ → Type 0
+Sees views seen = (w : ℕ) (v : SeatView) → get_elem? views w ≡ some v → (n : ℕ) × (v.seen ≡ n ∷ []) × (slice_get seen w ≡ Some n)
 
 -- a seat sees a number, or leaves what it has seen
-sees : (views : List View) (w : ℕ) (v u : View) (seen : List ℕ) (n l : ℕ) → get_elem? views w ≡ some v → slice_get seen w ≡ Some n → u.seen ≡ l ∷ [] → Sees views seen → Sees (set views w u) (set seen w l)
+sees : (views : List SeatView) (w : ℕ) (v u : SeatView) (seen : List ℕ) (n l : ℕ) → get_elem? views w ≡ some v → slice_get seen w ≡ Some n → u.seen ≡ l ∷ [] → Sees views seen → Sees (set views w u) (set seen w l)
 sees views w v u seen n l at was is old k y e = ⊎_elim
-    (λ (t : (k ≡ w) × (u ≡ y)). (l, ap (λ (x : View). x.seen) (sym t.1) ∙ is, subst (λ (x : ℕ). slice_get (set seen w l) x ≡ Some l) (sym t.0) (set_at seen w n l was)))
+    (λ (t : (k ≡ w) × (u ≡ y)). (l, ap (λ (x : SeatView). x.seen) (sym t.1) ∙ is, subst (λ (x : ℕ). slice_get (set seen w l) x ≡ Some l) (sym t.0) (set_at seen w n l was)))
     (λ (t : (k ≢ w) × (get_elem? views k ≡ some y)). let o = old k y t.1 in (o.0, o.1, set_else seen w k l t.0 ∙ o.2))
     (view_set views w k u y e)
 
-sees_same : (views : List View) (w : ℕ) (v u : View) (seen : List ℕ) → get_elem? views w ≡ some v → u.seen ≡ v.seen → Sees views seen → Sees (set views w u) seen
+sees_same : (views : List SeatView) (w : ℕ) (v u : SeatView) (seen : List ℕ) → get_elem? views w ≡ some v → u.seen ≡ v.seen → Sees views seen → Sees (set views w u) seen
 sees_same views w v u seen at is old k y e = ⊎_elim
-    (λ (t : (k ≡ w) × (u ≡ y)). let o = old w v at in (o.0, ap (λ (x : View). x.seen) (sym t.1) ∙ (is ∙ o.1), subst (λ (x : ℕ). slice_get seen x ≡ Some o.0) (sym t.0) o.2))
+    (λ (t : (k ≡ w) × (u ≡ y)). let o = old w v at in (o.0, ap (λ (x : SeatView). x.seen) (sym t.1) ∙ (is ∙ o.1), subst (λ (x : ℕ). slice_get seen x ≡ Some o.0) (sym t.0) o.2))
     (λ (t : (k ≢ w) × (get_elem? views k ≡ some y)). old k y t.1)
     (view_set views w k u y e)
 
@@ -192,7 +192,7 @@ cut_is_event ledger s c w d i seat held below =
 
 -- the same views, each of which has seen the number of branches and settled nothing
 
-view_replicate : (n : ℕ) (a v : View) (i : ℕ) → get_elem? (replicate n a) i ≡ some v → (a ≡ v) × ((m : ℕ) → slice_get (replicate n m) i ≡ Some m)
+view_replicate : (n : ℕ) (a v : SeatView) (i : ℕ) → get_elem? (replicate n a) i ≡ some v → (a ≡ v) × ((m : ℕ) → slice_get (replicate n m) i ≡ Some m)
 view_replicate zero a v i e = absurd (some-ne-none v (sym e))
 view_replicate (suc n) a v zero e = (some-injective a v e, (λ m. refl))
 view_replicate (suc n) a v (suc i) e = view_replicate n a v i e
@@ -200,12 +200,12 @@ view_replicate (suc n) a v (suc i) e = view_replicate n a v i e
 none_free : (x : Status) (n i : ℕ) → ¬ (status.Free ≡ x) → ¬ (slice_get (replicate n status.Free) i ≡ Some x)
 none_free x n i apart e = apart (at_replicate n status.Free x i e)
 
-agree_start : (f : View → List ℕ) (s : State (Unit {0}) View) (p : BoardId) (x : Status) → s.views ≡ replicate p.workers (known (fresh_desk p)) → f (known (fresh_desk p)) ≡ [] → ¬ (status.Free ≡ x)
+agree_start : (f : SeatView → List ℕ) (s : State (Unit {0}) SeatView) (p : BoardId) (x : Status) → s.views ≡ replicate p.workers (known (fresh_desk p)) → f (known (fresh_desk p)) ≡ [] → ¬ (status.Free ≡ x)
     → Agree f s.views (start p.branches p.workers) x
 agree_start f s p x views empty apart = record {
   listed = λ i q.
-      let same = view_replicate p.workers (known (fresh_desk p)) q.1 q.0 (subst (λ (vs : List View). get_elem? vs q.0 ≡ some q.1) views q.2) in
-      let none : Contains [] i = subst (λ (l : List ℕ). Contains l i) empty (subst (λ (v : View). Contains (f v) i) (sym same.0) q.3) in
+      let same = view_replicate p.workers (known (fresh_desk p)) q.1 q.0 (subst (λ (vs : List SeatView). get_elem? vs q.0 ≡ some q.1) views q.2) in
+      let none : Contains [] i = subst (λ (l : List ℕ). Contains l i) empty (subst (λ (v : SeatView). Contains (f v) i) (sym same.0) q.3) in
       absurd (let lt = none.1 in omega arith);
   stands = λ i q. absurd (none_free x p.branches i apart q);
   once = λ i. let none = none_listed p.workers i in let same = ap (times_in f i) views in omega arith;
@@ -218,15 +218,15 @@ pub start_is_shown : StartIsShown
 start_is_shown s p words views = record {
   least = ap (λ (ws : List ℕ). slice_index ws 0) words;
   seen = λ w v e.
-      let same = view_replicate p.workers (known (fresh_desk p)) v w (subst (λ (vs : List View). get_elem? vs w ≡ some v) views e) in
-      (p.branches, ap (λ (x : View). x.seen) (sym same.0), same.1 p.branches);
+      let same = view_replicate p.workers (known (fresh_desk p)) v w (subst (λ (vs : List SeatView). get_elem? vs w ≡ some v) views e) in
+      (p.branches, ap (λ (x : SeatView). x.seen) (sym same.0), same.1 p.branches);
   posted = agree_start (λ v. v.posted) s p status.Posted views refl (λ e. cc);
   refuted = agree_start (λ v. v.refuted) s p status.Refuted views refl (λ e. cc);
   cut = agree_start (λ v. v.cut) s p status.Cut views refl (λ e. cc);
 }
 
 -- a list is that of a status whose branches are the same after the event
-same_branches : (f : View → List ℕ) (views : List View) (c d : Core) (x : Status) → ((i : ℕ) → Is c i x → Is d i x) → ((i : ℕ) → Is d i x → Is c i x) → Agree f views c x → Agree f views d x
+same_branches : (f : SeatView → List ℕ) (views : List SeatView) (c d : Core) (x : Status) → ((i : ℕ) → Is c i x → Is d i x) → ((i : ℕ) → Is d i x → Is c i x) → Agree f views c x → Agree f views d x
 same_branches f views c d x there back a =
     record { listed = λ i p. there i (a.listed i p); stands = λ i p. a.stands i (back i p); once = a.once }
 

@@ -5,7 +5,7 @@ use Rattle.std.proofs.lemmas.List.Elements.{All-contains, Contains-append_left, 
 use mathlib.Core.Option.{some, some-injective}
 use lib.ListN.{get_elem?}
 use Rattle.atomic_table.specs.Table.{State}
-use Rattle.wf_board.specs.declared.table.View.{View}
+use Rattle.wf_board.specs.declared.table.SeatView.{SeatView}
 use Rattle.wf_board.specs.declared.table.Ledger.{Ledger}
 use Rattle.wf_board.specs.Rule.{Seated, Shown, Ends}
 use Rattle.wf_board.specs.Desk.{Desk, known, joined, gathered, IsLeast}
@@ -24,7 +24,7 @@ pub each_seen : (P : ℕ → Type 0) (ds : List Desk) → All P (gathered ds).se
 each_seen P ds all k d h = All-contains P (gathered ds).seen _ all (seen_in ds k d h)
 
 -- the words at the end
-pub ends : (ledger : Ledger) (s : State (Unit {0}) View) (id : ℕ) (v : View) (ws : List ℕ) (l r c : ℕ) → Shown ledger s → get_elem? s.views id ≡ some v → length v.seen ≡ ledger.workers → s.words ≡ ws
+pub ends : (ledger : Ledger) (s : State (Unit {0}) SeatView) (id : ℕ) (v : SeatView) (ws : List ℕ) (l r c : ℕ) → Shown ledger s → get_elem? s.views id ≡ some v → length v.seen ≡ ledger.workers → s.words ≡ ws
     → get_elem? ws 0 ≡ some l → get_elem? ws 1 ≡ some r → get_elem? ws 2 ≡ some c → Ends ledger.branches ledger.workers v l r c
 ends ledger s id v ws l r c h at every same e0 e1 e2 =
     let words : h.least ∷ h.refuted ∷ h.cut ∷ [] ≡ ws = sym h.words ∙ same in

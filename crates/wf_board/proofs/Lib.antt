@@ -1,8 +1,8 @@
 pub mod Views
-pub mod Keeps
+pub mod SeatSteps
 pub mod Parts
 pub mod Seats
 pub mod Gathered
 pub mod Events
-pub mod Accounted
+pub mod SettledCounts
 pub mod Lemmas

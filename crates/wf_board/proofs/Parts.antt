@@ -9,7 +9,7 @@ use native.Mathlib.Decide.{ℕ_discrete}
 use lib.ListN.{get_elem?}
 use Rattle.atomic_table.specs.Table.{State, Splits, Joins}
 use Rattle.atomic_table.proofs.Lists.{at_set, at_snoc, at_longer, set_else}
-use Rattle.wf_board.specs.declared.table.View.{View}
+use Rattle.wf_board.specs.declared.table.SeatView.{SeatView}
 use Rattle.wf_board.specs.declared.table.Ledger.{Ledger}
 use Rattle.wf_core.specs.Count.{total}
 use Rattle.wf_core.proofs.Lemmas.{put_at, total_set, total_bound, total_one, total-append}
@@ -17,7 +17,7 @@ use Rattle.wf_board.specs.Desk.{knows, joined, nothing, IsLeast}
 use Rattle.wf_board.specs.Rule.{Posted, AtMost, Below, Fits, Shown}
 use Rattle.wf_board.proofs.Views.{stands_kept}
 
-moved : (b l : ℕ) (views vs : List View) (u : View) → ((x : ℕ) → Posted views x → Posted vs x) → Fits b l views u → Fits b l vs u
+moved : (b l : ℕ) (views vs : List SeatView) (u : SeatView) → ((x : ℕ) → Posted views x → Posted vs x) → Fits b l views u → Fits b l vs u
 moved b l views vs u still f = record {
   room = f.room;
   posts = f.posts;
@@ -27,7 +27,7 @@ moved b l views vs u still f = record {
   above_cuts = f.above_cuts;
 }
 
-some_of : (l : ℕ) (b : ℕ) (views vs : List View) → ((x : ℕ) → Posted views x → Posted vs x) → (l ≡ b) ⊎ Posted views l → (l ≡ b) ⊎ Posted vs l
+some_of : (l : ℕ) (b : ℕ) (views vs : List SeatView) → ((x : ℕ) → Posted views x → Posted vs x) → (l ≡ b) ⊎ Posted views l → (l ≡ b) ⊎ Posted vs l
 some_of l b views vs still h = ⊎_elim (λ (s : l ≡ b). inl s) (λ (p : Posted views l). inr (still l p)) h
 
 -- a seat with nothing settled gives one number to a new seat
@@ -73,7 +73,7 @@ splits ledger id seen some_seen s h at =
     halves [] = refl
     halves (x ∷ xs) = omega arith
 
-pub joins : (ledger : Ledger) (id : ℕ) (v : View) (other : ℕ) (w : View) → Joins (Shown ledger) id v other w (joined v w) nothing
+pub joins : (ledger : Ledger) (id : ℕ) (v : SeatView) (other : ℕ) (w : SeatView) → Joins (Shown ledger) id v other w (joined v w) nothing
 joins ledger id v other w s h at apart there =
     let b = ledger.branches in
     let l = h.least in
@@ -87,10 +87,10 @@ joins ledger id v other w s h at apart there =
     let still : (x : ℕ) → Posted s.views x → Posted vs x = λ x p.
     dite (ℕ_discrete p.0 id)
     (λ (e : p.0 ≡ id). let same : p.1 ≡ v = some-injective p.1 v (sym p.2 ∙ subst (λ (k : ℕ). get_elem? s.views k ≡ some v) (sym e) at) in
-    (id, all, whole, Contains-append_left v.posted w.posted x (subst (λ (u : View). Contains u.posted x) same p.3)))
+    (id, all, whole, Contains-append_left v.posted w.posted x (subst (λ (u : SeatView). Contains u.posted x) same p.3)))
     (λ (ne : p.0 ≢ id). dite (ℕ_discrete p.0 other)
     (λ (e : p.0 ≡ other). let same : p.1 ≡ w = some-injective p.1 w (sym p.2 ∙ subst (λ (k : ℕ). get_elem? s.views k ≡ some w) (sym e) was) in
-    (id, all, whole, Contains-append_right v.posted w.posted x (subst (λ (u : View). Contains u.posted x) same p.3)))
+    (id, all, whole, Contains-append_right v.posted w.posted x (subst (λ (u : SeatView). Contains u.posted x) same p.3)))
     (λ (no : p.0 ≢ other). (p.0, p.1, set_else mid other p.0 nothing no ∙ set_else s.views id p.0 all ne ∙ p.2, p.3))) in
     let P : ℕ → Type 0 = λ x. (l ≤ x) × ((x ≡ b) ⊎ Posted s.views x) in
     let a0 = length-append v.seen w.seen in
@@ -133,18 +133,18 @@ joins ledger id v other w s h at apart there =
     }
 
 -- the seat that has every worker's number
-module _ (ledger : Ledger) (s : State (Unit {0}) View) (id : ℕ) (v : View) (h : Shown ledger s) (at : get_elem? s.views id ≡ some v) (every : length v.seen ≡ ledger.workers) where
+module _ (ledger : Ledger) (s : State (Unit {0}) SeatView) (id : ℕ) (v : SeatView) (h : Shown ledger s) (at : get_elem? s.views id ≡ some v) (every : length v.seen ≡ ledger.workers) where
   abbrev b : ℕ
   b = ledger.branches
 
-  abbrev others : List View
+  abbrev others : List SeatView
   others = set s.views id nothing
 
   silent : total (λ u. length u.seen) others ≡ 0
   silent = let t = total_set (λ u. length u.seen) s.views id v nothing at in let a = h.workers in let e = every in omega arith
 
   -- any other view has settled nothing
-  idle : (j : ℕ) (u : View) → j ≢ id → get_elem? s.views j ≡ some u → length u.posted + (length u.refuted + length u.cut) ≡ 0
+  idle : (j : ℕ) (u : SeatView) → j ≢ id → get_elem? s.views j ≡ some u → length u.posted + (length u.refuted + length u.cut) ≡ 0
   idle j u ne e =
       let r = (h.fits j u e).room in
       let z = total_one (λ y. length y.seen) others j u (set_else s.views id j nothing ne ∙ e) in
@@ -153,7 +153,7 @@ module _ (ledger : Ledger) (s : State (Unit {0}) View) (id : ℕ) (v : View) (h 
       let m : b * length u.seen ≡ 0 = ap (λ n. b * n) none_seen ∙ mul-zero b in
       omega arith
 
-  alone : (f : View → ℕ) → ((u : View) → f u ≤ length u.posted + (length u.refuted + length u.cut)) → f nothing ≡ 0 → total f s.views ≡ f v
+  alone : (f : SeatView → ℕ) → ((u : SeatView) → f u ≤ length u.posted + (length u.refuted + length u.cut)) → f nothing ≡ 0 → total f s.views ≡ f v
   alone f part empty =
       let t = total_set f s.views id v nothing at in
       let z : total f others ≤ 0 * total f others = total_bound f f 0 others (λ j u e.
@@ -166,7 +166,7 @@ module _ (ledger : Ledger) (s : State (Unit {0}) View) (id : ℕ) (v : View) (h 
   mine_alone : (x : ℕ) → Posted s.views x → Contains v.posted x
   mine_alone x p =
       dite (ℕ_discrete p.0 id)
-      (λ (e : p.0 ≡ id). let same : p.1 ≡ v = some-injective p.1 v (sym p.2 ∙ subst (λ (k : ℕ). get_elem? s.views k ≡ some v) (sym e) at) in subst (λ (u : View). Contains u.posted x) same p.3)
+      (λ (e : p.0 ≡ id). let same : p.1 ≡ v = some-injective p.1 v (sym p.2 ∙ subst (λ (k : ℕ). get_elem? s.views k ≡ some v) (sym e) at) in subst (λ (u : SeatView). Contains u.posted x) same p.3)
       (λ (ne : p.0 ≢ id). let i = idle p.0 p.1 ne p.2 in let c = p.3 in let lt = c.1 in absurd (omega arith))
 
   pub known_least : IsLeast b v.posted h.least

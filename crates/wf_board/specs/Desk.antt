@@ -2,7 +2,7 @@
 use Rattle.std.specs.Prelude.{◌≡◌, ℕ, ◌+◌, ◌*◌, ◌^◌, ◌<◌, ◌≤◌, ◌⊎◌, List, [], ◌∷◌, ◌++◌, length, All, Contains}
 use Rattle.wf_core.specs.Count.{times}
 use Rattle.atomic_table.specs.Seated.{TableId}
-use Rattle.wf_board.specs.declared.table.View.{View}
+use Rattle.wf_board.specs.declared.table.SeatView.{SeatView}
 
 -- a board: which one, and its branches and workers
 pub record BoardId : Type 0 where
@@ -80,21 +80,21 @@ AreSeats p ds = All (IsSeatOf p) ds
 
 -- What seats know of the table
 
-abbrev pub knows : List ℕ → List ℕ → List ℕ → List ℕ → View
+abbrev pub knows : List ℕ → List ℕ → List ℕ → List ℕ → SeatView
 knows seen posted refuted cut = record { seen = seen; posted = posted; refuted = refuted; cut = cut }
 
-abbrev pub nothing : View
+abbrev pub nothing : SeatView
 nothing = knows [] [] [] []
 
-abbrev pub joined : View → View → View
+abbrev pub joined : SeatView → SeatView → SeatView
 joined v w = knows (v.seen ++ w.seen) (v.posted ++ w.posted) (v.refuted ++ w.refuted) (v.cut ++ w.cut)
 
 -- what a worker's seat knows
-abbrev pub known : Desk → View
+abbrev pub known : Desk → SeatView
 known d = knows (d.seen ∷ []) d.posted d.refuted d.cut
 
 -- what several seats know together, the last one's first
-abbrev pub gathered : List Desk → View
+abbrev pub gathered : List Desk → SeatView
 gathered [] = nothing
 gathered (d ∷ ds) = joined (gathered ds) (known d)
 

@@ -6,15 +6,15 @@ use lib.ListN.{get_elem?}
 use Rattle.atomic_table.specs.Seated.{TableId}
 use Rattle.atomic_table.specs.Table.{State, Me, Step}
 use Rattle.wf_core.specs.Count.{times, once_below, total}
-use Rattle.wf_board.specs.declared.table.View.{View}
+use Rattle.wf_board.specs.declared.table.SeatView.{SeatView}
 use Rattle.wf_board.specs.declared.table.Ledger.{Ledger}
 use Rattle.wf_board.specs.Desk.{BoardId, Desk, knows, known, looked, posted, searched, is_cut, IsLow, IsLeast}
 
 -- x stands in some seat's list
-abbrev pub Stands : (View → List ℕ) → List View → ℕ → Type 0
-Stands f views x = (seat : ℕ) × (v : View) × (get_elem? views seat ≡ some v) × Contains (f v) x
+abbrev pub Stands : (SeatView → List ℕ) → List SeatView → ℕ → Type 0
+Stands f views x = (seat : ℕ) × (v : SeatView) × (get_elem? views seat ≡ some v) × Contains (f v) x
 
-abbrev pub Posted : List View → ℕ → Type 0
+abbrev pub Posted : List SeatView → ℕ → Type 0
 Posted views x = Stands (λ v. v.posted) views x
 
 -- some number that was seen is at most x, or below it
@@ -28,7 +28,7 @@ Below seen x = (y : ℕ) × Contains seen y × (y < x)
 -- branches for each number seen. No posted number is below l. A number that
 -- it has seen is not below l, and is b or was posted. It has seen a number
 -- that is at most each of its posts, and one that is below each of its cuts.
-pub record Fits (b l : ℕ) (views : List View) (v : View) : Type 0 where
+pub record Fits (b l : ℕ) (views : List SeatView) (v : SeatView) : Type 0 where
   pub room : length v.posted + (length v.refuted + length v.cut) ≤ b * length v.seen
   pub posts : All (λ x. l ≤ x) v.posted
   pub sees : All (λ x. (l ≤ x) × ((x ≡ b) ⊎ Posted views x)) v.seen
@@ -37,7 +37,7 @@ pub record Fits (b l : ℕ) (views : List View) (v : View) : Type 0 where
 
 -- The words are the least posted number, or the number of branches, and the numbers of refuted and
 -- of cut branches. The seats have seen as many numbers as there are workers.
-pub record Shown (ledger : Ledger) (s : State (Unit {0}) View) : Type 0 where
+pub record Shown (ledger : Ledger) (s : State (Unit {0}) SeatView) : Type 0 where
   pub least : ℕ
   pub refuted : ℕ
   pub cut : ℕ
@@ -46,15 +46,15 @@ pub record Shown (ledger : Ledger) (s : State (Unit {0}) View) : Type 0 where
   pub refuted_is : refuted ≡ total (λ v. length v.refuted) s.views
   pub cut_is : cut ≡ total (λ v. length v.cut) s.views
   pub least_is : (least ≤ ledger.branches) × ((least ≡ ledger.branches) ⊎ Posted s.views least)
-  pub fits : (seat : ℕ) (v : View) → get_elem? s.views seat ≡ some v → Fits ledger.branches least s.views v
+  pub fits : (seat : ℕ) (v : SeatView) → get_elem? s.views seat ≡ some v → Fits ledger.branches least s.views v
 
 -- the first seat has every worker's number
-abbrev pub opening_view : Ledger → View
+abbrev pub opening_view : Ledger → SeatView
 opening_view ledger = knows (replicate ledger.workers ledger.branches) [] [] []
 
 -- a seat as the table sees it: what it knows, and no slots
 abbrev pub Seated : Type 0
-Seated = Me (Unit {0}) View
+Seated = Me (Unit {0}) SeatView
 
 abbrev pub PlayOf : Type 1
 PlayOf = Step (Unit {0}) → Seated → ℕ → Seated → Type 0
@@ -88,7 +88,7 @@ abbrev pub IsRest : Seated → ℕ → ℕ → Type 0
 IsRest me left branches = me ≡ (knows (replicate left branches) [] [] [], [])
 
 -- What the words say at the end, where one seat has every worker's number
-pub record Ends (branches workers : ℕ) (v : View) (least refuted cut : ℕ) : Type 0 where
+pub record Ends (branches workers : ℕ) (v : SeatView) (least refuted cut : ℕ) : Type 0 where
   pub least_is : IsLeast branches v.posted least
   pub refuted_is : refuted ≡ length v.refuted
   pub cut_is : cut ≡ length v.cut

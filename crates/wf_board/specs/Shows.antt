@@ -13,16 +13,16 @@ use Rattle.wf_core.specs.declared.event.Account.{Account}
 use Rattle.wf_core.specs.Account.{account_of}
 use Rattle.wf_core.specs.Core.{State as Core, Is, Saw, IsActive, Step, start}
 use Rattle.wf_core.specs.Count.{times_in}
-use Rattle.wf_board.specs.declared.table.View.{View}
+use Rattle.wf_board.specs.declared.table.SeatView.{SeatView}
 use Rattle.wf_board.specs.declared.table.Ledger.{Ledger}
 use Rattle.wf_board.specs.Desk.{BoardId, Desk, fresh_desk, known, looked, posted, searched, is_cut, IsLeast, all_posted, all_cut, count_searched}
 use Rattle.wf_board.specs.Rule.{Stands, Shown}
 
 abbrev pub Table : Type 0
-Table = State (Unit {0}) View
+Table = State (Unit {0}) SeatView
 
 -- the branches in these lists are those of this status, each once
-pub record Agree (f : View → List ℕ) (views : List View) (c : Core) (status : Status) : Type 0 where
+pub record Agree (f : SeatView → List ℕ) (views : List SeatView) (c : Core) (status : Status) : Type 0 where
   pub listed : (i : ℕ) → Stands f views i → Is c i status
   pub stands : (i : ℕ) → Is c i status → Stands f views i
   pub once : (i : ℕ) → times_in f i views ≤ 1
@@ -31,7 +31,7 @@ pub record Agree (f : View → List ℕ) (views : List View) (c : Core) (status 
 -- and the lists hold the branches that were settled, each once
 pub record Shows (s : Table) (c : Core) : Type 0 where
   pub least : slice_index s.words 0 ≡ c.least
-  pub seen : (w : ℕ) (v : View) → get_elem? s.views w ≡ some v → (n : ℕ) × (v.seen ≡ n ∷ []) × Saw c w n
+  pub seen : (w : ℕ) (v : SeatView) → get_elem? s.views w ≡ some v → (n : ℕ) × (v.seen ≡ n ∷ []) × Saw c w n
   pub posted : Agree (λ v. v.posted) s.views c status.Posted
   pub refuted : Agree (λ v. v.refuted) s.views c status.Refuted
   pub cut : Agree (λ v. v.cut) s.views c status.Cut

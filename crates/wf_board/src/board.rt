@@ -7,7 +7,9 @@ ghost use Rattle.wf_board.specs.Desk.{MayHave, HasSize, AreFresh, IsSeatOf, MayS
 ghost use Rattle.wf_board.specs.Desk.{looked, posted, searched, is_cut};
 ghost use Rattle.wf_board.specs.Desk.{all_posted, all_cut, count_searched, HaveSeenPosts, IsLeast};
 
-use crate::table::{About, Cut, Gather, Hand, Ledger, Look, Post, Refute, Ruled, View};
+use crate::table::{
+    About, BoardRule, Cut, GatherSeats, Hand, Ledger, Look, Post, Refute, SeatView,
+};
 use atomic_table::{Seat, Table};
 use std::alloc::{AllocError, Global};
 use std::marker::{Brand, Model};
@@ -18,7 +20,7 @@ use wf_core::Account;
 /// Contracts see which board it is, and its numbers of branches and workers.
 #[derive(Drop)]
 pub struct Board {
-    table: Table<(), View, Ledger, Ruled, Global>,
+    table: Table<(), SeatView, Ledger, BoardRule, Global>,
     branches: u32,
     workers: u32,
 }
@@ -40,7 +42,7 @@ impl Model for Board {
 /// posted, refuted and cut.
 #[derive(Drop)]
 pub struct BoardSeat {
-    seat: Seat<(), View>,
+    seat: Seat<(), SeatView>,
     branches: u32,
     seen: u32,
     posts: u32,
@@ -58,7 +60,7 @@ impl Model for BoardSeat {
 /// A seat with the numbers of the workers that have no seat yet.
 #[derive(Drop)]
 struct Unseated {
-    seat: Seat<(), View>,
+    seat: Seat<(), SeatView>,
     left: u32,
 }
 
@@ -218,7 +220,7 @@ impl Board {
         self.seat_of(seat)
     }
 
-    fn seat_of(&self, seat: Seat<(), View>) -> BoardSeat
+    fn seat_of(&self, seat: Seat<(), SeatView>) -> BoardSeat
         requires { IsLeft self.now seat.table_id seat.me 1 }
         ensures { result ≡ fresh_desk self.now }
     {
@@ -252,7 +254,7 @@ impl Board {
     }
 
     /// The first seat takes in what the others know. The number is that of the posts.
-    fn gather(&self, first: BoardSeat, seats: Vec<BoardSeat>) -> (Seat<(), View>, u32)
+    fn gather(&self, first: BoardSeat, seats: Vec<BoardSeat>) -> (Seat<(), SeatView>, u32)
         requires seats { AreSeats self.now (seats.items ++ first ∷ []) }
         requires room { length (seats.items ++ first ∷ []) * self.now.branches < 2 ^ 32 }
         ensures { (result.0.table_id ≡ self.now.table)
@@ -273,14 +275,14 @@ impl Board {
                 seen: _,
                 posts: more,
             } = next;
-            self.table.shared.join_seat::<Gather>(&mut all, seat);
+            self.table.shared.join_seat::<GatherSeats>(&mut all, seat);
             posts += more;
         }
         (all, posts)
     }
 
     /// The words at the end, where the seat has every worker's number.
-    fn close(self, all: Seat<(), View>) -> Words
+    fn close(self, all: Seat<(), SeatView>) -> Words
         requires { (all.table_id ≡ self.table) × (length all.me.0.seen ≡ self.workers) }
         ensures { Ends self.branches self.workers all.me.0 result.least result.refuted result.cut }
     {

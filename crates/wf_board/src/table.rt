@@ -10,7 +10,7 @@ use std::marker::{Brand, PhantomData};
 
 /// What a seat knows: the number that each of its workers has seen, and the branches that it has
 /// settled. It stands in proofs alone: no value of it is made.
-pub struct View {
+pub struct SeatView {
     pub seen: LinkedList<u32>,
     pub posted: LinkedList<u32>,
     pub refuted: LinkedList<u32>,
@@ -24,9 +24,9 @@ pub struct Ledger {
     pub workers: u32,
 }
 
-pub struct Ruled;
+pub struct BoardRule;
 
-impl TableRule<(), View, Ledger> for Ruled {
+impl TableRule<(), SeatView, Ledger> for BoardRule {
     ghost holds = { λ ledger s. Shown ledger s };
 
     ghost first = { opening_view };
@@ -44,14 +44,14 @@ impl About for Brand {
 /// The least number is seen.
 pub struct Look;
 
-impl Play<(), View> for Look {
+impl Play<(), SeatView> for Look {
     ghost then = { looks };
 }
 
 /// The branch is posted, and the smaller of it and the least number is seen.
 pub struct Post;
 
-impl Play<(), View> for Post {
+impl Play<(), SeatView> for Post {
     ghost then = { posts };
 }
 
@@ -60,7 +60,7 @@ pub struct Refute<J> {
     of: PhantomData<J>,
 }
 
-impl<J: About> Play<(), View> for Refute<J> {
+impl<J: About> Play<(), SeatView> for Refute<J> {
     ghost then = { refutes J.branch };
 }
 
@@ -69,23 +69,23 @@ pub struct Cut<J> {
     of: PhantomData<J>,
 }
 
-impl<J: About> Play<(), View> for Cut<J> {
+impl<J: About> Play<(), SeatView> for Cut<J> {
     ghost then = { cuts J.branch };
 }
 
 /// One worker's number goes to a new seat.
 pub struct Hand;
 
-impl Split<View> for Hand {
+impl Split<SeatView> for Hand {
     ghost left = { λ v. knows (drop 1 v.seen) v.posted v.refuted v.cut };
 
     ghost right = { λ v. knows (take 1 v.seen) [] [] [] };
 }
 
 /// A seat takes in what another knows.
-pub struct Gather;
+pub struct GatherSeats;
 
-impl Join<View> for Gather {
+impl Join<SeatView> for GatherSeats {
     ghost both = { joined };
 
     ghost spent = { nothing };

@@ -11,8 +11,8 @@ use Rattle.wf_model.specs.Refutation as refutation
 use Rattle.wf_model.specs.Closing.{Step, and_then, keeps, take_out}
 use Rattle.wf_model.proofs.Ascending.{Ascends}
 use Rattle.wf_model.proofs.Basics.{has-filter}
-use Rattle.wf_model.proofs.Fuel.{count_set_less}
-use Rattle.wf_model.proofs.Stable.{each_has, filter_less}
+use Rattle.wf_model.proofs.CanonicalSteps.{count_set_less}
+use Rattle.wf_model.proofs.LastSweep.{each_has, filter_less}
 use Rattle.wf_complex.specs.Protocol.{point_in}
 use Rattle.wf_set.proofs.Lemmas.{by_two, set_at}
 use Rattle.wf_set.proofs.SetLaws.{values_ascend}

@@ -11,7 +11,7 @@ use Rattle.wf_model.specs.Refutation as refutation
 use Rattle.wf_model.specs.Closing.{Step, and_then, closing, closing_at, sweep, sweeps}
 use Rattle.wf_model.specs.Laws.{IsBoxOf}
 use Rattle.wf_model.proofs.Ascending.{is_ascending_from}
-use Rattle.wf_model.proofs.Closed.{solution_left, closed_branch, closed_supports}
+use Rattle.wf_model.proofs.ClosedBoxes.{solution_left, closed_branch, closed_supports}
 use Rattle.wf_lines.specs.declared.line.Line.{Line}
 use Rattle.wf_set.specs.Sets.{box_of, values_in}
 use Rattle.wf_set.proofs.Lemmas.{values_ascend}

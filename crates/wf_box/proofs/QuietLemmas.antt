@@ -16,7 +16,7 @@ use Rattle.wf_network.specs.Marks.{bit_of, IsMore, IsNext, MarksEach}
 use Rattle.wf_network.specs.Problems.{IsWithin, constraint_seen}
 use Rattle.wf_box.specs.Quiet.{IsQuiet, IsQuietBut, IsUntouched, IsUntouchedBut}
 use Rattle.wf_network.specs.Users.{AreTold, HasBit, IsUser, no_execution, no_word, users_of}
-use Rattle.wf_network.specs.declared.users.UserWord.{UserWord}
+use Rattle.wf_network.specs.declared.users.MarkMask.{MarkMask}
 use Rattle.wf_box.specs.Steps.{reached}
 use Rattle.wf_network.specs.declared.problem.Rule.{Rule}
 use Rattle.wf_complex.specs.declared.packed.PackedExecution.{PackedExecution}
@@ -27,18 +27,18 @@ use Rattle.wf_box.proofs.StepLemmas.{then_keeps, then_then}
 use Rattle.std.specs.Prelude.{◌==◌}
 use Rattle.std.proofs.lemmas.List.Elements.{All-from_recursion}
 use Rattle.wf_model.proofs.Order.{position_none}
-use Rattle.wf_model.proofs.Solved.{sweep_nothing}
+use Rattle.wf_model.proofs.SolvedBoxes.{sweep_nothing}
 use Rattle.wf_box.proofs.CloseLemmas.{empty_there, point_there}
 use Rattle.wf_set.proofs.Lemmas.{set_at}
 
 -- a word with an execution is there
-word_there : (ws : List UserWord) (k e : ℕ) → HasBit (get_or ws k no_word) e → k < length ws
+word_there : (ws : List MarkMask) (k e : ℕ) → HasBit (get_or ws k no_word) e → k < length ws
 word_there [] k e has = absurd (let bad : ⊥ = omega (arith, has.1, bit_at-zero (e % 32)) in bad)
 word_there (w ∷ ws) zero e has = omega arith
 word_there (w ∷ ws) (suc k) e has = omega (arith, word_there ws k e has)
 
 -- the executions of a point are marked
-pub user_marked : (u : Users) (v e : ℕ) (ws : List UserWord) (marks : List ℕ) → ws ≡ users_of u v → MarksEach marks ws → IsUser u v e → bit_of marks e ≡ 1
+pub user_marked : (u : Users) (v e : ℕ) (ws : List MarkMask) (marks : List ℕ) → ws ≡ users_of u v → MarksEach marks ws → IsUser u v e → bit_of marks e ≡ 1
 user_marked u v e ws marks is marked user =
     let from = slice_index u.starts.items v in
     let to = slice_index u.starts.items (v + 1) in
@@ -49,7 +49,7 @@ user_marked u v e ws marks is marked user =
     let at : get_or ws (k - from) no_word ≡ get_or all k no_word = ap (λ xs. get_or xs (k - from) no_word) is ∙ get_or-take (to - from) (drop from all) (k - from) no_word low ∙ get_or-drop from all (k - from) no_word ∙ ap (λ n. get_or all n no_word) back in
     marked (k - from) (omega (arith, ap length is, length-take (to - from) (drop from all), length-drop from all, user.1, low, word_there all k e user.3)) e (subst (λ w. HasBit w e) (sym at) user.3)
 
-pub marked_user : (u : Users) (v e : ℕ) (ws : List UserWord) (marks : List ℕ) → ws ≡ users_of u v → MarksEach marks ws → bit_of marks e ≡ 0 → IsUser u v e → ⊥
+pub marked_user : (u : Users) (v e : ℕ) (ws : List MarkMask) (marks : List ℕ) → ws ≡ users_of u v → MarksEach marks ws → bit_of marks e ≡ 0 → IsUser u v e → ⊥
 marked_user u v e ws marks is marked none user = omega (arith, none, user_marked u v e ws marks is marked user)
 
 -- ---- what is lost hangs on the candidates of the execution's points alone

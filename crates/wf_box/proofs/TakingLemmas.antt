@@ -9,8 +9,8 @@ use Rattle.wf_model.specs.Box.{Box, candidates, without, count}
 use Rattle.wf_model.specs.Refutation as refutation
 use Rattle.wf_model.specs.Closing.{Step, Loss, and_then, taken_out, take_out}
 use Rattle.wf_model.proofs.Basics.{has-filter}
-use Rattle.wf_model.proofs.Fuel.{count_set_less}
-use Rattle.wf_model.proofs.Stable.{filter_less}
+use Rattle.wf_model.proofs.CanonicalSteps.{count_set_less}
+use Rattle.wf_model.proofs.LastSweep.{filter_less}
 use Rattle.wf_set.specs.Parts.{part_values}
 use Rattle.wf_set.specs.Sets.{box_of, values_in}
 use Rattle.wf_set.proofs.PartLaws.{values_small}

@@ -15,11 +15,11 @@ use wf_network::Memo;
 ///
 /// A clause sees it as the list of the answers.
 #[derive(Drop)]
-pub struct Answers {
+pub struct KernelCache {
     memo: Memo,
 }
 
-impl Model for Answers {
+impl Model for KernelCache {
     ghost use Rattle.std.specs.Prelude.{List, Option};
     ghost use Rattle.wf_network.specs.Revising.{answers_in};
     ghost use Rattle.wf_network.specs.declared.memo.Revised.{Revised};
@@ -29,13 +29,13 @@ impl Model for Answers {
     ghost view = { λ a. answers_in a.memo };
 }
 
-impl Answers {
+impl KernelCache {
     /// No answer. It takes no memory.
-    pub fn new(alloc: Global) -> Answers
+    pub fn new(alloc: Global) -> KernelCache
         ensures none { result ≡ [] }
         ensures serve { (p : Problem) → ServeFor p result }
     {
-        Answers {
+        KernelCache {
             memo: Memo::new(alloc),
         }
     }
@@ -43,7 +43,7 @@ impl Answers {
 
 impl Box0 {
     /// Gives the box these answers, in exchange for those that it has. It takes no memory.
-    pub fn swap_answers(&mut self, answers: &mut Answers)
+    pub fn swap_answers(&mut self, answers: &mut KernelCache)
         ensures same { self.new ≡ with_known self.old answers.old }
         ensures is { (p : Problem) → ServeFor p answers.old → IsFor p self.old → IsFor p self.new }
         ensures serve { (p : Problem) → IsFor p self.old → ServeFor p answers.new }

@@ -5,7 +5,7 @@
 //!   one table of tuples, which its executions share.
 //! - [`Box0`]: the candidates of each point.
 //! - [`Snapshot`]: a box that waits.
-//! - [`Answers`]: what closing found out, for the next box of the same problem.
+//! - [`KernelCache`]: what closing found out, for the next box of the same problem.
 //! - [`close`]: sweeps through the executions until each candidate is
 //!   supported wherever its point stands.
 #![tactic(auto)]
@@ -19,7 +19,7 @@ mod taking;
 mod tracked;
 mod workspace;
 
-pub use answers::Answers;
+pub use answers::KernelCache;
 pub use boxed::{Box0, Mark};
 pub use closing::{Closed, close};
 pub use snapshot::Snapshot;

@@ -10,21 +10,21 @@ use Rattle.wf_model.specs.Box.{Box, LiesIn}
 use Rattle.wf_model.specs.Refutation.{Line}
 use Rattle.wf_model.specs.Report.{Body, a_map, least, none, report_about}
 use Rattle.wf_model.specs.Check.{first_fault, first_least_fault, header_fault, map_fault}
-use Rattle.wf_model.proofs.Accepting.{box_accepts}
-use Rattle.wf_model.proofs.Bridge.{listed_solves}
+use Rattle.wf_model.proofs.RefutingLines.{box_accepts}
+use Rattle.wf_model.proofs.MapsAreSolutions.{listed_solves}
 use Rattle.wf_model.proofs.LeastChecked.{leading_lines_accepted}
-use Rattle.wf_model.proofs.Trying.{faultless}
+use Rattle.wf_model.proofs.SolutionTests.{faultless}
 use Rattle.wf_model.proofs.WellFormed.{task_well_formed}
 use Rattle.wf_model.proofs.WholeReports.{both_pass, numbers_pass}
 use Rattle.wf_formula.specs.Branches.{branch_at}
 use Rattle.wf_check.specs.Within.{fault_within, report_fault_within}
 use Rattle.wf_report.specs.declared.form.Form.{Form}
 use Rattle.wf_report.specs.declared.form.Form.TheVariants as form
-use Rattle.wf_engine.specs.Texts.{map_body}
+use Rattle.wf_engine.specs.Texts.{body_of_map}
 use Rattle.wf_branches.specs.Branches.{HasBranch}
 use Rattle.wf_branches.specs.Solving.{IsLeastInBranch, IsRefutationIn, LeadsToMapIn}
 use Rattle.wf_branches.specs.Verifying.{is_outside, lies_in}
-use Rattle.wf_branches.proofs.Solved.{branch_is_box}
+use Rattle.wf_branches.proofs.BranchAnswers.{branch_is_box}
 
 -- the report is accepted as one about this box
 pub record IsAcceptedIn (t : Task) (r : ℕ) (box : Box) (body : Body) : Type 0 where
@@ -62,7 +62,7 @@ module _ (t : Task) (r : ℕ) (is : IsTask t) (i : ℕ) (there : HasBranch t r i
         subst (λ x. first_least_fault (problem_of t r) (listed t r m) (7 + length (listed t r m)) x (branch_at t r i ∷ []) ≡ None) shape.1
         (leading_lines_accepted (problem_of t r) (branch_at t r i) (listed t r m) (7 + length (listed t r m)) shape.0 (task_well_formed t r is) (branch_is_box t r i is there).long shape.2)
 
-    pub map_accepted : (asked : Form) → IsAcceptedIn t r (branch_at t r i) (map_body asked (listed t r m) ls)
+    pub map_accepted : (asked : Form) → IsAcceptedIn t r (branch_at t r i) (body_of_map asked (listed t r m) ls)
     map_accepted form.Full = accepted_where (a_map (listed t r m)) map_clear (ap not (found_inside (listed t r m) (branch_at t r i) found.lies))
     map_accepted form.Verdict = accepted_where (a_map (listed t r m)) map_clear (ap not (found_inside (listed t r m) (branch_at t r i) found.lies))
     map_accepted form.Least = accepted_where (least (listed t r m) ls) (both_pass (map_fault (problem_of t r) (listed t r m)) _ map_clear lines_clear) refl

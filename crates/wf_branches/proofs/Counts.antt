@@ -10,8 +10,8 @@ use Rattle.wf_engine.specs.Run.{Next, Ran, by_result, failed_reads, failed_write
 use Rattle.wf_engine.specs.Laws.{IsChecked, IsCounted}
 use Rattle.wf_engine.specs.Sources.{NextReads}
 use Rattle.wf_engine.specs.Proofs.{most_proof_bytes}
-use Rattle.wf_engine.proofs.Both.{IsReadCounted}
-use Rattle.wf_engine.proofs.Both as both
+use Rattle.wf_engine.proofs.RunsOverTwoSources.{IsReadCounted}
+use Rattle.wf_engine.proofs.RunsOverTwoSources as both
 use Rattle.wf_engine.proofs.Counts.{few, handed, judged}
 use Rattle.wf_engine.proofs.ProofCounts.{proof_counted}
 use Rattle.wf_branches.specs.Branches.{AnswersBranch, AsksBranch, BranchAnswers, IsNoBranch, IsRefusedBranch}

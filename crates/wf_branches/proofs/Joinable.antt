@@ -15,25 +15,25 @@ use Rattle.wf_model.specs.Refutation.{Line}
 use Rattle.wf_model.specs.Report.{Body, least, none, report_about}
 use Rattle.wf_model.specs.Check.{report_fault}
 use Rattle.wf_model.proofs.WholeReports.{canonical_least_accepted, canonical_none_accepted, map_accepted}
-use Rattle.wf_model.proofs.Tracing.{filled_canonical, filled_leads}
+use Rattle.wf_model.proofs.OutlinesAsSearches.{filled_canonical, filled_leads}
 use Rattle.wf_formula.specs.Branches.{branches}
 use Rattle.wf_pool.specs.Answers.{HasAccountOfMap, map_lines, refuting_lines}
 use Rattle.wf_report.specs.declared.form.Form.{Form}
 use Rattle.wf_report.specs.declared.form.Form.TheVariants as form
 use Rattle.wf_engine.specs.Run.{HasComplex}
-use Rattle.wf_engine.specs.Texts.{IsSolved, lines_kept, map_body, text_of_report}
+use Rattle.wf_engine.specs.Texts.{IsSolved, lines_kept, body_of_map, text_of_report}
 use Rattle.wf_engine.specs.declared.fault.RunFault.{RunFault}
 use Rattle.wf_engine.specs.declared.fault.RunFault.TheVariants.{OutOfMemory, TooManyParts}
 use Rattle.wf_engine.specs.declared.outcome.Outcome.{Outcome}
 use Rattle.wf_engine.specs.declared.outcome.Outcome.TheVariants as outcome
-use Rattle.wf_engine.proofs.Verdicts.{kept_shown, map_account, map_verdict, none_shown, none_verdict}
+use Rattle.wf_engine.proofs.AnswersOfSearches.{kept_shown, map_account, map_verdict, none_shown, none_verdict}
 use Rattle.wf_branches.specs.Branches.{HasBranch}
 use Rattle.wf_branches.specs.Solving.{IsLeastInBranch, IsRefutationIn, LeadsToMapIn, part_text}
 use Rattle.wf_branches.specs.Joining.{EndsAll, Gathered, Gathers, GathersAll, GoesOn, joined_body, with_least, with_map, without_map}
 use Rattle.wf_branches.specs.Searched.{HasPartsOf}
-use Rattle.wf_branches.proofs.Canonical.{finds_map, leading_lines}
+use Rattle.wf_branches.proofs.CanonicalBranches.{finds_map, leading_lines}
 use Rattle.wf_branches.proofs.FewBranches.{branches_few}
-use Rattle.wf_branches.proofs.Gathering.{AreTakenFrom, IsStopped, IsTaken, nones, one_part}
+use Rattle.wf_branches.proofs.GatheredParts.{AreTakenFrom, IsStopped, IsTaken, nones, one_part}
 use Rattle.wf_branches.proofs.PartLists.{AreRefutationsFrom, are_canonical, lead_to_map, lines_of_parts, none_parts, shown}
 use Rattle.wf_branches.proofs.PartsWithin.{AreWithin, IsWithin, map_within, nones_within}
 
@@ -79,7 +79,7 @@ found_as form.Verdict m lists = with_map m
 found_as form.Least m lists = with_least m lists
 
 pub goes_to : (asked : Form) (m : List ℕ) (ls : List Line) (next : List (List Line) → Result Gathered RunFault → Type 0) (lists : List (List Line)) (result : Result Gathered RunFault)
-    → GoesOn next lists (map_body asked m ls) result → result ≡ Ok (found_as asked m (lists ++ ls ∷ []))
+    → GoesOn next lists (body_of_map asked m ls) result → result ≡ Ok (found_as asked m (lists ++ ls ∷ []))
 goes_to form.Full m ls next lists result goes = goes
 goes_to form.Verdict m ls next lists result goes = goes
 goes_to form.Least m ls next lists result goes = goes
@@ -92,14 +92,14 @@ pub record IsWhole (asked : Form) (t : Task) (r : ℕ) (found : Outcome) (body :
   pub solved : IsSolved asked t r (found, account) (text_of_report t r body)
   pub clear : report_fault t r (report_about t r body) ≡ None
 
-joined_found : (asked : Form) (m : List ℕ) (cover : List Item) (lists : List (List Line)) → joined_body cover (found_as asked m lists) ≡ map_body asked m (filled_up_to cover lists)
+joined_found : (asked : Form) (m : List ℕ) (cover : List Item) (lists : List (List Line)) → joined_body cover (found_as asked m lists) ≡ body_of_map asked m (filled_up_to cover lists)
 joined_found form.Full m cover lists = refl
 joined_found form.Verdict m cover lists = refl
 joined_found form.Least m cover lists = refl
 
 -- the report of a map that a search finds has no fault, in any form
 map_clear : (asked : Form) (t : Task) (r : ℕ) (m : View → ℕ) (ls : List Line) → IsTask t → IsDecisionMap t r m → HasCanonicalMap (problem_of t r) (listed t r m) (root (problem_of t r)) ls
-    → report_fault t r (report_about t r (map_body asked (listed t r m) ls)) ≡ None
+    → report_fault t r (report_about t r (body_of_map asked (listed t r m) ls)) ≡ None
 map_clear form.Full t r m ls is decides whole = map_accepted t r m decides
 map_clear form.Verdict t r m ls is decides whole = map_accepted t r m decides
 map_clear form.Least t r m ls is decides whole =
@@ -163,7 +163,7 @@ module _ (asked : Form) (shows : asked ≢ form.Verdict) (t : Task) (r : ℕ) (i
           account = in_order;
           solved = (
             map_verdict t r asked (listed t r m) kept _ is found refl
-                (ap (text_of_report t r) (body ∙ ap (map_body asked (listed t r m)) (sym same) ∙ sym (kept_shown asked (listed t r m) kept all_lines refl))),
+                (ap (text_of_report t r) (body ∙ ap (body_of_map asked (listed t r m)) (sym same) ∙ sym (kept_shown asked (listed t r m) kept all_lines refl))),
             map_account t r (listed t r m) in_order is found has_account,
           );
           clear = subst (λ x. report_fault t r (report_about t r x) ≡ None) (sym body) (map_clear asked t r m lines is is_least.decides whole_map);
@@ -175,8 +175,8 @@ module _ (asked : Form) (shows : asked ≢ form.Verdict) (t : Task) (r : ℕ) (i
 pub record AreParts (asked : Form) (t : Task) (r : ℕ) (Stops : RunFault → Type 0) : Type 0 where
   pub memory : Stops OutOfMemory
   pub nones : (i : ℕ) (ls : List Line) → HasBranch t r i → IsRefutationIn t r i ls → IsWithin t r (none ls) → IsTaken t r Stops i (none ls)
-  pub maps : (i : ℕ) (m : View → ℕ) (ls : List Line) → HasBranch t r i → IsLeastInBranch t r i m → LeadsToMapIn t r i (listed t r m) ls → IsWithin t r (map_body asked (listed t r m) ls)
-      → IsTaken t r Stops i (map_body asked (listed t r m) ls)
+  pub maps : (i : ℕ) (m : View → ℕ) (ls : List Line) → HasBranch t r i → IsLeastInBranch t r i m → LeadsToMapIn t r i (listed t r m) ls → IsWithin t r (body_of_map asked (listed t r m) ls)
+      → IsTaken t r Stops i (body_of_map asked (listed t r m) ls)
 
 module _ (asked : Form) (shows : asked ≢ form.Verdict) (t : Task) (r : ℕ) (is : IsTask t) (within : HasComplex t r) (Stops : RunFault → Type 0) (takes : AreParts asked t r Stops) where
   each_taken : (i : ℕ) (lists : List (List Line)) → i + length lists ≤ length (branches t r) → AreRefutationsFrom t r i lists → AllByRecursion (λ ls. IsWithin t r (none ls)) lists → AreTakenFrom t r Stops i lists
@@ -197,19 +197,19 @@ module _ (asked : Form) (shows : asked ≢ form.Verdict) (t : Task) (r : ℕ) (i
       ]
 
   -- the report of the map is in the grammar, in any form
-  of_form : (form' : Form) (m : List ℕ) (lists : List (List Line)) (ls : List Line) → AreWithin t r is within m lists ls → IsWithin t r (map_body form' m ls)
+  of_form : (form' : Form) (m : List ℕ) (lists : List (List Line)) (ls : List Line) → AreWithin t r is within m lists ls → IsWithin t r (body_of_map form' m ls)
   of_form form.Full m lists ls h = h.alone
   of_form form.Verdict m lists ls h = h.alone
   of_form form.Least m lists ls h = h.with_lines
 
   first_comes : (lists : List (List Line)) (m : View → ℕ) (ls : List Line) (rest : List ℕ) (gathered : Result Gathered RunFault) → AreRefutationsFrom t r 0 lists → HasBranch t r (length lists)
       → IsLeastInBranch t r (length lists) m → LeadsToMapIn t r (length lists) (listed t r m) ls
-      → GathersAll t r (none_parts t r 0 lists ++ (part_text t r (length lists) (map_body asked (listed t r m) ls) ++ rest)) gathered
+      → GathersAll t r (none_parts t r 0 lists ++ (part_text t r (length lists) (body_of_map asked (listed t r m) ls) ++ rest)) gathered
       → ComesToWhole outcome.Map gathered ⊎ IsStopped t r Stops gathered
   first_comes lists m ls rest gathered refuted there is_least leads gathers =
       let many : length (lists ++ ls ∷ []) ≤ length (branches t r) = let k = length-append lists (ls ∷ []) in omega (arith, k, there) in
       let each = map_within t r is within m lists ls is_least.decides refuted many (whole_map asked shows t r is lists refuted there m ls is_least leads) in
-      let body = map_body asked (listed t r m) ls in
+      let body = body_of_map asked (listed t r m) ls in
       elim (first_gathered t r Stops takes.memory (branches_few t r is) lists body rest gathered there (each_taken 0 lists (omega (arith, there)) refuted each.nones)
       (takes.maps (length lists) m ls there is_least leads (of_form asked (listed t r m) lists ls each)) gathers) [
         | inr stopped ↦ inr stopped
@@ -223,7 +223,7 @@ module _ (asked : Form) (shows : asked ≢ form.Verdict) (t : Task) (r : ℕ) (i
   comes outcome.Map given gathered (parts, last, behind, solved, there, (m, ls, is_least, leads, same), text) gathers =
       let has = lines_of_parts asked shows t r 0 parts solved in
       let n : length parts ≡ length has.lists = sym has.long in
-      let shape : given ≡ none_parts t r 0 has.lists ++ (part_text t r (length has.lists) (map_body asked (listed t r m) ls) ++ behind) =
-      text ∙ (λ j. has.text_is j ++ ((same ∙ ap (λ k. part_text t r k (map_body asked (listed t r m) ls)) n) j ++ behind)) in
+      let shape : given ≡ none_parts t r 0 has.lists ++ (part_text t r (length has.lists) (body_of_map asked (listed t r m) ls) ++ behind) =
+      text ∙ (λ j. has.text_is j ++ ((same ∙ ap (λ k. part_text t r k (body_of_map asked (listed t r m) ls)) n) j ++ behind)) in
       first_comes has.lists m ls behind gathered has.refuted (subst (HasBranch t r) n there) (subst (λ k. IsLeastInBranch t r k m) n is_least)
       (subst (λ k. LeadsToMapIn t r k (listed t r m) ls) n leads) (subst (λ x. GathersAll t r x gathered) shape gathers)

@@ -9,11 +9,11 @@ use Rattle.wf_model.specs.Refutation.{Line}
 use Rattle.wf_model.specs.Report.{Report, Body, a_map, none, least, report_about}
 use Rattle.wf_model.specs.Check.{body_fault, first_least_fault, header_fault, map_fault}
 use Rattle.wf_model.specs.LeastTree.{IsLeastTree}
-use Rattle.wf_model.proofs.Bridge.{weaker}
-use Rattle.wf_model.proofs.Checked.{root_accepted}
+use Rattle.wf_model.proofs.MapsAreSolutions.{weaker}
+use Rattle.wf_model.proofs.FaultlessLines.{root_accepted}
 use Rattle.wf_model.proofs.Headline.{each_append}
 use Rattle.wf_model.proofs.LeastChecked.{accepted_leads}
-use Rattle.wf_model.proofs.Least.{root_is_box}
+use Rattle.wf_model.proofs.LeastSolutions.{root_is_box}
 use Rattle.wf_model.proofs.WellFormed.{task_well_formed}
 use Rattle.wf_model.proofs.WholeReports.{no_fault}
 use Rattle.wf_formula.specs.Branches.{branches}
@@ -29,15 +29,15 @@ use Rattle.wf_engine.specs.Texts.{text_of_report}
 use Rattle.wf_engine.specs.Verify.{IsFaultless}
 use Rattle.wf_engine.specs.declared.fault.RunFault.{RunFault}
 use Rattle.wf_engine.specs.declared.fault.RunFault.TheVariants as run
-use Rattle.wf_engine.proofs.Acceptance.{body_accepted}
-use Rattle.wf_engine.proofs.Both.{IsReadCounted, done}
-use Rattle.wf_engine.proofs.Both as both
+use Rattle.wf_engine.proofs.WrittenIsAccepted.{body_accepted}
+use Rattle.wf_engine.proofs.RunsOverTwoSources.{IsReadCounted, done}
+use Rattle.wf_engine.proofs.RunsOverTwoSources as both
 use Rattle.wf_engine.proofs.Counts.{few}
-use Rattle.wf_engine.proofs.Written.{HasSmallValue, line_small, map_within, root_small, small_least_within, small_none_within, step_small}
+use Rattle.wf_engine.proofs.WrittenReports.{HasSmallValue, line_small, map_within, root_small, small_least_within, small_none_within, step_small}
 use Rattle.wf_branches.specs.Joining.{AcceptsBody, AcceptsJoined, EndsAll, Gathered, with_map, with_least, without_map, Gathers, GathersAll, GoesOn, IsBodyIn, JoinsText, ReadsParts, TakesPart, among_parts, in_part, joined_body, most_parts_bytes, next_part}
 use Rattle.wf_branches.specs.Laws.{JoinsAreAccepted, JoinsAreTrue, JoiningIsCounted}
 use Rattle.wf_branches.specs.Verifying.{IsPartOf}
-use Rattle.wf_branches.proofs.Small.{AreSmallLines, filled_small, filled_up_small}
+use Rattle.wf_branches.proofs.SmallValues.{AreSmallLines, filled_small, filled_up_small}
 
 -- ---- what was joined
 

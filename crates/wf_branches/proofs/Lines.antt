@@ -3,7 +3,7 @@ use Rattle.std.specs.Prelude.{cond}
 use Rattle.std.proofs.Common.{◌≡◌, ◌<◌, ◌≤◌, ◌+◌, ◌*◌, ℕ, zero, suc, nat_lt, Bool, true, false, List, [], ◌∷◌, ◌++◌, take, length, codes, sym, ap, ◌∙◌, arith}
 use Rattle.std.specs.List.{enumerate_from, slice_index_or}
 use Rattle.std.proofs.lemmas.List.Filters.{length-filter_more}
-use Rattle.wf_model.proofs.Fuel.{length_filter}
+use Rattle.wf_model.proofs.CanonicalSteps.{length_filter}
 use Rattle.wf_model.specs.Lists.{below}
 use Rattle.wf_model.specs.Box.{Box, candidates, count}
 use Rattle.wf_set.specs.Sets.{holds, values_in}
@@ -13,7 +13,7 @@ use Rattle.wf_model.specs.Points.{points}
 use Rattle.wf_model.specs.Report.{line}
 use Rattle.wf_formula.specs.Branches.{branches}
 use Rattle.wf_branches.specs.Listing.{branches_text, entries_text, has_several, header_text, open_points}
-use Rattle.wf_branches.specs.declared.listing.Header.{Header}
+use Rattle.wf_branches.specs.declared.listing.ListingHeader.{ListingHeader}
 
 -- ---- the size of a box
 
@@ -59,7 +59,7 @@ next_sized box point several left values low sized is few =
 
 -- ---- the whole text
 
-pub whole_text : (t : Task) (r : ℕ) (h : Header) (boxes : List Box) → h.processes ≡ t.processes → h.rounds ≡ r → h.points ≡ length (points t r) → h.executions ≡ length (executions t r)
+pub whole_text : (t : Task) (r : ℕ) (h : ListingHeader) (boxes : List Box) → h.processes ≡ t.processes → h.rounds ≡ r → h.points ≡ length (points t r) → h.executions ≡ length (executions t r)
     → h.branches ≡ length (branches t r) → boxes ≡ branches t r → header_text h ++ (entries_text (enumerate_from 0 boxes) ++ line (codes "end") []) ≡ branches_text t r
 whole_text t r h boxes p q v e n b =
     λ i. header_text (record { processes = p i; rounds = q i; points = v i; executions = e i; branches = n i })

@@ -12,11 +12,11 @@ use Rattle.wf_model.specs.Laws.{AreCanonicalForBranches, HasCanonicalLines, HasC
 use Rattle.wf_formula.specs.Branches.{branch_at, branches}
 use Rattle.wf_report.specs.declared.form.Form.{Form}
 use Rattle.wf_report.specs.declared.form.Form.TheVariants as form
-use Rattle.wf_engine.specs.Texts.{none_body}
+use Rattle.wf_engine.specs.Texts.{body_of_none}
 use Rattle.wf_branches.specs.Branches.{HasBranch}
 use Rattle.wf_branches.specs.Solving.{IsRefutationIn, part_text}
 use Rattle.wf_branches.specs.Searched.{HaveNoMapFrom}
-use Rattle.wf_branches.proofs.Canonical.{refuted_lines}
+use Rattle.wf_branches.proofs.CanonicalBranches.{refuted_lines}
 
 -- lines that refute the branches from branch i on
 abbrev pub AreRefutationsFrom : Task → ℕ → ℕ → List (List Line) → Type 0
@@ -38,7 +38,7 @@ pub record HaveLinesFrom (t : Task) (r i : ℕ) (parts : List (List ℕ)) : Type
   pub long : length lists ≡ length parts
 
 -- these forms show the lines
-pub shown : (asked : Form) → asked ≢ form.Verdict → (ls : List Line) → none_body asked ls ≡ none ls
+pub shown : (asked : Form) → asked ≢ form.Verdict → (ls : List Line) → body_of_none asked ls ≡ none ls
 shown form.Full shows ls = refl
 shown form.Verdict shows ls = absurd (shows refl)
 shown form.Least shows ls = refl

@@ -11,18 +11,18 @@ use Rattle.wf_model.specs.Closing.{Trace}
 use Rattle.wf_model.specs.Outline.{Item, boxes_left_out, filled, filled_up_to, left_out, outline, written}
 use Rattle.wf_model.specs.Report.{Body, a_map, none, least, report_about}
 use Rattle.wf_model.specs.Laws.{HasCanonicalLines, HasCanonicalMap}
-use Rattle.wf_model.proofs.Bridge.{weaker}
-use Rattle.wf_model.proofs.Canonical.{canonical_none_refutes}
-use Rattle.wf_model.proofs.Filling.{boxes_outline}
+use Rattle.wf_model.proofs.MapsAreSolutions.{weaker}
+use Rattle.wf_model.proofs.CanonicalRefutations.{canonical_none_refutes}
+use Rattle.wf_model.proofs.FilledOutlines.{boxes_outline}
 use Rattle.wf_model.proofs.Headline.{both, each_append}
-use Rattle.wf_model.proofs.Leading.{canonical_leads}
-use Rattle.wf_model.proofs.Least.{root_is_box}
+use Rattle.wf_model.proofs.LinesToMaps.{canonical_leads}
+use Rattle.wf_model.proofs.LeastSolutions.{root_is_box}
 use Rattle.wf_model.proofs.WellFormed.{task_well_formed}
 use Rattle.wf_formula.specs.Branches.{branch_at, branches}
 use Rattle.wf_report.specs.Grammar.{IsBodyWithin, IsInGrammar, IsLineWithin, IsStepWithin}
 use Rattle.wf_engine.specs.Run.{HasComplex}
-use Rattle.wf_engine.proofs.Written.{least_within, none_within}
-use Rattle.wf_branches.proofs.Closing.{step_of_line}
+use Rattle.wf_engine.proofs.WrittenReports.{least_within, none_within}
+use Rattle.wf_branches.proofs.ReportEnds.{step_of_line}
 use Rattle.wf_branches.proofs.PartLists.{AreRefutationsFrom}
 
 -- ---- the lists that an outline is filled with

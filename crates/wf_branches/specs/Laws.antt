@@ -6,7 +6,7 @@ use Rattle.wf_model.specs.Task.{Task, IsTask}
 use Rattle.wf_model.specs.DecisionMap.{HasNoDecisionMap}
 use Rattle.wf_formula.specs.Branches.{branches}
 use Rattle.wf_io.specs.Seen.{Reading, Writing}
-use Rattle.wf_io.specs.Texts.{Gave, Wrote}
+use Rattle.wf_io.specs.Texts.{GaveAll, Wrote}
 use Rattle.wf_engine.specs.Headline.{GaveTask}
 use Rattle.wf_check.specs.Truth.{HoldsOf}
 use Rattle.wf_engine.specs.Laws.{Accepts, IsChecked, IsCounted}
@@ -64,7 +64,7 @@ BranchSolvingIsCounted =
 pub record GaveTruePart (task task' part part' : Reading) (t : Task) (r i : ℕ) (body : Body) : Type 0 where
   pub task_given : GaveTask task task' t
   pub has_branch : HasBranch t r i
-  pub part_given : Gave part part' (part_text t r i body) 0
+  pub part_given : GaveAll part part' (part_text t r i body)
   pub holds : HoldsIn t r i body
 
 -- where a part is accepted about a branch, such a part was given, and the sink took the line that
@@ -129,7 +129,7 @@ abbrev pub JoinsOfSearchesAreWhole : Type 0
 JoinsOfSearchesAreWhole =
     (rounds : ℕ) (task task' parts parts' : Reading) (sink sink' : Writing)
     → Joins rounds task task' parts parts' sink sink' (Ok tt)
-    → (t : Task) × (given : List ℕ) × (text : List ℕ) × GaveTask task task' t × Gave parts parts' given 0 × Wrote sink sink' text
+    → (t : Task) × (given : List ℕ) × (text : List ℕ) × GaveTask task task' t × GaveAll parts parts' given × Wrote sink sink' text
     × ((asked : Form) (found : Outcome) → asked ≢ form.Verdict → HasPartsOf asked t rounds found given → IsWholeText asked t rounds found text)
 
 -- the parts that searches of the branches wrote in one of these forms are joined, unless there is

@@ -7,7 +7,7 @@ use Rattle.wf_model.specs.Points.{points}
 use Rattle.wf_model.specs.Report.{line}
 use Rattle.wf_model.specs.Box.{Box, count}
 use Rattle.wf_formula.specs.Branches.{branches}
-use Rattle.wf_branches.specs.declared.listing.Header.{Header}
+use Rattle.wf_branches.specs.declared.listing.ListingHeader.{ListingHeader}
 
 -- two values or more
 abbrev pub has_several : List ℕ → Bool
@@ -25,7 +25,7 @@ abbrev pub entries_text : List (ℕ × Box) → List ℕ
 entries_text entries = flat_map entry_line entries
 
 -- the lines before those of the branches
-abbrev pub header_text : Header → List ℕ
+abbrev pub header_text : ListingHeader → List ℕ
 header_text h =
     line (codes "wfcheck branches 1") []
     ++ (line (codes "processes") (h.processes ∷ []) ++ (line (codes "rounds") (h.rounds ∷ [])
@@ -33,7 +33,7 @@ header_text h =
     ++ line (codes "branches") (h.branches ∷ [])))))
 
 -- what they say of a task and its r rounds
-abbrev pub header_of : Task → ℕ → Header
+abbrev pub header_of : Task → ℕ → ListingHeader
 header_of t r = record {
   processes = t.processes;
   rounds = r;

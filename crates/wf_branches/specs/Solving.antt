@@ -15,7 +15,7 @@ use Rattle.wf_formula.specs.Branches.{branch_at, branches}
 use Rattle.wf_io.specs.Seen.{Reading, Writing}
 use Rattle.wf_report.specs.declared.form.Form.{Form}
 use Rattle.wf_engine.specs.Run.{Ran}
-use Rattle.wf_engine.specs.Texts.{map_body, none_body, text_of_report}
+use Rattle.wf_engine.specs.Texts.{body_of_map, body_of_none, text_of_report}
 use Rattle.wf_engine.specs.declared.fault.RunFault.{RunFault}
 use Rattle.wf_engine.specs.declared.outcome.Outcome.{Outcome}
 use Rattle.wf_engine.specs.declared.outcome.Outcome.TheVariants as outcome
@@ -55,9 +55,9 @@ part_text t r i body = part_head i (length (branches t r)) ++ text_of_report t r
 abbrev pub IsSolvedIn : Form → Task → ℕ → ℕ → Outcome → List ℕ → Type 0
 IsSolvedIn form t r i outcome.Map text =
     (m : View → ℕ) × (ls : List Line) × IsLeastInBranch t r i m × LeadsToMapIn t r i (listed t r m) ls
-    × (text ≡ part_text t r i (map_body form (listed t r m) ls))
+    × (text ≡ part_text t r i (body_of_map form (listed t r m) ls))
 IsSolvedIn form t r i outcome.Nothing text =
-    (ls : List Line) × IsRefutationIn t r i ls × (text ≡ part_text t r i (none_body form ls))
+    (ls : List Line) × IsRefutationIn t r i ls × (text ≡ part_text t r i (body_of_none form ls))
 
 -- branch i of the question of the source's task after r rounds was searched
 abbrev pub SolvesBranch : ℕ → ℕ → Form → Reading → Reading → Writing → Writing → Result Outcome RunFault → Type 0

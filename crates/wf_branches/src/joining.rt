@@ -15,7 +15,7 @@ use crate::parts::{next_part, take_part};
 use std::alloc::{AllocError, Global};
 use std::io::{Read, Write};
 use std::thread::Threads;
-use wf_check::{Checker, check};
+use wf_check::{ReportChecker, check};
 use wf_complex::Protocol;
 use wf_engine::{RunFault, hand_out, read_task};
 use wf_io::{Sink, Source, read_all};
@@ -146,7 +146,7 @@ fn gather<T: Threads + Sync>(
     ensures gathers { GathersAll task.now protocol.now.rounds text.now (gathered_seen result) }
     ensures few { IfOk result (HasListsFor cover.now) }
 {
-    let checker = Checker::of(alloc, task)?;
+    let checker = ReportChecker::of(alloc, task)?;
     let mut rest = text;
     let mut lists = Vec::new(alloc);
     for number in 0..cover.branches() {

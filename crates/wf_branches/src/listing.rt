@@ -69,7 +69,7 @@ fn write_branches(alloc: Global, task: &Task, protocol: &Protocol) -> Result<Vec
 {
     let cover = cover_of(alloc, task, protocol)?;
     let mut text = String::new(alloc);
-    Header::of(task, protocol, cover.branches()).put(&mut text)?;
+    ListingHeader::of(task, protocol, cover.branches()).put(&mut text)?;
     put_entries(alloc, &mut text, &cover)?;
     put_words(&mut text, "end")?;
     Ok(text.into_bytes())
@@ -77,7 +77,7 @@ fn write_branches(alloc: Global, task: &Task, protocol: &Protocol) -> Result<Vec
 
 /// The numbers in the lines before those of the branches.
 #[derive(Clone, Copy)]
-struct Header {
+struct ListingHeader {
     processes: u8,
     rounds: u32,
     points: u32,
@@ -85,9 +85,9 @@ struct Header {
     branches: u32,
 }
 
-impl Header {
+impl ListingHeader {
     /// The numbers of a task and its protocol complex, with so many branches.
-    fn of(task: &Task, protocol: &Protocol, branches: u32) -> Header
+    fn of(task: &Task, protocol: &Protocol, branches: u32) -> ListingHeader
         requires { IsProtocol task.now protocol.now.rounds protocol.now }
         ensures processes { result.processes ≡ task.now.processes }
         ensures rounds { result.rounds ≡ protocol.now.rounds }
@@ -95,7 +95,7 @@ impl Header {
         ensures executions { result.executions ≡ length (executions task.now protocol.now.rounds) }
         ensures branches { result.branches ≡ branches }
     {
-        Header {
+        ListingHeader {
             processes: task.processes(),
             rounds: protocol.rounds(),
             points: protocol.points(),
@@ -136,27 +136,27 @@ fn put_entry(text: &mut String, number: u32, boxed: &Box0) -> Result<(), AllocEr
     ensures { OnOk result (string_bytes text.new
         ≡ string_bytes text.old ++ entry_line (number, boxed.now.sets)) }
 {
-    let Size { open, candidates } = Size::of(boxed);
+    let BoxSize { open, candidates } = BoxSize::of(boxed);
     writeln!(text, "branch {number} {open} {candidates}")?;
     Ok(())
 }
 
 /// How large a box is.
 #[derive(Clone, Copy)]
-struct Size {
+struct BoxSize {
     /// How many points have two candidates or more.
     open: u32,
     /// How many candidates all points have.
     candidates: u32,
 }
 
-impl Size {
+impl BoxSize {
     /// The size of a box. It takes no memory.
-    fn of(boxed: &Box0) -> Size
+    fn of(boxed: &Box0) -> BoxSize
         ensures open { result.open ≡ open_points boxed.now.sets }
         ensures candidates { result.candidates ≡ count boxed.now.sets }
     {
-        let mut size = Size {
+        let mut size = BoxSize {
             open: 0,
             candidates: 0,
         };
@@ -167,13 +167,13 @@ impl Size {
     }
 
     /// The size with a point more, which has so many candidates.
-    fn with(self, candidates: u32) -> Size
+    fn with(self, candidates: u32) -> BoxSize
         requires open { self.open + 1 < 2 ^ 32 }
         requires candidates { self.candidates + candidates < 2 ^ 32 }
         ensures open { result.open ≡ self.open + cond (nat_lt 1 candidates) 1 0 }
         ensures candidates { result.candidates ≡ self.candidates + candidates }
     {
-        Size {
+        BoxSize {
             open: if candidates > 1 {
                 self.open + 1
             } else {

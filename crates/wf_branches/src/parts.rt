@@ -11,7 +11,7 @@ use crate::branch::branch_in;
 use crate::verifying::{check_part, part_of};
 use std::alloc::Global;
 use std::thread::Threads;
-use wf_check::Checker;
+use wf_check::ReportChecker;
 use wf_complex::Protocol;
 use wf_engine::{PartFault, RunFault};
 use wf_report::{Body, CertFault};
@@ -61,7 +61,7 @@ pub(crate) fn take_part<T: Threads + Sync>(
     task: &Task,
     protocol: &Protocol,
     cover: &Cover,
-    checker: &Checker,
+    checker: &ReportChecker,
     number: u32,
     text: &[u8],
 ) -> Result<Body, RunFault>
@@ -84,7 +84,7 @@ fn body_in<T: Threads + Sync>(
     task: &Task,
     protocol: &Protocol,
     cover: &Cover,
-    checker: &Checker,
+    checker: &ReportChecker,
     number: u32,
     text: &[u8],
 ) -> Result<Body, RunFault>

@@ -16,7 +16,8 @@ use crate::branch::BranchIndex;
 use std::alloc::{AllocError, Global};
 use std::io::{Read, Write};
 use wf_engine::{
-    Form, Outcome, RunFault, hand_out, lines_kept, map_body, pose_problem, read_task, report_text,
+    Form, Outcome, RunFault, body_of_map, hand_out, lines_kept, pose_problem, read_task,
+    report_text,
 };
 use wf_io::{Sink, Source};
 use wf_pool::{Answer, BranchAnswer, Gate, Open, solve_branch};
@@ -121,7 +122,7 @@ fn with_part(
 {
     match answer {
         Answer::Map(values, lines) => {
-            let body = map_body(form, values, lines);
+            let body = body_of_map(form, values, lines);
             Ok((
                 Outcome::Map,
                 part_text(alloc, task, rounds, header, index, body)?,

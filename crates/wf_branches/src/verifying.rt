@@ -17,7 +17,7 @@ use crate::branch::{FoundBranch, branch_of};
 use std::alloc::Global;
 use std::io::{Read, Write};
 use std::thread::Threads;
-use wf_check::Checker;
+use wf_check::ReportChecker;
 use wf_complex::Protocol;
 use wf_engine::{RunFault, accepted_words, hand_out, read_task};
 use wf_io::{Sink, Source, read_all};
@@ -181,7 +181,7 @@ fn accept<T: Threads + Sync>(
         (answered result) }
 {
     let index = branch.index();
-    let checker = Checker::of(alloc, task)?;
+    let checker = ReportChecker::of(alloc, task)?;
     check_part(rt, alloc, task, protocol, &checker, branch, report)?;
     let text = index.accepted(alloc, accepted_words(&report.body), protocol.rounds())?;
     Ok(((), text.into_bytes()))
@@ -193,7 +193,7 @@ pub(crate) fn check_part<T: Threads + Sync>(
     alloc: Global,
     task: &Task,
     protocol: &Protocol,
-    checker: &Checker,
+    checker: &ReportChecker,
     branch: FoundBranch,
     report: &Report,
 ) -> Result<(), RunFault>

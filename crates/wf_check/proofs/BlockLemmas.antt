@@ -7,13 +7,13 @@ use Rattle.std.proofs.lemmas.List.Elements.{All-head, All-tail}
 use Rattle.wf_model.specs.Box.{Box, candidates, decided, without}
 use Rattle.wf_set.specs.Sets.{values_in, box_of}
 use Rattle.wf_check.specs.Blocks.{later, later_from}
-use Rattle.wf_check.specs.declared.boxes.Entry.{Entry}
-use Rattle.wf_check.specs.declared.boxes.Entry.TheVariants.{Was, Later}
+use Rattle.wf_check.specs.declared.boxes.TrailEntry.{TrailEntry}
+use Rattle.wf_check.specs.declared.boxes.TrailEntry.TheVariants.{Was, Later}
 use Rattle.wf_model.specs.Lists.{has}
 use Rattle.wf_set.proofs.Lemmas.{filter_nothing, one_value, set_at}
 
 -- one more entry
-pub later_push : (trail : List Entry) (e : Entry) (sets : List (List ℕ)) → later (trail ++ e ∷ []) sets ≡ later_from (e ∷ reverse trail) sets
+pub later_push : (trail : List TrailEntry) (e : TrailEntry) (sets : List (List ℕ)) → later (trail ++ e ∷ []) sets ≡ later_from (e ∷ reverse trail) sets
 later_push trail e sets = ap (λ es. later_from es sets) (reverse-append trail (e ∷ []))
 
 -- a set is changed, and the way back has the one of before
@@ -22,7 +22,7 @@ set_twice [] v x d = refl
 set_twice (s ∷ sets) zero x d = refl
 set_twice (s ∷ sets) (suc v) x d = ap (λ rest. s ∷ rest) (set_twice sets v x d)
 
-pub later_changed : (trail : List Entry) (sets : List (List ℕ)) (v : ℕ) (set d : List ℕ) → later (trail ++ Was v (get_or sets v d) ∷ []) (slice_set sets v set) ≡ later trail sets
+pub later_changed : (trail : List TrailEntry) (sets : List (List ℕ)) (v : ℕ) (set d : List ℕ) → later (trail ++ Was v (get_or sets v d) ∷ []) (slice_set sets v set) ≡ later trail sets
 later_changed trail sets v set d = later_push trail (Was v (get_or sets v d)) (slice_set sets v set) ∙ ap (later trail) (set_twice sets v set d)
 
 -- a set that is read, whatever stands for one that is not there
@@ -38,7 +38,7 @@ set_without sets v a w set inside read is =
     ∙ ap (λ s. slice_set (box_of sets) v s) (is ∙ ap (λ w. filter (λ b. not (b == a)) (values_in w)) (set_read sets v w inside read) ∙ ap (filter (λ b. not (b == a))) (sym (set_at sets v inside)))
 
 -- the block of the least of some values is entered, and the others come later
-pub entered : (trail : List Entry) (sets : List (List ℕ)) (v low : ℕ) (values : List ℕ) (a : ℕ) (set left : List ℕ) (new : List (List ℕ)) {after : List Box} → values_in set ≡ a ∷ [] → values_in values ≡ a ∷ values_in left
+pub entered : (trail : List TrailEntry) (sets : List (List ℕ)) (v low : ℕ) (values : List ℕ) (a : ℕ) (set left : List ℕ) (new : List (List ℕ)) {after : List Box} → values_in set ≡ a ∷ [] → values_in values ≡ a ∷ values_in left
     → new ≡ slice_set sets v set → after ≡ later (trail ++ Later v low left ∷ []) sets
     → box_of new ∷ after ≡ map (decided (box_of sets) v) (values_in values) ++ later trail sets
 entered trail sets v low values a set left new alone split is so =
@@ -53,7 +53,7 @@ without_nothing sets v a w inside read gone =
     ∙ set-get_or (box_of sets) v [])
 
 -- the last entry is taken back
-pub later_popped : (trail before : List Entry) (e : Entry) (sets : List (List ℕ)) → before ≡ trail ++ e ∷ [] → later before sets ≡ later_from (e ∷ reverse trail) sets
+pub later_popped : (trail before : List TrailEntry) (e : TrailEntry) (sets : List (List ℕ)) → before ≡ trail ++ e ∷ [] → later before sets ≡ later_from (e ∷ reverse trail) sets
 later_popped trail before e sets is = ap (λ es. later es sets) is ∙ later_push trail e sets
 
 -- the sets of some points, and their candidates

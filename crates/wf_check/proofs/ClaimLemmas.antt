@@ -12,16 +12,16 @@ use Rattle.wf_check.specs.Faults.{Fails, IsFault, Judges}
 use Rattle.wf_check.specs.declared.boxes.Blocks.{Blocks}
 use Rattle.wf_report.specs.declared.fault.CertFault.{CertFault}
 use Rattle.wf_report.specs.declared.fault.CertFault.TheVariants.{TooLong, Syntax, Header, MapLength, Violates, NoSuch, Unsound, NotEmpty, NotOpen, Unfinished, Trailing, NotFirst, NotTheMap, OutOfMemory}
-use Rattle.wf_check.specs.declared.judge.Claim.{Claim}
-use Rattle.wf_check.specs.declared.judge.Claim.TheVariants.{Nothing, Least}
-use Rattle.wf_check.specs.declared.judge.Progress.{Progress}
-use Rattle.wf_check.specs.declared.judge.Progress.TheVariants.{Going, Refuted, Found}
+use Rattle.wf_check.specs.declared.judge.Goal.{Goal}
+use Rattle.wf_check.specs.declared.judge.Goal.TheVariants.{Nothing, Least}
+use Rattle.wf_check.specs.declared.judge.JudgedSoFar.{JudgedSoFar}
+use Rattle.wf_check.specs.declared.judge.JudgedSoFar.TheVariants.{Going, Refuted, Found}
 
-pub empty_first : (p : Problem) (claim : Claim) (k v : ℕ) (ls : List Line) (box : Box) (boxes : List Box) → lines_fault p claim k (empty v ∷ ls) (box ∷ boxes) ≡ after_verdict (verdict p k (empty v) box boxes) (lines_fault p claim (suc k) ls)
+pub empty_first : (p : Problem) (claim : Goal) (k v : ℕ) (ls : List Line) (box : Box) (boxes : List Box) → lines_fault p claim k (empty v ∷ ls) (box ∷ boxes) ≡ after_verdict (verdict p k (empty v) box boxes) (lines_fault p claim (suc k) ls)
 empty_first p Nothing k v ls box boxes = refl
 empty_first p (Least m) k v ls box boxes = refl
 
-pub branch_first : (p : Problem) (claim : Claim) (k v : ℕ) (ls : List Line) (box : Box) (boxes : List Box) → lines_fault p claim k (branch v ∷ ls) (box ∷ boxes) ≡ after_verdict (verdict_on p claim k (branch v) box boxes) (lines_fault p claim (suc k) ls)
+pub branch_first : (p : Problem) (claim : Goal) (k v : ℕ) (ls : List Line) (box : Box) (boxes : List Box) → lines_fault p claim k (branch v ∷ ls) (box ∷ boxes) ≡ after_verdict (verdict_on p claim k (branch v) box boxes) (lines_fault p claim (suc k) ls)
 branch_first p Nothing k v ls box boxes = refl
 branch_first p (Least m) k v ls box boxes = refl
 
@@ -46,7 +46,7 @@ pub left_first : (whole : Option Refusal) (v : Verdict) (next : List Box → Opt
 left_first whole v next boxes is h = is ∙ ap (λ v. after_verdict v next) h
 
 -- a line by its variant
-pub line_seen : (p : Problem) (claim : Claim) (k : ℕ) (line same : line.Line) (ls : List Line) (box : Box) (boxes : List Box) → line ≡ same
+pub line_seen : (p : Problem) (claim : Goal) (k : ℕ) (line same : line.Line) (ls : List Line) (box : Box) (boxes : List Box) → line ≡ same
     → lines_fault p claim k (line_of line ∷ ls) (box ∷ boxes) ≡ lines_fault p claim k (line_of same ∷ ls) (box ∷ boxes)
 line_seen p claim k line same ls box boxes is = ap (λ l. lines_fault p claim k (line_of l ∷ ls) (box ∷ boxes)) is
 
@@ -59,7 +59,7 @@ judges_fault result e f whole is same h = subst (λ r. Judges r whole) (sym is) 
 -- ---- all lines
 
 -- where all blocks are done, or the map is found, the next line is one too many
-pub trailing_there : (p : Problem) (claim : Claim) (k i : ℕ) (lines : List line.Line) (progress : Progress) (blocks : Blocks) → i < length lines → (progress ≡ Going → ⊥)
+pub trailing_there : (p : Problem) (claim : Goal) (k i : ℕ) (lines : List line.Line) (progress : JudgedSoFar) (blocks : Blocks) → i < length lines → (progress ≡ Going → ⊥)
     → fault_left p claim k (map line_of (drop i lines)) progress blocks ≡ Some (trailing k)
 trailing_there p claim k i [] progress blocks low h = absurd (omega (arith, low))
 trailing_there p claim k (suc i) (l ∷ lines) progress blocks low h = trailing_there p claim k i lines progress blocks (omega (arith, low)) h
@@ -76,7 +76,7 @@ next_line (x ∷ lines) (suc i) d low =
     let e : suc i + 1 ≡ suc (i + 1) = omega arith in
     rw e (next_line lines i d (omega (arith, low)))
 
-pub going_on : (p : Problem) (claim : Claim) (k i : ℕ) (lines : List line.Line) (d : line.Line) (progress : Progress) (blocks : Blocks) → i < length lines → progress ≡ Going
+pub going_on : (p : Problem) (claim : Goal) (k i : ℕ) (lines : List line.Line) (d : line.Line) (progress : JudgedSoFar) (blocks : Blocks) → i < length lines → progress ≡ Going
     → fault_left p claim k (map line_of (drop i lines)) progress blocks ≡ lines_fault p claim k (line_of (get_or lines i d) ∷ map line_of (drop (i + 1) lines)) (box_now blocks ∷ boxes_later blocks)
 going_on p claim k i lines d progress blocks low going =
     ap (λ progress. fault_left p claim k (map line_of (drop i lines)) progress blocks) going ∙ ap (λ ls. lines_fault p claim k ls (box_now blocks ∷ boxes_later blocks)) (next_line lines i d low)

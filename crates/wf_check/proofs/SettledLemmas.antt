@@ -4,8 +4,8 @@ use Rattle.std.specs.List.{slice_set}
 use Rattle.std.proofs.lemmas.List.{reverse-append}
 use Rattle.wf_set.specs.Sets.{values_in}
 use Rattle.wf_check.specs.Settled.{are_settled, is_settled}
-use Rattle.wf_check.specs.declared.boxes.Entry.{Entry}
-use Rattle.wf_check.specs.declared.boxes.Entry.TheVariants.{Was}
+use Rattle.wf_check.specs.declared.boxes.TrailEntry.{TrailEntry}
+use Rattle.wf_check.specs.declared.boxes.TrailEntry.TheVariants.{Was}
 use Rattle.wf_check.proofs.BlockLemmas.{set_twice}
 use Rattle.wf_check.proofs.FirstLemmas.{IsSettled}
 use Rattle.std.proofs.lemmas.Bool.{and_parts}
@@ -37,10 +37,10 @@ settled_set (suc low) (suc n) (suc v) (s ∷ sets) x below before h =
     (λ i. parts.0 i && settled_set low n v sets x (omega (arith, below)) (omega (arith, before)) parts.1 i)
 
 -- one more entry, and one less
-way_is : (trail : List Entry) (e : Entry) (sets : List (List ℕ)) → are_settled (reverse (trail ++ e ∷ [])) sets ≡ are_settled (e ∷ reverse trail) sets
+way_is : (trail : List TrailEntry) (e : TrailEntry) (sets : List (List ℕ)) → are_settled (reverse (trail ++ e ∷ [])) sets ≡ are_settled (e ∷ reverse trail) sets
 way_is trail e sets = ap (λ es. are_settled es sets) (reverse-append trail (e ∷ []))
 
-pub way_changed : (trail after : List Entry) (sets : List (List ℕ)) (v : ℕ) (x w : List ℕ) → after ≡ trail ++ Was v w ∷ [] → w ≡ get_or sets v w → are_settled (reverse trail) sets ≡ true → are_settled (reverse after) (slice_set sets v x) ≡ true
+pub way_changed : (trail after : List TrailEntry) (sets : List (List ℕ)) (v : ℕ) (x w : List ℕ) → after ≡ trail ++ Was v w ∷ [] → w ≡ get_or sets v w → are_settled (reverse trail) sets ≡ true → are_settled (reverse after) (slice_set sets v x) ≡ true
 way_changed trail after sets v x w is read h =
     ap (λ es. are_settled (reverse es) (slice_set sets v x)) is
     ∙ way_is trail (Was v w) (slice_set sets v x)
@@ -48,5 +48,5 @@ way_changed trail after sets v x w is read h =
     ∙ ap (are_settled (reverse trail)) (set_twice sets v x w)
     ∙ h
 
-pub way_popped : (trail before : List Entry) (e same : Entry) (sets : List (List ℕ)) → before ≡ trail ++ e ∷ [] → e ≡ same → are_settled (reverse before) sets ≡ true → are_settled (same ∷ reverse trail) sets ≡ true
+pub way_popped : (trail before : List TrailEntry) (e same : TrailEntry) (sets : List (List ℕ)) → before ≡ trail ++ e ∷ [] → e ≡ same → are_settled (reverse before) sets ≡ true → are_settled (same ∷ reverse trail) sets ≡ true
 way_popped trail before e same sets is seen h = ap (λ e. are_settled (e ∷ reverse trail) sets) (sym seen) ∙ sym (way_is trail e sets) ∙ ap (λ es. are_settled (reverse es) sets) (sym is) ∙ h

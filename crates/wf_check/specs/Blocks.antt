@@ -4,19 +4,19 @@ use Rattle.std.specs.List.{slice_set}
 use Rattle.wf_model.specs.Box.{Box, decided}
 use Rattle.wf_set.specs.Sets.{values_in, box_of}
 use Rattle.wf_check.specs.declared.boxes.Blocks.{Blocks}
-use Rattle.wf_check.specs.declared.boxes.Entry.{Entry}
-use Rattle.wf_check.specs.declared.boxes.Entry.TheVariants.{Was, Later}
+use Rattle.wf_check.specs.declared.boxes.TrailEntry.{TrailEntry}
+use Rattle.wf_check.specs.declared.boxes.TrailEntry.TheVariants.{Was, Later}
 
 -- The last entry comes first: a set is put back, or a point has values left, each a box of its own
 -- over the sets of then.
-abbrev pub later_from : List Entry → List (List ℕ) → List Box
+abbrev pub later_from : List TrailEntry → List (List ℕ) → List Box
 later_from [] sets = []
 later_from (Was v set ∷ below) sets = later_from below (slice_set sets v set)
 later_from (Later v low values ∷ below) sets =
     map (decided (box_of sets) v) (values_in values) ++ later_from below sets
 
 -- the boxes after the box of these sets
-abbrev pub later : List Entry → List (List ℕ) → List Box
+abbrev pub later : List TrailEntry → List (List ℕ) → List Box
 later trail sets = later_from (reverse trail) sets
 
 -- the box of now

@@ -8,28 +8,28 @@ use Rattle.wf_check.specs.Blocks.{box_now, boxes_later}
 use Rattle.wf_check.specs.Faults.{Fails}
 use Rattle.wf_check.specs.declared.boxes.Blocks.{Blocks}
 use Rattle.wf_report.specs.declared.fault.CertFault.{CertFault}
-use Rattle.wf_check.specs.declared.judge.Claim.{Claim}
-use Rattle.wf_check.specs.declared.judge.Claim.TheVariants.{Nothing, Least}
-use Rattle.wf_check.specs.declared.judge.Progress.{Progress}
-use Rattle.wf_check.specs.declared.judge.Progress.TheVariants.{Going, Refuted, Found}
+use Rattle.wf_check.specs.declared.judge.Goal.{Goal}
+use Rattle.wf_check.specs.declared.judge.Goal.TheVariants.{Nothing, Least}
+use Rattle.wf_check.specs.declared.judge.JudgedSoFar.{JudgedSoFar}
+use Rattle.wf_check.specs.declared.judge.JudgedSoFar.TheVariants.{Going, Refuted, Found}
 
 -- the first fault of lines that are to show the claim over these boxes, the first line being line k
-abbrev pub lines_fault : Problem → Claim → ℕ → List Line → List Box → Option Refusal
+abbrev pub lines_fault : Problem → Goal → ℕ → List Line → List Box → Option Refusal
 lines_fault p Nothing k ls boxes = first_fault p k ls boxes
 lines_fault p (Least m) k ls boxes = first_least_fault p m.now k ls boxes
 
 -- the verdict of line k, which doesn't end a search
-abbrev pub verdict_on : Problem → Claim → ℕ → Line → Box → List Box → Verdict
+abbrev pub verdict_on : Problem → Goal → ℕ → Line → Box → List Box → Verdict
 verdict_on p Nothing k l box boxes = verdict p k l box boxes
 verdict_on p (Least m) k l box boxes = least_verdict p k l box boxes
 
 -- whether lines may branch at the point
-abbrev pub is_branch_of : Claim → ℕ → Box → Bool
+abbrev pub is_branch_of : Goal → ℕ → Box → Bool
 is_branch_of Nothing v box = true
 is_branch_of (Least m) v box = is_point v (first_open box)
 
 -- the first fault of the lines that are left when they have come so far
-abbrev pub fault_left : Problem → Claim → ℕ → List Line → Progress → Blocks → Option Refusal
+abbrev pub fault_left : Problem → Goal → ℕ → List Line → JudgedSoFar → Blocks → Option Refusal
 fault_left p claim k ls Going blocks = lines_fault p claim k ls (box_now blocks ∷ boxes_later blocks)
 fault_left p claim k ls Refuted blocks = lines_fault p claim k ls []
 fault_left p claim k ls Found blocks = first_trailing k ls
@@ -40,11 +40,11 @@ Leaves (Ok x) whole left = whole ≡ left x
 Leaves (Err e) whole left = Fails e whole
 
 -- what is answered about line k is right, whatever lines follow it
-abbrev pub Judged : Result Progress CertFault → Problem → Claim → ℕ → Line → Blocks → Blocks → Type 0
+abbrev pub Judged : Result JudgedSoFar CertFault → Problem → Goal → ℕ → Line → Blocks → Blocks → Type 0
 Judged result p claim k l old new =
     (ls : List Line) → Leaves result (lines_fault p claim k (l ∷ ls) (box_now old ∷ boxes_later old)) (λ progress. fault_left p claim (suc k) ls progress new)
 
 -- the same of a line that ends a search
-abbrev pub Ends : {X : Type 0} → Result X CertFault → Problem → Claim → ℕ → Box → List Box → Type 0
+abbrev pub Ends : {X : Type 0} → Result X CertFault → Problem → Goal → ℕ → Box → List Box → Type 0
 Ends result p claim k box boxes =
     (ls : List Line) → Leaves result (lines_fault p claim k (found ∷ ls) (box ∷ boxes)) (λ _. first_trailing (suc k) ls)

@@ -2,8 +2,8 @@
 use Rattle.std.specs.Prelude.{ℕ, Bool, true, not, nat_lt, ◌&&◌, length, take, List, [], ◌∷◌}
 use Rattle.std.specs.List.{list_all, slice_set}
 use Rattle.wf_set.specs.Sets.{values_in}
-use Rattle.wf_check.specs.declared.boxes.Entry.{Entry}
-use Rattle.wf_check.specs.declared.boxes.Entry.TheVariants.{Was, Later}
+use Rattle.wf_check.specs.declared.boxes.TrailEntry.{TrailEntry}
+use Rattle.wf_check.specs.declared.boxes.TrailEntry.TheVariants.{Was, Later}
 
 -- no point below this one has two candidates
 abbrev pub is_settled : ℕ → List (List ℕ) → Bool
@@ -11,7 +11,7 @@ is_settled low sets = list_all (λ set. not (nat_lt 1 (length (values_in set))))
 
 -- the same of each point that branches and has values left, by the sets of
 -- then; the last entry comes first
-abbrev pub are_settled : List Entry → List (List ℕ) → Bool
+abbrev pub are_settled : List TrailEntry → List (List ℕ) → Bool
 are_settled [] sets = true
 are_settled (Was v set ∷ below) sets = are_settled below (slice_set sets v set)
 are_settled (Later v low values ∷ below) sets = is_settled low sets && are_settled below sets

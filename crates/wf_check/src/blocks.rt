@@ -12,7 +12,7 @@ ghost use Rattle.wf_model.specs.Check.{is_exactly};
 ghost use Rattle.wf_set.specs.Sets.{values_in};
 ghost use Rattle.wf_check.specs.Blocks.{box_now, boxes_later, boxes_left, HasSamePoints};
 
-use crate::boxes::{Blocks, Entry};
+use crate::boxes::{Blocks, TrailEntry};
 use std::alloc::{AllocError, Global};
 use wf_set::{Mask, has_two, holds, is_empty, only, split_first, without};
 
@@ -107,11 +107,11 @@ impl Blocks {
     {
         'back: while let Some(entry) = self.trail.pop() {
             match entry {
-                Entry::Was { point, set } => {
+                TrailEntry::Was { point, set } => {
                     put_back(&mut self.sets, point, set);
                     self.low = self.low.min(point as usize);
                 }
-                Entry::Later { point, low, values } => {
+                TrailEntry::Later { point, low, values } => {
                     self.low = low;
                     if !is_empty(values) {
                         self.enter(point, values)?;
@@ -134,7 +134,7 @@ impl Blocks {
             unreachable!();
         };
         let (value, others) = split;
-        self.trail.push(Entry::Later {
+        self.trail.push(TrailEntry::Later {
             point,
             low: self.low,
             values: others,
@@ -151,7 +151,7 @@ impl Blocks {
     {
         if (point as usize) < self.sets.len() {
             let before = self.sets[point as usize];
-            self.trail.push(Entry::Was { point, set: before })?;
+            self.trail.push(TrailEntry::Was { point, set: before })?;
             self.sets[point as usize] = set;
             self.low = self.low.min(point as usize);
         }

@@ -7,7 +7,7 @@ use wf_set::Mask;
 
 /// A step of the way back.
 #[derive(Clone, Copy, Debug, Drop)]
-pub(crate) enum Entry {
+pub(crate) enum TrailEntry {
     /// The point had this set before.
     Was {
         /// The number of the point.
@@ -32,7 +32,7 @@ pub(crate) struct Blocks {
     // the candidates of each point
     pub(crate) sets: Vec<Mask>,
     // the last step was taken last
-    pub(crate) trail: Vec<Entry>,
+    pub(crate) trail: Vec<TrailEntry>,
     // no point below this one has two candidates
     pub(crate) low: usize,
     ghost settled: { is_settled low sets.items ≡ true },

@@ -10,10 +10,10 @@ ghost use Rattle.wf_check.specs.Truth.{HoldsOf};
 ghost use Rattle.wf_check.specs.Within.{IsCheckerOf, fault_within, report_fault_within};
 ghost use Rattle.wf_report.specs.Reports.{AreNumbered, body_length, body_of, report_seen};
 
-use crate::judge::{Claim, judge_lines};
+use crate::judge::{Goal, judge_lines};
 use crate::maps::first_violated;
 use crate::support::support_all;
-use crate::tuples::Support;
+use crate::tuples::TupleSupport;
 use std::alloc::{AllocError, Global};
 use std::marker::Model;
 use std::thread::Threads;
@@ -53,11 +53,11 @@ pub fn check<R: Threads + Sync>(
 ///
 /// A clause sees it as the tuples of each rule of the task.
 #[derive(Drop)]
-pub struct Checker {
-    supports: Vec<Support>,
+pub struct ReportChecker {
+    supports: Vec<TupleSupport>,
 }
 
-impl Model for Checker {
+impl Model for ReportChecker {
     ghost use Rattle.std.specs.Prelude.{List};
     ghost use Rattle.wf_model.specs.Task.{Tuple};
 
@@ -66,13 +66,13 @@ impl Model for Checker {
     ghost view = { λ checker. checker.supports.items };
 }
 
-impl Checker {
+impl ReportChecker {
     /// The checker of reports about a task. Refused for want of memory alone.
-    pub fn of(alloc: Global, task: &Task) -> Result<Checker, AllocError>
+    pub fn of(alloc: Global, task: &Task) -> Result<ReportChecker, AllocError>
         ensures { IfOk result (IsCheckerOf task.now) }
     {
         let supports = support_all(alloc, task)?;
-        Ok(Checker { supports })
+        Ok(ReportChecker { supports })
     }
 
     /// Accepts a report whose answer is about one box alone, that with these values at each point,
@@ -128,7 +128,7 @@ impl Checker {
                 protocol,
                 supports,
                 sets,
-                Claim::Nothing,
+                Goal::Nothing,
                 FIRST_LINE,
                 lines,
             ),
@@ -141,7 +141,7 @@ impl Checker {
                     protocol,
                     supports,
                     sets,
-                    Claim::Least(values),
+                    Goal::Least(values),
                     first,
                     lines,
                 )
@@ -222,7 +222,7 @@ fn judge_within<R: Threads + Sync>(
     match body {
         Body::Map(values) => judge_map(rt, task, protocol, values),
         Body::Nothing(_) | Body::Least(_, _) => {
-            let checker = Checker::of(alloc, task)?;
+            let checker = ReportChecker::of(alloc, task)?;
             checker.judge(rt, alloc, task, protocol, sets, body)
         }
     }

@@ -17,7 +17,7 @@ ghost use Rattle.wf_check.specs.Faults.{Judges, Steps};
 
 use crate::boxes::Blocks;
 use crate::support::is_supported;
-use crate::tuples::Support;
+use crate::tuples::TupleSupport;
 use std::alloc::Global;
 use wf_complex::Protocol;
 use wf_lines::Line;
@@ -35,7 +35,7 @@ struct Removal {
 
 /// What lines are to show.
 #[derive(Clone, Copy, Debug)]
-pub(crate) enum Claim<'a> {
+pub(crate) enum Goal<'a> {
     /// That there is no map.
     Nothing,
     /// That this is the least map.
@@ -44,7 +44,7 @@ pub(crate) enum Claim<'a> {
 
 /// How far the lines have come.
 #[derive(Clone, Copy, Debug)]
-enum Progress {
+enum JudgedSoFar {
     /// A block is open.
     Going,
     /// All blocks are done.
@@ -59,9 +59,9 @@ pub(crate) fn judge_lines(
     alloc: Global,
     task: &Task,
     protocol: &Protocol,
-    supports: &[Support],
+    supports: &[TupleSupport],
     sets: Vec<Mask>,
-    claim: Claim,
+    claim: Goal,
     first: u32,
     lines: &[Line],
 ) -> Result<(), CertFault>
@@ -81,8 +81,8 @@ pub(crate) fn judge_lines(
 fn judge_from(
     task: &Task,
     protocol: &Protocol,
-    supports: &[Support],
-    claim: Claim,
+    supports: &[TupleSupport],
+    claim: Goal,
     first: u32,
     lines: &[Line],
     blocks: &mut Blocks,
@@ -94,17 +94,17 @@ fn judge_from(
     ensures { Judges result (lines_fault (problem_of task.now protocol.now.rounds) claim.entry first
         (map line_of lines.now) (box_now blocks.old ∷ boxes_later blocks.old)) }
 {
-    let mut progress = Progress::Going;
+    let mut progress = JudgedSoFar::Going;
     let mut at = first;
     for line in lines {
-        let Progress::Going = progress else {
+        let JudgedSoFar::Going = progress else {
             return Err(CertFault::Trailing(at));
         };
         progress = judge_line(task, protocol, supports, claim, *line, at, blocks)?;
         at += 1;
     }
     match (claim, progress) {
-        (_, Progress::Found) | (Claim::Nothing, Progress::Refuted) => Ok(()),
+        (_, JudgedSoFar::Found) | (Goal::Nothing, JudgedSoFar::Refuted) => Ok(()),
         _ => Err(CertFault::Unfinished),
     }
 }
@@ -113,12 +113,12 @@ fn judge_from(
 fn judge_line(
     task: &Task,
     protocol: &Protocol,
-    supports: &[Support],
-    claim: Claim,
+    supports: &[TupleSupport],
+    claim: Goal,
     line: Line,
     at: u32,
     blocks: &mut Blocks,
-) -> Result<Progress, CertFault>
+) -> Result<JudgedSoFar, CertFault>
     requires built { IsProtocol task.now protocol.now.rounds protocol.now }
     requires supports { supports.now ≡ tuples_of task.now.delta }
     requires long { length blocks.old.sets.items ≡ length protocol.now.points }
@@ -138,23 +138,23 @@ fn judge_line(
                 value,
             };
             judge_removal(task, protocol, supports, removal, at, blocks)?;
-            Ok(Progress::Going)
+            Ok(JudgedSoFar::Going)
         }
         Line::Empty { point } => {
             let going = judge_empty(protocol, point, at, blocks)?;
             Ok(if going {
-                Progress::Going
+                JudgedSoFar::Going
             } else {
-                Progress::Refuted
+                JudgedSoFar::Refuted
             })
         }
         Line::Branch { point } => {
             judge_branch(protocol, claim, point, at, blocks)?;
-            Ok(Progress::Going)
+            Ok(JudgedSoFar::Going)
         }
         Line::Found => {
             judge_end(claim, at, blocks)?;
-            Ok(Progress::Found)
+            Ok(JudgedSoFar::Found)
         }
     }
 }
@@ -185,7 +185,7 @@ fn judge_empty(
 /// Branches at the point, if it has two candidates or more, and by the claim is the first that has.
 fn judge_branch(
     protocol: &Protocol,
-    claim: Claim,
+    claim: Goal,
     point: u32,
     at: u32,
     blocks: &mut Blocks,
@@ -212,14 +212,14 @@ fn judge_branch(
 
 /// Whether the claim lets the lines branch at the point: where a map is to be
 /// the least, at the first open point alone.
-fn is_branch_of(claim: Claim, point: u32, blocks: &mut Blocks) -> bool
+fn is_branch_of(claim: Goal, point: u32, blocks: &mut Blocks) -> bool
     ensures asked { result ≡ is_branch_of claim.entry point (box_now blocks.old) }
     ensures sets { blocks.new.sets ≡ blocks.old.sets }
     ensures later { boxes_later blocks.new ≡ boxes_later blocks.old }
 {
     match claim {
-        Claim::Nothing => true,
-        Claim::Least(_) => match blocks.first_open() {
+        Goal::Nothing => true,
+        Goal::Least(_) => match blocks.first_open() {
             Some(first) => point as usize == first,
             None => false,
         },
@@ -227,13 +227,13 @@ fn is_branch_of(claim: Claim, point: u32, blocks: &mut Blocks) -> bool
 }
 
 /// Ends the search, if a map is claimed and the box of now has that map alone.
-fn judge_end(claim: Claim, at: u32, blocks: &Blocks) -> Result<(), CertFault>
+fn judge_end(claim: Goal, at: u32, blocks: &Blocks) -> Result<(), CertFault>
     ensures { (p : Problem) →
         Ends result p claim.entry at (box_now blocks.now) (boxes_later blocks.now) }
 {
     match claim {
-        Claim::Nothing => Err(CertFault::NotTheMap(at)),
-        Claim::Least(values) => {
+        Goal::Nothing => Err(CertFault::NotTheMap(at)),
+        Goal::Least(values) => {
             if !blocks.is_exactly(values) {
                 return Err(CertFault::NotTheMap(at));
             }
@@ -246,7 +246,7 @@ fn judge_end(claim: Claim, at: u32, blocks: &Blocks) -> Result<(), CertFault>
 fn judge_removal(
     task: &Task,
     protocol: &Protocol,
-    supports: &[Support],
+    supports: &[TupleSupport],
     removal: Removal,
     at: u32,
     blocks: &mut Blocks,
@@ -274,7 +274,7 @@ fn judge_removal(
 
 /// Takes the value out at the point of this place, if no tuple supports it there.
 fn judge_value(
-    support: &Support,
+    support: &TupleSupport,
     points: &[u32],
     place: u8,
     value: u8,

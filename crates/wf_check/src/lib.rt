@@ -1,7 +1,7 @@
 //! The checker of reports.
 //!
 //! - [`check`]: accepts a report about a task, or answers the first reason why it is refused.
-//! - [`Checker`]: the same of reports whose answers are about one box alone.
+//! - [`ReportChecker`]: the same of reports whose answers are about one box alone.
 //!   It is made once of a task.
 //!
 //! It stands on reports, protocol complexes and sets of values alone: what it accepts rests on
@@ -19,4 +19,4 @@ mod rows;
 mod support;
 mod tuples;
 
-pub use checking::{Checker, check};
+pub use checking::{ReportChecker, check};

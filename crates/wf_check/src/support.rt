@@ -6,19 +6,19 @@ ghost use Rattle.wf_model.specs.Lists.{has};
 ghost use Rattle.wf_set.specs.Sets.{box_of, values_in};
 ghost use Rattle.wf_check.specs.Places.{tuples_of};
 
-use crate::tuples::Support;
+use crate::tuples::TupleSupport;
 use std::alloc::{AllocError, Global};
 use wf_set::{Mask, holds, nothing};
 use wf_task::Task;
 
 /// The tuples of each rule of the task.
-pub(crate) fn support_all(alloc: Global, task: &Task) -> Result<Vec<Support>, AllocError>
+pub(crate) fn support_all(alloc: Global, task: &Task) -> Result<Vec<TupleSupport>, AllocError>
     ensures { IfOk result (λ supports. supports.items ≡ tuples_of task.now.delta) }
 {
     let count = task.inputs().simplices().len();
     let mut supports = Vec::with_capacity(alloc, count)?;
     for number in 0..count {
-        supports.push(Support::of(alloc, task.tuples(number as u32))?)?;
+        supports.push(TupleSupport::of(alloc, task.tuples(number as u32))?)?;
     }
     Ok(supports)
 }
@@ -26,7 +26,7 @@ pub(crate) fn support_all(alloc: Global, task: &Task) -> Result<Vec<Support>, Al
 /// Whether one of the tuples has the value at this place, and all its values
 /// among the candidates of these points.
 pub(crate) fn is_supported(
-    support: &Support,
+    support: &TupleSupport,
     points: &[u32],
     sets: &[Mask],
     place: usize,

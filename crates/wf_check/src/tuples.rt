@@ -23,13 +23,13 @@ const COLUMN_VALUES: usize = 64;
 ///
 /// A clause sees it as the list of the tuples.
 #[derive(Drop)]
-pub(crate) struct Support {
+pub(crate) struct TupleSupport {
     tuples: Vec<Row>,
     // those with value v at place p in the group 4 * v + p; no groups where there are few
     groups: Vec<Group>,
 }
 
-impl Model for Support {
+impl Model for TupleSupport {
     ghost use Rattle.std.specs.Prelude.{List};
     ghost use Rattle.wf_model.specs.Task.{Tuple};
     ghost use Rattle.wf_check.specs.Groups.{AreGrouped};
@@ -41,14 +41,14 @@ impl Model for Support {
     ghost invariant = { λ s. AreGrouped s.tuples.items s.groups.items };
 }
 
-impl Support {
+impl TupleSupport {
     /// Keeps these tuples: `AllocError` where memory was refused.
-    pub(crate) fn of(alloc: Global, tuples: &[Row]) -> Result<Support, AllocError>
+    pub(crate) fn of(alloc: Global, tuples: &[Row]) -> Result<TupleSupport, AllocError>
         ensures { IfOk result (λ support. support ≡ tuples.now) }
     {
         let groups = group_all(alloc, tuples)?;
         let tuples = tuples.to_vec(alloc)?;
-        Ok(Support { tuples, groups })
+        Ok(TupleSupport { tuples, groups })
     }
 
     /// Whether one of the tuples has the value at this place, and all its

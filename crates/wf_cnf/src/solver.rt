@@ -147,7 +147,7 @@ impl Stated {
     }
 
     /// Adds a literal.
-    fn state(&mut self, literal: Literal)
+    fn state(&mut self, literal: StatedLiteral)
         requires room { HasRoom self.old }
         requires variable { literal.variable ≤ self.old.variables }
         ensures room { HasRoom self.new }
@@ -174,7 +174,7 @@ impl Stated {
 
 /// A literal, on a variable from 1 on.
 #[derive(Clone, Copy, Debug)]
-pub(crate) struct Literal {
+pub(crate) struct StatedLiteral {
     /// The number of its variable.
     pub variable: u32,
     /// Whether it is the variable, or its negation.
@@ -182,7 +182,7 @@ pub(crate) struct Literal {
 }
 
 /// The literal of a word on this line, among so many variables.
-fn literal_of(word: &[u8], variables: u32, line: u32) -> Result<Literal, ModelFault>
+fn literal_of(word: &[u8], variables: u32, line: u32) -> Result<StatedLiteral, ModelFault>
     ensures literal { Gives literal_seen result (literal_of variables line word.now) }
     ensures variable { IfOk result (λ l. l.variable ≤ variables) }
 {
@@ -201,7 +201,7 @@ fn literal_on(
     is_positive: bool,
     variables: u32,
     line: u32,
-) -> Result<Literal, ModelFault>
+) -> Result<StatedLiteral, ModelFault>
     ensures literal { Gives literal_seen result
         (literal_on variables line (signed is_positive) digits.now) }
     ensures variable { IfOk result (λ l. l.variable ≤ variables) }
@@ -212,7 +212,7 @@ fn literal_on(
     let Some(variable) = number_upto(digits, variables) else {
         return Err(ModelFault::NoSuchVariable { line });
     };
-    Ok(Literal {
+    Ok(StatedLiteral {
         variable,
         is_positive,
     })

@@ -18,7 +18,7 @@ use Rattle.wf_model.proofs.WellFormed.{last_processes}
 use Rattle.wf_model.proofs.Numbers.{Apart, apart_distinct, map_same}
 use Rattle.wf_complex.specs.Views.{view_at}
 use Rattle.wf_complex.proofs.Ranked.{number_of-at}
-use Rattle.wf_complex.specs.declared.layout.Span.{Span}
+use Rattle.wf_complex.specs.declared.layout.ExecutionSlot.{ExecutionSlot}
 use Rattle.wf_complex.specs.Rounds.{views_at, leaves_of}
 use Rattle.wf_complex.specs.Layout.{laid_out}
 use Rattle.wf_complex.specs.Places.{firsts_at, part_of, processes_on, places_on}
@@ -28,8 +28,8 @@ use Rattle.wf_complex.specs.ProtocolSeen.{scopes_seen}
 use Rattle.wf_complex.proofs.Executions.{last_views-executions}
 use Rattle.wf_complex.proofs.Cuts.{parts-map, last_views_cut, laid_simplices}
 use Rattle.wf_complex.proofs.RuleAt.{rules_same, words_long}
-use Rattle.wf_complex.proofs.Different.{distinct_by_place, IsOnce, same_by_number, apart_once, there, distinct_views}
-use Rattle.wf_model.proofs.Bridge.{weaker}
+use Rattle.wf_complex.proofs.DifferentViews.{distinct_by_place, IsOnce, same_by_number, apart_once, there, distinct_views}
+use Rattle.wf_model.proofs.MapsAreSolutions.{weaker}
 use Rattle.std.proofs.lemmas.Simd.{map-map}
 
 -- ---- lists side by side
@@ -64,7 +64,7 @@ their_own t r =
 
 rules_there : (t : Task) (r : ℕ) → map (λ e. slice_get t.delta e.simplex) (laid_out (first_block t) r 0 0 (inputs t)) ≡ map (λ x. Some x.rule) (executions t r)
 rules_there t r =
-    sym (map-map (slice_get t.delta) (λ (e : Span). e.simplex) (laid_out (first_block t) r 0 0 (inputs t)))
+    sym (map-map (slice_get t.delta) (λ (e : ExecutionSlot). e.simplex) (laid_out (first_block t) r 0 0 (inputs t)))
     ∙ ap (map (slice_get t.delta)) (laid_simplices t r)
     ∙ rules_same t r
 
@@ -73,8 +73,8 @@ their_processes : (t : Task) (r : ℕ) → map (processes_on (inputs t)) (laid_o
 unfolding processes_in
 their_processes t r =
     let laid = laid_out (first_block t) r 0 0 (inputs t) in
-    (λ i. map (λ (e : Span). processes_at t.delta e.simplex i) laid)
-    ∙ sym (map-map processes_in (λ (e : Span). slice_get t.delta e.simplex) laid)
+    (λ i. map (λ (e : ExecutionSlot). processes_at t.delta e.simplex i) laid)
+    ∙ sym (map-map processes_in (λ (e : ExecutionSlot). slice_get t.delta e.simplex) laid)
     ∙ ap (map processes_in) (rules_there t r)
     ∙ map-map processes_in (λ (x : model.Execution). Some x.rule) (executions t r)
     ∙ sym (map_same (λ (x : model.Execution). map process_of (last_views x)) (λ x. processes_of x.rule.input) (executions t r) (their_own t r))
@@ -82,7 +82,7 @@ their_processes t r =
 abbrev at_appearance : Appearance → ℕ × ℕ
 at_appearance a = (a.execution, a.process)
 
-places_along : (t : Task) (inputs : List Simplex) (k : ℕ) (es : List Span) (xs : List model.Execution) → map (processes_on inputs) es ≡ map (λ x. map process_of (last_views x)) xs →
+places_along : (t : Task) (inputs : List Simplex) (k : ℕ) (es : List ExecutionSlot) (xs : List model.Execution) → map (processes_on inputs) es ≡ map (λ x. map process_of (last_views x)) xs →
     flat_map (places_on inputs) (enumerate_from k es) ≡ map at_appearance (flat_map (appearances_in t) (enumerate_from k xs))
 places_along t inputs k [] [] h = refl
 places_along t inputs k [] (x ∷ xs) h = absurd (let none : ⊥ = cc in none)
@@ -113,7 +113,7 @@ module _ (t : Task) (r : ℕ) (table : List View) (lasts : List ℕ) (made : vie
   all_lasts : flat_map last_views (executions t r) ≡ views_at table lasts
   all_lasts = last_views-executions t r ∙ sym made
 
-  abbrev laid : List Span
+  abbrev laid : List ExecutionSlot
   laid = laid_out (first_block t) r 0 0 (inputs t)
 
   cut : map (part_of (views_at table lasts)) laid ≡ map last_views (executions t r)

@@ -10,7 +10,7 @@ use Rattle.wf_model.specs.Word.{Word, words}
 use Rattle.wf_model.specs.View.{View, base_views, round}
 use Rattle.wf_model.specs.Task.{Task, Rule, inputs, first_block}
 use Rattle.wf_model.specs.Execution.{executions_on, executions, last_views}
-use Rattle.wf_complex.specs.declared.layout.Span.{Span}
+use Rattle.wf_complex.specs.declared.layout.ExecutionSlot.{ExecutionSlot}
 use Rattle.wf_complex.specs.Layout.{turns, execution_total, laid_on, laid_out}
 use Rattle.wf_complex.specs.Places.{part_of}
 use Rattle.wf_complex.specs.Protocol.{simplices_of}
@@ -18,14 +18,14 @@ use Rattle.wf_complex.proofs.Bounds.{suc_times}
 use Rattle.wf_complex.proofs.RoundLemmas.{length-round}
 use Rattle.wf_complex.proofs.InputLemmas.{length-base_views}
 use Rattle.wf_complex.proofs.Executions.{length-lists_of}
-use Rattle.wf_model.proofs.Bridge.{weaker}
+use Rattle.wf_model.proofs.MapsAreSolutions.{weaker}
 use Rattle.wf_model.proofs.Headline.{each_map}
 use Rattle.wf_model.proofs.WellFormed.{words_long, each_of_lists}
 
 -- ---- cutting
 
 -- the executions lie one after another from place p on, and have these parts
-abbrev pub AreCut : {X : Type 0} → ℕ → List Span → List (List X) → Type 0
+abbrev pub AreCut : {X : Type 0} → ℕ → List ExecutionSlot → List (List X) → Type 0
 AreCut p [] [] = Unit {0}
 AreCut p [] (q ∷ qs) = ⊥
 AreCut p (e ∷ es) [] = ⊥
@@ -35,13 +35,13 @@ abbrev pub joined : {X : Type 0} → List (List X) → List X
 joined qs = flat_map (λ q. q) qs
 
 module _ {X : Type 0} where
-  first_part : (front q rest : List X) (e : Span) → e.place ≡ length front → e.size ≡ length q → part_of (front ++ (q ++ rest)) e ≡ q
+  first_part : (front q rest : List X) (e : ExecutionSlot) → e.place ≡ length front → e.size ≡ length q → part_of (front ++ (q ++ rest)) e ≡ q
   first_part front q rest e place size =
       (λ i. take (size i) (drop (place i) (front ++ (q ++ rest))))
       ∙ ap (take (length q)) (drop-append_seam front (q ++ rest))
       ∙ take-append_seam q rest
 
-  cut_after : (front : List X) (es : List Span) (qs : List (List X)) → AreCut (length front) es qs → map (part_of (front ++ joined qs)) es ≡ qs
+  cut_after : (front : List X) (es : List ExecutionSlot) (qs : List (List X)) → AreCut (length front) es qs → map (part_of (front ++ joined qs)) es ≡ qs
   cut_after front [] [] h = refl
   cut_after front [] (q ∷ qs) h = absurd h
   cut_after front (e ∷ es) [] h = absurd h
@@ -51,19 +51,19 @@ module _ {X : Type 0} where
       λ i. first_part front q (joined qs) e h.0 h.1.0 i ∷ rest i
 
   -- the parts of what they have together
-  pub parts_cut : (es : List Span) (qs : List (List X)) → AreCut 0 es qs → map (part_of (joined qs)) es ≡ qs
+  pub parts_cut : (es : List ExecutionSlot) (qs : List (List X)) → AreCut 0 es qs → map (part_of (joined qs)) es ≡ qs
   parts_cut es qs h = cut_after [] es qs h
 
-pub part_of-map : {X Y : Type 0} (f : X → Y) (xs : List X) (e : Span) → part_of (map f xs) e ≡ map f (part_of xs e)
+pub part_of-map : {X Y : Type 0} (f : X → Y) (xs : List X) (e : ExecutionSlot) → part_of (map f xs) e ≡ map f (part_of xs e)
 part_of-map f xs e = ap (take e.size) (drop-map f e.place xs) ∙ take-map f e.size (drop e.place xs)
 
-pub parts-map : {X Y : Type 0} (f : X → Y) (xs : List X) (es : List Span) → map (part_of (map f xs)) es ≡ map (λ e. map f (part_of xs e)) es
+pub parts-map : {X Y : Type 0} (f : X → Y) (xs : List X) (es : List ExecutionSlot) → map (part_of (map f xs)) es ≡ map (λ e. map f (part_of xs e)) es
 parts-map f xs [] = refl
 parts-map f xs (e ∷ es) = λ i. part_of-map f xs e i ∷ parts-map f xs es i
 
 -- ---- what is laid out
 
-laid_then : {X : Type 0} (k n c p : ℕ) (ps : List (List X)) → length ps ≡ c → AllByRecursion (λ q. length q ≡ n) ps → (es : List Span) (qs : List (List X)) → AreCut (p + c * n) es qs → AreCut p (laid_on k n p c ++ es) (ps ++ qs)
+laid_then : {X : Type 0} (k n c p : ℕ) (ps : List (List X)) → length ps ≡ c → AllByRecursion (λ q. length q ≡ n) ps → (es : List ExecutionSlot) (qs : List (List X)) → AreCut (p + c * n) es qs → AreCut p (laid_on k n p c ++ es) (ps ++ qs)
 laid_then k n zero p [] long each es qs h = let e : p + 0 * n ≡ p = omega arith in subst (λ m. AreCut m es qs) e h
 laid_then k n zero p (q ∷ ps) long each es qs h = absurd (let none : ⊥ = omega (arith, long) in none)
 laid_then k n (suc c) p [] long each es qs h = absurd (let none : ⊥ = omega (arith, long) in none)
@@ -117,23 +117,23 @@ length-laid_out m r k p (s ∷ ss) =
 
 -- ---- whose executions they are
 
-laid_on_simplices : {X : Type 0} (k n c p : ℕ) (xs : List X) → length xs ≡ c → map (λ (e : Span). e.simplex) (laid_on k n p c) ≡ map (λ x. k) xs
+laid_on_simplices : {X : Type 0} (k n c p : ℕ) (xs : List X) → length xs ≡ c → map (λ (e : ExecutionSlot). e.simplex) (laid_on k n p c) ≡ map (λ x. k) xs
 laid_on_simplices k n zero p [] h = refl
 laid_on_simplices k n zero p (x ∷ xs) h = absurd (let none : ⊥ = omega (arith, h) in none)
 laid_on_simplices k n (suc c) p [] h = absurd (let none : ⊥ = omega (arith, h) in none)
 laid_on_simplices k n (suc c) p (x ∷ xs) h = ap (λ ks. k ∷ ks) (laid_on_simplices k n c (p + n) xs (omega (arith, h)))
 
 on_rules : (m r k p : ℕ) (rules : List Rule) →
-    map (λ (e : Span). e.simplex) (laid_out m r k p (map (λ rule. rule.input) rules)) ≡ flat_map (λ (at : ℕ × Rule). map (λ e. at.0) (executions_on m r at.1)) (enumerate_from k rules)
+    map (λ (e : ExecutionSlot). e.simplex) (laid_out m r k p (map (λ rule. rule.input) rules)) ≡ flat_map (λ (at : ℕ × Rule). map (λ e. at.0) (executions_on m r at.1)) (enumerate_from k rules)
 on_rules m r k p [] = refl
 on_rules m r k p (rule ∷ rules) =
     let n = length rule.input in
     let count : length (executions_on m r rule) ≡ turns m (length rule.input) r = sym (length-map (executions_on m r rule) last_views) ∙ parts_count m r rule in
-    map-append (λ (e : Span). e.simplex) (laid_on k n p (turns m n r)) (laid_out m r (k + 1) (p + turns m n r * n) (map (λ rule. rule.input) rules))
+    map-append (λ (e : ExecutionSlot). e.simplex) (laid_on k n p (turns m n r)) (laid_out m r (k + 1) (p + turns m n r * n) (map (λ rule. rule.input) rules))
     ∙ (λ i. laid_on_simplices k n (turns m n r) p (executions_on m r rule) count i ++ on_rules m r (k + 1) (p + turns m n r * n) rules i)
 
 module _ (t : Task) (r : ℕ) where
-  pub laid_simplices : map (λ (e : Span). e.simplex) (laid_out (first_block t) r 0 0 (inputs t)) ≡ simplices_of t r
+  pub laid_simplices : map (λ (e : ExecutionSlot). e.simplex) (laid_out (first_block t) r 0 0 (inputs t)) ≡ simplices_of t r
   laid_simplices = on_rules (first_block t) r 0 0 t.delta
 
   -- the executions cut the list of all last views into theirs

@@ -12,7 +12,7 @@ use Rattle.wf_model.specs.View.{View, base, views_of, process_of}
 use Rattle.wf_complex.specs.declared.node.Node.{Node}
 use Rattle.wf_complex.specs.Views.{view_at, view_seen, list_of, input_of, inner_views, process_bits, process_bits_of_each}
 use Rattle.wf_complex.specs.Table.{base_node, seen_node, padded, node_view, shown, IsEntry, is_base, is_seen, AreEntriesFrom, process_bits_at}
-use Rattle.wf_complex.proofs.Shown.{node_view-seen, view_at-shown, entry_at, length-shown}
+use Rattle.wf_complex.proofs.ShownViews.{node_view-seen, view_at-shown, entry_at, length-shown}
 
 -- ---- one entry
 

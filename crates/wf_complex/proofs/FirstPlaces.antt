@@ -10,7 +10,7 @@ use Rattle.std.proofs.Math.Seq.{get_or-append_seam, take-suc}
 use Rattle.std.proofs.lemmas.List.{get_or_append_left}
 use Rattle.wf_model.specs.Lists.{distinct, below}
 use Rattle.wf_model.proofs.Basics.{below_next}
-use Rattle.wf_model.proofs.Bridge.{weaker}
+use Rattle.wf_model.proofs.MapsAreSolutions.{weaker}
 use Rattle.wf_model.proofs.Numbers.{map_same}
 use Rattle.wf_complex.specs.Numbering.{same_at, first_places, stands, Knows, AllKnown, picked}
 

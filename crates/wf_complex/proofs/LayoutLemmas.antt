@@ -6,7 +6,7 @@ use Rattle.std.proofs.lemmas.List.{drop_more}
 use Rattle.wf_model.specs.Simplex.{Simplex}
 use Rattle.wf_model.specs.Word.{words}
 use Rattle.wf_simplex.proofs.Lemmas.{each_pair}
-use Rattle.wf_complex.specs.declared.layout.Span.{Span}
+use Rattle.wf_complex.specs.declared.layout.ExecutionSlot.{ExecutionSlot}
 use Rattle.wf_complex.specs.Layout.{turns, execution_total, place_total, laid_on, laid_out}
 
 abbrev HasFew : ℕ → ℕ → Type 0
@@ -45,13 +45,13 @@ turns_here m rounds ss i s place is =
     (ap (execution_total m rounds) e, ap (place_total m rounds) e)
 
 -- the executions that are left, after one more
-pub laid_on-more : (k n p c left : ℕ) (before : List Span) → left ≡ c + 1 → before ++ laid_on k n p left ≡ (before ++ record { simplex = k; place = p; size = n } ∷ []) ++ laid_on k n (p + n) c
+pub laid_on-more : (k n p c left : ℕ) (before : List ExecutionSlot) → left ≡ c + 1 → before ++ laid_on k n p left ≡ (before ++ record { simplex = k; place = p; size = n } ∷ []) ++ laid_on k n (p + n) c
 laid_on-more k n p c left before e =
     let one : left ≡ suc c = omega (arith, e) in
     ap (λ m. before ++ laid_on k n p m) one ∙ sym (append_assoc before (record { simplex = k; place = p; size = n } ∷ []) (laid_on k n (p + n) c))
 
 -- those of the simplices that are left, after one more simplex
-pub laid_out-more : (m rounds : ℕ) (ss : List Simplex) (i place : ℕ) (s : Simplex) (before : List Span) → i < length ss → s ≡ get_or ss i s →
+pub laid_out-more : (m rounds : ℕ) (ss : List Simplex) (i place : ℕ) (s : Simplex) (before : List ExecutionSlot) → i < length ss → s ≡ get_or ss i s →
     before ++ laid_out m rounds i place (drop i ss) ≡ (before ++ laid_on i (length s) place (turns m (length s) rounds)) ++ laid_out m rounds (i + 1) (place + turns m (length s) rounds * length s) (drop (i + 1) ss)
 laid_out-more m rounds ss i place s before low is =
     let e : drop i ss ≡ s ∷ drop (i + 1) ss = drop_more ss i s low ∙ ap (λ x. x ∷ drop (i + 1) ss) (sym is) in
@@ -59,7 +59,7 @@ laid_out-more m rounds ss i place s before low is =
     ∙ sym (append_assoc before (laid_on i (length s) place (turns m (length s) rounds)) (laid_out m rounds (i + 1) (place + turns m (length s) rounds * length s) (drop (i + 1) ss)))
 
 -- the same of what is made of each execution
-pub made_on-more : {X : Type 0} (f : Span → X) (k n p c left : ℕ) (before : List X) → left ≡ c + 1 →
+pub made_on-more : {X : Type 0} (f : ExecutionSlot → X) (k n p c left : ℕ) (before : List X) → left ≡ c + 1 →
     before ++ map f (laid_on k n p left) ≡ (before ++ f (record { simplex = k; place = p; size = n }) ∷ []) ++ map f (laid_on k n (p + n) c)
 made_on-more f k n p c left before e =
     ap (λ es. before ++ map f es) (laid_on-more k n p c left [] e)

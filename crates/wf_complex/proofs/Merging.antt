@@ -8,13 +8,13 @@ use Rattle.wf_model.specs.Lists.{distinct, below}
 use Rattle.wf_model.specs.View.{View, base}
 use Rattle.wf_model.specs.Problem.{number_of}
 use Rattle.wf_model.proofs.Basics.{by_place}
-use Rattle.wf_model.proofs.Bridge.{weaker}
+use Rattle.wf_model.proofs.MapsAreSolutions.{weaker}
 use Rattle.wf_model.proofs.Numbers.{Apart, apart_distinct, map_same}
 use Rattle.wf_complex.specs.Views.{view_at}
 use Rattle.wf_complex.proofs.Ranked.{number_of-at}
 use Rattle.wf_complex.specs.Rounds.{views_at}
 use Rattle.wf_complex.specs.Numbering.{same_at, first_places, picked, AreNumbered}
-use Rattle.wf_complex.proofs.Different.{IsOnce, all_in_range, all_picked, distinct_agrees, distinct_by_place, distinct_views, firsts_low}
+use Rattle.wf_complex.proofs.DifferentViews.{IsOnce, all_in_range, all_picked, distinct_agrees, distinct_by_place, distinct_views, firsts_low}
 
 -- ---- a coarser test
 

@@ -5,13 +5,13 @@ use Rattle.std.proofs.lemmas.Simd.{map-map}
 use Rattle.std.proofs.lemmas.List.{get_or-map, get_or_default, length-map, length-take-le}
 use Rattle.std.proofs.lemmas.List.Elements.{All-from_recursion, recursion_from_All}
 use Rattle.wf_model.specs.Simplex.{Simplex, processes_of}
-use Rattle.wf_complex.specs.declared.layout.Span.{Span}
+use Rattle.wf_complex.specs.declared.layout.ExecutionSlot.{ExecutionSlot}
 use Rattle.wf_complex.specs.declared.packed.PackedExecution.{PackedExecution}
 use Rattle.wf_complex.specs.Places.{IsOn, LieFrom, part_of, processes_on, scope_on}
 use Rattle.wf_complex.specs.Packed.{IsPackedOn, four_of, packed_on, scope_in}
 use Rattle.wf_complex.specs.ProtocolSeen.{scopes_seen}
 use Rattle.wf_complex.proofs.Bounds.{IsSized}
-use Rattle.wf_complex.proofs.Lying.{all_end}
+use Rattle.wf_complex.proofs.ExecutionsInOrder.{all_end}
 use Rattle.wf_complex.proofs.PlaceLemmas.{length-part_of, length-processes_on}
 use Rattle.wf_model.proofs.Numbers.{map_same}
 
@@ -65,12 +65,12 @@ zip_taken (c ∷ cs) (x ∷ xs) few = ap (λ rest. (c, x) ∷ rest) (zip_taken c
 -- ---- what is packed
 
 -- one to four places, which are there
-pub record IsSpanWithin (end : ℕ) (e : Span) : Type 0 where
+pub record IsSpanWithin (end : ℕ) (e : ExecutionSlot) : Type 0 where
   pub some : 0 < e.size
   pub few : e.size ≤ 4
   pub ends : e.place + e.size ≤ end
 
-pub spans_within : (inputs : List Simplex) (end : ℕ) (spans : List Span) → LieFrom 0 end spans → All (IsOn inputs) spans → AllByRecursion IsSized inputs → All (IsSpanWithin end) spans
+pub spans_within : (inputs : List Simplex) (end : ℕ) (spans : List ExecutionSlot) → LieFrom 0 end spans → All (IsOn inputs) spans → AllByRecursion IsSized inputs → All (IsSpanWithin end) spans
 spans_within inputs end spans lying on sized k d low =
     let e = get_or spans k d in
     let here : IsOn inputs e = on k d low in
@@ -81,8 +81,8 @@ spans_within inputs end spans lying on sized k d low =
       ends = all_end end spans lying k d low;
     }
 
-module _ (inputs : List Simplex) (numbers : List ℕ) (spans : List Span) (on : All (IsOn inputs) spans) (within : All (IsSpanWithin (length numbers)) spans) where
-  part_few : (k : ℕ) (d : Span) → k < length spans → (length (part_of numbers (get_or spans k d)) ≡ (get_or spans k d).size) × (length (part_of numbers (get_or spans k d)) ≤ 4)
+module _ (inputs : List Simplex) (numbers : List ℕ) (spans : List ExecutionSlot) (on : All (IsOn inputs) spans) (within : All (IsSpanWithin (length numbers)) spans) where
+  part_few : (k : ℕ) (d : ExecutionSlot) → k < length spans → (length (part_of numbers (get_or spans k d)) ≡ (get_or spans k d).size) × (length (part_of numbers (get_or spans k d)) ≤ 4)
   part_few k d low =
       let e = get_or spans k d in
       let w : IsSpanWithin (length numbers) e = within k d low in
@@ -101,13 +101,13 @@ module _ (inputs : List Simplex) (numbers : List ℕ) (spans : List Span) (on : 
       map-map (scope_in inputs) (packed_on numbers) spans
       ∙ map_same (λ e. scope_in inputs (packed_on numbers e)) (scope_on inputs numbers) spans (recursion_from_All (λ e. scope_in inputs (packed_on numbers e) ≡ scope_on inputs numbers e) spans scope_same)
 
-  pub simplices_packed : map (λ (e : PackedExecution). e.simplex) (map (packed_on numbers) spans) ≡ map (λ (e : Span). e.simplex) spans
+  pub simplices_packed : map (λ (e : PackedExecution). e.simplex) (map (packed_on numbers) spans) ≡ map (λ (e : ExecutionSlot). e.simplex) spans
   simplices_packed = map-map (λ (e : PackedExecution). e.simplex) (packed_on numbers) spans
 
   pub all_packed : All (IsPackedOn inputs) (map (packed_on numbers) spans)
   all_packed k x low =
       let inside : k < length spans = omega (arith, low, length-map spans (packed_on numbers)) in
-      let d : Span = record { place = 0; simplex = 0; size = 0 } in
+      let d : ExecutionSlot = record { place = 0; simplex = 0; size = 0 } in
       let e = get_or spans k d in
       let part = part_of numbers e in
       let here : IsOn inputs e = on k d inside in

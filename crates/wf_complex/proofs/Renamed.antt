@@ -6,17 +6,17 @@ use Rattle.std.proofs.lemmas.List.{length-map}
 use Rattle.std.proofs.lemmas.List.Elements.{recursion_from_All, All-from_recursion}
 use Rattle.wf_model.specs.Lists.{has}
 use Rattle.wf_model.specs.View.{View, seen, view, views_of, same_view, renamed, renamed_each}
-use Rattle.wf_model.proofs.Bridge.{Among, same_is, weaker}
+use Rattle.wf_model.proofs.MapsAreSolutions.{Among, same_is, weaker}
 use Rattle.wf_model.proofs.Headline.{each_map, each_of_map, both}
 use Rattle.wf_complex.specs.declared.node.Node.{Node}
 use Rattle.wf_complex.specs.Views.{view_at, inner_views}
 use Rattle.wf_complex.specs.Table.{seen_node, node_view, shown, IsEntry, is_base, is_seen, AreEntriesFrom}
 use Rattle.wf_complex.specs.Renaming.{rank_in, SawAmong, number_beside, AreRenamed, renumbered_node}
-use Rattle.wf_complex.proofs.Shown.{node_view-seen}
-use Rattle.wf_complex.proofs.Once.{IsOnce, apart_in_table}
+use Rattle.wf_complex.proofs.ShownViews.{node_view-seen}
+use Rattle.wf_complex.proofs.ViewsOnce.{IsOnce, apart_in_table}
 use Rattle.wf_complex.proofs.Entries.{take-padded, entry_read, entry_earlier, parts_read}
 use Rattle.wf_complex.proofs.Ranks.{rank_in-low}
-use Rattle.wf_complex.proofs.Beside.{each_take}
+use Rattle.wf_complex.proofs.NewNumbers.{each_take}
 
 -- ---- one entry
 

@@ -7,13 +7,13 @@ use Rattle.std.proofs.lemmas.Option.{slice_get_within, get_or_from_slice_get}
 use Rattle.indexmap.specs.IndexSet.{insert_key}
 use Rattle.wf_model.specs.View.{View, base, same_view}
 use Rattle.wf_model.specs.Problem.{number_of}
-use Rattle.wf_model.proofs.Bridge.{number_below}
+use Rattle.wf_model.proofs.MapsAreSolutions.{number_below}
 use Rattle.wf_complex.specs.declared.node.Node.{Node}
 use Rattle.wf_complex.specs.Views.{view_at, with_view, process_bits}
 use Rattle.wf_complex.specs.Table.{same_node, node_view, shown, IsEntry, StandsAt, IsTable}
 use Rattle.wf_complex.specs.Same.{same_node-is}
-use Rattle.wf_complex.proofs.Shown.{shown-push, length-shown, AreEntriesFrom-push}
-use Rattle.wf_complex.proofs.Once.{same_places, found_number, new_view, number_of-push, view_at-number}
+use Rattle.wf_complex.proofs.ShownViews.{shown-push, length-shown, AreEntriesFrom-push}
+use Rattle.wf_complex.proofs.ViewsOnce.{same_places, found_number, new_view, number_of-push, view_at-number}
 
 -- the number of a view, in the table that has it
 pub record IsNumbered (old new : List View) (v : View) (n : ℕ) : Type 0 where

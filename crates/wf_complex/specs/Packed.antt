@@ -2,7 +2,7 @@
 use Rattle.std.specs.Prelude.{◌≡◌, ◌<◌, ◌≤◌, ℕ, List, [], ◌++◌, length, zip, take, slice_index, replicate}
 use Rattle.std.specs.List.{slice_index_or}
 use Rattle.wf_model.specs.Simplex.{Simplex, processes_of}
-use Rattle.wf_complex.specs.declared.layout.Span.{Span}
+use Rattle.wf_complex.specs.declared.layout.ExecutionSlot.{ExecutionSlot}
 use Rattle.wf_complex.specs.declared.packed.PackedExecution.{PackedExecution}
 use Rattle.wf_complex.specs.Places.{part_of}
 
@@ -11,7 +11,7 @@ abbrev pub four_of : List ℕ → List ℕ
 four_of points = take 4 (points ++ replicate 4 (slice_index points 0))
 
 -- the execution at these places
-abbrev pub packed_on : List ℕ → Span → PackedExecution
+abbrev pub packed_on : List ℕ → ExecutionSlot → PackedExecution
 packed_on numbers e = record { simplex = e.simplex; points = four_of (part_of numbers e) }
 
 -- its processes, each with its point

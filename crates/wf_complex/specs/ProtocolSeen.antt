@@ -10,7 +10,7 @@ use Rattle.wf_complex.specs.Places.{firsts_in, scope_on}
 use Rattle.wf_complex.specs.Protocol.{Built}
 use Rattle.wf_complex.specs.Packed.{IsPackedOn, scope_in}
 use Rattle.wf_complex.specs.declared.packed.PackedExecution.{PackedExecution}
-use Rattle.wf_complex.specs.declared.layout.Span.{Span}
+use Rattle.wf_complex.specs.declared.layout.ExecutionSlot.{ExecutionSlot}
 use Rattle.wf_complex.specs.declared.protocol.Protocol.TheInside.{Inside}
 
 -- a protocol complex is stored as the tuple of its fields
@@ -27,7 +27,7 @@ abbrev pub points_seen : List View → List ℕ → List View
 points_seen table classes = views_at table classes
 
 -- the processes of each execution, each with its point
-abbrev pub scopes_seen : List Simplex → List ℕ → List Span → List (List (ℕ × ℕ))
+abbrev pub scopes_seen : List Simplex → List ℕ → List ExecutionSlot → List (List (ℕ × ℕ))
 scopes_seen inputs numbers executions = map (scope_on inputs numbers) executions
 
 -- the executions as they are packed

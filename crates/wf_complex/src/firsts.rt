@@ -4,7 +4,7 @@ ghost use Rattle.std.specs.Prelude.{ℕ, ◌≡◌, ◌<◌, ◌≤◌, length, 
 ghost use Rattle.wf_model.specs.Limits.{most_executions};
 ghost use Rattle.wf_complex.specs.Places.{BelongsTo, EndsBy, IsOn, LieFrom, firsts_at, firsts_in};
 
-use crate::layout::Span;
+use crate::layout::ExecutionSlot;
 use std::alloc::{AllocError, Global};
 use wf_simplex::Simplex;
 
@@ -19,7 +19,7 @@ pub(crate) struct First {
 pub(crate) fn firsts_of(
     alloc: Global,
     inputs: &[Simplex],
-    executions: &[Span],
+    executions: &[ExecutionSlot],
     places: &[u32],
 ) -> Result<Vec<First>, AllocError>
     requires lying { (end : ℕ) × LieFrom 0 end executions.now × All (λ j. j < end) places.now }
@@ -45,7 +45,7 @@ pub(crate) fn firsts_of(
 
 /// The number of the execution that a place belongs to, where they lie one after another and those
 /// before `first` end by that place.
-fn execution_from(executions: &[Span], first: u32, place: u32) -> u32
+fn execution_from(executions: &[ExecutionSlot], first: u32, place: u32) -> u32
     requires lying { (end : ℕ) × (place < end) × LieFrom 0 end executions.now }
     requires few { length executions.now ≤ most_executions }
     requires later { All (EndsBy place) (take first executions.now) }

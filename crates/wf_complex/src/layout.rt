@@ -13,7 +13,7 @@ pub const MOST_EXECUTIONS: u32 = 500_000;
 /// An execution, in eight bytes: the place of its first process in the list of places, the number
 /// of its input simplex, and how many processes take part.
 #[derive(Clone, Copy, Debug)]
-pub(crate) struct Span {
+pub(crate) struct ExecutionSlot {
     pub place: u32,
     pub simplex: u16,
     pub size: u8,
@@ -76,7 +76,7 @@ pub(crate) fn lay_out(
     inputs: &[Simplex],
     first_block: u8,
     rounds: u32,
-) -> Result<Vec<Span>, AllocError>
+) -> Result<Vec<ExecutionSlot>, AllocError>
     requires one { 1 ≤ first_block }
     requires most { first_block ≤ most_processes }
     requires few { execution_total first_block rounds inputs.now ≤ most_executions }
@@ -98,7 +98,7 @@ pub(crate) fn lay_out(
 
 /// Adds the executions on one simplex, whose places begin here.
 fn lay_on(
-    executions: &mut Vec<Span>,
+    executions: &mut Vec<ExecutionSlot>,
     simplex: u16,
     size: u8,
     first: u32,
@@ -111,7 +111,7 @@ fn lay_on(
 {
     let mut place = first;
     for _turn in 0..count {
-        executions.push(Span {
+        executions.push(ExecutionSlot {
             place,
             simplex,
             size,

@@ -219,7 +219,7 @@ fn complex_from(
 
 /// Input simplices, the executions on them, and where their points appear first.
 #[derive(Drop)]
-struct Placed {
+struct LaidOut {
     inputs: Vec<Simplex>,
     executions: Arc<Vec<PackedExecution>, Global>,
     firsts: Vec<First>,
@@ -234,7 +234,7 @@ fn place_all(
     rounds: u32,
     numbers: Vec<u32>,
     places: &[u32],
-) -> Result<Placed, AllocError>
+) -> Result<LaidOut, AllocError>
     requires one { 1 ≤ first_block }
     requires most { first_block ≤ most_processes }
     requires few { execution_total first_block rounds inputs.now ≤ most_executions }
@@ -252,7 +252,7 @@ fn place_all(
     let packed = pack(alloc, inputs, first_block, rounds, numbers)?;
     let firsts = firsts_among(alloc, inputs, first_block, rounds, places)?;
     let inputs = inputs.to_vec(alloc)?;
-    Ok(Placed {
+    Ok(LaidOut {
         inputs,
         executions: Arc::new(alloc, packed)?,
         firsts,

@@ -8,7 +8,7 @@ use Rattle.wf_core.specs.declared.event.Status.TheVariants as status
 use Rattle.wf_core.specs.Account.{was_searched, was_cut}
 use Rattle.wf_core.specs.Core.{Is, start}
 use Rattle.wf_core.specs.Laws.{AccountsHaveAllBranches, AccountsAddUp, NoneIsCutWithoutAPost}
-use Rattle.wf_core.proofs.Kept.{kept_run, kept_start}
+use Rattle.wf_core.proofs.StepInvariants.{kept_run, kept_start}
 use Rattle.wf_core.proofs.Places.{count-cons}
 
 abbrev CountsOnce : Status → Type 0

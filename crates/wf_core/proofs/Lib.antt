@@ -1,12 +1,12 @@
 pub mod Lists
 pub mod Counts
 pub mod Places
-pub mod Needed
+pub mod EventNeeds
 pub mod Refusals
 pub mod Runs
-pub mod Tied
-pub mod Kept
-pub mod Holding
+pub mod HeldBranches
+pub mod StepInvariants
+pub mod BranchHolders
 pub mod Accounts
 pub mod Writes
 pub mod Lemmas

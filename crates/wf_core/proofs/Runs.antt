@@ -8,7 +8,7 @@ use Rattle.wf_core.specs.declared.event.Event.TheVariants.{Take, Look, Post, Sea
 use Rattle.wf_core.specs.declared.event.Illegal.{Illegal}
 use Rattle.wf_core.specs.Core.{State, Step, Run, after, refusal, IsFirstIllegal}
 use Rattle.wf_core.proofs.Lists.{take_next}
-use Rattle.wf_core.proofs.Needed.{needed, allowed}
+use Rattle.wf_core.proofs.EventNeeds.{needed, allowed}
 
 pub run-append : (s t u : State) (xs ys : List Event) → Run s xs t → Run t ys u → Run s (xs ++ ys) u
 run-append s t u [] ys r q = subst (λ (x : State). Run x ys u) r q

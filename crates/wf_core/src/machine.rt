@@ -14,13 +14,13 @@ use std::marker::Model;
 #[derive(Drop)]
 pub struct Core {
     branches: Vec<Status>,
-    workers: Vec<Worker>,
+    workers: Vec<WorkerState>,
     least: u32,
 }
 
 /// The branch that a worker holds is also written here, so that no step looks through the branches.
 #[derive(Clone, Copy)]
-struct Worker {
+struct WorkerState {
     seen: u32,
     holds: Option<u32>,
     ended: bool,
@@ -45,7 +45,7 @@ impl Core {
     pub fn start(alloc: Global, branches: u32, workers: u32) -> Result<Core, AllocError>
         ensures { IfOk result (λ c. c ≡ start branches workers) }
     {
-        let worker = Worker {
+        let worker = WorkerState {
             seen: branches,
             holds: None,
             ended: false,
@@ -157,7 +157,7 @@ impl Core {
     }
 
     /// The worker, where there is one and it has not ended.
-    fn active(&self, w: u32) -> Result<Worker, Illegal>
+    fn active(&self, w: u32) -> Result<WorkerState, Illegal>
         ensures ok { IfOk result (λ k. IsWorker self.now w k × IsActive self.now w) }
         ensures why { IfErr result (λ why. refusal self.now (Event.Look w) ≡ Some why) }
     {
@@ -171,7 +171,7 @@ impl Core {
     }
 
     /// The worker and the branch's status, where there are both and the worker has not ended.
-    fn active_at(&self, w: u32, i: u32) -> Result<(Worker, Status), Illegal>
+    fn active_at(&self, w: u32, i: u32) -> Result<(WorkerState, Status), Illegal>
         ensures ok { IfOk result
             (λ k. IsWorker self.now w k.0 × IsActive self.now w × Is self.now i k.1) }
         ensures why { IfErr result (λ why. out_of_reach self.now w i ≡ Some why) }
@@ -189,7 +189,7 @@ impl Core {
     }
 
     /// The worker, where it may settle the branch.
-    fn holder(&self, w: u32, i: u32) -> Result<Worker, Illegal>
+    fn holder(&self, w: u32, i: u32) -> Result<WorkerState, Illegal>
         ensures ok { IfOk result
             (λ k. IsWorker self.now w k × IsActive self.now w × Is self.now i (Held w)) }
         ensures why { IfErr result (λ why. refusal self.now (Event.Post w i) ≡ Some why) }

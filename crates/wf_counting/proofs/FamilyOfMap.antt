@@ -23,7 +23,7 @@ use Rattle.wf_counting.proofs.Sums.{keep_map}
 use Rattle.wf_counting.proofs.Lists.{Between, contained, each, each_of_flat, map_same_on}
 use Rattle.wf_counting.proofs.Words.{numbers_equal}
 use Rattle.wf_counting.proofs.Renaming.{places, same_classes}
-use Rattle.wf_counting.proofs.Decided.{base_of, by_vertices, by_vertices_consistent, code, decided, decided_consistent, decided_on, lower, on_vertices, processes_ascend, vertices_back}
+use Rattle.wf_counting.proofs.DecidedFamilies.{base_of, by_vertices, by_vertices_consistent, code, decided, decided_consistent, decided_on, lower, on_vertices, processes_ascend, vertices_back}
 
 map_twice : {X Y Z : Type 0} (f : Y → Z) (g : X → Y) (xs : List X) → map f (map g xs) ≡ map (λ x. f (g x)) xs
 map_twice f g [] = refl

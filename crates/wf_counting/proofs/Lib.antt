@@ -6,7 +6,7 @@ pub mod Families
 pub mod Words
 pub mod Rounds
 pub mod Signed
-pub mod Decided
+pub mod DecidedFamilies
 pub mod Ranks
 pub mod Renaming
 -- Terms.
@@ -14,8 +14,8 @@ pub mod Expansion
 pub mod Reduction
 pub mod Groups
 pub mod Faces
-pub mod Settled
+pub mod CancelledFaces
 -- Obstructions.
 pub mod FamilyOfMap
-pub mod Obstructed
-pub mod Tested
+pub mod ObstructionsLeaveNoMap
+pub mod ComputedTests

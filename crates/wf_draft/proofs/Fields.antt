@@ -18,7 +18,7 @@ use Rattle.wf_draft.specs.declared.fault.Key.{Key}
 use Rattle.wf_draft.specs.declared.fault.Key.TheVariants.{Version, FirstBlock, Processes, Symmetric, Inputs, Outputs, Delta}
 use Rattle.wf_draft.specs.declared.fault.TaskFault.TheVariants as fault
 use Rattle.wf_draft.specs.declared.draft.Draft.{Draft}
-use Rattle.wf_draft.specs.declared.shape.Entry.{Entry}
+use Rattle.wf_draft.specs.declared.shape.DeltaEntry.{DeltaEntry}
 use Rattle.wf_draft.specs.declared.shape.ListedSimplex.{ListedSimplex}
 use Rattle.wf_draft.specs.declared.members.EntryFields.{EntryFields}
 use Rattle.wf_draft.specs.declared.members.DraftFields.{DraftFields}
@@ -28,7 +28,7 @@ use Rattle.wf_draft.specs.DraftSeen.{pairs_seen, entry_seen, draft_seen}
 use Rattle.wf_draft.specs.Plain.{data_at, Takes, Stands, held, Fills, Adds}
 use Rattle.wf_draft.specs.Members.{HoldEntry, HoldDraft}
 use Rattle.wf_draft.proofs.Lists.{numbers_seen}
-use Rattle.wf_draft.proofs.Converted.{converted_some}
+use Rattle.wf_draft.proofs.ConvertedValues.{converted_some}
 
 abbrev pick : {A : Type 0} → A → Option A → A
 pick a None = a
@@ -236,7 +236,7 @@ draft-outputs s field old new key is t depth enough =
       }),
     )
 
-pub draft-delta : (s : DraftFields) (field : Option (Vec Entry Global)) (old new : List Token) (key : List ℕ) → key ≡ codes "delta" → Fills (list_of entry_of) (λ v. map entry_seen v.items) 4 s.delta old field new
+pub draft-delta : (s : DraftFields) (field : Option (Vec DeltaEntry Global)) (old new : List Token) (key : List ℕ) → key ≡ codes "delta" → Fills (list_of entry_of) (λ v. map entry_seen v.items) 4 s.delta old field new
     → Adds HoldDraft 4 key s old (record { version = s.version; least_block = s.least_block; processes = s.processes; symmetric = s.symmetric; inputs = s.inputs; outputs = s.outputs; delta = field }) new
 draft-delta s field old new key is t depth enough =
     let k = codes "delta" in

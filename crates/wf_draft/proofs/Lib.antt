@@ -1,11 +1,11 @@
 pub mod Lists
-pub mod Converted
-pub mod Taken
+pub mod ConvertedValues
+pub mod TokensOfValues
 pub mod Fields
 pub mod CursorLemmas
 pub mod Texts
 pub mod Counts
 pub mod Vertices
-pub mod Few
-pub mod Listed
+pub mod DraftSizes
+pub mod DraftLists
 pub mod Lemmas

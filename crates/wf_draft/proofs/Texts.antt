@@ -12,7 +12,7 @@ use Rattle.wf_draft.specs.declared.fault.TaskFault.TheVariants.{NotJson}
 use Rattle.wf_draft.specs.Draft.{Listed, ◌>>=◌, or_fault, draft_of}
 use Rattle.wf_draft.specs.Plain.{data_at, Takes}
 use Rattle.wf_draft.specs.Text.{json_of, draft_in}
-use Rattle.wf_draft.proofs.Converted.{converted_some}
+use Rattle.wf_draft.proofs.ConvertedValues.{converted_some}
 
 pub json_of-some : (bytes : List ℕ) (d : Data) → IsUtf8 bytes → read bytes ≡ Some d → json_of bytes ≡ Some d
 unfolding json_of

@@ -3,15 +3,15 @@ use Rattle.std.specs.Prelude.{ℕ, List}
 use Rattle.json.specs.Token.{Token}
 use Rattle.json.specs.Lex.{fresh, after_value, after_comma, between, lex, punctuate}
 use Rattle.json.specs.Lex as lexer
-use Rattle.wf_draft.specs.declared.cursor.Place.{Place}
-use Rattle.wf_draft.specs.declared.cursor.Place.TheVariants.{Fresh, AfterValue, AfterComma}
+use Rattle.wf_draft.specs.declared.cursor.Expected.{Expected}
+use Rattle.wf_draft.specs.declared.cursor.Expected.TheVariants.{Fresh, AfterValue, AfterComma}
 
 -- a place of the cursor, as the reader of JSON has it
-abbrev pub place_of : Place → lexer.Place
+abbrev pub place_of : Expected → lexer.Place
 place_of Fresh = fresh
 place_of AfterValue = after_value
 place_of AfterComma = after_comma
 
 -- the tokens of the text from there on, up to the first fault
-abbrev pub tokens_at : Place → List ℕ → List Token
+abbrev pub tokens_at : Expected → List ℕ → List Token
 tokens_at place text = punctuate (place_of place) (lex between text)

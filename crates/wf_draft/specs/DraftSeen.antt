@@ -2,7 +2,7 @@
 use Rattle.std.specs.Prelude.{map}
 use Rattle.wf_model.specs.Simplex.{Simplex}
 use Rattle.wf_model.specs.Task.{Rule}
-use Rattle.wf_draft.specs.declared.shape.Entry.{Entry}
+use Rattle.wf_draft.specs.declared.shape.DeltaEntry.{DeltaEntry}
 use Rattle.wf_draft.specs.declared.shape.ListedSimplex.{ListedSimplex}
 use Rattle.wf_draft.specs.declared.draft.Draft.{Draft}
 use Rattle.wf_draft.specs.Shape.{rule_of}
@@ -11,7 +11,7 @@ use Rattle.wf_draft.specs.Draft.{Listed}
 abbrev pub pairs_seen : ListedSimplex → Simplex
 pairs_seen s = s.pairs.items
 
-abbrev pub entry_seen : Entry → Rule
+abbrev pub entry_seen : DeltaEntry → Rule
 entry_seen e = rule_of e.input.pairs.items (map (λ t. t.items) e.tuples.items)
 
 abbrev pub draft_seen : Draft → Listed

@@ -2,8 +2,8 @@
 use Rattle.std.specs.Prelude.{ℕ, List, ◌∷◌, ◌++◌, codes, decimal}
 use Rattle.wf_draft.specs.declared.fault.Key.{Key}
 use Rattle.wf_draft.specs.declared.fault.Key.TheVariants.{Whole, Version, FirstBlock, Processes, Symmetric, Inputs, Outputs, Delta, Other}
-use Rattle.wf_draft.specs.declared.fault.Limit.{Limit}
-use Rattle.wf_draft.specs.declared.fault.Limit.TheVariants as limit
+use Rattle.wf_draft.specs.declared.fault.TaskLimit.{TaskLimit}
+use Rattle.wf_draft.specs.declared.fault.TaskLimit.TheVariants as limit
 use Rattle.wf_draft.specs.declared.fault.TaskFault.{TaskFault}
 use Rattle.wf_draft.specs.declared.fault.TaskFault.TheVariants as fault
 
@@ -18,7 +18,7 @@ key_text Outputs = codes "outputs"
 key_text Delta = codes "delta"
 key_text Other = codes "other"
 
-abbrev pub limit_text : Limit → List ℕ
+abbrev pub limit_text : TaskLimit → List ℕ
 limit_text limit.Vertices = codes "vertices"
 limit_text limit.Simplices = codes "simplices"
 limit_text limit.Outputs = codes "outputs"

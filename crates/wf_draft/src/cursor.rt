@@ -17,19 +17,19 @@ use std::marker::Model;
 
 /// What may stand next.
 #[derive(Clone, Copy, Drop)]
-pub(crate) enum Place {
+pub(crate) enum Expected {
     Fresh,
     AfterValue,
     AfterComma,
 }
 
-impl Place {
+impl Expected {
     /// Whether a value or a key may begin.
     #[inline(always)]
     fn may_begin(self) -> bool
         ensures { result ≡ may_begin (place_of self) }
     {
-        !matches!(self, Place::AfterValue)
+        !matches!(self, Expected::AfterValue)
     }
 
     /// Whether a closing bracket may stand.
@@ -37,7 +37,7 @@ impl Place {
     fn may_close(self) -> bool
         ensures { result ≡ may_close (place_of self) }
     {
-        !matches!(self, Place::AfterComma)
+        !matches!(self, Expected::AfterComma)
     }
 }
 
@@ -178,7 +178,7 @@ fn plain_key(text: &[u8]) -> Option<(&str, &[u8])>
 /// A clause sees them as a list.
 #[derive(Drop)]
 pub(crate) struct Cursor<'a> {
-    place: Place,
+    place: Expected,
     // the text from the next token or comma on
     rest: &'a [u8],
 }
@@ -201,7 +201,7 @@ impl<'a> Cursor<'a> {
         ensures { result ≡ tokens text.now }
     {
         Cursor {
-            place: Place::Fresh,
+            place: Expected::Fresh,
             rest: after_blanks(text),
         }
     }
@@ -214,11 +214,11 @@ impl<'a> Cursor<'a> {
         let rest = after_blanks(text);
         match rest {
             [b',', more @ ..] => {
-                self.place = Place::AfterComma;
+                self.place = Expected::AfterComma;
                 self.rest = after_blanks(more);
             }
             _ => {
-                self.place = Place::AfterValue;
+                self.place = Expected::AfterValue;
                 self.rest = rest;
             }
         }
@@ -231,7 +231,7 @@ impl<'a> Cursor<'a> {
     {
         match self.rest {
             [b'[', rest @ ..] if self.place.may_begin() => {
-                self.place = Place::Fresh;
+                self.place = Expected::Fresh;
                 self.rest = after_blanks(rest);
                 true
             }
@@ -246,7 +246,7 @@ impl<'a> Cursor<'a> {
     {
         match self.rest {
             [b'{', rest @ ..] if self.place.may_begin() => {
-                self.place = Place::Fresh;
+                self.place = Expected::Fresh;
                 self.rest = after_blanks(rest);
                 true
             }
@@ -312,7 +312,7 @@ impl<'a> Cursor<'a> {
                 let (key, behind) = plain_key(rest)?;
                 match after_blanks(behind) {
                     [b':', rest @ ..] => {
-                        self.place = Place::Fresh;
+                        self.place = Expected::Fresh;
                         self.rest = after_blanks(rest);
                         Some(Some(key))
                     }

@@ -9,7 +9,7 @@ ghost use Rattle.wf_draft.specs.DraftSeen.{draft_seen};
 ghost use Rattle.wf_draft.specs.Parts.{IsOfText, IsPart};
 
 use crate::fault::{Key, TaskFault};
-use crate::shape::{Entry, ListedSimplex, Shape, list};
+use crate::shape::{DeltaEntry, ListedSimplex, Shape, list};
 use serde_json::Value;
 use std::alloc::Global;
 
@@ -35,7 +35,7 @@ pub struct Draft {
     /// The simplices under `outputs`.
     pub outputs: Vec<ListedSimplex>,
     /// The entries under `delta`.
-    pub delta: Vec<Entry>,
+    pub delta: Vec<DeltaEntry>,
 }
 
 /// A whole number under a key.

@@ -53,7 +53,7 @@ impl fmt::Display for Key {
 
 /// What a task file has too many of.
 #[derive(Clone, Copy, Debug, PartialEq, Eq)]
-pub enum Limit {
+pub enum TaskLimit {
     /// More than 64 vertices of the input complex.
     Vertices,
     /// More than 4,096 simplices of the input complex.
@@ -64,7 +64,7 @@ pub enum Limit {
     Tuples,
 }
 
-impl fmt::Display for Limit {
+impl fmt::Display for TaskLimit {
     ghost use Rattle.std.specs.Prelude.{Some};
     ghost use Rattle.wf_draft.specs.FaultText.{limit_text};
 
@@ -72,10 +72,10 @@ impl fmt::Display for Limit {
 
     fn fmt<W: fmt::Write>(&self, f: &mut fmt::Formatter<W>) -> fmt::Result {
         let name = match self {
-            Limit::Vertices => "vertices",
-            Limit::Simplices => "simplices",
-            Limit::Outputs => "outputs",
-            Limit::Tuples => "tuples",
+            TaskLimit::Vertices => "vertices",
+            TaskLimit::Simplices => "simplices",
+            TaskLimit::Outputs => "outputs",
+            TaskLimit::Tuples => "tuples",
         };
         write!(f, "{name}")
     }
@@ -101,7 +101,7 @@ pub enum TaskFault {
     /// below the number of processes.
     Colours,
     /// 8: more of something than a task may have.
-    TooMany(Limit),
+    TooMany(TaskLimit),
     /// 9: this input simplex, by its number, has no entry.
     DeltaMissing(u32),
     /// 10: this input simplex has two entries or more.

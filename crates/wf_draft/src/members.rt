@@ -10,7 +10,7 @@ ghost use Rattle.wf_draft.specs.Plain.{Takes, Adds, Fills, TakesMembers};
 use crate::cursor::Cursor;
 use crate::draft::{Draft, SECOND_VERSION};
 use crate::plain::Plain;
-use crate::shape::{Entry, ListedSimplex, ValueList};
+use crate::shape::{DeltaEntry, ListedSimplex, ValueList};
 use std::alloc::{AllocError, Global};
 
 /// The members of an object, a field for each key.
@@ -108,22 +108,22 @@ impl EntryFields {
     ghost use Rattle.wf_draft.specs.Members.{HoldEntry};
 
     /// The entry with these members, if none is missing.
-    fn entry(self) -> Option<Entry>
+    fn entry(self) -> Option<DeltaEntry>
         ensures { IfSome result (λ entry. (ms : Members) → HoldEntry self ms
             → entry_of (object ms) ≡ Some (entry_seen entry)) }
     {
         let EntryFields { input, tuples } = self;
-        Some(Entry {
+        Some(DeltaEntry {
             input: input?,
             tuples: tuples?,
         })
     }
 }
 
-impl Plain for Entry {
+impl Plain for DeltaEntry {
     ghost deep = { 3 };
 
-    fn plain(alloc: Global, cursor: &mut Cursor<'_>) -> Result<Option<Entry>, AllocError> {
+    fn plain(alloc: Global, cursor: &mut Cursor<'_>) -> Result<Option<DeltaEntry>, AllocError> {
         if !cursor.take_begin_object() {
             return Ok(None);
         }
@@ -149,7 +149,7 @@ pub(crate) struct DraftFields {
     symmetric: Option<bool>,
     inputs: Option<Vec<ListedSimplex>>,
     outputs: Option<Vec<ListedSimplex>>,
-    delta: Option<Vec<Entry>>,
+    delta: Option<Vec<DeltaEntry>>,
 }
 
 impl Fields for DraftFields {

@@ -163,14 +163,14 @@ impl Shape for ListedSimplex {
 
 /// An entry of `delta`: an input simplex and its value lists.
 #[derive(Drop)]
-pub struct Entry {
+pub struct DeltaEntry {
     /// Under `in`.
     pub input: ListedSimplex,
     /// The value lists under `out`.
     pub tuples: Vec<ValueList>,
 }
 
-impl Shape for Entry {
+impl Shape for DeltaEntry {
     ghost use Rattle.std.specs.Prelude.{map};
     ghost use Rattle.wf_model.specs.Task.{Rule};
     ghost use Rattle.wf_draft.specs.Shape.{rule_of, entry_of};
@@ -182,7 +182,7 @@ impl Shape for Entry {
     ghost reading = { entry_of };
 
     #[tactic(auto, using(crate::proofs::Lists::members_count))]
-    fn shape(alloc: Global, value: &Value) -> Result<Option<Entry>, AllocError> {
+    fn shape(alloc: Global, value: &Value) -> Result<Option<DeltaEntry>, AllocError> {
         let Some(members) = value.as_object() else {
             return Ok(None);
         };
@@ -195,7 +195,7 @@ impl Shape for Entry {
         if members.len() != ENTRY_KEYS {
             return Ok(None);
         }
-        Ok(Some(Entry { input, tuples }))
+        Ok(Some(DeltaEntry { input, tuples }))
     }
 }
 

@@ -3,7 +3,7 @@
 use crate::fault::{EliminationFault, judge_entries};
 use crate::kept::{Solved, Use};
 use crate::ring::Ring;
-use crate::row::{Entry, Row};
+use crate::row::{Coefficient, Equation};
 use std::alloc::{AllocError, Global};
 
 /// Equations modulo a prime power, each solved for an unknown of the highest level that it has.
@@ -14,11 +14,11 @@ use std::alloc::{AllocError, Global};
 #[derive(Drop)]
 pub struct Elimination {
     pub(crate) ring: Ring,
-    pub(crate) row: Row,
+    pub(crate) row: Equation,
     // what the equation that is worked on has at a level, and then below it
-    pub(crate) current: Vec<Entry>,
+    pub(crate) current: Vec<Coefficient>,
     // of all equations that are kept
-    pub(crate) entries: Vec<Entry>,
+    pub(crate) entries: Vec<Coefficient>,
     pub(crate) solved: Vec<Solved>,
     pub(crate) uses: Vec<Use>,
     pub(crate) steps: u64,
@@ -32,7 +32,7 @@ impl Elimination {
     pub fn new(alloc: Global, ring: Ring) -> Result<Elimination, AllocError> {
         Ok(Elimination {
             ring,
-            row: Row::new(alloc)?,
+            row: Equation::new(alloc)?,
             current: Vec::new(alloc),
             entries: Vec::new(alloc),
             solved: Vec::new(alloc),
@@ -55,7 +55,7 @@ impl Elimination {
     /// # Errors
     /// There is no unknown of this number, or memory ran out.
     pub fn add(&mut self, unknown: u32, factor: u32) -> Result<(), EliminationFault> {
-        self.row.add(self.ring, Entry { unknown, factor }, 1)
+        self.row.add(self.ring, Coefficient { unknown, factor }, 1)
     }
 
     /// Refuses to keep too much.

@@ -4,8 +4,8 @@ ghost use Rattle.std.specs.Prelude.{◌<◌};
 
 use crate::elimination::Elimination;
 use crate::fault::{EliminationFault, number};
-use crate::kept::{Origin, Solved, Span};
-use crate::row::Entry;
+use crate::kept::{Origin, PlaceRange, Solved};
+use crate::row::Coefficient;
 
 impl Elimination {
     /// Keeps the current entries, solved for that of this place.
@@ -31,17 +31,17 @@ impl Elimination {
     }
 
     /// Stores the current entries, multiplied.
-    fn store(&mut self, times: u32) -> Result<Span, EliminationFault> {
+    fn store(&mut self, times: u32) -> Result<PlaceRange, EliminationFault> {
         let first = self.entries.len();
         for entry in &self.current {
             let factor = self.ring.product(entry.factor, times);
-            self.entries.push(Entry {
+            self.entries.push(Coefficient {
                 unknown: entry.unknown,
                 factor,
             })?;
             self.row.meet(entry.unknown)?;
         }
-        Ok(Span {
+        Ok(PlaceRange {
             first,
             end: self.entries.len(),
         })
@@ -77,9 +77,9 @@ impl Elimination {
         self.divide(part);
         let place = self.first_unit()?;
         let unknown = self.row.add_unknown(1)?;
-        self.current.push(Entry { unknown, factor: 1 })?;
+        self.current.push(Coefficient { unknown, factor: 1 })?;
         self.add_slack(level, part)?;
-        let uses = Span {
+        let uses = PlaceRange {
             first: origin.uses.end,
             end: origin.uses.end,
         };
@@ -94,7 +94,7 @@ impl Elimination {
             },
         )?;
         let factor = self.ring.negative(part);
-        self.row.add(self.ring, Entry { unknown, factor }, 1)
+        self.row.add(self.ring, Coefficient { unknown, factor }, 1)
     }
 
     /// Divides the current factors by a number that divides each of them.
@@ -113,7 +113,7 @@ impl Elimination {
     {
         let unknown = self.row.add_unknown(level)?;
         let factor = self.ring.share(part);
-        self.current.push(Entry { unknown, factor })?;
+        self.current.push(Coefficient { unknown, factor })?;
         Ok(())
     }
 

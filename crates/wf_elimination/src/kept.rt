@@ -9,7 +9,7 @@ pub(crate) struct Use {
 
 /// Places of a list, from the first one to before the end.
 #[derive(Clone, Copy)]
-pub(crate) struct Span {
+pub(crate) struct PlaceRange {
     pub(crate) first: usize,
     pub(crate) end: usize,
 }
@@ -22,7 +22,7 @@ pub(crate) struct Origin {
     /// of its own is.
     pub(crate) equation: Option<u32>,
     /// The uses.
-    pub(crate) uses: Span,
+    pub(crate) uses: PlaceRange,
     pub(crate) divisor: u32,
     pub(crate) times: u32,
 }
@@ -31,7 +31,7 @@ pub(crate) struct Origin {
 #[derive(Clone, Copy)]
 pub(crate) struct Solved {
     pub(crate) unknown: u32,
-    pub(crate) entries: Span,
+    pub(crate) entries: PlaceRange,
     pub(crate) origin: Origin,
 }
 
@@ -41,7 +41,7 @@ pub(crate) struct Solved {
 pub struct Contradiction {
     pub(crate) equation: u32,
     pub(crate) times: u32,
-    pub(crate) uses: Span,
+    pub(crate) uses: PlaceRange,
     /// The constant.
     pub constant: u32,
 }

@@ -2,7 +2,7 @@
 
 use crate::elimination::Elimination;
 use crate::fault::EliminationFault;
-use crate::kept::{Contradiction, Multiplier, Origin, Span};
+use crate::kept::{Contradiction, Multiplier, Origin, PlaceRange};
 use std::alloc::Global;
 
 impl Elimination {
@@ -59,7 +59,12 @@ impl Elimination {
     }
 
     /// Takes away what these uses stand for, so many times.
-    fn owe(&self, owed: &mut Vec<u32>, uses: Span, times: u32) -> Result<(), EliminationFault> {
+    fn owe(
+        &self,
+        owed: &mut Vec<u32>,
+        uses: PlaceRange,
+        times: u32,
+    ) -> Result<(), EliminationFault> {
         let Some(uses) = self.uses.get(uses.first..uses.end) else {
             return Err(EliminationFault::Internal);
         };

@@ -10,7 +10,7 @@ pub const LEVELS: u8 = 5;
 
 /// An unknown and its factor in an equation.
 #[derive(Clone, Copy)]
-pub(crate) struct Entry {
+pub(crate) struct Coefficient {
     pub(crate) unknown: u32,
     pub(crate) factor: u32,
 }
@@ -65,14 +65,14 @@ struct Level {
 
 /// The equation, and all unknowns.
 #[derive(Drop)]
-pub(crate) struct Row {
+pub(crate) struct Equation {
     unknowns: Vec<Unknown>,
     levels: Vec<Level>,
 }
 
-impl Row {
+impl Equation {
     /// No unknown.
-    pub(crate) fn new(alloc: Global) -> Result<Row, AllocError> {
+    pub(crate) fn new(alloc: Global) -> Result<Equation, AllocError> {
         let mut levels = Vec::new(alloc);
         for _ in 0..LEVELS {
             levels.push(Level {
@@ -81,7 +81,7 @@ impl Row {
                 solved: Vec::new(alloc),
             })?;
         }
-        Ok(Row {
+        Ok(Equation {
             unknowns: Vec::new(alloc),
             levels,
         })
@@ -109,7 +109,7 @@ impl Row {
     pub(crate) fn add(
         &mut self,
         ring: Ring,
-        entry: Entry,
+        entry: Coefficient,
         times: u32,
     ) -> Result<(), EliminationFault> {
         let Some(unknown) = self.unknowns.get_mut(entry.unknown as usize) else {
@@ -176,7 +176,7 @@ impl Row {
     pub(crate) fn move_level(
         &mut self,
         level: u8,
-        entries: &mut Vec<Entry>,
+        entries: &mut Vec<Coefficient>,
     ) -> Result<(), EliminationFault> {
         let Some(level) = self.levels.get_mut(level as usize) else {
             return Err(EliminationFault::Internal);
@@ -192,7 +192,7 @@ impl Row {
                 level.due.forget(rank)?;
             }
             if factor != 0 {
-                entries.push(Entry {
+                entries.push(Coefficient {
                     unknown: *number,
                     factor,
                 })?;
@@ -219,7 +219,7 @@ impl Row {
     pub(crate) fn best(
         &self,
         ring: Ring,
-        entries: &[Entry],
+        entries: &[Coefficient],
     ) -> Result<Option<usize>, EliminationFault> {
         let mut best: Option<Pivot> = None;
         for (place, entry) in entries.iter().enumerate() {
@@ -234,7 +234,12 @@ impl Row {
     }
 
     /// The entry at this place, as one that the equation may be solved for.
-    fn pivot(&self, ring: Ring, place: usize, entry: Entry) -> Result<Pivot, EliminationFault> {
+    fn pivot(
+        &self,
+        ring: Ring,
+        place: usize,
+        entry: Coefficient,
+    ) -> Result<Pivot, EliminationFault> {
         match self.unknowns.get(entry.unknown as usize) {
             Some(unknown) => Ok(Pivot {
                 place,

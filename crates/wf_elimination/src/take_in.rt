@@ -4,11 +4,11 @@ ghost use Rattle.std.specs.Prelude.{◌<◌};
 
 use crate::elimination::Elimination;
 use crate::fault::{EliminationFault, MOST_STEPS, judge_steps};
-use crate::kept::{Contradiction, Origin, Span, Use};
+use crate::kept::{Contradiction, Origin, PlaceRange, Use};
 use crate::row::LEVELS;
 
 /// What is known of an equation when a level is done.
-enum Step {
+enum LevelResult {
     /// It has no unknown of the level, or none any more.
     GoOn,
     /// It is kept.
@@ -32,9 +32,9 @@ impl Elimination {
             self.row.move_level(level, &mut self.current)?;
             if !self.current.is_empty() {
                 match self.settle(equation, level, first)? {
-                    Step::GoOn => {}
-                    Step::Kept => return Ok(None),
-                    Step::Contradicts(found) => return Ok(Some(found)),
+                    LevelResult::GoOn => {}
+                    LevelResult::Kept => return Ok(None),
+                    LevelResult::Contradicts(found) => return Ok(Some(found)),
                 }
             }
         }
@@ -79,10 +79,15 @@ impl Elimination {
 
     /// Keeps the equation, whose unknowns of this level are the current entries; or goes on with
     /// what it has below the level.
-    fn settle(&mut self, equation: u32, level: u8, first: usize) -> Result<Step, EliminationFault> {
+    fn settle(
+        &mut self,
+        equation: u32,
+        level: u8,
+        first: usize,
+    ) -> Result<LevelResult, EliminationFault> {
         let origin = Origin {
             equation: Some(equation),
-            uses: Span {
+            uses: PlaceRange {
                 first,
                 end: self.uses.len(),
             },
@@ -92,20 +97,20 @@ impl Elimination {
         if let Some(place) = self.row.best(self.ring, &self.current)? {
             self.move_below(level)?;
             self.keep(level, place, origin)?;
-            return Ok(Step::Kept);
+            return Ok(LevelResult::Kept);
         }
         let part = self.common_part();
         if self.is_divided_below(level, part)? {
             self.move_below(level)?;
             self.keep_divided(level, part, origin)?;
-            return Ok(Step::Kept);
+            return Ok(LevelResult::Kept);
         }
         if level == 1 {
             let found = self.contradiction(part, equation, origin.uses)?;
-            return Ok(Step::Contradicts(found));
+            return Ok(LevelResult::Contradicts(found));
         }
         self.split(level, part, origin)?;
-        Ok(Step::GoOn)
+        Ok(LevelResult::GoOn)
     }
 
     /// The largest power of the prime that divides each current factor.
@@ -142,7 +147,7 @@ impl Elimination {
         &self,
         part: u32,
         equation: u32,
-        uses: Span,
+        uses: PlaceRange,
     ) -> Result<Contradiction, EliminationFault>
         requires { 0 < part }
     {
@@ -171,7 +176,7 @@ impl Elimination {
         Ok(Some(Contradiction {
             equation,
             times: 1,
-            uses: Span {
+            uses: PlaceRange {
                 first,
                 end: self.uses.len(),
             },

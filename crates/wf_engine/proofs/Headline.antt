@@ -7,7 +7,7 @@ use Rattle.wf_model.proofs.WholeReports.{numbers}
 use Rattle.wf_io.specs.Seen.{Reading, Writing}
 use Rattle.wf_io.specs.Texts.{Gave, ReadsText, Wrote}
 use Rattle.wf_io.specs.declared.source.ReadFault.{ReadFault}
-use Rattle.wf_task.specs.Judge.{text_of}
+use Rattle.wf_task.specs.Judge.{task_of_text}
 use Rattle.wf_report.specs.declared.form.Form.{Form}
 use Rattle.wf_report.proofs.Lemmas.{read_written}
 use Rattle.wf_engine.specs.declared.outcome.Outcome.{Outcome}
@@ -21,7 +21,7 @@ use Rattle.wf_engine.specs.Headline.{AcceptancesAreTrue, AnswersAreTrue, AreAske
 -- ---- what was read
 
 pub task_read : (old new : Reading) (text : Result (List ℕ) ReadFault) (t : Task) → ReadsText most_bytes old new text → Judged IsTaskOf text (Ok t) → GaveTask old new t
-task_read old new (Ok text) t (given, gave, is) judged = (given, gave, ap text_of (sym is.0) ∙ judged)
+task_read old new (Ok text) t (given, gave, is) judged = (given, gave, ap task_of_text (sym is.0) ∙ judged)
 task_read old new (Err e) t reads judged = absurd (let bad : ⊥ = cc in bad)
 
 -- a report without a fault is about the task and its own rounds

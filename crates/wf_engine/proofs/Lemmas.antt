@@ -1,5 +1,5 @@
 -- What the crates above may use of these proofs.
-pub use Rattle.wf_engine.proofs.Acceptance.{unrefused}
+pub use Rattle.wf_engine.proofs.WrittenIsAccepted.{unrefused}
 pub use Rattle.wf_engine.proofs.CertificateCounts.{certified}
 pub use Rattle.wf_engine.proofs.CheckCounts.{checked, judged_report}
 pub use Rattle.wf_engine.proofs.Headline.{about, written_as_read}

@@ -14,7 +14,7 @@ use Rattle.wf_engine.specs.Laws.{IsChecked}
 use Rattle.wf_engine.specs.Models.{IsMapOf, IsReportText, Models, ReadsMap, ReportsMap}
 use Rattle.wf_engine.proofs.Counts.{few}
 use Rattle.wf_engine.proofs.CheckCounts.{checks_alone}
-use Rattle.wf_engine.proofs.Both.{IsReadCounted, counted}
+use Rattle.wf_engine.proofs.RunsOverTwoSources.{IsReadCounted, counted}
 
 module _ (t : Task) (r : ℕ) where
   judged_map : (text : Result (List ℕ) ReadFault) (m : Result (List ℕ) RunFault) → Judged (IsMapOf t r) text m → (io.failed_reads text ≡ by_result failed_reads m) × (by_result failed_writes m ≡ 0)

@@ -9,7 +9,7 @@ use Rattle.wf_engine.specs.declared.fault.RunFault.TheVariants as run
 use Rattle.wf_engine.specs.Run.{failed_writes, by_result}
 use Rattle.wf_engine.specs.Laws.{IsChecked}
 use Rattle.wf_engine.specs.Proofs.{IsAcceptedNone, IsOfProof, ReadsProof, ReadsProofOf, Refutes, most_proof_bytes}
-use Rattle.wf_engine.proofs.Both.{IsReadCounted, counted}
+use Rattle.wf_engine.proofs.RunsOverTwoSources.{IsReadCounted, counted}
 
 module _ {X : Type 0} (posed : Known) (holds : X → Type 0) (given : List ℕ) (left : Option (List ℕ)) where
   few : (result : Result X RunFault) → IsOfProof posed holds given left result → length given ≤ most_proof_bytes + 1

@@ -7,15 +7,15 @@ use Rattle.wf_model.specs.Refutation.{Line}
 use Rattle.wf_model.specs.Report.{Body, a_map, body_values, none}
 use Rattle.wf_model.specs.PointsText.{points_text}
 use Rattle.wf_io.specs.Seen.{Reading, Writing}
-use Rattle.wf_io.specs.Texts.{Gave, Wrote}
-use Rattle.wf_task.specs.Judge.{text_of}
+use Rattle.wf_io.specs.Texts.{GaveAll, Wrote}
+use Rattle.wf_task.specs.Judge.{task_of_text}
 use Rattle.wf_report.specs.declared.form.Form.{Form}
 use Rattle.wf_check.specs.Truth.{HoldsOf}
 use Rattle.wf_engine.specs.declared.outcome.Outcome.{Outcome}
 use Rattle.wf_engine.specs.declared.outcome.Outcome.TheVariants.{Map, Nothing}
 use Rattle.wf_engine.specs.declared.outcome.Accepted.{Accepted}
 use Rattle.wf_engine.specs.declared.outcome.Verified.TheVariants.{Obstruction}
-use Rattle.wf_engine.specs.Texts.{Finds, map_body, none_body, text_of_report}
+use Rattle.wf_engine.specs.Texts.{Finds, body_of_map, body_of_none, text_of_report}
 use Rattle.wf_engine.specs.Models.{Models}
 use Rattle.wf_engine.specs.Proofs.{Refutes}
 use Rattle.wf_engine.specs.Verify.{Decides, Verifies, accepted_of, accepted_text}
@@ -23,7 +23,7 @@ use Rattle.wf_engine.specs.Certificates.{VerifiesCertificate, never_text}
 
 -- the source gave the bytes of this task
 abbrev pub GaveTask : Reading → Reading → Task → Type 0
-GaveTask old new t = (bytes : List ℕ) × Gave old new bytes 0 × (text_of bytes ≡ Ok t)
+GaveTask old new t = (bytes : List ℕ) × GaveAll old new bytes × (task_of_text bytes ≡ Ok t)
 
 -- ---- what a search says
 
@@ -32,8 +32,8 @@ GaveTask old new t = (bytes : List ℕ) × Gave old new bytes 0 × (text_of byte
 -- and then no function on the views is a decision map.
 abbrev pub Says : Form → Task → ℕ → Outcome → List ℕ → Type 0
 Says form t r Map text =
-    (m : View → ℕ) × IsLeast t r m × ((ls : List Line) × (text ≡ text_of_report t r (map_body form (listed t r m) ls)))
-Says form t r Nothing text = HasNoDecisionMap t r × ((ls : List Line) × (text ≡ text_of_report t r (none_body form ls)))
+    (m : View → ℕ) × IsLeast t r m × ((ls : List Line) × (text ≡ text_of_report t r (body_of_map form (listed t r m) ls)))
+Says form t r Nothing text = HasNoDecisionMap t r × ((ls : List Line) × (text ≡ text_of_report t r (body_of_none form ls)))
 
 -- where a search ends well, the source gave the bytes of a task, and the sink
 -- took, whole, a text that is true of it
@@ -50,7 +50,7 @@ AnswersAreTrue =
 -- there is none, no function on the views is one.
 pub record GaveTruth (task task' reports reports' : Reading) (t : Task) (r : ℕ) (body : Body) : Type 0 where
   pub task_given : GaveTask task task' t
-  pub report_given : Gave reports reports' (text_of_report t r body) 0
+  pub report_given : GaveAll reports reports' (text_of_report t r body)
   pub holds : HoldsOf t r body
 
 -- these are the rounds that are asked for, if any are

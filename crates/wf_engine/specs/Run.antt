@@ -6,7 +6,7 @@ use Rattle.wf_model.specs.Task.{Task}
 use Rattle.wf_io.specs.Seen.{Reading, Writing}
 use Rattle.wf_io.specs.Texts.{ReadsText, Wrote, TookBeginning}
 use Rattle.wf_io.specs.declared.source.ReadFault.{ReadFault}
-use Rattle.wf_task.specs.Judge.{text_of}
+use Rattle.wf_task.specs.Judge.{task_of_text}
 use Rattle.wf_draft.specs.declared.fault.TaskFault.{TaskFault}
 use Rattle.wf_complex.specs.Protocol.{Built, Builds}
 use Rattle.wf_complex.specs.declared.fault.BuildFault.TheVariants as build
@@ -47,9 +47,9 @@ Reads judge old new result =
 
 -- the task of a text, or why it is none
 abbrev pub IsTaskOf : List ℕ → Result Task RunFault → Type 0
-IsTaskOf text (Ok t) = text_of text ≡ Ok t
+IsTaskOf text (Ok t) = task_of_text text ≡ Ok t
 IsTaskOf text (Err OutOfMemory) = Unit {0}
-IsTaskOf text (Err e) = (fault : TaskFault) × (text_of text ≡ Err fault) × (e ≡ of_task fault)
+IsTaskOf text (Err e) = (fault : TaskFault) × (task_of_text text ≡ Err fault) × (e ≡ of_task fault)
 
 -- there is a protocol complex: the rounds are few enough, and so are the executions
 abbrev pub HasComplex : Task → ℕ → Type 0

@@ -49,25 +49,25 @@ lines_kept form.Verdict = keep.Neither
 lines_kept form.Least = keep.All
 
 -- the body of a report of none: in the verdict form the lines are left out
-abbrev pub none_body : Form → List Line → Body
-none_body form.Full ls = none ls
-none_body form.Verdict ls = none []
-none_body form.Least ls = none ls
+abbrev pub body_of_none : Form → List Line → Body
+body_of_none form.Full ls = none ls
+body_of_none form.Verdict ls = none []
+body_of_none form.Least ls = none ls
 
 -- the body of a report of a map: in the least form the lines that lead to it follow
-abbrev pub map_body : Form → List ℕ → List Line → Body
-map_body form.Full m ls = a_map m
-map_body form.Verdict m ls = a_map m
-map_body form.Least m ls = least m ls
+abbrev pub body_of_map : Form → List ℕ → List Line → Body
+body_of_map form.Full m ls = a_map m
+body_of_map form.Verdict m ls = a_map m
+body_of_map form.Least m ls = least m ls
 
 -- What a search of a task finds and writes: the least decision map over the points, or none by a
 -- refutation.
 abbrev pub IsFound : Form → Task → ℕ → Outcome → List ℕ → Type 0
 IsFound form t r outcome.Map text =
     (m : View → ℕ) × (ls : List Line) × IsLeast t r m × LeadsToMap t r (listed t r m) ls
-    × (text ≡ text_of_report t r (map_body form (listed t r m) ls))
+    × (text ≡ text_of_report t r (body_of_map form (listed t r m) ls))
 IsFound form t r outcome.Nothing text =
-    (ls : List Line) × IsRefutation t r ls × (text ≡ text_of_report t r (none_body form ls))
+    (ls : List Line) × IsRefutation t r ls × (text ≡ text_of_report t r (body_of_none form ls))
 
 -- the account of a search that goes through the branches and finds this
 abbrev pub IsAccountOf : Task → ℕ → Outcome → Account → Type 0

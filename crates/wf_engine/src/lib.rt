@@ -21,7 +21,7 @@
 //! - [`run_preset`]: the canonical text of a [`Preset`] out.
 //! - [`read_task`], [`read_report_from`], [`read_proof_from`], [`report_of`], [`obstruction_of`],
 //!   [`check_report`], [`judge_obstruction`], [`write_points`],
-//!   [`pose_problem`], [`lines_kept`], [`map_body`], [`report_text`], [`accepted_words`],
+//!   [`pose_problem`], [`lines_kept`], [`body_of_map`], [`report_text`], [`accepted_words`],
 //!   [`hand_out`]: steps that runs share, for those of other crates too.
 //! - [`RunFault`]: why a run is refused, with its number and its name;
 //!   [`PartFault`]: why one part among others is.
@@ -68,7 +68,7 @@ pub use points::{run_points, write_points};
 pub use preset::run_preset;
 pub use proof::{MOST_PROOF_BYTES, read_proof_from, run_proof};
 pub use solve::{
-    lines_kept, map_body, pose_problem, report_text, run_solve, run_solve_one, run_solve_watched,
+    body_of_map, lines_kept, pose_problem, report_text, run_solve, run_solve_one, run_solve_watched,
 };
 pub use steps::{hand_out, read_task};
 pub use verify::{accepted_words, check_report, read_report_from, report_of, run_verify};

@@ -10,7 +10,7 @@ ghost use Rattle.wf_pool.specs.Answers as pool;
 ghost use Rattle.wf_report.specs.Reports.{body_of};
 ghost use Rattle.wf_engine.specs.Run.{Answers, Asks, answered};
 ghost use Rattle.wf_engine.specs.Heads.{IsHead, Poses};
-ghost use Rattle.wf_engine.specs.Texts.{IsAccountOf, IsFound, IsInOrder, IsSolved, SearchesInOrder, Solves, lines_kept, map_body, text_of_report};
+ghost use Rattle.wf_engine.specs.Texts.{IsAccountOf, IsFound, IsInOrder, IsSolved, SearchesInOrder, Solves, lines_kept, body_of_map, text_of_report};
 
 use crate::fault::RunFault;
 use crate::outcome::Outcome;
@@ -231,7 +231,13 @@ pub(crate) fn with_text(
 {
     match answer {
         Answer::Map(values, lines) => {
-            let text = report_text(alloc, task, rounds, header, map_body(form, values, lines))?;
+            let text = report_text(
+                alloc,
+                task,
+                rounds,
+                header,
+                body_of_map(form, values, lines),
+            )?;
             Ok((Outcome::Map, text))
         }
         Answer::Nothing(lines) => {
@@ -242,8 +248,8 @@ pub(crate) fn with_text(
 }
 
 /// What a report says of a map: in the least form the lines that lead to it too.
-pub fn map_body(form: Form, values: Vec<u8>, lines: Lines) -> Body
-    ensures { body_of result ≡ map_body form values.items (map line_of lines.items) }
+pub fn body_of_map(form: Form, values: Vec<u8>, lines: Lines) -> Body
+    ensures { body_of result ≡ body_of_map form values.items (map line_of lines.items) }
 {
     match form {
         Form::Full | Form::Verdict => Body::Map(values),

@@ -63,7 +63,7 @@ fn write_views(alloc: Global, task: &Task, protocol: &Protocol) -> Result<Vec<u8
     ensures { IfOk result (λ text. text.items ≡ views_text task.now protocol.now.rounds) }
 {
     let mut text = String::new(alloc);
-    Header::of(task, protocol).put(&mut text)?;
+    PointsHeader::of(task, protocol).put(&mut text)?;
     put_points(&mut text, protocol)?;
     put_words(&mut text, "end")?;
     Ok(text.into_bytes())
@@ -71,7 +71,7 @@ fn write_views(alloc: Global, task: &Task, protocol: &Protocol) -> Result<Vec<u8
 
 /// The numbers in the lines before those of the points.
 #[derive(Clone, Copy)]
-struct Header {
+struct PointsHeader {
     processes: u8,
     rounds: u32,
     simplices: u32,
@@ -80,9 +80,9 @@ struct Header {
     executions: u32,
 }
 
-impl Header {
+impl PointsHeader {
     /// The numbers of a task and its protocol complex.
-    fn of(task: &Task, protocol: &Protocol) -> Header
+    fn of(task: &Task, protocol: &Protocol) -> PointsHeader
         requires { IsProtocol task.now protocol.now.rounds protocol.now }
         ensures processes { result.processes ≡ task.now.processes }
         ensures rounds { result.rounds ≡ protocol.now.rounds }
@@ -91,7 +91,7 @@ impl Header {
         ensures points { result.points ≡ length (points task.now protocol.now.rounds) }
         ensures executions { result.executions ≡ length (executions task.now protocol.now.rounds) }
     {
-        Header {
+        PointsHeader {
             processes: task.processes(),
             rounds: protocol.rounds(),
             simplices: task.inputs().simplices().len() as u32,

@@ -4,10 +4,10 @@ use crate::classes::Class;
 use crate::digits::with_last;
 use crate::fault::{FinderFault, number};
 use crate::listener::Listener;
-use crate::problem::Problem;
+use crate::problem::CommonTuples;
 use crate::smaller::{Candidate, first_of, ranked};
 use crate::system::solve;
-use crate::weights::Answer;
+use crate::weights::Weighing;
 use std::alloc::Global;
 use wf_elimination::Ring;
 
@@ -23,14 +23,14 @@ const MOST_TUPLES: usize = 4_000;
 /// Answers with no more tuples stay as they are.
 const FEW_TUPLES: usize = 2;
 
-impl Problem {
+impl CommonTuples {
     /// Weights modulo a prime power, if the finder finds some: of as few tuples as it knows.
     pub(crate) fn answer<L: Listener>(
         &self,
         alloc: Global,
         ring: Ring,
         listener: &L,
-    ) -> Result<Option<Answer>, FinderFault> {
+    ) -> Result<Option<Weighing>, FinderFault> {
         if self.values.is_empty() {
             return Ok(None);
         }
@@ -49,8 +49,8 @@ impl Problem {
         &self,
         alloc: Global,
         ring: Ring,
-        answer: Answer,
-    ) -> Result<Answer, FinderFault> {
+        answer: Weighing,
+    ) -> Result<Weighing, FinderFault> {
         if answer.tuples.len() <= FEW_TUPLES || self.count_terms()? > FEW_TERMS {
             return Ok(answer);
         }
@@ -66,8 +66,8 @@ impl Problem {
         &self,
         alloc: Global,
         ring: Ring,
-        answer: Answer,
-    ) -> Result<Answer, FinderFault> {
+        answer: Weighing,
+    ) -> Result<Weighing, FinderFault> {
         let candidates = self.candidates(alloc, &answer)?;
         let mut terms = 0u64;
         for candidate in &candidates {
@@ -83,7 +83,7 @@ impl Problem {
     }
 
     /// The tuples of an answer, those with few terms first.
-    fn candidates(&self, alloc: Global, answer: &Answer) -> Result<Vec<Candidate>, FinderFault> {
+    fn candidates(&self, alloc: Global, answer: &Weighing) -> Result<Vec<Candidate>, FinderFault> {
         let mut candidates = Vec::new(alloc);
         for one in &answer.tuples {
             candidates.push(ranked(self, one.class, one.tuple)?)?;

@@ -8,9 +8,9 @@ ghost use Rattle.wf_obstruction.specs.Tuples.{tuples_seen};
 
 use crate::fault::FinderFault;
 use crate::listener::Listener;
-use crate::problem::Problem;
+use crate::problem::CommonTuples;
 use crate::tuples::row;
-use crate::weights::Answer;
+use crate::weights::Weighing;
 use std::alloc::Global;
 use wf_elimination::prime_powers;
 use wf_obstruction::{ObstructionFault, WeightedTuple, is_obstruction};
@@ -18,7 +18,7 @@ use wf_task::Task;
 
 /// An obstruction that was found.
 #[derive(Debug, Drop)]
-pub struct Found {
+pub struct FoundObstruction {
     /// The sum on the empty face, from 1 to the modulus less 1.
     pub sum: u32,
     /// The weighted tuples, by ascending simplex and then by ascending tuple.
@@ -27,7 +27,7 @@ pub struct Found {
 
 /// A weighted tuple at an input simplex.
 #[derive(Clone, Copy, PartialEq, Eq, PartialOrd, Ord)]
-struct Placed {
+struct PlacedTuple {
     simplex: u32,
     tuple: u64,
     weight: u32,
@@ -46,10 +46,10 @@ struct Placed {
 pub fn find_obstruction<L: Listener>(
     alloc: Global,
     task: &Task,
-    problem: &Problem,
+    problem: &CommonTuples,
     modulus: u32,
     listener: &L,
-) -> Result<Option<Found>, FinderFault>
+) -> Result<Option<FoundObstruction>, FinderFault>
     ensures first_block { 1 < first_block task.now → result ≡ Ok None }
     ensures obstruction { IfOk result (λ answer. IfSome answer (λ found.
         IsObstruction task.now modulus found.sum (tuples_seen found.tuples.items))) }
@@ -73,10 +73,10 @@ pub fn find_obstruction<L: Listener>(
 fn candidate<L: Listener>(
     alloc: Global,
     task: &Task,
-    problem: &Problem,
+    problem: &CommonTuples,
     modulus: u32,
     listener: &L,
-) -> Result<Option<Found>, FinderFault> {
+) -> Result<Option<FoundObstruction>, FinderFault> {
     for ring in &prime_powers(alloc, modulus)? {
         if let Some(answer) = problem.answer(alloc, *ring, listener)? {
             let times = modulus / ring.modulus();
@@ -90,14 +90,14 @@ fn candidate<L: Listener>(
 fn place(
     alloc: Global,
     task: &Task,
-    problem: &Problem,
-    answer: &Answer,
+    problem: &CommonTuples,
+    answer: &Weighing,
     times: u32,
-) -> Result<Found, FinderFault> {
+) -> Result<FoundObstruction, FinderFault> {
     let mut placed = Vec::new(alloc);
     for one in &answer.tuples {
         let class = problem.classes.class(one.class)?;
-        placed.push(Placed {
+        placed.push(PlacedTuple {
             simplex: problem.classes.forbidding(task, class, one.tuple)?,
             tuple: one.tuple,
             weight: one.weight.saturating_mul(times),
@@ -105,14 +105,17 @@ fn place(
         })?;
     }
     placed.sort_unstable();
-    Ok(Found {
+    Ok(FoundObstruction {
         sum: answer.sum.saturating_mul(times),
         tuples: weighted_tuples(alloc, &placed)?,
     })
 }
 
 /// The weighted tuples as the checker reads them.
-fn weighted_tuples(alloc: Global, placed: &[Placed]) -> Result<Vec<WeightedTuple>, FinderFault> {
+fn weighted_tuples(
+    alloc: Global,
+    placed: &[PlacedTuple],
+) -> Result<Vec<WeightedTuple>, FinderFault> {
     let mut tuples = Vec::new(alloc);
     for one in placed {
         tuples.push(WeightedTuple {

@@ -4,9 +4,9 @@
 //! one wherever there is one modulo the number is tested, and not proved. Where it gave up, it says
 //! at which limit.
 //!
-//! - [`Problem`]: what the finder knows of a task.
+//! - [`CommonTuples`]: what the finder knows of a task.
 //! - [`find_obstruction`]: looks for an obstruction of a task modulo a number.
-//! - [`Found`]: an obstruction that was found and checked.
+//! - [`FoundObstruction`]: an obstruction that was found and checked.
 //! - [`has_integer_solution`]: whether the equations have a solution over the integers, which shows
 //!   that there is no obstruction modulo any number.
 //! - [`Listener`], [`Silent`]: who is told how far it is.
@@ -29,8 +29,8 @@ mod tuples;
 mod weights;
 
 pub use fault::{FinderFault, MOST_EQUATIONS};
-pub use finder::{Found, find_obstruction};
+pub use finder::{FoundObstruction, find_obstruction};
 pub use integers::has_integer_solution;
 pub use listener::{Listener, Silent};
-pub use problem::Problem;
+pub use problem::CommonTuples;
 pub use wf_elimination::{MOST_ENTRIES, MOST_STEPS, MOST_UNKNOWNS};

@@ -12,19 +12,19 @@ const LARGEST_VALUE: u8 = 255;
 /// What the finder knows of a task: which input simplices it does not tell apart, and which tuples
 /// all of those allow.
 #[derive(Drop)]
-pub struct Problem {
+pub struct CommonTuples {
     pub(crate) classes: Classes,
     // the values of the task, ascending
     pub(crate) values: Vec<u64>,
 }
 
-impl Problem {
+impl CommonTuples {
     /// The problem of a task.
     ///
     /// # Errors
     /// Memory ran out.
-    pub fn of(alloc: Global, task: &Task) -> Result<Problem, FinderFault> {
-        Ok(Problem {
+    pub fn of(alloc: Global, task: &Task) -> Result<CommonTuples, FinderFault> {
+        Ok(CommonTuples {
             classes: Classes::of(alloc, task)?,
             values: listed(alloc, task.values())?,
         })

@@ -2,8 +2,8 @@
 
 use crate::digits::{behind, number_at, with, without};
 use crate::fault::{FinderFault, number};
-use crate::problem::Problem;
-use crate::weights::{Answer, Weighted, add_up};
+use crate::problem::CommonTuples;
+use crate::weights::{Weighing, Weighted, add_up};
 use std::alloc::Global;
 use wf_elimination::{Contradiction, Elimination, Ring};
 
@@ -19,7 +19,7 @@ pub(crate) struct Candidate {
 
 /// A term: values other than the least one at the places of a class.
 #[derive(Clone, Copy, PartialEq, Eq, PartialOrd, Ord)]
-struct Term {
+struct Unknown {
     class: u32,
     tuple: u64,
     // whether it is added, and not taken away
@@ -28,17 +28,21 @@ struct Term {
 
 /// A search for the first tuples of a list whose terms cancel but on the empty face.
 #[derive(Drop)]
-struct Search {
+struct SmallerSearch {
     ring: Ring,
     elimination: Elimination,
     // the classes and tuples of all terms, in order; the number of an unknown is its place
-    keys: Vec<Term>,
+    keys: Vec<Unknown>,
     // the terms of a tuple
-    terms: Vec<Term>,
+    terms: Vec<Unknown>,
 }
 
 /// A tuple at a class, as a candidate.
-pub(crate) fn ranked(problem: &Problem, class: u32, tuple: u64) -> Result<Candidate, FinderFault> {
+pub(crate) fn ranked(
+    problem: &CommonTuples,
+    class: u32,
+    tuple: u64,
+) -> Result<Candidate, FinderFault> {
     let size = problem.classes.class(class)?.size;
     let least = problem.least()?;
     let mut terms = 1u64;
@@ -59,11 +63,11 @@ pub(crate) fn ranked(problem: &Problem, class: u32, tuple: u64) -> Result<Candid
 /// do.
 pub(crate) fn first_of(
     alloc: Global,
-    problem: &Problem,
+    problem: &CommonTuples,
     ring: Ring,
     candidates: &[Candidate],
-) -> Result<Option<Answer>, FinderFault> {
-    let mut search = Search::of(alloc, problem, ring, candidates)?;
+) -> Result<Option<Weighing>, FinderFault> {
+    let mut search = SmallerSearch::of(alloc, problem, ring, candidates)?;
     match search.contradiction(problem, candidates)? {
         Some(found) => Ok(Some(search.answer(alloc, candidates, found)?)),
         None => Ok(None),
@@ -73,9 +77,9 @@ pub(crate) fn first_of(
 /// The classes and tuples of the terms of these tuples, and the empty face, in order.
 fn keys(
     alloc: Global,
-    problem: &Problem,
+    problem: &CommonTuples,
     candidates: &[Candidate],
-) -> Result<Vec<Term>, FinderFault> {
+) -> Result<Vec<Unknown>, FinderFault> {
     let mut keys = Vec::new(alloc);
     keys.push(key(0, 0))?;
     let mut terms = Vec::new(alloc);
@@ -89,7 +93,7 @@ fn keys(
 }
 
 /// Adds the keys of these terms.
-fn add_keys(terms: &[Term], keys: &mut Vec<Term>) -> Result<(), FinderFault> {
+fn add_keys(terms: &[Unknown], keys: &mut Vec<Unknown>) -> Result<(), FinderFault> {
     for term in terms {
         keys.push(key(term.class, term.tuple))?;
     }
@@ -97,23 +101,23 @@ fn add_keys(terms: &[Term], keys: &mut Vec<Term>) -> Result<(), FinderFault> {
 }
 
 /// A class and a tuple.
-fn key(class: u32, tuple: u64) -> Term {
-    Term {
+fn key(class: u32, tuple: u64) -> Unknown {
+    Unknown {
         class,
         tuple,
         positive: true,
     }
 }
 
-impl Search {
+impl SmallerSearch {
     /// The unknowns for the terms of these tuples, and no equation.
     fn of(
         alloc: Global,
-        problem: &Problem,
+        problem: &CommonTuples,
         ring: Ring,
         candidates: &[Candidate],
-    ) -> Result<Search, FinderFault> {
-        let mut search = Search {
+    ) -> Result<SmallerSearch, FinderFault> {
+        let mut search = SmallerSearch {
             ring,
             elimination: Elimination::new(alloc, ring)?,
             keys: keys(alloc, problem, candidates)?,
@@ -124,7 +128,7 @@ impl Search {
     }
 
     /// Adds an unknown for each key.
-    fn add_unknowns(&mut self, problem: &Problem) -> Result<(), FinderFault> {
+    fn add_unknowns(&mut self, problem: &CommonTuples) -> Result<(), FinderFault> {
         for key in &self.keys {
             let class = problem.classes.class(key.class)?;
             self.elimination.add_unknown(class.size)?;
@@ -135,7 +139,7 @@ impl Search {
     /// Takes in the terms of the tuples, up to a contradiction.
     fn contradiction(
         &mut self,
-        problem: &Problem,
+        problem: &CommonTuples,
         candidates: &[Candidate],
     ) -> Result<Option<Contradiction>, FinderFault> {
         for (place, candidate) in candidates.iter().enumerate() {
@@ -168,7 +172,7 @@ impl Search {
         alloc: Global,
         candidates: &[Candidate],
         found: Contradiction,
-    ) -> Result<Answer, FinderFault> {
+    ) -> Result<Weighing, FinderFault> {
         let mut weighted = Vec::new(alloc);
         for multiplier in &self.elimination.multipliers(alloc, found)? {
             let Some(candidate) = candidates.get(multiplier.equation as usize) else {
@@ -180,7 +184,7 @@ impl Search {
                 weight: multiplier.factor,
             })?;
         }
-        Ok(Answer {
+        Ok(Weighing {
             sum: found.constant,
             tuples: add_up(alloc, self.ring, weighted)?,
         })
@@ -189,9 +193,9 @@ impl Search {
 
 /// Puts the terms of a tuple into the list, and nothing else.
 fn expand(
-    problem: &Problem,
+    problem: &CommonTuples,
     candidate: Candidate,
-    terms: &mut Vec<Term>,
+    terms: &mut Vec<Unknown>,
 ) -> Result<(), FinderFault> {
     terms.clear();
     terms.push(key(candidate.class, candidate.tuple))?;
@@ -204,7 +208,11 @@ fn expand(
 
 /// Replaces each term with the least value at a place by those that it stands for. The terms have
 /// all places up to this one.
-fn expand_at(problem: &Problem, place: u8, terms: &mut Vec<Term>) -> Result<(), FinderFault> {
+fn expand_at(
+    problem: &CommonTuples,
+    place: u8,
+    terms: &mut Vec<Unknown>,
+) -> Result<(), FinderFault> {
     let least = problem.least()?;
     for at in 0..terms.len() {
         let Some(term) = terms.get(at).copied() else {
@@ -230,13 +238,13 @@ fn expand_at(problem: &Problem, place: u8, terms: &mut Vec<Term>) -> Result<(), 
 /// Adds the terms with each other value at a place, with the other sign.
 fn add_others(
     values: &[u64],
-    term: Term,
+    term: Unknown,
     rest: u64,
     behind: u8,
-    terms: &mut Vec<Term>,
+    terms: &mut Vec<Unknown>,
 ) -> Result<(), FinderFault> {
     for value in values.iter().skip(1) {
-        terms.push(Term {
+        terms.push(Unknown {
             class: term.class,
             tuple: with(rest, behind, *value),
             positive: !term.positive,

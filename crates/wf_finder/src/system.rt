@@ -11,8 +11,8 @@ use crate::digits::{behind, number_at, with};
 use crate::equations::Equations;
 use crate::fault::{FinderFault, judge_entries, judge_equations, number};
 use crate::listener::Listener;
-use crate::problem::Problem;
-use crate::weights::{Answer, Weighted, add_up};
+use crate::problem::CommonTuples;
+use crate::weights::{Weighing, Weighted, add_up};
 use std::alloc::Global;
 use wf_elimination::{Contradiction, Elimination, Multiplier, Ring};
 
@@ -46,10 +46,10 @@ struct System {
 /// contradict one another.
 pub(crate) fn solve<L: Listener>(
     alloc: Global,
-    problem: &Problem,
+    problem: &CommonTuples,
     ring: Ring,
     listener: &L,
-) -> Result<Option<Answer>, FinderFault> {
+) -> Result<Option<Weighing>, FinderFault> {
     let mut system = System::of(alloc, problem, ring)?;
     match system.run(problem, listener)? {
         Some(found) => Ok(Some(system.answer(alloc, problem, found)?)),
@@ -61,7 +61,7 @@ pub(crate) fn solve<L: Listener>(
 /// equations don't contradict one another modulo a prime.
 pub(crate) fn solution<L: Listener>(
     alloc: Global,
-    problem: &Problem,
+    problem: &CommonTuples,
     ring: Ring,
     listener: &L,
 ) -> Result<Option<Vec<u32>>, FinderFault> {
@@ -74,7 +74,7 @@ pub(crate) fn solution<L: Listener>(
 
 impl System {
     /// The unknowns of the system, and no equation.
-    fn of(alloc: Global, problem: &Problem, ring: Ring) -> Result<System, FinderFault> {
+    fn of(alloc: Global, problem: &CommonTuples, ring: Ring) -> Result<System, FinderFault> {
         let mut system = System {
             ring,
             minus: ring.negative(1),
@@ -88,7 +88,7 @@ impl System {
     }
 
     /// Adds an unknown for each tuple of each class.
-    fn add_unknowns(&mut self, problem: &Problem) -> Result<(), FinderFault> {
+    fn add_unknowns(&mut self, problem: &CommonTuples) -> Result<(), FinderFault> {
         for place in 0..problem.classes.count() {
             let class = problem.classes.class(number(place)?)?;
             self.add_unknowns_of(class)?;
@@ -107,7 +107,7 @@ impl System {
     /// Takes in the equations up to a contradiction, and tells the listener.
     fn run<L: Listener>(
         &mut self,
-        problem: &Problem,
+        problem: &CommonTuples,
         listener: &L,
     ) -> Result<Option<Contradiction>, FinderFault> {
         let modulus = self.ring.modulus();
@@ -120,7 +120,7 @@ impl System {
     /// Takes in the equations class by class, up to a contradiction.
     fn contradiction<L: Listener>(
         &mut self,
-        problem: &Problem,
+        problem: &CommonTuples,
         listener: &L,
     ) -> Result<Option<Contradiction>, FinderFault> {
         for place in 1..problem.classes.count() {
@@ -135,7 +135,7 @@ impl System {
     /// Takes in the equations of a class.
     fn take_in_class<L: Listener>(
         &mut self,
-        problem: &Problem,
+        problem: &CommonTuples,
         number: u32,
         listener: &L,
     ) -> Result<Option<Contradiction>, FinderFault> {
@@ -204,15 +204,15 @@ impl System {
     fn answer(
         &self,
         alloc: Global,
-        problem: &Problem,
+        problem: &CommonTuples,
         found: Contradiction,
-    ) -> Result<Answer, FinderFault> {
+    ) -> Result<Weighing, FinderFault> {
         let mut weighted = Vec::new(alloc);
         for multiplier in &self.elimination.multipliers(alloc, found)? {
             self.add_weights(problem, *multiplier, &mut weighted)?;
             judge_entries(weighted.len() as u64)?;
         }
-        Ok(Answer {
+        Ok(Weighing {
             sum: self.ring.negative(found.constant),
             tuples: add_up(alloc, self.ring, weighted)?,
         })
@@ -221,7 +221,7 @@ impl System {
     /// Adds the weights of so many times an equation.
     fn add_weights(
         &self,
-        problem: &Problem,
+        problem: &CommonTuples,
         multiplier: Multiplier,
         weighted: &mut Vec<Weighted>,
     ) -> Result<(), FinderFault> {

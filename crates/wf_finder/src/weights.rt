@@ -14,7 +14,7 @@ pub(crate) struct Weighted {
 
 /// Weighted tuples, and the sum that their terms leave on the empty face.
 #[derive(Drop)]
-pub(crate) struct Answer {
+pub(crate) struct Weighing {
     pub(crate) sum: u32,
     pub(crate) tuples: Vec<Weighted>,
 }
@@ -54,16 +54,16 @@ fn is_same(one: Weighted, next: Option<&Weighted>) -> bool {
     }
 }
 
-impl Answer {
+impl Weighing {
     /// The answer multiplied so that its sum is a power of the prime.
-    pub(crate) fn scaled(self, ring: Ring) -> Answer {
-        let Answer { sum, mut tuples } = self;
+    pub(crate) fn scaled(self, ring: Ring) -> Weighing {
+        let Weighing { sum, mut tuples } = self;
         let part = ring.part(sum);
         let times = ring.inverse(sum / part);
         for one in tuples.iter_mut() {
             one.weight = ring.product(one.weight, times);
         }
-        Answer {
+        Weighing {
             sum: ring.product(sum, times),
             tuples,
         }

@@ -12,13 +12,13 @@ use Rattle.wf_model.specs.Problem.{Problem, IsSolution, IsWellFormed, problem_of
 use Rattle.wf_model.specs.Box.{Box, LiesIn, root, candidates}
 use Rattle.wf_model.specs.Closing.{canonical}
 use Rattle.wf_model.specs.Laws.{LiesAt, LiesInExactlyOne}
-use Rattle.wf_model.proofs.Bridge.{weaker, listed_solves, solution_decides}
+use Rattle.wf_model.proofs.MapsAreSolutions.{weaker, listed_solves, solution_decides}
 use Rattle.wf_model.proofs.Headline.{each_flat, each_map, each_filter, both}
-use Rattle.wf_model.proofs.Sound.{has_value}
+use Rattle.wf_model.proofs.TreesAreSound.{has_value}
 use Rattle.wf_model.proofs.Numbers.{listed_by_number}
 use Rattle.wf_model.proofs.Order.{below_itself, below_one_way}
-use Rattle.wf_model.proofs.Least.{solution_in_root, answer_least, answer_none}
-use Rattle.wf_model.proofs.Covering.{in_order, in_exactly_one, split_covers, split_closed}
+use Rattle.wf_model.proofs.LeastSolutions.{solution_in_root, answer_least, answer_none}
+use Rattle.wf_model.proofs.OrderedCovers.{in_order, in_exactly_one, split_covers, split_closed}
 use Rattle.wf_model.proofs.WellFormed.{task_well_formed}
 use Rattle.wf_clauses.specs.Formula.{Assignment, Clause, satisfies, IsOn, IsModel, HasModel, IsUnsatisfiable, NamesItsVariables}
 use Rattle.wf_formula.specs.Encoding.{variable, formula_of, least_true, map_in, stating}
@@ -26,7 +26,7 @@ use Rattle.wf_formula.specs.Laws.{HasFullTuples}
 use Rattle.wf_formula.specs.Branches.{ruled_out, missing, exclusions, formula_in, branches, branch_at, branch_question}
 use Rattle.wf_formula.specs.BranchLaws.{IsSolutionIn, HasSolutionIn}
 use Rattle.wf_formula.proofs.Members.{In, each_in, each_from_in, in_left, in_right, in_map, in_flat, in_filter, in_has, in_below, each_below, has_each}
-use Rattle.wf_formula.proofs.Shrinking.{each_filtered}
+use Rattle.wf_formula.proofs.MinimalPatterns.{each_filtered}
 use Rattle.wf_formula.proofs.Variables.{variable_listed}
 use Rattle.wf_formula.proofs.Models.{gives_solution, value_true, value_there}
 use Rattle.wf_formula.proofs.Maps.{is_model, stated_alone, all_listed, root_candidates}

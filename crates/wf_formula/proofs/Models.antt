@@ -11,14 +11,14 @@ use Rattle.wf_model.specs.Box.{has_at}
 use Rattle.wf_model.specs.Problem.{Problem, Constraint, Participant, IsSolution, IsWellFormed, Satisfies, values_at}
 use Rattle.wf_model.specs.Check.{satisfies}
 use Rattle.wf_model.proofs.Basics.{length-below}
-use Rattle.wf_model.proofs.Bridge.{weaker}
-use Rattle.wf_model.proofs.Trying.{satisfies_says, satisfies_tests}
+use Rattle.wf_model.proofs.MapsAreSolutions.{weaker}
+use Rattle.wf_model.proofs.SolutionTests.{satisfies_says, satisfies_tests}
 use Rattle.wf_clauses.specs.Formula.{Assignment, Clause, holds, pos, IsModel}
 use Rattle.wf_formula.specs.Patterns.{Entry, Pattern, has_entry, fits, is_forbidden, one_less, is_minimal, patterns, minimal_patterns}
 use Rattle.wf_formula.specs.Encoding.{variable, at_least_one, point_at, denied, clauses_of, formula_of, least_true, map_in}
 use Rattle.wf_formula.specs.Laws.{HasFullTuples}
 use Rattle.wf_formula.proofs.Members.{In, each_in, in_left, in_right, in_map, in_flat, in_filter, in_below, Part, part_itself}
-use Rattle.wf_formula.proofs.Shrinking.{places, less_each, less_part, shrunk, is_pattern}
+use Rattle.wf_formula.proofs.MinimalPatterns.{places, less_each, less_part, shrunk, is_pattern}
 
 pub any_map : {X Y : Type 0} (test : Y → Bool) (f : X → Y) (xs : List X) → list_any test (map f xs) ≡ list_any (λ x. test (f x)) xs
 any_map test f [] = refl

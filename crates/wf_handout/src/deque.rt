@@ -83,11 +83,11 @@ impl Model for Owner {
 ///
 /// Contracts see which deque it is, what was dealt to it, and what was stolen.
 #[derive(Drop)]
-pub struct Raider {
+pub struct Thief {
     pass: Pass<u32, Pile>,
 }
 
-impl Model for Raider {
+impl Model for Thief {
     ghost Value = { Part };
 
     ghost view = { λ r.
@@ -101,11 +101,11 @@ impl Model for Raider {
 ///
 /// Contracts see which deque it is.
 #[derive(Drop)]
-pub struct Door {
+pub struct StealingEnd {
     stealer: Stealer<u32, Global, Pile, Balanced>,
 }
 
-impl Model for Door {
+impl Model for StealingEnd {
     ghost Value = { DequeId };
 
     ghost view = { λ d. stealer_deque d.stealer };
@@ -119,7 +119,7 @@ pub fn deal(
     branches: u32,
     workers: u32,
     worker: u32,
-) -> Result<(Owner, Door, Raider), AllocError>
+) -> Result<(Owner, StealingEnd, Thief), AllocError>
     requires { worker < workers }
     ensures dealt { IfOk result (λ d. IsDealt branches workers worker d.0.dealt) }
     ensures taken { IfOk result (λ d. d.0.taken ≡ []) }
@@ -128,7 +128,7 @@ pub fn deal(
     let mut deque = deal_to(alloc, branches, workers, worker)?;
     let stealer = deque.stealer()?;
     let pass = deque.another::<Roles>();
-    Ok((Owner { deque }, Door { stealer }, Raider { pass }))
+    Ok((Owner { deque }, StealingEnd { stealer }, Thief { pass }))
 }
 
 /// It is made with room for all of its branches.
@@ -180,9 +180,9 @@ impl Owner {
     }
 }
 
-impl Door {
+impl StealingEnd {
     /// One try at the next branch of this deque.
-    pub fn steal(&self, raider: &mut Raider) -> Option<u32>
+    pub fn steal(&self, raider: &mut Thief) -> Option<u32>
         requires { raider.old.deque ≡ self.now }
         ensures { Gives result raider.old raider.new }
     {
@@ -191,13 +191,13 @@ impl Door {
 }
 
 /// Brings the two views of a deque together, and pops what is left in it.
-pub fn settle(left: &mut Vec<u32>, owner: Owner, raider: Raider) -> Result<(), AllocError>
+pub fn settle(left: &mut Vec<u32>, owner: Owner, raider: Thief) -> Result<(), AllocError>
     requires { raider.deque ≡ owner.deque }
     ensures whole { OnOk result (IsSettled owner raider left.old.items left.new.items) }
     ensures short { OnErr result (HasLeft owner raider) }
 {
     let Owner { mut deque } = owner;
-    let Raider { pass } = raider;
+    let Thief { pass } = raider;
     deque.absorb::<Roles>(pass);
     while let Some(branch) = pop_front(&mut deque) {
         left.push(branch)?;

@@ -13,6 +13,10 @@ pub record Gave (old new : Reading) (bytes : List ℕ) (failed : ℕ) : Type 0 w
   pub taken : new.taken ≡ old.taken + length bytes
   pub failures : new.failures ≡ old.failures + failed
 
+-- the source gave these bytes, and none of its calls failed
+abbrev pub GaveAll : Reading → Reading → List ℕ → Type 0
+GaveAll old new bytes = Gave old new bytes 0
+
 -- the sink took these bytes, and this many of its calls failed
 pub record Took (old new : Writing) (bytes : List ℕ) (failed : ℕ) : Type 0 where
   pub bytes_are : Appends old.held new.held bytes

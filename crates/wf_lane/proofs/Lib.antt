@@ -1,14 +1,14 @@
 pub mod WordLemmas
 pub mod OrLemmas
 pub mod Values
-pub mod Building
+pub mod RowWords
 pub mod SupportLaws
 pub mod BoxLaws
-pub mod Revising
+pub mod RevisedRows
 pub mod RowLemmas
 pub mod BlockLemmas
 pub mod ColumnLemmas
 pub mod WideLaws
 pub mod FewLemmas
-pub mod Joining
+pub mod JoinedValues
 pub mod Lemmas

@@ -12,7 +12,7 @@ use Rattle.wf_model.specs.Box.{has_at, is_alive, is_supported}
 use Rattle.wf_set.specs.Sets.{values_in}
 use Rattle.wf_lane.specs.Table.{AreNarrow, HasSupported, Table, sets_of}
 use Rattle.wf_lane.specs.Wide.{AreKept, AreSupported, HaveMore, is_below, lives}
-use Rattle.wf_lane.proofs.Revising.{both_ways, nothing_in}
+use Rattle.wf_lane.proofs.RevisedRows.{both_ways, nothing_in}
 
 -- ---- which table is narrow
 

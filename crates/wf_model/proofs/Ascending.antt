@@ -5,7 +5,7 @@ use Rattle.std.specs.Ordering.{nat_cmp}
 use Rattle.std.proofs.lemmas.Bool.{cases_Bool, and_from, and_parts, or_left, or_right, or_cases, lt-ltb, ltb-false, false≢true}
 use Rattle.wf_model.specs.Lists.{has, with_element, in_order}
 use Rattle.wf_model.specs.Simplex.{is_ascending}
-use Rattle.wf_model.proofs.Bridge.{weaker}
+use Rattle.wf_model.proofs.MapsAreSolutions.{weaker}
 use Rattle.wf_model.proofs.Headline.{each_filter}
 
 -- each number is below all later ones

@@ -12,18 +12,18 @@ use Rattle.wf_model.specs.Refutation.{Line, remove, empty, branch, found, Tree, 
 use Rattle.wf_model.specs.LeastTree.{BranchesFirst, BranchesFirstEach, exactly, IsLeastTree, LeastAmong}
 use Rattle.wf_model.specs.Check.{Refusal, Verdict, fault, left, verdict, is_point, first_only, least_verdict, after_verdict, is_exactly, first_trailing, found_at, first_least_fault}
 use Rattle.wf_model.specs.Laws.{IsBoxOf}
-use Rattle.wf_model.proofs.Bridge.{weaker}
+use Rattle.wf_model.proofs.MapsAreSolutions.{weaker}
 use Rattle.wf_model.proofs.Headline.{each_append}
-use Rattle.wf_model.proofs.Sound.{point_within}
-use Rattle.wf_model.proofs.Fuel.{open_point}
+use Rattle.wf_model.proofs.TreesAreSound.{point_within}
+use Rattle.wf_model.proofs.CanonicalSteps.{open_point}
 use Rattle.wf_model.proofs.Ascending.{Ascends, ascends_from, ascends_filter}
-use Rattle.wf_model.proofs.Kept.{Ascending, candidates_ascend, ascending_after}
-use Rattle.wf_model.proofs.Closed.{each_with_value}
-use Rattle.wf_model.proofs.Checked.{Fitting, Follows, passed, goes_on, fitting_branches}
-use Rattle.wf_model.proofs.Accepting.{passes}
-use Rattle.wf_model.proofs.Least.{each_decided}
+use Rattle.wf_model.proofs.ClosingKeeps.{Ascending, candidates_ascend, ascending_after}
+use Rattle.wf_model.proofs.ClosedBoxes.{each_with_value}
+use Rattle.wf_model.proofs.FaultlessLines.{Fitting, Follows, passed, goes_on, fitting_branches}
+use Rattle.wf_model.proofs.RefutingLines.{passes}
+use Rattle.wf_model.proofs.LeastSolutions.{each_decided}
 use Rattle.wf_model.proofs.LeastTrees.{lies_by_tree}
-use Rattle.wf_model.proofs.Leading.{decided_value, among_has}
+use Rattle.wf_model.proofs.LinesToMaps.{decided_value, among_has}
 
 -- ---- what the checker's tests say
 

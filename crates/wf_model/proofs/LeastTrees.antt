@@ -13,16 +13,16 @@ use Rattle.wf_model.specs.Box.{Box, LiesIn, root, candidates, without, decided, 
 use Rattle.wf_model.specs.Refutation.{Tree, emptied, removed, branched, ended, Trees, no_trees, tree}
 use Rattle.wf_model.specs.LeastTree.{IsLeastTree, LeastAmong, exactly}
 use Rattle.wf_model.specs.Laws.{IsLeastIn}
-use Rattle.wf_model.proofs.Bridge.{weaker, by_number}
-use Rattle.wf_model.proofs.Sound.{none_refutes, lies_in_branch, lies_without, named, kept, value_at_point}
-use Rattle.wf_model.proofs.Fuel.{open_point}
-use Rattle.wf_model.proofs.Stable.{each_has}
+use Rattle.wf_model.proofs.MapsAreSolutions.{weaker, by_number}
+use Rattle.wf_model.proofs.TreesAreSound.{none_refutes, lies_in_branch, lies_without, named, kept, value_at_point}
+use Rattle.wf_model.proofs.CanonicalSteps.{open_point}
+use Rattle.wf_model.proofs.LastSweep.{each_has}
 use Rattle.wf_model.proofs.Ascending.{Ascends, ascends_from, ascends_filter}
 use Rattle.wf_model.proofs.WellFormed.{task_well_formed}
 use Rattle.wf_model.proofs.Order.{only, branch_before, in_whole}
-use Rattle.wf_model.proofs.Kept.{Ascending, candidates_ascend, ascending_after, lies_with}
-use Rattle.wf_model.proofs.Closed.{each_with_value}
-use Rattle.wf_model.proofs.Least.{root_is_box, least_in_root}
+use Rattle.wf_model.proofs.ClosingKeeps.{Ascending, candidates_ascend, ascending_after, lies_with}
+use Rattle.wf_model.proofs.ClosedBoxes.{each_with_value}
+use Rattle.wf_model.proofs.LeastSolutions.{root_is_box, least_in_root}
 
 -- ---- the map lies in the box
 

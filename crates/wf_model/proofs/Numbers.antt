@@ -10,7 +10,7 @@ use Rattle.wf_model.specs.Execution.{Execution, executions, last_views}
 use Rattle.wf_model.specs.Points.{class, classes, points, Appearance, appearances_in, first_appearances}
 use Rattle.wf_model.specs.DecisionMap.{IsLeast, listed}
 use Rattle.wf_model.specs.Problem.{number_of, problem_of, IsLeastSolution}
-use Rattle.wf_model.proofs.Bridge.{same_itself, same_is, weaker, by_number, listed_solves, solution_decides}
+use Rattle.wf_model.proofs.MapsAreSolutions.{same_itself, same_is, weaker, by_number, listed_solves, solution_decides}
 use Rattle.wf_model.proofs.Headline.{each_filter}
 
 -- ---- the points are different views

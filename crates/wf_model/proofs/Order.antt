@@ -9,7 +9,7 @@ use Rattle.std.proofs.lemmas.Iterator.Adapters.{position_from-zero}
 use Rattle.wf_model.specs.Lists.{has, IsBelow}
 use Rattle.wf_model.specs.Box.{Box, LiesIn, candidates, decided, branches_at, first_open}
 use Rattle.wf_model.proofs.Ascending.{Ascends}
-use Rattle.wf_model.proofs.Sound.{lies_in_branch}
+use Rattle.wf_model.proofs.TreesAreSound.{lies_in_branch}
 
 -- ---- below
 

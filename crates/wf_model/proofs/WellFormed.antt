@@ -14,9 +14,9 @@ use Rattle.wf_model.specs.Execution.{Execution, executions, executions_on, last_
 use Rattle.wf_model.specs.Points.{class, points}
 use Rattle.wf_model.specs.Problem.{Constraint, number_of, constraint_of, problem_of, IsWellFormed}
 use Rattle.wf_model.proofs.Tasks.{inputs_within}
-use Rattle.wf_model.proofs.Bridge.{weaker}
+use Rattle.wf_model.proofs.MapsAreSolutions.{weaker}
 use Rattle.wf_model.proofs.Headline.{each_flat, each_map, each_of_map, each_filter, both, always, problem_in_range}
-use Rattle.wf_model.proofs.Stable.{each_has}
+use Rattle.wf_model.proofs.LastSweep.{each_has}
 use Rattle.wf_model.proofs.Ascending.{in_order_ascends, has_in_order}
 
 -- ---- the values of tuples

@@ -14,18 +14,18 @@ use Rattle.wf_model.specs.LeastTree.{IsLeastTree}
 use Rattle.wf_model.specs.Closing.{canonical}
 use Rattle.wf_model.specs.Report.{Report, Body, a_map, none, least, report_about}
 use Rattle.wf_model.specs.Check.{Refusal, map_fault, first_least_fault, header_fault, unless_fault, body_fault, report_fault}
-use Rattle.wf_model.proofs.Bridge.{by_number, listed_solves, solution_decides}
+use Rattle.wf_model.proofs.MapsAreSolutions.{by_number, listed_solves, solution_decides}
 use Rattle.wf_model.proofs.Headline.{no_decision_map}
-use Rattle.wf_model.proofs.Checked.{root_accepted}
+use Rattle.wf_model.proofs.FaultlessLines.{root_accepted}
 use Rattle.wf_model.proofs.WellFormed.{task_listed, task_well_formed}
 use Rattle.wf_model.proofs.Numbers.{listed_by_number}
-use Rattle.wf_model.proofs.Trying.{faultless}
-use Rattle.wf_model.proofs.Least.{root_is_box, canonical_least}
+use Rattle.wf_model.proofs.SolutionTests.{faultless}
+use Rattle.wf_model.proofs.LeastSolutions.{root_is_box, canonical_least}
 use Rattle.wf_model.proofs.LeastTrees.{tree_least_map}
 use Rattle.wf_model.proofs.LeastChecked.{accepted_leads, leading_lines_accepted}
-use Rattle.wf_model.proofs.Leading.{canonical_leads}
-use Rattle.wf_model.proofs.Canonical.{canonical_none_refutes}
-use Rattle.wf_model.proofs.Accepting.{root_accepts}
+use Rattle.wf_model.proofs.LinesToMaps.{canonical_leads}
+use Rattle.wf_model.proofs.CanonicalRefutations.{canonical_none_refutes}
+use Rattle.wf_model.proofs.RefutingLines.{root_accepts}
 
 -- ---- without a fault
 

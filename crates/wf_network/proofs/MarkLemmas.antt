@@ -11,7 +11,7 @@ use Rattle.std.proofs.Math.Nat.{div-div-eq-div-mul, div-le_self}
 use Rattle.std.proofs.lemmas.Nat.Bits.{bit_at-trailing_zeros, bit_at-zero, bit_at_ones, bit_at_above, bit_at-lt, bit_at_or}
 use Rattle.std.proofs.lemmas.Nat.Bits.{bit_at_cat_high, bit_at_cat_low}
 use Rattle.wf_network.specs.Marks.{bit_of, IsHalf, IsLast, IsMore, IsNext, KeepsBitsBut, MarksOnlyWord, MarksWord, TopsTell}
-use Rattle.wf_network.specs.declared.users.UserWord.{UserWord}
+use Rattle.wf_network.specs.declared.users.MarkMask.{MarkMask}
 
 -- two bits in one word are told apart by their places
 pub other_place : (m n : ℕ) → m ≢ n → m / 64 ≡ n / 64 → m % 64 ≢ n % 64
@@ -34,7 +34,7 @@ bit_kept words bit word n within other same =
     ]
 
 -- the lower half of a word, and the upper one
-pub low_half : (w : UserWord) → w.word % 2 ≡ 0 → w.bits < 2 ^ 32 → IsHalf w w.bits
+pub low_half : (w : MarkMask) → w.word % 2 ≡ 0 → w.bits < 2 ^ 32 → IsHalf w w.bits
 low_half w even fits = record {
   has = λ e has. ap (bit_at w.bits) (let same : e % 64 ≡ e % 32 = omega (arith, even, has.0) in same) ∙ has.1;
   only = λ e here set. elim (cases_lt (e % 64) 32) [
@@ -43,7 +43,7 @@ low_half w even fits = record {
   ];
 }
 
-pub high_half : (w : UserWord) → w.word % 2 ≡ 1 → IsHalf w (w.bits * 2 ^ 32 + 0)
+pub high_half : (w : MarkMask) → w.word % 2 ≡ 1 → IsHalf w (w.bits * 2 ^ 32 + 0)
 high_half w odd = record {
   has = λ e has.
       let high : 32 ≤ e % 64 = omega (arith, odd, has.0) in
@@ -55,14 +55,14 @@ high_half w odd = record {
 }
 
 -- the bits of one half more
-pub bits_marked : (words : List ℕ) (old half : ℕ) (w : UserWord) → IsHalf w half → w.word < 2 * length words → MarksWord (slice_set words (w.word / 2) (bit_or old half)) w
+pub bits_marked : (words : List ℕ) (old half : ℕ) (w : MarkMask) → IsHalf w half → w.word < 2 * length words → MarksWord (slice_set words (w.word / 2) (bit_or old half)) w
 bits_marked words old half w is within e has =
     let here : e / 64 ≡ w.word / 2 = omega (arith, has.0) in
     ap (λ i. bit_at (slice_index (slice_set words (w.word / 2) (bit_or old half)) i) (e % 64)) here
     ∙ ap (λ x. bit_at x (e % 64)) (get_or-set_same words (w.word / 2) (bit_or old half) 0 (omega (arith, within)))
     ∙ omega (arith, bit_at_or old half (e % 64), is.has e has, bit_at-lt old (e % 64))
 
-pub bits_more : (words : List ℕ) (old half : ℕ) (w : UserWord) → w.word < 2 * length words → old ≡ slice_index words (w.word / 2) → IsMore words (slice_set words (w.word / 2) (bit_or old half))
+pub bits_more : (words : List ℕ) (old half : ℕ) (w : MarkMask) → w.word < 2 * length words → old ≡ slice_index words (w.word / 2) → IsMore words (slice_set words (w.word / 2) (bit_or old half))
 bits_more words old half w within is n none = elim (cases_eq (n / 64) (w.word / 2)) [
   | inl here ↦
       let now = ap (λ i. bit_at (slice_index (slice_set words (w.word / 2) (bit_or old half)) i) (n % 64)) here ∙ ap (λ x. bit_at x (n % 64)) (get_or-set_same words (w.word / 2) (bit_or old half) 0 (omega (arith, within))) in
@@ -71,7 +71,7 @@ bits_more words old half w within is n none = elim (cases_eq (n / 64) (w.word / 
   | inr other ↦ sym (ap (λ x. bit_at x (n % 64)) (get_or-set_other words (w.word / 2) (n / 64) (bit_or old half) 0 other)) ∙ none
 ]
 
-pub bits_only : (words : List ℕ) (old half : ℕ) (w : UserWord) → IsHalf w half → w.word < 2 * length words → old ≡ slice_index words (w.word / 2) → MarksOnlyWord words w (slice_set words (w.word / 2) (bit_or old half))
+pub bits_only : (words : List ℕ) (old half : ℕ) (w : MarkMask) → IsHalf w half → w.word < 2 * length words → old ≡ slice_index words (w.word / 2) → MarksOnlyWord words w (slice_set words (w.word / 2) (bit_or old half))
 bits_only words old half w half_is within is e set = elim (cases_eq (e / 64) (w.word / 2)) [
   | inl here ↦
       let now = ap (λ i. bit_at (slice_index (slice_set words (w.word / 2) (bit_or old half)) i) (e % 64)) here ∙ ap (λ x. bit_at x (e % 64)) (get_or-set_same words (w.word / 2) (bit_or old half) 0 (omega (arith, within))) in

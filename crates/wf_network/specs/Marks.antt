@@ -2,7 +2,7 @@
 use Rattle.std.specs.Prelude.{◌≡◌, ◌≢◌, ◌<◌, ◌≤◌, ◌⊎◌, ◌*◌, ◌/◌, ◌%◌, ℕ, List, length, get_or, slice_index}
 use Rattle.std.specs.Int.{bit_at}
 use Rattle.wf_network.specs.Users.{HasBit, IsIn, no_word}
-use Rattle.wf_network.specs.declared.users.UserWord.{UserWord}
+use Rattle.wf_network.specs.declared.users.MarkMask.{MarkMask}
 
 -- a bit of some words
 abbrev pub bit_of : List ℕ → ℕ → ℕ
@@ -28,24 +28,24 @@ abbrev pub IsLastHere : List ℕ → ℕ → Type 0
 IsLastHere words from = (m : ℕ) → from ≤ m → m / 64 ≡ from / 64 → bit_of words m ≡ 0
 
 -- the bits of half a word, at their places in a whole one
-pub record IsHalf (w : UserWord) (half : ℕ) : Type 0 where
+pub record IsHalf (w : MarkMask) (half : ℕ) : Type 0 where
   pub has : (e : ℕ) → HasBit w e → bit_at half (e % 64) ≡ 1
   pub only : (e : ℕ) → e / 64 ≡ w.word / 2 → bit_at half (e % 64) ≡ 1 → HasBit w e
 
 -- each execution of a word is marked
-abbrev pub MarksWord : List ℕ → UserWord → Type 0
+abbrev pub MarksWord : List ℕ → MarkMask → Type 0
 MarksWord words w = (e : ℕ) → HasBit w e → bit_of words e ≡ 1
 
 -- so is each of these words
-abbrev pub MarksEach : List ℕ → List UserWord → Type 0
+abbrev pub MarksEach : List ℕ → List MarkMask → Type 0
 MarksEach words ws = (k : ℕ) → k < length ws → MarksWord words (get_or ws k no_word)
 
 -- a bit that is set was set before, or is that of an execution of the word
-abbrev pub MarksOnlyWord : List ℕ → UserWord → List ℕ → Type 0
+abbrev pub MarksOnlyWord : List ℕ → MarkMask → List ℕ → Type 0
 MarksOnlyWord old w new = (e : ℕ) → bit_of new e ≡ 1 → (bit_of old e ≡ 1) ⊎ HasBit w e
 
 -- or of one of these words
-abbrev pub MarksOnly : List ℕ → List UserWord → List ℕ → Type 0
+abbrev pub MarksOnly : List ℕ → List MarkMask → List ℕ → Type 0
 MarksOnly old ws new = (e : ℕ) → bit_of new e ≡ 1 → (bit_of old e ≡ 1) ⊎ IsIn 0 (length ws) ws e
 
 -- each bit below this one is set

@@ -27,5 +27,5 @@ pub use revising::{
     candidates_at, in_nibbles, in_word, narrowed, supported_narrow, supported_nibbles,
     supported_sets, supported_word, unpacked, unpacked_nibbles,
 };
-pub use users::{UserWord, Users};
+pub use users::{MarkMask, Users};
 pub use wf_complex::PackedExecution;

@@ -5,7 +5,7 @@ ghost use Rattle.wf_model.specs.Limits.{most_executions};
 ghost use Rattle.wf_network.specs.Limits.{most_words};
 ghost use Rattle.wf_network.specs.Marks.{AreSetBelow, HasRoom, IsHalf, IsLast, IsLastHere, IsMore, IsNext, KeepsBitsBut, KeepsWordsBut, MarksEach, MarksOnly, MarksOnlyWord, MarksWord, TopsTell, bit_of};
 
-use crate::users::UserWord;
+use crate::users::MarkMask;
 use std::alloc::{AllocError, Global};
 
 /// What lifts the bits of half a word into its upper half.
@@ -57,7 +57,7 @@ impl Marks {
     }
 
     /// Marks the executions of these words, and no other.
-    pub fn mark_each(&mut self, words: &[UserWord])
+    pub fn mark_each(&mut self, words: &[MarkMask])
         requires { All (λ w. w.word < 2 * length self.old.words.items) words.now }
         ensures marked { MarksEach self.new.words.items words.now }
         ensures only { MarksOnly self.old.words.items words.now self.new.words.items }
@@ -70,7 +70,7 @@ impl Marks {
     }
 
     /// Marks the executions of a word.
-    fn mark(&mut self, users: UserWord)
+    fn mark(&mut self, users: MarkMask)
         requires { users.word < 2 * length self.old.words.items }
         ensures marked { MarksWord self.new.words.items users }
         ensures only { MarksOnlyWord self.old.words.items users self.new.words.items }
@@ -195,7 +195,7 @@ fn add_bit(words: &mut Vec<u64>, bit: usize)
 }
 
 /// Sets the bits of these executions.
-fn add_users(words: &mut Vec<u64>, users: UserWord)
+fn add_users(words: &mut Vec<u64>, users: MarkMask)
     requires { users.word < 2 * length words.old.items }
     ensures marked { MarksWord words.new.items users }
     ensures only { MarksOnlyWord words.old.items users words.new.items }
@@ -208,7 +208,7 @@ fn add_users(words: &mut Vec<u64>, users: UserWord)
 
 /// The bits of these executions, in the lower or the upper half of the word of marks that they
 /// share with 32 others.
-fn half_of(users: UserWord) -> u64
+fn half_of(users: MarkMask) -> u64
     ensures { IsHalf users result }
 {
     let bits = u64::from(users.bits);

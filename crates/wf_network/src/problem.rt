@@ -13,7 +13,7 @@ ghost use Rattle.wf_network.specs.Problems.{AreAlike, HasTable, IsNetwork, IsRul
 ghost use Rattle.wf_network.specs.Users.{AreWordsBelow, users_of};
 
 use crate::leads::leads;
-use crate::users::{UserWord, Users};
+use crate::users::{MarkMask, Users};
 use std::alloc::{AllocError, Global};
 use std::marker::Model;
 use std::sync::Arc;
@@ -132,7 +132,7 @@ impl Network {
 
     /// The executions in which a point stands. It takes no memory.
     #[inline]
-    pub fn users_of(&self, point: u32) -> &[UserWord]
+    pub fn users_of(&self, point: u32) -> &[MarkMask]
         requires network { IsNetwork self.now }
         requires point { point < self.now.points }
         ensures users { result.now ≡ users_of self.now.users point }

@@ -18,7 +18,7 @@ pub(crate) struct Term {
 
 /// A place of a tuple: the label of its vertex, and its value.
 #[derive(Clone, Copy, Debug)]
-pub(crate) struct Place {
+pub(crate) struct LabelledValue {
     /// The label.
     pub label: u64,
     /// The value.
@@ -26,7 +26,7 @@ pub(crate) struct Place {
 }
 
 /// The term with one place more, in front of the others.
-pub(crate) fn placed(place: Place, term: &Term) -> Term
+pub(crate) fn placed(place: LabelledValue, term: &Term) -> Term
     requires label { place.label < 65535 }
     requires labels { term.now.labels < 2 ^ 48 }
     requires values { term.now.values < 2 ^ 24 }
@@ -40,7 +40,7 @@ pub(crate) fn placed(place: Place, term: &Term) -> Term
 }
 
 /// The term with one place more, and the opposite weight.
-pub(crate) fn opposed(modulus: u32, place: Place, term: &Term) -> Term
+pub(crate) fn opposed(modulus: u32, place: LabelledValue, term: &Term) -> Term
     requires label { place.label < 65535 }
     requires roomy { IsRoomy modulus term.now }
     ensures { result ≡ opposed modulus place.label place.value term.now }

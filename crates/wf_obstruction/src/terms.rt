@@ -7,7 +7,7 @@ ghost use Rattle.wf_obstruction.specs.Terms.{IsRoomy, opposed, placed, seen};
 
 use crate::base::Base;
 use crate::labels::label_at;
-use crate::term::{Place, Term, opposed, placed};
+use crate::term::{LabelledValue, Term, opposed, placed};
 use std::alloc::AllocError;
 use wf_set::split_first;
 use wf_simplex::Simplex;
@@ -38,7 +38,7 @@ pub(crate) fn put_terms(
     'places: for at in (0..values.size()).rev() {
         let label = label_at(base.symmetric, simplex, at);
         let value = values.value(at);
-        put_place(base, Place { label, value }, start, found)?;
+        put_place(base, LabelledValue { label, value }, start, found)?;
     }
     Ok(())
 }
@@ -47,7 +47,7 @@ pub(crate) fn put_terms(
 /// stay as they are, and behind them come their opposites with each other value there.
 fn put_place(
     base: &Base,
-    place: Place,
+    place: LabelledValue,
     start: usize,
     found: &mut Vec<Term>,
 ) -> Result<(), AllocError>
@@ -68,14 +68,20 @@ fn put_place(
     let mut left = base.others;
     'others: while let Some(next) = split_first(left) {
         let (value, rest) = next;
-        put_opposed(base.modulus, Place { label, value }, start, end, found)?;
+        put_opposed(
+            base.modulus,
+            LabelledValue { label, value },
+            start,
+            end,
+            found,
+        )?;
         left = rest;
     }
     Ok(())
 }
 
 /// Gives the terms from a number on one place more.
-fn set_place(place: Place, start: usize, found: &mut Vec<Term>)
+fn set_place(place: LabelledValue, start: usize, found: &mut Vec<Term>)
     requires label { place.label < 65535 }
     requires start { start ≤ length found.old.items }
     requires labels { All (λ term. term.labels < 2 ^ 48) (drop start found.old.items) }
@@ -92,7 +98,7 @@ fn set_place(place: Place, start: usize, found: &mut Vec<Term>)
 /// Puts the opposites of the terms between two numbers, with one place more, behind the others.
 fn put_opposed(
     modulus: u32,
-    place: Place,
+    place: LabelledValue,
     start: usize,
     end: usize,
     found: &mut Vec<Term>,

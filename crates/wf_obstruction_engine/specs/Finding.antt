@@ -12,8 +12,8 @@ use Rattle.wf_engine.specs.declared.fault.RunFault.TheVariants as run
 use Rattle.wf_obstruction_engine.specs.declared.finding.Finding.{Finding}
 use Rattle.wf_obstruction_engine.specs.declared.finding.Finding.TheVariants.{Found, NotFound, GaveUp}
 use Rattle.wf_obstruction_engine.specs.declared.finding.GaveUp as gave_up
-use Rattle.wf_obstruction_engine.specs.declared.finding.Limit.{Limit}
-use Rattle.wf_obstruction_engine.specs.declared.finding.Limit.TheVariants as limit
+use Rattle.wf_obstruction_engine.specs.declared.finding.SearchLimit.{SearchLimit}
+use Rattle.wf_obstruction_engine.specs.declared.finding.SearchLimit.TheVariants as limit
 use Rattle.wf_obstruction_engine.specs.declared.finding.Tried.{Tried}
 use Rattle.wf_obstruction_engine.specs.declared.finding.Tried.TheVariants as tried
 
@@ -78,7 +78,7 @@ tried_text (tried.Only modulus) = codes "no obstruction modulo " ++ decimal modu
 tried_text tried.Each = codes "no obstruction modulo 2, 3, 4, 5, 7, 8, 9, 2147483647"
 tried_text tried.AllNumbers = codes "no obstruction for any modulus"
 
-abbrev pub limit_text : Limit → List ℕ
+abbrev pub limit_text : SearchLimit → List ℕ
 limit_text (limit.Unknowns count) = decimal count ++ codes " unknowns"
 limit_text (limit.Equations count) = decimal count ++ codes " equations"
 limit_text (limit.Entries count) = decimal count ++ codes " entries"

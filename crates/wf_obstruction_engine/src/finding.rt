@@ -34,12 +34,12 @@ pub struct GaveUp {
     /// The modulus.
     pub modulus: u32,
     /// The limit.
-    pub limit: Limit,
+    pub limit: SearchLimit,
 }
 
 /// A limit of the search for an obstruction.
 #[derive(Clone, Copy, Debug, PartialEq, Eq)]
-pub enum Limit {
+pub enum SearchLimit {
     /// The system has too many unknowns: so many.
     Unknowns(u64),
     /// It has too many equations: so many at least.
@@ -77,18 +77,18 @@ impl fmt::Display for GaveUp {
     }
 }
 
-impl fmt::Display for Limit {
+impl fmt::Display for SearchLimit {
     ghost output = { λ limit. Some (limit_text limit) };
 
     fn fmt<W: fmt::Write>(&self, f: &mut fmt::Formatter<W>) -> fmt::Result {
         match *self {
-            Limit::Unknowns(count) => write!(f, "{count} unknowns"),
-            Limit::Equations(count) => write!(f, "{count} equations"),
-            Limit::Entries(count) => write!(f, "{count} entries"),
-            Limit::Steps(count) => write!(f, "{count} steps"),
-            Limit::Terms => write!(f, "more terms than verify adds up"),
-            Limit::Length => write!(f, "a longer text than verify reads"),
-            Limit::Internal => write!(f, "an internal error"),
+            SearchLimit::Unknowns(count) => write!(f, "{count} unknowns"),
+            SearchLimit::Equations(count) => write!(f, "{count} equations"),
+            SearchLimit::Entries(count) => write!(f, "{count} entries"),
+            SearchLimit::Steps(count) => write!(f, "{count} steps"),
+            SearchLimit::Terms => write!(f, "more terms than verify adds up"),
+            SearchLimit::Length => write!(f, "a longer text than verify reads"),
+            SearchLimit::Internal => write!(f, "an internal error"),
         }
     }
 }

@@ -3,7 +3,7 @@
 //! - [`run_obstruction`]: reads a task, looks for an obstruction, and writes it.
 //! - [`Finding`]: what the search came to.
 //! - [`Tried`]: the moduli without an obstruction.
-//! - [`GaveUp`], [`Limit`]: where and why the search stopped before its end.
+//! - [`GaveUp`], [`SearchLimit`]: where and why the search stopped before its end.
 //! - [`MODULI`]: the moduli that are tried if none is asked for.
 //! - [`found_obstructions_are_true`], [`seeking_is_counted`]: laws.
 //!
@@ -16,7 +16,7 @@ mod laws;
 mod run;
 mod search;
 
-pub use finding::{Finding, GaveUp, Limit, Tried};
+pub use finding::{Finding, GaveUp, SearchLimit, Tried};
 pub use laws::{found_obstructions_are_true, seeking_is_counted};
 pub use run::run_obstruction;
 pub use search::MODULI;

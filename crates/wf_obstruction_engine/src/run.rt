@@ -5,7 +5,7 @@ ghost use Rattle.wf_io.specs.Ends.{CanCount, CanRead};
 ghost use Rattle.wf_engine.specs.Run.{answered};
 ghost use Rattle.wf_obstruction_engine.specs.Finding.{Answers, FindsObstruction, IsAnswer, IsWritten, SeeksIn, is_tried};
 
-use crate::finding::{Finding, GaveUp, Limit};
+use crate::finding::{Finding, GaveUp, SearchLimit};
 use crate::search::{MODULI, Sought, Stopped, seek};
 use std::alloc::Global;
 use std::io::{Read, Write};
@@ -122,11 +122,11 @@ fn is_tried(asked: Option<u32>, modulus: u32) -> bool
 }
 
 /// The limit that keeps a text from being accepted; none if memory ran out.
-fn limit_of(fault: RunFault) -> Option<Limit> {
+fn limit_of(fault: RunFault) -> Option<SearchLimit> {
     match fault {
         RunFault::OutOfMemory => None,
-        RunFault::TooLong => Some(Limit::Length),
-        RunFault::Obstruction(ObstructionFault::TooManyTerms) => Some(Limit::Terms),
-        _ => Some(Limit::Internal),
+        RunFault::TooLong => Some(SearchLimit::Length),
+        RunFault::Obstruction(ObstructionFault::TooManyTerms) => Some(SearchLimit::Terms),
+        _ => Some(SearchLimit::Internal),
     }
 }

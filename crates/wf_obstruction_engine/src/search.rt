@@ -1,8 +1,10 @@
 //! The search for an obstruction: which moduli are tried.
 
-use crate::finding::{GaveUp, Limit, Tried};
+use crate::finding::{GaveUp, SearchLimit, Tried};
 use std::alloc::Global;
-use wf_finder::{FinderFault, Found, Listener, Problem, find_obstruction, has_integer_solution};
+use wf_finder::{
+    CommonTuples, FinderFault, FoundObstruction, Listener, find_obstruction, has_integer_solution,
+};
 use wf_obstruction::ObstructionFault;
 use wf_obstruction_text::Obstruction;
 use wf_task::Task;
@@ -14,7 +16,7 @@ pub const MODULI: [u32; 8] = [2, 3, 4, 5, 7, 8, 9, 2_147_483_647];
 #[derive(Drop)]
 pub(crate) enum Sought {
     /// It found this.
-    Found(Obstruction),
+    FoundObstruction(Obstruction),
     /// It found none modulo these numbers.
     NotFound(Tried),
 }
@@ -36,11 +38,11 @@ pub(crate) fn seek<L: Listener>(
     modulus: Option<u32>,
     listener: &L,
 ) -> Result<Sought, Stopped> {
-    let problem = match Problem::of(alloc, task) {
+    let problem = match CommonTuples::of(alloc, task) {
         Ok(problem) => problem,
         Err(fault) => return Err(why_stopped(modulus.unwrap_or(MODULI[0]), fault)),
     };
-    let search = Search {
+    let search = ObstructionSearch {
         alloc,
         task,
         problem: &problem,
@@ -54,18 +56,18 @@ pub(crate) fn seek<L: Listener>(
 
 /// A search for an obstruction of a task.
 #[derive(Drop)]
-struct Search<'a, L> {
+struct ObstructionSearch<'a, L> {
     alloc: Global,
     task: &'a Task,
-    problem: &'a Problem,
+    problem: &'a CommonTuples,
     listener: &'a L,
 }
 
-impl<L: Listener> Search<'_, L> {
+impl<L: Listener> ObstructionSearch<'_, L> {
     /// Looks for one modulo this number.
     fn only(&self, modulus: u32) -> Result<Sought, Stopped> {
         match self.modulo(modulus)? {
-            Some(found) => Ok(Sought::Found(found)),
+            Some(found) => Ok(Sought::FoundObstruction(found)),
             None => Ok(Sought::NotFound(Tried::Only(modulus))),
         }
     }
@@ -75,7 +77,7 @@ impl<L: Listener> Search<'_, L> {
     fn each(&self) -> Result<Sought, Stopped> {
         for (place, modulus) in MODULI.iter().enumerate() {
             if let Some(found) = self.modulo(*modulus)? {
-                return Ok(Sought::Found(found));
+                return Ok(Sought::FoundObstruction(found));
             }
             if place == 0 && self.has_none()? {
                 return Ok(Sought::NotFound(Tried::AllNumbers));
@@ -105,8 +107,8 @@ impl<L: Listener> Search<'_, L> {
 }
 
 /// What was found, as an obstruction of the task.
-fn obstruction(task: &Task, modulus: u32, found: Found) -> Obstruction {
-    let Found { sum, tuples } = found;
+fn obstruction(task: &Task, modulus: u32, found: FoundObstruction) -> Obstruction {
+    let FoundObstruction { sum, tuples } = found;
     Obstruction {
         processes: u32::from(task.processes()),
         simplices: task.inputs().simplices().len() as u32,
@@ -120,14 +122,14 @@ fn obstruction(task: &Task, modulus: u32, found: Found) -> Obstruction {
 fn why_stopped(modulus: u32, fault: FinderFault) -> Stopped {
     let limit = match fault {
         FinderFault::OutOfMemory => return Stopped::OutOfMemory,
-        FinderFault::TooManyUnknowns { count } => Limit::Unknowns(count),
-        FinderFault::TooManyEquations { count } => Limit::Equations(count),
-        FinderFault::TooManyEntries { count } => Limit::Entries(count),
-        FinderFault::TooManySteps { count } => Limit::Steps(count),
+        FinderFault::TooManyUnknowns { count } => SearchLimit::Unknowns(count),
+        FinderFault::TooManyEquations { count } => SearchLimit::Equations(count),
+        FinderFault::TooManyEntries { count } => SearchLimit::Entries(count),
+        FinderFault::TooManySteps { count } => SearchLimit::Steps(count),
         FinderFault::Refused {
             fault: ObstructionFault::TooManyTerms,
-        } => Limit::Terms,
-        FinderFault::Refused { .. } | FinderFault::Internal => Limit::Internal,
+        } => SearchLimit::Terms,
+        FinderFault::Refused { .. } | FinderFault::Internal => SearchLimit::Internal,
     };
     Stopped::GaveUp(GaveUp { modulus, limit })
 }

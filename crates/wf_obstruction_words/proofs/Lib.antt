@@ -1,6 +1,6 @@
 mod Ascending
 mod Firsts
-mod Listing
+mod ListsInWords
 mod Runs
-mod Sorting
-mod Whole
+mod SortedTuples
+mod WholeText

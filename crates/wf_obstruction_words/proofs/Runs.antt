@@ -8,7 +8,7 @@ use Rattle.wf_model.specs.Task.{Task}
 use Rattle.wf_counting.specs.Obstruction.{WeightedTuple}
 use Rattle.wf_obstruction_words.specs.Places.{before_at}
 use Rattle.wf_obstruction_words.specs.Words.{first_of, line_text, lines_of, same_line, with_tuple}
-use Rattle.wf_obstruction_words.proofs.Listing.{one_told, rest_of}
+use Rattle.wf_obstruction_words.proofs.ListsInWords.{one_told, rest_of}
 
 -- how many in front go into the line of a tuple
 abbrev pub run_of : WeightedTuple → List WeightedTuple → ℕ

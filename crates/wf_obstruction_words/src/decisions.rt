@@ -8,7 +8,7 @@ ghost use Rattle.wf_model.specs.Simplex.{is_ascending};
 ghost use Rattle.wf_set.specs.Sets.{values_in};
 ghost use Rattle.wf_obstruction_words.specs.Words.{all_the_same, decided_text, decisions_text, each_text, factorial, is_arrangement, is_constant, one_of_each, tuples_text};
 
-use crate::entry::{Entry, first_of};
+use crate::entry::{TupleEntry, first_of};
 use crate::words::{put_tuples, put_values};
 use std::alloc::AllocError;
 use std::fmt::Write;
@@ -21,7 +21,7 @@ const MOST_TOLD: usize = 24;
 pub(crate) fn put_decisions(
     text: &mut String,
     values: Mask,
-    entries: &[Entry],
+    entries: &[TupleEntry],
 ) -> Result<(), AllocError>
     requires { 0 < length entries.now }
     ensures { OnOk result (string_bytes text.new
@@ -36,7 +36,7 @@ pub(crate) fn put_decisions(
 }
 
 /// Adds the values, if the tuples are all arrangements of them, or the tuples.
-fn put_decided(text: &mut String, entries: &[Entry]) -> Result<(), AllocError>
+fn put_decided(text: &mut String, entries: &[TupleEntry]) -> Result<(), AllocError>
     requires { 0 < length entries.now }
     ensures { OnOk result (string_bytes text.new
         ≡ string_bytes text.old ++ decided_text entries.now) }
@@ -58,7 +58,7 @@ fn put_each(text: &mut String, values: &[u8]) -> Result<(), AllocError>
 }
 
 /// Adds the tuples of a line, or so many of them and how many more there are.
-fn put_list(text: &mut String, entries: &[Entry]) -> Result<(), AllocError>
+fn put_list(text: &mut String, entries: &[TupleEntry]) -> Result<(), AllocError>
     ensures { OnOk result (string_bytes text.new
         ≡ string_bytes text.old ++ tuples_text entries.now) }
 {
@@ -73,7 +73,7 @@ fn put_list(text: &mut String, entries: &[Entry]) -> Result<(), AllocError>
 
 /// Whether two or more decide, and these are the tuples in which all decide the same, for each
 /// value.
-fn are_all_the_same(values: Mask, entries: &[Entry]) -> bool
+fn are_all_the_same(values: Mask, entries: &[TupleEntry]) -> bool
     requires { 0 < length entries.now }
     ensures { result ≡ all_the_same (values_in values) entries.now }
 {
@@ -82,7 +82,7 @@ fn are_all_the_same(values: Mask, entries: &[Entry]) -> bool
 }
 
 /// Whether each of the values has its tuple of so many of it, in order.
-fn are_constant(size: usize, values: Mask, entries: &[Entry]) -> bool
+fn are_constant(size: usize, values: Mask, entries: &[TupleEntry]) -> bool
     ensures { result ≡ pointwise (λ value x. is_constant size value x.tuple)
         (values_in values) entries.now }
 {
@@ -115,7 +115,7 @@ fn are_all(value: u8, values: &[u8]) -> bool
 }
 
 /// Whether three or more decide, and these are all arrangements of different values.
-fn are_one_of_each(entries: &[Entry]) -> bool
+fn are_one_of_each(entries: &[TupleEntry]) -> bool
     requires { 0 < length entries.now }
     ensures { result ≡ one_of_each entries.now }
 {
@@ -149,7 +149,7 @@ fn factorial(size: usize) -> usize
 }
 
 /// Whether each tuple has the values of the first, in some order.
-fn are_arrangements(first: &[u8], entries: &[Entry]) -> bool
+fn are_arrangements(first: &[u8], entries: &[TupleEntry]) -> bool
     ensures { result ≡ list_all (λ x. is_arrangement first.now x.tuple) entries.now }
 {
     entries

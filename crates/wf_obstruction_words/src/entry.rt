@@ -14,13 +14,13 @@ use wf_task::Row;
 /// A clause sees it as one of the definitions. Entries are ordered by simplex, then by weight, then
 /// by tuple.
 #[derive(Clone, Copy, Debug)]
-pub(crate) struct Entry {
+pub(crate) struct TupleEntry {
     pub(crate) simplex: u32,
     pub(crate) weight: u32,
     pub(crate) tuple: Row,
 }
 
-impl Model for Entry {
+impl Model for TupleEntry {
     ghost use Rattle.std.specs.Prelude.{refl};
     ghost use Rattle.wf_counting.specs.Obstruction.{WeightedTuple};
 
@@ -33,12 +33,12 @@ impl Model for Entry {
     ghost inverse_ok = { λ e h. refl };
 }
 
-impl Entry {
+impl TupleEntry {
     /// The entry of a weighted tuple.
-    pub(crate) fn of(tuple: &WeightedTuple) -> Entry
+    pub(crate) fn of(tuple: &WeightedTuple) -> TupleEntry
         ensures { result ≡ tuple_seen tuple.now }
     {
-        Entry {
+        TupleEntry {
             simplex: tuple.simplex,
             weight: tuple.weight,
             tuple: tuple.tuple,
@@ -62,7 +62,7 @@ impl Entry {
     }
 
     /// Whether the tuples go into one line.
-    pub(crate) fn is_same_line(&self, other: &Entry) -> bool
+    pub(crate) fn is_same_line(&self, other: &TupleEntry) -> bool
         ensures { result ≡ same_line self.now other.now }
     {
         self.simplex == other.simplex && self.weight == other.weight
@@ -71,14 +71,14 @@ impl Entry {
 
 /// The first of some entries.
 #[tactic(auto, using(crate::proofs::Firsts::first_is))]
-pub(crate) fn first_of(entries: &[Entry]) -> Entry
+pub(crate) fn first_of(entries: &[TupleEntry]) -> TupleEntry
     requires { 0 < length entries.now }
     ensures { result ≡ first_of entries.now }
 {
     entries[0]
 }
 
-impl PartialEq for Entry {
+impl PartialEq for TupleEntry {
     ghost use Rattle.std.specs.Cmp.{partial_equiv_from_equiv};
     ghost use Rattle.wf_obstruction_words.specs.Order.{same_entry};
     ghost use Rattle.wf_obstruction_words.specs.Order.{same_entry-equivalence};
@@ -87,18 +87,18 @@ impl PartialEq for Entry {
 
     ghost laws = { partial_equiv_from_equiv same_entry-equivalence };
 
-    fn eq(&self, other: &Entry) -> bool {
+    fn eq(&self, other: &TupleEntry) -> bool {
         self.is_same_line(other) && self.tuple == other.tuple
     }
 }
 
-impl Eq for Entry {
+impl Eq for TupleEntry {
     ghost use Rattle.wf_obstruction_words.specs.Order.{same_entry-equivalence};
 
     ghost laws = { same_entry-equivalence };
 }
 
-impl Ord for Entry {
+impl Ord for TupleEntry {
     ghost use Rattle.std.specs.Prelude.{refl};
     ghost use Rattle.wf_obstruction_words.specs.Words.{tuple_cmp};
     ghost use Rattle.wf_obstruction_words.specs.Order.{tuple_cmp-total, same_entry-ties};
@@ -111,7 +111,7 @@ impl Ord for Entry {
 
     ghost matches_eq = { same_entry-ties };
 
-    fn cmp(&self, other: &Entry) -> Ordering {
+    fn cmp(&self, other: &TupleEntry) -> Ordering {
         let by_line = self
             .simplex
             .cmp(&other.simplex)
@@ -120,7 +120,7 @@ impl Ord for Entry {
     }
 }
 
-impl PartialOrd for Entry {
+impl PartialOrd for TupleEntry {
     ghost use Rattle.std.specs.Cmp.{po};
     ghost use Rattle.std.specs.Ordering.{as_partial_cmp};
     ghost use Rattle.wf_obstruction_words.specs.Words.{tuple_cmp};
@@ -130,7 +130,7 @@ impl PartialOrd for Entry {
 
     ghost laws = { po tuple_cmp-total same_entry-ties };
 
-    fn partial_cmp(&self, other: &Entry) -> Option<Ordering> {
+    fn partial_cmp(&self, other: &TupleEntry) -> Option<Ordering> {
         Some(self.cmp(other))
     }
 }

@@ -5,14 +5,18 @@ ghost use Rattle.wf_counting.specs.Obstruction.{rule_at};
 ghost use Rattle.wf_obstruction_words.specs.Words.{line_text, lines_of, lines_text, simplex_text, times_text};
 
 use crate::decisions::put_decisions;
-use crate::entry::{Entry, first_of};
+use crate::entry::{TupleEntry, first_of};
 use crate::words::{before_at, put_simplex};
 use std::alloc::AllocError;
 use std::fmt::Write;
 use wf_task::Task;
 
 /// Adds the lines that these tuples make.
-pub(crate) fn put_lines(text: &mut String, task: &Task, entries: &[Entry]) -> Result<(), AllocError>
+pub(crate) fn put_lines(
+    text: &mut String,
+    task: &Task,
+    entries: &[TupleEntry],
+) -> Result<(), AllocError>
     ensures { OnOk result (string_bytes text.new ≡ string_bytes text.old
         ++ lines_text task.now entries.now) }
 {
@@ -29,7 +33,7 @@ pub(crate) fn put_lines(text: &mut String, task: &Task, entries: &[Entry]) -> Re
 }
 
 /// How many of these tuples are in the first line.
-fn line_length(entries: &[Entry]) -> usize
+fn line_length(entries: &[TupleEntry]) -> usize
     requires { 0 < length entries.now }
     ensures some { 0 < result }
     ensures within { result ≤ length entries.now }
@@ -46,7 +50,7 @@ fn line_length(entries: &[Entry]) -> usize
 }
 
 /// Adds the line of these tuples.
-fn put_line(text: &mut String, task: &Task, entries: &[Entry]) -> Result<(), AllocError>
+fn put_line(text: &mut String, task: &Task, entries: &[TupleEntry]) -> Result<(), AllocError>
     requires { 0 < length entries.now }
     ensures { OnOk result (string_bytes text.new
         ≡ string_bytes text.old ++ line_text task.now entries.now) }

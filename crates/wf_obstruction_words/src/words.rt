@@ -6,7 +6,7 @@ ghost use Rattle.wf_model.specs.Task.{IsTaskSimplex};
 ghost use Rattle.wf_obstruction_words.specs.Places.{before_at, separator, vertex_in};
 ghost use Rattle.wf_obstruction_words.specs.Words.{list_text, number_text, one_text, simplex_text};
 
-use crate::entry::Entry;
+use crate::entry::TupleEntry;
 use std::alloc::AllocError;
 use std::fmt::Write;
 use wf_simplex::Simplex;
@@ -46,7 +46,7 @@ pub(crate) fn put_values(
 /// Adds tuples, with another text between the last two.
 pub(crate) fn put_tuples(
     text: &mut String,
-    entries: &[Entry],
+    entries: &[TupleEntry],
     last: &'static str,
 ) -> Result<(), AllocError>
     ensures { OnOk result (string_bytes text.new

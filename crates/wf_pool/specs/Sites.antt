@@ -1,16 +1,16 @@
 -- The workers of a site, which is what all of them share.
 use Rattle.std.specs.Prelude.{List, All}
-use Rattle.wf_pool.specs.declared.site.Site.{Site}
+use Rattle.wf_pool.specs.declared.site.SharedState.{SharedState}
 use Rattle.wf_pool.specs.declared.worker.Worker.{Worker}
 use Rattle.wf_pool.specs.Work.{IsFresh, IsWorker}
 
 -- a worker of its board that tells the truth about its problem
-abbrev pub IsWorkerOf : {G : Type 0} → Site G → Worker → Type 0
+abbrev pub IsWorkerOf : {G : Type 0} → SharedState G → Worker → Type 0
 IsWorkerOf s w = IsWorker s.problem.now s.kept s.board.now w
 
 -- one that has settled nothing
-abbrev pub IsFreshOf : {G : Type 0} → Site G → Worker → Type 0
+abbrev pub IsFreshOf : {G : Type 0} → SharedState G → Worker → Type 0
 IsFreshOf s w = IsFresh s.problem.now s.kept s.board.now w
 
-abbrev pub AreWorkersOf : {G : Type 0} → Site G → List Worker → Type 0
+abbrev pub AreWorkersOf : {G : Type 0} → SharedState G → List Worker → Type 0
 AreWorkersOf s ws = All (IsWorkerOf s) ws

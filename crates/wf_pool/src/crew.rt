@@ -7,7 +7,7 @@ ghost use Rattle.wf_pool.specs.Work.{AreDone, HasRoom, IsAlike, IsDone, IsGrown,
 ghost use Rattle.wf_pool.specs.Sites.{AreWorkersOf, IsFreshOf, IsWorkerOf};
 
 use crate::gate::Gate;
-use crate::site::Site;
+use crate::site::SharedState;
 use crate::watch::settle;
 use crate::worker::Worker;
 use std::alloc::{AllocError, Global};
@@ -17,7 +17,7 @@ use wf_handout::Handout;
 /// Takes branches until there is none, and settles each.
 fn work<H: Handout, G: Gate>(
     alloc: Global,
-    site: &Site<G>,
+    site: &SharedState<G>,
     handout: &H,
     worker: u32,
     me: Worker,
@@ -39,7 +39,7 @@ fn work<H: Handout, G: Gate>(
 }
 
 /// The last worker.
-fn last_worker<G>(site: &Site<G>, workers: &mut Vec<Worker>) -> Option<Worker>
+fn last_worker<G>(site: &SharedState<G>, workers: &mut Vec<Worker>) -> Option<Worker>
     requires { All (IsFreshOf site.now) workers.old.items }
     ensures some { IfSome result (IsFreshOf site.now) }
     ensures found { IsSome result ↔ (0 < length workers.old.items) }
@@ -62,7 +62,7 @@ fn last_share<H: Handout>(handout: &H, shares: &mut Vec<H::Share>) -> Option<H::
 
 /// A worker and its share come back to their places.
 fn put_back<H: Handout, G>(
-    site: &Site<G>,
+    site: &SharedState<G>,
     handout: &H,
     others: (Vec<Worker>, Vec<H::Share>),
     mine: (Worker, H::Share),
@@ -91,7 +91,7 @@ fn put_back<H: Handout, G>(
 pub(crate) fn crew<R: Threads + Sync, H: Handout, G: Gate>(
     rt: &R,
     alloc: Global,
-    site: &Site<G>,
+    site: &SharedState<G>,
     handout: &H,
     workers: Vec<Worker>,
     shares: Vec<H::Share>,

@@ -7,7 +7,7 @@ ghost use Rattle.wf_pool.specs.Work.{IsFoundIn};
 
 use crate::answer::KeptLines;
 use std::alloc::{AllocError, Global};
-use wf_box::{Answers, Box0, Problem};
+use wf_box::{Box0, KernelCache, Problem};
 use wf_search::{Found, FoundMap, Stop, search_map, search_with};
 
 /// What a search of a box finds, with those of its lines that are kept. Where none is kept, its
@@ -18,7 +18,7 @@ pub(crate) fn find<S: Stop>(
     kept: KeptLines,
     boxed: Box0,
     stop: &mut S,
-    answers: &mut Answers,
+    answers: &mut KernelCache,
 ) -> Result<Found, AllocError>
     requires boxed { IsFor problem.now boxed }
     requires answers { ServeFor problem.now answers.old }

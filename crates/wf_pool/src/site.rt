@@ -9,7 +9,7 @@ use wf_search::Cover;
 
 /// What all workers share.
 #[derive(Drop)]
-pub(crate) struct Site<'a, G> {
+pub(crate) struct SharedState<'a, G> {
     pub(crate) problem: &'a Problem,
     pub(crate) kept: KeptLines,
     pub(crate) cover: &'a Cover,

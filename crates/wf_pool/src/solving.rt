@@ -11,19 +11,19 @@ ghost use Rattle.wf_pool.specs.declared.answer.KeptLines.TheVariants as keep;
 ghost use Rattle.wf_pool.specs.Work.{AreAllBut, AreAllSettled, AreToSettle, AreWorkers, HasSettledEach, IsFresh, IsGround};
 ghost use Rattle.wf_pool.specs.Sites.{AreWorkersOf, IsWorkerOf};
 ghost use Rattle.wf_pool.specs.Together.{Tells};
-ghost use Rattle.wf_pool.specs.Answers.{IsAnswer, IsAnswerAt, HasAccount, HasBranchAnswer, IsInOrder};
+ghost use Rattle.wf_pool.specs.KernelCache.{IsAnswer, IsAnswerAt, HasAccount, HasBranchAnswer, IsInOrder};
 
 use crate::answer::{AllFinds, Answer, BranchAnswer, KeptLines, apart, in_order, map_of};
 use crate::crew::crew;
 use crate::finding::find;
 use crate::gate::{Gate, Moment, Open};
-use crate::site::Site;
-use crate::watch::{Told, settle};
+use crate::site::SharedState;
+use crate::watch::{TellingStop, settle};
 use crate::worker::{Finds, Worker};
 use std::alloc::{AllocError, Global};
 use std::thread::Threads;
 use wf_board::{Board, BoardSeat};
-use wf_box::{Answers, Box0, Problem};
+use wf_box::{Box0, KernelCache, Problem};
 use wf_core::Account;
 use wf_handout::Handout;
 use wf_lines::Lines;
@@ -56,7 +56,7 @@ pub fn solve<R: Threads + Sync, H: Handout, G: Gate>(
     ensures answer { IfOk result (λ r. IsAnswer problem.now kept r.0) }
     ensures account { IfOk result (λ r. HasAccount problem.now r.0 r.1) }
 {
-    let mut answers = Answers::new(alloc);
+    let mut answers = KernelCache::new(alloc);
     let cover = branches_of(alloc, problem, &mut answers)?;
     let branches = cover.branches();
     let used = workers.min(branches).max(1);
@@ -95,7 +95,7 @@ pub fn solve_one_watched<G: Gate>(
     ensures account { IfOk result (λ r. HasAccount problem.now r.0 r.1) }
     ensures in_order { IfOk result (λ r. IsInOrder r.0 r.1) }
 {
-    let mut answers = Answers::new(alloc);
+    let mut answers = KernelCache::new(alloc);
     let cover = branches_of(alloc, problem, &mut answers)?;
     let branches = cover.branches();
     gate.branches(branches);
@@ -132,7 +132,7 @@ pub fn solve_root(alloc: Global, problem: &Problem, kept: KeptLines) -> Result<A
     ensures { IfOk result (IsAnswer problem.now kept) }
 {
     let root = Box0::root(alloc, problem)?;
-    let mut answers = Answers::new(alloc);
+    let mut answers = KernelCache::new(alloc);
     match find(alloc, problem, kept, root, &mut Never, &mut answers)? {
         Found::Map(map, lines) => Ok(Answer::Map(map, lines)),
         Found::Refuted(lines) => Ok(Answer::Nothing(lines)),
@@ -154,7 +154,7 @@ pub fn solve_branch<G: Gate>(
 ) -> Result<BranchAnswer, AllocError>
     ensures { IfOk result (HasBranchAnswer problem.now kept branch) }
 {
-    let mut answers = Answers::new(alloc);
+    let mut answers = KernelCache::new(alloc);
     let cover = branches_of(alloc, problem, &mut answers)?;
     let branches = cover.branches();
     if branch >= branches {
@@ -166,7 +166,11 @@ pub fn solve_branch<G: Gate>(
 }
 
 /// The branches of a problem, and it leaves what closing found out for their searches.
-fn branches_of(alloc: Global, problem: &Problem, answers: &mut Answers) -> Result<Cover, AllocError>
+fn branches_of(
+    alloc: Global,
+    problem: &Problem,
+    answers: &mut KernelCache,
+) -> Result<Cover, AllocError>
     requires { ServeFor problem.now answers.old }
     ensures cover { IfOk result (IsCoverOf problem.now) }
     ensures answers { OnOk result (ServeFor problem.now answers.new) }
@@ -184,7 +188,7 @@ fn search_whole<G: Gate>(
     cover: &Cover,
     branch: u32,
     gate: &G,
-    answers: &mut Answers,
+    answers: &mut KernelCache,
 ) -> Result<Answer, AllocError>
     requires cover { IsCoverOf problem.now cover.now }
     requires branch { branch < length (boxes_left_out cover.now) }
@@ -194,7 +198,7 @@ fn search_whole<G: Gate>(
 {
     gate.at(0, Moment::Taken(branch));
     let boxed = cover.branch(alloc, branch)?;
-    let mut told = Told { gate, branch };
+    let mut told = TellingStop { gate, branch };
     let found = find(alloc, problem, kept, boxed, &mut told, answers)?;
     gate.at(0, Moment::Settled(branch));
     match found {
@@ -288,7 +292,7 @@ fn search_all<R: Threads + Sync, H: Handout, G: Gate>(
 {
     let (handout, shares) = H::deal(alloc, cover.branches(), seats.len() as u32)?;
     let workers = fresh_workers(alloc, problem, kept, board, seats)?;
-    let site = Site {
+    let site = SharedState {
         problem,
         kept,
         cover,
@@ -321,7 +325,7 @@ fn fresh_workers(
                 map: None,
                 lines: Vec::new(alloc),
             },
-            answers: Answers::new(alloc),
+            answers: KernelCache::new(alloc),
         })?;
     }
     Ok(workers)
@@ -330,7 +334,7 @@ fn fresh_workers(
 /// The first worker settles the branches that are left.
 fn work_left<G: Gate>(
     alloc: Global,
-    site: &Site<G>,
+    site: &SharedState<G>,
     workers: Vec<Worker>,
     left: &[u32],
 ) -> Result<Vec<Worker>, AllocError>
@@ -350,7 +354,7 @@ fn work_left<G: Gate>(
 /// The first worker settles these branches.
 fn settle_each<G: Gate>(
     alloc: Global,
-    site: &Site<G>,
+    site: &SharedState<G>,
     first: Worker,
     left: &[u32],
 ) -> Result<Worker, AllocError>

@@ -7,7 +7,7 @@ ghost use Rattle.wf_pool.specs.Looking.{looked_itself, looked_on};
 
 use crate::finding::find;
 use crate::gate::{Gate, Moment};
-use crate::site::Site;
+use crate::site::SharedState;
 use crate::worker::Worker;
 use std::alloc::{AllocError, Global};
 use wf_board::{Board, BoardSeat};
@@ -16,7 +16,7 @@ use wf_search::Stop;
 /// The seat of a worker while it searches a branch. It looks before each
 /// turn, and stops where a lower branch is posted.
 #[derive(Drop)]
-struct Watch<'a, G> {
+struct CuttingStop<'a, G> {
     board: &'a Board,
     gate: &'a G,
     worker: u32,
@@ -25,7 +25,7 @@ struct Watch<'a, G> {
     ghost is_seat: { seat.table ≡ board.now.table },
 }
 
-impl<'a, G: Gate> Stop for Watch<'a, G> {
+impl<'a, G: Gate> Stop for CuttingStop<'a, G> {
     ghost asked = { λ n old new. (new.branch ≡ old.branch) × HasLooked old.seat new.seat };
 
     ghost is_stopped = { λ w. w.seat.seen < w.branch };
@@ -50,12 +50,12 @@ impl<'a, G: Gate> Stop for Watch<'a, G> {
 
 /// The only worker while it searches a branch: each turn is told to the gate, and it never stops.
 #[derive(Drop)]
-pub(crate) struct Told<'a, G> {
+pub(crate) struct TellingStop<'a, G> {
     pub(crate) gate: &'a G,
     pub(crate) branch: u32,
 }
 
-impl<'a, G: Gate> Stop for Told<'a, G> {
+impl<'a, G: Gate> Stop for TellingStop<'a, G> {
     ghost use Rattle.std.proofs.Common.{◌≡◌, refl, ◌∙◌};
 
     ghost asked = { λ n s t. s.branch ≡ t.branch };
@@ -76,7 +76,7 @@ impl<'a, G: Gate> Stop for Told<'a, G> {
 /// worker's earlier branches, and leaves the worker what is known then.
 pub(crate) fn settle<G: Gate>(
     alloc: Global,
-    site: &Site<G>,
+    site: &SharedState<G>,
     worker: u32,
     me: Worker,
     branch: u32,
@@ -93,7 +93,7 @@ pub(crate) fn settle<G: Gate>(
         finds,
         mut answers,
     } = me;
-    let mut watch = Watch {
+    let mut watch = CuttingStop {
         board: site.board,
         gate: site.gate,
         worker,
@@ -108,7 +108,7 @@ pub(crate) fn settle<G: Gate>(
         &mut watch,
         &mut answers,
     )?;
-    let Watch {
+    let CuttingStop {
         board: _,
         gate: _,
         worker: _,

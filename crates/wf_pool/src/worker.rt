@@ -8,7 +8,7 @@ ghost use Rattle.wf_pool.specs.Work.{HasSettled, IsFoundAt, IsSeat, IsToSettle, 
 
 use std::alloc::AllocError;
 use wf_board::{Board, BoardSeat};
-use wf_box::Answers;
+use wf_box::KernelCache;
 use wf_lines::Lines;
 use wf_search::Found;
 
@@ -41,7 +41,7 @@ pub(crate) struct Finds {
 pub(crate) struct Worker {
     pub(crate) seat: BoardSeat,
     pub(crate) finds: Finds,
-    pub(crate) answers: Answers,
+    pub(crate) answers: KernelCache,
 }
 
 impl Worker {

@@ -1,6 +1,6 @@
-pub mod Agreeing
-pub mod Naming
+pub mod AgreementOutputs
+pub mod RenamingOutputs
 pub mod FamilyTasks
 pub mod FamilyLoops
 pub mod PresetLimits
-pub mod Decided
+pub mod AllowedByRules

@@ -10,7 +10,7 @@ use Rattle.wf_model.specs.Presets.{input_facets, input_values, namings}
 use Rattle.wf_model.specs.Simplex.{Simplex, Vertex, processes_of, values_of, is_nonempty, is_ascending, complex_of}
 use Rattle.wf_model.specs.Task.{Task, IsTask, IsSimplexWithin, inputs}
 use Rattle.wf_simplex.proofs.Lemmas.{Has, complex_of-complex_of, all_of_has, complex_within}
-use Rattle.wf_draft.specs.declared.fault.Limit.TheVariants as limit
+use Rattle.wf_draft.specs.declared.fault.TaskLimit.TheVariants as limit
 use Rattle.wf_draft.specs.declared.fault.TaskFault.{TaskFault}
 use Rattle.wf_draft.specs.declared.fault.TaskFault.TheVariants as fault
 use Rattle.wf_preset.specs.declared.family.Family.TheVariants.{Agreement, Naming}
@@ -21,10 +21,10 @@ use Rattle.wf_preset.specs.Family.{tuples_for, images_of, at_most, task_for}
 use Rattle.wf_preset.specs.declared.preset.Inputs.{Inputs}
 use Rattle.wf_preset.specs.declared.preset.Inputs.TheVariants.{Own, All}
 use Rattle.wf_preset.specs.Preset.{within_limits, inputs_judged, inputs_seen, has_processes, has_values, has_input_values, set_agreement_of, renaming_of}
-use Rattle.wf_preset.proofs.Agreeing.{agreement-outputs, agreement-facets, length-wholes, length-input_facets, few-own, facets-few, is_facet}
+use Rattle.wf_preset.proofs.AgreementOutputs.{agreement-outputs, agreement-facets, length-wholes, length-input_facets, few-own, facets-few, is_facet}
 use Rattle.wf_task.proofs.Lemmas.{has-some, length-zip-same, processes-zip-same, nonempty-long, facet-in, has-map, has-below}
 use Rattle.wf_preset.proofs.FamilyTasks.{rule_of_family, same_inputs, counted, task-is}
-use Rattle.wf_preset.proofs.Naming.{start, processes-start, renaming-outputs, many-facets}
+use Rattle.wf_preset.proofs.RenamingOutputs.{start, processes-start, renaming-outputs, many-facets}
 use Rattle.wf_model.proofs.WellFormed.{values_of_zip}
 
 -- ---- the limits of a task, one after another

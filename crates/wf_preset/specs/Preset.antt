@@ -4,7 +4,7 @@ use Rattle.wf_model.specs.Limits.{most_inputs, most_vertices}
 use Rattle.wf_model.specs.Presets as model
 use Rattle.wf_model.specs.Simplex.{Simplex, complex_of}
 use Rattle.wf_model.specs.Task.{Task, inputs}
-use Rattle.wf_draft.specs.declared.fault.Limit.TheVariants as limit
+use Rattle.wf_draft.specs.declared.fault.TaskLimit.TheVariants as limit
 use Rattle.wf_draft.specs.declared.fault.TaskFault.{TaskFault}
 use Rattle.wf_draft.specs.declared.fault.TaskFault.TheVariants as fault
 use Rattle.wf_preset.specs.declared.preset.Inputs.{Inputs}

@@ -15,8 +15,8 @@ use Rattle.wf_engine.specs.Texts.{text_of_report}
 use Rattle.wf_engine.specs.Run.{answered}
 use Rattle.wf_engine.specs.Verify.{Judges}
 use Rattle.wf_engine.specs.declared.fault.RunFault.{RunFault}
-use Rattle.wf_engine.proofs.Asking.{IsRefusal}
-use Rattle.wf_engine.proofs.Modelling.{own_rounds, passed}
+use Rattle.wf_engine.proofs.RunsInPieces.{IsRefusal}
+use Rattle.wf_engine.proofs.ModelsToReports.{own_rounds, passed}
 use Rattle.wf_program.specs.Lifting.{LiftsBody, LiftsChecked, LiftsMap, Made, rounds_asked}
 
 -- a map has a value for each point

@@ -15,9 +15,9 @@ use Rattle.wf_engine.specs.Sources.{NextReads}
 use Rattle.wf_engine.specs.Texts.{text_of_report}
 use Rattle.wf_engine.specs.Verify.{IsReportOf, Judges}
 use Rattle.wf_engine.specs.declared.fault.RunFault.{RunFault}
-use Rattle.wf_engine.proofs.Acceptance.{map_text_accepted}
+use Rattle.wf_engine.proofs.WrittenIsAccepted.{map_text_accepted}
 use Rattle.wf_engine.proofs.Headline.{task_read}
-use Rattle.wf_program.proofs.WasRead.{gave_report}
+use Rattle.wf_program.proofs.ReadReports.{gave_report}
 use Rattle.wf_program.specs.Lifting.{AsksLift, Lifts, LiftsBody, LiftsFor, LiftsMap, ReadsToLift, rounds_asked}
 use Rattle.wf_program.specs.LiftingLaws.{LiftsAreAccepted, LiftsAreTrue}
 

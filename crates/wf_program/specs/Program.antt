@@ -50,8 +50,8 @@ use Rattle.wf_program.specs.VersionText.{version_line}
 use Rattle.wf_program.specs.declared.done.Done.{Done}
 use Rattle.wf_program.specs.declared.done.Note.{Note}
 use Rattle.wf_program.specs.declared.done.Note.TheVariants.{Account, NoObstruction}
-use Rattle.wf_program.specs.declared.filed.Filed.{Filed}
-use Rattle.wf_program.specs.declared.filed.Filed.TheVariants as filed
+use Rattle.wf_program.specs.declared.filed.FileJob.{FileJob}
+use Rattle.wf_program.specs.declared.filed.FileJob.TheVariants as filed
 use Rattle.wf_program.specs.declared.refusal.Refusal.{Refusal}
 use Rattle.wf_program.specs.declared.refusal.Refusal.TheVariants as refusal
 use Rattle.wf_program.specs.declared.refusal.Refusal.TheVariants.{Run, Words, Clap}
@@ -146,7 +146,7 @@ Ended {X = X} answered does task task' source source' sink sink' done =
     (result : Result X RunFault) × does task task' source source' sink sink' result × (done ≡ answered result)
 
 -- what a job does with the task in its file
-abbrev pub DoesWithFile : Filed → DoesBoth (Result Done Refusal)
+abbrev pub DoesWithFile : FileJob → DoesBoth (Result Done Refusal)
 DoesWithFile (filed.Verify rounds) task task' source source' sink sink' done = Ended verified (VerifiesCertificate rounds) task task' source source' sink sink' done
 DoesWithFile (filed.VerifyBranch rounds branch) task task' source source' sink sink' done =
     Ended written (VerifiesBranch rounds branch) task task' source source' sink sink' done
@@ -202,7 +202,7 @@ DoesAlone (Preset preset) source source' sink sink' done =
 DoesAlone job source source' sink sink' done = ⊥
 
 -- what a job does with the task in its file, and the file's path; none where it has no file
-abbrev pub filed_of : Job → Option (Filed × List ℕ)
+abbrev pub filed_of : Job → Option (FileJob × List ℕ)
 filed_of (Verify task rounds) = Some (filed.Verify rounds, string_bytes task)
 filed_of (VerifyBranch task rounds branch) = Some (filed.VerifyBranch rounds branch, string_bytes task)
 filed_of (Join task rounds) = Some (filed.Join rounds, string_bytes task)
@@ -216,7 +216,7 @@ filed_of job = None
 
 -- it was done with the task in the file, which is among those that may be opened under its path; or
 -- without one, and no file was asked for
-abbrev pub DoesBy : {F : Type 0} → Opens → Option (Filed × List ℕ) → Job → Filing F → Filing F → Reading → Reading → Writing → Writing → Result Done Refusal → Type 0
+abbrev pub DoesBy : {F : Type 0} → Opens → Option (FileJob × List ℕ) → Job → Filing F → Filing F → Reading → Reading → Writing → Writing → Result Done Refusal → Type 0
 DoesBy opens (Some (what, path)) job folder folder' source source' sink sink' done =
     WithFile (opens path) (DoesWithFile what) folder folder' source source' sink sink' done
 DoesBy opens None job folder folder' source source' sink sink' done =

@@ -8,7 +8,7 @@ ghost use Rattle.wf_program.specs.Program.{DoesWithFile, WithFile, filed_of};
 
 use crate::done::{Done, after_verifying, after_writing};
 use crate::explain::run_explain;
-use crate::files::{Files, Folder};
+use crate::files::{Files, Opener};
 use crate::lift::run_lift;
 use crate::refusal::Refusal;
 use crate::trim::run_trim;
@@ -22,7 +22,7 @@ use wf_io::{Sink, Source};
 
 /// What a job does with the task in a file, and with what the source gives about it.
 #[derive(Clone, Copy)]
-pub(crate) enum Filed {
+pub(crate) enum FileJob {
     /// Check a report or an obstruction, for these rounds if any are asked for.
     Verify(Option<u32>),
     /// Check a part about the branch of this number, for so many rounds.
@@ -44,32 +44,32 @@ pub(crate) enum Filed {
     Lift(Option<u32>),
 }
 
-impl Filed {
+impl FileJob {
     /// What a job does with the task in its file, and the file's path; none where it has no file.
-    pub(crate) fn of(job: &Job) -> Option<(Filed, &str)>
+    pub(crate) fn of(job: &Job) -> Option<(FileJob, &str)>
         ensures { option_map (λ f. (f.0, f.1.now)) result ≡ filed_of job.now }
     {
         let (filed, task) = match job {
-            Job::Verify { task, rounds } => (Filed::Verify(*rounds), task),
+            Job::Verify { task, rounds } => (FileJob::Verify(*rounds), task),
             Job::VerifyBranch {
                 task,
                 rounds,
                 branch,
             } => {
                 let (rounds, branch) = (*rounds, *branch);
-                (Filed::VerifyBranch { rounds, branch }, task)
+                (FileJob::VerifyBranch { rounds, branch }, task)
             }
-            Job::Join { task, rounds } => (Filed::Join(*rounds), task),
-            Job::Model { task, rounds } => (Filed::Model(*rounds), task),
+            Job::Join { task, rounds } => (FileJob::Join(*rounds), task),
+            Job::Model { task, rounds } => (FileJob::Model(*rounds), task),
             Job::Proof {
                 task,
                 rounds,
                 branch,
-            } => (Filed::Proof(*rounds, *branch), task),
-            Job::Decisions { task } => (Filed::Decisions, task),
-            Job::Trim { task } => (Filed::Trim, task),
-            Job::Explain { task } => (Filed::Explain, task),
-            Job::Lift { task, rounds } => (Filed::Lift(*rounds), task),
+            } => (FileJob::Proof(*rounds, *branch), task),
+            Job::Decisions { task } => (FileJob::Decisions, task),
+            Job::Trim { task } => (FileJob::Trim, task),
+            Job::Explain { task } => (FileJob::Explain, task),
+            Job::Lift { task, rounds } => (FileJob::Lift(*rounds), task),
             Job::Solve { .. }
             | Job::SolveBranch { .. }
             | Job::Views { .. }
@@ -89,7 +89,7 @@ impl Filed {
         self,
         rt: &T,
         alloc: Global,
-        folder: &mut Folder<F>,
+        folder: &mut Opener<F>,
         path: &str,
         source: &mut Source<R>,
         sink: &mut Sink<W>,
@@ -124,26 +124,26 @@ impl Filed {
             result }
     {
         match self {
-            Filed::Verify(rounds) => {
+            FileJob::Verify(rounds) => {
                 after_verifying(run_verify_certificate(rt, alloc, task, source, sink, rounds))
             }
-            Filed::VerifyBranch { rounds, branch } => {
+            FileJob::VerifyBranch { rounds, branch } => {
                 after_writing(run_verify_branch(rt, alloc, task, source, sink, rounds, branch))
             }
-            Filed::Join(rounds) => after_writing(run_join(rt, alloc, task, source, sink, rounds)),
-            Filed::Model(rounds) => {
+            FileJob::Join(rounds) => after_writing(run_join(rt, alloc, task, source, sink, rounds)),
+            FileJob::Model(rounds) => {
                 after_writing(run_model(rt, alloc, task, source, sink, rounds))
             }
-            Filed::Proof(rounds, None) => {
+            FileJob::Proof(rounds, None) => {
                 after_writing(run_proof(alloc, task, source, sink, rounds))
             }
-            Filed::Proof(rounds, Some(branch)) => {
+            FileJob::Proof(rounds, Some(branch)) => {
                 after_writing(run_proof_branch(alloc, task, source, sink, rounds, branch))
             }
-            Filed::Decisions => after_writing(run_decisions(rt, alloc, task, source, sink)),
-            Filed::Trim => after_writing(run_trim(rt, alloc, task, source, sink)),
-            Filed::Explain => after_writing(run_explain(rt, alloc, task, source, sink)),
-            Filed::Lift(rounds) => after_writing(run_lift(rt, alloc, task, source, sink, rounds)),
+            FileJob::Decisions => after_writing(run_decisions(rt, alloc, task, source, sink)),
+            FileJob::Trim => after_writing(run_trim(rt, alloc, task, source, sink)),
+            FileJob::Explain => after_writing(run_explain(rt, alloc, task, source, sink)),
+            FileJob::Lift(rounds) => after_writing(run_lift(rt, alloc, task, source, sink, rounds)),
         }
     }
 }

@@ -29,14 +29,14 @@ pub trait Files {
 /// Only a folder opens files, so none is opened uncounted, and what was read
 /// of one can be seen after the run.
 #[derive(Drop)]
-pub struct Folder<F: Files> {
+pub struct Opener<F: Files> {
     files: F,
     asked: u64,
     failures: u64,
     kept: Option<Source<F::File>>,
 }
 
-impl<F: Files> Model for Folder<F> {
+impl<F: Files> Model for Opener<F> {
     ghost Value = { Filing F };
 
     ghost view = { λ f. record {
@@ -47,12 +47,12 @@ impl<F: Files> Model for Folder<F> {
     } };
 }
 
-impl<F: Files> Folder<F> {
+impl<F: Files> Opener<F> {
     /// The files, none of which was asked for yet.
-    pub fn new(files: F) -> Folder<F>
+    pub fn new(files: F) -> Opener<F>
         ensures { result ≡ record { files = files; asked = 0; failures = 0; kept = None } }
     {
-        Folder {
+        Opener {
             files,
             asked: 0,
             failures: 0,

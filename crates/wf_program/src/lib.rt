@@ -34,7 +34,7 @@ mod version;
 pub use executions::run_executions;
 pub use explain::run_explain;
 pub use explain_laws::{explaining_is_counted, explanations_are_true};
-pub use files::{Files, Folder};
+pub use files::{Files, Opener};
 pub use laws::serving_is_counted;
 pub use lift::run_lift;
 pub use lift_laws::{lifting_is_counted, lifts_are_accepted, lifts_are_true};

@@ -13,8 +13,8 @@ ghost use Rattle.wf_program.specs.Program.{CanServe, Declines, Does, DoesAlone, 
 
 use crate::done::{Done, after_searching, after_seeking, after_solving, after_writing};
 use crate::executions::run_executions;
-use crate::filed::Filed;
-use crate::files::{Files, Folder};
+use crate::filed::FileJob;
+use crate::files::{Files, Opener};
 use crate::refusal::Refusal;
 use crate::version::VersionLine;
 use clap::error::ErrorKind;
@@ -49,7 +49,7 @@ use wf_pool::Gate;
 pub fn run_program<T: Threads + Sync, F: Files, G: Gate + Listener, R: Read, W: Write, E: Write>(
     rt: &T,
     alloc: Global,
-    folder: &mut Folder<F>,
+    folder: &mut Opener<F>,
     gate: &G,
     words: Result<Vec<String>, WordsFault>,
     source: &mut Source<R>,
@@ -79,7 +79,7 @@ fn job_of(alloc: Global, words: Result<Vec<String>, WordsFault>) -> Result<Job, 
 fn do_job<T: Threads + Sync, F: Files, G: Gate + Listener, R: Read, W: Write>(
     rt: &T,
     alloc: Global,
-    folder: &mut Folder<F>,
+    folder: &mut Opener<F>,
     gate: &G,
     source: &mut Source<R>,
     sink: &mut Sink<W>,
@@ -91,7 +91,7 @@ fn do_job<T: Threads + Sync, F: Files, G: Gate + Listener, R: Read, W: Write>(
     ensures { Does (F.opens folder.old.files) job.now folder.old folder.new source.old source.new
         sink.old sink.new result }
 {
-    match Filed::of(job) {
+    match FileJob::of(job) {
         Some((filed, path)) => filed.with_file(rt, alloc, folder, path, source, sink),
         None => do_alone(rt, alloc, gate, source, sink, job),
     }

@@ -6,8 +6,8 @@ use Rattle.wf_model.specs.Refutation.{Line}
 use Rattle.wf_model.specs.Report.{Body, Reading, a_map, any_step, none, least, body_at, last_at, least_body, line, lines_of, map_body, no_step, none_body, same_text, step_of_none, step_of_words, steps_from, is_found, then_read, value_of_line, values_at_front}
 use Rattle.wf_report.specs.Reading.{lacks}
 use Rattle.wf_report.specs.Steps.{step_in}
-use Rattle.wf_report.specs.declared.reading.Part.{Part}
-use Rattle.wf_report.specs.declared.reading.Part.TheVariants.{Values, Refutation, Search}
+use Rattle.wf_report.specs.declared.reading.Section.{Section}
+use Rattle.wf_report.specs.declared.reading.Section.TheVariants.{Values, Refutation, Search}
 use Rattle.wf_report.proofs.ReadLemmas.{last_piece, lines_cut, no_words, not_ended, number_by, number_is, same_ended, some_line}
 
 -- nothing may come after line k
@@ -113,7 +113,7 @@ at_cut_off f item before k text whole h = ap (gathered f before) (no_line item k
 
 -- ---- the lines
 
-pub steps_of_lines : (part : Part) → IsOfLines (step_in part)
+pub steps_of_lines : (part : Section) → IsOfLines (step_in part)
 steps_of_lines Values l h = refl
 steps_of_lines Refutation l h = ap (λ o. option_and_then (λ x. if is_found x then None else Some x) (option_and_then (step_of_words 2) o)) (no_words l h)
 steps_of_lines Search l h = ap (option_and_then (step_of_words 2)) (no_words l h)

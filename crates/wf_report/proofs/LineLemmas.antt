@@ -7,8 +7,8 @@ use Rattle.wf_model.specs.Limits.{most_number}
 use Rattle.wf_model.specs.Report.{any_step, is_found, largest, number_upto, same_text, step_of_words}
 use Rattle.wf_report.specs.Reading.{lacks}
 use Rattle.wf_report.specs.Steps.{removal_of, words}
-use Rattle.wf_report.specs.declared.reading.Part.{Part}
-use Rattle.wf_report.specs.declared.reading.Part.TheVariants.{Values, Refutation, Search}
+use Rattle.wf_report.specs.declared.reading.Section.{Section}
+use Rattle.wf_report.specs.declared.reading.Section.TheVariants.{Values, Refutation, Search}
 use Rattle.wf_report.proofs.ReadLemmas.{more_words, one_word, some_word, spaced, words_cut, words_ended}
 
 -- no line of a refutation says that a map is found
@@ -16,7 +16,7 @@ abbrev pub passed : Option Line → Option Line
 passed o = option_and_then (λ x. if is_found x then None else Some x) o
 
 -- the step of a line, where it may stand in this part
-abbrev pub kept : Part → Option Line → Option Line
+abbrev pub kept : Section → Option Line → Option Line
 kept Values o = None
 kept Refutation o = passed o
 kept Search o = o

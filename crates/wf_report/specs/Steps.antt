@@ -3,11 +3,11 @@ use Rattle.std.specs.Prelude.{ℕ, ◌==◌, List, [], ◌∷◌, Option, option
 use Rattle.wf_model.specs.Refutation.{Line, remove}
 use Rattle.wf_model.specs.Limits.{most_number}
 use Rattle.wf_model.specs.Report.{any_step, largest, no_step, number_upto, onto_first, step_of_none}
-use Rattle.wf_report.specs.declared.reading.Part.{Part}
-use Rattle.wf_report.specs.declared.reading.Part.TheVariants.{Values, Refutation, Search}
+use Rattle.wf_report.specs.declared.reading.Section.{Section}
+use Rattle.wf_report.specs.declared.reading.Section.TheVariants.{Values, Refutation, Search}
 
 -- the step of a line in this part of a report
-abbrev pub step_in : Part → List ℕ → Option Line
+abbrev pub step_in : Section → List ℕ → Option Line
 step_in Values = no_step
 step_in Refutation = step_of_none 2
 step_in Search = any_step 2

@@ -28,7 +28,7 @@ const LAST_PROCESS: u32 = 3;
 
 /// What a line stands in.
 #[derive(Clone, Copy, Debug)]
-enum Part {
+enum Section {
     /// The values of a map, which no step follows.
     Values,
     /// A refutation.
@@ -136,7 +136,7 @@ fn read_map(alloc: Global, text: &[u8]) -> Result<Body, CertFault>
 {
     let (values, rest) = read_values(alloc, text)?;
     let at = FIRST_LINE + values.len() as u32;
-    read_lines(alloc, rest, at, Part::Values)?;
+    read_lines(alloc, rest, at, Section::Values)?;
     Ok(Body::Map(values))
 }
 
@@ -146,7 +146,7 @@ fn read_refutation(alloc: Global, text: &[u8]) -> Result<Body, CertFault>
     ensures lines { Gives body_of result (none_body 2 (lines_of text.now)) }
     ensures few { IfOk result (λ body. body_length body ≤ LONGEST) }
 {
-    let lines = read_lines(alloc, text, FIRST_LINE, Part::Refutation)?;
+    let lines = read_lines(alloc, text, FIRST_LINE, Section::Refutation)?;
     Ok(Body::Nothing(lines))
 }
 
@@ -158,7 +158,7 @@ fn read_least(alloc: Global, text: &[u8]) -> Result<Body, CertFault>
 {
     let (values, rest) = read_values(alloc, text)?;
     let at = FIRST_LINE + values.len() as u32;
-    let lines = read_lines(alloc, rest, at, Part::Search)?;
+    let lines = read_lines(alloc, rest, at, Section::Search)?;
     Ok(Body::Least(values, lines))
 }
 
@@ -181,7 +181,7 @@ fn read_values<'a>(alloc: Global, text: &'a [u8]) -> Result<(Vec<u8>, &'a [u8]),
 }
 
 /// The lines from this one on, up to the end of the text.
-fn read_lines(alloc: Global, text: &[u8], first: u32, part: Part) -> Result<Lines, CertFault>
+fn read_lines(alloc: Global, text: &[u8], first: u32, part: Section) -> Result<Lines, CertFault>
     requires { first + length text.now ≤ FIRST_LINE + LONGEST }
     ensures lines { let read = steps_from (step_in part) first (lines_of text.now) in
         Gives (λ lines. map line_of lines.items) result read }
@@ -235,13 +235,13 @@ fn value_of(line: &[u8]) -> Option<u8>
 }
 
 /// The step of a line, if it may stand in this part of a report.
-fn step_in(part: Part, line: &[u8]) -> Option<Line>
+fn step_in(part: Section, line: &[u8]) -> Option<Line>
     requires { lacks 10 line.now ≡ true }
     ensures { option_map line_of result ≡ step_in part (line.now ++ 10 ∷ []) }
 {
     let step = step_of(line)?;
     match (part, step) {
-        (Part::Values, _) | (Part::Refutation, Line::Found) => None,
+        (Section::Values, _) | (Section::Refutation, Line::Found) => None,
         _ => Some(step),
     }
 }

@@ -6,20 +6,20 @@ use Rattle.std.proofs.lemmas.Bool.{cases_eq, cases_lt}
 use Rattle.std.proofs.lemmas.List.{get_or_append_left, get_or_push, length_push, take_all}
 use Rattle.std.proofs.lemmas.List.Elements.{All-contains}
 use Rattle.wf_rup.specs.Index.{Finds, FindsStill, FindsStillBut, IsAlikeAt, IsHashOf, IsIndexed, IsKeptAt, IsOther, bucket_of}
-use Rattle.wf_rup.specs.declared.index.Entry.{Entry}
+use Rattle.wf_rup.specs.declared.index.HashEntry.{HashEntry}
 use Rattle.wf_rup.proofs.HashLemmas.{same-hash}
 
-abbrev entry_of : ℕ → ℕ → Entry
+abbrev entry_of : ℕ → ℕ → HashEntry
 entry_of hash number = record { hash = hash; number = number }
 
-pub indexed-still : (clauses : List (List ℕ)) (old new : List (List Entry)) → IsIndexed clauses old → FindsStill old new → IsIndexed clauses new
+pub indexed-still : (clauses : List (List ℕ)) (old new : List (List HashEntry)) → IsIndexed clauses old → FindsStill old new → IsIndexed clauses new
 indexed-still clauses old new h still = λ n kept. record {
   hash = (h n kept).hash;
   hashed = (h n kept).hashed;
   found = still (entry_of (h n kept).hash n) (h n kept).found;
 }
 
-pub indexed-pushed : (clauses : List (List ℕ)) (old new : List (List Entry)) (c : List ℕ) (hash number : ℕ) → IsIndexed clauses old → FindsStill old new
+pub indexed-pushed : (clauses : List (List ℕ)) (old new : List (List HashEntry)) (c : List ℕ) (hash number : ℕ) → IsIndexed clauses old → FindsStill old new
     → IsHashOf c hash → number ≡ length clauses → Finds new (record { hash = hash; number = number }) → IsIndexed (clauses ++ c ∷ []) new
 indexed-pushed clauses old new c hash number h still hashed last found = λ n kept. elim (cases_lt n (length clauses)) [
   | inl within ↦
@@ -41,7 +41,7 @@ indexed-pushed clauses old new c hash number h still hashed last found = λ n ke
       }
 ]
 
-pub indexed-forgotten : (clauses : List (List ℕ)) (old new : List (List Entry)) (taken : Entry) (number : ℕ) → IsIndexed clauses old
+pub indexed-forgotten : (clauses : List (List ℕ)) (old new : List (List HashEntry)) (taken : HashEntry) (number : ℕ) → IsIndexed clauses old
     → FindsStillBut taken old new → taken.number ≡ number → IsIndexed (set clauses number []) new
 indexed-forgotten clauses old new taken number h still is = λ n kept.
     let inside : n < length (set clauses number []) = kept.within in
@@ -64,7 +64,7 @@ indexed-forgotten clauses old new taken number h still is = λ n kept.
     ]
 
 -- a clause that is not found is none that is kept
-pub none-alike : (clauses : List (List ℕ)) (index : List (List Entry)) (entries : List Entry) (hash n : ℕ) (clause : List ℕ) → IsIndexed clauses index → entries ≡ bucket_of index hash
+pub none-alike : (clauses : List (List ℕ)) (index : List (List HashEntry)) (entries : List HashEntry) (hash n : ℕ) (clause : List ℕ) → IsIndexed clauses index → entries ≡ bucket_of index hash
     → IsHashOf clause hash → All (IsOther clauses hash clause) entries → IsAlikeAt clauses clause n → ⊥
 none-alike clauses index entries hash n clause h is hashed others there =
     let at = h n there.kept in
@@ -77,7 +77,7 @@ pub all-so_far : {X : Type 0} (P : X → Type 0) (xs : List X) (i : ℕ) → len
 all-so_far P xs i long h = subst (All P) (take_all i xs long) h
 
 -- where the clause is stored in the end, and where it is not
-pub indexed-either : (clauses after : List (List ℕ)) (old new : List (List Entry)) (c : List ℕ) (hash number : ℕ) (b : Bool) → IsIndexed clauses old → FindsStill old new
+pub indexed-either : (clauses after : List (List ℕ)) (old new : List (List HashEntry)) (c : List ℕ) (hash number : ℕ) (b : Bool) → IsIndexed clauses old → FindsStill old new
     → IsHashOf c hash → number ≡ length clauses → Finds new (record { hash = hash; number = number })
     → after ≡ (if b then clauses ++ c ∷ [] else clauses) → IsIndexed after new
 indexed-either clauses after old new c hash number true h still hashed last found is =

@@ -7,11 +7,11 @@ use Rattle.std.proofs.lemmas.Bool.{cases_eq, cases_lt}
 use Rattle.std.proofs.lemmas.List.Quantifiers.{all_pairs_push}
 use Rattle.std.proofs.lemmas.List.Elements.{All-contains, All-push, All-set, Contains-append_left, Contains-push}
 use Rattle.std.proofs.lemmas.Grind.{get_or-set_at}
-use Rattle.wf_rup.specs.declared.clauses.Span.{Span}
+use Rattle.wf_rup.specs.declared.clauses.ClauseRange.{ClauseRange}
 use Rattle.wf_rup.specs.Stored.{AreLaid, HasNoHead, IsWithin, clause_at, clauses_in, head_word, span_at}
 
 -- more literals behind change no clause
-pub clause_at-append : (arena more : List ℕ) (s : Span) → IsWithin (length arena) s → clause_at (arena ++ more) s ≡ clause_at arena s
+pub clause_at-append : (arena more : List ℕ) (s : ClauseRange) → IsWithin (length arena) s → clause_at (arena ++ more) s ≡ clause_at arena s
 clause_at-append arena more s h =
     let ordered : s.start ≤ s.«end» = h.ordered in
     let bounded : s.«end» ≤ length arena = h.bounded in
@@ -20,7 +20,7 @@ clause_at-append arena more s h =
     ap (take (s.«end» - s.start)) (drop-append-le s.start arena more starts)
     ∙ take-append-le (s.«end» - s.start) (drop s.start arena) more room
 
-pub clauses_in-append : (arena more : List ℕ) (spans : List Span) → All (IsWithin (length arena)) spans → clauses_in (arena ++ more) spans ≡ clauses_in arena spans
+pub clauses_in-append : (arena more : List ℕ) (spans : List ClauseRange) → All (IsWithin (length arena)) spans → clauses_in (arena ++ more) spans ≡ clauses_in arena spans
 clauses_in-append arena more [] all = refl
 clauses_in-append arena more (s ∷ spans) all =
     let rest : All (IsWithin (length arena)) spans = λ k d h. let deeper : suc k < length (s ∷ spans) = omega arith in all (suc k) d deeper in
@@ -30,12 +30,12 @@ clauses_in-append arena more (s ∷ spans) all =
     ap (λ x. x ∷ clauses_in (arena ++ more) spans) one ∙ ap (λ xs. clause_at arena s ∷ xs) others
 
 -- the literals behind are the new clause
-pub clause_at-new : (arena more : List ℕ) (s : Span) → s.start ≡ length arena → s.«end» ≡ length arena + length more → clause_at (arena ++ more) s ≡ more
+pub clause_at-new : (arena more : List ℕ) (s : ClauseRange) → s.start ≡ length arena → s.«end» ≡ length arena + length more → clause_at (arena ++ more) s ≡ more
 clause_at-new arena more s starts ends =
     let long : s.«end» - s.start ≡ length more = omega arith in
     rw (long, starts, drop-append_seam arena more) (take-length more)
 
-pub clauses_in-push : (arena more : List ℕ) (spans : List Span) (s : Span) → All (IsWithin (length arena)) spans
+pub clauses_in-push : (arena more : List ℕ) (spans : List ClauseRange) (s : ClauseRange) → All (IsWithin (length arena)) spans
     → s.start ≡ length arena → s.«end» ≡ length arena + length more
     → clauses_in (arena ++ more) (spans ++ s ∷ []) ≡ clauses_in arena spans ++ more ∷ []
 clauses_in-push arena more spans s all starts ends =
@@ -44,7 +44,7 @@ clauses_in-push arena more spans s all starts ends =
     ∙ ap (λ x. clauses_in arena spans ++ x ∷ []) (clause_at-new arena more s starts ends)
 
 -- with more words behind, the spans still lie within
-pub within-append : (arena more : List ℕ) (spans : List Span) → All (IsWithin (length arena)) spans → All (IsWithin (length (arena ++ more))) spans
+pub within-append : (arena more : List ℕ) (spans : List ClauseRange) → All (IsWithin (length arena)) spans → All (IsWithin (length (arena ++ more))) spans
 within-append arena more spans all = λ k d h.
     let old : IsWithin (length arena) (get_or spans k d) = all k d h in
     let bounded : (get_or spans k d).«end» ≤ length arena = old.bounded in
@@ -57,11 +57,11 @@ pub begun-read : (arena : List ℕ) (place word : ℕ) → place < length arena 
 begun-read arena place word inside is head = get_or_default arena place 0 word inside ∙ sym is ∙ head
 
 -- where a clause begins, its words lie within
-pub begun-within : (arena : List ℕ) (spans : List Span) (place : ℕ) → AreLaid arena spans → get_or arena place 0 ≡ head_word → IsWithin (length arena) (span_at arena place)
+pub begun-within : (arena : List ℕ) (spans : List ClauseRange) (place : ℕ) → AreLaid arena spans → get_or arena place 0 ≡ head_word → IsWithin (length arena) (span_at arena place)
 begun-within arena spans place h is = All-contains (IsWithin (length arena)) spans (span_at arena place) h.within (h.marked place is)
 
 -- the words behind the first one begin no clause where the list is short
-pub begun-alone : (arena : List ℕ) (spans : List Span) (place : ℕ) → AreLaid arena spans → get_or arena place 0 ≡ head_word → get_or arena (place + 1) 0 ≡ head_word → ⊥
+pub begun-alone : (arena : List ℕ) (spans : List ClauseRange) (place : ℕ) → AreLaid arena spans → get_or arena place 0 ≡ head_word → get_or arena (place + 1) 0 ≡ head_word → ⊥
 begun-alone arena spans place h is next =
     let bounded : get_or arena (place + 1) 0 ≤ length arena = (begun-within arena spans place h is).bounded in
     let few : length arena < head_word = h.few in
@@ -70,7 +70,7 @@ begun-alone arena spans place h is next =
 span_at-same : (old new : List ℕ) (place : ℕ) → get_or new (place + 1) 0 ≡ get_or old (place + 1) 0 → span_at new place ≡ span_at old place
 span_at-same old new place same = λ i. record { start = place + 4; «end» = same i }
 
-marked-append : (arena more : List ℕ) (spans : List Span) → AreLaid arena spans → HasNoHead more → (place : ℕ) → get_or (arena ++ more) place 0 ≡ head_word → Contains spans (span_at (arena ++ more) place)
+marked-append : (arena more : List ℕ) (spans : List ClauseRange) → AreLaid arena spans → HasNoHead more → (place : ℕ) → get_or (arena ++ more) place 0 ≡ head_word → Contains spans (span_at (arena ++ more) place)
 marked-append arena more spans h none place is = elim (cases_lt place (length arena)) [
   | inl here ↦
       let old : get_or arena place 0 ≡ head_word = sym (get_or_append_left arena more 0 place here) ∙ is in
@@ -80,7 +80,7 @@ marked-append arena more spans h none place is = elim (cases_lt place (length ar
   | inr behind ↦ absurd (none (place - length arena) (sym (get_or-append_right arena more (length arena) place 0 refl behind) ∙ is))
 ]
 
-pub laid-append : (arena more : List ℕ) (spans : List Span) → HasNoHead more → length (arena ++ more) < head_word → AreLaid arena spans → AreLaid (arena ++ more) spans
+pub laid-append : (arena more : List ℕ) (spans : List ClauseRange) → HasNoHead more → length (arena ++ more) < head_word → AreLaid arena spans → AreLaid (arena ++ more) spans
 laid-append arena more spans none few h =
     record { within = within-append arena more spans h.within; apart = h.apart; marked = marked-append arena more spans h none; few = few }
 
@@ -101,7 +101,7 @@ slice-set xs i v a b h (inr behind) =
     let P : ℕ → Type 0 = λ n. slice_range (set xs n v) a b ≡ slice_range xs a b in
     subst P same (slice-set-behind xs (i - a) v a b far)
 
-clauses_in-same : (old new : List ℕ) (spans : List Span) → All (λ s. clause_at new s ≡ clause_at old s) spans → clauses_in new spans ≡ clauses_in old spans
+clauses_in-same : (old new : List ℕ) (spans : List ClauseRange) → All (λ s. clause_at new s ≡ clause_at old s) spans → clauses_in new spans ≡ clauses_in old spans
 clauses_in-same old new [] all = refl
 clauses_in-same old new (s ∷ spans) all =
     let rest : All (λ t. clause_at new t ≡ clause_at old t) spans = λ k d h. let deeper : suc k < length (s ∷ spans) = omega arith in all (suc k) d deeper in
@@ -110,7 +110,7 @@ clauses_in-same old new (s ∷ spans) all =
     ap (λ x. x ∷ clauses_in new spans) one ∙ ap (λ xs. clause_at old s ∷ xs) (clauses_in-same old new spans rest)
 
 -- where the word of a span's head lies, as the other spans see it
-head-outside : (arena : List ℕ) (spans : List Span) (n i k : ℕ) (d : Span) → AreLaid arena spans → n < length spans → k < length spans
+head-outside : (arena : List ℕ) (spans : List ClauseRange) (n i k : ℕ) (d : ClauseRange) → AreLaid arena spans → n < length spans → k < length spans
     → i < (get_or spans n d).start → (get_or spans n d).start ≤ i + 4
     → (i < (get_or spans k d).start) ⊎ ((get_or spans k d).«end» ≤ i)
 head-outside arena spans n i k d h inside here below near = elim (cases_lt k n) [
@@ -124,13 +124,13 @@ head-outside arena spans n i k d h inside here below near = elim (cases_lt k n) 
 ]
 
 -- what is written at a span's head changes no clause
-pub clauses_in-head : (arena : List ℕ) (spans : List Span) (n i v : ℕ) (d : Span) → AreLaid arena spans → n < length spans
+pub clauses_in-head : (arena : List ℕ) (spans : List ClauseRange) (n i v : ℕ) (d : ClauseRange) → AreLaid arena spans → n < length spans
     → i < (get_or spans n d).start → (get_or spans n d).start ≤ i + 4 → clauses_in (set arena i v) spans ≡ clauses_in arena spans
 clauses_in-head arena spans n i v d h inside below near =
     clauses_in-same arena (set arena i v) spans (λ k e here.
     let whole : d ≡ d = refl in
     let at_k : get_or spans k e ≡ get_or spans k d = get_or_default spans k e d here in
-    let P : Span → Type 0 = λ s. clause_at (set arena i v) s ≡ clause_at arena s in
+    let P : ClauseRange → Type 0 = λ s. clause_at (set arena i v) s ≡ clause_at arena s in
     subst P (sym at_k) (slice-set arena i v _ _ (h.within k d here).ordered (head-outside arena spans n i k d h inside here below near)))
 
 get-set : (arena : List ℕ) (i v place : ℕ) → (v ≡ head_word → ⊥) → get_or (set arena i v) place 0 ≡ head_word → get_or arena place 0 ≡ head_word
@@ -148,7 +148,7 @@ get-set arena i v place other is = elim (cases_lt place i) [
 ]
 
 -- a word is written that begins no clause, and doesn't say where one ends
-pub laid-set : (arena : List ℕ) (spans : List Span) (i v : ℕ) → (v ≡ head_word → ⊥) → ((place : ℕ) → get_or arena place 0 ≡ head_word → place + 1 ≡ i → ⊥)
+pub laid-set : (arena : List ℕ) (spans : List ClauseRange) (i v : ℕ) → (v ≡ head_word → ⊥) → ((place : ℕ) → get_or arena place 0 ≡ head_word → place + 1 ≡ i → ⊥)
     → AreLaid arena spans → AreLaid (set arena i v) spans
 laid-set arena spans i v other apart h =
     let P : ℕ → Type 0 = λ size. All (IsWithin size) spans in
@@ -162,8 +162,8 @@ laid-set arena spans i v other apart h =
     }
 
 -- the span of a new clause lies behind the others
-pub laid-push : (arena : List ℕ) (spans : List Span) (s : Span) → AreLaid arena spans → IsWithin (length arena) s
-    → ((k : ℕ) (d : Span) → k < length spans → (get_or spans k d).«end» + 4 ≤ s.start) → AreLaid arena (spans ++ s ∷ [])
+pub laid-push : (arena : List ℕ) (spans : List ClauseRange) (s : ClauseRange) → AreLaid arena spans → IsWithin (length arena) s
+    → ((k : ℕ) (d : ClauseRange) → k < length spans → (get_or spans k d).«end» + 4 ≤ s.start) → AreLaid arena (spans ++ s ∷ [])
 laid-push arena spans s h mine behind = record {
   within = All-push (IsWithin (length arena)) spans s h.within mine;
   apart = all_pairs_push (λ x y. x.«end» + 4 ≤ y.start) spans s h.apart behind;
@@ -172,7 +172,7 @@ laid-push arena spans s h mine behind = record {
 }
 
 -- the word is written with which a clause begins that lies there
-pub laid-begin : (arena : List ℕ) (spans : List Span) (i : ℕ) → Contains spans (span_at arena i) → ((place : ℕ) → get_or arena place 0 ≡ head_word → place + 1 ≡ i → ⊥)
+pub laid-begin : (arena : List ℕ) (spans : List ClauseRange) (i : ℕ) → Contains spans (span_at arena i) → ((place : ℕ) → get_or arena place 0 ≡ head_word → place + 1 ≡ i → ⊥)
     → AreLaid arena spans → AreLaid (set arena i head_word) spans
 laid-begin arena spans i there apart h =
     let P : ℕ → Type 0 = λ size. All (IsWithin size) spans in
@@ -200,7 +200,7 @@ clause_at-nothing arena start =
 
 -- ---- words of a clause that begins at a place
 
-module _ (arena : List ℕ) (spans : List Span) (place : ℕ) (h : AreLaid arena spans) (begun : get_or arena place 0 ≡ head_word) where
+module _ (arena : List ℕ) (spans : List ClauseRange) (place : ℕ) (h : AreLaid arena spans) (begun : get_or arena place 0 ≡ head_word) where
   -- it watches another literal
   pub laid-watch : (first : ℕ) → (first ≡ head_word → ⊥) → AreLaid (set arena (place + 2) first) spans
   laid-watch first other =
@@ -226,12 +226,12 @@ no-head-four e first second p q r (suc (suc zero)) is = q is
 no-head-four e first second p q r (suc (suc (suc zero))) is = r is
 no-head-four e first second p q r (suc (suc (suc (suc n)))) is = omega arith
 
-module _ (arena more : List ℕ) (spans : List Span) (e first second : ℕ) (h : AreLaid arena spans) (long : e ≡ length arena + 4 + length more) (few : e < head_word)
+module _ (arena more : List ℕ) (spans : List ClauseRange) (e first second : ℕ) (h : AreLaid arena spans) (long : e ≡ length arena + 4 + length more) (few : e < head_word)
     (one : first ≡ head_word → ⊥) (two : second ≡ head_word → ⊥) (none : HasNoHead more) where
   abbrev four : List ℕ
   four = 0 ∷ e ∷ first ∷ second ∷ []
 
-  abbrev span : Span
+  abbrev span : ClauseRange
   span = record { start = length arena + 4; «end» = e }
 
   size : length (arena ++ four) ≡ length arena + 4
@@ -281,9 +281,9 @@ module _ (arena more : List ℕ) (spans : List Span) (e first second : ℕ) (h :
 
 -- ---- a clause that is no longer kept
 
-module _ (arena : List ℕ) (spans : List Span) (n from : ℕ) (d : Span) (h : AreLaid arena spans) (inside : n < length spans) (is : from ≡ (get_or spans n d).start) where
+module _ (arena : List ℕ) (spans : List ClauseRange) (n from : ℕ) (d : ClauseRange) (h : AreLaid arena spans) (inside : n < length spans) (is : from ≡ (get_or spans n d).start) where
   -- where it starts, with nothing in it
-  abbrev none : Span
+  abbrev none : ClauseRange
   none = record { start = from; «end» = from }
 
   abbrev forgotten : List ℕ
@@ -302,11 +302,11 @@ module _ (arena : List ℕ) (spans : List Span) (n from : ℕ) (d : Span) (h : A
   within = subst (λ size. All (IsWithin size) (set spans n none)) (sym (length-set arena (from - 3) from))
       (All-set (IsWithin (length arena)) spans n none (record { headed = headed; ordered = omega arith; bounded = room }) h.within)
 
-  at : (k : ℕ) (e : Span) → k < length spans → (k ≡ n → ⊥) → get_or (set spans n none) k e ≡ get_or spans k e
+  at : (k : ℕ) (e : ClauseRange) → k < length spans → (k ≡ n → ⊥) → get_or (set spans n none) k e ≡ get_or spans k e
   at k e here other = get_or-set_other spans n k none e other
 
   -- it starts where it did, and ends no later
-  same_start : (k : ℕ) (e : Span) → k < length spans → (get_or (set spans n none) k e).start ≡ (get_or spans k e).start
+  same_start : (k : ℕ) (e : ClauseRange) → k < length spans → (get_or (set spans n none) k e).start ≡ (get_or spans k e).start
   same_start k e here = elim (cases_eq k n) [
     | inl same ↦
         ap (λ t. t.start) (get_or-set_at spans n k none e same inside) ∙ is
@@ -314,7 +314,7 @@ module _ (arena : List ℕ) (spans : List Span) (n from : ℕ) (d : Span) (h : A
     | inr other ↦ ap (λ t. t.start) (at k e here other)
   ]
 
-  less_end : (k : ℕ) (e : Span) → k < length spans → (get_or (set spans n none) k e).«end» ≤ (get_or spans k e).«end»
+  less_end : (k : ℕ) (e : ClauseRange) → k < length spans → (get_or (set spans n none) k e).«end» ≤ (get_or spans k e).«end»
   less_end k e here = elim (cases_eq k n) [
     | inl same ↦
         let ends : (get_or (set spans n none) k e).«end» ≡ from = ap (λ t. t.«end») (get_or-set_at spans n k none e same inside) in

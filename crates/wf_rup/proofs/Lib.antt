@@ -13,4 +13,4 @@ pub mod CatalogueLemmas
 pub mod FedLemmas
 pub mod PosedLemmas
 pub mod Pieces
-pub mod Feeding
+pub mod ProofPieces

@@ -3,28 +3,28 @@ use Rattle.std.specs.Prelude.{◌≡◌, ℕ, ◌<◌, ◌+◌, ◌*◌, ◌/◌
 use Rattle.std.specs.List.{sum_by}
 use Rattle.wf_rup.specs.Deleted.{AreAlike}
 use Rattle.wf_rup.specs.Stored.{IsDistinct, has}
-use Rattle.wf_rup.specs.declared.catalogue.Found.{Found}
-use Rattle.wf_rup.specs.declared.index.Entry.{Entry}
+use Rattle.wf_rup.specs.declared.catalogue.FoundClause.{FoundClause}
+use Rattle.wf_rup.specs.declared.index.HashEntry.{HashEntry}
 
 -- the bucket of a hash
-abbrev pub bucket_of : List (List Entry) → ℕ → List Entry
+abbrev pub bucket_of : List (List HashEntry) → ℕ → List HashEntry
 bucket_of buckets hash = get_or buckets (hash % length buckets) []
 
 -- the entry stands in the bucket of its hash
-abbrev pub Finds : List (List Entry) → Entry → Type 0
+abbrev pub Finds : List (List HashEntry) → HashEntry → Type 0
 Finds buckets entry = Contains (bucket_of buckets entry.hash) entry
 
 -- each of these entries does
-abbrev pub FindsEach : List (List Entry) → List Entry → Type 0
+abbrev pub FindsEach : List (List HashEntry) → List HashEntry → Type 0
 FindsEach buckets entries = All (Finds buckets) entries
 
 -- each entry that stood in its bucket stands there still
-abbrev pub FindsStill : List (List Entry) → List (List Entry) → Type 0
-FindsStill old new = (entry : Entry) → Finds old entry → Finds new entry
+abbrev pub FindsStill : List (List HashEntry) → List (List HashEntry) → Type 0
+FindsStill old new = (entry : HashEntry) → Finds old entry → Finds new entry
 
 -- each other entry that stood in its bucket stands there still
-abbrev pub FindsStillBut : Entry → List (List Entry) → List (List Entry) → Type 0
-FindsStillBut taken old new = (entry : Entry) → (entry ≡ taken → ⊥) → Finds old entry → Finds new entry
+abbrev pub FindsStillBut : HashEntry → List (List HashEntry) → List (List HashEntry) → Type 0
+FindsStillBut taken old new = (entry : HashEntry) → (entry ≡ taken → ⊥) → Finds old entry → Finds new entry
 
 -- ---- hashes
 
@@ -81,13 +81,13 @@ pub record IsKeptAt (clauses : List (List ℕ)) (number : ℕ) : Type 0 where
   pub some : 0 < length (get_or clauses number [])
 
 -- it stands in the index, under its hash
-pub record IsIndexedAt (clauses : List (List ℕ)) (index : List (List Entry)) (number : ℕ) : Type 0 where
+pub record IsIndexedAt (clauses : List (List ℕ)) (index : List (List HashEntry)) (number : ℕ) : Type 0 where
   pub hash : ℕ
   pub hashed : IsHashOf (get_or clauses number []) hash
   pub found : Finds index (record { hash = hash; number = number })
 
 -- each clause that is kept does
-abbrev pub IsIndexed : List (List ℕ) → List (List Entry) → Type 0
+abbrev pub IsIndexed : List (List ℕ) → List (List HashEntry) → Type 0
 IsIndexed clauses index = (number : ℕ) → IsKeptAt clauses number → IsIndexedAt clauses index number
 
 -- the clause of this number is kept, and has these literals
@@ -102,13 +102,13 @@ pub record IsTaken (clause : List ℕ) (old new : List (List ℕ)) : Type 0 wher
   pub is : new ≡ set old number []
 
 -- the entry leads to a kept clause with these literals
-pub record IsFoundAt (entries : List Entry) (clauses : List (List ℕ)) (clause : List ℕ) (found : Found) : Type 0 where
-  pub entry : Entry
+pub record IsFoundAt (entries : List HashEntry) (clauses : List (List ℕ)) (clause : List ℕ) (found : FoundClause) : Type 0 where
+  pub entry : HashEntry
   pub within : found.place < length entries
   pub is : entry ≡ get_or entries found.place entry
   pub numbered : entry.number ≡ found.number
   pub alike : IsAlikeAt clauses clause found.number
 
 -- the entry has another hash, or its clause is not kept or has other literals
-abbrev pub IsOther : List (List ℕ) → ℕ → List ℕ → Entry → Type 0
+abbrev pub IsOther : List (List ℕ) → ℕ → List ℕ → HashEntry → Type 0
 IsOther clauses hash clause entry = entry.hash ≡ hash → IsAlikeAt clauses clause entry.number → ⊥

@@ -4,8 +4,8 @@ use Rattle.std.specs.List.{list_any}
 use Rattle.wf_rup.specs.Stored.{has}
 use Rattle.wf_clauses.specs.Formula.{Assignment}
 use Rattle.wf_drat.specs.Codes.{hold_codes, holds_code, is_model_of_codes, satisfies_codes}
-use Rattle.wf_rup.specs.declared.propagation.Outcome.{Outcome}
-use Rattle.wf_rup.specs.declared.propagation.Outcome.TheVariants.{Gone, Stays, Forces, Fails}
+use Rattle.wf_rup.specs.declared.propagation.WatchOutcome.{WatchOutcome}
+use Rattle.wf_rup.specs.declared.propagation.WatchOutcome.TheVariants.{Gone, Stays, Forces, Fails}
 
 -- one of the two literals holds, and never both
 abbrev pub IsNegationOf : ℕ → ℕ → Type 0
@@ -72,7 +72,7 @@ pub record Extends (clauses : List (List ℕ)) (old new : List ℕ) : Type 0 whe
   pub forced : (a : Assignment) → is_model_of_codes a clauses ≡ true → hold_codes a old ≡ true → hold_codes a new ≡ true
 
 -- what became of a clause is so because of the clauses and the literals that are true
-abbrev pub IsSound : List (List ℕ) → List ℕ → Outcome → Type 0
+abbrev pub IsSound : List (List ℕ) → List ℕ → WatchOutcome → Type 0
 IsSound clauses trail Gone = Unit {0}
 IsSound clauses trail (Stays literal) = Unit {0}
 IsSound clauses trail (Forces literal) = IsForced clauses trail literal

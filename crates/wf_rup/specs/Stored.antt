@@ -3,7 +3,7 @@ use Rattle.std.specs.Prelude.{◌≡◌, ℕ, ◌+◌, ◌<◌, ◌≤◌, ◌==
 use Rattle.std.specs.List.{AllPairs, list_any, slice_range}
 use Rattle.wf_clauses.specs.Formula.{Assignment}
 use Rattle.wf_drat.specs.Codes.{hold_codes, holds_code, is_model_of_codes, satisfies_codes}
-use Rattle.wf_rup.specs.declared.clauses.Span.{Span}
+use Rattle.wf_rup.specs.declared.clauses.ClauseRange.{ClauseRange}
 
 -- what is stored: the literals that are true, the clauses, and whether they were refuted
 pub record Stored : Type 0 where
@@ -63,10 +63,10 @@ kept_of ([] ∷ clauses) = kept_of clauses
 kept_of ((literal ∷ literals) ∷ clauses) = (literal ∷ literals) ∷ kept_of clauses
 
 -- the literals of a span
-abbrev pub clause_at : List ℕ → Span → List ℕ
+abbrev pub clause_at : List ℕ → ClauseRange → List ℕ
 clause_at arena span = slice_range arena span.start span.«end»
 
-abbrev pub clauses_in : List ℕ → List Span → List (List ℕ)
+abbrev pub clauses_in : List ℕ → List ClauseRange → List (List ℕ)
 clauses_in arena spans = map (clause_at arena) spans
 
 -- the word with which a clause begins: no literal's number
@@ -79,18 +79,18 @@ HasNoHead words = (place : ℕ) → get_or words place 0 ≡ head_word → ⊥
 
 -- where the literals lie of a clause that begins here: behind four words, of
 -- which the second says where they end
-abbrev pub span_at : List ℕ → ℕ → Span
+abbrev pub span_at : List ℕ → ℕ → ClauseRange
 span_at arena place = record { start = place + 4; «end» = get_or arena (place + 1) 0 }
 
 -- the span lies within so many words, behind four others
-pub record IsWithin (size : ℕ) (span : Span) : Type 0 where
+pub record IsWithin (size : ℕ) (span : ClauseRange) : Type 0 where
   pub headed : 4 ≤ span.start
   pub ordered : span.start ≤ span.«end»
   pub bounded : span.«end» ≤ size
 
 -- the spans lie within the list, and each before the four words of the next
 -- ones; a clause begins where the list says so
-pub record AreLaid (arena : List ℕ) (spans : List Span) : Type 0 where
+pub record AreLaid (arena : List ℕ) (spans : List ClauseRange) : Type 0 where
   pub within : All (IsWithin (length arena)) spans
   pub apart : AllPairs (λ s t. s.«end» + 4 ≤ t.start) spans
   pub marked : (place : ℕ) → get_or arena place 0 ≡ head_word → Contains spans (span_at arena place)

@@ -6,7 +6,7 @@ ghost use Rattle.wf_rup.specs.Index.{IsAlikeAt, IsFoundAt, IsOther, IsTaken};
 use crate::alike::are_alike;
 use crate::clauses::Clauses;
 use crate::hash::hash_of;
-use crate::index::{Entry, Index};
+use crate::index::{HashEntry, Index};
 use crate::trail::Trail;
 use std::alloc::{AllocError, Global};
 use std::marker::Model;
@@ -14,7 +14,7 @@ use wf_drat::Code;
 
 /// Where a clause was found: the place of its entry in the bucket, and its number.
 #[derive(Clone, Copy)]
-struct Found {
+struct FoundClause {
     place: usize,
     number: usize,
 }
@@ -125,7 +125,7 @@ impl Catalogue {
             return Err(AllocError);
         }
         let hash = hash_of(&mut self.seen, clause)?;
-        let entry = Entry {
+        let entry = HashEntry {
             hash,
             number: number as u32,
         };
@@ -161,12 +161,12 @@ impl Catalogue {
 /// The first of these entries that has the hash and is of a kept clause with
 /// these literals, if there is one.
 fn find(
-    entries: &[Entry],
+    entries: &[HashEntry],
     clauses: &Clauses,
     seen: &mut Trail,
     hash: u32,
     clause: &[Code],
-) -> Result<Option<Found>, AllocError>
+) -> Result<Option<FoundClause>, AllocError>
     ensures some { IfOk result (λ found. IfSome found
         (IsFoundAt entries.now clauses.now clause.now)) }
     ensures none { IfOk result (λ found. found ≡ None
@@ -175,7 +175,7 @@ fn find(
     for (place, entry) in entries.iter().enumerate() {
         let number = entry.number as usize;
         if entry.hash == hash && is_alike(clauses, seen, number, clause)? {
-            return Ok(Some(Found { place, number }));
+            return Ok(Some(FoundClause { place, number }));
         }
     }
     Ok(None)

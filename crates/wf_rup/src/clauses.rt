@@ -20,7 +20,7 @@ const MOST_WORDS: usize = u32::MAX as usize - 1;
 /// Where a clause's literals lie, right behind its other words. Of a clause
 /// that is no longer kept there are none.
 #[derive(Clone, Copy, Drop)]
-struct Span {
+struct ClauseRange {
     start: u32,
     end: u32,
 }
@@ -33,7 +33,7 @@ struct Span {
 #[derive(Drop)]
 pub(crate) struct Clauses {
     arena: Vec<Code>,
-    spans: Vec<Span>,
+    spans: Vec<ClauseRange>,
 }
 
 impl Model for Clauses {
@@ -136,7 +136,7 @@ impl Clauses {
     {
         let start = self.spans[number].start;
         self.arena[start as usize - 3] = start;
-        self.spans[number] = Span { start, end: start };
+        self.spans[number] = ClauseRange { start, end: start };
     }
 
     /// Stores a clause that watches these two literals. Refused for want of memory alone, which
@@ -161,7 +161,7 @@ impl Clauses {
         self.arena
             .extend_from_slice(&[0, end as u32, first, second])?;
         self.arena.extend_from_slice(literals)?;
-        self.spans.push(Span {
+        self.spans.push(ClauseRange {
             start: start as u32,
             end: end as u32,
         })?;

@@ -12,7 +12,7 @@ use crate::propagation::propagate;
 use crate::scan::{open_literal, other_open_literal};
 use crate::settled::settle;
 use crate::trail::{Trail, negated};
-use crate::watches::{Watch, Watches};
+use crate::watches::{Watcher, Watches};
 use std::alloc::{AllocError, Global};
 use std::marker::Model;
 use wf_drat::Code;
@@ -252,14 +252,14 @@ fn store(
     let place = clauses.place(number);
     watches.push(
         first,
-        Watch {
+        Watcher {
             place,
             blocker: second,
         },
     )?;
     watches.push(
         second,
-        Watch {
+        Watcher {
             place,
             blocker: first,
         },

@@ -2,7 +2,7 @@
 
 ghost use Rattle.std.specs.Prelude.{◌≡◌, ◌<◌, get_or, length, IfOk};
 ghost use Rattle.wf_rup.specs.Index.{Finds, FindsEach, FindsStill, FindsStillBut, bucket_of};
-ghost use Rattle.wf_rup.specs.declared.index.Entry.{Entry};
+ghost use Rattle.wf_rup.specs.declared.index.HashEntry.{HashEntry};
 
 use std::alloc::{AllocError, Global};
 use std::marker::Model;
@@ -12,7 +12,7 @@ const FEW: usize = 4;
 
 /// The number of a clause, under the hash of its literals.
 #[derive(Clone, Copy, Drop)]
-pub(crate) struct Entry {
+pub(crate) struct HashEntry {
     pub(crate) hash: u32,
     pub(crate) number: u32,
 }
@@ -22,16 +22,16 @@ pub(crate) struct Entry {
 /// A clause of a contract sees the buckets.
 #[derive(Drop)]
 pub(crate) struct Index {
-    buckets: Vec<Vec<Entry>>,
+    buckets: Vec<Vec<HashEntry>>,
     // how many entries were added
     size: usize,
 }
 
 impl Model for Index {
     ghost use Rattle.std.specs.Prelude.{◌<◌, List, length, map};
-    ghost use Rattle.wf_rup.specs.declared.index.Entry.{Entry};
+    ghost use Rattle.wf_rup.specs.declared.index.HashEntry.{HashEntry};
 
-    ghost Value = { List (List Entry) };
+    ghost Value = { List (List HashEntry) };
 
     ghost view = { λ i. map (λ b. b.items) i.buckets.items };
 
@@ -57,7 +57,7 @@ impl Index {
 
     /// The entries among which those with this hash are.
     #[inline]
-    pub(crate) fn bucket(&self, hash: u32) -> &[Entry]
+    pub(crate) fn bucket(&self, hash: u32) -> &[HashEntry]
         ensures { result.now ≡ bucket_of self.now hash }
     {
         let at = hash as usize % self.buckets.len();
@@ -65,7 +65,7 @@ impl Index {
     }
 
     /// Adds an entry.
-    pub(crate) fn push(&mut self, alloc: Global, entry: Entry) -> Result<(), AllocError>
+    pub(crate) fn push(&mut self, alloc: Global, entry: HashEntry) -> Result<(), AllocError>
         ensures found { IfOk result (λ done. Finds self.new entry) }
         ensures still { FindsStill self.old self.new }
     {
@@ -76,7 +76,7 @@ impl Index {
     }
 
     /// Adds an entry to the bucket of its hash.
-    fn put(&mut self, entry: Entry) -> Result<(), AllocError>
+    fn put(&mut self, entry: HashEntry) -> Result<(), AllocError>
         ensures found { IfOk result (λ done. Finds self.new entry) }
         ensures still { FindsStill self.old self.new }
     {
@@ -87,7 +87,7 @@ impl Index {
     }
 
     /// Adds each of these entries.
-    fn put_all(&mut self, entries: &[Entry]) -> Result<(), AllocError>
+    fn put_all(&mut self, entries: &[HashEntry]) -> Result<(), AllocError>
         ensures found { IfOk result (λ done. FindsEach self.new entries.now) }
         ensures still { FindsStill self.old self.new }
     {
@@ -112,7 +112,7 @@ impl Index {
     /// Takes out the entry at this place of the bucket of a hash.
     pub(crate) fn take(&mut self, hash: u32, place: usize)
         requires { place < length (bucket_of self.old hash) }
-        ensures { (entry : Entry) → entry ≡ get_or (bucket_of self.old hash) place entry
+        ensures { (entry : HashEntry) → entry ≡ get_or (bucket_of self.old hash) place entry
             → FindsStillBut entry self.old self.new }
     {
         let at = hash as usize % self.buckets.len();

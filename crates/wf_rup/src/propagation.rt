@@ -7,12 +7,12 @@ ghost use Rattle.wf_rup.specs.Stored.{kept_of};
 use crate::catalogue::Catalogue;
 use crate::scan::other_open_literal;
 use crate::trail::{Trail, negated};
-use crate::watches::{Watch, Watches};
+use crate::watches::{Watcher, Watches};
 use std::alloc::{AllocError, Global};
 use wf_drat::Code;
 
 /// What became of a clause that watches a literal which is false.
-enum Outcome {
+enum WatchOutcome {
     /// It is no longer kept, or it watches another literal now.
     Gone,
     /// It watches the literal still, and this is the other one that it watches.
@@ -72,17 +72,17 @@ fn visit_watchers(
             continue;
         }
         match visit(place, falsified, clauses, trail, watches)? {
-            Outcome::Gone => {}
-            Outcome::Stays(blocker) => {
-                list[kept] = Watch { place, blocker };
+            WatchOutcome::Gone => {}
+            WatchOutcome::Stays(blocker) => {
+                list[kept] = Watcher { place, blocker };
                 kept += 1;
             }
-            Outcome::Forces(blocker) => {
+            WatchOutcome::Forces(blocker) => {
                 trail.put(blocker)?;
-                list[kept] = Watch { place, blocker };
+                list[kept] = Watcher { place, blocker };
                 kept += 1;
             }
-            Outcome::Fails => {
+            WatchOutcome::Fails => {
                 close_gap(&mut list, kept, at);
                 watches.give(falsified, list);
                 return Ok(true);
@@ -95,7 +95,7 @@ fn visit_watchers(
 }
 
 /// Moves all from one place on to an earlier one.
-fn close_gap(list: &mut Vec<Watch>, to: usize, from: usize)
+fn close_gap(list: &mut Vec<Watcher>, to: usize, from: usize)
     requires ordered { to ≤ from }
     requires within { from ≤ vec_len list.old }
 {
@@ -114,44 +114,44 @@ fn visit(
     clauses: &mut Catalogue,
     trail: &Trail,
     watches: &mut Watches,
-) -> Result<Outcome, AllocError>
+) -> Result<WatchOutcome, AllocError>
     ensures clauses { clauses.new ≡ clauses.old }
     ensures sound { IfOk result (IsSound (kept_of clauses.old) trail.now) }
 {
     let Some((first, second)) = clauses.watched_at(place) else {
-        return Ok(Outcome::Gone);
+        return Ok(WatchOutcome::Gone);
     };
     let other = if first == falsified {
         second
     } else if second == falsified {
         first
     } else {
-        return Ok(Outcome::Gone);
+        return Ok(WatchOutcome::Gone);
     };
     if trail.is_true(other) {
-        return Ok(Outcome::Stays(other));
+        return Ok(WatchOutcome::Stays(other));
     }
     let literals = clauses.literals_at(place);
     if literals.is_empty() {
-        return Ok(Outcome::Gone);
+        return Ok(WatchOutcome::Gone);
     }
     match other_open_literal(literals, trail, other) {
         Some(literal) => {
             clauses.watch_at(place, other, literal);
             watches.push(
                 literal,
-                Watch {
+                Watcher {
                     place,
                     blocker: other,
                 },
             )?;
-            Ok(Outcome::Gone)
+            Ok(WatchOutcome::Gone)
         }
         None => {
             if trail.is_false(other) {
-                Ok(Outcome::Fails)
+                Ok(WatchOutcome::Fails)
             } else {
-                Ok(Outcome::Forces(other))
+                Ok(WatchOutcome::Forces(other))
             }
         }
     }

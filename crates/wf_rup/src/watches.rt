@@ -10,14 +10,14 @@ use wf_drat::Code;
 /// Where a clause begins that watches a literal, and another literal of the clause. Where that one
 /// is true the clause need not be looked at.
 #[derive(Clone, Copy, Drop)]
-pub(crate) struct Watch {
+pub(crate) struct Watcher {
     pub(crate) place: u32,
     pub(crate) blocker: Code,
 }
 
 #[derive(Drop)]
 pub(crate) struct Watches {
-    lists: Vec<Vec<Watch>>,
+    lists: Vec<Vec<Watcher>>,
 }
 
 impl Watches {
@@ -39,7 +39,7 @@ impl Watches {
 
     /// The clause watches the literal.
     #[inline]
-    pub(crate) fn push(&mut self, literal: Code, watch: Watch) -> Result<(), AllocError> {
+    pub(crate) fn push(&mut self, literal: Code, watch: Watcher) -> Result<(), AllocError> {
         let at = literal as usize;
         if at < self.lists.len() {
             self.lists[at].push(watch)?;
@@ -49,7 +49,7 @@ impl Watches {
 
     /// Takes out the list of a literal.
     #[inline]
-    pub(crate) fn take(&mut self, alloc: Global, literal: Code) -> Vec<Watch> {
+    pub(crate) fn take(&mut self, alloc: Global, literal: Code) -> Vec<Watcher> {
         let at = literal as usize;
         if at < self.lists.len() {
             mem::replace(&mut self.lists[at], Vec::new(alloc))
@@ -60,7 +60,7 @@ impl Watches {
 
     /// Gives a literal a list.
     #[inline]
-    pub(crate) fn give(&mut self, literal: Code, list: Vec<Watch>) {
+    pub(crate) fn give(&mut self, literal: Code, list: Vec<Watcher>) {
         let at = literal as usize;
         if at < self.lists.len() {
             self.lists[at] = list;

@@ -9,7 +9,7 @@ ghost use Rattle.wf_search.specs.Cover.{AreClosedBranches, CoversRoot, IsCanonic
 use crate::outline::Outline;
 use std::alloc::{AllocError, Global};
 use std::marker::Model;
-use wf_box::{Answers, Box0, Problem};
+use wf_box::{Box0, KernelCache, Problem};
 use wf_lines::Lines;
 
 /// How often each box is branched at most.
@@ -108,7 +108,7 @@ pub fn split(alloc: Global, problem: &Problem) -> Result<Cover, AllocError>
     ensures covers { IfOk result (CoversRoot problem.now) }
     ensures closed { IfOk result (AreClosedBranches problem.now) }
 {
-    let mut answers = Answers::new(alloc);
+    let mut answers = KernelCache::new(alloc);
     split_with(alloc, problem, &mut answers)
 }
 
@@ -117,7 +117,7 @@ pub fn split(alloc: Global, problem: &Problem) -> Result<Cover, AllocError>
 pub fn split_with(
     alloc: Global,
     problem: &Problem,
-    answers: &mut Answers,
+    answers: &mut KernelCache,
 ) -> Result<Cover, AllocError>
     requires { ServeFor problem.now answers.old }
     ensures outline { IfOk result (λ cover. cover ≡ outline problem.now) }

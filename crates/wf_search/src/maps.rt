@@ -7,9 +7,9 @@ ghost use Rattle.wf_search.specs.FoundMap.{HasAskedForMap, IsCanonicalMap, IsRig
 
 use crate::pending::Pending;
 use crate::stop::Stop;
-use crate::turning::{Turn, take_turn};
+use crate::turning::{TurnEnd, take_turn};
 use std::alloc::{AllocError, Global};
-use wf_box::{Answers, Box0, Problem};
+use wf_box::{Box0, KernelCache, Problem};
 use wf_lines::Lines;
 
 /// What a search found, without its lines.
@@ -33,7 +33,7 @@ pub fn search_map<S: Stop>(
     problem: &Problem,
     boxed: Box0,
     stop: &mut S,
-    answers: &mut Answers,
+    answers: &mut KernelCache,
 ) -> Result<FoundMap, AllocError>
     requires boxed { IsFor problem.now boxed }
     requires answers { ServeFor problem.now answers.old }
@@ -55,12 +55,12 @@ pub fn search_map<S: Stop>(
             return Ok(FoundMap::Stopped);
         }
         match take_turn(alloc, &mut pending, &mut lines)? {
-            Turn::GoesOn => lines.clear(),
-            Turn::Nothing => {
+            TurnEnd::GoesOn => lines.clear(),
+            TurnEnd::Nothing => {
                 pending.leave(answers);
                 return Ok(FoundMap::Nothing);
             }
-            Turn::Map(values) => {
+            TurnEnd::Map(values) => {
                 pending.leave(answers);
                 return Ok(FoundMap::Map(values));
             }

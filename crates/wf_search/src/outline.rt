@@ -15,7 +15,7 @@ ghost use Rattle.wf_search.specs.Outline.{AreGapsFilled, IsClosedBox, IsForIfClo
 use std::alloc::{AllocError, Global};
 use std::marker::Model;
 use std::mem;
-use wf_box::{Answers, Box0, Closed, Problem, Snapshot, close};
+use wf_box::{Box0, Closed, KernelCache, Problem, Snapshot, close};
 use wf_lines::{Line, Lines};
 use wf_set::split_first;
 
@@ -55,7 +55,7 @@ impl Outline {
     pub(crate) fn of_root(
         alloc: Global,
         problem: &Problem,
-        answers: &mut Answers,
+        answers: &mut KernelCache,
     ) -> Result<Outline, AllocError>
         requires { ServeFor problem.now answers.old }
         ensures root { IfOk result (λ outline.
@@ -206,7 +206,7 @@ impl Outline {
         alloc: Global,
         problem: &Problem,
         boxed: Snapshot,
-        answers: &mut Answers,
+        answers: &mut KernelCache,
     ) -> Result<(), AllocError>
         requires boxed { IsFor problem.now boxed }
         requires closed { IsJustClosed boxed }
@@ -233,7 +233,7 @@ impl Outline {
         self,
         alloc: Global,
         problem: &Problem,
-        answers: &mut Answers,
+        answers: &mut KernelCache,
     ) -> Result<Outline, AllocError>
         requires boxes { AllByRecursion (IsClosedBox problem.now) (boxes_left_out self) }
         requires answers { ServeFor problem.now answers.old }

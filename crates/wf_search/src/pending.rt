@@ -12,7 +12,7 @@ ghost use Rattle.wf_search.specs.Pending.{HasFirst, closed_first, first, first_b
 
 use std::alloc::{AllocError, Global};
 use std::marker::Model;
-use wf_box::{Answers, Box0, Closed, Mark, Problem, close};
+use wf_box::{Box0, Closed, KernelCache, Mark, Problem, close};
 use wf_lines::Lines;
 use wf_set::{Mask, is_empty, split_first};
 
@@ -130,7 +130,7 @@ impl<'a> Pending<'a> {
     }
 
     /// Leaves the answers that were kept.
-    pub(crate) fn leave(self, answers: &mut Answers)
+    pub(crate) fn leave(self, answers: &mut KernelCache)
         ensures { ServeFor self.entry.problem answers.new }
     {
         let mut current = self.current;

@@ -10,7 +10,7 @@ use wf_lines::{Line, Lines};
 
 /// How a turn ends.
 #[derive(Drop)]
-pub(crate) enum Turn {
+pub(crate) enum TurnEnd {
     /// The search goes on.
     GoesOn,
     /// No box is left.
@@ -25,7 +25,7 @@ pub(crate) fn take_turn(
     alloc: Global,
     pending: &mut Pending,
     lines: &mut Lines,
-) -> Result<Turn, AllocError>
+) -> Result<TurnEnd, AllocError>
     requires { AreBoxesOf pending.old.problem pending.old.boxes }
     ensures turn { let p = pending.old.problem in
         IfOk result (IsTurn p pending.old.boxes pending.new.boxes lines.old.items lines.new.items) }
@@ -34,21 +34,21 @@ pub(crate) fn take_turn(
     match pending.close(alloc, lines)? {
         Closed::Empty(_) => {
             if pending.next() {
-                Ok(Turn::GoesOn)
+                Ok(TurnEnd::GoesOn)
             } else {
-                Ok(Turn::Nothing)
+                Ok(TurnEnd::Nothing)
             }
         }
         Closed::Open { .. } => match pending.find_open() {
             None => {
                 lines.push(Line::Found)?;
                 let values = pending.least_values(alloc)?;
-                Ok(Turn::Map(values))
+                Ok(TurnEnd::Map(values))
             }
             Some(point) => {
                 lines.push(Line::Branch { point })?;
                 pending.branch(point)?;
-                Ok(Turn::GoesOn)
+                Ok(TurnEnd::GoesOn)
             }
         },
     }

@@ -1,13 +1,13 @@
 //! Marks on executions, and sets that fit into words, worked out by hand.
 
 use std::alloc::AllocError;
-use wf_network::{Marks, UserWord, in_nibbles, in_word, narrowed, unpacked, unpacked_nibbles};
+use wf_network::{MarkMask, Marks, in_nibbles, in_word, narrowed, unpacked, unpacked_nibbles};
 
 #[test]
 fn marks_are_taken_in_order_and_cleared(rt: HostRuntime) -> Result<(), AllocError> {
     let mut marks = Marks::new(rt.alloc());
     marks.reserve(rt.alloc(), 200)?;
-    marks.mark_each(&[UserWord { word: 0, bits: 5 }, UserWord { word: 3, bits: 1 }]);
+    marks.mark_each(&[MarkMask { word: 0, bits: 5 }, MarkMask { word: 3, bits: 1 }]);
     for (from, next) in [(0, 0), (0, 2), (3, 96)] {
         assert_eq!(rt; marks.take_next(from), Some(next));
     }

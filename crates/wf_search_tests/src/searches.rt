@@ -7,7 +7,7 @@ ghost use Rattle.wf_box.specs.Boxes.{ServeFor};
 use crate::tasks::problem_of;
 use std::alloc::{AllocError, Global};
 use std::test::Fail;
-use wf_box::{Answers, Box0, Problem};
+use wf_box::{Box0, KernelCache, Problem};
 use wf_examples::{
     CONSENSUS_2, ONE_PROCESS, ONE_WITHOUT_OUTPUT, ONE_WITHOUT_TUPLE, PATH_2, PATH_3, RENAMING_2_2,
     RENAMING_2_3,
@@ -263,7 +263,7 @@ fn roots_are_searched(rt: HostRuntime) -> Result<(), Fail> {
 fn search_by(
     alloc: Global,
     problem: &Problem,
-    answers: &mut Answers,
+    answers: &mut KernelCache,
 ) -> Result<(Vec<u8>, Lines), AllocError>
     requires { ServeFor problem.now answers.old }
     ensures { ServeFor problem.now answers.new }
@@ -286,7 +286,7 @@ static LEAST_MAPS: [(&str, u32, &[u8]); 4] = [
 fn answers_of_an_earlier_search(rt: HostRuntime) -> Result<(), Fail> {
     for (text, rounds, wanted) in LEAST_MAPS {
         let problem = problem_of(rt.alloc(), text, rounds)?;
-        let mut answers = Answers::new(rt.alloc());
+        let mut answers = KernelCache::new(rt.alloc());
         let (values, lines) = search_by(rt.alloc(), &problem, &mut answers)?;
         assert_eq!(rt; values.as_slice(), wanted);
         let again = search_by(rt.alloc(), &problem, &mut answers)?;

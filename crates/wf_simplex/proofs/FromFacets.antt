@@ -14,8 +14,8 @@ use Rattle.wf_simplex.specs.Order.{same_simplex, same_simplex-equivalence, same_
 use Rattle.wf_simplex.proofs.Adding.{added-append}
 use Rattle.wf_simplex.proofs.Orders.{contains-has, has_at_place, in_order-dedup, in_order-same, length-in_order}
 use Rattle.wf_simplex.proofs.Faces.{complex_of-complex_of, complex_of-sorted, has-flat_map, flat_map-has, length-faces_of}
-use Rattle.wf_simplex.proofs.InTurn.{in_turn-has, has-in_turn}
-use Rattle.wf_simplex.proofs.Within.{complex_within, length-within}
+use Rattle.wf_simplex.proofs.FacesInOrder.{in_turn-has, has-in_turn}
+use Rattle.wf_simplex.proofs.BoundedFaces.{complex_within, length-within}
 
 -- ---- one facet more
 

@@ -12,7 +12,7 @@ use Rattle.wf_simplex.specs.Entries.{vertices_from, value_at, entries_of, is_wit
 use Rattle.wf_simplex.specs.Keys.{digit_of, key_of, one_vertex, key_limit, unit_of, digit_at, entry_of, entries_from, simplex_of, IsKey}
 use Rattle.wf_simplex.specs.Order.{same_simplex, same_simplex-decides}
 use Rattle.wf_simplex.proofs.Tables.{entry_cmp, ordered_by_entries, value_of_entry, past_end, face_by_entries, nonempty_of_simplex}
-use Rattle.wf_simplex.proofs.Within.{Climbs, climbs, climbs_lower, length-within}
+use Rattle.wf_simplex.proofs.BoundedFaces.{Climbs, climbs, climbs_lower, length-within}
 
 -- ---- a simplex is its table
 

@@ -5,9 +5,9 @@ pub mod Words
 pub mod Allowed
 pub mod Orders
 pub mod Faces
-pub mod InTurn
+pub mod FacesInOrder
 pub mod Search
-pub mod Within
+pub mod BoundedFaces
 pub mod KeyLemmas
 pub mod Adding
 pub mod FromFacets

@@ -8,7 +8,7 @@ use Rattle.wf_simplex.specs.Order.{same_simplex}
 use Rattle.wf_draft.specs.Draft.{Listed}
 use Rattle.wf_task.specs.Slots.{entries_in}
 use Rattle.wf_task.specs.Judge.{tuples_for, wrong_length, no_output, answer_or, first_answer}
-use Rattle.wf_task.proofs.Drafted.{lists_more}
+use Rattle.wf_task.proofs.DraftsWithoutFault.{lists_more}
 
 pub place_below : {X : Type 0} (p : X → Bool) (n : ℕ) (xs : List X) (k : ℕ) → position_from p n xs ≡ Some k → k < n + length xs
 place_below p n [] k h = cc

@@ -12,7 +12,7 @@ use Rattle.std.proofs.lemmas.Option.{get_or_from_slice_get, slice_get_within}
 use Rattle.wf_model.specs.Simplex.{Simplex, simplex_cmp}
 use Rattle.wf_model.specs.Task.{Rule, IsSimplexWithin}
 use Rattle.wf_simplex.proofs.Lemmas.{contains-has, Has, has_at_place}
-use Rattle.wf_draft.specs.declared.shape.Entry.{Entry}
+use Rattle.wf_draft.specs.declared.shape.DeltaEntry.{DeltaEntry}
 use Rattle.wf_draft.specs.DraftSeen.{entry_seen}
 use Rattle.wf_task.specs.Judge.{is_among}
 use Rattle.wf_simplex.specs.Order.{same_simplex, same_simplex-decides, simplex_cmp-total}
@@ -163,24 +163,24 @@ among-there inputs s there = by inputs (contains-has s inputs there)
     by (t ∷ ts) (inl e) = rw ((same_simplex-decides s t).1 (sym e)) refl
     by (t ∷ ts) (inr h) = rw (by ts h) (or_true (same_simplex s t))
 
-pub entry_within : (delta : List Entry) (i : ℕ) (e : Entry) → i < length delta → e ≡ slice_index_or delta i e → All (λ rule. IsSimplexWithin 4 255 rule.input) (map entry_seen delta) → IsSimplexWithin 4 255 (entry_seen e).input
+pub entry_within : (delta : List DeltaEntry) (i : ℕ) (e : DeltaEntry) → i < length delta → e ≡ slice_index_or delta i e → All (λ rule. IsSimplexWithin 4 255 rule.input) (map entry_seen delta) → IsSimplexWithin 4 255 (entry_seen e).input
 entry_within delta i e inside is all =
     let shorter : i < length (map entry_seen delta) = omega (arith, length-map delta entry_seen) in
     let within = All-get_or (λ rule. IsSimplexWithin 4 255 rule.input) (map entry_seen delta) i (entry_seen e) shorter all in
     subst (λ rule. IsSimplexWithin 4 255 rule.input) (get_or-map entry_seen delta i e (entry_seen e) inside ∙ ap entry_seen (sym is)) within
 
-pub entry_at : (delta : List Entry) (i : ℕ) (e : Entry) → i < length delta → e ≡ slice_index_or delta i e → drop i delta ≡ e ∷ drop (i + 1) delta
+pub entry_at : (delta : List DeltaEntry) (i : ℕ) (e : DeltaEntry) → i < length delta → e ≡ slice_index_or delta i e → drop i delta ≡ e ∷ drop (i + 1) delta
 entry_at delta i e inside is = rw add-one (drop-cons delta i e inside ∙ ap (λ f. f ∷ drop (suc i) delta) (sym is))
 
-pub entries_more : (delta : List Entry) (i : ℕ) (e : Entry) → i < length delta → e ≡ slice_index_or delta i e → map entry_seen (take (i + 1) delta) ≡ map entry_seen (take i delta) ++ (entry_seen e ∷ [])
+pub entries_more : (delta : List DeltaEntry) (i : ℕ) (e : DeltaEntry) → i < length delta → e ≡ slice_index_or delta i e → map entry_seen (take (i + 1) delta) ≡ map entry_seen (take i delta) ++ (entry_seen e ∷ [])
 entries_more delta i e inside is =
     ap (map entry_seen) (take_more delta i e inside ∙ ap (λ f. take i delta ++ (f ∷ [])) (sym is)) ∙ map-append entry_seen (take i delta) (e ∷ [])
 
-pub entries_so_far : (delta : List Entry) (i : ℕ) → i ≤ length delta → length (map entry_seen (take i delta)) ≡ i
+pub entries_so_far : (delta : List DeltaEntry) (i : ℕ) → i ≤ length delta → length (map entry_seen (take i delta)) ≡ i
 entries_so_far delta i h = length-map (take i delta) entry_seen ∙ length-take-le i delta h
 
 -- the first stray entry, seen from its place on
-pub stray_here : (inputs : List Simplex) (delta : List Entry) (i : ℕ) (e : Entry) → i < length delta → e ≡ slice_index_or delta i e → (Contains inputs (entry_seen e).input → ⊥)
+pub stray_here : (inputs : List Simplex) (delta : List DeltaEntry) (i : ℕ) (e : DeltaEntry) → i < length delta → e ≡ slice_index_or delta i e → (Contains inputs (entry_seen e).input → ⊥)
     → Some i ≡ position_from (λ rule. not (is_among inputs rule.input)) i (map entry_seen (drop i delta))
 stray_here inputs delta i e inside is none =
     rw (entry_at delta i e inside is) (rw (among-absent inputs (entry_seen e).input none) refl)
@@ -189,7 +189,7 @@ pub inner : {X : Type 0} {x y : X} → Some x ≡ Some y → x ≡ y
 inner e = cc
 
 -- one turn of the loop, at an entry for the input simplex of number j
-pub found_step : (slots new : List Slot) (delta : List Entry) (i : ℕ) (e : Entry) (inputs : List Simplex) (j : ℕ) (s : Simplex) (old made : Slot) → IsStrictlySortedBy simplex_cmp inputs
+pub found_step : (slots new : List Slot) (delta : List DeltaEntry) (i : ℕ) (e : DeltaEntry) (inputs : List Simplex) (j : ℕ) (s : Simplex) (old made : Slot) → IsStrictlySortedBy simplex_cmp inputs
     → i < length delta → e ≡ slice_index_or delta i e → AreOf slots (map entry_seen (take i delta)) inputs → slice_get inputs j ≡ Some s → s ≡ (entry_seen e).input
     → old ≡ slice_index_or slots j old → made ≡ with_entry old i → new ≡ slice_set slots j made → AreOf new (map entry_seen (take (i + 1) delta)) inputs
 found_step slots new delta i e inputs j s old made up inside is h here same old-is made-is new-is =
@@ -202,7 +202,7 @@ found_step slots new delta i e inputs j s old made up inside is h here same old-
     subst₂ (λ ss rs. AreOf ss rs inputs) (ap (slice_set slots j) (sym made-here) ∙ sym new-is) (sym (entries_more delta i e inside is)) next
 
 -- and at an entry for none
-pub stray_step : (slots new : List Slot) (delta : List Entry) (i : ℕ) (e : Entry) (inputs : List Simplex) → i < length delta → e ≡ slice_index_or delta i e
+pub stray_step : (slots new : List Slot) (delta : List DeltaEntry) (i : ℕ) (e : DeltaEntry) (inputs : List Simplex) → i < length delta → e ≡ slice_index_or delta i e
     → AreOf slots (map entry_seen (take i delta)) inputs → (Contains inputs (entry_seen e).input → ⊥) → new ≡ slots → AreOf new (map entry_seen (take (i + 1) delta)) inputs
 stray_step slots new delta i e inputs inside is h none new-is =
     subst₂ (λ ss rs. AreOf ss rs inputs) (sym new-is) (sym (entries_more delta i e inside is)) (slots-stray slots (map entry_seen (take i delta)) inputs (entry_seen e) h none)

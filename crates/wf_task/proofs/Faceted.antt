@@ -15,7 +15,7 @@ use Rattle.wf_task.specs.Borders.{borders_if, borders_of}
 use Rattle.wf_task.proofs.Listings.{has-below, below-has, length-among, each_has}
 use Rattle.wf_task.specs.Canonical.{is_inner, facets}
 use Rattle.wf_task.proofs.Facets.{length-part, whole-part, part-is_face, any-has, has-any}
-use Rattle.wf_task.proofs.Extending.{with_first, without_first, no_part}
+use Rattle.wf_task.proofs.ExtendedValues.{with_first, without_first, no_part}
 use Rattle.wf_task.proofs.Images.{nonempty-long, part-face, facet-in, complex_of-same}
 use Rattle.wf_model.proofs.WellFormed.{nonempty_length}
 

@@ -8,7 +8,7 @@ use Rattle.wf_model.proofs.Ascending.{ascends_from, has_in_order, in_order_ascen
 use Rattle.wf_set.specs.Sets.{values_in}
 use Rattle.wf_set.proofs.Lemmas.{values_listed}
 use Rattle.wf_task.specs.Mask.{IsMaskOf}
-use Rattle.wf_task.proofs.Drafted.{has_from_order}
+use Rattle.wf_task.proofs.DraftsWithoutFault.{has_from_order}
 
 -- tests that are true together
 same_tests : (b c : Bool) → (b ≡ true → c ≡ true) → (c ≡ true → b ≡ true) → b ≡ c

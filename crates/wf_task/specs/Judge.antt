@@ -9,7 +9,7 @@ use Rattle.wf_model.specs.Limits.{most_bytes, most_inputs, most_outputs, most_tu
 use Rattle.wf_model.specs.Simplex.{Simplex, processes_of, values_of, is_ascending, complex_of}
 use Rattle.wf_model.specs.Task.{Task, Rule, Tuple, largest_value}
 use Rattle.wf_simplex.specs.Order.{same_simplex}
-use Rattle.wf_draft.specs.declared.fault.Limit.TheVariants as limit
+use Rattle.wf_draft.specs.declared.fault.TaskLimit.TheVariants as limit
 use Rattle.wf_draft.specs.declared.fault.TaskFault.{TaskFault}
 use Rattle.wf_draft.specs.declared.fault.TaskFault.TheVariants as fault
 use Rattle.wf_draft.specs.Draft.{Listed, ◌>>=◌, or_fault, draft_of}
@@ -163,9 +163,9 @@ judged listed = do
   Ok (drafted listed)
 
 -- the task of a JSON value, or the first fault
-unfoldable pub task_of : Data → Result Task TaskFault
-task_of d = draft_of d >>= judged
+unfoldable pub task_of_json : Data → Result Task TaskFault
+task_of_json d = draft_of d >>= judged
 
 -- the task of a text, or the first fault
-unfoldable pub text_of : List ℕ → Result Task TaskFault
-text_of bytes = if nat_lt most_bytes (length bytes) then Err fault.TooLong else (or_fault fault.NotJson (json_of bytes) >>= task_of)
+unfoldable pub task_of_text : List ℕ → Result Task TaskFault
+task_of_text bytes = if nat_lt most_bytes (length bytes) then Err fault.TooLong else (or_fault fault.NotJson (json_of bytes) >>= task_of_json)

@@ -10,7 +10,7 @@ ghost use Rattle.wf_task.specs.Judge.{sizes_judged, tuple_total};
 
 use crate::limits::{MOST_INPUTS, MOST_OUTPUTS, MOST_TUPLES, MOST_VERTICES};
 use std::alloc::{AllocError, Global};
-use wf_draft::{Draft, Entry, Limit, ListedSimplex, TaskFault};
+use wf_draft::{DeltaEntry, Draft, ListedSimplex, TaskFault, TaskLimit};
 use wf_simplex::{Complex, Simplex};
 
 /// The faces of listed simplices that were judged.
@@ -37,7 +37,7 @@ fn count_vertices(simplices: &[Simplex]) -> usize
 }
 
 /// Whether the entries have more value lists than this.
-fn has_more_tuples(delta: &[Entry], most: usize) -> bool
+fn has_more_tuples(delta: &[DeltaEntry], most: usize) -> bool
     ensures { result ≡ nat_lt most (tuple_total (map entry_seen delta.now)) }
 {
     let mut left = most;
@@ -57,16 +57,16 @@ pub(crate) fn judge_sizes(draft: &Draft, inputs: &[Simplex]) -> Result<(), TaskF
     ensures { Gives (λ u. u) result (sizes_judged (draft_seen draft.now) inputs.now) }
 {
     if count_vertices(inputs) > MOST_VERTICES {
-        return Err(TaskFault::TooMany(Limit::Vertices));
+        return Err(TaskFault::TooMany(TaskLimit::Vertices));
     }
     if inputs.len() > MOST_INPUTS {
-        return Err(TaskFault::TooMany(Limit::Simplices));
+        return Err(TaskFault::TooMany(TaskLimit::Simplices));
     }
     if draft.outputs.len() > MOST_OUTPUTS {
-        return Err(TaskFault::TooMany(Limit::Outputs));
+        return Err(TaskFault::TooMany(TaskLimit::Outputs));
     }
     if has_more_tuples(&draft.delta, MOST_TUPLES) {
-        return Err(TaskFault::TooMany(Limit::Tuples));
+        return Err(TaskFault::TooMany(TaskLimit::Tuples));
     }
     Ok(())
 }

@@ -7,7 +7,9 @@ ghost use Rattle.wf_draft.specs.Draft.{Gives};
 ghost use Rattle.wf_draft.specs.DraftSeen.{draft_seen, entry_seen};
 ghost use Rattle.wf_task.specs.Judge.{is_large, has_large, rule_has_large, is_first_block, names_processes, rule_names_processes, first_block_judged, numbers_judged};
 
-use wf_draft::{Draft, Entry, FIRST_VERSION, ListedSimplex, SECOND_VERSION, TaskFault, ValueList};
+use wf_draft::{
+    DeltaEntry, Draft, FIRST_VERSION, ListedSimplex, SECOND_VERSION, TaskFault, ValueList,
+};
 
 /// The largest value where all words are allowed, and where some are not.
 const LARGEST: u64 = 63;
@@ -68,7 +70,7 @@ fn any_tuple_has_large(largest: u64, tuples: &[ValueList]) -> bool
 }
 
 /// Whether some value of some entry is too large.
-fn any_entry_has_large(largest: u64, delta: &[Entry]) -> bool
+fn any_entry_has_large(largest: u64, delta: &[DeltaEntry]) -> bool
     ensures { result ≡ list_any (rule_has_large largest) (map entry_seen delta.now) }
 {
     for entry in delta {
@@ -107,7 +109,7 @@ fn all_name_processes(processes: u64, simplices: &[ListedSimplex]) -> bool
 }
 
 /// Whether the simplex of each entry has such processes.
-fn all_entries_name_processes(processes: u64, delta: &[Entry]) -> bool
+fn all_entries_name_processes(processes: u64, delta: &[DeltaEntry]) -> bool
     ensures { result ≡ list_all (rule_names_processes processes) (map entry_seen delta.now) }
 {
     for entry in delta {

@@ -13,7 +13,7 @@ use crate::row::Row;
 use crate::slots::Slot;
 use crate::tuples::lists_at;
 use std::alloc::{AllocError, Global};
-use wf_draft::{Entry, ValueList};
+use wf_draft::{DeltaEntry, ValueList};
 use wf_set::{Mask, nothing, with};
 use wf_simplex::Simplex;
 
@@ -47,7 +47,7 @@ fn rows(alloc: Global, lists: &[ValueList]) -> Result<Vec<Row>, AllocError>
 /// The rows of the entry that each slot names.
 pub(crate) fn all_rows(
     alloc: Global,
-    delta: &[Entry],
+    delta: &[DeltaEntry],
     slots: &[Slot],
 ) -> Result<Vec<Vec<Row>>, AllocError>
     requires { All (NamesRows (map entry_seen delta.now)) slots.now }

@@ -10,7 +10,7 @@ ghost use Rattle.wf_task.specs.Slots.{AreOf, with_entry, no_entry, is_missing, i
 ghost use Rattle.wf_task.specs.Tuples.{HaveSmallInputs};
 
 use std::alloc::{AllocError, Global};
-use wf_draft::{Draft, Entry, TaskFault};
+use wf_draft::{DeltaEntry, Draft, TaskFault};
 use wf_simplex::{Complex, Simplex};
 
 /// Which entries an input simplex has.
@@ -39,7 +39,7 @@ impl Slot {
 pub(crate) fn slots(
     alloc: Global,
     inputs: &Complex,
-    delta: &[Entry],
+    delta: &[DeltaEntry],
 ) -> Result<Vec<Slot>, AllocError>
     requires { HaveSmallInputs (map entry_seen delta.now) }
     ensures { IfOk result (λ slots. AreOf slots.items (map entry_seen delta.now) inputs.now) }
@@ -121,7 +121,7 @@ pub(crate) fn judge_entries(
 }
 
 /// The place of the first entry that is for no input simplex.
-pub(crate) fn first_stray(inputs: &Complex, delta: &[Entry]) -> Option<usize>
+pub(crate) fn first_stray(inputs: &Complex, delta: &[DeltaEntry]) -> Option<usize>
     requires { HaveSmallInputs (map entry_seen delta.now) }
     ensures { result ≡ first_stray inputs.now (map entry_seen delta.now) }
 {

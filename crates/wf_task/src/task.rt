@@ -8,7 +8,7 @@ ghost use Rattle.wf_task.specs.Canonical.{HasFewFacets, IsListable, canonical_te
 ghost use Rattle.wf_set.specs.Sets.{values_in};
 ghost use Rattle.wf_draft.specs.Draft.{Gives};
 ghost use Rattle.wf_draft.specs.DraftSeen.{draft_seen, pairs_seen, entry_seen};
-ghost use Rattle.wf_task.specs.Judge.{is_first_block, judged, drafted, text_of};
+ghost use Rattle.wf_task.specs.Judge.{is_first_block, judged, drafted, task_of_text};
 ghost use Rattle.wf_task.specs.Slots.{AreOf};
 ghost use Rattle.wf_task.specs.TaskSeen.{task_of_parts, tuples_at};
 ghost use Rattle.wf_draft.specs.Listed.{ListsVertices, ListsFew};
@@ -62,9 +62,9 @@ impl Model for Task {
 
 impl Task {
     /// The task of a text, or the first fault of the text.
-    #[tactic(auto, unfolding(crate::specs::Judge::text_of, crate::specs::Judge::task_of))]
+    #[tactic(auto, unfolding(crate::specs::Judge::task_of_text, crate::specs::Judge::task_of_json))]
     pub fn read_text(alloc: Global, bytes: &[u8]) -> Result<Task, TaskFault>
-        ensures { Gives (λ t. t) result (text_of bytes.now) }
+        ensures { Gives (λ t. t) result (task_of_text bytes.now) }
     {
         if bytes.len() > LONGEST {
             return Err(TaskFault::TooLong);
@@ -105,7 +105,7 @@ impl Task {
     #[tactic(auto, unfolding(crate::specs::Canonical::canonical_text), using(crate::proofs::Written::task_has_no_float))]
     pub fn write_text(&self, alloc: Global) -> Result<Vec<u8>, AllocError>
         ensures text { IfOk result (λ text. text.items ≡ canonical_text self.now) }
-        ensures reads_back { IfOk result (λ text. text_of text.items ≡ Ok self.now) }
+        ensures reads_back { IfOk result (λ text. task_of_text text.items ≡ Ok self.now) }
     {
         let text = self.value(alloc)?.to_string(alloc)?;
         Ok(text.into_bytes())
@@ -219,7 +219,7 @@ fn judge(alloc: Global, draft: &Draft) -> Result<Task, TaskFault>
         return Err(TaskFault::NoInput);
     }
     judge_first_block(draft)?;
-    Ok(task_of(alloc, draft, inputs, outputs, &slots)?)
+    Ok(task_of_draft(alloc, draft, inputs, outputs, &slots)?)
 }
 
 /// The same number of participants in fewer bits.
@@ -234,7 +234,7 @@ fn narrow(least_block: Option<u64>) -> Option<u8>
 }
 
 /// The task that a draft without a fault lists.
-fn task_of(
+fn task_of_draft(
     alloc: Global,
     draft: &Draft,
     inputs: Complex,

@@ -11,11 +11,11 @@ ghost use Rattle.wf_task.specs.Slots.{AreOnly, IsOnceBelow, lists_at};
 ghost use Rattle.wf_task.specs.Tuples.{IsTupleOf, AreTuples};
 
 use crate::slots::Slot;
-use wf_draft::{Draft, Entry, TaskFault, ValueList};
+use wf_draft::{DeltaEntry, Draft, TaskFault, ValueList};
 use wf_simplex::{Complex, Simplex};
 
 /// The value lists of the entry that the slot names.
-pub(crate) fn lists_at(delta: &[Entry], slot: Slot) -> &[ValueList]
+pub(crate) fn lists_at(delta: &[DeltaEntry], slot: Slot) -> &[ValueList]
     requires { IsOnceBelow (length delta.now) slot }
     ensures { map (λ t. t.items) result.now ≡ lists_at slot (map entry_seen delta.now) }
 {

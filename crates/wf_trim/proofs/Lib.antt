@@ -1,9 +1,9 @@
 pub mod Among
 pub mod Ranks
-pub mod Own
+pub mod OwnViews
 pub mod Lifts
 pub mod Places
 pub mod Executions
-pub mod Turns
-pub mod Going
+pub mod WordListCounts
+pub mod LiftedValues
 pub mod Lemmas

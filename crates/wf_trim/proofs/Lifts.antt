@@ -13,13 +13,13 @@ use Rattle.wf_model.specs.Execution.{executions, executions_on, last_views}
 use Rattle.wf_model.specs.Points.{class, classes, points}
 use Rattle.wf_model.specs.DecisionMap.{IsDecisionMap, HasNoDecisionMap, listed}
 use Rattle.wf_model.specs.Problem.{IsSolution, problem_of, number_of, map_by_number}
-use Rattle.wf_model.proofs.Bridge.{Among, weaker, value_at_number, number_below, classes_are_points, listed_solves, solution_decides}
+use Rattle.wf_model.proofs.MapsAreSolutions.{Among, weaker, value_at_number, number_below, classes_are_points, listed_solves, solution_decides}
 use Rattle.wf_model.proofs.Headline.{each_flat, each_map, each_of_map, each_distinct, both}
 use Rattle.wf_model.proofs.Ascending.{Ascends, ascends_from}
 use Rattle.wf_model.proofs.Tasks.{inputs_within}
 use Rattle.wf_model.proofs.WellFormed.{words_long, base_processes}
 use Rattle.wf_trim.specs.Lift.{own_before, point_before, lifted, lifted_by, numbers_before, lifted_list}
-use Rattle.wf_trim.proofs.Own.{Stands, stands_after, before_round}
+use Rattle.wf_trim.proofs.OwnViews.{Stands, stands_after, before_round}
 
 -- ---- all over joined lists, and back
 

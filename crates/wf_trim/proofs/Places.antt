@@ -3,7 +3,7 @@ use Rattle.std.proofs.Common.{◌≡◌, ℕ, zero, suc, ◌+◌, ◌*◌, ◌<�
 use Rattle.std.specs.List.{AllByRecursion, enumerate_from}
 use Rattle.std.proofs.lemmas.List.{length-map}
 use Rattle.std.proofs.lemmas.Option.{slice_get-map, slice_get_within}
-use Rattle.wf_model.proofs.Bridge.{weaker}
+use Rattle.wf_model.proofs.MapsAreSolutions.{weaker}
 use Rattle.wf_complex.proofs.Bounds.{suc_times}
 
 module _ {X : Type 0} where

@@ -8,7 +8,7 @@ pub(crate) const VALUES: usize = 256;
 
 /// That a value went.
 #[derive(Clone, Copy, Debug, Drop)]
-pub(crate) struct Step {
+pub(crate) struct LostValue {
     /// The point at which it went.
     pub(crate) point: u32,
     /// The value.
@@ -23,7 +23,7 @@ pub(crate) struct Step {
 /// The values that are gone, in the order in which they went.
 #[derive(Drop)]
 pub(crate) struct Path {
-    steps: Vec<Step>,
+    steps: Vec<LostValue>,
     // for each point the number of the last step there, from 1 on; 0 where there is none
     latest: Vec<usize>,
 }
@@ -38,7 +38,7 @@ impl Path {
     }
 
     /// The steps, the last one last.
-    pub(crate) fn steps(&self) -> &[Step] {
+    pub(crate) fn steps(&self) -> &[LostValue] {
         &self.steps
     }
 
@@ -56,7 +56,7 @@ impl Path {
     }
 
     /// The step of a number, from 1 on.
-    pub(crate) fn step(&self, number: usize) -> Option<Step> {
+    pub(crate) fn step(&self, number: usize) -> Option<LostValue> {
         if number == 0 || number > self.steps.len() {
             return None;
         }
@@ -97,7 +97,7 @@ impl Path {
     /// The value goes at the point.
     pub(crate) fn push(&mut self, point: u32, value: u8, line: usize) -> Result<(), AllocError> {
         let before = self.latest_at(point);
-        self.steps.push(Step {
+        self.steps.push(LostValue {
             point,
             value,
             line,
@@ -109,7 +109,7 @@ impl Path {
     }
 
     /// The value that went last comes back.
-    pub(crate) fn pop(&mut self) -> Option<Step> {
+    pub(crate) fn pop(&mut self) -> Option<LostValue> {
         let step = self.steps.pop()?;
         self.note(step.point, step.before);
         Some(step)

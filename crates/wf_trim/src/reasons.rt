@@ -9,7 +9,7 @@ use wf_task::{Row, Task};
 
 /// Where a value stands in an execution, and the tuples that are allowed there.
 #[derive(Clone, Copy)]
-pub(crate) struct Claim<'a> {
+pub(crate) struct StandingValue<'a> {
     /// The tuples.
     pub(crate) rows: &'a [Row],
     /// The points of the execution.
@@ -31,7 +31,7 @@ pub(crate) struct Known {
 
 /// The places of a tuple at which its value is gone.
 #[derive(Clone, Copy, Debug)]
-pub(crate) struct Options {
+pub(crate) struct GonePlaces {
     /// How many there are.
     pub(crate) count: usize,
     /// The line by which such a value went, where there is a place and none
@@ -44,7 +44,7 @@ pub(crate) fn claim_of<'a>(
     task: &'a Task,
     protocol: &'a Protocol,
     line: Line,
-) -> Option<Claim<'a>> {
+) -> Option<StandingValue<'a>> {
     let Line::Remove {
         execution,
         process,
@@ -62,7 +62,7 @@ pub(crate) fn claim_of<'a>(
         return None;
     }
     let place = place_of(&simplices[number as usize], process)?;
-    Some(Claim {
+    Some(StandingValue {
         rows: task.tuples(number),
         points: protocol.points_of(execution),
         place,
@@ -80,14 +80,20 @@ fn place_of(simplex: &Simplex, process: u8) -> Option<usize> {
     None
 }
 
-impl Claim<'_> {
+impl StandingValue<'_> {
     /// Whether the tuple has the value at the place.
     pub(crate) fn is_of(&self, row: &Row) -> bool {
         row.as_slice().get(self.place) == Some(&self.value)
     }
 
     /// The other places of the tuple at which its value is gone.
-    pub(crate) fn options(&self, row: &Row, path: &Path, needs: &Needs, known: Known) -> Options {
+    pub(crate) fn options(
+        &self,
+        row: &Row,
+        path: &Path,
+        needs: &Needs,
+        known: Known,
+    ) -> GonePlaces {
         let values = row.as_slice();
         let mut count: usize = 0;
         let mut first = usize::MAX;
@@ -107,7 +113,7 @@ impl Claim<'_> {
                 }
             }
         }
-        Options {
+        GonePlaces {
             count,
             line: if is_needed { None } else { line },
         }

@@ -5,8 +5,8 @@ ghost use Rattle.wf_trim.specs.Among.{AreAmong};
 
 use crate::kept::Kept;
 use crate::needs::Needs;
-use crate::path::{Path, Step, VALUES};
-use crate::reasons::{Claim, Known, claim_of};
+use crate::path::{LostValue, Path, VALUES};
+use crate::reasons::{Known, StandingValue, claim_of};
 use std::alloc::{AllocError, Global};
 use wf_complex::Protocol;
 use wf_lines::{Line, Lines};
@@ -66,7 +66,7 @@ struct Alone {
 
 /// A branch whose blocks are not all read yet.
 #[derive(Clone, Copy, Debug, Drop)]
-struct Branch {
+struct OpenBranch {
     line: usize,
     point: u32,
     // the block that it ends
@@ -96,7 +96,7 @@ struct Trimmer {
     kept: Kept,
     // the block of now, and the branches that it stands in
     block: Block,
-    branches: Vec<Branch>,
+    branches: Vec<OpenBranch>,
 }
 
 impl Trimmer {
@@ -176,7 +176,7 @@ impl Trimmer {
         let candidates = self.path.left(values, point);
         let path = self.path.len();
         let needs = self.needs.len();
-        let branch = Branch {
+        let branch = OpenBranch {
             line: number,
             point,
             block: self.block,
@@ -194,7 +194,7 @@ impl Trimmer {
 
     /// Goes into the next block of a branch, whose first line has this
     /// number. Answers false where there is none.
-    fn enter(&mut self, branch: Branch, line: usize) -> Result<bool, AllocError> {
+    fn enter(&mut self, branch: OpenBranch, line: usize) -> Result<bool, AllocError> {
         let mut branch = branch;
         let before = branch.left;
         let candidates = branch.candidates;
@@ -302,7 +302,7 @@ impl Trimmer {
         task: &Task,
         protocol: &Protocol,
         lines: &[Line],
-        step: Step,
+        step: LostValue,
         bound: u32,
     ) -> Result<(), AllocError> {
         if step.point >= bound && self.needs.count(step.line) == 0 {
@@ -320,7 +320,7 @@ impl Trimmer {
 
     /// Each tuple that has the value of a claim needs a line by which another of its values is
     /// gone: first where there is but one.
-    fn need_reasons(&mut self, claim: Claim, bound: u32) -> Result<(), AllocError> {
+    fn need_reasons(&mut self, claim: StandingValue, bound: u32) -> Result<(), AllocError> {
         for count in 1..=OTHER_PLACES {
             self.need_reasons_among(claim, bound, count)?;
         }
@@ -330,7 +330,7 @@ impl Trimmer {
     /// The same for the tuples that have so many values that are gone.
     fn need_reasons_among(
         &mut self,
-        claim: Claim,
+        claim: StandingValue,
         bound: u32,
         count: usize,
     ) -> Result<(), AllocError> {
@@ -351,7 +351,7 @@ impl Trimmer {
 
     /// Notes whether the block of now, which ends before this line, refutes without what the branch
     /// took out, and goes back to the branch.
-    fn end_child(&mut self, branch: Branch, bound: u32, end: usize) -> Branch {
+    fn end_child(&mut self, branch: OpenBranch, bound: u32, end: usize) -> OpenBranch {
         let mut branch = branch;
         let uses = branch.point < bound || self.needs.count(branch.line) > branch.count;
         if !uses && branch.alone.is_none() {
@@ -369,7 +369,7 @@ impl Trimmer {
 
     /// Ends the block of now by a branch whose blocks are all read, the last one up to this line.
     /// Answers below which point whatever takes out a value is needed.
-    fn end_branch(&mut self, branch: &Branch, end: usize) -> Result<u32, AllocError> {
+    fn end_branch(&mut self, branch: &OpenBranch, end: usize) -> Result<u32, AllocError> {
         self.block = branch.block;
         if let Some(alone) = branch.alone {
             self.needs.forget(alone.needs_end, self.needs.len());

@@ -14,7 +14,7 @@ use wf_args::WordsFault;
 use wf_finder::Listener;
 use wf_io::{Sink, Source};
 use wf_pool::{Gate, Moment};
-use wf_program::{Files, Folder, run_program};
+use wf_program::{Files, Opener, run_program};
 
 /// The files of the disk.
 #[derive(Drop)]
@@ -35,7 +35,7 @@ const MANY_TURNS: u64 = 65_536;
 /// are, a line for each settled branch, and, where none was settled for long, how many turns were
 /// taken since. Where that can't be written nothing more can be done.
 #[derive(Drop)]
-struct Progress<'a, R> {
+struct ProgressLines<'a, R> {
     rt: &'a R,
     branches: AtomicU64,
     settled: AtomicU64,
@@ -43,10 +43,10 @@ struct Progress<'a, R> {
     turns: AtomicU64,
 }
 
-impl<'a, R> Progress<'a, R> {
+impl<'a, R> ProgressLines<'a, R> {
     /// Before anything was searched.
-    fn new(rt: &'a R) -> Progress<'a, R> {
-        Progress {
+    fn new(rt: &'a R) -> ProgressLines<'a, R> {
+        ProgressLines {
             rt,
             branches: AtomicU64::new(0),
             settled: AtomicU64::new(0),
@@ -55,7 +55,7 @@ impl<'a, R> Progress<'a, R> {
     }
 }
 
-impl<R: Eprint + Sync> Gate for Progress<'_, R> {
+impl<R: Eprint + Sync> Gate for ProgressLines<'_, R> {
     fn complex(&self, points: u32, executions: u32) {
         let _told = eprintln!(self.rt; "complex of {points} points and {executions} executions");
     }
@@ -84,7 +84,7 @@ impl<R: Eprint + Sync> Gate for Progress<'_, R> {
     }
 }
 
-impl<R: Eprint + Sync> Listener for Progress<'_, R> {
+impl<R: Eprint + Sync> Listener for ProgressLines<'_, R> {
     fn system(&self, modulus: u32, unknowns: u64) {
         let _told = eprintln!(self.rt; "modulo {modulus}: {unknowns} unknowns");
     }
@@ -110,11 +110,11 @@ fn hold_closed_streams<R: rt::Files>(rt: &R) -> [io::Result<R::File>; 3] {
 
 fn main(rt: HostRuntime) -> ExitCode {
     let _held = hold_closed_streams(&rt);
-    let progress = Progress::new(&rt);
+    let progress = ProgressLines::new(&rt);
     let status = run_program(
         &rt,
         rt.alloc(),
-        &mut Folder::new(Disk(&rt)),
+        &mut Opener::new(Disk(&rt)),
         &progress,
         arguments(&rt),
         &mut Source::new(rt.reader()),

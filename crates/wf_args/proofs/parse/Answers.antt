@@ -2,7 +2,7 @@ use Rattle.std.proofs.Common.{◌∙◌}
 use Rattle.std.specs.Prelude.{string_bytes}
 use Rattle.clap.proofs.WalkLemmas.{list_any-map}
 use Rattle.wf_args.specs.Asked.{is_negative}
-use Rattle.wf_args.proofs.Answering.{refuses, taken}
+use Rattle.wf_args.proofs.ParsedWords.{refuses, taken}
 use Rattle.wf_args.proofs.parse.Goals as goal
 
 pub returns-in-Ok-clause-ok : goal.returns-in-Ok-clause-ok

@@ -1,5 +1,5 @@
 use Rattle.std.proofs.Common.{map, string_bytes}
-use Rattle.wf_args.proofs.Answering.{refused_answered}
+use Rattle.wf_args.proofs.ParsedWords.{refused_answered}
 use Rattle.wf_args.proofs.read_words.Goals as goal
 
 pub returns-in-Err-clause-answer : goal.returns-in-Err-clause-answer

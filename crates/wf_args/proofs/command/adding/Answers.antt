@@ -4,7 +4,7 @@ use Rattle.std.specs.Result.{result_from_control_flow}
 use Rattle.std.proofs.lemmas.Result.{IfOk-weaker}
 use Rattle.clap.specs.Simple.{app_of}
 use Rattle.wf_args.specs.Building.{IsLeaf}
-use Rattle.wf_args.proofs.Adding.{with_leaf}
+use Rattle.wf_args.proofs.OptionsAndCommands.{with_leaf}
 use Rattle.wf_args.proofs.command.adding.Goals as goal
 
 pub returns : goal.returns

@@ -2,7 +2,7 @@ use Rattle.std.proofs.Common.{◌≡◌, ◌∙◌, subst, ap, Ok}
 use Rattle.std.specs.Prelude.{IfOk}
 use Rattle.std.specs.Result.{result_from_control_flow}
 use Rattle.wf_args.specs.Building.{IsLeaf}
-use Rattle.wf_args.proofs.Adding.{taken}
+use Rattle.wf_args.proofs.OptionsAndCommands.{taken}
 use Rattle.wf_args.proofs.command.taking.Goals as goal
 
 pub returns : goal.returns

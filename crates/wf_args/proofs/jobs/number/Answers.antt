@@ -1,6 +1,6 @@
 use Rattle.std.specs.Str.Parse.{ParsesUnsigned, ExplainsUnsignedError, HasUnsignedDigitsIfOk}
 use Rattle.clap.specs.Words.{found_of}
-use Rattle.wf_args.proofs.Found.{number_found}
+use Rattle.wf_args.proofs.MatchGetters.{number_found}
 use Rattle.wf_args.proofs.jobs.number.Goals as goal
 
 pub returns : goal.returns

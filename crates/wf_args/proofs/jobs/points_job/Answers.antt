@@ -1,5 +1,5 @@
 use Rattle.std.proofs.Common.{◌∙◌, ap, sym, option_map}
-use Rattle.wf_args.proofs.Answering.{decisions_of}
+use Rattle.wf_args.proofs.ParsedWords.{decisions_of}
 use Rattle.wf_args.proofs.jobs.points_job.Goals as goal
 
 pub returns-in_ok-from_str-in-None-Some-clause-asked : goal.returns-in_ok-from_str-in-None-Some-clause-asked

@@ -1,7 +1,7 @@
 use Rattle.std.proofs.Common.{◌≤◌, ◌<◌, ◌+◌, ◌*◌, arith, rules}
 use Rattle.wf_complex.specs.Layout.{turns}
 use Rattle.wf_complex.proofs.LayoutLemmas.{words_some}
-use Rattle.wf_trim.proofs.Turns.{one_turn_more, turns_up}
+use Rattle.wf_trim.proofs.WordListCounts.{one_turn_more, turns_up}
 use Rattle.wf_argument.proofs.executions.turn_count.Goals as goal
 
 pub overflow_mul-count : goal.overflow_mul-count

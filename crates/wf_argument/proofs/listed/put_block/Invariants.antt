@@ -1,5 +1,5 @@
 use Rattle.std.proofs.Common.{drop}
-use Rattle.wf_io.proofs.Putting.{IsPut}
+use Rattle.wf_io.proofs.PagePieces.{IsPut}
 use Rattle.wf_argument.specs.Text.{block_text}
 use Rattle.wf_argument.proofs.Pieces.{block_left}
 use Rattle.wf_argument.proofs.listed.put_block.Given as goal

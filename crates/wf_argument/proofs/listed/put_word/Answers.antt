@@ -1,6 +1,6 @@
 use Rattle.std.proofs.Common.{ℕ, List, ◌+◌, ◌++◌, ◌<◌, ◌≤◌, flat_map, length, sym, ap, ◌∙◌, subst, arith}
 use Rattle.std.proofs.lemmas.List.{length-map}
-use Rattle.wf_io.proofs.Putting.{IsPut, begun, went_on, stopped, all_put}
+use Rattle.wf_io.proofs.PagePieces.{IsPut, begun, went_on, stopped, all_put}
 use Rattle.wf_model.specs.Simplex.{processes_of}
 use Rattle.wf_argument.specs.Text.{block_of, block_text, word_text}
 use Rattle.wf_argument.proofs.Pieces.{all_numbers, next_number, no_number, numbers_left}

@@ -1,5 +1,5 @@
 use Rattle.std.proofs.Common.{flat_map, length}
-use Rattle.wf_io.proofs.Putting.{IsPut}
+use Rattle.wf_io.proofs.PagePieces.{IsPut}
 use Rattle.wf_model.specs.Simplex.{processes_of}
 use Rattle.wf_argument.specs.Text.{block_of, block_text, word_text}
 use Rattle.wf_argument.proofs.Pieces.{numbers_left}

@@ -1,5 +1,5 @@
 use Rattle.std.proofs.Common.{[], length, ap, ◌∙◌, arith}
-use Rattle.wf_io.proofs.Putting.{stopped, all_put}
+use Rattle.wf_io.proofs.PagePieces.{stopped, all_put}
 use Rattle.wf_model.specs.Simplex.{processes_of}
 use Rattle.wf_argument.proofs.ExecutionPlaces.{another, read_at}
 use Rattle.wf_argument.proofs.Pieces.{all_rounds_put, no_round_put, one_round_put, round_parted}

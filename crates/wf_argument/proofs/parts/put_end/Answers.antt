@@ -1,6 +1,6 @@
 use Rattle.std.proofs.Common.{string_bytes}
 use Rattle.wf_argument.specs.Trail.{state_of}
-use Rattle.wf_argument.proofs.Parting.{going_on, told_with_case}
+use Rattle.wf_argument.proofs.TextParts.{going_on, told_with_case}
 use Rattle.wf_argument.proofs.parts.put_end.Goals as goal
 
 pub returns-clause-text : goal.returns-clause-text

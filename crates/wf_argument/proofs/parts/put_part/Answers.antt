@@ -7,8 +7,8 @@ use Rattle.wf_argument.specs.State.{after_taking, cases_at, entered}
 use Rattle.wf_argument.specs.Subject.{executions_in, problem_in, same_values, steps_to_come, to_come}
 use Rattle.wf_argument.specs.Text.{split_text, told_taking}
 use Rattle.wf_argument.specs.Trail.{state_of}
-use Rattle.wf_argument.proofs.Parting.{after_one, counted_part, first_line, one_run, steps_after_one, told_part}
-use Rattle.wf_argument.proofs.Stepping.{few_steps, numbered}
+use Rattle.wf_argument.proofs.TextParts.{after_one, counted_part, first_line, one_run, steps_after_one, told_part}
+use Rattle.wf_argument.proofs.PartSteps.{few_steps, numbered}
 use Rattle.wf_argument.proofs.parts.put_part.Goals as goal
 
 pub returns-in_ok-put_taking-in-Remove-clause-text : goal.returns-in_ok-put_taking-in-Remove-clause-text

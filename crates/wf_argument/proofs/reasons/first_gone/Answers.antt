@@ -1,5 +1,5 @@
 use Rattle.std.proofs.Common.{map, vec_items}
-use Rattle.wf_argument.proofs.Reasoning.{none_gone}
+use Rattle.wf_argument.proofs.GoneTuples.{none_gone}
 use Rattle.wf_argument.proofs.reasons.first_gone.Goals as goal
 
 pub returns-then-place-tuple : goal.returns-then-place-tuple

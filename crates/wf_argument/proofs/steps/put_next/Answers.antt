@@ -6,7 +6,7 @@ use Rattle.wf_argument.specs.Subject.{executions_in, problem_in}
 use Rattle.wf_argument.specs.Text.{claim_text, execution_text, grounds_text, indented, rest_text}
 use Rattle.wf_argument.specs.Trail.{state_of}
 use Rattle.wf_argument.proofs.Places.{told_found}
-use Rattle.wf_argument.proofs.Stepping.{is_step, state_step, told_step}
+use Rattle.wf_argument.proofs.PartSteps.{is_step, state_step, told_step}
 use Rattle.wf_argument.proofs.steps.put_next.Goals as goal
 
 pub put_step-requires-clause-execution : goal.put_step-requires-clause-execution

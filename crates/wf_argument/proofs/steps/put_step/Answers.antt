@@ -1,4 +1,4 @@
-use Rattle.wf_io.proofs.Failing.{failed}
+use Rattle.wf_io.proofs.FailedCalls.{failed}
 use Rattle.wf_argument.proofs.steps.put_step.Goals as goal
 
 pub returns-in_err-put_margin : goal.returns-in_err-put_margin

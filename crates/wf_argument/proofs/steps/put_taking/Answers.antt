@@ -6,7 +6,7 @@ use Rattle.wf_argument.specs.Subject.{executions_in, problem_in}
 use Rattle.wf_argument.specs.Text.{told_taking}
 use Rattle.wf_argument.specs.Trail.{state_of}
 use Rattle.wf_argument.proofs.Places.{not_there, there, told_nobody}
-use Rattle.wf_io.proofs.Failing.{failed}
+use Rattle.wf_io.proofs.FailedCalls.{failed}
 use Rattle.wf_argument.proofs.steps.put_taking.Goals as goal
 
 pub place_of-requires : goal.place_of-requires

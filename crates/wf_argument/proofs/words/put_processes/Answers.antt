@@ -1,4 +1,4 @@
-use Rattle.wf_io.proofs.Failing.{failed}
+use Rattle.wf_io.proofs.FailedCalls.{failed}
 use Rattle.wf_argument.proofs.words.put_processes.Goals as goal
 
 pub returns-in_err-write : goal.returns-in_err-write

@@ -1,7 +1,7 @@
 use Rattle.std.proofs.Common.{◌≡◌, ◌++◌, string_bytes, drop}
 use Rattle.std.specs.Prelude.{codes}
 use Rattle.wf_argument.specs.Text.{number_text}
-use Rattle.wf_argument.proofs.Listing.{rest_of}
+use Rattle.wf_argument.proofs.ListsInWords.{rest_of}
 use Rattle.wf_argument.proofs.words.put_row.Given as goal
 
 abbrev pub invariant-loop-place : goal.invariant-loop-place

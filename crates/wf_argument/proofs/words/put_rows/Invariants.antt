@@ -1,6 +1,6 @@
 use Rattle.std.proofs.Common.{◌≡◌, ◌++◌, string_bytes, drop, codes}
 use Rattle.wf_argument.specs.Text.{tuple_text}
-use Rattle.wf_argument.proofs.Listing.{rest_of}
+use Rattle.wf_argument.proofs.ListsInWords.{rest_of}
 use Rattle.wf_argument.proofs.words.put_rows.Given as goal
 
 abbrev pub invariant-loop-place : goal.invariant-loop-place

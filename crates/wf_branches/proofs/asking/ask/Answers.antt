@@ -2,9 +2,9 @@ use Rattle.std.proofs.Common.{ap, map, subst, ◌∙◌}
 use Rattle.wf_set.specs.Sets.{values_in}
 use Rattle.wf_formula.specs.Branches.{box_text, branch_text}
 use Rattle.wf_engine.specs.Run.{HasComplex}
-use Rattle.wf_engine.proofs.Asking.{beyond_build}
+use Rattle.wf_engine.proofs.RunsInPieces.{beyond_build}
 use Rattle.wf_branches.specs.Branches.{HasBranch, IsNoBranch}
-use Rattle.wf_branches.proofs.Answering.{beyond_branches, beyond_limits, broken, refused, text_is, written}
+use Rattle.wf_branches.proofs.BranchRuns.{beyond_branches, beyond_limits, broken, refused, text_is, written}
 use Rattle.wf_branches.proofs.asking.ask.Goals as goal
 
 pub returns-in_err-protocol : goal.returns-in_err-protocol

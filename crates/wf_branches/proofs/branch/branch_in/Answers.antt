@@ -1,6 +1,6 @@
 use Rattle.std.proofs.Common.{ap, refl, ◌∙◌, [], arith, length}
 use Rattle.std.specs.List.{slice_index_or}
-use Rattle.wf_branches.proofs.Answering.{is_long}
+use Rattle.wf_branches.proofs.BranchRuns.{is_long}
 use Rattle.wf_branches.proofs.branch.branch_in.Goals as goal
 
 pub returns : goal.returns

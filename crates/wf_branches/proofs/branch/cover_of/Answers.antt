@@ -1,4 +1,4 @@
-use Rattle.wf_branches.proofs.Answering.{cover_is}
+use Rattle.wf_branches.proofs.BranchRuns.{cover_is}
 use Rattle.wf_branches.proofs.branch.cover_of.Goals as goal
 
 pub returns : goal.returns

@@ -1,7 +1,7 @@
 use Rattle.std.proofs.Common.{arith}
 use Rattle.wf_report.specs.Reports.{AreNumbered, body_of, with_header}
 use Rattle.wf_branches.specs.Joining.{lines_in}
-use Rattle.wf_branches.proofs.Joined.{as_many, faulty, right}
+use Rattle.wf_branches.proofs.JoinSteps.{as_many, faulty, right}
 use Rattle.wf_branches.proofs.joining.accept_joined.Goals as goal
 
 pub returns-in_err-check : goal.returns-in_err-check

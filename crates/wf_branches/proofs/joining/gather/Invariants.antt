@@ -1,4 +1,4 @@
-use Rattle.wf_branches.proofs.Joined.{IsGoing}
+use Rattle.wf_branches.proofs.JoinSteps.{IsGoing}
 use Rattle.wf_branches.proofs.joining.gather.Given as goal
 
 abbrev pub invariant-loop-number : goal.invariant-loop-number

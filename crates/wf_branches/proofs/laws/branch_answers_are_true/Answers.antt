@@ -1,4 +1,4 @@
-use Rattle.wf_branches.proofs.Solved.{branch_answers_true}
+use Rattle.wf_branches.proofs.BranchAnswers.{branch_answers_true}
 use Rattle.wf_branches.proofs.laws.branch_answers_are_true.Goals as goal
 
 pub returns : goal.returns

@@ -1,4 +1,4 @@
-use Rattle.wf_branches.proofs.Truth.{branches_cover}
+use Rattle.wf_branches.proofs.BranchProofs.{branches_cover}
 use Rattle.wf_branches.proofs.laws.branches_cover_all_maps.Goals as goal
 
 pub returns : goal.returns

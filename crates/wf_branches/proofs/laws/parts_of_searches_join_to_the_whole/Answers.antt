@@ -1,4 +1,4 @@
-use Rattle.wf_branches.proofs.Whole.{parts_join}
+use Rattle.wf_branches.proofs.JoinedSearches.{parts_join}
 use Rattle.wf_branches.proofs.laws.parts_of_searches_join_to_the_whole.Goals as goal
 
 pub returns : goal.returns

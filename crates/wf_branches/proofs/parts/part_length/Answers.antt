@@ -1,5 +1,5 @@
 use Rattle.std.proofs.Common.{arith, sym, ◌∙◌}
-use Rattle.wf_branches.proofs.Cutting.{left_open}
+use Rattle.wf_branches.proofs.PartEnds.{left_open}
 use Rattle.wf_branches.proofs.parts.part_length.Goals as goal
 
 pub loop-at-preserved : goal.loop-at-preserved

@@ -1,4 +1,4 @@
-use Rattle.wf_branches.proofs.Joined.{taken, untaken}
+use Rattle.wf_branches.proofs.JoinSteps.{taken, untaken}
 use Rattle.wf_branches.proofs.parts.take_part.Goals as goal
 
 pub returns-in-Ok : goal.returns-in-Ok

@@ -3,9 +3,9 @@ use Rattle.wf_model.specs.Problem.{problem_of}
 use Rattle.wf_set.specs.Sets.{values_in}
 use Rattle.wf_formula.specs.Branches.{branch_question, formula_in}
 use Rattle.wf_rup.specs.Posed.{IsPosed}
-use Rattle.wf_engine.proofs.Refuting.{refused, unposed, untold}
+use Rattle.wf_engine.proofs.ProofsToLines.{refused, unposed, untold}
 use Rattle.wf_branches.specs.Refuting.{IsAcceptedBranch, accepted_text}
-use Rattle.wf_branches.proofs.Truth.{told}
+use Rattle.wf_branches.proofs.BranchProofs.{told}
 use Rattle.wf_branches.proofs.refuting.refute.Goals as goal
 
 pub returns-in_err-checker : goal.returns-in_err-checker

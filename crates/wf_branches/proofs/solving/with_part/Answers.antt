@@ -3,7 +3,7 @@ use Rattle.wf_model.specs.Problem.{problem_of}
 use Rattle.wf_pool.specs.Answers.{IsAnswerAt}
 use Rattle.wf_engine.specs.Texts.{lines_kept}
 use Rattle.wf_branches.specs.Solving.{part_text}
-use Rattle.wf_branches.proofs.Solved.{map_part, none_part}
+use Rattle.wf_branches.proofs.BranchAnswers.{map_part, none_part}
 use Rattle.wf_branches.proofs.solving.with_part.Goals as goal
 
 pub returns-in_ok-part_text-in-Map : goal.returns-in_ok-part_text-in-Map
@@ -13,7 +13,7 @@ returns-in_ok-part_text-in-Map c =
     let i = c.args.index.number in
     let answer = subst (IsAnswerAt (problem_of t r) (lines_kept c.args.form) i) c.in-Map.is c.requires.answer in
     map_part t r i c.args.form c.in-Map.values.items c.in-Map.lines.items c.in_ok-part_text-in-Map.field-0.items c.requires.header.task answer
-    (c.in_ok-part_text-in-Map.ensures ∙ ap (part_text t r i) c.map_body-body.ensures)
+    (c.in_ok-part_text-in-Map.ensures ∙ ap (part_text t r i) c.body_of_map-body.ensures)
 
 pub returns-in_ok-part_text-in-Nothing : goal.returns-in_ok-part_text-in-Nothing
 returns-in_ok-part_text-in-Nothing c =

@@ -1,4 +1,4 @@
-use Rattle.wf_branches.proofs.Told.{begins_otherwise}
+use Rattle.wf_branches.proofs.AcceptedLines.{begins_otherwise}
 use Rattle.wf_branches.proofs.verifying.behind.Goals as goal
 
 pub returns-else-eq-clause-elsewhere : goal.returns-else-eq-clause-elsewhere

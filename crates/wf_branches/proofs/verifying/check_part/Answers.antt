@@ -4,7 +4,7 @@ use Rattle.wf_set.specs.Sets.{box_of}
 use Rattle.wf_check.specs.Within.{report_fault_within}
 use Rattle.wf_report.specs.Reports.{body_of, report_seen}
 use Rattle.wf_branches.specs.Verifying.{is_outside}
-use Rattle.wf_branches.proofs.Verified.{part_true}
+use Rattle.wf_branches.proofs.CheckedParts.{part_true}
 use Rattle.wf_branches.proofs.verifying.check_part.Goals as goal
 
 pub returns : goal.returns

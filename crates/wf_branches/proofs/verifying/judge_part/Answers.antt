@@ -1,7 +1,7 @@
 use Rattle.std.proofs.Common.{subst, Ok, Err}
 use Rattle.wf_report.specs.Reports.{report_seen}
 use Rattle.wf_branches.specs.Verifying.{IsPartOf}
-use Rattle.wf_branches.proofs.Told.{no_part}
+use Rattle.wf_branches.proofs.AcceptedLines.{no_part}
 use Rattle.wf_branches.proofs.verifying.judge_part.Goals as goal
 
 pub returns-in_err-report : goal.returns-in_err-report

@@ -1,6 +1,6 @@
 use Rattle.wf_engine.specs.Run.{answered}
 use Rattle.wf_branches.specs.Verifying.{ReadsPart}
-use Rattle.wf_branches.proofs.Truth.{found_in, missing_in}
+use Rattle.wf_branches.proofs.BranchProofs.{found_in, missing_in}
 use Rattle.wf_branches.proofs.verifying.verify_in.Goals as goal
 
 pub returns-in_err-branch : goal.returns-in_err-branch

@@ -6,7 +6,7 @@ use Rattle.wf_complex.specs.Rounds.{views_at}
 use Rattle.wf_complex.specs.Numbering.{picked, AreNumbered}
 use Rattle.wf_complex.specs.Classes.{most_within}
 use Rattle.wf_complex.proofs.FirstPlaces.{picked_twice}
-use Rattle.wf_complex.proofs.Different.{firsts_low, few_firsts, all_picked, length-distinct_views}
+use Rattle.wf_complex.proofs.DifferentViews.{firsts_low, few_firsts, all_picked, length-distinct_views}
 use Rattle.wf_complex.proofs.ClassLemmas.{length-normals, classes_are_views, classes_are_normals}
 use Rattle.wf_complex.proofs.Merging.{are_merged, low_normals, low_merged}
 use Rattle.wf_complex.proofs.classes.points_of.Goals as goal

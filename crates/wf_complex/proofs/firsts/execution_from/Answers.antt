@@ -2,12 +2,12 @@ use Rattle.std.proofs.Common.{take, get_or, All, subst, sym, arith}
 use Rattle.std.proofs.lemmas.List.{take_all, take_more}
 use Rattle.std.proofs.lemmas.List.Elements.{All-push}
 use Rattle.std.proofs.lemmas.Option.{slice_get-get_or}
-use Rattle.wf_complex.specs.declared.layout.Span.{Span}
+use Rattle.wf_complex.specs.declared.layout.ExecutionSlot.{ExecutionSlot}
 use Rattle.wf_complex.specs.Places.{EndsBy}
-use Rattle.wf_complex.proofs.Lying.{all_ended, has_begun}
+use Rattle.wf_complex.proofs.ExecutionsInOrder.{all_ended, has_begun}
 use Rattle.wf_complex.proofs.firsts.execution_from.Goals as goal
 
-abbrev nothing : Span
+abbrev nothing : ExecutionSlot
 nothing = record { place = 0; simplex = 0; size = 0 }
 
 pub overflow_sub-place : goal.overflow_sub-place

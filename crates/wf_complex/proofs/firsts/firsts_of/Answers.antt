@@ -2,35 +2,35 @@ use Rattle.std.proofs.Common.{◌≡◌, ◌<◌, ◌≤◌, ◌∷◌, [], ◌+
 use Rattle.std.proofs.lemmas.List.{get_or_default, map_push, take_more}
 use Rattle.std.proofs.lemmas.Option.{slice_get_within}
 use Rattle.wf_complex.specs.declared.firsts.First.{First}
-use Rattle.wf_complex.specs.declared.layout.Span.{Span}
+use Rattle.wf_complex.specs.declared.layout.ExecutionSlot.{ExecutionSlot}
 use Rattle.wf_model.specs.Simplex.{Simplex}
 use Rattle.wf_complex.specs.Places.{BelongsTo, IsOn, firsts_at, firsts_in, places_on_all}
-use Rattle.wf_complex.proofs.Lying.{earlier_ended}
+use Rattle.wf_complex.proofs.ExecutionsInOrder.{earlier_ended}
 use Rattle.wf_complex.proofs.PlaceLemmas.{place_is}
 use Rattle.wf_complex.proofs.RuleAt.{got}
 use Rattle.wf_complex.proofs.firsts.firsts_of.Goals as goal
 
-abbrev nothing : Span
+abbrev nothing : ExecutionSlot
 nothing = record { place = 0; simplex = 0; size = 0 }
 
 -- an execution that has a place, and how far the place is into it
-record IsInside (inputs : List Simplex) (es : List Span) (place k : ℕ) : Type 0 where
+record IsInside (inputs : List Simplex) (es : List ExecutionSlot) (place k : ℕ) : Type 0 where
   low : k < length es
   input : (get_or es k nothing).simplex < length inputs
   begun : (get_or es k nothing).place ≤ place
   ended : place - (get_or es k nothing).place < length (get_or inputs (get_or es k nothing).simplex [])
 
-is_inside : (inputs : List Simplex) (es : List Span) (place k : ℕ) → All (IsOn inputs) es → BelongsTo place es k → IsInside inputs es place k
+is_inside : (inputs : List Simplex) (es : List ExecutionSlot) (place k : ℕ) → All (IsOn inputs) es → BelongsTo place es k → IsInside inputs es place k
 is_inside inputs es place k on at =
     let low = slice_get_within es k at.execution at.there in
     let same : get_or es k nothing ≡ at.execution = got es k at.execution nothing at.there in
     let here : IsOn inputs (get_or es k nothing) = on k nothing low in
-    let begun : (get_or es k nothing).place ≤ place = omega (arith, at.begun, ap (λ (d : Span). d.place) same) in
+    let begun : (get_or es k nothing).place ≤ place = omega (arith, at.begun, ap (λ (d : ExecutionSlot). d.place) same) in
     record {
       low = low;
       input = here.0;
       begun = begun;
-      ended = omega (arith, at.begun, at.before_its_end, ap (λ (d : Span). d.place) same, ap (λ (d : Span). d.size) same, here.1);
+      ended = omega (arith, at.begun, at.before_its_end, ap (λ (d : ExecutionSlot). d.place) same, ap (λ (d : ExecutionSlot). d.size) same, here.1);
     }
 
 pub execution_from-execution-requires-clause-lying : goal.execution_from-execution-requires-clause-lying
@@ -76,7 +76,7 @@ loop-place-preserved c =
     let i = c.loop-place.place-index in
     let k = c.execution_from-execution.result in
     let place = slice_index places i in
-    let e : Span = get_or es k nothing in
+    let e : ExecutionSlot = get_or es k nothing in
     let at = c.execution_from-execution.ensures in
     let first : First = record { execution = k; process = c.colour.result } in
     let seen : ℕ → ℕ × ℕ = λ j. get_or (places_on_all inputs es) j (0, 0) in

@@ -1,4 +1,4 @@
-use Rattle.wf_complex.proofs.Beside.{found, missed}
+use Rattle.wf_complex.proofs.NewNumbers.{found, missed}
 use Rattle.wf_complex.proofs.node.number_beside.Goals as goal
 
 pub unreachable-requires : goal.unreachable-requires

@@ -1,7 +1,7 @@
 use Rattle.std.proofs.Common.{◌≡◌, ◌≤◌, ◌<◌, true, length, take, arith}
 use Rattle.wf_model.specs.Lists.{has}
 use Rattle.wf_complex.specs.Renaming.{number_beside}
-use Rattle.wf_complex.proofs.Beside.{next_known}
+use Rattle.wf_complex.proofs.NewNumbers.{next_known}
 use Rattle.wf_complex.proofs.node.renumber.Goals as goal
 
 pub number_beside-requires-clause-known : goal.number_beside-requires-clause-known

@@ -9,11 +9,11 @@ use Rattle.wf_complex.specs.Packed.{IsPackedOn, packed_on, scope_in}
 use Rattle.wf_complex.specs.Protocol.{IsProtocol}
 use Rattle.wf_complex.specs.ProtocolSeen.{points_seen, scopes_seen}
 use Rattle.wf_complex.specs.declared.firsts.First.{First}
-use Rattle.wf_complex.specs.declared.layout.Span.{Span}
+use Rattle.wf_complex.specs.declared.layout.ExecutionSlot.{ExecutionSlot}
 use Rattle.wf_complex.specs.declared.packed.PackedExecution.{PackedExecution}
 use Rattle.std.proofs.lemmas.List.{length-map}
 use Rattle.wf_complex.proofs.PackedLemmas.{all_packed, scopes_packed, simplices_packed}
-use Rattle.wf_complex.proofs.Kept.{all_sized, all_small, few_views, few_lasts, length-classes, few_points, classes_viewed, are_laid, numbers_long, is_protocol}
+use Rattle.wf_complex.proofs.BuiltComplexes.{all_sized, all_small, few_views, few_lasts, length-classes, few_points, classes_viewed, are_laid, numbers_long, is_protocol}
 use Rattle.wf_complex.proofs.Depth.{lasts_shallow}
 use Rattle.wf_complex.proofs.protocol.complex_from.Goals as goal
 
@@ -117,7 +117,7 @@ returns c = λ t task given named least.
     let laid = are_laid c.args.first_block c.args.rounds inputs c.requires.executions (all_sized inputs c.requires.simplices) c.last_views.new.views c.in_ok-lasts.lasts.items c.in_ok-lasts.ensures.made (class_by c.args.symmetric) c.points_of.new.views p.classes.items p.firsts.items p.numbers.items c.in_ok-points.ensures.points (laid_out c.args.first_block c.args.rounds 0 0 inputs) refl in
     let same : kept ≡ inputs = c.in_ok-placed.ensures.inputs in
     let packed : es ≡ map (packed_on numbers) spans = c.in_ok-placed.ensures.executions in
-    let simplices : map (λ (e : Span). e.simplex) spans ≡ map (λ (e : PackedExecution). e.simplex) es = sym (simplices_packed inputs numbers spans laid.on laid.within) ∙ ap (map (λ (e : PackedExecution). e.simplex)) (sym packed) in
+    let simplices : map (λ (e : ExecutionSlot). e.simplex) spans ≡ map (λ (e : PackedExecution). e.simplex) es = sym (simplices_packed inputs numbers spans laid.on laid.within) ∙ ap (map (λ (e : PackedExecution). e.simplex)) (sym packed) in
     let scopes : scopes_seen kept numbers spans ≡ map (scope_in kept) es =
     ap (λ ss. scopes_seen ss numbers spans) same ∙ sym (scopes_packed inputs numbers spans laid.on laid.within) ∙ (λ i. map (scope_in (sym same i)) (sym packed i)) in
     let firsts : firsts_at kept spans p.firsts.items ≡ firsts_in c.in_ok-placed.placed.firsts.items =

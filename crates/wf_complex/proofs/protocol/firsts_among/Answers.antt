@@ -2,9 +2,9 @@ use Rattle.std.proofs.Common.{◌≡◌, List, All, IfOk, Vec, Global, length, s
 use Rattle.wf_complex.specs.Layout.{laid_out, place_total}
 use Rattle.wf_complex.specs.Places.{IsOn, LieFrom, firsts_at, firsts_in}
 use Rattle.wf_complex.specs.declared.firsts.First.{First}
-use Rattle.wf_complex.specs.declared.layout.Span.{Span}
+use Rattle.wf_complex.specs.declared.layout.ExecutionSlot.{ExecutionSlot}
 use Rattle.wf_complex.proofs.Cuts.{length-laid_out}
-use Rattle.wf_complex.proofs.Lying.{all_lie, all_on}
+use Rattle.wf_complex.proofs.ExecutionsInOrder.{all_lie, all_on}
 use Rattle.wf_complex.proofs.protocol.firsts_among.Goals as goal
 
 pub firsts_of-requires : goal.firsts_of-requires
@@ -28,4 +28,4 @@ returns c =
     let inputs = c.args.inputs.now in
     let places = c.args.places.now in
     let laid : c.deref.result.now ≡ laid_out m r 0 0 inputs = c.deref.ensures.value ∙ c.in_ok-spans.ensures in
-    subst (λ (es : List Span). IfOk c.firsts_of.result (λ (firsts : Vec First Global). firsts_in firsts.items ≡ firsts_at inputs es places)) laid c.firsts_of.ensures
+    subst (λ (es : List ExecutionSlot). IfOk c.firsts_of.result (λ (firsts : Vec First Global). firsts_in firsts.items ≡ firsts_at inputs es places)) laid c.firsts_of.ensures

@@ -1,5 +1,5 @@
 use Rattle.std.proofs.Common.{◌≡◌, ◌==◌, ◌&&◌, ◌<◌, ◌≤◌, All, get_or, length, nat_lt, subst, take, ◌∙◌}
-use Rattle.wf_complex.proofs.Collecting.{put_here, put_there}
+use Rattle.wf_complex.proofs.CollectedViews.{put_here, put_there}
 use Rattle.wf_complex.proofs.views.put.Goals as goal
 
 pub returns-then-stands_at : goal.returns-then-stands_at

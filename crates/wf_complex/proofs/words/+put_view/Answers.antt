@@ -1,6 +1,6 @@
 use Rattle.std.proofs.Common.{string_bytes, arith}
 use Rattle.wf_complex.specs.Views.{view_at}
-use Rattle.wf_complex.proofs.Telling.{view_told}
+use Rattle.wf_complex.proofs.ViewTexts.{view_told}
 use Rattle.wf_complex.proofs.words.+put_view.Goals as goal
 
 pub returns : goal.returns

@@ -1,6 +1,6 @@
 use Rattle.std.proofs.Common.{◌≡◌, ◌++◌, string_bytes, map, drop}
 use Rattle.wf_complex.specs.Views.{view_at}
-use Rattle.wf_complex.proofs.Telling.{rest_of}
+use Rattle.wf_complex.proofs.ViewTexts.{rest_of}
 use Rattle.wf_complex.proofs.words.+put_view.Given as goal
 
 abbrev pub decreases-put_view : goal.decreases-put_view

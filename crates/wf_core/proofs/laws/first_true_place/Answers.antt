@@ -1,4 +1,4 @@
-use Rattle.wf_core.proofs.Kept.{first_place}
+use Rattle.wf_core.proofs.StepInvariants.{first_place}
 use Rattle.wf_core.proofs.laws.first_true_place.Goals as goal
 
 pub returns : goal.returns

@@ -1,4 +1,4 @@
-use Rattle.wf_core.proofs.Kept.{least_is_posted, seen_was_posted, cut_lies_above}
+use Rattle.wf_core.proofs.StepInvariants.{least_is_posted, seen_was_posted, cut_lies_above}
 use Rattle.wf_core.proofs.laws.what_runs_keep.Goals as goal
 
 pub returns : goal.returns

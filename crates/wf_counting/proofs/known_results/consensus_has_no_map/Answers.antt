@@ -1,7 +1,7 @@
 use Rattle.std.proofs.Common.{[], ◌∷◌, refl}
 use Rattle.wf_model.specs.Presets.{own, set_agreement}
 use Rattle.wf_counting.specs.KnownResults.{four_disagree, three_disagree, two_disagree}
-use Rattle.wf_counting.proofs.Tested.{never}
+use Rattle.wf_counting.proofs.ComputedTests.{never}
 use Rattle.wf_counting.proofs.known_results.consensus_has_no_map.Goals as goal
 
 pub returns-clause-two : goal.returns-clause-two

@@ -1,7 +1,7 @@
 use Rattle.std.proofs.Common.{[], ◌∷◌, refl}
 use Rattle.wf_model.specs.Presets.{renaming}
 use Rattle.wf_counting.specs.KnownResults.{two_with_one_name}
-use Rattle.wf_counting.proofs.Tested.{never}
+use Rattle.wf_counting.proofs.ComputedTests.{never}
 use Rattle.wf_counting.proofs.known_results.renaming_has_no_map.Goals as goal
 
 pub returns : goal.returns

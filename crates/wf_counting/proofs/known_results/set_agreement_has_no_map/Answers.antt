@@ -2,7 +2,7 @@ use Rattle.std.proofs.Common.{◌≡◌, true, [], ◌∷◌, refl}
 use Rattle.wf_model.specs.Presets.{own, set_agreement}
 use Rattle.wf_model.specs.Task.{Task, values}
 use Rattle.wf_counting.specs.KnownResults.{four_decide_four, three_decide_three}
-use Rattle.wf_counting.proofs.Tested.{never, passes_obstruction, passes_task}
+use Rattle.wf_counting.proofs.ComputedTests.{never, passes_obstruction, passes_task}
 use Rattle.wf_counting.proofs.known_results.set_agreement_has_no_map.Goals as goal
 
 -- a declaration may take so many steps, so the largest task has several

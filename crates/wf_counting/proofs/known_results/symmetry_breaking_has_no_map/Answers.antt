@@ -1,6 +1,6 @@
 use Rattle.std.proofs.Common.{[], ◌∷◌, refl}
 use Rattle.wf_counting.specs.KnownResults.{four_alike, symmetry_breaking, three_alike}
-use Rattle.wf_counting.proofs.Tested.{never}
+use Rattle.wf_counting.proofs.ComputedTests.{never}
 use Rattle.wf_counting.proofs.known_results.symmetry_breaking_has_no_map.Goals as goal
 
 pub returns-clause-three : goal.returns-clause-three

@@ -1,4 +1,4 @@
-use Rattle.wf_counting.proofs.Obstructed.{obstruction_leaves_no_map}
+use Rattle.wf_counting.proofs.ObstructionsLeaveNoMap.{obstruction_leaves_no_map}
 use Rattle.wf_counting.proofs.laws.an_obstruction_leaves_no_map.Goals as goal
 
 pub returns : goal.returns

@@ -1,6 +1,6 @@
 use Rattle.std.proofs.Common.{◌≡◌, None, Some, arith}
 use Rattle.json.specs.Json.{read_key}
-use Rattle.wf_draft.proofs.Taken.{more-shorter, read-more, read-all}
+use Rattle.wf_draft.proofs.TokensOfValues.{more-shorter, read-more, read-all}
 use Rattle.wf_draft.proofs.members.members.Goals as goal
 
 pub members-smaller : goal.members-smaller

@@ -1,5 +1,5 @@
 use Rattle.std.proofs.Common.{length}
-use Rattle.wf_draft.proofs.Taken.{HasRead}
+use Rattle.wf_draft.proofs.TokensOfValues.{HasRead}
 use Rattle.wf_draft.proofs.members.members.Given as goal
 
 abbrev pub invariant-members : goal.invariant-members

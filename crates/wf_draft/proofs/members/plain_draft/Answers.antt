@@ -4,7 +4,7 @@ use Rattle.std.specs.Result.{result_ok}
 use Rattle.wf_draft.specs.Draft.{draft_of}
 use Rattle.wf_draft.specs.DraftSeen.{draft_seen}
 use Rattle.wf_draft.specs.Members.{HoldDraft}
-use Rattle.wf_draft.proofs.Taken.{takes-object-if}
+use Rattle.wf_draft.proofs.TokensOfValues.{takes-object-if}
 use Rattle.wf_draft.proofs.members.plain_draft.Goals as goal
 
 pub returns : goal.returns

@@ -1,7 +1,7 @@
 use Rattle.std.proofs.Common.{◌≡◌, [], ◌∷◌, length, map, IfSome, Some, ap, subst, arith, append-nil}
 use Rattle.json.specs.Json.{after_end_array}
 use Rattle.wf_draft.specs.Plain.{Takes, TakesItems}
-use Rattle.wf_draft.proofs.Taken.{takes-shorter, takes-no_end, items-over, items-more, push-seen}
+use Rattle.wf_draft.proofs.TokensOfValues.{takes-shorter, takes-no_end, items-over, items-more, push-seen}
 use Rattle.wf_draft.proofs.plain.items.Goals as goal
 
 pub items-smaller : goal.items-smaller

@@ -1,5 +1,5 @@
 use Rattle.std.proofs.Common.{map}
-use Rattle.wf_draft.proofs.Taken.{takes-list-if}
+use Rattle.wf_draft.proofs.TokensOfValues.{takes-list-if}
 use Rattle.wf_draft.proofs.plain.whole_list.Goals as goal
 
 pub returns : goal.returns

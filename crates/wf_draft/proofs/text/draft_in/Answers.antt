@@ -4,7 +4,7 @@ use Rattle.wf_draft.specs.DraftSeen.{draft_seen}
 use Rattle.wf_draft.specs.Text.{draft_in}
 use Rattle.wf_draft.specs.Parts.{IsOfText}
 use Rattle.wf_draft.proofs.Counts.{parts-json_of, found_value}
-use Rattle.wf_draft.proofs.Listed.{vertices_of_value, few_of_value, vertices_of_text, few_of_text}
+use Rattle.wf_draft.proofs.DraftLists.{vertices_of_value, few_of_value, vertices_of_text, few_of_text}
 use Rattle.wf_draft.proofs.text.draft_in.Goals as goal
 
 pub of-requires : goal.of-requires

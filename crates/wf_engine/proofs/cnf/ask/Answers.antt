@@ -1,7 +1,7 @@
 use Rattle.std.proofs.Common.{ap, ◌∙◌}
 use Rattle.wf_formula.specs.Dimacs.{question_text}
 use Rattle.wf_engine.specs.Run.{HasComplex}
-use Rattle.wf_engine.proofs.Asking.{beyond_build, broken, refused, written}
+use Rattle.wf_engine.proofs.RunsInPieces.{beyond_build, broken, refused, written}
 use Rattle.wf_engine.proofs.cnf.ask.Goals as goal
 
 pub returns-in_err-protocol : goal.returns-in_err-protocol

@@ -1,6 +1,6 @@
 use Rattle.std.proofs.Common.{sym, subst}
 use Rattle.wf_engine.specs.Texts.{Finds}
-use Rattle.wf_engine.proofs.Finding.{solving_finds}
+use Rattle.wf_engine.proofs.RunsWithoutAccount.{solving_finds}
 use Rattle.wf_engine.proofs.find.run_find_watched.Goals as goal
 
 pub returns : goal.returns

@@ -1,4 +1,4 @@
-use Rattle.wf_engine.proofs.Certified.{reports_verified}
+use Rattle.wf_engine.proofs.CertificatesAreTrue.{reports_verified}
 use Rattle.wf_engine.proofs.laws.accepted_reports_are_verified.Goals as goal
 
 pub returns : goal.returns

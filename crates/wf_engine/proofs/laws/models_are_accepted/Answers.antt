@@ -1,4 +1,4 @@
-use Rattle.wf_engine.proofs.Reported.{models_accepted}
+use Rattle.wf_engine.proofs.ModelsAreTrue.{models_accepted}
 use Rattle.wf_engine.proofs.laws.models_are_accepted.Goals as goal
 
 pub returns : goal.returns

@@ -1,4 +1,4 @@
-use Rattle.wf_engine.proofs.Reported.{models_true}
+use Rattle.wf_engine.proofs.ModelsAreTrue.{models_true}
 use Rattle.wf_engine.proofs.laws.models_are_true.Goals as goal
 
 pub returns : goal.returns

@@ -1,4 +1,4 @@
-use Rattle.wf_engine.proofs.Certified.{obstructions_true}
+use Rattle.wf_engine.proofs.CertificatesAreTrue.{obstructions_true}
 use Rattle.wf_engine.proofs.laws.obstructions_are_true.Goals as goal
 
 pub returns : goal.returns

@@ -1,4 +1,4 @@
-use Rattle.wf_engine.proofs.Refuted.{refutations_true}
+use Rattle.wf_engine.proofs.RefutationsAreTrue.{refutations_true}
 use Rattle.wf_engine.proofs.laws.refutations_are_true.Goals as goal
 
 pub returns : goal.returns

@@ -1,4 +1,4 @@
-use Rattle.wf_engine.proofs.Finding.{solving_finds}
+use Rattle.wf_engine.proofs.RunsWithoutAccount.{solving_finds}
 use Rattle.wf_engine.proofs.laws.solving_is_finding.Goals as goal
 
 pub returns : goal.returns

@@ -2,7 +2,7 @@ use Rattle.std.proofs.Common.{subst}
 use Rattle.wf_model.specs.Check.{report_fault}
 use Rattle.wf_model.specs.Report.{a_map}
 use Rattle.wf_check.specs.Faults.{Fails}
-use Rattle.wf_engine.proofs.Modelling.{map_refused}
+use Rattle.wf_engine.proofs.ModelsToReports.{map_refused}
 use Rattle.wf_engine.proofs.model.report_map.Goals as goal
 
 pub returns-in_err-check : goal.returns-in_err-check

@@ -1,8 +1,8 @@
 use Rattle.std.proofs.Common.{Ok, Err}
 use Rattle.wf_engine.specs.Run.{answered}
 use Rattle.wf_engine.specs.Models.{ReadsMap}
-use Rattle.wf_engine.proofs.Asking.{unasked}
-use Rattle.wf_engine.proofs.Modelling.{map_few, mapped, passed}
+use Rattle.wf_engine.proofs.RunsInPieces.{unasked}
+use Rattle.wf_engine.proofs.ModelsToReports.{map_few, mapped, passed}
 use Rattle.wf_engine.proofs.model.report_source.Goals as goal
 
 pub returns-in_err-protocol : goal.returns-in_err-protocol

@@ -1,7 +1,7 @@
 use Rattle.std.proofs.Common.{◌++◌, string_bytes, ap, ◌∙◌}
 use Rattle.wf_model.specs.PointsText.{decision_text}
 use Rattle.wf_complex.specs.Views.{view_at}
-use Rattle.wf_engine.proofs.Telling.{one_view, point_told}
+use Rattle.wf_engine.proofs.ToldLines.{one_view, point_told}
 use Rattle.wf_engine.proofs.points.put_point.Goals as goal
 
 pub returns : goal.returns

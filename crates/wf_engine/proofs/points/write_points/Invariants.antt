@@ -1,5 +1,5 @@
 use Rattle.std.proofs.Common.{◌≡◌, ◌++◌, string_bytes}
-use Rattle.wf_engine.proofs.Telling.{lines_from}
+use Rattle.wf_engine.proofs.ToldLines.{lines_from}
 use Rattle.wf_engine.proofs.points.write_points.Given as goal
 
 abbrev pub invariant-loop-point : goal.invariant-loop-point

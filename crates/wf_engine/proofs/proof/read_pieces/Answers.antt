@@ -3,7 +3,7 @@ use Rattle.std.proofs.lemmas.List.{take-append-le}
 use Rattle.wf_drat.specs.Text.{at_start, text_of}
 use Rattle.wf_rup.specs.Fed.{IsFaultIn, IsReadIn}
 use Rattle.wf_rup.specs.Seen.{HasNoModel}
-use Rattle.wf_engine.proofs.Refuting.{end_refused, ended, nothing_read, piece_read, piece_refused, read_failed}
+use Rattle.wf_engine.proofs.ProofsToLines.{end_refused, ended, nothing_read, piece_read, piece_refused, read_failed}
 use Rattle.wf_engine.proofs.proof.read_pieces.Goals as goal
 
 pub pieces-init : goal.pieces-init

@@ -1,6 +1,6 @@
 use Rattle.std.proofs.Common.{◌≡◌, ◌+◌, ◌-◌, ◌≤◌, length}
 use Rattle.wf_engine.specs.Proofs.{most_proof_bytes}
-use Rattle.wf_engine.proofs.Refuting.{IsRead}
+use Rattle.wf_engine.proofs.ProofsToLines.{IsRead}
 use Rattle.wf_engine.proofs.proof.read_pieces.Given as goal
 
 abbrev pub invariant-pieces : goal.invariant-pieces

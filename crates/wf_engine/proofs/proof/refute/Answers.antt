@@ -3,7 +3,7 @@ use Rattle.wf_model.specs.Report.{none}
 use Rattle.wf_formula.specs.Encoding.{question}
 use Rattle.wf_engine.specs.Proofs.{IsAcceptedNone}
 use Rattle.wf_engine.specs.Verify.{accepted_text}
-use Rattle.wf_engine.proofs.Refuting.{refused, told, unposed, untold}
+use Rattle.wf_engine.proofs.ProofsToLines.{refused, told, unposed, untold}
 use Rattle.wf_engine.proofs.proof.refute.Goals as goal
 
 pub returns-in_err-checker : goal.returns-in_err-checker

@@ -1,6 +1,6 @@
 use Rattle.wf_engine.specs.Proofs.{ReadsProof}
 use Rattle.wf_engine.specs.Run.{answered}
-use Rattle.wf_engine.proofs.Asking.{asked, unasked}
+use Rattle.wf_engine.proofs.RunsInPieces.{asked, unasked}
 use Rattle.wf_engine.proofs.proof.refute_source.Goals as goal
 
 pub returns-in_err-protocol : goal.returns-in_err-protocol

@@ -3,7 +3,7 @@ use Rattle.wf_model.specs.Problem.{problem_of}
 use Rattle.wf_lines.specs.Lines.{line_of}
 use Rattle.wf_pool.specs.Answers.{IsAnswer, HasAccount}
 use Rattle.wf_engine.specs.Texts.{text_of_report, lines_kept}
-use Rattle.wf_engine.proofs.Verdicts.{map_account, map_verdict, none_verdict}
+use Rattle.wf_engine.proofs.AnswersOfSearches.{map_account, map_verdict, none_verdict}
 use Rattle.wf_engine.proofs.solve.with_text.Goals as goal
 
 pub returns-in_ok-text-in-Map-clause-found : goal.returns-in_ok-text-in-Map-clause-found
@@ -13,7 +13,7 @@ returns-in_ok-text-in-Map-clause-found c =
     let answer = subst (IsAnswer (problem_of t r) (lines_kept c.args.form)) c.in-Map.is c.requires.answer in
     let lines = map line_of c.in-Map.lines.items in
     map_verdict t r c.args.form c.in-Map.values.items lines _ c.requires.header.task answer.0 answer.1
-    (c.in_ok-text-in-Map.ensures ∙ ap (text_of_report t r) c.map_body.ensures)
+    (c.in_ok-text-in-Map.ensures ∙ ap (text_of_report t r) c.body_of_map.ensures)
 
 pub returns-in_ok-text-in-Nothing-clause-found : goal.returns-in_ok-text-in-Nothing-clause-found
 returns-in_ok-text-in-Nothing-clause-found c =

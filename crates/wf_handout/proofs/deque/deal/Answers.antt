@@ -1,4 +1,4 @@
-use Rattle.wf_handout.proofs.Moves.{forks}
+use Rattle.wf_handout.proofs.DequeSteps.{forks}
 use Rattle.wf_handout.proofs.deque.deal.Goals as goal
 
 pub another-pass-requires : goal.another-pass-requires

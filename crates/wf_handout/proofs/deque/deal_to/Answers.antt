@@ -3,7 +3,7 @@ use Rattle.std.proofs.Math.Nat.{add-mod_right}
 use Rattle.crossbeam_deque.specs.Handles.{worker_view}
 use Rattle.wf_handout.specs.declared.deque.Pile.{Pile}
 use Rattle.wf_handout.specs.Parts.{IsDealt}
-use Rattle.wf_handout.proofs.Dealing.{goes_on, ends}
+use Rattle.wf_handout.proofs.DealtBranches.{goes_on, ends}
 use Rattle.wf_handout.proofs.deque.deal_to.Goals as goal
 
 pub loop-branch-preserved : goal.loop-branch-preserved

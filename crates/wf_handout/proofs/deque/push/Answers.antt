@@ -1,4 +1,4 @@
-use Rattle.wf_handout.proofs.Moves.{pushes}
+use Rattle.wf_handout.proofs.DequeSteps.{pushes}
 use Rattle.wf_handout.proofs.deque.push.Goals as goal
 
 pub push_as-requires-clause-pushes : goal.push_as-requires-clause-pushes

@@ -4,7 +4,7 @@ use Rattle.wf_core.specs.Count.{times, total}
 use Rattle.wf_core.proofs.Lemmas.{times-append, times_same}
 use Rattle.wf_handout.specs.declared.deque.Pile.{Pile}
 use Rattle.wf_handout.specs.Piles.{pile}
-use Rattle.wf_handout.proofs.Moves.{merges, nearer, fair, total_times, on_err}
+use Rattle.wf_handout.proofs.DequeSteps.{merges, nearer, fair, total_times, on_err}
 use Rattle.wf_handout.proofs.deque.settle.Goals as goal
 
 pub absorb-requires-clause-rule : goal.absorb-requires-clause-rule

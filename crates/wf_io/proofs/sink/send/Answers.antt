@@ -1,7 +1,7 @@
 use Rattle.std.proofs.Common.{◌≡◌, ◌-◌, ◌++◌, length, take, drop, sym, ap, subst, ◌∙◌, arith, length-take}
 use lib.Seq.{take-add, take-take}
 use Rattle.wf_io.specs.Texts.{Took}
-use Rattle.wf_io.proofs.Chains.{Took-more}
+use Rattle.wf_io.proofs.CallChains.{Took-more}
 use Rattle.wf_io.proofs.sink.send.Goals as goal
 
 pub loop-written-preserved : goal.loop-written-preserved

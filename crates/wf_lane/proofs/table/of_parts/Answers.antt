@@ -2,7 +2,7 @@ use Rattle.std.proofs.Common.{◌≡◌, [], ◌∷◌, arith, get_or, refl}
 use Rattle.wf_set.specs.Parts.{part_values}
 use Rattle.wf_set.specs.Sets.{values_in}
 use Rattle.wf_set.proofs.Lemmas.{in_four}
-use Rattle.wf_lane.proofs.Revising.{each_place}
+use Rattle.wf_lane.proofs.RevisedRows.{each_place}
 use Rattle.wf_lane.proofs.table.of_parts.Goals as goal
 
 pub returns : goal.returns

@@ -1,7 +1,7 @@
 use Rattle.std.proofs.Common.{◌∙◌, ap}
 use Rattle.std.specs.Prelude.{count_by}
 use Rattle.wf_lane.specs.Words.{joined_words, is_live}
-use Rattle.wf_lane.proofs.Revising.{same_rows}
+use Rattle.wf_lane.proofs.RevisedRows.{same_rows}
 use Rattle.wf_lane.proofs.table.support_in.Goals as goal
 
 pub returns-then-columns-eq0 : goal.returns-then-columns-eq0

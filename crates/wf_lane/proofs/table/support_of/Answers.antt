@@ -4,7 +4,7 @@ use Rattle.wf_set.specs.Parts.{part_values}
 use Rattle.wf_set.proofs.Lemmas.{values_of_nothing}
 use Rattle.wf_lane.specs.Words.{is_live}
 use Rattle.wf_lane.specs.Rows.{AreJoined, rows_in}
-use Rattle.wf_lane.proofs.Revising.{alive_of, closed_past, supported_of}
+use Rattle.wf_lane.proofs.RevisedRows.{alive_of, closed_past, supported_of}
 use Rattle.wf_lane.proofs.table.support_of.Goals as goal
 
 pub returns-clause-supported : goal.returns-clause-supported

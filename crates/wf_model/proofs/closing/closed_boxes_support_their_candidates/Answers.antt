@@ -1,4 +1,4 @@
-use Rattle.wf_model.proofs.Closed.{closed_supports}
+use Rattle.wf_model.proofs.ClosedBoxes.{closed_supports}
 use Rattle.wf_model.proofs.closing.closed_boxes_support_their_candidates.Goals as goal
 
 pub returns : goal.returns

@@ -1,4 +1,4 @@
-use Rattle.wf_model.proofs.Closed.{closing_again}
+use Rattle.wf_model.proofs.ClosedBoxes.{closing_again}
 use Rattle.wf_model.proofs.closing.closing_a_closed_box_changes_nothing.Goals as goal
 
 pub returns : goal.returns

@@ -1,4 +1,4 @@
-use Rattle.wf_model.proofs.Closed.{solution_left}
+use Rattle.wf_model.proofs.ClosedBoxes.{solution_left}
 use Rattle.wf_model.proofs.closing.closing_keeps_solutions.Goals as goal
 
 pub returns : goal.returns

@@ -1,4 +1,4 @@
-use Rattle.wf_model.proofs.Closed.{closed_branch}
+use Rattle.wf_model.proofs.ClosedBoxes.{closed_branch}
 use Rattle.wf_model.proofs.closing.closing_leaves_a_closed_box.Goals as goal
 
 pub returns : goal.returns

@@ -1,4 +1,4 @@
-use Rattle.wf_model.proofs.Covering.{in_order, in_exactly_one}
+use Rattle.wf_model.proofs.OrderedCovers.{in_order, in_exactly_one}
 use Rattle.wf_model.proofs.covers.boxes_of_a_cover_are_in_order.Goals as goal
 
 pub returns : goal.returns

@@ -1,4 +1,4 @@
-use Rattle.wf_model.proofs.Covering.{split_covers, split_closed}
+use Rattle.wf_model.proofs.OrderedCovers.{split_covers, split_closed}
 use Rattle.wf_model.proofs.covers.split_covers_in_order.Goals as goal
 
 pub returns : goal.returns

@@ -1,4 +1,4 @@
-use Rattle.wf_model.proofs.Covering.{first_least}
+use Rattle.wf_model.proofs.OrderedCovers.{first_least}
 use Rattle.wf_model.proofs.covers.the_first_map_of_a_cover_is_the_least.Goals as goal
 
 pub returns : goal.returns

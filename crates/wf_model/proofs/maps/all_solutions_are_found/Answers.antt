@@ -1,4 +1,4 @@
-use Rattle.wf_model.proofs.Trying.{tried}
+use Rattle.wf_model.proofs.SolutionTests.{tried}
 use Rattle.wf_model.proofs.maps.all_solutions_are_found.Goals as goal
 
 pub returns : goal.returns

@@ -1,4 +1,4 @@
-use Rattle.wf_model.proofs.Sound.{none_refutes}
+use Rattle.wf_model.proofs.TreesAreSound.{none_refutes}
 use Rattle.wf_model.proofs.refutations.no_tree_refutes_a_solution.Goals as goal
 
 pub returns : goal.returns

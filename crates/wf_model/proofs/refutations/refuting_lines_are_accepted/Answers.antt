@@ -1,4 +1,4 @@
-use Rattle.wf_model.proofs.Accepting.{root_accepts}
+use Rattle.wf_model.proofs.RefutingLines.{root_accepts}
 use Rattle.wf_model.proofs.refutations.refuting_lines_are_accepted.Goals as goal
 
 pub returns : goal.returns

@@ -1,4 +1,4 @@
-use Rattle.wf_model.proofs.Covering.{one_least}
+use Rattle.wf_model.proofs.OrderedCovers.{one_least}
 use Rattle.wf_model.proofs.search.a_box_has_one_least_solution.Goals as goal
 
 pub returns : goal.returns

@@ -1,4 +1,4 @@
-use Rattle.wf_model.proofs.Least.{answer_least, answer_none}
+use Rattle.wf_model.proofs.LeastSolutions.{answer_least, answer_none}
 use Rattle.wf_model.proofs.search.the_canonical_answer.Goals as goal
 
 pub returns : goal.returns

@@ -1,4 +1,4 @@
-use Rattle.wf_model.proofs.Least.{canonical_least}
+use Rattle.wf_model.proofs.LeastSolutions.{canonical_least}
 use Rattle.wf_model.proofs.search.the_canonical_map_is_the_least_solution.Goals as goal
 
 pub returns : goal.returns

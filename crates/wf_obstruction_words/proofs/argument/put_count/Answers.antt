@@ -1,6 +1,6 @@
 use Rattle.std.proofs.Common.{codes, string_bytes}
 use Rattle.wf_obstruction_words.specs.Words.{points_text}
-use Rattle.wf_obstruction_words.proofs.Listing.{three_added}
+use Rattle.wf_obstruction_words.proofs.ListsInWords.{three_added}
 use Rattle.wf_obstruction_words.proofs.argument.put_count.Goals as goal
 
 pub returns : goal.returns

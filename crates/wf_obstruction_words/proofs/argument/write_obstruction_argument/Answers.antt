@@ -3,7 +3,7 @@ use Rattle.wf_model.specs.Lists.{in_order}
 use Rattle.wf_obstruction.specs.Tuples.{tuples_seen}
 use Rattle.wf_obstruction_text.specs.Seen.{obstruction_seen}
 use Rattle.wf_obstruction_words.specs.Words.{count_text, lines_text, tuple_cmp}
-use Rattle.wf_obstruction_words.proofs.Whole.{told}
+use Rattle.wf_obstruction_words.proofs.WholeText.{told}
 use Rattle.wf_obstruction_words.proofs.argument.write_obstruction_argument.Goals as goal
 
 pub returns : goal.returns

@@ -1,7 +1,7 @@
 use Rattle.std.proofs.Common.{◌≡◌, ◌++◌, ◌-◌, ◌∷◌, List, drop, length, length-drop, length-take, string_bytes, subst, take, take_all, ap, ◌∙◌, arith}
 use Rattle.wf_counting.specs.Obstruction.{WeightedTuple}
 use Rattle.wf_obstruction_words.specs.Words.{line_text, lines_of}
-use Rattle.wf_obstruction_words.proofs.Listing.{two_added}
+use Rattle.wf_obstruction_words.proofs.ListsInWords.{two_added}
 use Rattle.wf_obstruction_words.proofs.Runs.{next_line}
 use Rattle.wf_obstruction_words.proofs.lines.put_lines.Goals as goal
 

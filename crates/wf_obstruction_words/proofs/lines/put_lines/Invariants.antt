@@ -1,6 +1,6 @@
 use Rattle.std.proofs.Common.{◌≡◌, ◌≤◌, ◌++◌, ◌-◌, codes, drop, length, string_bytes}
 use Rattle.wf_obstruction_words.specs.Words.{line_text, lines_of, lines_text}
-use Rattle.wf_obstruction_words.proofs.Listing.{rest_of}
+use Rattle.wf_obstruction_words.proofs.ListsInWords.{rest_of}
 use Rattle.wf_obstruction_words.proofs.lines.put_lines.Given as goal
 
 abbrev pub invariant-lines : goal.invariant-lines

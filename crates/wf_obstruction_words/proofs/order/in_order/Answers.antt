@@ -1,4 +1,4 @@
-use Rattle.wf_obstruction_words.proofs.Sorting.{entry_more, entries_sorted}
+use Rattle.wf_obstruction_words.proofs.SortedTuples.{entry_more, entries_sorted}
 use Rattle.wf_obstruction_words.proofs.order.in_order.Goals as goal
 
 pub loop-tuple-preserved : goal.loop-tuple-preserved

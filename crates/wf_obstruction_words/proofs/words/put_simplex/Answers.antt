@@ -1,6 +1,6 @@
 use Rattle.std.proofs.Common.{drop, string_bytes, codes, arith}
 use Rattle.wf_obstruction_words.specs.Words.{list_text, vertex_text}
-use Rattle.wf_obstruction_words.proofs.Listing.{enclosed, next_vertex, none_left, one_added, rest_of}
+use Rattle.wf_obstruction_words.proofs.ListsInWords.{enclosed, next_vertex, none_left, one_added, rest_of}
 use Rattle.wf_obstruction_words.proofs.words.put_simplex.Goals as goal
 
 pub loop-place-preserved : goal.loop-place-preserved

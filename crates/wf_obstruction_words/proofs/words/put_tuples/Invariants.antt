@@ -1,7 +1,7 @@
 use Rattle.std.proofs.Common.{◌≡◌, ◌++◌, string_bytes, drop}
 use Rattle.std.specs.Prelude.{codes}
 use Rattle.wf_obstruction_words.specs.Words.{one_text}
-use Rattle.wf_obstruction_words.proofs.Listing.{rest_of}
+use Rattle.wf_obstruction_words.proofs.ListsInWords.{rest_of}
 use Rattle.wf_obstruction_words.proofs.words.put_tuples.Given as goal
 
 abbrev pub invariant-loop-place : goal.invariant-loop-place

@@ -1,6 +1,6 @@
 use Rattle.std.proofs.Common.{◌≡◌, ◌++◌, string_bytes, drop}
 use Rattle.wf_obstruction_words.specs.Words.{number_text}
-use Rattle.wf_obstruction_words.proofs.Listing.{rest_of}
+use Rattle.wf_obstruction_words.proofs.ListsInWords.{rest_of}
 use Rattle.wf_obstruction_words.proofs.words.put_values.Given as goal
 
 abbrev pub invariant-loop-place : goal.invariant-loop-place

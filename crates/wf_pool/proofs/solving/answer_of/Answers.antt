@@ -7,7 +7,7 @@ use Rattle.wf_pool.specs.Answers.{HasAccountOfNone}
 use Rattle.wf_pool.specs.Branches.{branch_count}
 use Rattle.wf_pool.specs.Together.{Tells}
 use Rattle.wf_pool.proofs.Branches.{count_of_cover}
-use Rattle.wf_pool.proofs.Answering.{account_of_none, bare_answer, filled_answer}
+use Rattle.wf_pool.proofs.RootAnswers.{account_of_none, bare_answer, filled_answer}
 use Rattle.wf_pool.proofs.solving.answer_of.Goals as goal
 
 account : (p : Problem) (kept : KeptLines) (a : Account) (finds : AllFinds) → a.branches ≡ branch_count p → Tells p kept a finds → a.branches ≤ a.least → HasAccountOfNone p a

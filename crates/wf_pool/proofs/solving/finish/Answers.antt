@@ -4,7 +4,7 @@ use Rattle.std.proofs.lemmas.List.Elements.{All-map, All-weaker}
 use Rattle.wf_board.specs.Desk.{AreSeats}
 use Rattle.wf_pool.specs.declared.worker.Worker.{Worker}
 use Rattle.wf_pool.specs.Work.{IsWorker, IsSeat}
-use Rattle.wf_pool.proofs.Together.{tells}
+use Rattle.wf_pool.proofs.WorkersTogether.{tells}
 use Rattle.wf_pool.proofs.solving.finish.Goals as goal
 
 pub finish-requires : goal.finish-requires

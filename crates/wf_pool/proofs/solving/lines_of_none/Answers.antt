@@ -1,5 +1,5 @@
 use Rattle.std.proofs.Common.{sym, ◌∙◌}
-use Rattle.wf_pool.proofs.Answering.{bare_answer, filled_lines}
+use Rattle.wf_pool.proofs.RootAnswers.{bare_answer, filled_lines}
 use Rattle.wf_pool.proofs.Branches.{count_of_cover, lines_are}
 use Rattle.wf_pool.proofs.solving.lines_of_none.Goals as goal
 

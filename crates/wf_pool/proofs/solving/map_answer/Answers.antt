@@ -1,6 +1,6 @@
 use Rattle.std.proofs.Common.{ℕ, ◌<◌, length, subst}
 use Rattle.wf_pool.specs.Branches.{HasEachLines}
-use Rattle.wf_pool.proofs.Answering.{account_of_map, dropped_answer, kept_answer}
+use Rattle.wf_pool.proofs.RootAnswers.{account_of_map, dropped_answer, kept_answer}
 use Rattle.wf_pool.proofs.solving.map_answer.Goals as goal
 
 pub fill_to_map-requires-clause-below : goal.fill_to_map-requires-clause-below

@@ -3,8 +3,8 @@ use Rattle.std.proofs.lemmas.List.{map-append, length-map}
 use Rattle.wf_pool.specs.Branches.{HasLines, LeadIfKept}
 use Rattle.wf_pool.specs.Answers.{IsAnswerAt}
 use Rattle.wf_pool.proofs.Branches.{count_of_cover, lines_are}
-use Rattle.wf_pool.proofs.Answering.{account_of_map, account_of_none, first_answer}
-use Rattle.wf_pool.proofs.Placing.{one_more}
+use Rattle.wf_pool.proofs.RootAnswers.{account_of_map, account_of_none, first_answer}
+use Rattle.wf_pool.proofs.LinesInPlace.{one_more}
 use Rattle.wf_pool.proofs.solving.solve_one_watched.Goals as goal
 
 pub lines_to_map-requires-clause-branch : goal.lines_to_map-requires-clause-branch

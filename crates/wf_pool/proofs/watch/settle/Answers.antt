@@ -1,7 +1,7 @@
 use Rattle.std.proofs.Common.{◌<◌, ℕ, sym, subst}
 use Rattle.wf_box.specs.Boxes.{ServeFor}
 use Rattle.wf_pool.proofs.Branches.{found_at}
-use Rattle.wf_pool.proofs.Keeping.{looked_honest}
+use Rattle.wf_pool.proofs.HonestWorkers.{looked_honest}
 use Rattle.wf_pool.proofs.watch.settle.Goals as goal
 
 pub returns-clause-worker : goal.returns-clause-worker

@@ -1,4 +1,4 @@
-use Rattle.wf_preset.proofs.Decided.{agreement-allows}
+use Rattle.wf_preset.proofs.AllowedByRules.{agreement-allows}
 use Rattle.wf_preset.proofs.laws.set_agreement_decides_few_inputs.Goals as goal
 
 pub returns : goal.returns

@@ -2,7 +2,7 @@ use Rattle.std.proofs.Common.{[], ◌∷◌, nat_lt, sum_by, length, Ok, sym, ap
 use Rattle.wf_model.specs.Simplex.{complex_of}
 use Rattle.wf_preset.specs.declared.family.Family.TheVariants.{Naming}
 use Rattle.wf_preset.specs.Family.{tuples_for, at_most}
-use Rattle.wf_preset.proofs.Naming.{start}
+use Rattle.wf_preset.proofs.RenamingOutputs.{start}
 use Rattle.wf_preset.proofs.PresetLimits.{named-bounds, renaming-processes, renaming-value, renaming-judged, counted_more, counted_few, renaming-outputs-refused, renaming-refused, renaming-made, renaming-is-task, renaming-few}
 use Rattle.wf_preset.proofs.preset.renaming.Goals as goal
 

@@ -2,7 +2,7 @@ use Rattle.std.proofs.Common.{ap, ◌∙◌, lit≤}
 use Rattle.wf_simplex.specs.Reading.{read_fault}
 use Rattle.wf_simplex.proofs.Lemmas.{read_fault-within}
 use Rattle.wf_task.proofs.Lemmas.{within_more}
-use Rattle.wf_preset.proofs.Naming.{start}
+use Rattle.wf_preset.proofs.RenamingOutputs.{start}
 use Rattle.wf_preset.proofs.PresetLimits.{first_four, start-within}
 use Rattle.wf_preset.proofs.preset.whole.Goals as goal
 

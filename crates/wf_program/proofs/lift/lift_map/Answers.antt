@@ -1,5 +1,5 @@
 use Rattle.std.proofs.Common.{◌≤◌, sym, subst}
-use Rattle.wf_engine.proofs.Modelling.{own_rounds}
+use Rattle.wf_engine.proofs.ModelsToReports.{own_rounds}
 use Rattle.wf_program.proofs.LiftSteps.{lifted_report, map_long}
 use Rattle.wf_program.proofs.lift.lift_map.Goals as goal
 

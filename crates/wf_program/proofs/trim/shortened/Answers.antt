@@ -1,7 +1,7 @@
 use Rattle.std.proofs.Common.{◌≡◌, ◌∙◌}
 use Rattle.wf_report.specs.Reports.{report_seen}
-use Rattle.wf_program.proofs.Trimming.{unchanged}
-use Rattle.wf_program.proofs.Shortening.{back_numbered, back_whole, is_shortened, stays_numbered}
+use Rattle.wf_program.proofs.TrimmedTexts.{unchanged}
+use Rattle.wf_program.proofs.ShorterReports.{back_numbered, back_whole, is_shortened, stays_numbered}
 use Rattle.wf_program.proofs.trim.shortened.Goals as goal
 
 pub returns-then-len-lines-clause-shorter : goal.returns-then-len-lines-clause-shorter

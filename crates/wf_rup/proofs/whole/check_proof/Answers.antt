@@ -1,7 +1,7 @@
 use Rattle.std.proofs.Common.{[], ap, sym, ◌∙◌, inr}
 use Rattle.std.proofs.lemmas.Result.{IfErr-weaker, IfOk-weaker}
 use Rattle.wf_drat.specs.Text.{at_start}
-use Rattle.wf_rup.proofs.Feeding.{fed_more, nothing_fed, refusal_at_end, refusal_fed}
+use Rattle.wf_rup.proofs.ProofPieces.{fed_more, nothing_fed, refusal_at_end, refusal_fed}
 use Rattle.wf_rup.proofs.whole.check_proof.Goals as goal
 
 pub returns-in-Err-clause-refused : goal.returns-in-Err-clause-refused

@@ -1,13 +1,13 @@
 use Rattle.std.proofs.Common.{◌≡◌, ◌+◌, ◌++◌, ◌∙◌, None, Some, [], ◌∷◌, sym, ap, subst, arith}
 use Rattle.wf_model.specs.Closing.{Trace, canonical}
-use Rattle.wf_model.proofs.Canonical.{canonical_none_refutes}
-use Rattle.wf_model.proofs.Least.{canonical_least}
-use Rattle.wf_model.proofs.Sound.{none_refutes}
+use Rattle.wf_model.proofs.CanonicalRefutations.{canonical_none_refutes}
+use Rattle.wf_model.proofs.LeastSolutions.{canonical_least}
+use Rattle.wf_model.proofs.TreesAreSound.{none_refutes}
 use Rattle.wf_box.specs.Boxes.{Tracked}
 use Rattle.wf_search.specs.Pending.{Boxes}
 use Rattle.wf_search.specs.Found.{turns}
 use Rattle.wf_search.specs.Turning.{AreBoxesOf}
-use Rattle.wf_search.proofs.Turns.{failed_map, turns_more}
+use Rattle.wf_search.proofs.TurnCounts.{failed_map, turns_more}
 use Rattle.wf_search.proofs.SearchLemmas.{at_first, ends_after, less_to_find, searched_on, turn_of}
 use Rattle.wf_search.proofs.maps.search_map.Goals as goal
 

@@ -2,14 +2,14 @@ use Rattle.std.proofs.Common.{◌≡◌, ◌<◌, length, ◌∙◌, [], ◌∷�
 use Rattle.wf_model.specs.Box.{branches_at, candidates, first_empty}
 use Rattle.wf_model.specs.Refutation.{branch, found}
 use Rattle.wf_model.specs.Closing.{closing}
-use Rattle.wf_model.proofs.Closed.{closed_branch}
-use Rattle.wf_model.proofs.Fuel.{open_point}
+use Rattle.wf_model.proofs.ClosedBoxes.{closed_branch}
+use Rattle.wf_model.proofs.CanonicalSteps.{open_point}
 use Rattle.wf_lines.specs.declared.line.Line.TheVariants as line
 use Rattle.wf_box.specs.Closes.{Leaves}
 use Rattle.wf_box.specs.Least.{least_values}
 use Rattle.wf_search.specs.Pending.{Boxes, first, first_branched, others}
 use Rattle.wf_search.specs.Turning.{AreBoxesOf}
-use Rattle.wf_search.proofs.Turns.{emptied_turn, opened_turn}
+use Rattle.wf_search.proofs.TurnCounts.{emptied_turn, opened_turn}
 use Rattle.wf_search.proofs.SearchLemmas.{after_branching, emptied_whole, ended_whole, first_is_box, line_added, opened_whole}
 use Rattle.wf_search.proofs.turning.take_turn.Goals as goal
 

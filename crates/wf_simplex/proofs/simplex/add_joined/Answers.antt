@@ -3,7 +3,7 @@ use Rattle.std.proofs.lemmas.List.{length-drop}
 use Rattle.wf_model.specs.Simplex.{Vertex}
 use Rattle.wf_model.specs.Task.{IsTaskSimplex}
 use Rattle.wf_simplex.specs.Adding.{joined}
-use Rattle.wf_simplex.proofs.InTurn.{stood, one_joined}
+use Rattle.wf_simplex.proofs.FacesInOrder.{stood, one_joined}
 use Rattle.wf_simplex.proofs.simplex.add_joined.Goals as goal
 
 pub joined-face-requires : goal.joined-face-requires

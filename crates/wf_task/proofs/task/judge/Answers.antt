@@ -9,7 +9,7 @@ use Rattle.wf_draft.specs.DraftSeen.{draft_seen, pairs_seen, entry_seen}
 use Rattle.wf_task.specs.Judge.{is_first_block, sizes_judged, tuples_judged}
 use Rattle.wf_task.specs.Slots.{AreOf, AreOnly}
 use Rattle.wf_task.proofs.Judged.{passed_last, are_judged, inputs_within, outputs_within}
-use Rattle.wf_task.proofs.Drafted.{all_within_four, entries_within_four, only_entries, faultless, are_few}
+use Rattle.wf_task.proofs.DraftsWithoutFault.{all_within_four, entries_within_four, only_entries, faultless, are_few}
 use Rattle.wf_task.proofs.task.judge.Goals as goal
 
 pub complex-requires-clause-within : goal.complex-requires-clause-within
@@ -48,8 +48,8 @@ judge_tuples-requires-clause-small c =
     let listed = draft_seen c.args.draft.now in
     (are_judged listed c.in_ok-judge_numbers.field-0 c.in_ok-judge_numbers.ensures).small
 
-pub task_of-requires-clause-faultless : goal.task_of-requires-clause-faultless
-task_of-requires-clause-faultless c =
+pub task_of_draft-requires-clause-faultless : goal.task_of_draft-requires-clause-faultless
+task_of_draft-requires-clause-faultless c =
     let listed = draft_seen c.args.draft.now in
     let inputs = c.in_ok-inputs.inputs in
     let is : inputs ≡ complex_of listed.inputs = c.in_ok-inputs.ensures ∙ ap (λ ds. complex_of (map pairs_seen ds)) c.deref.ensures.value in

@@ -1,7 +1,7 @@
 use Rattle.std.proofs.Common.{◌≡◌, ◌<◌, ◌+◌, ◌*◌, ◌++◌, [], ◌∷◌, drop, length, arith, rules, sym, ap, ◌∙◌}
 use Rattle.wf_complex.specs.Layout.{turns}
 use Rattle.wf_trim.specs.Stretches.{stretches}
-use Rattle.wf_trim.proofs.Turns.{counted, stretches_more}
+use Rattle.wf_trim.proofs.WordListCounts.{counted, stretches_more}
 use Rattle.wf_trim.proofs.stretch.stretches_of.Goals as goal
 
 pub turn_count-each-requires-clause-fits : goal.turn_count-each-requires-clause-fits

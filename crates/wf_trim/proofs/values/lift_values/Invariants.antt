@@ -1,4 +1,4 @@
-use Rattle.wf_trim.proofs.Going.{LiftedTo}
+use Rattle.wf_trim.proofs.LiftedValues.{LiftedTo}
 use Rattle.wf_trim.proofs.values.lift_values.Given as goal
 
 abbrev pub invariant-loop-point : goal.invariant-loop-point

@@ -2,7 +2,7 @@ use Rattle.std.proofs.Common.{◌≡◌, ◌<◌, ◌≤◌, Some, None, length,
 use Rattle.std.proofs.lemmas.Option.{slice_get_within}
 use Rattle.wf_model.specs.Limits.{most_executions}
 use Rattle.wf_trim.specs.declared.stretch.Stretch.{Stretch}
-use Rattle.wf_trim.proofs.Going.{looked}
+use Rattle.wf_trim.proofs.LiftedValues.{looked}
 use Rattle.wf_trim.proofs.values.value_at.Goals as goal
 
 abbrev none : Stretch

@@ -4,7 +4,7 @@ use Rattle.wf_model.specs.Lists.{lists_of}
 use Rattle.wf_model.specs.Simplex.{processes_of}
 use Rattle.wf_model.specs.Task.{first_block, inputs}
 use Rattle.wf_model.specs.Word.{words}
-use Rattle.wf_argument.specs.declared.executions.Span.{Span}
+use Rattle.wf_argument.specs.declared.executions.ExecutionRange.{ExecutionRange}
 use Rattle.wf_argument.specs.Table.{Table, spans_of}
 use Rattle.wf_argument.specs.Text.{words_text}
 use Rattle.wf_argument.proofs.ExecutionPlaces.{as_many, found_there, looked_up, simplex_at, simplex_low, words_at, words_low}
@@ -41,7 +41,7 @@ overflow_sub-result c =
     let f = found_there t r c.args.protocol.now c.args.execution s c.requires.protocol c.simplex_of-number.ensures in
     let spans : c.as_slice-spans.result.now ≡ spans_of (first_block t) r 0 (inputs t) = c.as_slice-spans.ensures.value ∙ ap (λ (x : Table). x.spans) (c.self.view_is ∙ c.requires.table) in
     let span = ap (λ xs. slice_index_or xs s (record { first = 0; count = 0 })) spans ∙ get_or_from_slice_get (spans_of (first_block t) r 0 (inputs t)) s f.span (record { first = 0; count = 0 }) f.span_there in
-    omega (arith, ap (λ (x : Span). x.first) span, f.begun)
+    omega (arith, ap (λ (x : ExecutionRange). x.first) span, f.begun)
 
 pub returns-clause-whole : goal.returns-clause-whole
 returns-clause-whole c =

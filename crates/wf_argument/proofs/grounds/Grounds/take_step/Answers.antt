@@ -2,8 +2,8 @@ use Rattle.std.proofs.Common.{get_or, length, take_all, refl, sym, ap, ◌∙◌
 use Rattle.wf_argument.specs.Seats.{point_at, taken_at}
 use Rattle.wf_argument.specs.State.{State, Taking, cites_itself, taken}
 use Rattle.wf_argument.specs.Trail.{state_of}
-use Rattle.wf_argument.proofs.Stepping.{all_taken, begun, ended, one_more}
-use Rattle.wf_argument.proofs.Taking.{gone_alone, needed_more, taking_more}
+use Rattle.wf_argument.proofs.PartSteps.{all_taken, begun, ended, one_more}
+use Rattle.wf_argument.proofs.TakenValues.{gone_alone, needed_more, taking_more}
 use Rattle.wf_argument.proofs.grounds.Grounds.take_step.Goals as goal
 
 pub loop-place-init : goal.loop-place-init

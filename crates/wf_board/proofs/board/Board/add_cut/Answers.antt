@@ -2,7 +2,7 @@ use Rattle.std.proofs.Common.{rules, ℕ, ◌≡◌, ◌*◌, ◌^◌, ◌<◌, 
 use Rattle.wf_board.specs.Rule.{Seated}
 use Rattle.std.specs.Prelude.{Contains, List}
 use Rattle.wf_board.specs.Desk.{Desk, BoardId, known, is_cut}
-use Rattle.wf_board.proofs.Keeps.{cuts_number}
+use Rattle.wf_board.proofs.SeatSteps.{cuts_number}
 use Rattle.wf_board.proofs.Seats.{sits_room, sits_cut, one_seen, desk_at, sits_known, desk_is, inside_of, fresh_of}
 use Rattle.wf_board.proofs.board.Board.add_cut.Goals as goal
 

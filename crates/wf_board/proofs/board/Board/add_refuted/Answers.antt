@@ -1,6 +1,6 @@
 use Rattle.std.proofs.Common.{rules, ℕ, ◌≡◌, ◌*◌, ◌^◌, ◌<◌, arith, ap, sym, ◌∙◌}
 use Rattle.wf_board.specs.Desk.{Desk, BoardId, known, searched}
-use Rattle.wf_board.proofs.Keeps.{refutes_number}
+use Rattle.wf_board.proofs.SeatSteps.{refutes_number}
 use Rattle.wf_board.proofs.Seats.{sits_room, sits_refuted, one_seen, desk_at, sits_known, desk_is, inside_of, fresh_of}
 use Rattle.wf_board.proofs.board.Board.add_refuted.Goals as goal
 

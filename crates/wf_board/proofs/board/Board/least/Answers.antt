@@ -1,7 +1,7 @@
 use Rattle.std.proofs.Common.{rules, arith, ap, subst, ◌∙◌}
 use Rattle.wf_board.specs.Desk.{Desk, looked}
 use Rattle.wf_board.specs.Desk.{IsLow}
-use Rattle.wf_board.proofs.Keeps.{sees_least}
+use Rattle.wf_board.proofs.SeatSteps.{sees_least}
 use Rattle.wf_board.proofs.Seats.{one_seen, desk_at, sits_known, sits_looked, desk_is}
 use Rattle.wf_board.proofs.board.Board.least.Goals as goal
 

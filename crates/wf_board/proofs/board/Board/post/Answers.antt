@@ -2,7 +2,7 @@ use Rattle.std.proofs.Common.{rules, ◌≡◌, min, [], ◌∷◌, ◌++◌, ar
 use Rattle.std.proofs.Math.Nat.{le-mul_of_pos_right}
 use Rattle.wf_board.specs.Desk.{IsLow}
 use Rattle.wf_board.specs.Desk.{Desk, BoardId, knows, known, posted}
-use Rattle.wf_board.proofs.Keeps.{posts_number}
+use Rattle.wf_board.proofs.SeatSteps.{posts_number}
 use Rattle.wf_board.proofs.Seats.{sits_room, sits_posted, one_seen, desk_at, sits_known, desk_is, inside_of, fresh_of}
 use Rattle.wf_board.proofs.board.Board.post.Goals as goal
 

@@ -1,6 +1,6 @@
 use Rattle.std.proofs.Common.{◌∙◌}
 use Rattle.std.proofs.lemmas.Result.{IfOk-weaker}
-use Rattle.wf_branches.proofs.Told.{after_one, after_several}
+use Rattle.wf_branches.proofs.AcceptedLines.{after_one, after_several}
 use Rattle.wf_branches.proofs.branch.BranchIndex.accepted.Goals as goal
 
 pub returns-then-rounds-eq1 : goal.returns-then-rounds-eq1

@@ -1,7 +1,7 @@
 use Rattle.std.proofs.Common.{◌++◌, ◌∷◌, [], ◌∙◌, ap, arith}
 use Rattle.std.specs.List.{slice_set}
 use Rattle.wf_check.specs.Blocks.{later}
-use Rattle.wf_check.specs.declared.boxes.Entry.TheVariants.{Was}
+use Rattle.wf_check.specs.declared.boxes.TrailEntry.TheVariants.{Was}
 use Rattle.wf_check.proofs.BlockLemmas.{later_changed}
 use Rattle.wf_check.proofs.SettledLemmas.{settled_set, way_changed}
 use Rattle.wf_check.proofs.boxes.Blocks.change.Goals as goal

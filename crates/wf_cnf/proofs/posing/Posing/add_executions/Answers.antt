@@ -7,7 +7,7 @@ use Rattle.wf_cnf.specs.Clauses.{clauses_at, clauses_on, denied_at, patterns_in}
 use Rattle.wf_rup.proofs.PosedLemmas.{kept_more, kept_same}
 use Rattle.wf_cnf.proofs.PosingLemmas.{keeps_some, one_part_more}
 use Rattle.wf_cnf.proofs.TextLemmas.{pattern_there}
-use Rattle.wf_io.proofs.Failing.{none_given}
+use Rattle.wf_io.proofs.FailedCalls.{none_given}
 use Rattle.wf_cnf.proofs.posing.Posing.add_executions.Goals as goal
 
 pub loop-execution-preserved : goal.loop-execution-preserved

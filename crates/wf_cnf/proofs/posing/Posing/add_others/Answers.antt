@@ -7,7 +7,7 @@ use Rattle.wf_formula.proofs.Members.{in_from_contains, in_map}
 use Rattle.wf_rup.specs.Posed.{KeepsModelsOfAll}
 use Rattle.wf_rup.proofs.PosedLemmas.{kept_one, kept_same}
 use Rattle.wf_cnf.proofs.PosingLemmas.{keeps_one, one_more}
-use Rattle.wf_io.proofs.Failing.{none_given}
+use Rattle.wf_io.proofs.FailedCalls.{none_given}
 use Rattle.wf_cnf.proofs.posing.Posing.add_others.Goals as goal
 
 pub put_denied-requires-clause-places : goal.put_denied-requires-clause-places

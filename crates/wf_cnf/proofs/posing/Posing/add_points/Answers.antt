@@ -8,7 +8,7 @@ use Rattle.wf_model.proofs.Basics.{below_next}
 use Rattle.wf_rup.specs.Posed.{KeepsModelsOfAll}
 use Rattle.wf_rup.proofs.PosedLemmas.{kept_one, kept_same}
 use Rattle.wf_cnf.proofs.PosingLemmas.{keeps_one}
-use Rattle.wf_io.proofs.Failing.{none_given}
+use Rattle.wf_io.proofs.FailedCalls.{none_given}
 use Rattle.wf_cnf.proofs.posing.Posing.add_points.Goals as goal
 
 pub loop-point-preserved : goal.loop-point-preserved

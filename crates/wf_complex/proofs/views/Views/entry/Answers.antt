@@ -1,5 +1,5 @@
 use Rattle.std.proofs.Common.{length, arith, ap}
-use Rattle.wf_complex.proofs.Shown.{length-shown}
+use Rattle.wf_complex.proofs.ShownViews.{length-shown}
 use Rattle.wf_complex.proofs.Entries.{entry_read}
 use Rattle.wf_complex.proofs.views.Views.entry.Goals as goal
 

@@ -1,8 +1,8 @@
 use Rattle.std.proofs.Common.{◌≡◌, ◌<◌, [], ◌∷◌, ◌++◌, length, reverse, sym, ap, subst, ◌∙◌, arith}
 use Rattle.std.proofs.lemmas.Bool.{false≢true}
 use Rattle.wf_complex.specs.Renaming.{AreInside}
-use Rattle.wf_complex.proofs.Once.{apart_in_table}
-use Rattle.wf_complex.proofs.Collecting.{IsCollecting, first_of, collected, collecting_more, collecting_none, greatest_low, greatest_there, reverse-push, empty_from}
+use Rattle.wf_complex.proofs.ViewsOnce.{apart_in_table}
+use Rattle.wf_complex.proofs.CollectedViews.{IsCollecting, first_of, collected, collecting_more, collecting_none, greatest_low, greatest_there, reverse-push, empty_from}
 use Rattle.wf_complex.proofs.views.Views.inside.Goals as goal
 
 pub loop-greatest-init : goal.loop-greatest-init

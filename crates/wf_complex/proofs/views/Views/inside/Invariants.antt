@@ -1,5 +1,5 @@
 use Rattle.std.proofs.Common.{length, reverse}
-use Rattle.wf_complex.proofs.Collecting.{IsCollecting, first_of}
+use Rattle.wf_complex.proofs.CollectedViews.{IsCollecting, first_of}
 use Rattle.wf_complex.proofs.views.Views.inside.Given as goal
 
 abbrev pub invariant-loop-greatest : goal.invariant-loop-greatest

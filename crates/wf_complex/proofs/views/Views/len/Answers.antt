@@ -1,7 +1,7 @@
 use Rattle.std.proofs.Common.{arith}
-use Rattle.wf_complex.proofs.Shown.{length-shown}
-use Rattle.wf_complex.proofs.Once.{apart_in_table}
-use Rattle.wf_complex.proofs.Within.{distinct-apart, apart_by_place}
+use Rattle.wf_complex.proofs.ShownViews.{length-shown}
+use Rattle.wf_complex.proofs.ViewsOnce.{apart_in_table}
+use Rattle.wf_complex.proofs.ViewsWithin.{distinct-apart, apart_by_place}
 use Rattle.wf_complex.proofs.views.Views.len.Goals as goal
 
 pub returns-clause-count : goal.returns-clause-count

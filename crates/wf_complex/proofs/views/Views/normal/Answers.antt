@@ -4,8 +4,8 @@ use Rattle.wf_model.specs.View.{normal}
 use Rattle.wf_model.specs.Problem.{number_of}
 use Rattle.wf_complex.specs.Views.{view_at, count_within}
 use Rattle.wf_complex.specs.Renaming.{rank_in, are_lowest, number_beside, SawAmong, AreInside, AreRenamed}
-use Rattle.wf_complex.proofs.Once.{apart_in_table}
-use Rattle.wf_complex.proofs.Within.{apart_by_place}
+use Rattle.wf_complex.proofs.ViewsOnce.{apart_in_table}
+use Rattle.wf_complex.proofs.ViewsWithin.{apart_by_place}
 use Rattle.wf_complex.proofs.Ranked.{IsRenaming, normal_at, renaming_none, renaming_more, renaming_all, all_there, this_there, room_left, parts_known, grows, itself_known}
 use Rattle.wf_complex.proofs.views.Views.normal.Goals as goal
 use Rattle.wf_complex.proofs.views.Views.normal.Goals.{Then-are_lowest}

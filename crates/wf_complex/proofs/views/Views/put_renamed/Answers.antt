@@ -4,7 +4,7 @@ use Rattle.wf_model.specs.Problem.{number_of}
 use Rattle.wf_complex.specs.Views.{view_at, with_view}
 use Rattle.wf_complex.specs.Table.{node_view}
 use Rattle.wf_complex.specs.Renaming.{rank_in}
-use Rattle.wf_complex.proofs.Shown.{length-shown}
+use Rattle.wf_complex.proofs.ShownViews.{length-shown}
 use Rattle.wf_complex.proofs.Entries.{entry_read, entry_low, entry_count}
 use Rattle.wf_complex.proofs.Renamed.{known, renamed_entry, renamed_view}
 use Rattle.wf_complex.proofs.views.Views.put_renamed.Goals as goal

@@ -1,7 +1,7 @@
 use Rattle.std.proofs.Common.{ap, refl, ◌∙◌, slice_set}
 use Rattle.std.proofs.lemmas.Option.{slice_get_read}
 use Rattle.wf_core.specs.Core.{State}
-use Rattle.wf_core.proofs.Tied.{same_ties}
+use Rattle.wf_core.proofs.HeldBranches.{same_ties}
 use Rattle.wf_core.proofs.Writes.{active_place, seen_shown}
 use Rattle.wf_core.proofs.machine.Core.see.Goals as goal
 

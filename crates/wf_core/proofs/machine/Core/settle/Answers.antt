@@ -3,7 +3,7 @@ use Rattle.std.specs.Prelude.{Some, slice_get}
 use Rattle.std.proofs.lemmas.Option.{slice_get_read}
 use Rattle.wf_core.specs.declared.event.Status.TheVariants.{Held}
 use Rattle.wf_core.specs.Core.{State}
-use Rattle.wf_core.proofs.Tied.{settle_ties}
+use Rattle.wf_core.proofs.HeldBranches.{settle_ties}
 use Rattle.wf_core.proofs.Writes.{holder_place, same_shown}
 use Rattle.wf_core.proofs.machine.Core.settle.Goals as goal
 

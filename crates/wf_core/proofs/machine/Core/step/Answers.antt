@@ -1,6 +1,6 @@
 use Rattle.std.proofs.Common.{ap, length, ◌∙◌}
 use Rattle.wf_core.specs.Core.{State}
-use Rattle.wf_core.proofs.Needed.{allowed}
+use Rattle.wf_core.proofs.EventNeeds.{allowed}
 use Rattle.wf_core.proofs.Runs.{sizes_step}
 use Rattle.wf_core.proofs.machine.Core.step.Goals as goal
 

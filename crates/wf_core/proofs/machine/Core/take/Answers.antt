@@ -3,7 +3,7 @@ use Rattle.std.specs.Prelude.{slice_get, ℕ}
 use Rattle.std.proofs.lemmas.Option.{slice_get_read}
 use Rattle.wf_core.specs.declared.event.Status.TheVariants.{Held}
 use Rattle.wf_core.specs.Core.{State}
-use Rattle.wf_core.proofs.Tied.{take_ties}
+use Rattle.wf_core.proofs.HeldBranches.{take_ties}
 use Rattle.wf_core.proofs.Writes.{active_place, same_shown}
 use Rattle.wf_core.proofs.machine.Core.take.Goals as goal
 

@@ -2,7 +2,7 @@ use Rattle.std.proofs.Common.{arith}
 use Rattle.wf_draft.specs.Shape.{entry_of}
 use Rattle.wf_draft.specs.DraftSeen.{entry_seen}
 use Rattle.wf_draft.specs.Members.{HoldEntry}
-use Rattle.wf_draft.proofs.Taken.{takes-object-if}
+use Rattle.wf_draft.proofs.TokensOfValues.{takes-object-if}
 use Rattle.wf_draft.proofs.members.EntryPlain.plain.Goals as goal
 
 pub returns : goal.returns

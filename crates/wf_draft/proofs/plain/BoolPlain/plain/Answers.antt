@@ -2,7 +2,7 @@ use Rattle.std.proofs.Common.{sym, subst}
 use Rattle.std.proofs.lemmas.Option.{IfSome_then}
 use Rattle.serde_json.specs.Find.{as_bool}
 use Rattle.wf_draft.specs.Plain.{Takes}
-use Rattle.wf_draft.proofs.Taken.{takes-bool}
+use Rattle.wf_draft.proofs.TokensOfValues.{takes-bool}
 use Rattle.wf_draft.proofs.plain.BoolPlain.plain.Goals as goal
 
 pub returns : goal.returns

@@ -1,7 +1,7 @@
 use Rattle.std.proofs.Common.{IfSome, sym, subst}
 use Rattle.wf_draft.specs.Shape.{whole_of, pair_of}
 use Rattle.wf_draft.specs.Plain.{Takes}
-use Rattle.wf_draft.proofs.Taken.{takes-pair}
+use Rattle.wf_draft.proofs.TokensOfValues.{takes-pair}
 use Rattle.wf_draft.proofs.plain.Tuple2U64U64Plain.plain.Goals as goal
 
 pub returns : goal.returns

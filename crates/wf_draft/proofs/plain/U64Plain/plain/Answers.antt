@@ -4,7 +4,7 @@ use Rattle.std.proofs.lemmas.Option.{IfSome_then}
 use Rattle.serde_json.proofs.Numbers.{number_of-decimal}
 use Rattle.wf_draft.specs.Shape.{whole_of}
 use Rattle.wf_draft.specs.Plain.{Takes}
-use Rattle.wf_draft.proofs.Taken.{takes-number}
+use Rattle.wf_draft.proofs.TokensOfValues.{takes-number}
 use Rattle.wf_draft.proofs.plain.U64Plain.plain.Goals as goal
 
 pub returns : goal.returns

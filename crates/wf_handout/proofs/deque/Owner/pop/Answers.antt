@@ -1,5 +1,5 @@
 use Rattle.crossbeam_deque.specs.Handles.{worker_deque, worker_view}
-use Rattle.wf_handout.proofs.Moves.{popped}
+use Rattle.wf_handout.proofs.DequeSteps.{popped}
 use Rattle.wf_handout.proofs.deque.Owner.pop.Goals as goal
 
 pub returns : goal.returns

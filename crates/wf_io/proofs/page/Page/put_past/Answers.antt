@@ -1,6 +1,6 @@
 use Rattle.std.proofs.Common.{take, ap, subst, ◌∙◌}
 use Rattle.wf_io.specs.Texts.{Took}
-use Rattle.wf_io.proofs.Putting.{sent_after}
+use Rattle.wf_io.proofs.PagePieces.{sent_after}
 use Rattle.wf_io.proofs.page.Page.put_past.Goals as goal
 
 pub returns-then-piece-gt-ROOM : goal.returns-then-piece-gt-ROOM

@@ -6,7 +6,7 @@ use Rattle.wf_lane.specs.Rows.{AreWanted, is_among, rows_in}
 use Rattle.wf_lane.proofs.WordLemmas.{length-rows_of}
 use Rattle.wf_lane.proofs.RowLemmas.{count_rows}
 use Rattle.wf_lane.proofs.BlockLemmas.{no_rows_yet, unmet_more, count_more_rows}
-use Rattle.wf_lane.proofs.Joining.{AreMet, firsts, fourths, joined_from, seconds, thirds}
+use Rattle.wf_lane.proofs.JoinedValues.{AreMet, firsts, fourths, joined_from, seconds, thirds}
 use Rattle.wf_lane.proofs.column.Columns.revise_blocks.Goals as goal
 
 pub loop-block-init : goal.loop-block-init

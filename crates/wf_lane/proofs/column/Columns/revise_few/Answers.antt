@@ -2,7 +2,7 @@ use Rattle.std.proofs.Common.{◌≤◌, [], ◌∷◌, length, arith}
 use Rattle.wf_lane.specs.Rows.{rows_in}
 use Rattle.wf_lane.proofs.WordLemmas.{length-rows_of}
 use Rattle.wf_lane.proofs.FewLemmas.{early_count, early_unmet}
-use Rattle.wf_lane.proofs.Joining.{AreMet, firsts, fourths, joined_from, seconds, thirds}
+use Rattle.wf_lane.proofs.JoinedValues.{AreMet, firsts, fourths, joined_from, seconds, thirds}
 use Rattle.wf_lane.proofs.column.Columns.revise_few.Goals as goal
 
 pub returns : goal.returns

@@ -1,7 +1,7 @@
 use Rattle.std.proofs.Common.{length, sym, ap, ◌∙◌}
 use Rattle.wf_model.specs.Presets.{input_facets}
 use Rattle.wf_preset.specs.Preset.{inputs_seen}
-use Rattle.wf_preset.proofs.Agreeing.{length-input_facets}
+use Rattle.wf_preset.proofs.AgreementOutputs.{length-input_facets}
 use Rattle.wf_preset.proofs.preset.Inputs.facet_count.Goals as goal
 
 pub returns-in-All : goal.returns-in-All

@@ -5,7 +5,7 @@ use Rattle.wf_model.specs.Lists.{below, lists_of}
 use Rattle.wf_model.specs.Presets.{input_facets}
 use Rattle.wf_model.specs.Simplex.{processes_of}
 use Rattle.wf_preset.specs.Preset.{inputs_seen, has_input_values}
-use Rattle.wf_preset.proofs.Naming.{processes-start}
+use Rattle.wf_preset.proofs.RenamingOutputs.{processes-start}
 use Rattle.wf_preset.proofs.PresetLimits.{own_values, length-start, value_bounds}
 use Rattle.wf_preset.proofs.preset.Inputs.facets.Goals as goal
 

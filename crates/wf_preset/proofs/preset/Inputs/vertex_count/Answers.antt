@@ -2,7 +2,7 @@ use Rattle.std.proofs.Common.{◌*◌, sym, ap, ◌∙◌}
 use Rattle.wf_model.specs.Presets.{input_facets}
 use Rattle.wf_model.specs.Simplex.{complex_of}
 use Rattle.wf_preset.specs.Preset.{inputs_seen}
-use Rattle.wf_preset.proofs.Agreeing.{count-vertices, count-vertices-own}
+use Rattle.wf_preset.proofs.AgreementOutputs.{count-vertices, count-vertices-own}
 use Rattle.wf_preset.proofs.PresetLimits.{vertex_count}
 use Rattle.wf_preset.proofs.preset.Inputs.vertex_count.Goals as goal
 

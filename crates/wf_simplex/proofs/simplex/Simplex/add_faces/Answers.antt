@@ -4,9 +4,9 @@ use Rattle.wf_model.specs.Simplex.{Vertex}
 use Rattle.wf_model.specs.Task.{IsTaskSimplex}
 use Rattle.wf_simplex.specs.Entries.{value_at}
 use Rattle.wf_simplex.specs.Adding.{joined, with_vertex, faces_in_turn}
-use Rattle.wf_simplex.proofs.InTurn.{vertices_below, none_below, below_more, below_same, all_below, in_turn-more, all_wider, all_joined, simplices_joined, since, doubled}
+use Rattle.wf_simplex.proofs.FacesInOrder.{vertices_below, none_below, below_more, below_same, all_below, in_turn-more, all_wider, all_joined, simplices_joined, since, doubled}
 use Rattle.wf_simplex.proofs.KeyLemmas.{small_value}
-use Rattle.wf_simplex.proofs.Within.{Climbs}
+use Rattle.wf_simplex.proofs.BoundedFaces.{Climbs}
 use Rattle.wf_simplex.proofs.simplex.Simplex.add_faces.Goals as goal
 use Rattle.wf_simplex.proofs.simplex.Simplex.add_faces.Goals.{in-Some, in_default}
 

@@ -1,7 +1,7 @@
 use Rattle.std.proofs.Common.{All, ◌≡◌, ◌+◌, ◌^◌, ◌≤◌, ◌++◌, vec_len, vec_capacity}
 use Rattle.wf_simplex.specs.Adding.{faces_in_turn}
-use Rattle.wf_simplex.proofs.InTurn.{vertices_below}
-use Rattle.wf_simplex.proofs.Within.{Climbs}
+use Rattle.wf_simplex.proofs.FacesInOrder.{vertices_below}
+use Rattle.wf_simplex.proofs.BoundedFaces.{Climbs}
 use Rattle.wf_simplex.proofs.simplex.Simplex.add_faces.Given as goal
 
 abbrev pub invariant-loop-process : goal.invariant-loop-process

@@ -1,7 +1,7 @@
 use Rattle.std.proofs.Common.{◌≡◌, ◌/◌, length, sym, ap, ◌∙◌, arith}
 use Rattle.wf_simplex.specs.Keys.{one_vertex, simplex_of}
 use Rattle.wf_simplex.proofs.KeyLemmas.{size_of_key}
-use Rattle.wf_simplex.proofs.Within.{length-within}
+use Rattle.wf_simplex.proofs.BoundedFaces.{length-within}
 use Rattle.wf_simplex.proofs.simplex.Simplex.colours.Goals as goal
 
 pub overflow_cast-result : goal.overflow_cast-result

@@ -4,7 +4,7 @@ use Rattle.wf_model.specs.Simplex.{Simplex}
 use Rattle.wf_simplex.specs.Entries.{value_at}
 use Rattle.wf_simplex.specs.Keys.{key_of, unit_of}
 use Rattle.wf_simplex.proofs.KeyLemmas.{is_key, key_of-joined, simplex_of-key}
-use Rattle.wf_simplex.proofs.Within.{Climbs, climbs}
+use Rattle.wf_simplex.proofs.BoundedFaces.{Climbs, climbs}
 use Rattle.wf_simplex.proofs.simplex.Simplex.of_pairs.Goals as goal
 
 -- the vertex at a place, of a process that none before it has

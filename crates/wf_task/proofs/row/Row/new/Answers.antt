@@ -1,7 +1,7 @@
 use Rattle.std.proofs.Common.{◌≤◌, ◌<◌, ◌^◌, All, length, take, get_or, arith, sym, ap, ◌∙◌, subst}
 use Rattle.std.proofs.lemmas.List.{get_or_default}
 use Rattle.wf_task.specs.Filled.{filled}
-use Rattle.wf_task.proofs.Filled.{is_filled, take-filled, length-filled}
+use Rattle.wf_task.proofs.FilledSlots.{is_filled, take-filled, length-filled}
 use Rattle.wf_task.proofs.row.Row.new.Goals as goal
 
 pub invariant_of-result : goal.invariant_of-result

@@ -1,0 +1,73 @@
+-- What a proof about a branch shows, and what those of all branches show together.
+use Rattle.std.proofs.Common.{◌≡◌, ◌∙◌, ℕ, List, length, Result, Ok, Err, Vec, refl, ap, subst}
+use Rattle.wf_model.specs.Task.{Task, IsTask}
+use Rattle.wf_model.specs.Box.{root}
+use Rattle.wf_model.specs.DecisionMap.{listed}
+use Rattle.wf_model.specs.Problem.{problem_of}
+use Rattle.wf_model.proofs.MapsAreSolutions.{listed_solves}
+use Rattle.wf_model.proofs.OrderedCovers.{in_exactly_one, split_covers}
+use Rattle.wf_model.proofs.LeastSolutions.{solution_in_root}
+use Rattle.wf_model.proofs.WellFormed.{task_well_formed}
+use Rattle.wf_formula.specs.Branches.{branch_at, branch_question, branches, formula_in}
+use Rattle.wf_formula.specs.Encoding.{stating}
+use Rattle.wf_formula.proofs.Branches.{is_model_in}
+use Rattle.wf_io.specs.Seen.{Reading}
+use Rattle.wf_io.specs.Texts.{Wrote}
+use Rattle.wf_rup.specs.Seen.{HasNoModel, Known}
+use Rattle.wf_rup.specs.Posed.{FollowsFrom, IsPosed}
+use Rattle.wf_engine.specs.Proofs.{ReadsAsProof}
+use Rattle.wf_engine.specs.Sources.{NextReads, ReadsAbout}
+use Rattle.wf_engine.specs.declared.fault.RunFault.{RunFault}
+use Rattle.wf_engine.proofs.RunsOverTwoSources.{done}
+use Rattle.wf_engine.specs.Run.{answered}
+use Rattle.wf_engine.proofs.RunsInPieces.{IsRefusal}
+use Rattle.wf_engine.proofs.ProofsToLines.{accepted_of}
+use Rattle.wf_branches.specs.Branches.{HasBranch, IsNoBranch}
+use Rattle.wf_branches.specs.Refuting.{FindsBranch, HasNoMapIn, IsAcceptedBranch, ReadsBranchProof, ReadsIn, ReadsProofIn, accepted_text}
+use Rattle.wf_branches.specs.Laws.{BranchesCoverAllMaps, BranchRefutationsAreTrue}
+
+-- where what is known follows from a branch's question and has no model, no decision map lies there
+pub no_map_in : (t : Task) (r i : ℕ) (known : Known) → IsTask t → FollowsFrom (formula_in (problem_of t r) (branch_at t r i)) known → HasNoModel known → HasNoMapIn t r i
+no_map_in t r i known is follows refuted m decides lies =
+    let solves = listed_solves t r m decides in
+    let a = stating (problem_of t r).values (listed t r m) in
+    refuted a (follows a (is_model_in (problem_of t r) (branch_at t r i) (listed t r m) (task_well_formed t r is)
+    (record { solves = solves; listed = solution_in_root t r (listed t r m) is solves; lies = lies })))
+
+-- the line that says so
+module _ (t : Task) (r i : ℕ) (known : Known) (is : IsTask t) (posed : IsPosed (branch_question t r i) known) (old new : Reading) where
+  pub told : (n : ℕ) (text : List ℕ) → n ≡ length (branches t r) → text ≡ accepted_text i n r → ReadsAsProof {X = Unit {0}} known (λ accepted. HasNoModel known) old new (Ok tt)
+      → ReadsBranchProof i t r old new (Ok (tt, text))
+  told n text count same read =
+      accepted_of (branch_question t r i) (IsAcceptedBranch i t r) known posed old new text
+      (λ refuted. (no_map_in t r i known is posed.models.follows refuted, same ∙ ap (λ k. accepted_text i k r) count)) read
+
+pub branches_cover : BranchesCoverAllMaps
+branches_cover t r is none m decides =
+    let solves = listed_solves t r m decides in
+    let at = in_exactly_one (problem_of t r) (root (problem_of t r)) (branches t r) (split_covers (problem_of t r) (task_well_formed t r is)) (listed t r m) solves
+    (solution_in_root t r (listed t r m) is solves) in
+    none at.0 at.1.0 m decides at.1.1
+
+-- where the proof was read there is the branch
+was_found : (i : ℕ) (t : Task) (r : ℕ) (old new : Reading) (text : List ℕ) (found : Result (Unit {0}) RunFault) → FindsBranch t r i found
+    → NextReads (λ there. ReadsBranchProof i t r) old new found (Ok (tt, text)) → HasBranch t r i × HasNoMapIn t r i × (text ≡ accepted_text i (length (branches t r)) r)
+was_found i t r old new text (Ok there) has (posed, whole, (given, gave, is)) = (has, is.0.0, is.0.1)
+was_found i t r old new text (Err e) has next = absurd (let bad : ⊥ = cc in bad)
+
+pub branch_refutations_true : BranchRefutationsAreTrue
+branch_refutations_true r i task task' proof proof' sink sink' ran =
+    let end = done (ReadsProofIn i) r task task' proof proof' sink sink' ran in
+    let (has, none, same) = was_found i end.t r proof proof' end.text end.read.0 end.read.1 end.read.2 in
+    (end.t, end.given, has, none, subst (λ text. Wrote sink sink' text) same end.wrote)
+
+-- ---- whether there is such a branch
+
+module _ (reads : ℕ → ReadsAbout) (i : ℕ) (t : Task) (r : ℕ) (old : Reading) where
+  pub missing_in : {A : Type 0} (e : RunFault) (result : Result (Unit {0} × Vec ℕ A) RunFault) → IsNoBranch t r i e → IsRefusal e result
+      → ReadsIn reads i t r old old (answered result)
+  missing_in e (Ok x) none is = absurd (let ended = is.0 in let bad : ⊥ = cc in bad)
+  missing_in e (Err found) none is = (Err e, none, (ap Err is.1, refl))
+
+  pub found_in : (n : ℕ) (new : Reading) (result : Result (Unit {0} × List ℕ) RunFault) → n ≡ i → HasBranch t r i → reads n t r old new result → ReadsIn reads i t r old new result
+  found_in n new result same has read = (Ok tt, has, subst (λ k. reads k t r old new result) same read)
