@@ -14,7 +14,7 @@ use Rattle.clap.specs.ValueTests.{is_unsigned_in}
 use Rattle.clap.specs.declared.error.ErrorKind.TheVariants as kind
 use Rattle.wf_model.specs.Limits.{most_workers}
 use Rattle.wf_preset.specs.declared.named.Preset.{Preset}
-use Rattle.wf_report.specs.declared.form.Form.{Form}
+use Rattle.wf_lines.specs.declared.form.Form.{Form}
 use Rattle.wf_args.specs.CommandLine.{command_line}
 use Rattle.wf_args.specs.Forms.{form_asked}
 use Rattle.wf_args.specs.Presets.{preset_asked}

@@ -1,7 +1,7 @@
 -- Which form of a report the flags of the command line ask for.
 use Rattle.std.specs.Prelude.{Bool, true, false, Option, None, Some}
-use Rattle.wf_report.specs.declared.form.Form.{Form}
-use Rattle.wf_report.specs.declared.form.Form.TheVariants.{Full, Verdict, Least}
+use Rattle.wf_lines.specs.declared.form.Form.{Form}
+use Rattle.wf_lines.specs.declared.form.Form.TheVariants.{Full, Verdict, Least}
 
 -- by `--verdict` and `--least`; a verdict has no lines, so there is no form with both
 abbrev pub form_asked : Bool → Bool → Option Form

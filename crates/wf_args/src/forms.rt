@@ -3,7 +3,7 @@
 ghost use Rattle.std.specs.Prelude.{◌≡◌};
 ghost use Rattle.wf_args.specs.Forms.{form_asked};
 
-use wf_report::Form;
+use wf_lines::Form;
 
 /// The form that these flags ask for. There is none with both: a verdict has no lines.
 pub(crate) fn form_of(verdict: bool, least: bool) -> Option<Form>

@@ -14,7 +14,7 @@ use crate::presets::Options;
 use crate::{Job, Mistake, Piece, WordsFault};
 use clap::ArgMatches;
 use std::alloc::Global;
-use wf_report::Form;
+use wf_lines::Form;
 
 /// The number of an option, if it is given.
 fn number(found: &ArgMatches<'_>, name: &str) -> Option<u32>

@@ -24,8 +24,8 @@ pub use slip::{Mistake, Piece};
 use std::alloc::{AllocError, Global};
 use std::io;
 pub use version::{LOGIC, VERSION};
+use wf_lines::Form;
 use wf_preset::Preset;
-use wf_report::Form;
 
 /// A command, with its options.
 #[derive(Debug, Drop)]

@@ -5,7 +5,7 @@ ghost use Rattle.wf_model.specs.Limits.{most_executions, most_processes};
 ghost use Rattle.wf_model.specs.Simplex.{processes_of};
 ghost use Rattle.wf_model.specs.Word.{words};
 ghost use Rattle.wf_model.specs.Execution.{executions};
-ghost use Rattle.wf_complex.specs.Layout.{execution_total, turns};
+ghost use Rattle.wf_complex.specs.Layout.{execution_total};
 ghost use Rattle.wf_complex.specs.Protocol.{IsProtocol};
 ghost use Rattle.wf_complex.specs.Rounds.{only_if};
 ghost use Rattle.wf_argument.specs.Table.{IsWhole, break_text, members_in, spans_of, table_of, text_of, words_up_to};
@@ -15,7 +15,7 @@ use crate::words::put_processes;
 use std::alloc::{AllocError, Global};
 use std::fmt::Write;
 use std::marker::Model;
-use wf_complex::Protocol;
+use wf_complex::{Protocol, turn_count};
 use wf_simplex::{Simplex, Word, allowed_count};
 use wf_task::Task;
 
@@ -170,23 +170,6 @@ fn spans_of(
         first += count;
     }
     Ok(spans)
-}
-
-/// How many lists of words for so many rounds there are for a number of participants.
-fn turn_count(size: u8, first_block: u8, rounds: u32) -> u32
-    requires some { 1 ≤ size }
-    requires few { size ≤ most_processes }
-    requires one { 1 ≤ first_block }
-    requires most { first_block ≤ most_processes }
-    requires fits { turns first_block size rounds ≤ most_executions }
-    ensures { result ≡ turns first_block size rounds }
-{
-    let words = allowed_count(size, first_block);
-    let mut count = 1;
-    for _round in 0..rounds {
-        count *= words;
-    }
-    count
 }
 
 /// Adds the words of an execution; before the first round those who take part.

@@ -72,7 +72,7 @@ impl Box0 {
         })
     }
 
-    /// The same box once more, with no change to take back.
+    /// A copy of the box, with no change to take back.
     pub fn copy(&self, alloc: Global) -> Result<Box0, AllocError>
         ensures sets { IfOk result (λ boxed. boxed.sets ≡ self.now.sets) }
         ensures fresh { IfOk result (λ boxed. boxed.trail ≡ []) }
@@ -188,7 +188,8 @@ impl Box0 {
         self.workspace.tracked.first_open()
     }
 
-    /// The same, and the next search for it starts there. It takes no memory.
+    /// The first point with two candidates or more; none if each point has one at most. The next
+    /// search for such a point starts there. It takes no memory.
     pub fn find_open(&mut self) -> Option<u32>
         ensures found { result ≡ first_open self.old.sets }
         ensures same { self.new ≡ self.old }

@@ -14,6 +14,7 @@ mod answers;
 mod boxed;
 mod closing;
 mod kept;
+mod revision;
 mod snapshot;
 mod taking;
 mod tracked;

@@ -52,7 +52,8 @@ pub(crate) fn take_each(values: Mask, at: Occurrence, sets: &mut [Mask], lines: 
     false
 }
 
-/// The same of values below 64.
+/// Takes those of the values, all below 64, out that are still there, ascending, with their lines.
+/// If this empties the point, that ends it, and the answer is true.
 #[inline(always)] // so that the place is not put together in memory
 pub(crate) fn take_each_part(
     values: Part,
@@ -110,7 +111,7 @@ fn name_each(values: Mask, at: Occurrence, lines: &mut Lines)
     }
 }
 
-/// The same of values below 64.
+/// Adds a line for each of the values, all below 64, ascending, for which there is room.
 fn name_part(values: Part, at: Occurrence, lines: &mut Lines)
     requires { vec_len lines.old + length (part_values values) ≤ vec_capacity lines.old }
     ensures lines { lines.new.items ≡ lines.old.items ++ removals at (part_values values) }

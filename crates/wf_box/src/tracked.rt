@@ -121,7 +121,8 @@ impl Tracked {
         }
     }
 
-    /// The same, and the next time the search starts there.
+    /// The first point with two candidates or more. The next time the search for such a point
+    /// starts there.
     pub(crate) fn find_open(&mut self) -> Option<u32>
         requires { KeepsTrack self.old }
         ensures found { result ≡ first_open (sets_in self.old) }

@@ -21,7 +21,7 @@ use Rattle.wf_formula.specs.Branches.{branch_at, branches}
 use Rattle.wf_lines.specs.Lines.{line_of}
 use Rattle.wf_lines.specs.declared.line.Line as code
 use Rattle.wf_pool.specs.Branches.{AreLinesAt, IsMapAt, branch_count}
-use Rattle.wf_report.specs.declared.form.Form.{Form}
+use Rattle.wf_lines.specs.declared.form.Form.{Form}
 use Rattle.wf_io.specs.Seen.{Reading, Writing}
 use Rattle.wf_io.specs.Texts.{Wrote}
 use Rattle.wf_engine.specs.Headline.{GaveTask}

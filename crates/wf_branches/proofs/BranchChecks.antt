@@ -18,8 +18,8 @@ use Rattle.wf_model.proofs.WellFormed.{task_well_formed}
 use Rattle.wf_model.proofs.WholeReports.{both_pass, numbers_pass}
 use Rattle.wf_formula.specs.Branches.{branch_at}
 use Rattle.wf_check.specs.Within.{fault_within, report_fault_within}
-use Rattle.wf_report.specs.declared.form.Form.{Form}
-use Rattle.wf_report.specs.declared.form.Form.TheVariants as form
+use Rattle.wf_lines.specs.declared.form.Form.{Form}
+use Rattle.wf_lines.specs.declared.form.Form.TheVariants as form
 use Rattle.wf_engine.specs.Texts.{body_of_map}
 use Rattle.wf_branches.specs.Branches.{HasBranch}
 use Rattle.wf_branches.specs.Solving.{IsLeastInBranch, IsRefutationIn, LeadsToMapIn}

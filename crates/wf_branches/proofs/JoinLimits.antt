@@ -6,8 +6,8 @@ use Rattle.wf_model.specs.Problem.{problem_of}
 use Rattle.wf_model.specs.Outline.{outline}
 use Rattle.wf_model.specs.Report.{Body, none, report_about}
 use Rattle.wf_model.specs.Check.{report_fault}
-use Rattle.wf_report.specs.declared.form.Form.{Form}
-use Rattle.wf_report.specs.declared.form.Form.TheVariants as form
+use Rattle.wf_lines.specs.declared.form.Form.{Form}
+use Rattle.wf_lines.specs.declared.form.Form.TheVariants as form
 use Rattle.wf_report.specs.declared.fault.CertFault.TheVariants as amiss
 use Rattle.wf_engine.specs.Run.{HasComplex, Next}
 use Rattle.wf_engine.specs.Texts.{body_of_map}

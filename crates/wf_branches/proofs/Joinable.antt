@@ -18,8 +18,8 @@ use Rattle.wf_model.proofs.WholeReports.{canonical_least_accepted, canonical_non
 use Rattle.wf_model.proofs.OutlinesAsSearches.{filled_canonical, filled_leads}
 use Rattle.wf_formula.specs.Branches.{branches}
 use Rattle.wf_pool.specs.Answers.{HasAccountOfMap, map_lines, refuting_lines}
-use Rattle.wf_report.specs.declared.form.Form.{Form}
-use Rattle.wf_report.specs.declared.form.Form.TheVariants as form
+use Rattle.wf_lines.specs.declared.form.Form.{Form}
+use Rattle.wf_lines.specs.declared.form.Form.TheVariants as form
 use Rattle.wf_engine.specs.Run.{HasComplex}
 use Rattle.wf_engine.specs.Texts.{IsSolved, lines_kept, body_of_map, text_of_report}
 use Rattle.wf_engine.specs.declared.fault.RunFault.{RunFault}

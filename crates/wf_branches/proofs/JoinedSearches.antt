@@ -7,8 +7,8 @@ use Rattle.wf_model.specs.Report.{Body}
 use Rattle.wf_io.specs.Seen.{Reading}
 use Rattle.wf_io.specs.Texts.{Gave, ReadsText}
 use Rattle.wf_io.specs.declared.source.ReadFault.{ReadFault}
-use Rattle.wf_report.specs.declared.form.Form.{Form}
-use Rattle.wf_report.specs.declared.form.Form.TheVariants as form
+use Rattle.wf_lines.specs.declared.form.Form.{Form}
+use Rattle.wf_lines.specs.declared.form.Form.TheVariants as form
 use Rattle.wf_engine.specs.Run.{Judged, Next}
 use Rattle.wf_engine.specs.Texts.{text_of_report}
 use Rattle.wf_engine.specs.declared.fault.RunFault.{RunFault}

@@ -10,8 +10,8 @@ use Rattle.wf_model.specs.Refutation.{Line}
 use Rattle.wf_model.specs.Report.{none}
 use Rattle.wf_model.specs.Laws.{AreCanonicalForBranches, HasCanonicalLines, HasCanonicalMap, LeadToMap}
 use Rattle.wf_formula.specs.Branches.{branch_at, branches}
-use Rattle.wf_report.specs.declared.form.Form.{Form}
-use Rattle.wf_report.specs.declared.form.Form.TheVariants as form
+use Rattle.wf_lines.specs.declared.form.Form.{Form}
+use Rattle.wf_lines.specs.declared.form.Form.TheVariants as form
 use Rattle.wf_engine.specs.Texts.{body_of_none}
 use Rattle.wf_branches.specs.Branches.{HasBranch}
 use Rattle.wf_branches.specs.Solving.{IsRefutationIn, part_text}

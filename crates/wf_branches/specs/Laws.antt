@@ -17,8 +17,8 @@ use Rattle.wf_engine.specs.Verify.{ChecksText, accepted_of, accepted_words}
 use Rattle.wf_engine.specs.declared.outcome.Accepted.{Accepted}
 use Rattle.wf_engine.specs.declared.fault.RunFault.{RunFault}
 use Rattle.wf_engine.specs.declared.outcome.Outcome.{Outcome}
-use Rattle.wf_report.specs.declared.form.Form.{Form}
-use Rattle.wf_report.specs.declared.form.Form.TheVariants as form
+use Rattle.wf_lines.specs.declared.form.Form.{Form}
+use Rattle.wf_lines.specs.declared.form.Form.TheVariants as form
 use Rattle.wf_branches.specs.Branches.{HasBranch, ListsBranch}
 use Rattle.wf_branches.specs.Refuting.{HasNoMapIn, RefutesBranch, accepted_in, accepted_text}
 use Rattle.wf_branches.specs.Solving.{IsSolvedIn, SolvesBranch, part_text}

@@ -8,7 +8,7 @@ use Rattle.wf_model.specs.Report.{Body}
 use Rattle.wf_formula.specs.Branches.{branches}
 use Rattle.wf_core.specs.declared.Account.{Account}
 use Rattle.wf_report.specs.Reports.{AreNumbered}
-use Rattle.wf_report.specs.declared.form.Form.{Form}
+use Rattle.wf_lines.specs.declared.form.Form.{Form}
 use Rattle.wf_report.specs.declared.fault.CertFault.TheVariants as amiss
 use Rattle.wf_engine.specs.Texts.{IsFound, IsSolved, text_of_report}
 use Rattle.wf_engine.specs.declared.outcome.Outcome.{Outcome}

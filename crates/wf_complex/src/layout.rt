@@ -36,6 +36,19 @@ pub(crate) fn executions_on(size: u8, first_block: u8, rounds: u32) -> u32
     count
 }
 
+/// How many executions a simplex of this size has after some rounds: the lists of as many words,
+/// each of whose first blocks has at least `first_block` participants, or all if they are fewer.
+pub fn turn_count(size: u8, first_block: u8, rounds: u32) -> u32
+    requires some { 1 ≤ size }
+    requires few { size ≤ most_processes }
+    requires one { 1 ≤ first_block }
+    requires most { first_block ≤ most_processes }
+    requires fits { turns first_block size rounds ≤ most_executions }
+    ensures { result ≡ turns first_block size rounds }
+{
+    executions_on(size, first_block, rounds)
+}
+
 /// How many executions there are on these simplices whose first blocks have at least `first_block`
 /// participants, or all where they are fewer: counted up to one more than the most.
 pub(crate) fn execution_count(inputs: &[Simplex], first_block: u8, rounds: u32) -> u32

@@ -8,6 +8,7 @@
 //!   name the views inside them by their numbers: a look-up costs one hash of a few numbers,
 //!   however deep the view is.
 //! - [`put_view`]: a view in words.
+//! - [`turn_count`]: how many executions a simplex of some size has.
 #![tactic(auto)]
 
 mod classes;
@@ -23,6 +24,7 @@ mod views;
 mod words;
 
 pub use fault::BuildFault;
+pub use layout::turn_count;
 pub use packed::PackedExecution;
 pub use protocol::Protocol;
 pub use views::Views;

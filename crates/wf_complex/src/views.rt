@@ -247,7 +247,8 @@ impl Views {
         Ok(number)
     }
 
-    /// The same, but for a look at the recent numbers. An entry is hashed once, be it new or old.
+    /// The number of an entry's view, found by the entry's hash, which is computed once. A new view
+    /// gets the next number.
     fn number_by_hash(&mut self, node: Node) -> Result<u32, AllocError>
         requires room { length self.old < most_number }
         requires entry { IsEntry (length self.old) node }

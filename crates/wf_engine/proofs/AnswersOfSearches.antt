@@ -17,8 +17,8 @@ use Rattle.wf_model.specs.Report.{none}
 pub use Rattle.wf_complex.proofs.Lemmas.{and_more}
 use Rattle.wf_pool.specs.Answers.{HasAccountOfMap, map_lines, refuting_lines}
 use Rattle.wf_engine.specs.declared.outcome.Outcome.TheVariants.{Map, Nothing}
-use Rattle.wf_report.specs.declared.form.Form.{Form}
-use Rattle.wf_report.specs.declared.form.Form.TheVariants.{Full, Verdict, Least}
+use Rattle.wf_lines.specs.declared.form.Form.{Form}
+use Rattle.wf_lines.specs.declared.form.Form.TheVariants.{Full, Verdict, Least}
 use Rattle.wf_engine.specs.Texts.{text_of_report, lines_kept, body_of_map, body_of_none, LeadsToMap, IsFound, IsAccountOf}
 
 -- what is shown of a map's lines is what was kept of them

@@ -8,7 +8,7 @@ use Rattle.wf_io.specs.Seen.{Reading, Writing}
 use Rattle.wf_io.specs.Texts.{Gave, ReadsText, Wrote}
 use Rattle.wf_io.specs.declared.source.ReadFault.{ReadFault}
 use Rattle.wf_task.specs.Judge.{task_of_text}
-use Rattle.wf_report.specs.declared.form.Form.{Form}
+use Rattle.wf_lines.specs.declared.form.Form.{Form}
 use Rattle.wf_report.proofs.Lemmas.{read_written}
 use Rattle.wf_engine.specs.declared.outcome.Outcome.{Outcome}
 use Rattle.wf_engine.specs.declared.outcome.Outcome.TheVariants as outcome

@@ -3,7 +3,7 @@ use Rattle.std.proofs.Common.{ℕ, List, Result, Ok, Err, ap}
 use Rattle.wf_model.specs.Task.{Task}
 use Rattle.wf_core.specs.declared.Account.{Account}
 use Rattle.wf_io.specs.Seen.{Writing}
-use Rattle.wf_report.specs.declared.form.Form.{Form}
+use Rattle.wf_lines.specs.declared.form.Form.{Form}
 use Rattle.wf_engine.specs.declared.outcome.Outcome.{Outcome}
 use Rattle.wf_engine.specs.declared.fault.RunFault.{RunFault}
 use Rattle.wf_engine.specs.Run.{Answers, Hands, Next}

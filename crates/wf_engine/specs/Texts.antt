@@ -19,8 +19,8 @@ use Rattle.wf_engine.specs.Run.{Asks, Ran}
 use Rattle.wf_engine.specs.declared.fault.RunFault.{RunFault}
 use Rattle.wf_engine.specs.declared.outcome.Outcome.{Outcome}
 use Rattle.wf_engine.specs.declared.outcome.Outcome.TheVariants as outcome
-use Rattle.wf_report.specs.declared.form.Form.{Form}
-use Rattle.wf_report.specs.declared.form.Form.TheVariants as form
+use Rattle.wf_lines.specs.declared.form.Form.{Form}
+use Rattle.wf_lines.specs.declared.form.Form.TheVariants as form
 
 -- ---- deciding
 

@@ -15,8 +15,8 @@ use std::io::{Read, Write};
 use std::thread::Threads;
 use wf_core::Account;
 use wf_io::{Sink, Source};
+use wf_lines::Form;
 use wf_pool::{Gate, Open, solve_root};
-use wf_report::Form;
 use wf_task::Task;
 
 /// The same as [`run_solve`] where nobody asks for an account: one worker searches the whole

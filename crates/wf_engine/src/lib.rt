@@ -73,6 +73,6 @@ pub use solve::{
 pub use steps::{hand_out, read_task};
 pub use verify::{accepted_words, check_report, read_report_from, report_of, run_verify};
 pub use views::run_views;
+pub use wf_lines::Form;
 pub use wf_pool::MAX_WORKERS;
 pub use wf_preset::{Inputs, Preset};
-pub use wf_report::Form;

@@ -23,9 +23,9 @@ use wf_complex::Protocol;
 use wf_core::Account;
 use wf_handout::Stealing;
 use wf_io::{Sink, Source};
-use wf_lines::Lines;
+use wf_lines::{Form, Lines};
 use wf_pool::{Answer, Gate, KeptLines, Open, solve, solve_one_watched};
-use wf_report::{Body, Form, Header, Report};
+use wf_report::{Body, Header, Report};
 use wf_task::Task;
 
 /// How branches are handed to workers.

@@ -31,7 +31,8 @@ pub(crate) fn leads(
     Ok(leads)
 }
 
-/// The same for the rule of this number, where those before it have these.
+/// The execution that stands for the rules with the table of this one, if the rules before it have
+/// these.
 fn lead_of(rules: &[Rule], executions: &[PackedExecution], leads: &[u32], number: usize) -> u32
     requires alike { AreAlike rules.now }
     requires few { length executions.now ≤ most_executions }

@@ -31,9 +31,10 @@ pub struct Revised {
     pub supported: [Mask; 4],
 }
 
-/// The same for candidates below 64, in a quarter of the memory. Past the places of the rule what
-/// is supported is that of the first place, whose point stands there again: so it is the same as
-/// the candidates where nothing is lost.
+/// What the rule of an execution supports at each place, for candidates that are all below 64: a
+/// quarter of the memory of [`Revised`]. Past the places of the rule stands what is supported at
+/// the first place, whose point stands there again. So if nothing is lost, what is supported equals
+/// the candidates.
 #[derive(Clone, Copy, Debug)]
 pub struct RevisedParts {
     /// The execution that stands for the rules with this table.
@@ -44,8 +45,8 @@ pub struct RevisedParts {
     pub supported: [Part; 4],
 }
 
-/// The same for candidates below 16, in a machine word each: 16 bits for each place, those of the
-/// first one lowest.
+/// What the rule of an execution supports, for candidates that are all below 16. One machine word
+/// has 16 bits for each place, those of the first place lowest.
 #[derive(Clone, Copy, Debug)]
 pub struct RevisedWord {
     /// The execution that stands for the rules with this table; where there is no answer, a number
@@ -57,8 +58,9 @@ pub struct RevisedWord {
     pub supported: u64,
 }
 
-/// The same for candidates below 4, in eight bytes: four bits for each place, those of the first
-/// one lowest. Most problems have no others, and more of these lie near each other.
+/// What the rule of an execution supports, for candidates that are all below 4, in eight bytes:
+/// four bits for each place, those of the first place lowest. Most problems have no larger
+/// candidates, and more of these answers lie near each other.
 #[derive(Clone, Copy, Debug)]
 pub struct RevisedNibbles {
     /// The execution that stands for the rules with this table; where there is no answer, a number
@@ -80,7 +82,7 @@ const NO_NIBBLES: RevisedNibbles = RevisedNibbles {
     supported: 0,
 };
 
-/// No answer for others below 16.
+/// No answer for candidates below 16.
 const NO_WORD: RevisedWord = RevisedWord {
     execution: NO_EXECUTION,
     candidates: 0,
@@ -139,7 +141,7 @@ impl Memo {
         self.grow_wide(alloc);
     }
 
-    /// The same for candidates below 4.
+    /// Makes more places for candidates below 4, if too many of their answers were not there.
     fn grow_tiny(&mut self, alloc: Global)
         ensures { (ks : List Constraint) → AreKnown ks (answers_in self.old)
             → AreKnown ks (answers_in self.new) }
@@ -155,7 +157,7 @@ impl Memo {
         }
     }
 
-    /// The same for others below 16.
+    /// Makes more places for candidates below 16, if too many of their answers were not there.
     fn grow_small(&mut self, alloc: Global)
         ensures { (ks : List Constraint) → AreKnown ks (answers_in self.old)
             → AreKnown ks (answers_in self.new) }
@@ -171,7 +173,7 @@ impl Memo {
         }
     }
 
-    /// The same for others below 64.
+    /// Makes more places for candidates below 64, if too many of their answers were not there.
     fn grow_narrow(&mut self, alloc: Global)
         ensures { (ks : List Constraint) → AreKnown ks (answers_in self.old)
             → AreKnown ks (answers_in self.new) }
@@ -187,7 +189,8 @@ impl Memo {
         }
     }
 
-    /// The same for others.
+    /// Makes more places for candidates of any size, if too many of their answers were not there.
+    /// The answers that were kept are forgotten.
     fn grow_wide(&mut self, alloc: Global)
         ensures { (ks : List Constraint) → AreKnown ks (answers_in self.old)
             → AreKnown ks (answers_in self.new) }
@@ -215,7 +218,8 @@ impl Memo {
         }
     }
 
-    /// The same for others below 16.
+    /// Keeps an answer for candidates below 16 at this place, if there is one, and forgets the
+    /// answer that was there.
     pub(crate) fn keep_small(&mut self, place: usize, answer: RevisedWord)
         ensures { (ks : List Constraint) → IsKnownWord ks answer
             → AreKnown ks (answers_in self.old) → AreKnown ks (answers_in self.new) }
@@ -226,7 +230,8 @@ impl Memo {
         }
     }
 
-    /// The same for others below 64.
+    /// Keeps an answer for candidates below 64 at this place, if there is one, and forgets the
+    /// answer that was there.
     pub(crate) fn keep_narrow(&mut self, place: usize, answer: RevisedParts)
         ensures { (ks : List Constraint) → IsKnownParts ks (Some answer)
             → AreKnown ks (answers_in self.old) → AreKnown ks (answers_in self.new) }
@@ -237,7 +242,8 @@ impl Memo {
         }
     }
 
-    /// The same for others.
+    /// Keeps an answer for candidates of any size at this place, if there is one, and forgets the
+    /// answer that was there.
     pub(crate) fn keep_wide(&mut self, place: usize, answer: Revised)
         ensures { (ks : List Constraint) → IsKnown ks (Some answer)
             → AreKnown ks (answers_in self.old) → AreKnown ks (answers_in self.new) }
@@ -263,7 +269,8 @@ fn keep_tiny(places: &mut Vec<RevisedNibbles>, answers: &[RevisedNibbles])
     }
 }
 
-/// The same for others below 16.
+/// Keeps these answers for candidates below 16 at their places, each of which forgets the answer
+/// that was there.
 fn keep_words(places: &mut Vec<RevisedWord>, answers: &[RevisedWord])
     ensures { (ks : List Constraint) → All (IsKnownWord ks) answers.now
         → All (IsKnownWord ks) places.old.items → All (IsKnownWord ks) places.new.items }
@@ -276,7 +283,8 @@ fn keep_words(places: &mut Vec<RevisedWord>, answers: &[RevisedWord])
     }
 }
 
-/// The same for others below 64.
+/// Keeps these answers for candidates below 64 at their places, each of which forgets the answer
+/// that was there.
 fn keep_each(places: &mut Vec<Option<RevisedParts>>, answers: &[Option<RevisedParts>])
     ensures { (ks : List Constraint) → All (IsKnownParts ks) answers.now
         → All (IsKnownParts ks) places.old.items → All (IsKnownParts ks) places.new.items }
@@ -319,7 +327,9 @@ pub(crate) fn slot_of_nibbles(execution: u32, candidates: u16, places: usize) ->
     place as usize & places.saturating_sub(1)
 }
 
-/// The same for others below 16.
+/// The place, among so many places, of the answer for candidates below 16 and for the rules that
+/// this execution stands for. The number of places is a power of two; with none at all the place is
+/// 0.
 #[inline]
 pub(crate) fn slot_of_word(execution: u32, word: u64, places: usize) -> usize {
     slot_of(execution, [word, 0, 0, 0], places)

@@ -91,7 +91,7 @@ pub fn supported_nibbles(rule: u32, candidates: u16, network: &Network, memo: &m
     revise_nibbles(rule, slot, candidates, network, memo)
 }
 
-/// The same, where no answer is kept.
+/// Asks the rule's table what it supports for candidates below 4, and keeps the answer.
 #[inline(never)]
 fn revise_nibbles(
     rule: u32,
@@ -123,7 +123,8 @@ fn revise_nibbles(
     supported
 }
 
-/// The same for candidates below 16, 16 bits each.
+/// The values that the rule of this number supports at each place for candidates below 16, 16 bits
+/// each; past its places those of the first place again. Answers are kept.
 #[inline]
 pub fn supported_word(rule: u32, word: u64, network: &Network, memo: &mut Memo) -> u64
     requires network { IsNetwork network.now }
@@ -144,7 +145,7 @@ pub fn supported_word(rule: u32, word: u64, network: &Network, memo: &mut Memo) 
     revise_word(rule, slot, word, network, memo)
 }
 
-/// The same, where no answer is kept.
+/// Asks the rule's table what it supports for candidates below 16, and keeps the answer.
 #[inline(never)]
 fn revise_word(rule: u32, slot: usize, word: u64, network: &Network, memo: &mut Memo) -> u64
     requires network { IsNetwork network.now }
@@ -266,7 +267,8 @@ pub fn supported_narrow(
     revise_parts(rule, slot, candidates, network, memo)
 }
 
-/// The same, where no answer is kept.
+/// Asks the rule's table what it supports for candidates below 64, and keeps the answer; none if
+/// nothing is lost.
 fn revise_parts(
     rule: u32,
     slot: usize,

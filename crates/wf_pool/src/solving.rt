@@ -84,7 +84,8 @@ pub fn solve_one(
     solve_one_watched(alloc, problem, kept, &Open)
 }
 
-/// The same as [`solve_one`], and the gate is told of the search, which is that of worker 0.
+/// The answer and the account of [`solve_one`]. The gate is told of the search, which is that of
+/// worker 0.
 pub fn solve_one_watched<G: Gate>(
     alloc: Global,
     problem: &Problem,

@@ -3,7 +3,6 @@
 //! - [`Report`]: a [`Header`], which says what it is about, and a [`Body`],
 //!   which says what is answered.
 //! - [`write_report`], [`read_report`]: from a report to its text, and from a text to its report.
-//! - [`Form`]: how much of an answer a report has.
 //! - [`CertFault`]: why a text is no report, or why a report is not accepted.
 //! - [`cut`] and [`number`]: what stands before a byte and behind it, and the number that a word
 //!   spells.
@@ -14,7 +13,6 @@
 
 mod bytes;
 mod fault;
-mod form;
 mod laws;
 mod reading;
 mod report;
@@ -22,7 +20,6 @@ mod writing;
 
 pub use bytes::{cut, number};
 pub use fault::CertFault;
-pub use form::Form;
 pub use laws::{reports_are_read_as_written, reports_are_written_as_read};
 pub use reading::{FIRST_LINE, read_report};
 pub use report::{Body, Header, Report};

@@ -93,7 +93,7 @@ impl Body {
         }
     }
 
-    /// The same, without the rest.
+    /// Its lines, without the values; none if it is a map alone.
     fn into_lines(self, alloc: Global) -> Lines
         ensures { map line_of result.items ≡ body_lines (body_of self) }
     {

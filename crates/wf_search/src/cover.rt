@@ -112,8 +112,8 @@ pub fn split(alloc: Global, problem: &Problem) -> Result<Cover, AllocError>
     split_with(alloc, problem, &mut answers)
 }
 
-/// The same as [`split`], with what closing found out earlier, which this saves finding out again;
-/// and it leaves what is known then.
+/// The branches of a problem, as [`split`] cuts them. It begins with the answers of the kernel that
+/// are in the cache, and leaves those that it found.
 pub fn split_with(
     alloc: Global,
     problem: &Problem,

@@ -172,7 +172,8 @@ impl Outline {
         }
     }
 
-    /// The same for each branch of a box at a point. The box is given back as it was.
+    /// Closes each branch of a box at a point, and leaves out the boxes that stay open or decided.
+    /// The box is given back as it was.
     fn close_branches(
         &mut self,
         alloc: Global,

@@ -222,7 +222,7 @@ fn judge(alloc: Global, draft: &Draft) -> Result<Task, TaskFault>
     Ok(task_of_draft(alloc, draft, inputs, outputs, &slots)?)
 }
 
-/// The same number of participants in fewer bits.
+/// The number of participants, in eight bits.
 fn narrow(least_block: Option<u64>) -> Option<u8>
     requires { is_first_block least_block ≡ true }
     ensures { result ≡ least_block }

@@ -2,11 +2,12 @@
 
 ghost use Rattle.std.specs.Prelude.{◌≡◌, ◌≤◌, ◌+◌, ◌-◌, ◌/◌, IfOk};
 ghost use Rattle.wf_model.specs.Limits.{most_executions, most_processes};
-ghost use Rattle.wf_complex.specs.Layout.{execution_total, turns};
+ghost use Rattle.wf_complex.specs.Layout.{execution_total};
 ghost use Rattle.wf_trim.specs.Stretches.{earlier, stretches};
 
 use std::alloc::{AllocError, Global};
-use wf_simplex::{Simplex, allowed_count};
+use wf_complex::turn_count;
+use wf_simplex::Simplex;
 
 /// Where the executions on an input simplex begin, in a complex and in one after more rounds, and
 /// how many of the later one go on from each of the earlier one: those stand one after another.
@@ -60,22 +61,4 @@ pub(crate) fn stretches_of(
         after += count * each;
     }
     Ok(list)
-}
-
-/// How many lists of words for so many rounds there are for a number of participants, each with a
-/// first block of at least `first_block` of them, or all where they are fewer.
-fn turn_count(size: u8, first_block: u8, rounds: u32) -> u32
-    requires some { 1 ≤ size }
-    requires few { size ≤ most_processes }
-    requires one { 1 ≤ first_block }
-    requires most { first_block ≤ most_processes }
-    requires fits { turns first_block size rounds ≤ most_executions }
-    ensures { result ≡ turns first_block size rounds }
-{
-    let words = allowed_count(size, first_block);
-    let mut count = 1;
-    for _round in 0..rounds {
-        count *= words;
-    }
-    count
 }

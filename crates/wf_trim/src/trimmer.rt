@@ -327,7 +327,8 @@ impl Trimmer {
         Ok(())
     }
 
-    /// The same for the tuples that have so many values that are gone.
+    /// Needs a line for each tuple that would have the value of a claim and in which so many values
+    /// are gone.
     fn need_reasons_among(
         &mut self,
         claim: StandingValue,

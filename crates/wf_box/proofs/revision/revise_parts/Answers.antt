@@ -3,7 +3,7 @@ use Rattle.wf_lane.specs.Table.{HasSupported}
 use Rattle.wf_network.specs.Problems.{rule_at, rule_in}
 use Rattle.wf_network.specs.Revising.{found_in, left_of, widened}
 use Rattle.wf_box.proofs.RevisingLemmas.{revises_none, revising_still}
-use Rattle.wf_box.proofs.closing.revise_parts.Goals as goal
+use Rattle.wf_box.proofs.revision.revise_parts.Goals as goal
 
 -- all candidates are supported
 all_supported : (c : goal.In_default) → HasSupported (found_in c.args.network.now c.args.number c.args.workspace.now.tracked.words.items) (rule_in c.args.network.now c.args.number).table (found_in c.args.network.now c.args.number c.args.workspace.now.tracked.words.items)

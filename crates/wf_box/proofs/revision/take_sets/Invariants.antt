@@ -5,7 +5,7 @@ use Rattle.wf_network.specs.Problems.{constraint_seen}
 use Rattle.wf_set.specs.Sets.{box_of}
 use Rattle.wf_box.specs.Steps.{NamesLost, reached, take_present}
 use Rattle.wf_box.specs.Working.{IsSilent, LeavesUntouched, ProceedsOn}
-use Rattle.wf_box.proofs.closing.take_sets.Given as goal
+use Rattle.wf_box.proofs.revision.take_sets.Given as goal
 
 abbrev pub invariant-places : goal.invariant-places
 invariant-places l = ((p : Problem) → constraint_at p l.number ≡ constraint_seen l.network.rules.items l.execution → NamesLost p l.initial.lines l.initial.workspace l.lines l.workspace)

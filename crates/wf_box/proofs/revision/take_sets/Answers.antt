@@ -17,7 +17,7 @@ use Rattle.wf_box.proofs.PlaceLemmas.{loses_nothing, place_done, no_place_more}
 use Rattle.wf_box.proofs.WorkLemmas.{found_now, proceeds_marked, proceeds_none, proceeds_then, still_working, supported_now}
 use Rattle.wf_model.specs.Box.{count}
 use Rattle.wf_network.proofs.Lemmas.{left_supports, execution_is, execution_told, execution_within, known_at}
-use Rattle.wf_box.proofs.closing.take_sets.Goals as goal
+use Rattle.wf_box.proofs.revision.take_sets.Goals as goal
 
 pub places-init : goal.places-init
 places-init c = (

@@ -3,7 +3,7 @@ use Rattle.std.proofs.lemmas.Bool.{cases_lt, false≢true}
 use Rattle.std.proofs.lemmas.List.{get_or-map}
 use Rattle.std.specs.Cmp.Lexicographic.{bytes_decides}
 use Rattle.wf_network.specs.Revising.{found_at}
-use Rattle.wf_box.proofs.closing.are_left.Goals as goal
+use Rattle.wf_box.proofs.revision.are_left.Goals as goal
 
 not_not : (test : Bool) → false ≡ not test → test ≡ true
 not_not true is = refl

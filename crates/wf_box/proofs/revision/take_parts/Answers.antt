@@ -18,7 +18,7 @@ use Rattle.wf_box.proofs.PlaceLemmas.{loses_nothing, parts_lacked, place_done, n
 use Rattle.wf_box.proofs.WorkLemmas.{found_now, proceeds_marked, proceeds_none, proceeds_then, still_working, supported_now}
 use Rattle.wf_model.specs.Box.{count}
 use Rattle.wf_network.proofs.Lemmas.{left_supports, execution_is, execution_told, execution_within, known_at}
-use Rattle.wf_box.proofs.closing.take_parts.Goals as goal
+use Rattle.wf_box.proofs.revision.take_parts.Goals as goal
 
 pub places-init : goal.places-init
 places-init c = (
