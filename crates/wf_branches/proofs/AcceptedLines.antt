@@ -3,9 +3,9 @@ use Rattle.std.proofs.Common.{◌≡◌, ◌==◌, ℕ, Bool, true, false, if◌
 use Rattle.std.proofs.lemmas.Bool.{and_from, cases_Bool}
 use Rattle.std.specs.Cmp.Lexicographic.{pointwise}
 use Rattle.wf_model.specs.Task.{Task}
-use Rattle.wf_engine.specs.Run.{answered}
-use Rattle.wf_engine.specs.declared.fault.RunFault.{RunFault}
-use Rattle.wf_engine.proofs.RunsInPieces.{IsRefusal}
+use Rattle.wf_run.specs.Run.{answered}
+use Rattle.wf_run.specs.declared.fault.RunFault.{RunFault}
+use Rattle.wf_run.proofs.RunsInPieces.{IsRefusal}
 use Rattle.wf_formula.specs.Branches.{branches}
 use Rattle.wf_branches.specs.Refuting.{accepted_in}
 use Rattle.wf_branches.specs.Verifying.{IsPartOf, JudgesPart}

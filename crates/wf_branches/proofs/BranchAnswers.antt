@@ -24,13 +24,13 @@ use Rattle.wf_pool.specs.Branches.{AreLinesAt, IsMapAt, branch_count}
 use Rattle.wf_lines.specs.declared.form.Form.{Form}
 use Rattle.wf_io.specs.Seen.{Reading, Writing}
 use Rattle.wf_io.specs.Texts.{Wrote}
-use Rattle.wf_engine.specs.Headline.{GaveTask}
-use Rattle.wf_engine.specs.Run.{Hands, IsTaskOf, Next, Reads}
+use Rattle.wf_run.specs.Given.{GaveTask}
+use Rattle.wf_run.specs.Run.{Hands, IsTaskOf, Next, Reads}
 use Rattle.wf_engine.specs.Texts.{lines_kept, body_of_map}
-use Rattle.wf_engine.specs.declared.fault.RunFault.{RunFault}
+use Rattle.wf_run.specs.declared.fault.RunFault.{RunFault}
 use Rattle.wf_engine.specs.declared.outcome.Outcome.{Outcome}
 use Rattle.wf_engine.specs.declared.outcome.Outcome.TheVariants.{Map, Nothing}
-use Rattle.wf_engine.proofs.Headline.{task_read}
+use Rattle.wf_run.proofs.GivenTask.{task_read}
 use Rattle.wf_engine.proofs.AnswersOfSearches.{kept_shown, none_shown}
 use Rattle.wf_branches.specs.Branches.{AnswersBranch, AsksBranch, HasBranch}
 use Rattle.wf_branches.specs.Laws.{BranchAnswersAreTrue}

@@ -15,13 +15,13 @@ use Rattle.wf_io.specs.Seen.{Reading}
 use Rattle.wf_io.specs.Texts.{Wrote}
 use Rattle.wf_rup.specs.Seen.{HasNoModel, Known}
 use Rattle.wf_rup.specs.Posed.{FollowsFrom, IsPosed}
-use Rattle.wf_engine.specs.Proofs.{ReadsAsProof}
-use Rattle.wf_engine.specs.Sources.{NextReads, ReadsAbout}
-use Rattle.wf_engine.specs.declared.fault.RunFault.{RunFault}
-use Rattle.wf_engine.proofs.RunsOverTwoSources.{done}
-use Rattle.wf_engine.specs.Run.{answered}
-use Rattle.wf_engine.proofs.RunsInPieces.{IsRefusal}
-use Rattle.wf_engine.proofs.ProofsToLines.{accepted_of}
+use Rattle.wf_verify_engine.specs.Proofs.{ReadsAsProof}
+use Rattle.wf_run.specs.Sources.{NextReads, ReadsAbout}
+use Rattle.wf_run.specs.declared.fault.RunFault.{RunFault}
+use Rattle.wf_run.proofs.RunsOverTwoSources.{done}
+use Rattle.wf_run.specs.Run.{answered}
+use Rattle.wf_run.proofs.RunsInPieces.{IsRefusal}
+use Rattle.wf_verify_engine.proofs.ProofsToLines.{accepted_of}
 use Rattle.wf_branches.specs.Branches.{HasBranch, IsNoBranch}
 use Rattle.wf_branches.specs.Refuting.{FindsBranch, HasNoMapIn, IsAcceptedBranch, ReadsBranchProof, ReadsIn, ReadsProofIn, accepted_text}
 use Rattle.wf_branches.specs.Laws.{BranchesCoverAllMaps, BranchRefutationsAreTrue}

@@ -14,10 +14,10 @@ use Rattle.wf_search.specs.Cover.{IsClosedIn}
 use Rattle.wf_io.specs.Seen.{Writing}
 use Rattle.wf_io.specs.Texts.{WritesText}
 use Rattle.wf_io.specs.declared.sink.WriteFault.{WriteFault}
-use Rattle.wf_engine.specs.Run.{HasComplex, IsBeyondLimits, Ran}
-use Rattle.wf_engine.specs.declared.fault.RunFault.{RunFault}
-use Rattle.wf_engine.specs.declared.fault.RunFault.TheVariants.{NoBranch, OutOfMemory, Write}
-use Rattle.wf_engine.proofs.RunsInPieces.{IsRefusal}
+use Rattle.wf_run.specs.Run.{HasComplex, IsBeyondLimits, Ran}
+use Rattle.wf_run.specs.declared.fault.RunFault.{RunFault}
+use Rattle.wf_run.specs.declared.fault.RunFault.TheVariants.{NoBranch, OutOfMemory, Write}
+use Rattle.wf_run.proofs.RunsInPieces.{IsRefusal}
 use Rattle.wf_branches.specs.Branches.{AnswersBranch, HasBranch, IsBranch, IsBranchTextOf, IsCoverOf, IsNoBranch, IsRefusedBranch}
 use Rattle.wf_branches.specs.declared.branch.FoundBranch.{FoundBranch}
 

@@ -15,7 +15,8 @@ use Rattle.wf_model.proofs.LeastSolutions.{answer_least, answer_none, canonical_
 use Rattle.wf_model.proofs.Numbers.{listed_by_number}
 use Rattle.wf_model.proofs.WellFormed.{task_well_formed}
 use Rattle.wf_lines.specs.declared.form.Form.{Form}
-use Rattle.wf_engine.specs.Texts.{IsFound, body_of_map, body_of_none, text_of_report}
+use Rattle.wf_engine.specs.Texts.{IsFound, body_of_map, body_of_none}
+use Rattle.wf_run.specs.Texts.{text_of_report}
 use Rattle.wf_engine.specs.declared.outcome.Outcome.{Outcome}
 use Rattle.wf_engine.specs.declared.outcome.Outcome.TheVariants as outcome
 use Rattle.wf_formula.specs.Branches.{branch_at}

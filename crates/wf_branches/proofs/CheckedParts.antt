@@ -28,16 +28,16 @@ use Rattle.wf_io.specs.declared.source.ReadFault.{ReadFault}
 use Rattle.wf_io.specs.declared.source.ReadFault.TheVariants as read
 use Rattle.wf_report.proofs.Lemmas.{read_written}
 use Rattle.wf_check.specs.Within.{fault_within, report_fault_within}
-use Rattle.wf_engine.specs.Laws.{IsChecked}
-use Rattle.wf_engine.specs.Run.{Judged, Next, by_result, failed_reads, failed_writes}
-use Rattle.wf_engine.specs.Sources.{NextReads}
-use Rattle.wf_engine.specs.Texts.{text_of_report}
-use Rattle.wf_engine.specs.Verify.{accepted_words}
-use Rattle.wf_engine.specs.declared.fault.RunFault.{RunFault}
-use Rattle.wf_engine.specs.declared.fault.RunFault.TheVariants as run
-use Rattle.wf_engine.proofs.RunsOverTwoSources.{IsReadCounted, done}
-use Rattle.wf_engine.proofs.RunsOverTwoSources as both
-use Rattle.wf_engine.proofs.Counts.{few}
+use Rattle.wf_run.specs.Laws.{IsChecked}
+use Rattle.wf_run.specs.Run.{Judged, Next, by_result, failed_reads, failed_writes}
+use Rattle.wf_run.specs.Sources.{NextReads}
+use Rattle.wf_run.specs.Texts.{text_of_report}
+use Rattle.wf_verify_engine.specs.Verify.{accepted_words}
+use Rattle.wf_run.specs.declared.fault.RunFault.{RunFault}
+use Rattle.wf_run.specs.declared.fault.RunFault.TheVariants as run
+use Rattle.wf_run.proofs.RunsOverTwoSources.{IsReadCounted, done}
+use Rattle.wf_run.proofs.RunsOverTwoSources as both
+use Rattle.wf_run.proofs.Counts.{few}
 use Rattle.wf_branches.specs.Branches.{HasBranch}
 use Rattle.wf_branches.specs.Laws.{GaveTruePart, PartAcceptancesAreTrue}
 use Rattle.wf_branches.specs.Refuting.{FindsBranch, ReadsIn, accepted_in}

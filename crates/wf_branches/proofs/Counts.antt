@@ -4,16 +4,16 @@ use Rattle.wf_model.specs.Limits.{most_bytes}
 use Rattle.wf_model.specs.Task.{Task}
 use Rattle.wf_formula.specs.Branches.{branch_question}
 use Rattle.wf_io.specs.Seen.{Reading, Writing}
-use Rattle.wf_engine.specs.declared.fault.RunFault.{RunFault}
-use Rattle.wf_engine.specs.declared.fault.RunFault.TheVariants as run
-use Rattle.wf_engine.specs.Run.{Next, Ran, by_result, failed_reads, failed_writes}
-use Rattle.wf_engine.specs.Laws.{IsChecked, IsCounted}
-use Rattle.wf_engine.specs.Sources.{NextReads}
-use Rattle.wf_engine.specs.Proofs.{most_proof_bytes}
-use Rattle.wf_engine.proofs.RunsOverTwoSources.{IsReadCounted}
-use Rattle.wf_engine.proofs.RunsOverTwoSources as both
-use Rattle.wf_engine.proofs.Counts.{few, handed, judged}
-use Rattle.wf_engine.proofs.ProofCounts.{proof_counted}
+use Rattle.wf_run.specs.declared.fault.RunFault.{RunFault}
+use Rattle.wf_run.specs.declared.fault.RunFault.TheVariants as run
+use Rattle.wf_run.specs.Run.{Next, Ran, by_result, failed_reads, failed_writes}
+use Rattle.wf_run.specs.Laws.{IsChecked, IsCounted}
+use Rattle.wf_run.specs.Sources.{NextReads}
+use Rattle.wf_verify_engine.specs.Proofs.{most_proof_bytes}
+use Rattle.wf_run.proofs.RunsOverTwoSources.{IsReadCounted}
+use Rattle.wf_run.proofs.RunsOverTwoSources as both
+use Rattle.wf_run.proofs.Counts.{few, handed, judged}
+use Rattle.wf_verify_engine.proofs.ProofCounts.{proof_counted}
 use Rattle.wf_branches.specs.Branches.{AnswersBranch, AsksBranch, BranchAnswers, IsNoBranch, IsRefusedBranch}
 use Rattle.wf_branches.specs.Refuting.{FindsBranch, IsAcceptedBranch, ReadsBranchProof, ReadsProofIn, RefutesBranch}
 

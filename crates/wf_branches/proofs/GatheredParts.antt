@@ -5,9 +5,9 @@ use Rattle.wf_model.specs.Limits.{most_number}
 use Rattle.wf_model.specs.Refutation.{Line}
 use Rattle.wf_model.specs.Report.{Body, none, report_about}
 use Rattle.wf_formula.specs.Branches.{branches}
-use Rattle.wf_engine.specs.Run.{Next}
-use Rattle.wf_engine.specs.Texts.{text_of_report}
-use Rattle.wf_engine.specs.declared.fault.RunFault.{RunFault}
+use Rattle.wf_run.specs.Run.{Next}
+use Rattle.wf_run.specs.Texts.{text_of_report}
+use Rattle.wf_run.specs.declared.fault.RunFault.{RunFault}
 use Rattle.wf_branches.specs.Branches.{HasBranch}
 use Rattle.wf_branches.specs.Solving.{part_text}
 use Rattle.wf_branches.specs.Joining.{Gathered, Gathers, GoesOn, TakesPart, next_part}

@@ -9,13 +9,13 @@ use Rattle.wf_model.specs.Check.{report_fault}
 use Rattle.wf_lines.specs.declared.form.Form.{Form}
 use Rattle.wf_lines.specs.declared.form.Form.TheVariants as form
 use Rattle.wf_report.specs.declared.fault.CertFault.TheVariants as amiss
-use Rattle.wf_engine.specs.Run.{HasComplex, Next}
+use Rattle.wf_run.specs.Run.{HasComplex, Next}
 use Rattle.wf_engine.specs.Texts.{body_of_map}
-use Rattle.wf_engine.specs.declared.fault.RunFault.{RunFault}
-use Rattle.wf_engine.specs.declared.fault.RunFault.TheVariants as run
+use Rattle.wf_run.specs.declared.fault.RunFault.{RunFault}
+use Rattle.wf_run.specs.declared.fault.RunFault.TheVariants as run
 use Rattle.wf_engine.specs.declared.outcome.Outcome.{Outcome}
 use Rattle.wf_engine.specs.declared.outcome.Outcome.TheVariants as outcome
-use Rattle.wf_engine.proofs.WrittenIsAccepted.{unrefused}
+use Rattle.wf_verify_engine.proofs.WrittenIsAccepted.{unrefused}
 use Rattle.wf_branches.specs.Solving.{part_text}
 use Rattle.wf_branches.specs.Joining.{AcceptsJoined, Gathered, joined_body}
 use Rattle.wf_branches.specs.Laws.{PartsOfSearchesAreJoined}

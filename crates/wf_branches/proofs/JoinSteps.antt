@@ -19,12 +19,12 @@ use Rattle.wf_report.specs.declared.fault.CertFault.{CertFault}
 use Rattle.wf_report.specs.declared.fault.CertFault.TheVariants as amiss
 use Rattle.wf_report.specs.declared.report.Body as found
 use Rattle.wf_report.specs.declared.report.Body.TheVariants.{Map, Nothing, Least}
-use Rattle.wf_engine.specs.Faults.{of_report_fault}
-use Rattle.wf_engine.specs.Run.{Next, answered}
-use Rattle.wf_engine.specs.Texts.{text_of_report}
-use Rattle.wf_engine.specs.declared.fault.RunFault.{RunFault}
-use Rattle.wf_engine.specs.declared.fault.RunFault.TheVariants.{OutOfMemory, TooManyParts}
-use Rattle.wf_engine.proofs.RunsInPieces.{IsRefusal}
+use Rattle.wf_run.specs.Faults.{of_report_fault}
+use Rattle.wf_run.specs.Run.{Next, answered}
+use Rattle.wf_run.specs.Texts.{text_of_report}
+use Rattle.wf_run.specs.declared.fault.RunFault.{RunFault}
+use Rattle.wf_run.specs.declared.fault.RunFault.TheVariants.{OutOfMemory, TooManyParts}
+use Rattle.wf_run.proofs.RunsInPieces.{IsRefusal}
 use Rattle.wf_branches.specs.Branches.{IsBranch}
 use Rattle.wf_branches.specs.declared.branch.FoundBranch.{FoundBranch}
 use Rattle.wf_branches.specs.declared.joining.Gathered as kept

@@ -20,10 +20,11 @@ use Rattle.wf_formula.specs.Branches.{branches}
 use Rattle.wf_pool.specs.Answers.{HasAccountOfMap, map_lines, refuting_lines}
 use Rattle.wf_lines.specs.declared.form.Form.{Form}
 use Rattle.wf_lines.specs.declared.form.Form.TheVariants as form
-use Rattle.wf_engine.specs.Run.{HasComplex}
-use Rattle.wf_engine.specs.Texts.{IsSolved, lines_kept, body_of_map, text_of_report}
-use Rattle.wf_engine.specs.declared.fault.RunFault.{RunFault}
-use Rattle.wf_engine.specs.declared.fault.RunFault.TheVariants.{OutOfMemory, TooManyParts}
+use Rattle.wf_run.specs.Run.{HasComplex}
+use Rattle.wf_engine.specs.Texts.{IsSolved, lines_kept, body_of_map}
+use Rattle.wf_run.specs.Texts.{text_of_report}
+use Rattle.wf_run.specs.declared.fault.RunFault.{RunFault}
+use Rattle.wf_run.specs.declared.fault.RunFault.TheVariants.{OutOfMemory, TooManyParts}
 use Rattle.wf_engine.specs.declared.outcome.Outcome.{Outcome}
 use Rattle.wf_engine.specs.declared.outcome.Outcome.TheVariants as outcome
 use Rattle.wf_engine.proofs.AnswersOfSearches.{kept_shown, map_account, map_verdict, none_shown, none_verdict}

@@ -9,11 +9,11 @@ use Rattle.wf_io.specs.Texts.{Gave, ReadsText}
 use Rattle.wf_io.specs.declared.source.ReadFault.{ReadFault}
 use Rattle.wf_lines.specs.declared.form.Form.{Form}
 use Rattle.wf_lines.specs.declared.form.Form.TheVariants as form
-use Rattle.wf_engine.specs.Run.{Judged, Next}
-use Rattle.wf_engine.specs.Texts.{text_of_report}
-use Rattle.wf_engine.specs.declared.fault.RunFault.{RunFault}
+use Rattle.wf_run.specs.Run.{Judged, Next}
+use Rattle.wf_run.specs.Texts.{text_of_report}
+use Rattle.wf_run.specs.declared.fault.RunFault.{RunFault}
 use Rattle.wf_engine.specs.declared.outcome.Outcome.{Outcome}
-use Rattle.wf_engine.proofs.RunsOverTwoSources.{done}
+use Rattle.wf_run.proofs.RunsOverTwoSources.{done}
 use Rattle.wf_branches.specs.Joining.{AcceptsJoined, Gathered, GathersAll, JoinsText, ReadsParts, joined_body, most_parts_bytes}
 use Rattle.wf_branches.specs.Laws.{JoinsOfSearchesAreWhole, PartsOfSearchesJoinToTheWhole}
 use Rattle.wf_branches.specs.Searched.{AreTooMuch, HasPartsOf, IsWholeText}

@@ -24,16 +24,16 @@ use Rattle.wf_io.specs.declared.source.ReadFault.{ReadFault}
 use Rattle.wf_io.specs.declared.source.ReadFault.TheVariants as read
 use Rattle.wf_report.specs.Grammar.{IsInGrammar, IsBodyWithin, IsLineWithin, IsStepWithin}
 use Rattle.wf_report.proofs.Lemmas.{read_written}
-use Rattle.wf_engine.specs.Run.{HasComplex, Judged, Next, by_result, failed_reads, failed_writes}
-use Rattle.wf_engine.specs.Texts.{text_of_report}
-use Rattle.wf_engine.specs.Verify.{IsFaultless}
-use Rattle.wf_engine.specs.declared.fault.RunFault.{RunFault}
-use Rattle.wf_engine.specs.declared.fault.RunFault.TheVariants as run
-use Rattle.wf_engine.proofs.WrittenIsAccepted.{body_accepted}
-use Rattle.wf_engine.proofs.RunsOverTwoSources.{IsReadCounted, done}
-use Rattle.wf_engine.proofs.RunsOverTwoSources as both
-use Rattle.wf_engine.proofs.Counts.{few}
-use Rattle.wf_engine.proofs.WrittenReports.{HasSmallValue, line_small, map_within, root_small, small_least_within, small_none_within, step_small}
+use Rattle.wf_run.specs.Run.{HasComplex, Judged, Next, by_result, failed_reads, failed_writes}
+use Rattle.wf_run.specs.Texts.{text_of_report}
+use Rattle.wf_verify_engine.specs.Verify.{IsFaultless}
+use Rattle.wf_run.specs.declared.fault.RunFault.{RunFault}
+use Rattle.wf_run.specs.declared.fault.RunFault.TheVariants as run
+use Rattle.wf_verify_engine.proofs.WrittenIsAccepted.{body_accepted}
+use Rattle.wf_run.proofs.RunsOverTwoSources.{IsReadCounted, done}
+use Rattle.wf_run.proofs.RunsOverTwoSources as both
+use Rattle.wf_run.proofs.Counts.{few}
+use Rattle.wf_verify_engine.proofs.WrittenReports.{HasSmallValue, line_small, map_within, root_small, small_least_within, small_none_within, step_small}
 use Rattle.wf_branches.specs.Joining.{AcceptsBody, AcceptsJoined, EndsAll, Gathered, with_map, with_least, without_map, Gathers, GathersAll, GoesOn, IsBodyIn, JoinsText, ReadsParts, TakesPart, among_parts, in_part, joined_body, most_parts_bytes, next_part}
 use Rattle.wf_branches.specs.Laws.{JoinsAreAccepted, JoinsAreTrue, JoiningIsCounted}
 use Rattle.wf_branches.specs.Verifying.{IsPartOf}

@@ -20,3 +20,4 @@ pub mod TakenParts
 pub mod Joinable
 pub mod JoinedSearches
 pub mod JoinLimits
+pub mod SolvedReports

@@ -20,8 +20,8 @@ use Rattle.wf_model.proofs.LeastSolutions.{root_is_box}
 use Rattle.wf_model.proofs.WellFormed.{task_well_formed}
 use Rattle.wf_formula.specs.Branches.{branch_at, branches}
 use Rattle.wf_report.specs.Grammar.{IsBodyWithin, IsInGrammar, IsLineWithin, IsStepWithin}
-use Rattle.wf_engine.specs.Run.{HasComplex}
-use Rattle.wf_engine.proofs.WrittenReports.{least_within, none_within}
+use Rattle.wf_run.specs.Run.{HasComplex}
+use Rattle.wf_verify_engine.proofs.WrittenReports.{least_within, none_within}
 use Rattle.wf_branches.proofs.ReportEnds.{step_of_line}
 use Rattle.wf_branches.proofs.PartLists.{AreRefutationsFrom}
 

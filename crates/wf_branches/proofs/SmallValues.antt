@@ -12,7 +12,7 @@ use Rattle.wf_model.specs.Outline.{Item, box_left, boxes_left_out, closed_each, 
 use Rattle.wf_model.proofs.MapsAreSolutions.{weaker}
 use Rattle.wf_model.proofs.CanonicalSteps.{Leaves}
 use Rattle.wf_model.proofs.Headline.{each_append, each_flat, each_map}
-use Rattle.wf_engine.proofs.WrittenReports.{AreSmall, HasSmallValue, KeepsSmall, branches_small, closing_small}
+use Rattle.wf_verify_engine.proofs.WrittenReports.{AreSmall, HasSmallValue, KeepsSmall, branches_small, closing_small}
 
 -- a line with a small value, or a box with small candidates
 abbrev IsSmallItem : Item → Type 0

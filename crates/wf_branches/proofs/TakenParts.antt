@@ -8,12 +8,12 @@ use Rattle.wf_formula.specs.Branches.{branch_at, branches}
 use Rattle.wf_report.specs.declared.fault.CertFault.TheVariants as amiss
 use Rattle.wf_report.proofs.Lemmas.{written_read}
 use Rattle.wf_check.specs.Within.{report_fault_within}
-use Rattle.wf_engine.specs.Run.{Next}
-use Rattle.wf_engine.specs.Texts.{text_of_report}
-use Rattle.wf_engine.specs.declared.fault.PartFault.TheVariants as part
-use Rattle.wf_engine.specs.declared.fault.RunFault.{RunFault}
-use Rattle.wf_engine.specs.declared.fault.RunFault.TheVariants as run
-use Rattle.wf_engine.proofs.WrittenIsAccepted.{unrefused}
+use Rattle.wf_run.specs.Run.{Next}
+use Rattle.wf_run.specs.Texts.{text_of_report}
+use Rattle.wf_run.specs.declared.fault.PartFault.TheVariants as part
+use Rattle.wf_run.specs.declared.fault.RunFault.{RunFault}
+use Rattle.wf_run.specs.declared.fault.RunFault.TheVariants as run
+use Rattle.wf_verify_engine.proofs.WrittenIsAccepted.{unrefused}
 use Rattle.wf_branches.specs.Solving.{part_head, part_text}
 use Rattle.wf_branches.specs.Verifying.{ChecksIn, IsPartOf}
 use Rattle.wf_branches.specs.Joining.{AcceptsBody, IsBodyIn, TakesPart, among_parts, in_part}

@@ -7,9 +7,9 @@ use Rattle.wf_model.specs.Points.{points}
 use Rattle.wf_set.specs.Sets.{box_of}
 use Rattle.wf_formula.specs.Branches.{branch_at, branches}
 use Rattle.wf_io.specs.Seen.{Reading, Writing}
-use Rattle.wf_engine.specs.Run.{HasComplex, IsBeyondLimits, IsTaskOf, Next, Ran, Reads}
-use Rattle.wf_engine.specs.declared.fault.RunFault.{RunFault}
-use Rattle.wf_engine.specs.declared.fault.RunFault.TheVariants.{NoBranch, OutOfMemory}
+use Rattle.wf_run.specs.Run.{HasComplex, IsBeyondLimits, IsTaskOf, Next, Ran, Reads}
+use Rattle.wf_run.specs.declared.fault.RunFault.{RunFault}
+use Rattle.wf_run.specs.declared.fault.RunFault.TheVariants.{NoBranch, OutOfMemory}
 use Rattle.wf_branches.specs.declared.branch.FoundBranch.{FoundBranch}
 
 -- what is written while the root is cut, with the branches of the task's

@@ -16,13 +16,13 @@ use Rattle.wf_search.specs.Cover.{each_seen}
 use Rattle.wf_report.specs.Reports.{AreNumbered, body_of}
 use Rattle.wf_report.specs.declared.report.Body as code
 use Rattle.wf_report.specs.declared.fault.CertFault.TheVariants as amiss
-use Rattle.wf_engine.specs.Run.{Judged, Next, Ran}
-use Rattle.wf_engine.specs.Sources.{AsksBoth}
-use Rattle.wf_engine.specs.Texts.{text_of_report}
-use Rattle.wf_engine.specs.Verify.{IsFaultless}
-use Rattle.wf_engine.specs.declared.fault.PartFault.TheVariants as part
-use Rattle.wf_engine.specs.declared.fault.RunFault.{RunFault}
-use Rattle.wf_engine.specs.declared.fault.RunFault.TheVariants.{Cert, InPart, NoPart, NotInBranch, OtherPart, OutOfMemory, TooLong, TooManyParts}
+use Rattle.wf_run.specs.Run.{Judged, Next, Ran}
+use Rattle.wf_run.specs.Sources.{AsksBoth}
+use Rattle.wf_run.specs.Texts.{text_of_report}
+use Rattle.wf_verify_engine.specs.Verify.{IsFaultless}
+use Rattle.wf_run.specs.declared.fault.PartFault.TheVariants as part
+use Rattle.wf_run.specs.declared.fault.RunFault.{RunFault}
+use Rattle.wf_run.specs.declared.fault.RunFault.TheVariants.{Cert, InPart, NoPart, NotInBranch, OtherPart, OutOfMemory, TooLong, TooManyParts}
 use Rattle.wf_branches.specs.Verifying.{ChecksIn, IsPartOf}
 use Rattle.wf_branches.specs.declared.joining.Gathered as found
 use Rattle.wf_branches.specs.declared.joining.Gathered.TheVariants as kept

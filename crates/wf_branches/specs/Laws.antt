@@ -7,15 +7,16 @@ use Rattle.wf_model.specs.DecisionMap.{HasNoDecisionMap}
 use Rattle.wf_formula.specs.Branches.{branches}
 use Rattle.wf_io.specs.Seen.{Reading, Writing}
 use Rattle.wf_io.specs.Texts.{GaveAll, Wrote}
-use Rattle.wf_engine.specs.Headline.{GaveTask}
+use Rattle.wf_run.specs.Given.{GaveTask}
 use Rattle.wf_check.specs.Truth.{HoldsOf}
-use Rattle.wf_engine.specs.Laws.{Accepts, IsChecked, IsCounted}
-use Rattle.wf_engine.specs.Proofs.{most_proof_bytes}
-use Rattle.wf_engine.specs.Run.{HasComplex}
-use Rattle.wf_engine.specs.Texts.{text_of_report}
-use Rattle.wf_engine.specs.Verify.{ChecksText, accepted_of, accepted_words}
-use Rattle.wf_engine.specs.declared.outcome.Accepted.{Accepted}
-use Rattle.wf_engine.specs.declared.fault.RunFault.{RunFault}
+use Rattle.wf_verify_engine.specs.Laws.{Accepts}
+use Rattle.wf_run.specs.Laws.{IsChecked, IsCounted}
+use Rattle.wf_verify_engine.specs.Proofs.{most_proof_bytes}
+use Rattle.wf_run.specs.Run.{HasComplex}
+use Rattle.wf_run.specs.Texts.{text_of_report}
+use Rattle.wf_verify_engine.specs.Verify.{ChecksText, accepted_of, accepted_words}
+use Rattle.wf_verify_engine.specs.declared.outcome.Accepted.{Accepted}
+use Rattle.wf_run.specs.declared.fault.RunFault.{RunFault}
 use Rattle.wf_engine.specs.declared.outcome.Outcome.{Outcome}
 use Rattle.wf_lines.specs.declared.form.Form.{Form}
 use Rattle.wf_lines.specs.declared.form.Form.TheVariants as form

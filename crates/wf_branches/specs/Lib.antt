@@ -7,3 +7,4 @@ pub mod Verifying
 pub mod Joining
 pub mod Searched
 pub mod Laws
+pub mod SolvedReports

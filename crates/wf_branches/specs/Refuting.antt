@@ -7,11 +7,11 @@ use Rattle.wf_model.specs.Box.{LiesIn}
 use Rattle.wf_model.specs.DecisionMap.{IsDecisionMap, listed}
 use Rattle.wf_formula.specs.Branches.{branch_at, branch_question, branches}
 use Rattle.wf_io.specs.Seen.{Reading, Writing}
-use Rattle.wf_engine.specs.Run.{Ran}
-use Rattle.wf_engine.specs.Sources.{AsksBoth, NextReads, ReadsAbout}
-use Rattle.wf_engine.specs.Verify.{rounds_end}
-use Rattle.wf_engine.specs.Proofs.{ReadsProofOf}
-use Rattle.wf_engine.specs.declared.fault.RunFault.{RunFault}
+use Rattle.wf_run.specs.Run.{Ran}
+use Rattle.wf_run.specs.Sources.{AsksBoth, NextReads, ReadsAbout}
+use Rattle.wf_verify_engine.specs.Verify.{rounds_end}
+use Rattle.wf_verify_engine.specs.Proofs.{ReadsProofOf}
+use Rattle.wf_run.specs.declared.fault.RunFault.{RunFault}
 use Rattle.wf_branches.specs.Branches.{HasBranch, IsNoBranch}
 
 -- no decision map lies in branch i of the task's question after r rounds

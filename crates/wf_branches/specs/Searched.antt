@@ -10,12 +10,13 @@ use Rattle.wf_core.specs.declared.Account.{Account}
 use Rattle.wf_report.specs.Reports.{AreNumbered}
 use Rattle.wf_lines.specs.declared.form.Form.{Form}
 use Rattle.wf_report.specs.declared.fault.CertFault.TheVariants as amiss
-use Rattle.wf_engine.specs.Texts.{IsFound, IsSolved, text_of_report}
+use Rattle.wf_engine.specs.Texts.{IsFound, IsSolved}
+use Rattle.wf_run.specs.Texts.{text_of_report}
 use Rattle.wf_engine.specs.declared.outcome.Outcome.{Outcome}
 use Rattle.wf_engine.specs.declared.outcome.Outcome.TheVariants as outcome
-use Rattle.wf_engine.specs.declared.fault.PartFault.TheVariants as part
-use Rattle.wf_engine.specs.declared.fault.RunFault.{RunFault}
-use Rattle.wf_engine.specs.declared.fault.RunFault.TheVariants.{InPart, OutOfMemory, TooLong}
+use Rattle.wf_run.specs.declared.fault.PartFault.TheVariants as part
+use Rattle.wf_run.specs.declared.fault.RunFault.{RunFault}
+use Rattle.wf_run.specs.declared.fault.RunFault.TheVariants.{InPart, OutOfMemory, TooLong}
 use Rattle.wf_branches.specs.Branches.{HasBranch}
 use Rattle.wf_branches.specs.Solving.{IsSolvedIn, part_text}
 use Rattle.wf_branches.specs.Joining.{lines_in}

@@ -14,9 +14,10 @@ use Rattle.wf_model.specs.Report.{Body, line}
 use Rattle.wf_formula.specs.Branches.{branch_at, branches}
 use Rattle.wf_io.specs.Seen.{Reading, Writing}
 use Rattle.wf_lines.specs.declared.form.Form.{Form}
-use Rattle.wf_engine.specs.Run.{Ran}
-use Rattle.wf_engine.specs.Texts.{body_of_map, body_of_none, text_of_report}
-use Rattle.wf_engine.specs.declared.fault.RunFault.{RunFault}
+use Rattle.wf_run.specs.Run.{Ran}
+use Rattle.wf_engine.specs.Texts.{body_of_map, body_of_none}
+use Rattle.wf_run.specs.Texts.{text_of_report}
+use Rattle.wf_run.specs.declared.fault.RunFault.{RunFault}
 use Rattle.wf_engine.specs.declared.outcome.Outcome.{Outcome}
 use Rattle.wf_engine.specs.declared.outcome.Outcome.TheVariants as outcome
 use Rattle.wf_branches.specs.Branches.{AsksBranch}

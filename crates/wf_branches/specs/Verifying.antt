@@ -13,11 +13,11 @@ use Rattle.wf_io.specs.Seen.{Reading, Writing}
 use Rattle.wf_check.specs.Faults.{Fails}
 use Rattle.wf_check.specs.Within.{report_fault_within}
 use Rattle.wf_report.specs.declared.fault.CertFault.TheVariants as amiss
-use Rattle.wf_engine.specs.Run.{Next, Ran, Reads}
-use Rattle.wf_engine.specs.Sources.{AsksBoth, ReadsAbout}
-use Rattle.wf_engine.specs.Verify.{IsReportOf, accepted_words}
-use Rattle.wf_engine.specs.declared.fault.RunFault.{RunFault}
-use Rattle.wf_engine.specs.declared.fault.RunFault.TheVariants.{Cert, OtherPart, NotInBranch, OutOfMemory}
+use Rattle.wf_run.specs.Run.{Next, Ran, Reads}
+use Rattle.wf_run.specs.Sources.{AsksBoth, ReadsAbout}
+use Rattle.wf_verify_engine.specs.Verify.{IsReportOf, accepted_words}
+use Rattle.wf_run.specs.declared.fault.RunFault.{RunFault}
+use Rattle.wf_run.specs.declared.fault.RunFault.TheVariants.{Cert, OtherPart, NotInBranch, OutOfMemory}
 use Rattle.wf_branches.specs.Refuting.{HasNoMapIn, ReadsIn, accepted_in}
 use Rattle.wf_branches.specs.Solving.{IsLeastInBranch, part_head}
 

@@ -1,7 +1,7 @@
 //! Writing the question of one branch as a formula.
 
 ghost use Rattle.wf_io.specs.Ends.{CanCount, CanWrite};
-ghost use Rattle.wf_engine.specs.Run.{Ran};
+ghost use Rattle.wf_run.specs.Run.{Ran};
 ghost use Rattle.wf_formula.specs.Branches.{branch_text};
 ghost use Rattle.wf_branches.specs.Branches.{AnswersBranch, IsBranchTextOf, ListsBranch};
 
@@ -10,8 +10,8 @@ use std::alloc::Global;
 use std::io::{Read, Write};
 use wf_cnf::{Branch, Question};
 use wf_complex::Protocol;
-use wf_engine::{RunFault, read_task};
 use wf_io::{Sink, Source};
+use wf_run::{RunFault, read_task};
 use wf_task::Task;
 
 /// Reads a task to the reader's end and writes the question whether one branch has a decision map

@@ -4,9 +4,9 @@ ghost use Rattle.std.specs.Prelude.{◌≡◌, ◌++◌, ◌∷◌, [], IfOk, Ok
 ghost use Rattle.wf_io.specs.Ends.{CanRead};
 ghost use Rattle.wf_complex.specs.Protocol.{Builds, IsProtocol};
 ghost use Rattle.wf_report.specs.Reports.{body_length, body_of};
-ghost use Rattle.wf_engine.specs.Run.{answered};
-ghost use Rattle.wf_engine.specs.Sources.{AsksBoth, AsksWithin};
-ghost use Rattle.wf_engine.specs.Verify.{CanVerify};
+ghost use Rattle.wf_run.specs.Run.{answered};
+ghost use Rattle.wf_run.specs.Sources.{AsksBoth, AsksWithin};
+ghost use Rattle.wf_verify_engine.specs.Verify.{CanVerify};
 ghost use Rattle.wf_branches.specs.Branches.{IsCoverOf};
 ghost use Rattle.wf_branches.specs.Joining.{AcceptsJoined, GathersAll, HasListsFor, Joins, JoinsText, ReadsParts, gathered_of, gathered_seen, joined_body};
 
@@ -17,10 +17,10 @@ use std::io::{Read, Write};
 use std::thread::Threads;
 use wf_check::{ReportChecker, check};
 use wf_complex::Protocol;
-use wf_engine::{RunFault, hand_out, read_task};
 use wf_io::{Sink, Source, read_all};
 use wf_lines::Lines;
 use wf_report::{Body, Header, Report};
+use wf_run::{RunFault, hand_out, read_task};
 use wf_search::Cover;
 use wf_task::Task;
 

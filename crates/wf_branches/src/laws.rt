@@ -1,6 +1,7 @@
 //! Laws of runs over branches: that what they say is true, what all of them
 //! together come to, and what holds after each.
 
+ghost use Rattle.wf_branches.specs.SolvedReports.{SolvedReportsAreAccepted};
 ghost use Rattle.wf_branches.specs.Laws.{BranchAnswersAreTrue, BranchesCoverAllMaps, BranchProvingIsCounted, BranchRefutationsAreTrue, BranchSolvingIsCounted, JoiningIsCounted, JoinsAreAccepted, JoinsAreTrue, JoinsOfSearchesAreWhole, ListingBranchesIsCounted, PartAcceptancesAreTrue, PartCheckingIsCounted, PartsOfSearchesAreJoined, PartsOfSearchesJoinToTheWhole};
 
 /// Where no decision map lies in any branch of a task's question, no function
@@ -94,4 +95,11 @@ pub fn joins_of_searches_are_whole()
 /// more bytes than a text may have.
 pub fn parts_of_searches_are_joined()
     ensures { PartsOfSearchesAreJoined }
+{}
+
+/// What a search of a task writes in the full or the least form is accepted
+/// where it is within the limit of bytes, or memory runs out: with the
+/// outcome that the search had, and a map in the least form as the least one.
+pub fn solved_reports_are_accepted()
+    ensures { SolvedReportsAreAccepted }
 {}

@@ -13,8 +13,8 @@ use std::alloc::Global;
 use std::thread::Threads;
 use wf_check::ReportChecker;
 use wf_complex::Protocol;
-use wf_engine::{PartFault, RunFault};
 use wf_report::{Body, CertFault};
+use wf_run::{PartFault, RunFault};
 use wf_search::Cover;
 use wf_task::Task;
 

@@ -2,10 +2,10 @@
 
 ghost use Rattle.wf_io.specs.Ends.{CanRead};
 ghost use Rattle.wf_complex.specs.Protocol.{IsProtocol};
-ghost use Rattle.wf_engine.specs.Run.{answered};
-ghost use Rattle.wf_engine.specs.Verify.{CanVerify};
+ghost use Rattle.wf_run.specs.Run.{answered};
+ghost use Rattle.wf_verify_engine.specs.Verify.{CanVerify};
 ghost use Rattle.wf_branches.specs.Branches.{IsBranch};
-ghost use Rattle.wf_engine.specs.Sources.{AsksBoth, AsksWithin};
+ghost use Rattle.wf_run.specs.Sources.{AsksBoth, AsksWithin};
 ghost use Rattle.wf_branches.specs.Refuting.{ReadsBranchProof, ReadsProofIn, RefutesBranch};
 
 use crate::branch::{FoundBranch, branch_of};
@@ -13,9 +13,10 @@ use std::alloc::Global;
 use std::io::{Read, Write};
 use wf_cnf::pose_branch;
 use wf_complex::Protocol;
-use wf_engine::{RunFault, hand_out, read_proof_from, read_task};
 use wf_io::{Sink, Source};
+use wf_run::{RunFault, hand_out, read_task};
 use wf_task::Task;
+use wf_verify_engine::read_proof_from;
 
 /// Reads a task to its reader's end, and then a SAT solver's clausal proof to
 /// its own reader's end; checks each lemma by unit propagation over the formula

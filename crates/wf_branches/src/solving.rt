@@ -7,7 +7,7 @@ ghost use Rattle.wf_io.specs.Ends.{CanCount, CanRead};
 ghost use Rattle.wf_pool.specs.Answers.{IsAnswerAt};
 ghost use Rattle.wf_report.specs.Reports.{body_of};
 ghost use Rattle.wf_engine.specs.Heads.{IsHead};
-ghost use Rattle.wf_engine.specs.Run.{answered};
+ghost use Rattle.wf_run.specs.Run.{answered};
 ghost use Rattle.wf_engine.specs.Texts.{lines_kept};
 ghost use Rattle.wf_branches.specs.Branches.{AnswersBranch, AsksBranch};
 ghost use Rattle.wf_branches.specs.Solving.{IsSolvedIn, SolvesBranch, part_text};
@@ -15,13 +15,11 @@ ghost use Rattle.wf_branches.specs.Solving.{IsSolvedIn, SolvesBranch, part_text}
 use crate::branch::BranchIndex;
 use std::alloc::{AllocError, Global};
 use std::io::{Read, Write};
-use wf_engine::{
-    Form, Outcome, RunFault, body_of_map, hand_out, lines_kept, pose_problem, read_task,
-    report_text,
-};
+use wf_engine::{Form, Outcome, body_of_map, lines_kept, pose_problem, report_text};
 use wf_io::{Sink, Source};
 use wf_pool::{Answer, BranchAnswer, Gate, Open, solve_branch};
 use wf_report::{Body, Header};
+use wf_run::{RunFault, hand_out, read_task};
 use wf_task::Task;
 
 /// Reads a task to the reader's end and searches one branch of its question after some rounds: the

@@ -6,9 +6,9 @@ ghost use Rattle.wf_complex.specs.Protocol.{IsProtocol};
 ghost use Rattle.wf_report.specs.Reports.{AreNumbered, body_length, body_of, report_seen};
 ghost use Rattle.wf_check.specs.Within.{IsCheckerOf};
 ghost use Rattle.wf_set.specs.Sets.{box_of};
-ghost use Rattle.wf_engine.specs.Run.{answered};
-ghost use Rattle.wf_engine.specs.Sources.{AsksBoth, AsksWithin};
-ghost use Rattle.wf_engine.specs.Verify.{CanVerify, seen};
+ghost use Rattle.wf_run.specs.Run.{answered};
+ghost use Rattle.wf_run.specs.Sources.{AsksBoth, AsksWithin};
+ghost use Rattle.wf_verify_engine.specs.Verify.{CanVerify, seen};
 ghost use Rattle.wf_branches.specs.Branches.{IsBranch};
 ghost use Rattle.wf_branches.specs.Refuting.{ReadsIn};
 ghost use Rattle.wf_branches.specs.Verifying.{ChecksIn, ChecksPart, IsPartOf, JudgesPart, ReadsPart, VerifiesBranch, is_outside, lies_in};
@@ -19,11 +19,12 @@ use std::io::{Read, Write};
 use std::thread::Threads;
 use wf_check::ReportChecker;
 use wf_complex::Protocol;
-use wf_engine::{RunFault, accepted_words, hand_out, read_task};
 use wf_io::{Sink, Source, read_all};
 use wf_report::{Body, Report, read_report};
+use wf_run::{RunFault, hand_out, read_task};
 use wf_set::{Mask, holds};
 use wf_task::{LONGEST, Task};
+use wf_verify_engine::accepted_words;
 
 /// Reads a task to its reader's end, and then the part of an answer about one branch of its
 /// question after these rounds to its own reader's end; checks the part without a search; and

@@ -19,7 +19,8 @@ use Rattle.wf_pool.specs.Answers.{HasAccountOfMap, map_lines, refuting_lines}
 use Rattle.wf_engine.specs.declared.outcome.Outcome.TheVariants.{Map, Nothing}
 use Rattle.wf_lines.specs.declared.form.Form.{Form}
 use Rattle.wf_lines.specs.declared.form.Form.TheVariants.{Full, Verdict, Least}
-use Rattle.wf_engine.specs.Texts.{text_of_report, lines_kept, body_of_map, body_of_none, LeadsToMap, IsFound, IsAccountOf}
+use Rattle.wf_run.specs.Texts.{text_of_report}
+use Rattle.wf_engine.specs.Texts.{lines_kept, body_of_map, body_of_none, LeadsToMap, IsFound, IsAccountOf}
 
 -- what is shown of a map's lines is what was kept of them
 pub kept_shown : (form : Form) (m : List ℕ) (ls all : List Line) → ls ≡ map_lines (lines_kept form) all → body_of_map form m ls ≡ body_of_map form m all

@@ -5,8 +5,8 @@ use Rattle.wf_core.specs.declared.Account.{Account}
 use Rattle.wf_io.specs.Seen.{Writing}
 use Rattle.wf_lines.specs.declared.form.Form.{Form}
 use Rattle.wf_engine.specs.declared.outcome.Outcome.{Outcome}
-use Rattle.wf_engine.specs.declared.fault.RunFault.{RunFault}
-use Rattle.wf_engine.specs.Run.{Answers, Hands, Next}
+use Rattle.wf_run.specs.declared.fault.RunFault.{RunFault}
+use Rattle.wf_run.specs.Run.{Answers, Hands, Next}
 use Rattle.wf_engine.specs.Texts.{IsFound, IsSolved, outcome_of}
 use Rattle.wf_engine.specs.Laws.{SolvingIsFinding}
 

@@ -4,8 +4,8 @@ use Rattle.wf_model.specs.Task.{Task, IsTask}
 use Rattle.wf_model.specs.Problem.{Problem, problem_of}
 use Rattle.wf_report.specs.declared.report.Header.{Header}
 use Rattle.wf_report.specs.Reports.{IsHeaderOf}
-use Rattle.wf_engine.specs.Run.{HasComplex, IsBeyondLimits}
-use Rattle.wf_engine.specs.declared.fault.RunFault.{RunFault}
+use Rattle.wf_run.specs.Run.{HasComplex, IsBeyondLimits}
+use Rattle.wf_run.specs.declared.fault.RunFault.{RunFault}
 
 -- the header of the report about a task and its r rounds, whatever answer it has
 pub record IsHead (t : Task) (r : ℕ) (header : Header) : Type 0 where

@@ -1,4 +1,4 @@
--- The texts of the answers, and the runs that write them.
+-- What a search finds and writes, and the runs that write it.
 use Rattle.std.specs.Prelude.{◌≡◌, ◌+◌, ℕ, List, [], Result, Ok, Err, IfOk}
 use Rattle.wf_model.specs.Task.{Task}
 use Rattle.wf_model.specs.View.{View}
@@ -8,25 +8,19 @@ use Rattle.wf_model.specs.Box.{root}
 use Rattle.wf_model.specs.Closing.{canonical}
 use Rattle.wf_model.specs.Refutation.{Line, Tree, lines, Refutes}
 use Rattle.wf_model.specs.LeastTree.{IsLeastTree}
-use Rattle.wf_model.specs.Report.{Body, a_map, none, least, report_text, report_about}
-use Rattle.wf_model.specs.PointsText.{points_text}
+use Rattle.wf_model.specs.Report.{Body, a_map, none, least}
 use Rattle.wf_core.specs.declared.Account.{Account}
 use Rattle.wf_pool.specs.Answers.{HasAccountOfMap, HasAccountOfNone}
 use Rattle.wf_pool.specs.declared.answer.KeptLines.{KeptLines}
 use Rattle.wf_pool.specs.declared.answer.KeptLines.TheVariants as keep
 use Rattle.wf_io.specs.Seen.{Reading, Writing}
-use Rattle.wf_engine.specs.Run.{Asks, Ran}
-use Rattle.wf_engine.specs.declared.fault.RunFault.{RunFault}
+use Rattle.wf_run.specs.Run.{Asks, Ran}
+use Rattle.wf_run.specs.declared.fault.RunFault.{RunFault}
 use Rattle.wf_engine.specs.declared.outcome.Outcome.{Outcome}
 use Rattle.wf_engine.specs.declared.outcome.Outcome.TheVariants as outcome
 use Rattle.wf_lines.specs.declared.form.Form.{Form}
 use Rattle.wf_lines.specs.declared.form.Form.TheVariants as form
-
--- ---- deciding
-
--- the text of the report with this answer about a task and its r rounds
-unfoldable pub text_of_report : Task → ℕ → Body → List ℕ
-text_of_report t r body = report_text (report_about t r body)
+use Rattle.wf_run.specs.Texts.{text_of_report}
 
 -- The lines of the canonical search of the root. They are those of a tree that refutes it, and so
 -- no function on the views is a decision map.
@@ -100,18 +94,3 @@ outcome_of (Err e) = Err e
 
 abbrev pub SearchesInOrder : Result (Outcome × Account) RunFault → Type 0
 SearchesInOrder result = IfOk result IsInOrder
-
--- ---- listing
-
--- the points in words, without a map
-abbrev pub undecided_points : Task → ℕ → List ℕ
-undecided_points t r = points_text t r []
-
--- the text that a task and its r rounds have
-abbrev pub IsTextOf : (Task → ℕ → List ℕ) → Task → ℕ → Unit {0} → List ℕ → Type 0
-IsTextOf text_of t r answer text = text ≡ text_of t r
-
--- the points of the protocol complex of the source's task after r rounds were
--- listed, by such a text
-abbrev pub Lists : (Task → ℕ → List ℕ) → ℕ → Reading → Reading → Writing → Writing → Result (Unit {0}) RunFault → Type 0
-Lists text_of r source source' sink sink' result = Ran (Asks (IsTextOf text_of) r source source') sink sink' result

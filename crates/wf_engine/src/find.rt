@@ -3,13 +3,11 @@
 ghost use Rattle.std.specs.Prelude.{◌≡◌, ◌<◌, ◌≤◌};
 ghost use Rattle.wf_model.specs.Limits.{most_workers};
 ghost use Rattle.wf_io.specs.Ends.{CanCount, CanRead};
-ghost use Rattle.wf_engine.specs.Run.{Answers, Asks, answered};
+ghost use Rattle.wf_run.specs.Run.{Answers, Asks, answered};
 ghost use Rattle.wf_engine.specs.Texts.{Finds, IsFound, outcome_of};
 
-use crate::fault::RunFault;
 use crate::outcome::Outcome;
 use crate::solve::{lines_kept, pose_problem, run_solve, run_solve_watched, with_text};
-use crate::steps::{hand_out, read_task};
 use std::alloc::Global;
 use std::io::{Read, Write};
 use std::thread::Threads;
@@ -17,6 +15,7 @@ use wf_core::Account;
 use wf_io::{Sink, Source};
 use wf_lines::Form;
 use wf_pool::{Gate, Open, solve_root};
+use wf_run::{RunFault, hand_out, read_task};
 use wf_task::Task;
 
 /// The same as [`run_solve`] where nobody asks for an account: one worker searches the whole

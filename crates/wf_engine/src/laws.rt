@@ -1,52 +1,13 @@
-//! Laws of runs: that what they say is true, and what holds after each, whatever it answers.
+//! Laws of searches: that what they answer is true, and what holds after each, whatever it answers.
 
-ghost use Rattle.wf_engine.specs.Headline.{AcceptancesAreTrue, AnswersAreTrue, DecisionsAreTrue, ModelsAreTrue, ObstructionsAreTrue, RefutationsAreTrue};
-ghost use Rattle.wf_engine.specs.Laws.{AcceptedReportsAreVerified, DecidingIsCounted, FindingIsCounted, ListingIsCounted, ModellingIsCounted, ModelsAreAccepted, PresetsAreCounted, ProvingIsCounted, SolvedReportsAreAccepted, SolvingIsCounted, SolvingIsFinding, VerifyingCertificatesIsCounted, VerifyingIsCounted};
+ghost use Rattle.wf_engine.specs.Headline.{AnswersAreTrue};
+ghost use Rattle.wf_engine.specs.Laws.{FindingIsCounted, SolvingIsCounted, SolvingIsFinding};
 
 /// What a search writes is true: the source gave the bytes of a task, and the sink took the report
 /// of its least decision map over the points after so many rounds; or a report that there is none,
 /// and then no function on the views is a decision map.
 pub fn answers_are_true()
     ensures { AnswersAreTrue }
-{}
-
-/// What a check accepts is true: its sources gave the bytes of a task and the text of a report
-/// about it, and the report's map is a decision map, the least one where it says so; where it says
-/// that there is none, no function on the views is one.
-pub fn acceptances_are_true()
-    ensures { AcceptancesAreTrue }
-{}
-
-/// What is told to be decided is true: it is told of a report that a check
-/// would accept, and so its map is a decision map.
-pub fn decisions_are_true()
-    ensures { DecisionsAreTrue }
-{}
-
-/// What is reported of a SAT solver's model is true: the source of the task gave its bytes, and the
-/// sink took the report of a decision map, whatever the solver wrote.
-pub fn models_are_true()
-    ensures { ModelsAreTrue }
-{}
-
-/// What is accepted for a SAT solver's proof is true: the source of the task
-/// gave its bytes, no function on the views is a decision map, and the sink
-/// took the line that says so, whatever the proof's bytes are.
-pub fn refutations_are_true()
-    ensures { RefutationsAreTrue }
-{}
-
-/// What is accepted as an obstruction is true: the source of the task gave its bytes, and after
-/// every number of rounds no function on the views is a decision map, whatever the obstruction's
-/// bytes are.
-pub fn obstructions_are_true()
-    ensures { ObstructionsAreTrue }
-{}
-
-/// A certificate that is accepted as a report is a report that [`run_verify`](crate::run_verify)
-/// accepts, with the same answer and the same line.
-pub fn accepted_reports_are_verified()
-    ensures { AcceptedReportsAreVerified }
 {}
 
 /// A search takes at most one byte more than a text may have, tells each failed call, and writes
@@ -65,62 +26,4 @@ pub fn solving_is_finding()
 /// call, and writes nothing where it is refused for anything but a failed write.
 pub fn finding_is_counted()
     ensures { FindingIsCounted }
-{}
-
-/// A listing takes at most one byte more than a text may have, tells each failed call, and writes
-/// nothing where it is refused for anything but a failed write.
-pub fn listing_is_counted()
-    ensures { ListingIsCounted }
-{}
-
-/// A check takes at most one byte more than a text may have of each of its two sources, tells each
-/// failed call, and writes nothing where it is refused for anything but a failed write.
-pub fn verifying_is_counted()
-    ensures { VerifyingIsCounted }
-{}
-
-/// A check of a certificate takes at most one byte more than a text may have of each of its two
-/// sources, tells each failed call, and writes nothing if it is refused for anything but a failed
-/// write.
-pub fn verifying_certificates_is_counted()
-    ensures { VerifyingCertificatesIsCounted }
-{}
-
-/// A telling of decisions takes at most one byte more than a text may have of
-/// each of its two sources, tells each failed call, and writes nothing where
-/// it is refused for anything but a failed write.
-pub fn deciding_is_counted()
-    ensures { DecidingIsCounted }
-{}
-
-/// A report of a model takes at most one byte more than a text may have of each of its two sources,
-/// tells each failed call, and writes nothing where it is refused for anything but a failed write.
-pub fn modelling_is_counted()
-    ensures { ModellingIsCounted }
-{}
-
-/// A check of a proof takes at most one byte more than a text may have of the task's source, and
-/// one more than a proof may have of the proof's, tells each failed call, and writes nothing where
-/// it is refused for anything but a failed write.
-pub fn proving_is_counted()
-    ensures { ProvingIsCounted }
-{}
-
-/// The writing of a preset tells a failed write, tells no failed read, and writes nothing where it
-/// is refused for anything but a failed write.
-pub fn presets_are_counted()
-    ensures { PresetsAreCounted }
-{}
-
-/// What a search of a task writes in the full or the least form is accepted
-/// where it is within the limit of bytes, or memory runs out: with the
-/// outcome that the search had, and a map in the least form as the least one.
-pub fn solved_reports_are_accepted()
-    ensures { SolvedReportsAreAccepted }
-{}
-
-/// What is reported of a SAT solver's model is accepted as a map by a check that asks for the same
-/// rounds, where it is within the limit of bytes, or memory runs out.
-pub fn models_are_accepted()
-    ensures { ModelsAreAccepted }
 {}

@@ -8,13 +8,12 @@ ghost use Rattle.wf_lines.specs.Lines.{line_of};
 ghost use Rattle.wf_pool.specs.Answers.{HasAccount, IsAnswer};
 ghost use Rattle.wf_pool.specs.Answers as pool;
 ghost use Rattle.wf_report.specs.Reports.{body_of};
-ghost use Rattle.wf_engine.specs.Run.{Answers, Asks, answered};
+ghost use Rattle.wf_run.specs.Run.{Answers, Asks, answered};
 ghost use Rattle.wf_engine.specs.Heads.{IsHead, Poses};
-ghost use Rattle.wf_engine.specs.Texts.{IsAccountOf, IsFound, IsInOrder, IsSolved, SearchesInOrder, Solves, lines_kept, body_of_map, text_of_report};
+ghost use Rattle.wf_engine.specs.Texts.{IsAccountOf, IsFound, IsInOrder, IsSolved, SearchesInOrder, Solves, lines_kept, body_of_map};
+ghost use Rattle.wf_run.specs.Texts.{text_of_report};
 
-use crate::fault::RunFault;
 use crate::outcome::Outcome;
-use crate::steps::{hand_out, read_task};
 use std::alloc::{AllocError, Global};
 use std::io::{Read, Write};
 use std::thread::Threads;
@@ -26,6 +25,7 @@ use wf_io::{Sink, Source};
 use wf_lines::{Form, Lines};
 use wf_pool::{Answer, Gate, KeptLines, Open, solve, solve_one_watched};
 use wf_report::{Body, Header, Report};
+use wf_run::{RunFault, hand_out, read_task};
 use wf_task::Task;
 
 /// How branches are handed to workers.

@@ -4,12 +4,12 @@ use Rattle.wf_model.specs.Limits.{most_bytes}
 use Rattle.wf_model.specs.Task.{Task}
 use Rattle.wf_io.specs.Seen.{Reading, Writing}
 use Rattle.wf_io.specs.Texts.{Wrote}
-use Rattle.wf_engine.specs.declared.fault.RunFault.{RunFault}
-use Rattle.wf_engine.specs.declared.fault.RunFault.TheVariants as run
-use Rattle.wf_engine.specs.Headline.{GaveTask}
-use Rattle.wf_engine.specs.Run.{IsTaskOf, Next, Reads, by_result, failed_reads, failed_writes}
-use Rattle.wf_engine.proofs.Counts.{Told, few, handed, judged}
-use Rattle.wf_engine.proofs.Headline.{task_read}
+use Rattle.wf_run.specs.declared.fault.RunFault.{RunFault}
+use Rattle.wf_run.specs.declared.fault.RunFault.TheVariants as run
+use Rattle.wf_run.specs.Given.{GaveTask}
+use Rattle.wf_run.specs.Run.{IsTaskOf, Next, Reads, by_result, failed_reads, failed_writes}
+use Rattle.wf_run.proofs.Counts.{Told, few, handed, judged}
+use Rattle.wf_run.proofs.GivenTask.{task_read}
 use Rattle.wf_obstruction_engine.specs.declared.finding.Finding.{Finding}
 use Rattle.wf_obstruction_engine.specs.declared.finding.Finding.TheVariants.{Found, NotFound, GaveUp}
 use Rattle.wf_obstruction_engine.specs.declared.finding.GaveUp as gave_up

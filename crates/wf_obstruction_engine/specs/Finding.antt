@@ -5,10 +5,10 @@ use Rattle.wf_model.specs.Task.{Task, first_block}
 use Rattle.wf_io.specs.Seen.{Reading, Writing}
 use Rattle.wf_obstruction.specs.declared.fault.ObstructionFault.TheVariants.{FirstBlock}
 use Rattle.wf_obstruction_text.specs.Text.{Obstruction, obstruction_of}
-use Rattle.wf_engine.specs.Run.{Hands, IsTaskOf, Next, Reads}
-use Rattle.wf_engine.specs.Certificates.{IsSound}
-use Rattle.wf_engine.specs.declared.fault.RunFault.{RunFault}
-use Rattle.wf_engine.specs.declared.fault.RunFault.TheVariants as run
+use Rattle.wf_run.specs.Run.{Hands, IsTaskOf, Next, Reads}
+use Rattle.wf_verify_engine.specs.Certificates.{IsSound}
+use Rattle.wf_run.specs.declared.fault.RunFault.{RunFault}
+use Rattle.wf_run.specs.declared.fault.RunFault.TheVariants as run
 use Rattle.wf_obstruction_engine.specs.declared.finding.Finding.{Finding}
 use Rattle.wf_obstruction_engine.specs.declared.finding.Finding.TheVariants.{Found, NotFound, GaveUp}
 use Rattle.wf_obstruction_engine.specs.declared.finding.GaveUp as gave_up

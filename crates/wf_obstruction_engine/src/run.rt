@@ -2,19 +2,20 @@
 
 ghost use Rattle.std.specs.Prelude.{◌≡◌, OnOk};
 ghost use Rattle.wf_io.specs.Ends.{CanCount, CanRead};
-ghost use Rattle.wf_engine.specs.Run.{answered};
+ghost use Rattle.wf_run.specs.Run.{answered};
 ghost use Rattle.wf_obstruction_engine.specs.Finding.{Answers, FindsObstruction, IsAnswer, IsWritten, SeeksIn, is_tried};
 
 use crate::finding::{Finding, GaveUp, SearchLimit};
 use crate::search::{MODULI, Sought, Stopped, seek};
 use std::alloc::Global;
 use std::io::{Read, Write};
-use wf_engine::{RunFault, hand_out, judge_obstruction, obstruction_of, read_task};
 use wf_finder::Listener;
 use wf_io::{Sink, Source};
 use wf_obstruction::ObstructionFault;
 use wf_obstruction_text::{Obstruction, write_obstruction};
+use wf_run::{RunFault, hand_out, read_task};
 use wf_task::Task;
+use wf_verify_engine::{judge_obstruction, obstruction_of};
 
 /// Reads a task to the reader's end, and looks for an obstruction of the task: modulo a number if
 /// one is asked for, or else modulo each of [`MODULI`] up to the first that has one. Writes what is

@@ -13,15 +13,20 @@ use Rattle.wf_args.specs.declared.WordsFault.{WordsFault}
 use Rattle.wf_args.specs.declared.WordsFault.TheVariants as words
 use Rattle.wf_engine.specs.declared.outcome.Outcome.{Outcome}
 use Rattle.wf_engine.specs.declared.outcome.Outcome.TheVariants.{Map, Nothing}
-use Rattle.wf_engine.specs.declared.outcome.Verified.{Verified}
-use Rattle.wf_engine.specs.declared.fault.RunFault.{RunFault}
-use Rattle.wf_engine.specs.declared.fault.RunFault.TheVariants as run
-use Rattle.wf_engine.specs.Texts.{IsFound, IsSolved, IsTextOf, undecided_points}
-use Rattle.wf_engine.specs.Run.{failed_reads, failed_writes, by_result}
-use Rattle.wf_engine.specs.Proofs.{most_proof_bytes}
-use Rattle.wf_engine.specs.Laws.{IsChecked, IsCounted, IsWritten}
-use Rattle.wf_engine.specs.Verify.{AreDecisions}
-use Rattle.wf_engine.proofs.Lemmas.{certified, checked, counted, handed, modelled, preset_counted, proved}
+use Rattle.wf_verify_engine.specs.declared.outcome.Verified.{Verified}
+use Rattle.wf_run.specs.declared.fault.RunFault.{RunFault}
+use Rattle.wf_run.specs.declared.fault.RunFault.TheVariants as run
+use Rattle.wf_engine.specs.Texts.{IsFound, IsSolved}
+use Rattle.wf_run.specs.Texts.{IsTextOf, undecided_points}
+use Rattle.wf_run.specs.Run.{failed_reads, failed_writes, by_result}
+use Rattle.wf_verify_engine.specs.Proofs.{most_proof_bytes}
+use Rattle.wf_run.specs.Laws.{IsChecked, IsCounted, IsWritten}
+use Rattle.wf_verify_engine.specs.Verify.{AreDecisions}
+use Rattle.wf_verify_engine.proofs.CertificateCounts.{certified}
+use Rattle.wf_verify_engine.proofs.CheckCounts.{checked}
+use Rattle.wf_run.proofs.Counts.{counted, handed, preset_counted}
+use Rattle.wf_verify_engine.proofs.ModelCounts.{modelled}
+use Rattle.wf_verify_engine.proofs.ProofCounts.{proved}
 use Rattle.wf_formula.specs.Branches.{branch_text}
 use Rattle.wf_branches.specs.Branches.{IsBranchTextOf}
 use Rattle.wf_branches.specs.Listing.{branches_text}
@@ -31,9 +36,9 @@ use Rattle.wf_branches.proofs.CheckedParts.{part_checked}
 use Rattle.wf_branches.proofs.JoinedTruth.{joining_counted}
 use Rattle.wf_branches.specs.Joining.{most_parts_bytes}
 use Rattle.wf_argument.specs.Listing.{executions_text}
-use Rattle.wf_program.specs.Trimming.{AreTrimmed}
-use Rattle.wf_program.proofs.ExplainCounts.{explained_counted}
-use Rattle.wf_program.proofs.LiftCounts.{lifting_counted}
+use Rattle.wf_report_engine.specs.Trimming.{AreTrimmed}
+use Rattle.wf_report_engine.proofs.ExplainCounts.{explained_counted}
+use Rattle.wf_report_engine.proofs.LiftCounts.{lifting_counted}
 use Rattle.wf_obstruction_engine.specs.Laws.{IsSeekingCounted}
 use Rattle.wf_obstruction_engine.specs.declared.finding.Finding.{Finding}
 use Rattle.wf_obstruction_engine.specs.declared.finding.Finding.TheVariants as finding

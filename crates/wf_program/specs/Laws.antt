@@ -2,7 +2,7 @@
 use Rattle.std.specs.Prelude.{◌≡◌, ◌+◌, ◌*◌, ◌≤◌, ◌==◌, ◌⊎◌, ℕ, Option, Some, None, Result, Ok, if◌then◌else◌}
 use Rattle.wf_model.specs.Limits.{most_bytes}
 use Rattle.wf_io.specs.Seen.{Reading, Writing}
-use Rattle.wf_engine.specs.Proofs.{most_proof_bytes}
+use Rattle.wf_verify_engine.specs.Proofs.{most_proof_bytes}
 use Rattle.wf_branches.specs.Joining.{most_parts_bytes}
 use Rattle.wf_args.specs.declared.Job.{Job}
 use Rattle.wf_args.specs.declared.Job.TheVariants.{Verify, VerifyBranch, Decisions, Join, Model, Proof, Trim, Explain, Lift}

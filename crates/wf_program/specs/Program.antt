@@ -13,21 +13,22 @@ use Rattle.wf_io.specs.Ends.{CanCount, CanWrite}
 use Rattle.wf_io.specs.Texts.{Told, Tells}
 use Rattle.wf_engine.specs.declared.outcome.Outcome.{Outcome}
 use Rattle.wf_engine.specs.declared.outcome.Outcome.TheVariants.{Map, Nothing}
-use Rattle.wf_engine.specs.declared.outcome.Verified.{Verified}
-use Rattle.wf_engine.specs.declared.fault.RunFault.{RunFault}
-use Rattle.wf_engine.specs.declared.fault.RunFault.TheVariants as run
-use Rattle.wf_engine.specs.Faults.{fault_text}
-use Rattle.wf_engine.specs.Run.{Ran}
-use Rattle.wf_engine.specs.Texts.{Finds, Solves, Lists, SearchesInOrder, undecided_points}
-use Rattle.wf_engine.specs.Verify.{Decides}
-use Rattle.wf_engine.specs.Certificates.{VerifiesCertificate}
-use Rattle.wf_engine.specs.Models.{Models}
-use Rattle.wf_engine.specs.Proofs.{Refutes}
-use Rattle.wf_engine.specs.Presets.{WritesPreset}
+use Rattle.wf_verify_engine.specs.declared.outcome.Verified.{Verified}
+use Rattle.wf_run.specs.declared.fault.RunFault.{RunFault}
+use Rattle.wf_run.specs.declared.fault.RunFault.TheVariants as run
+use Rattle.wf_run.specs.Faults.{fault_text}
+use Rattle.wf_run.specs.Run.{Ran}
+use Rattle.wf_engine.specs.Texts.{Finds, Solves, SearchesInOrder}
+use Rattle.wf_run.specs.Texts.{Lists, undecided_points}
+use Rattle.wf_verify_engine.specs.Verify.{Decides}
+use Rattle.wf_verify_engine.specs.Certificates.{VerifiesCertificate}
+use Rattle.wf_verify_engine.specs.Models.{Models}
+use Rattle.wf_verify_engine.specs.Proofs.{Refutes}
+use Rattle.wf_run.specs.Presets.{WritesPreset}
 use Rattle.wf_argument.specs.Listing.{executions_text}
-use Rattle.wf_program.specs.Trimming.{Trims}
-use Rattle.wf_program.specs.Explaining.{Explains}
-use Rattle.wf_program.specs.Lifting.{Lifts}
+use Rattle.wf_report_engine.specs.Trimming.{Trims}
+use Rattle.wf_report_engine.specs.Explaining.{Explains}
+use Rattle.wf_report_engine.specs.Lifting.{Lifts}
 use Rattle.wf_formula.specs.Branches.{branch_text}
 use Rattle.wf_branches.specs.Branches.{ListsBranch}
 use Rattle.wf_branches.specs.Listing.{branches_text}

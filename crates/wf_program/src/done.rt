@@ -7,8 +7,10 @@ ghost use Rattle.wf_program.specs.Program.{note_line, outcome_status, searched, 
 use crate::refusal::Refusal;
 use std::fmt;
 use wf_core::Account;
-use wf_engine::{Outcome, RunFault, Verified};
+use wf_engine::Outcome;
 use wf_obstruction_engine::{Finding, Tried};
+use wf_run::RunFault;
+use wf_verify_engine::Verified;
 
 /// What was done: its exit status, and what is to be told on the error stream.
 #[derive(Clone, Copy, Debug)]

@@ -2,15 +2,15 @@
 
 ghost use Rattle.wf_io.specs.Ends.{CanCount, CanWrite};
 ghost use Rattle.wf_argument.specs.Listing.{executions_text};
-ghost use Rattle.wf_engine.specs.Run.{Answers, Ran};
-ghost use Rattle.wf_engine.specs.Texts.{IsTextOf, Lists};
+ghost use Rattle.wf_run.specs.Run.{Answers, Ran};
+ghost use Rattle.wf_run.specs.Texts.{IsTextOf, Lists};
 
 use std::alloc::Global;
 use std::io::{Read, Write};
 use wf_argument::{Executions, write_executions};
 use wf_complex::Protocol;
-use wf_engine::{RunFault, read_task};
 use wf_io::{Page, Sink, Source};
+use wf_run::{RunFault, read_task};
 use wf_task::Task;
 
 /// Reads a task to the reader's end and writes a line for each of its executions after some rounds:

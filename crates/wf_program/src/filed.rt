@@ -1,24 +1,23 @@
 //! What is done with the task in a file and with what the source gives about it.
 
 ghost use Rattle.std.specs.Prelude.{◌≡◌, option_map};
-ghost use Rattle.wf_engine.specs.Verify.{CanVerify};
+ghost use Rattle.wf_verify_engine.specs.Verify.{CanVerify};
 ghost use Rattle.wf_io.specs.Ends.{CanCount};
 ghost use Rattle.wf_program.specs.Files.{CanAsk};
 ghost use Rattle.wf_program.specs.Program.{DoesWithFile, WithFile, filed_of};
 
 use crate::done::{Done, after_verifying, after_writing};
-use crate::explain::run_explain;
 use crate::files::{Files, Opener};
-use crate::lift::run_lift;
 use crate::refusal::Refusal;
-use crate::trim::run_trim;
 use std::alloc::Global;
 use std::io::{Read, Write};
 use std::thread::Threads;
 use wf_args::Job;
 use wf_branches::{run_join, run_proof_branch, run_verify_branch};
-use wf_engine::{RunFault, run_decisions, run_model, run_proof, run_verify_certificate};
 use wf_io::{Sink, Source};
+use wf_report_engine::{run_explain, run_lift, run_trim};
+use wf_run::RunFault;
+use wf_verify_engine::{run_decisions, run_model, run_proof, run_verify_certificate};
 
 /// What a job does with the task in a file, and with what the source gives about it.
 #[derive(Clone, Copy)]

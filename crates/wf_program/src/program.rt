@@ -25,14 +25,12 @@ use std::thread::Threads;
 use wf_args::{Job, WordsFault, read_words};
 use wf_branches::{run_branches, run_cnf_branch, run_solve_branch, run_solve_branch_watched};
 use wf_core::Account;
-use wf_engine::{
-    Form, Outcome, RunFault, hand_out, run_cnf, run_find, run_find_watched, run_points, run_preset,
-    run_solve, run_solve_watched, run_views,
-};
+use wf_engine::{Form, Outcome, run_find, run_find_watched, run_solve, run_solve_watched};
 use wf_finder::{Listener, Silent};
 use wf_io::{Sink, Source};
 use wf_obstruction_engine::{Finding, run_obstruction};
 use wf_pool::Gate;
+use wf_run::{RunFault, hand_out, run_cnf, run_points, run_preset, run_views};
 
 /// Runs what the words ask for, the first of which is the program's own name, and answers the exit
 /// status. Where the words could not be had, that is the refusal.

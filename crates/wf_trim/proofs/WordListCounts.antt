@@ -5,7 +5,7 @@ use Rattle.std.proofs.lemmas.List.{drop_more}
 use Rattle.wf_model.specs.Simplex.{Simplex}
 use Rattle.wf_model.specs.Word.{words}
 use Rattle.wf_complex.specs.Layout.{turns, execution_total}
-use Rattle.wf_complex.proofs.LayoutLemmas.{words_some, turns-more, turns_here}
+use Rattle.wf_complex.proofs.LayoutLemmas.{words_some, turns_here}
 use Rattle.wf_trim.specs.declared.stretch.Stretch.{Stretch}
 use Rattle.wf_trim.specs.Stretches.{stretches}
 
@@ -36,14 +36,6 @@ turns_up m n i j some low =
     let on : i + (j - i) ≡ j = omega (arith, low) in
     let product : turns m n j ≡ turns m n i * turns m n (j - i) = ap (turns m n) (sym on) ∙ turns_add m n i (j - i) in
     omega (arith, product, mul-le-mul_left {m = 1} {n = turns m n (j - i)} (turns m n i) (turns_some m n (j - i) some))
-
-pub one_turn_more : (m n i count w : ℕ) → count ≡ turns m n i → w ≡ length (words m n) → count * w ≡ turns m n (i + 1)
-one_turn_more m n i count w is many =
-    let next : turns m n (i + 1) ≡ length (words m n) * turns m n i = turns-more m n i in
-    (λ j. is j * many j) ∙ turned (turns m n i) (length (words m n)) ∙ sym next
-  where
-    turned : (a b : ℕ) → a * b ≡ b * a
-    turned a b = grind arith
 
 -- the counts of one more simplex, where those of all are few
 pub record AreCounted (m r k i : ℕ) (inputs : List Simplex) (s : Simplex) : Type 0 where

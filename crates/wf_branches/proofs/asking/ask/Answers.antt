@@ -1,8 +1,8 @@
 use Rattle.std.proofs.Common.{ap, map, subst, ◌∙◌}
 use Rattle.wf_set.specs.Sets.{values_in}
 use Rattle.wf_formula.specs.Branches.{box_text, branch_text}
-use Rattle.wf_engine.specs.Run.{HasComplex}
-use Rattle.wf_engine.proofs.RunsInPieces.{beyond_build}
+use Rattle.wf_run.specs.Run.{HasComplex}
+use Rattle.wf_run.proofs.RunsInPieces.{beyond_build}
 use Rattle.wf_branches.specs.Branches.{HasBranch, IsNoBranch}
 use Rattle.wf_branches.proofs.BranchRuns.{beyond_branches, beyond_limits, broken, refused, text_is, written}
 use Rattle.wf_branches.proofs.asking.ask.Goals as goal

@@ -1,7 +1,7 @@
 use Rattle.std.proofs.Common.{◌≡◌, ◌∙◌, ◌<◌, ◌≤◌, [], Ok, sym, ap, length, subst, arith}
 use Rattle.wf_formula.specs.Branches.{branches}
 use Rattle.wf_report.specs.Reports.{body_of}
-use Rattle.wf_engine.specs.declared.fault.RunFault.TheVariants.{OutOfMemory}
+use Rattle.wf_run.specs.declared.fault.RunFault.TheVariants.{OutOfMemory}
 use Rattle.wf_branches.specs.Joining.{TakesPart}
 use Rattle.wf_branches.proofs.JoinSteps.{ended, finds_least, finds_map, forgotten, goes_on, longer, never_gathered, none_left, refuses, some_left, ungathered}
 use Rattle.wf_branches.proofs.joining.gather.Goals as goal

@@ -1,6 +1,6 @@
 use Rattle.std.proofs.Common.{[], length}
 use Rattle.wf_formula.specs.Branches.{branches}
-use Rattle.wf_engine.specs.declared.fault.RunFault.TheVariants.{OutOfMemory}
+use Rattle.wf_run.specs.declared.fault.RunFault.TheVariants.{OutOfMemory}
 use Rattle.wf_branches.proofs.JoinSteps.{never_gathered, unjoined}
 use Rattle.wf_branches.proofs.joining.join_text.Goals as goal
 

@@ -1,6 +1,6 @@
 use Rattle.std.proofs.Common.{Ok, Err, refl, subst}
 use Rattle.wf_report.specs.Reports.{report_seen}
-use Rattle.wf_engine.specs.declared.fault.RunFault.TheVariants.{OutOfMemory}
+use Rattle.wf_run.specs.declared.fault.RunFault.TheVariants.{OutOfMemory}
 use Rattle.wf_branches.specs.Verifying.{ChecksIn}
 use Rattle.wf_branches.proofs.JoinSteps.{no_body, no_report, same_part}
 use Rattle.wf_branches.proofs.parts.body_in.Goals as goal

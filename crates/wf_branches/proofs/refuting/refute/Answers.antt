@@ -3,7 +3,7 @@ use Rattle.wf_model.specs.Problem.{problem_of}
 use Rattle.wf_set.specs.Sets.{values_in}
 use Rattle.wf_formula.specs.Branches.{branch_question, formula_in}
 use Rattle.wf_rup.specs.Posed.{IsPosed}
-use Rattle.wf_engine.proofs.ProofsToLines.{refused, unposed, untold}
+use Rattle.wf_verify_engine.proofs.ProofsToLines.{refused, unposed, untold}
 use Rattle.wf_branches.specs.Refuting.{IsAcceptedBranch, accepted_text}
 use Rattle.wf_branches.proofs.BranchProofs.{told}
 use Rattle.wf_branches.proofs.refuting.refute.Goals as goal

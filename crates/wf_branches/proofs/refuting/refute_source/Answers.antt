@@ -1,5 +1,5 @@
-use Rattle.wf_engine.specs.Run.{answered}
-use Rattle.wf_engine.proofs.RunsInPieces.{asked, unasked}
+use Rattle.wf_run.specs.Run.{answered}
+use Rattle.wf_run.proofs.RunsInPieces.{asked, unasked}
 use Rattle.wf_branches.specs.Refuting.{ReadsProofIn}
 use Rattle.wf_branches.proofs.refuting.refute_source.Goals as goal
 

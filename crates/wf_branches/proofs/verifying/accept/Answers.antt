@@ -1,7 +1,7 @@
 use Rattle.std.proofs.Common.{ap, ◌∙◌, length}
 use Rattle.wf_formula.specs.Branches.{branches}
 use Rattle.wf_report.specs.Reports.{body_of}
-use Rattle.wf_engine.specs.Verify.{accepted_words}
+use Rattle.wf_verify_engine.specs.Verify.{accepted_words}
 use Rattle.wf_branches.specs.Refuting.{accepted_in}
 use Rattle.wf_branches.proofs.verifying.accept.Goals as goal
 

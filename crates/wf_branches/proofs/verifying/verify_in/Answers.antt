@@ -1,4 +1,4 @@
-use Rattle.wf_engine.specs.Run.{answered}
+use Rattle.wf_run.specs.Run.{answered}
 use Rattle.wf_branches.specs.Verifying.{ReadsPart}
 use Rattle.wf_branches.proofs.BranchProofs.{found_in, missing_in}
 use Rattle.wf_branches.proofs.verifying.verify_in.Goals as goal

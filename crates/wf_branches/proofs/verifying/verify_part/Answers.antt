@@ -1,5 +1,5 @@
 use Rattle.std.proofs.Common.{subst, Ok}
-use Rattle.wf_engine.specs.Run.{answered}
+use Rattle.wf_run.specs.Run.{answered}
 use Rattle.wf_branches.specs.Verifying.{JudgesPart}
 use Rattle.wf_branches.proofs.verifying.verify_part.Goals as goal
 

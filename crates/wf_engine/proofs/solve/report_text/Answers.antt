@@ -1,7 +1,7 @@
 use Rattle.std.proofs.Common.{◌≡◌, IfOk, subst}
 use Rattle.wf_model.specs.Report.{report_text}
 use Rattle.wf_report.specs.Reports.{body_of}
-use Rattle.wf_engine.specs.Texts.{text_of_report}
+use Rattle.wf_run.specs.Texts.{text_of_report}
 use Rattle.wf_engine.proofs.solve.report_text.Goals as goal
 
 pub returns : goal.returns

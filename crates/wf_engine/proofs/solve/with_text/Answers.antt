@@ -2,7 +2,8 @@ use Rattle.std.proofs.Common.{ap, subst, ◌∙◌, map}
 use Rattle.wf_model.specs.Problem.{problem_of}
 use Rattle.wf_lines.specs.Lines.{line_of}
 use Rattle.wf_pool.specs.Answers.{IsAnswer, HasAccount}
-use Rattle.wf_engine.specs.Texts.{text_of_report, lines_kept}
+use Rattle.wf_run.specs.Texts.{text_of_report}
+use Rattle.wf_engine.specs.Texts.{lines_kept}
 use Rattle.wf_engine.proofs.AnswersOfSearches.{map_account, map_verdict, none_verdict}
 use Rattle.wf_engine.proofs.solve.with_text.Goals as goal
 

@@ -1,7 +1,7 @@
 use Rattle.std.proofs.Common.{ap}
 use Rattle.wf_argument.specs.Listing.{executions_text}
-use Rattle.wf_engine.specs.Run.{HasComplex}
-use Rattle.wf_engine.proofs.RunsInPieces.{beyond_build, broken, refused, written}
+use Rattle.wf_run.specs.Run.{HasComplex}
+use Rattle.wf_run.proofs.RunsInPieces.{beyond_build, broken, refused, written}
 use Rattle.wf_program.proofs.executions.list.Goals as goal
 
 pub returns-in_err-protocol : goal.returns-in_err-protocol

@@ -1,6 +1,0 @@
-use Rattle.wf_engine.specs.Verify.{IsAccepted}
-use Rattle.wf_engine.proofs.CheckCounts.{checked}
-use Rattle.wf_engine.proofs.laws.verifying_is_counted.Goals as goal
-
-pub returns : goal.returns
-returns c rounds = checked rounds (IsAccepted rounds)

@@ -1,5 +1,0 @@
-use Rattle.wf_program.proofs.LiftCounts.{lifting_counted}
-use Rattle.wf_program.proofs.lift_laws.lifting_is_counted.Goals as goal
-
-pub returns : goal.returns
-returns c = lifting_counted

@@ -1,5 +1,0 @@
-use Rattle.wf_program.proofs.LiftTruth.{lifts_true}
-use Rattle.wf_program.proofs.lift_laws.lifts_are_true.Goals as goal
-
-pub returns : goal.returns
-returns c = lifts_true

@@ -1,0 +1,11 @@
+pub mod SomeOfLists
+pub mod TrimmedTexts
+pub mod ShorterReports
+pub mod FaultlessTexts
+pub mod TrimmedIsTrue
+pub mod ExplanationsAreTrue
+pub mod ExplainCounts
+pub mod ReadReports
+pub mod LiftSteps
+pub mod LiftTruth
+pub mod LiftCounts

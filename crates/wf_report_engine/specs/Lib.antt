@@ -1,0 +1,5 @@
+pub mod Trimming
+pub mod Trimmed
+pub mod Explaining
+pub mod Lifting
+pub mod LiftingLaws

@@ -1,0 +1,126 @@
+//! Writing a shorter report.
+
+ghost use Rattle.std.specs.Prelude.{◌≡◌, IfOk, map};
+ghost use Rattle.wf_io.specs.Ends.{CanRead};
+ghost use Rattle.wf_complex.specs.Protocol.{IsProtocol};
+ghost use Rattle.wf_lines.specs.Lines.{line_of};
+ghost use Rattle.wf_report.specs.Reports.{AreNumbered, body_length, report_seen};
+ghost use Rattle.wf_run.specs.Run.{answered};
+ghost use Rattle.wf_verify_engine.specs.Verify.{CanVerify, Checks, IsFaultless, IsVerified};
+ghost use Rattle.wf_report_engine.specs.Trimming.{AreTrimmed, IsShortened, Trims, report_with};
+
+use std::alloc::{AllocError, Global};
+use std::io::{Read, Write};
+use std::thread::Threads;
+use wf_check::check;
+use wf_complex::Protocol;
+use wf_io::{Sink, Source};
+use wf_lines::Lines;
+use wf_report::{Body, CertFault, Report};
+use wf_run::{RunFault, hand_out, read_task};
+use wf_task::Task;
+use wf_trim::trim;
+use wf_verify_engine::{check_report, read_report_from};
+
+/// Reads a task and a report about it, and checks the report, as
+/// [`run_verify`](wf_verify_engine::run_verify) does; then it writes a report about
+/// the same task and rounds with the same answer and some of the lines, which
+/// is accepted too: of a map the report that was read.
+pub fn run_trim<T: Threads + Sync, R: Read, C: Read, W: Write>(
+    rt: &T,
+    alloc: Global,
+    task_source: &mut Source<R>,
+    report_source: &mut Source<C>,
+    sink: &mut Sink<W>,
+) -> Result<(), RunFault>
+    requires { CanVerify task_source.old report_source.old sink.old }
+    ensures { Trims task_source.old task_source.new report_source.old report_source.new
+        sink.old sink.new result }
+{
+    let answer = trim_sources(rt, alloc, task_source, report_source);
+    hand_out(sink, answer)
+}
+
+/// The text of a shorter report than a source's about another source's task.
+fn trim_sources<T: Threads + Sync, R: Read, C: Read>(
+    rt: &T,
+    alloc: Global,
+    task_source: &mut Source<R>,
+    report_source: &mut Source<C>,
+) -> Result<((), Vec<u8>), RunFault>
+    requires task { CanRead task_source.old }
+    requires report { CanRead report_source.old }
+    ensures { Checks None AreTrimmed task_source.old task_source.new report_source.old
+        report_source.new (answered result) }
+{
+    let task = read_task(alloc, task_source)?;
+    let report = read_report_from(alloc, report_source)?;
+    trim_report(rt, alloc, &task, report)
+}
+
+/// The text of a shorter report about a task than this one.
+fn trim_report<T: Threads + Sync>(
+    rt: &T,
+    alloc: Global,
+    task: &Task,
+    report: Report,
+) -> Result<((), Vec<u8>), RunFault>
+    requires { AreNumbered (body_length report.body) }
+    ensures { IsVerified AreTrimmed task.now (report_seen report) (answered result) }
+{
+    let protocol = check_report(rt, alloc, task, &report)?;
+    let shorter = shortened(rt, alloc, task, &protocol, report)?;
+    Ok(((), shorter.into_text(alloc)?))
+}
+
+/// A report without a fault that has the same answer and some of the lines of one that has no fault
+/// either. Refused where memory runs out, and for nothing else.
+///
+/// The lines that are needed are checked in place of all, unless none was left out; where the
+/// checker finds a fault in them, all are put back.
+pub(crate) fn shortened<T: Threads + Sync>(
+    rt: &T,
+    alloc: Global,
+    task: &Task,
+    protocol: &Protocol,
+    report: Report,
+) -> Result<Report, AllocError>
+    requires built { IsProtocol task.now report.header.rounds protocol.now }
+    requires faultless { IsFaultless task.now (report_seen report) }
+    requires few { AreNumbered (body_length report.body) }
+    ensures shorter { IfOk result (λ shorter.
+        IsShortened task.now (report_seen report) (report_seen shorter)) }
+    ensures few { IfOk result (λ shorter. AreNumbered (body_length shorter.body)) }
+{
+    let lines = report.body.lines();
+    let kept = trim(alloc, task, protocol, lines)?;
+    if kept.len() == lines.len() {
+        return Ok(report);
+    }
+    let (shorter, lines) = exchange_lines(report, kept);
+    match check(rt, alloc, task, protocol, &shorter) {
+        Ok(()) => Ok(shorter),
+        Err(CertFault::OutOfMemory) => Err(AllocError),
+        Err(_) => {
+            let (whole, _) = exchange_lines(shorter, lines);
+            Ok(whole)
+        }
+    }
+}
+
+/// The report with these lines in place of its own, and its own lines, which put back give the
+/// report again. A map has none, and stays as it is.
+fn exchange_lines(report: Report, lines: Lines) -> (Report, Lines)
+    ensures report { let new = map line_of lines.items in
+        report_seen result.0 ≡ report_with (report_seen report) new }
+    ensures own { let own = map line_of result.1.items in
+        report_with (report_seen result.0) own ≡ report_seen report }
+{
+    let header = report.header;
+    let (body, own) = match report.body {
+        Body::Map(values) => (Body::Map(values), lines),
+        Body::Nothing(own) => (Body::Nothing(lines), own),
+        Body::Least(values, own) => (Body::Least(values, lines), own),
+    };
+    (Report { header, body }, own)
+}

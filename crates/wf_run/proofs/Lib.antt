@@ -1,0 +1,7 @@
+pub mod PointLists
+pub mod ToldLines
+pub mod RunsInPieces
+pub mod Counts
+pub mod GivenTask
+pub mod SourceCounts
+pub mod RunsOverTwoSources

@@ -1,0 +1,289 @@
+//! Why a run is refused.
+
+ghost use Rattle.std.specs.Prelude.{◌≡◌, Some};
+ghost use Rattle.wf_run.specs.Faults.{of_read, of_task, of_build, of_report_fault, of_model, of_proof, fault_text, model_text, obstruction_text, part_fault_text, printed_text, proof_text};
+ghost use Rattle.wf_run.specs.declared.fault.RunFault.TheVariants.{OutOfMemory, Write};
+
+use std::alloc::AllocError;
+use std::fmt;
+use wf_cnf::ModelFault;
+use wf_complex::BuildFault;
+use wf_io::{ReadFault, WriteFault};
+use wf_obstruction::ObstructionFault;
+use wf_report::CertFault;
+use wf_rup::ProofFault;
+use wf_task::TaskFault;
+
+/// Why a run is refused.
+#[derive(Clone, Copy, Debug, PartialEq, Eq)]
+pub enum RunFault {
+    /// 1: a text has too many bytes.
+    TooLong,
+    /// 2 to 14, 18: the text is no task.
+    Task(TaskFault),
+    /// 16, 17: there are too many rounds or executions.
+    Build(BuildFault),
+    /// 20 to 29, 34, 35: the text is no report, or the report is not accepted.
+    Cert(CertFault),
+    /// 37 to 39: the text says no model of the task's question.
+    Model(ModelFault),
+    /// 38 to 42: the text is no clausal proof that the task has no decision map.
+    Proof(ProofFault),
+    /// 36: the report is about other rounds than were asked for.
+    OtherRounds,
+    /// 43: the report is accepted, and has no map to be lifted.
+    NoMap,
+    /// 44: the task's question has so many branches, numbered from 0, and not
+    /// the one that was asked for.
+    NoBranch {
+        /// How many branches there are.
+        branches: u32,
+    },
+    /// 45: the text doesn't begin with the lines of a part about the branch that was asked for.
+    OtherPart,
+    /// 46: the map of a part is a decision map, and lies in another branch.
+    NotInBranch,
+    /// 47: what comes next in a text of parts is no part about the branch that is to come.
+    NoPart {
+        /// The number of that branch.
+        branch: u32,
+    },
+    /// 48: among the parts of all branches, this one is refused.
+    InPart {
+        /// The number of its branch.
+        branch: u32,
+        /// Why it is.
+        fault: PartFault,
+    },
+    /// 49: a text of parts goes on behind the parts of all branches.
+    TooManyParts {
+        /// How many branches there are.
+        branches: u32,
+    },
+    /// 50 to 59: the weighted tuples of an obstruction are none of the task's. A tuple is named by
+    /// its line.
+    Obstruction(ObstructionFault),
+    /// 15: memory ran out.
+    OutOfMemory,
+    /// 30: a call of the reader answered an error.
+    Read,
+    /// 31: a call of the writer answered an error, or took no byte.
+    Write,
+}
+
+/// Why a part about a branch is refused.
+#[derive(Clone, Copy, Debug, PartialEq, Eq)]
+pub enum PartFault {
+    /// 1, 20 to 29, 34, 35: its report is none, or it is not accepted about the branch.
+    Report(CertFault),
+    /// 46: its map is a decision map, and lies in another branch.
+    NotInBranch,
+}
+
+impl fmt::Display for PartFault {
+    ghost output = { λ f. Some (part_fault_text f) };
+
+    fn fmt<W: fmt::Write>(&self, f: &mut fmt::Formatter<W>) -> fmt::Result {
+        match self {
+            PartFault::Report(fault) => write!(f, "{fault}"),
+            PartFault::NotInBranch => write!(f, "46 NotInBranch"),
+        }
+    }
+}
+
+/// What is printed of a refusal: what another one says, or a name and the number behind it.
+enum Printed {
+    Task(TaskFault),
+    Build(BuildFault),
+    Cert(CertFault),
+    InPart(u32, PartFault),
+    Words(&'static str, Option<u64>),
+}
+
+impl RunFault {
+    /// What is printed of it.
+    fn printed(&self) -> Printed
+        ensures { printed_text result ≡ fault_text self.now }
+    {
+        match *self {
+            RunFault::Task(fault) => Printed::Task(fault),
+            RunFault::Build(fault) => Printed::Build(fault),
+            RunFault::Cert(fault) => Printed::Cert(fault),
+            RunFault::InPart { branch, fault } => Printed::InPart(branch, fault),
+            RunFault::Model(fault) => printed_model(fault),
+            RunFault::Proof(fault) => printed_proof(fault),
+            RunFault::Obstruction(fault) => printed_obstruction(fault),
+            RunFault::OtherRounds => Printed::Words("36 OtherRounds", None),
+            RunFault::NoMap => Printed::Words("43 NoMap", None),
+            RunFault::NoBranch { branches } => Printed::Words(
+                "44 NoBranch",
+                Some(u64::from(branches)),
+            ),
+            RunFault::OtherPart => Printed::Words("45 OtherPart", None),
+            RunFault::NotInBranch => Printed::Words("46 NotInBranch", None),
+            RunFault::NoPart { branch } => Printed::Words("47 NoPart", Some(u64::from(branch))),
+            RunFault::TooManyParts { branches } => Printed::Words(
+                "49 TooManyParts",
+                Some(u64::from(branches)),
+            ),
+            RunFault::TooLong => Printed::Task(TaskFault::TooLong),
+            RunFault::OutOfMemory => Printed::Task(TaskFault::OutOfMemory),
+            RunFault::Read => Printed::Words("30 Read", None),
+            RunFault::Write => Printed::Words("31 Write", None),
+        }
+    }
+}
+
+/// What is printed of a solver's text that gives no map.
+fn printed_model(fault: ModelFault) -> Printed
+    ensures { printed_text result ≡ model_text fault }
+{
+    match fault {
+        ModelFault::NoModel { line } => Printed::Words("37 NoModel", Some(u64::from(line))),
+        ModelFault::NotALiteral { line } => Printed::Words("38 NotALiteral", Some(u64::from(line))),
+        ModelFault::NoSuchVariable { line } => Printed::Words(
+            "39 NoSuchVariable",
+            Some(u64::from(line)),
+        ),
+        ModelFault::OutOfMemory => Printed::Task(TaskFault::OutOfMemory),
+    }
+}
+
+/// What is printed of a clausal proof that is not accepted.
+fn printed_proof(fault: ProofFault) -> Printed
+    ensures { printed_text result ≡ proof_text fault }
+{
+    match fault {
+        ProofFault::NotALiteral { line } => Printed::Words("38 NotALiteral", Some(line)),
+        ProofFault::NoSuchVariable { line } => Printed::Words("39 NoSuchVariable", Some(line)),
+        ProofFault::NotImplied { line } => Printed::Words("40 NotImplied", Some(line)),
+        ProofFault::NoContradiction { line } => Printed::Words("41 NoContradiction", Some(line)),
+        ProofFault::Binary => {
+            Printed::Words("42 Binary: ask the solver for text by --no-binary", None)
+        }
+        ProofFault::OutOfMemory => Printed::Task(TaskFault::OutOfMemory),
+    }
+}
+
+/// What is printed of weighted tuples that are no obstruction.
+fn printed_obstruction(fault: ObstructionFault) -> Printed
+    ensures { printed_text result ≡ obstruction_text fault }
+{
+    match fault {
+        ObstructionFault::FirstBlock => Printed::Words("50 FirstBlock", None),
+        ObstructionFault::SumRange => Printed::Words("51 SumRange", None),
+        ObstructionFault::NoSimplex { tuple } => Printed::Words("52 NoSimplex", Some(tuple)),
+        ObstructionFault::WeightRange { tuple } => Printed::Words("53 WeightRange", Some(tuple)),
+        ObstructionFault::TupleLength { tuple } => Printed::Words("54 TupleLength", Some(tuple)),
+        ObstructionFault::NoSuchValue { tuple } => Printed::Words("55 NoSuchValue", Some(tuple)),
+        ObstructionFault::Allowed { tuple } => Printed::Words("56 Allowed", Some(tuple)),
+        ObstructionFault::TooManyTerms => Printed::Words("57 TooManyTerms", None),
+        ObstructionFault::OtherSum => Printed::Words("58 OtherSum", None),
+        ObstructionFault::NotCancelled { simplex } => {
+            Printed::Words("59 NotCancelled", Some(simplex))
+        }
+        ObstructionFault::OutOfMemory => Printed::Task(TaskFault::OutOfMemory),
+    }
+}
+
+impl fmt::Display for RunFault {
+    ghost output = { λ f. Some (fault_text f) };
+
+    fn fmt<W: fmt::Write>(&self, f: &mut fmt::Formatter<W>) -> fmt::Result {
+        match self.printed() {
+            Printed::Task(fault) => write!(f, "{fault}"),
+            Printed::Build(fault) => write!(f, "{fault}"),
+            Printed::Cert(fault) => write!(f, "{fault}"),
+            Printed::InPart(branch, fault) => write!(f, "48 InPart {branch}: {fault}"),
+            Printed::Words(name, Some(number)) => write!(f, "{name} {number}"),
+            Printed::Words(name, None) => write!(f, "{name}"),
+        }
+    }
+}
+
+impl std::error::Error for RunFault {}
+
+impl From<ReadFault> for RunFault {
+    ghost from_gives = { λ x e. e ≡ of_read x };
+
+    fn from(fault: ReadFault) -> RunFault {
+        match fault {
+            ReadFault::TooLong => RunFault::TooLong,
+            ReadFault::OutOfMemory => RunFault::OutOfMemory,
+            ReadFault::Read => RunFault::Read,
+        }
+    }
+}
+
+impl From<TaskFault> for RunFault {
+    ghost from_gives = { λ x e. e ≡ of_task x };
+
+    fn from(fault: TaskFault) -> RunFault {
+        match fault {
+            TaskFault::TooLong => RunFault::TooLong,
+            TaskFault::OutOfMemory => RunFault::OutOfMemory,
+            fault => RunFault::Task(fault),
+        }
+    }
+}
+
+impl From<BuildFault> for RunFault {
+    ghost from_gives = { λ x e. e ≡ of_build x };
+
+    fn from(fault: BuildFault) -> RunFault {
+        match fault {
+            BuildFault::OutOfMemory => RunFault::OutOfMemory,
+            fault => RunFault::Build(fault),
+        }
+    }
+}
+
+impl From<CertFault> for RunFault {
+    ghost from_gives = { λ x e. e ≡ of_report_fault x };
+
+    fn from(fault: CertFault) -> RunFault {
+        match fault {
+            CertFault::TooLong => RunFault::TooLong,
+            CertFault::OutOfMemory => RunFault::OutOfMemory,
+            fault => RunFault::Cert(fault),
+        }
+    }
+}
+
+impl From<ModelFault> for RunFault {
+    ghost from_gives = { λ x e. e ≡ of_model x };
+
+    fn from(fault: ModelFault) -> RunFault {
+        match fault {
+            ModelFault::OutOfMemory => RunFault::OutOfMemory,
+            fault => RunFault::Model(fault),
+        }
+    }
+}
+
+impl From<ProofFault> for RunFault {
+    ghost from_gives = { λ x e. e ≡ of_proof x };
+
+    fn from(fault: ProofFault) -> RunFault {
+        match fault {
+            ProofFault::OutOfMemory => RunFault::OutOfMemory,
+            fault => RunFault::Proof(fault),
+        }
+    }
+}
+
+impl From<AllocError> for RunFault {
+    ghost from_gives = { λ _ e. e ≡ OutOfMemory };
+
+    fn from(_refused: AllocError) -> RunFault {
+        RunFault::OutOfMemory
+    }
+}
+
+impl From<WriteFault> for RunFault {
+    ghost from_gives = { λ _ e. e ≡ Write };
+
+    fn from(_failed: WriteFault) -> RunFault {
+        RunFault::Write
+    }
+}

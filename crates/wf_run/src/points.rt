@@ -1,0 +1,112 @@
+//! Telling the points of a protocol complex in words.
+
+ghost use Rattle.std.specs.Prelude.{◌≡◌, ◌++◌, ◌<◌, IfOk, OnOk, string_bytes, length, slice_get};
+ghost use Rattle.wf_model.specs.PointsText.{decision_text, point_text, points_text};
+ghost use Rattle.wf_io.specs.Ends.{CanCount, CanRead};
+ghost use Rattle.wf_complex.specs.Views.{view_at};
+ghost use Rattle.wf_complex.specs.Protocol.{IsProtocol};
+ghost use Rattle.wf_run.specs.Run.{Answers, Asks, answered};
+ghost use Rattle.wf_run.specs.Texts.{IsTextOf, Lists, undecided_points};
+
+use crate::fault::RunFault;
+use crate::steps::{hand_out, read_task};
+use std::alloc::{AllocError, Global};
+use std::fmt::Write as _;
+use std::io::{Read, Write};
+use wf_complex::{Protocol, put_view};
+use wf_io::{Sink, Source};
+use wf_task::Task;
+
+/// Reads a task to the reader's end and tells the points of its protocol complex after some rounds
+/// in words, a line for each: who saw what, down to the inputs.
+pub fn run_points<R: Read, W: Write>(
+    alloc: Global,
+    source: &mut Source<R>,
+    sink: &mut Sink<W>,
+    rounds: u32,
+) -> Result<(), RunFault>
+    requires { CanCount source.old sink.old }
+    ensures { Lists undecided_points rounds source.old source.new sink.old sink.new result }
+{
+    let answer = tell_source(alloc, source, rounds);
+    hand_out(sink, answer)
+}
+
+/// The points of a source's task in words.
+fn tell_source<R: Read>(
+    alloc: Global,
+    source: &mut Source<R>,
+    rounds: u32,
+) -> Result<((), Vec<u8>), RunFault>
+    requires { CanRead source.old }
+    ensures { Asks (IsTextOf undecided_points) rounds source.old source.new
+        (answered result) }
+{
+    let task = read_task(alloc, source)?;
+    tell_task(alloc, &task, rounds)
+}
+
+/// The points of a task in words.
+fn tell_task(alloc: Global, task: &Task, rounds: u32) -> Result<((), Vec<u8>), RunFault>
+    ensures { Answers (IsTextOf undecided_points) task.now rounds (answered result) }
+{
+    let protocol = Protocol::build(alloc, task, rounds)?;
+    Ok(((), write_points(alloc, task, &protocol, &[])?))
+}
+
+/// The text that tells the points of a protocol complex, each with the value
+/// that a map has there, if any.
+pub fn write_points(
+    alloc: Global,
+    task: &Task,
+    protocol: &Protocol,
+    map: &[u8],
+) -> Result<Vec<u8>, AllocError>
+    requires { IsProtocol task.now protocol.now.rounds protocol.now }
+    ensures { IfOk result
+        (λ text. text.items ≡ points_text task.now protocol.now.rounds map.now) }
+{
+    let mut text = String::new(alloc);
+    let ranks = task.symmetric();
+    for point in 0..protocol.points() {
+        put_point(&mut text, protocol, ranks, map, point)?;
+    }
+    Ok(text.into_bytes())
+}
+
+/// Adds the line of a point.
+fn put_point(
+    text: &mut String,
+    protocol: &Protocol,
+    ranks: bool,
+    map: &[u8],
+    point: u32,
+) -> Result<(), AllocError>
+    requires { point < length protocol.now.points }
+    ensures { OnOk result (string_bytes text.new ≡ string_bytes text.old
+        ++ point_text ranks map.now (point, view_at protocol.now.points point)) }
+{
+    write!(text, "{point} ")?;
+    put_view(text, protocol.views(), ranks, protocol.view_of(point))?;
+    put_decision(text, decision_at(map, point))?;
+    writeln!(text)?;
+    Ok(())
+}
+
+/// The value that a map has at a point, if any.
+fn decision_at(map: &[u8], point: u32) -> Option<u8>
+    ensures { result ≡ slice_get map.now point }
+{
+    map.get(point as usize).copied()
+}
+
+/// Adds the value that is decided, if there is one.
+fn put_decision(text: &mut String, decided: Option<u8>) -> Result<(), AllocError>
+    ensures { OnOk result (string_bytes text.new
+        ≡ string_bytes text.old ++ decision_text decided) }
+{
+    if let Some(value) = decided {
+        write!(text, " decides {value}")?;
+    }
+    Ok(())
+}

@@ -1,0 +1,140 @@
+//! Listing the points of a protocol complex.
+
+ghost use Rattle.std.specs.Prelude.{◌≡◌, ◌++◌, ◌∷◌, [], IfOk, OnOk, string_bytes, codes, length};
+ghost use Rattle.wf_model.specs.Execution.{executions};
+ghost use Rattle.wf_model.specs.Points.{points, last_view_count};
+ghost use Rattle.wf_model.specs.Report.{line};
+ghost use Rattle.wf_model.specs.ViewsText.{views_text};
+ghost use Rattle.wf_io.specs.Ends.{CanCount, CanRead};
+ghost use Rattle.wf_complex.specs.Protocol.{IsProtocol};
+ghost use Rattle.wf_run.specs.Run.{Answers, Asks, answered};
+ghost use Rattle.wf_run.specs.Texts.{IsTextOf, Lists};
+ghost use Rattle.wf_run.specs.Views.{header_text, appearances_text};
+
+use crate::fault::RunFault;
+use crate::steps::{hand_out, read_task};
+use std::alloc::{AllocError, Global};
+use std::fmt::Write as _;
+use std::io::{Read, Write};
+use wf_complex::Protocol;
+use wf_io::{Sink, Source};
+use wf_lines::{put_number, put_words};
+use wf_task::Task;
+
+/// Reads a task to the reader's end and writes the list of the points of its protocol complex after
+/// some rounds, each with the execution and the process in which it appears first.
+pub fn run_views<R: Read, W: Write>(
+    alloc: Global,
+    source: &mut Source<R>,
+    sink: &mut Sink<W>,
+    rounds: u32,
+) -> Result<(), RunFault>
+    requires { CanCount source.old sink.old }
+    ensures { Lists views_text rounds source.old source.new sink.old sink.new result }
+{
+    let answer = list_source(alloc, source, rounds);
+    hand_out(sink, answer)
+}
+
+/// The list of the points of a source's task.
+fn list_source<R: Read>(
+    alloc: Global,
+    source: &mut Source<R>,
+    rounds: u32,
+) -> Result<((), Vec<u8>), RunFault>
+    requires { CanRead source.old }
+    ensures { Asks (IsTextOf views_text) rounds source.old source.new (answered result) }
+{
+    let task = read_task(alloc, source)?;
+    list_task(alloc, &task, rounds)
+}
+
+/// The list of the points of a task.
+fn list_task(alloc: Global, task: &Task, rounds: u32) -> Result<((), Vec<u8>), RunFault>
+    ensures { Answers (IsTextOf views_text) task.now rounds (answered result) }
+{
+    let protocol = Protocol::build(alloc, task, rounds)?;
+    Ok(((), write_views(alloc, task, &protocol)?))
+}
+
+/// The text that lists the points of a protocol complex.
+fn write_views(alloc: Global, task: &Task, protocol: &Protocol) -> Result<Vec<u8>, AllocError>
+    requires { IsProtocol task.now protocol.now.rounds protocol.now }
+    ensures { IfOk result (λ text. text.items ≡ views_text task.now protocol.now.rounds) }
+{
+    let mut text = String::new(alloc);
+    PointsHeader::of(task, protocol).put(&mut text)?;
+    put_points(&mut text, protocol)?;
+    put_words(&mut text, "end")?;
+    Ok(text.into_bytes())
+}
+
+/// The numbers in the lines before those of the points.
+#[derive(Clone, Copy)]
+struct PointsHeader {
+    processes: u8,
+    rounds: u32,
+    simplices: u32,
+    views: u32,
+    points: u32,
+    executions: u32,
+}
+
+impl PointsHeader {
+    /// The numbers of a task and its protocol complex.
+    fn of(task: &Task, protocol: &Protocol) -> PointsHeader
+        requires { IsProtocol task.now protocol.now.rounds protocol.now }
+        ensures processes { result.processes ≡ task.now.processes }
+        ensures rounds { result.rounds ≡ protocol.now.rounds }
+        ensures simplices { result.simplices ≡ length task.now.delta }
+        ensures views { result.views ≡ last_view_count task.now protocol.now.rounds }
+        ensures points { result.points ≡ length (points task.now protocol.now.rounds) }
+        ensures executions { result.executions ≡ length (executions task.now protocol.now.rounds) }
+    {
+        PointsHeader {
+            processes: task.processes(),
+            rounds: protocol.rounds(),
+            simplices: task.inputs().simplices().len() as u32,
+            views: protocol.view_count(),
+            points: protocol.points(),
+            executions: protocol.executions(),
+        }
+    }
+
+    /// Adds the lines.
+    fn put(&self, text: &mut String) -> Result<(), AllocError>
+        ensures { OnOk result (string_bytes text.new
+            ≡ string_bytes text.old ++ header_text self.now) }
+    {
+        put_words(text, "wfcheck views 1")?;
+        put_number(text, "processes", self.processes as u32)?;
+        put_number(text, "rounds", self.rounds)?;
+        put_number(text, "simplices", self.simplices)?;
+        put_number(text, "views", self.views)?;
+        put_number(text, "points", self.points)?;
+        put_number(text, "executions", self.executions)?;
+        Ok(())
+    }
+}
+
+/// Adds a line for each point.
+fn put_points(text: &mut String, protocol: &Protocol) -> Result<(), AllocError>
+    requires { length protocol.now.firsts ≡ length protocol.now.points }
+    ensures { OnOk result (string_bytes text.new
+        ≡ string_bytes text.old ++ appearances_text 0 protocol.now.firsts) }
+{
+    for point in 0..protocol.points() {
+        let (execution, process) = protocol.first_of(point);
+        put_point(text, point, execution, process)?;
+    }
+    Ok(())
+}
+
+/// Adds the line of a point that appears first in this execution and process.
+fn put_point(text: &mut String, point: u32, execution: u32, process: u8) -> Result<(), AllocError>
+    ensures { OnOk result (string_bytes text.new
+        ≡ string_bytes text.old ++ line (codes "v") (point ∷ execution ∷ process ∷ [])) }
+{
+    writeln!(text, "v {point} {execution} {process}")?;
+    Ok(())
+}

@@ -1,0 +1,78 @@
+-- The counts of a run over a task and a certificate.
+use Rattle.std.proofs.Common.{◌≡◌, ℕ, List, Option, inl, inr, Result, Ok, Err, refl, sym, ap, ◌∙◌, arith}
+use Rattle.wf_model.specs.Limits.{most_bytes}
+use Rattle.wf_model.specs.Task.{Task}
+use Rattle.wf_io.specs.Seen.{Reading, Writing}
+use Rattle.wf_io.specs.Texts as io
+use Rattle.wf_io.specs.declared.source.ReadFault.{ReadFault}
+use Rattle.wf_io.specs.declared.source.ReadFault.TheVariants as read
+use Rattle.wf_obstruction_text.specs.Text.{Obstruction}
+use Rattle.wf_verify_engine.specs.declared.outcome.Accepted.{Accepted}
+use Rattle.wf_verify_engine.specs.declared.outcome.Verified.{Verified}
+use Rattle.wf_run.specs.declared.fault.RunFault.{RunFault}
+use Rattle.wf_run.specs.declared.fault.RunFault.TheVariants as run
+use Rattle.wf_run.specs.Run.{Judged, Next, by_result, failed_reads, failed_writes}
+use Rattle.wf_verify_engine.specs.Verify.{IsAccepted}
+use Rattle.wf_verify_engine.specs.Certificates.{ChecksCertificate, ChecksCertificateFor, IsObstructionOf, JudgesObstruction, VerifiesCertificate, as_verified}
+use Rattle.wf_run.specs.Laws.{IsChecked}
+use Rattle.wf_run.proofs.Counts.{few}
+use Rattle.wf_run.proofs.SourceCounts.{IsReportCounted, both_counted, left_alone}
+use Rattle.wf_verify_engine.proofs.CheckCounts.{judged_report, verified}
+
+-- a result that tells no failed call
+abbrev FailsNone : {X : Type 0} → Result X RunFault → Type 0
+FailsNone result = (0 ≡ by_result failed_reads result) × (by_result failed_writes result ≡ 0)
+
+module _ (rounds : Option ℕ) (t : Task) where
+  judged_obstruction : (o : Obstruction) (answer : Result (Verified × List ℕ) RunFault) → JudgesObstruction rounds t o answer → FailsNone answer
+  judged_obstruction o (Ok answer) judges = (refl, refl)
+  judged_obstruction o (Err run.Read) judges = absurd judges
+  judged_obstruction o (Err run.Write) judges = absurd judges
+  judged_obstruction o (Err e) judges = (refl, refl)
+
+  of_obstruction : (given : List ℕ) (o : Result Obstruction RunFault) (answer : Result (Verified × List ℕ) RunFault) → IsObstructionOf given o → Next (JudgesObstruction rounds t) o answer → FailsNone answer
+  of_obstruction given (Ok o) answer is next = judged_obstruction o answer next
+  of_obstruction given (Err run.Read) answer is next = absurd is
+  of_obstruction given (Err run.Write) answer is next = absurd is
+  of_obstruction given (Err e) answer is next = (sym (ap (by_result failed_reads) next), ap (by_result failed_writes) next)
+
+  reads_as_verified : (answer : Result (Accepted × List ℕ) RunFault) → by_result failed_reads (as_verified answer) ≡ by_result failed_reads answer
+  reads_as_verified (Ok answer) = refl
+  reads_as_verified (Err e) = refl
+
+  writes_as_verified : (answer : Result (Accepted × List ℕ) RunFault) → by_result failed_writes (as_verified answer) ≡ by_result failed_writes answer
+  writes_as_verified (Ok answer) = refl
+  writes_as_verified (Err e) = refl
+
+  of_certificate : (given : List ℕ) (answer : Result (Verified × List ℕ) RunFault) → ChecksCertificate rounds t given answer → FailsNone answer
+  of_certificate given answer (inl (begins, (o, is, next))) = of_obstruction given o answer is next
+  of_certificate given answer (inr (begins, (said, (r, is, next), same))) =
+      let a = judged_report (Ok given) r is in
+      let b = verified rounds (IsAccepted rounds) t r said next a.1 in
+      (a.0 ∙ b.0 ∙ sym (reads_as_verified said) ∙ sym (ap (by_result failed_reads) same), ap (by_result failed_writes) same ∙ writes_as_verified said ∙ b.1)
+
+  judged_certificate : (text : Result (List ℕ) ReadFault) (answer : Result (Verified × List ℕ) RunFault) → Judged (ChecksCertificate rounds t) text answer
+      → (io.failed_reads text ≡ by_result failed_reads answer) × (by_result failed_writes answer ≡ 0)
+  judged_certificate (Ok given) answer checks = of_certificate given answer checks
+  judged_certificate (Err read.TooLong) answer is = (sym (ap (by_result failed_reads) is), ap (by_result failed_writes) is)
+  judged_certificate (Err read.OutOfMemory) answer is = (sym (ap (by_result failed_reads) is), ap (by_result failed_writes) is)
+  judged_certificate (Err read.Read) answer is = (sym (ap (by_result failed_reads) is), ap (by_result failed_writes) is)
+
+certificate_counted : (rounds : Option ℕ) (source source' : Reading) (t : Result Task RunFault) (answer : Result (Verified × List ℕ) RunFault) → ChecksCertificateFor rounds source source' t answer
+    → by_result failed_writes t ≡ 0 → IsReportCounted most_bytes source source' t answer
+certificate_counted rounds source source' (Ok t) answer (text, (given, gave, is), checks) w =
+    let a = judged_certificate rounds t text answer checks in
+    let bound = few most_bytes given source'.left text is in
+    record {
+      taken = omega (arith, gave.taken, bound);
+      failed = io.failed_reads text;
+      failures = gave.failures;
+      reads = omega (arith, a.0);
+      writes = a.1;
+    }
+certificate_counted rounds source source' (Err e) answer (is, same) w = left_alone most_bytes source source' e answer is same w
+
+pub certified : (rounds : Option ℕ) (task task' source source' : Reading) (sink sink' : Writing) (result : Result Verified RunFault)
+    → VerifiesCertificate rounds task task' source source' sink sink' result → IsChecked most_bytes task task' source source' sink sink' result
+certified rounds task task' source source' sink sink' result (answer, (t, reads, checks), h) =
+    both_counted most_bytes task task' source source' sink sink' t answer result reads (certificate_counted rounds source source' t answer checks) h

@@ -1,0 +1,13 @@
+pub mod CheckCounts
+pub mod ProofBytes
+pub mod ProofsToLines
+pub mod ModelCounts
+pub mod ProofCounts
+pub mod WrittenReports
+pub mod WrittenIsAccepted
+pub mod ModelsToReports
+pub mod Headline
+pub mod CertificatesAreTrue
+pub mod CertificateCounts
+pub mod ModelsAreTrue
+pub mod RefutationsAreTrue

@@ -1,0 +1,12 @@
+use Rattle.wf_verify_engine.specs.Proofs.{ReadsProof}
+use Rattle.wf_run.specs.Run.{answered}
+use Rattle.wf_run.proofs.RunsInPieces.{asked, unasked}
+use Rattle.wf_verify_engine.proofs.proof.refute_source.Goals as goal
+
+pub returns-in_err-protocol : goal.returns-in_err-protocol
+returns-in_err-protocol g c =
+    unasked ReadsProof c.args.task.now c.args.rounds c.args.source.now c.in_err-protocol.field-0.0 c.from_residual.result c.in_err-protocol.ensures c.from_residual.ensures
+
+pub returns : goal.returns
+returns g c =
+    asked ReadsProof c.args.task.now c.args.rounds c.in_ok-protocol.protocol c.in_ok-protocol.ensures c.args.source.now c.refute.new.source (answered c.refute.result) c.refute.ensures

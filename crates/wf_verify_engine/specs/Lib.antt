@@ -1,0 +1,8 @@
+-- What is accepted and told, alone on a page.
+pub mod Headline
+-- What contracts say, here and in the crates above.
+pub mod Verify
+pub mod Certificates
+pub mod Models
+pub mod Proofs
+pub mod Laws

@@ -1,0 +1,125 @@
+//! Reporting the map of a model that a SAT solver found.
+
+ghost use Rattle.std.specs.Prelude.{◌≤◌, length};
+ghost use Rattle.wf_model.specs.Limits.{most_bytes};
+ghost use Rattle.wf_io.specs.Ends.{CanRead};
+ghost use Rattle.wf_complex.specs.Protocol.{IsProtocol};
+ghost use Rattle.wf_report.specs.Reports.{AreNumbered};
+ghost use Rattle.wf_run.specs.Run.{HasComplex, Reads, answered};
+ghost use Rattle.wf_verify_engine.specs.Verify.{CanVerify};
+ghost use Rattle.wf_verify_engine.specs.Models.{AsksMap, AsksModel, IsMapOf, Models, ReportsMap, map_read};
+
+use std::alloc::Global;
+use std::io::{Read, Write};
+use std::thread::Threads;
+use wf_check::check;
+use wf_cnf::read_map;
+use wf_complex::Protocol;
+use wf_io::{Sink, Source, read_all};
+use wf_report::{Body, Header, Report, write_report};
+use wf_run::{RunFault, hand_out, read_task};
+use wf_task::{LONGEST, Task};
+
+/// Reads a task to its reader's end, and then a SAT solver's output to its own reader's end; takes
+/// from the model in it at each point of the protocol complex after some rounds the least value
+/// whose variable is true; checks that map as [`run_verify`](crate::run_verify) checks that of a
+/// report; and writes the report of the map.
+///
+/// Too many rounds or executions are refused before the output is read. Nothing rests on the
+/// solver: what is written is accepted by the checker.
+pub fn run_model<T: Threads + Sync, R: Read, C: Read, W: Write>(
+    rt: &T,
+    alloc: Global,
+    task_source: &mut Source<R>,
+    model_source: &mut Source<C>,
+    sink: &mut Sink<W>,
+    rounds: u32,
+) -> Result<(), RunFault>
+    requires { CanVerify task_source.old model_source.old sink.old }
+    ensures { Models rounds task_source.old task_source.new model_source.old model_source.new
+        sink.old sink.new result }
+{
+    let answer = report_sources(rt, alloc, task_source, model_source, rounds);
+    hand_out(sink, answer)
+}
+
+/// The report of the map that a source's model gives for another source's task.
+fn report_sources<T: Threads + Sync, R: Read, C: Read>(
+    rt: &T,
+    alloc: Global,
+    task_source: &mut Source<R>,
+    model_source: &mut Source<C>,
+    rounds: u32,
+) -> Result<((), Vec<u8>), RunFault>
+    requires task { CanRead task_source.old }
+    requires model { CanRead model_source.old }
+    ensures { AsksModel rounds task_source.old task_source.new model_source.old model_source.new
+        (answered result) }
+{
+    let task = read_task(alloc, task_source)?;
+    report_source(rt, alloc, &task, model_source, rounds)
+}
+
+/// The report of the map that a source's model gives for a task.
+fn report_source<T: Threads + Sync, C: Read>(
+    rt: &T,
+    alloc: Global,
+    task: &Task,
+    source: &mut Source<C>,
+    rounds: u32,
+) -> Result<((), Vec<u8>), RunFault>
+    requires { CanRead source.old }
+    ensures { AsksMap rounds task.now source.old source.new (answered result) }
+{
+    let protocol = Protocol::build(alloc, task, rounds)?;
+    let map = read_model(alloc, task, &protocol, source)?;
+    report_map(rt, alloc, task, &protocol, map)
+}
+
+/// The map that a source's model gives.
+fn read_model<C: Read>(
+    alloc: Global,
+    task: &Task,
+    protocol: &Protocol,
+    source: &mut Source<C>,
+) -> Result<Vec<u8>, RunFault>
+    requires source { CanRead source.old }
+    requires protocol { IsProtocol task.now protocol.now.rounds protocol.now }
+    ensures { Reads (IsMapOf task.now protocol.now.rounds) source.old source.new
+        (map_read result) }
+{
+    let text = read_all(alloc, source, LONGEST)?;
+    map_of(alloc, task, protocol, &text)
+}
+
+/// The map that the model in a text gives.
+fn map_of(alloc: Global, task: &Task, protocol: &Protocol, text: &[u8]) -> Result<Vec<u8>, RunFault>
+    requires protocol { IsProtocol task.now protocol.now.rounds protocol.now }
+    requires short { length text.now ≤ most_bytes }
+    ensures { IsMapOf task.now protocol.now.rounds text.now (map_read result) }
+{
+    Ok(read_map(alloc, task, protocol, text)?)
+}
+
+/// The text of the report of a map about a task and its protocol complex,
+/// where the checker finds no fault in it.
+fn report_map<T: Threads + Sync>(
+    rt: &T,
+    alloc: Global,
+    task: &Task,
+    protocol: &Protocol,
+    map: Vec<u8>,
+) -> Result<((), Vec<u8>), RunFault>
+    requires complex { HasComplex task.now protocol.now.rounds }
+    requires protocol { IsProtocol task.now protocol.now.rounds protocol.now }
+    requires few { AreNumbered (length map.items) }
+    ensures { ReportsMap task.now protocol.now.rounds map.items (answered result) }
+{
+    let header = Header::about(task, protocol);
+    let report = Report {
+        header,
+        body: Body::Map(map),
+    };
+    check(rt, alloc, task, protocol, &report)?;
+    Ok(((), write_report(alloc, &report)?))
+}

@@ -1,0 +1,145 @@
+//! Checking a SAT solver's clausal proof that the question of a task has no model.
+
+ghost use Rattle.std.specs.Prelude.{◌<◌, length};
+ghost use Rattle.wf_io.specs.Ends.{CanRead};
+ghost use Rattle.wf_complex.specs.Protocol.{IsProtocol};
+ghost use Rattle.wf_rup.specs.Seen.{HasNoModel};
+ghost use Rattle.wf_run.specs.Run.{answered};
+ghost use Rattle.wf_verify_engine.specs.Verify.{CanVerify};
+ghost use Rattle.wf_verify_engine.specs.Proofs.{AsksProof, AsksRefutation, ReadsAsProof, ReadsProof, Refutes};
+
+use crate::verify::accepted_text;
+use std::alloc::Global;
+use std::io::{Read, Write};
+use wf_cnf::pose;
+use wf_complex::Protocol;
+use wf_io::{Sink, Source};
+use wf_report::Body;
+use wf_run::{RunFault, hand_out, read_task};
+use wf_rup::{Checker, Proof};
+use wf_task::Task;
+
+/// The most bytes of a proof.
+pub const MOST_PROOF_BYTES: u64 = 1 << 62;
+
+/// how many bytes of a proof are asked for at once
+const PIECE: usize = 65_536;
+
+/// Reads a task to its reader's end, and then a SAT solver's clausal proof to its own reader's end;
+/// checks each lemma by unit propagation over the formula of the task and these rounds, which is
+/// made here; and writes that no decision map is accepted. Where that is written, no function on
+/// the views is a decision map, whatever the proof's bytes are.
+///
+/// The proof is read in pieces and may be longer than memory. Too many rounds or executions are
+/// refused before it is read, and more than [`MOST_PROOF_BYTES`] once that many were.
+pub fn run_proof<R: Read, C: Read, W: Write>(
+    alloc: Global,
+    task_source: &mut Source<R>,
+    proof_source: &mut Source<C>,
+    sink: &mut Sink<W>,
+    rounds: u32,
+) -> Result<(), RunFault>
+    requires { CanVerify task_source.old proof_source.old sink.old }
+    ensures { Refutes rounds task_source.old task_source.new proof_source.old proof_source.new
+        sink.old sink.new result }
+{
+    let answer = refute_sources(alloc, task_source, proof_source, rounds);
+    hand_out(sink, answer)
+}
+
+/// The line that no decision map is accepted, where a source's proof shows
+/// that another source's task has none.
+fn refute_sources<R: Read, C: Read>(
+    alloc: Global,
+    task_source: &mut Source<R>,
+    proof_source: &mut Source<C>,
+    rounds: u32,
+) -> Result<((), Vec<u8>), RunFault>
+    requires task { CanRead task_source.old }
+    requires proof { CanRead proof_source.old }
+    ensures { AsksRefutation rounds task_source.old task_source.new
+        proof_source.old proof_source.new (answered result) }
+{
+    let task = read_task(alloc, task_source)?;
+    refute_source(alloc, &task, proof_source, rounds)
+}
+
+/// The line that no decision map is accepted, where a source's proof shows that a task has none.
+fn refute_source<C: Read>(
+    alloc: Global,
+    task: &Task,
+    source: &mut Source<C>,
+    rounds: u32,
+) -> Result<((), Vec<u8>), RunFault>
+    requires { CanRead source.old }
+    ensures { AsksProof rounds task.now source.old source.new (answered result) }
+{
+    let protocol = Protocol::build(alloc, task, rounds)?;
+    refute(alloc, task, &protocol, source)
+}
+
+/// The line that no decision map is accepted, where a source's proof shows that there is none on a
+/// task's protocol complex.
+fn refute<C: Read>(
+    alloc: Global,
+    task: &Task,
+    protocol: &Protocol,
+    source: &mut Source<C>,
+) -> Result<((), Vec<u8>), RunFault>
+    requires source { CanRead source.old }
+    requires protocol { IsProtocol task.now protocol.now.rounds protocol.now }
+    ensures { ReadsProof task.now protocol.now.rounds source.old source.new (answered result) }
+{
+    let checker = pose(alloc, task, protocol)?;
+    read_proof_from(alloc, source, checker)?;
+    let text = accepted_text(
+        alloc,
+        &Body::Nothing(Vec::new(alloc)),
+        Some(protocol.rounds()),
+    )?;
+    Ok(((), text.into_bytes()))
+}
+
+/// Reads a source to its end as a proof that what a checker knows has no model, as the last step of
+/// a run over a proof. It is refused where its bytes are no such proof, with its first fault:
+/// `38 NotALiteral` to `42 Binary`; and `1 TooLong`, `30 Read`.
+pub fn read_proof_from<C: Read>(
+    alloc: Global,
+    source: &mut Source<C>,
+    checker: Checker,
+) -> Result<(), RunFault>
+    requires { CanRead source.old }
+    ensures { ReadsAsProof checker (λ accepted. HasNoModel checker)
+        source.old source.new result }
+{
+    let mut piece = vec![in alloc; 0u8; PIECE]?;
+    read_pieces(alloc, source, checker, &mut piece)
+}
+
+/// The same, with the room for a piece.
+fn read_pieces<C: Read>(
+    alloc: Global,
+    source: &mut Source<C>,
+    mut checker: Checker,
+    piece: &mut [u8],
+) -> Result<(), RunFault>
+    requires source { CanRead source.old }
+    requires piece { 0 < length piece.old }
+    ensures { ReadsAsProof checker (λ accepted. HasNoModel checker)
+        source.old source.new result }
+{
+    let mut proof = Proof::new(alloc, checker.variables());
+    let mut given = 0;
+    'pieces: while given <= MOST_PROOF_BYTES {
+        let room = (MOST_PROOF_BYTES + 1 - given).min(piece.len() as u64) as usize;
+        match source.read(&mut piece[..room]) {
+            Ok(0) => return Ok(proof.finish(alloc, &mut checker)?),
+            Ok(n) => {
+                given += n as u64;
+                proof.feed(alloc, &mut checker, &piece[..n])?;
+            }
+            Err(_) => return Err(RunFault::Read),
+        }
+    }
+    Err(RunFault::TooLong)
+}

@@ -1,0 +1,185 @@
+//! Checking a report about a task.
+
+ghost use Rattle.std.specs.Prelude.{◌≡◌, IfOk, string_bytes};
+ghost use Rattle.wf_io.specs.Ends.{CanRead};
+ghost use Rattle.wf_report.specs.Reports.{AreNumbered, body_length, body_of, report_seen};
+ghost use Rattle.wf_run.specs.Run.{Reads, answered};
+ghost use Rattle.wf_verify_engine.specs.Verify.{CanVerify, Checks, ChecksText, IsAccepted, IsReportOf, IsVerified, IsVerifiedFor, Judges, Verifies, accepted_text, accepted_words, accepted_of, seen};
+
+use crate::outcome::Accepted;
+use std::alloc::{AllocError, Global};
+use std::io::{Read, Write};
+use std::thread::Threads;
+use wf_check::check;
+use wf_complex::Protocol;
+use wf_io::{Sink, Source, read_all};
+use wf_report::{Body, Report, read_report};
+use wf_run::{RunFault, hand_out, read_task};
+use wf_task::{LONGEST, Task};
+
+/// Reads a task to its reader's end, then a report about it to its own reader's end, checks the
+/// report on the protocol complex for the report's rounds, and writes what is accepted. Where
+/// rounds are asked for, a report for others is refused before the complex is built, and what is
+/// written tells the rounds.
+///
+/// The relation names the search nowhere: where a map is accepted, it is a decision map, and the
+/// least one where its lines are accepted too; and where none is, no function on the views is one.
+pub fn run_verify<T: Threads + Sync, R: Read, C: Read, W: Write>(
+    rt: &T,
+    alloc: Global,
+    task_source: &mut Source<R>,
+    report_source: &mut Source<C>,
+    sink: &mut Sink<W>,
+    rounds: Option<u32>,
+) -> Result<Accepted, RunFault>
+    requires { CanVerify task_source.old report_source.old sink.old }
+    ensures { Verifies rounds task_source.old task_source.new report_source.old report_source.new
+        sink.old sink.new result }
+{
+    let answer = verify_sources(rt, alloc, task_source, report_source, rounds);
+    hand_out(sink, answer)
+}
+
+/// What is accepted of two sources, with its text.
+fn verify_sources<T: Threads + Sync, R: Read, C: Read>(
+    rt: &T,
+    alloc: Global,
+    task_source: &mut Source<R>,
+    report_source: &mut Source<C>,
+    rounds: Option<u32>,
+) -> Result<(Accepted, Vec<u8>), RunFault>
+    requires task { CanRead task_source.old }
+    requires report { CanRead report_source.old }
+    ensures { Checks rounds (IsAccepted rounds) task_source.old task_source.new
+        report_source.old report_source.new (answered result) }
+{
+    let task = read_task(alloc, task_source)?;
+    let report = read_report_from(alloc, report_source)?;
+    verify(rt, alloc, &task, &report, rounds)
+}
+
+/// Reads a report to its reader's end, as the first step of a run over a report. It is refused
+/// where its text is none: `1 TooLong`, `20 Syntax`, `30 Read`.
+pub fn read_report_from<C: Read>(alloc: Global, source: &mut Source<C>) -> Result<Report, RunFault>
+    requires { CanRead source.old }
+    ensures read { Reads IsReportOf source.old source.new (seen result) }
+    ensures few { IfOk result (λ report. AreNumbered (body_length report.body)) }
+{
+    let text = read_all(alloc, source, LONGEST)?;
+    report_of(alloc, &text)
+}
+
+/// The report of a text. It is refused if its text is none: `1 TooLong`, `20 Syntax`.
+pub fn report_of(alloc: Global, text: &[u8]) -> Result<Report, RunFault>
+    ensures read { IsReportOf text.now (seen result) }
+    ensures few { IfOk result (λ report. AreNumbered (body_length report.body)) }
+{
+    Ok(read_report(alloc, text)?)
+}
+
+/// What is accepted of a report's text about a task, with the text that says so.
+pub(crate) fn check_text<T: Threads + Sync>(
+    rt: &T,
+    alloc: Global,
+    task: &Task,
+    text: &[u8],
+    rounds: Option<u32>,
+) -> Result<(Accepted, Vec<u8>), RunFault>
+    ensures { ChecksText rounds task.now text.now (answered result) }
+{
+    let report = report_of(alloc, text)?;
+    verify(rt, alloc, task, &report, rounds)
+}
+
+/// What is accepted of a report about a task, with its text. Where rounds are
+/// asked for, a report for others is refused.
+fn verify<T: Threads + Sync>(
+    rt: &T,
+    alloc: Global,
+    task: &Task,
+    report: &Report,
+    rounds: Option<u32>,
+) -> Result<(Accepted, Vec<u8>), RunFault>
+    requires { AreNumbered (body_length report.now.body) }
+    ensures { IsVerifiedFor rounds (IsAccepted rounds) task.now (report_seen report.now)
+        (answered result) }
+{
+    match rounds {
+        Some(asked) if asked != report.header.rounds => Err(RunFault::OtherRounds),
+        _ => accept(rt, alloc, task, report, rounds),
+    }
+}
+
+/// What is accepted of a report about a task, with its text, which tells the
+/// rounds where they were asked for.
+fn accept<T: Threads + Sync>(
+    rt: &T,
+    alloc: Global,
+    task: &Task,
+    report: &Report,
+    rounds: Option<u32>,
+) -> Result<(Accepted, Vec<u8>), RunFault>
+    requires { AreNumbered (body_length report.now.body) }
+    ensures { IsVerified (IsAccepted rounds) task.now (report_seen report.now) (answered result) }
+{
+    let _protocol = check_report(rt, alloc, task, report)?;
+    let text = accepted_text(alloc, &report.body, rounds)?;
+    Ok((accepted_of(&report.body), text.into_bytes()))
+}
+
+/// The protocol complex for the rounds of a report about a task, where the
+/// checker finds no fault in it: so the report is true. The refusals are
+/// those of [`run_verify`] that come after both texts were read.
+pub fn check_report<T: Threads + Sync>(
+    rt: &T,
+    alloc: Global,
+    task: &Task,
+    report: &Report,
+) -> Result<Protocol, RunFault>
+    requires { AreNumbered (body_length report.now.body) }
+    ensures { Judges task.now (report_seen report.now) result }
+{
+    let protocol = Protocol::build(alloc, task, report.header.rounds)?;
+    check(rt, alloc, task, &protocol, report)?;
+    Ok(protocol)
+}
+
+/// What a report with this answer says.
+fn accepted_of(body: &Body) -> Accepted
+    ensures { result ≡ accepted_of (body_of body.now) }
+{
+    match body {
+        Body::Map(_) => Accepted::Map,
+        Body::Nothing(_) => Accepted::Nothing,
+        Body::Least(_, _) => Accepted::Least,
+    }
+}
+
+/// The words that tell that a report with this answer is accepted.
+pub fn accepted_words(body: &Body) -> &'static str
+    ensures { result.now ≡ accepted_words (body_of body.now) }
+{
+    match body {
+        Body::Map(_) => "accepted map",
+        Body::Nothing(_) => "accepted none",
+        Body::Least(_, _) => "accepted least",
+    }
+}
+
+/// The line that tells that a report with this answer is accepted, and for
+/// how many rounds, where these were asked for.
+pub(crate) fn accepted_text(
+    alloc: Global,
+    body: &Body,
+    rounds: Option<u32>,
+) -> Result<String, AllocError>
+    ensures { IfOk result
+        (λ text. string_bytes text ≡ accepted_text rounds (body_of body.now)) }
+{
+    let words = accepted_words(body);
+    match rounds {
+        None => format!(in alloc; "{words}\n"),
+        Some(1) => format!(in alloc; "{words} at 1 round\n"),
+        Some(rounds) => format!(in alloc; "{words} at {rounds} rounds\n"),
+    }
+}
