@@ -5,8 +5,7 @@ ghost use Rattle.wf_io.specs.Ends.{CanRead};
 ghost use Rattle.wf_complex.specs.Protocol.{Builds, IsProtocol};
 ghost use Rattle.wf_report.specs.Reports.{body_length, body_of};
 ghost use Rattle.wf_run.specs.Run.{answered};
-ghost use Rattle.wf_run.specs.Sources.{AsksBoth, AsksWithin};
-ghost use Rattle.wf_verify_engine.specs.Verify.{CanVerify};
+ghost use Rattle.wf_run.specs.Sources.{CanReadBoth};
 ghost use Rattle.wf_branches.specs.Branches.{IsCoverOf};
 ghost use Rattle.wf_branches.specs.Joining.{AcceptsJoined, GathersAll, HasListsFor, Joins, JoinsText, ReadsParts, gathered_of, gathered_seen, joined_body};
 
@@ -20,7 +19,7 @@ use wf_complex::Protocol;
 use wf_io::{Sink, Source, read_all};
 use wf_lines::Lines;
 use wf_report::{Body, Header, Report};
-use wf_run::{RunFault, hand_out, read_task};
+use wf_run::{RunFault, SecondText, run_over_both};
 use wf_search::Cover;
 use wf_task::Task;
 
@@ -47,60 +46,39 @@ pub fn run_join<T: Threads + Sync, R: Read, C: Read, W: Write>(
     sink: &mut Sink<W>,
     rounds: u32,
 ) -> Result<(), RunFault>
-    requires { CanVerify task_source.old parts_source.old sink.old }
+    requires { CanReadBoth task_source.old parts_source.old sink.old }
     ensures { Joins rounds task_source.old task_source.new parts_source.old parts_source.new
         sink.old sink.new result }
 {
-    let answer = join_sources(rt, alloc, task_source, parts_source, rounds);
-    hand_out(sink, answer)
+    run_over_both(
+        alloc,
+        task_source,
+        parts_source,
+        sink,
+        rounds,
+        &WholeOfParts { rt },
+    )
 }
 
-/// The report that a source's parts come to about another source's task.
-fn join_sources<T: Threads + Sync, R: Read, C: Read>(
-    rt: &T,
-    alloc: Global,
-    task_source: &mut Source<R>,
-    parts_source: &mut Source<C>,
-    rounds: u32,
-) -> Result<((), Vec<u8>), RunFault>
-    requires task { CanRead task_source.old }
-    requires parts { CanRead parts_source.old }
-    ensures { AsksBoth ReadsParts rounds task_source.old task_source.new
-        parts_source.old parts_source.new (answered result) }
-{
-    let task = read_task(alloc, task_source)?;
-    join_source(rt, alloc, &task, parts_source, rounds)
+/// The report that the parts of all branches come to.
+#[derive(Clone, Copy)]
+struct WholeOfParts<'a, T> {
+    rt: &'a T,
 }
 
-/// The report that a source's parts come to about a task.
-fn join_source<T: Threads + Sync, C: Read>(
-    rt: &T,
-    alloc: Global,
-    task: &Task,
-    source: &mut Source<C>,
-    rounds: u32,
-) -> Result<((), Vec<u8>), RunFault>
-    requires { CanRead source.old }
-    ensures { AsksWithin ReadsParts rounds task.now source.old source.new (answered result) }
-{
-    let protocol = Protocol::build(alloc, task, rounds)?;
-    join_in(rt, alloc, task, &protocol, source)
-}
+impl<'a, T: Threads + Sync> SecondText for WholeOfParts<'a, T> {
+    ghost reads = { λ whole. ReadsParts };
 
-/// The same on the task's protocol complex.
-fn join_in<T: Threads + Sync, C: Read>(
-    rt: &T,
-    alloc: Global,
-    task: &Task,
-    protocol: &Protocol,
-    source: &mut Source<C>,
-) -> Result<((), Vec<u8>), RunFault>
-    requires source { CanRead source.old }
-    requires protocol { Builds task.now protocol.now.rounds (Ok protocol.now) }
-    ensures { ReadsParts task.now protocol.now.rounds source.old source.new (answered result) }
-{
-    let text = read_all(alloc, source, MOST_PARTS_BYTES)?;
-    join_text(rt, alloc, task, protocol, text)
+    fn read_about<C: Read>(
+        &self,
+        alloc: Global,
+        task: &Task,
+        protocol: &Protocol,
+        source: &mut Source<C>,
+    ) -> Result<((), Vec<u8>), RunFault> {
+        let text = read_all(alloc, source, MOST_PARTS_BYTES)?;
+        join_text(self.rt, alloc, task, protocol, text)
+    }
 }
 
 /// The report that the parts of a text come to. The text is given back before the report is made.
@@ -128,7 +106,7 @@ enum Gathered {
     WithoutMap(Vec<Lines>),
     /// The map of the first branch that has one.
     WithMap(Vec<u8>),
-    /// The same with the lines of the branches up to it.
+    /// The map of the first branch that has one, with the lines of the branches up to it.
     WithLeast(Vec<u8>, Vec<Lines>),
 }
 

@@ -7,8 +7,7 @@ ghost use Rattle.wf_model.specs.Execution.{executions};
 ghost use Rattle.wf_model.specs.Outline.{boxes_left_out};
 ghost use Rattle.wf_model.specs.Points.{points};
 ghost use Rattle.wf_complex.specs.Protocol.{IsProtocol};
-ghost use Rattle.wf_io.specs.Ends.{CanCount, CanRead};
-ghost use Rattle.wf_run.specs.Run.{Answers, Asks, answered};
+ghost use Rattle.wf_io.specs.Ends.{CanCount};
 ghost use Rattle.wf_run.specs.Texts.{IsTextOf, Lists};
 ghost use Rattle.wf_branches.specs.Listing.{branches_text, entries_text, entry_line, header_text, open_points};
 
@@ -20,7 +19,7 @@ use wf_box::Box0;
 use wf_complex::Protocol;
 use wf_io::{Sink, Source};
 use wf_lines::{put_number, put_words};
-use wf_run::{RunFault, hand_out, read_task};
+use wf_run::{RunFault, TaskAnswer, run_over_task};
 use wf_search::Cover;
 use wf_set::count;
 use wf_task::Task;
@@ -37,29 +36,22 @@ pub fn run_branches<R: Read, W: Write>(
     requires { CanCount source.old sink.old }
     ensures { Lists branches_text rounds source.old source.new sink.old sink.new result }
 {
-    let answer = list_source(alloc, source, rounds);
-    hand_out(sink, answer)
+    run_over_task(alloc, source, sink, rounds, &BranchList)
 }
 
-/// The list of the branches of a source's task.
-fn list_source<R: Read>(
-    alloc: Global,
-    source: &mut Source<R>,
-    rounds: u32,
-) -> Result<((), Vec<u8>), RunFault>
-    requires { CanRead source.old }
-    ensures { Asks (IsTextOf branches_text) rounds source.old source.new (answered result) }
-{
-    let task = read_task(alloc, source)?;
-    list_task(alloc, &task, rounds)
-}
+/// The list of the branches.
+#[derive(Clone, Copy)]
+struct BranchList;
 
-/// The list of the branches of a task.
-fn list_task(alloc: Global, task: &Task, rounds: u32) -> Result<((), Vec<u8>), RunFault>
-    ensures { Answers (IsTextOf branches_text) task.now rounds (answered result) }
-{
-    let protocol = Protocol::build(alloc, task, rounds)?;
-    Ok(((), write_branches(alloc, task, &protocol)?))
+impl TaskAnswer for BranchList {
+    type Answer = ();
+
+    ghost is_text = { λ list. IsTextOf branches_text };
+
+    fn of_task(&self, alloc: Global, task: &Task, rounds: u32) -> Result<((), Vec<u8>), RunFault> {
+        let protocol = Protocol::build(alloc, task, rounds)?;
+        Ok(((), write_branches(alloc, task, &protocol)?))
+    }
 }
 
 /// The text that lists the branches on a protocol complex.

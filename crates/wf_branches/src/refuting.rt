@@ -3,9 +3,8 @@
 ghost use Rattle.wf_io.specs.Ends.{CanRead};
 ghost use Rattle.wf_complex.specs.Protocol.{IsProtocol};
 ghost use Rattle.wf_run.specs.Run.{answered};
-ghost use Rattle.wf_verify_engine.specs.Verify.{CanVerify};
+ghost use Rattle.wf_run.specs.Sources.{CanReadBoth};
 ghost use Rattle.wf_branches.specs.Branches.{IsBranch};
-ghost use Rattle.wf_run.specs.Sources.{AsksBoth, AsksWithin};
 ghost use Rattle.wf_branches.specs.Refuting.{ReadsBranchProof, ReadsProofIn, RefutesBranch};
 
 use crate::branch::{FoundBranch, branch_of};
@@ -14,7 +13,7 @@ use std::io::{Read, Write};
 use wf_cnf::pose_branch;
 use wf_complex::Protocol;
 use wf_io::{Sink, Source};
-use wf_run::{RunFault, hand_out, read_task};
+use wf_run::{RunFault, SecondText, run_over_both};
 use wf_task::Task;
 use wf_verify_engine::read_proof_from;
 
@@ -34,64 +33,33 @@ pub fn run_proof_branch<R: Read, C: Read, W: Write>(
     rounds: u32,
     branch: u32,
 ) -> Result<(), RunFault>
-    requires { CanVerify task_source.old proof_source.old sink.old }
+    requires { CanReadBoth task_source.old proof_source.old sink.old }
     ensures { RefutesBranch rounds branch task_source.old task_source.new
         proof_source.old proof_source.new sink.old sink.new result }
 {
-    let answer = refute_sources(alloc, task_source, proof_source, rounds, branch);
-    hand_out(sink, answer)
+    let none = NoneInBranch { number: branch };
+    run_over_both(alloc, task_source, proof_source, sink, rounds, &none)
 }
 
-/// The line that no decision map is accepted in a branch, where a source's
-/// proof shows it about another source's task.
-fn refute_sources<R: Read, C: Read>(
-    alloc: Global,
-    task_source: &mut Source<R>,
-    proof_source: &mut Source<C>,
-    rounds: u32,
+/// That no decision map is accepted in the branch of this number, if a solver's proof shows it.
+#[derive(Clone, Copy)]
+struct NoneInBranch {
     number: u32,
-) -> Result<((), Vec<u8>), RunFault>
-    requires task { CanRead task_source.old }
-    requires proof { CanRead proof_source.old }
-    ensures { AsksBoth (ReadsProofIn number) rounds task_source.old task_source.new
-        proof_source.old proof_source.new (answered result) }
-{
-    let task = read_task(alloc, task_source)?;
-    refute_source(alloc, &task, proof_source, rounds, number)
 }
 
-/// The line that no decision map is accepted in a branch, where a source's
-/// proof shows it about a task.
-fn refute_source<C: Read>(
-    alloc: Global,
-    task: &Task,
-    source: &mut Source<C>,
-    rounds: u32,
-    number: u32,
-) -> Result<((), Vec<u8>), RunFault>
-    requires { CanRead source.old }
-    ensures { AsksWithin (ReadsProofIn number) rounds task.now source.old source.new
-        (answered result) }
-{
-    let protocol = Protocol::build(alloc, task, rounds)?;
-    refute_in(alloc, task, &protocol, source, number)
-}
+impl SecondText for NoneInBranch {
+    ghost reads = { λ none. ReadsProofIn none.number };
 
-/// The same on the task's protocol complex, if there is such a branch.
-fn refute_in<C: Read>(
-    alloc: Global,
-    task: &Task,
-    protocol: &Protocol,
-    source: &mut Source<C>,
-    number: u32,
-) -> Result<((), Vec<u8>), RunFault>
-    requires source { CanRead source.old }
-    requires protocol { IsProtocol task.now protocol.now.rounds protocol.now }
-    ensures { ReadsProofIn number task.now protocol.now.rounds source.old source.new
-        (answered result) }
-{
-    let branch = branch_of(alloc, task, protocol, number)?;
-    refute(alloc, task, protocol, &branch, source)
+    fn read_about<C: Read>(
+        &self,
+        alloc: Global,
+        task: &Task,
+        protocol: &Protocol,
+        source: &mut Source<C>,
+    ) -> Result<((), Vec<u8>), RunFault> {
+        let branch = branch_of(alloc, task, protocol, self.number)?;
+        refute(alloc, task, protocol, &branch, source)
+    }
 }
 
 /// The line that no decision map is accepted in a branch, where a source's proof shows it on a

@@ -7,8 +7,8 @@ ghost use Rattle.wf_report.specs.Reports.{AreNumbered, body_length, body_of, rep
 ghost use Rattle.wf_check.specs.Within.{IsCheckerOf};
 ghost use Rattle.wf_set.specs.Sets.{box_of};
 ghost use Rattle.wf_run.specs.Run.{answered};
-ghost use Rattle.wf_run.specs.Sources.{AsksBoth, AsksWithin};
-ghost use Rattle.wf_verify_engine.specs.Verify.{CanVerify, seen};
+ghost use Rattle.wf_run.specs.Sources.{CanReadBoth};
+ghost use Rattle.wf_verify_engine.specs.Verify.{seen};
 ghost use Rattle.wf_branches.specs.Branches.{IsBranch};
 ghost use Rattle.wf_branches.specs.Refuting.{ReadsIn};
 ghost use Rattle.wf_branches.specs.Verifying.{ChecksIn, ChecksPart, IsPartOf, JudgesPart, ReadsPart, VerifiesBranch, is_outside, lies_in};
@@ -21,7 +21,7 @@ use wf_check::ReportChecker;
 use wf_complex::Protocol;
 use wf_io::{Sink, Source, read_all};
 use wf_report::{Body, Report, read_report};
-use wf_run::{RunFault, hand_out, read_task};
+use wf_run::{RunFault, SecondText, run_over_both};
 use wf_set::{Mask, holds};
 use wf_task::{LONGEST, Task};
 use wf_verify_engine::accepted_words;
@@ -44,65 +44,34 @@ pub fn run_verify_branch<T: Threads + Sync, R: Read, C: Read, W: Write>(
     rounds: u32,
     branch: u32,
 ) -> Result<(), RunFault>
-    requires { CanVerify task_source.old part_source.old sink.old }
+    requires { CanReadBoth task_source.old part_source.old sink.old }
     ensures { VerifiesBranch rounds branch task_source.old task_source.new
         part_source.old part_source.new sink.old sink.new result }
 {
-    let answer = verify_sources(rt, alloc, task_source, part_source, rounds, branch);
-    hand_out(sink, answer)
+    let part = PartOfBranch { rt, number: branch };
+    run_over_both(alloc, task_source, part_source, sink, rounds, &part)
 }
 
-/// The line that tells what is accepted of a source's part about another source's task.
-fn verify_sources<T: Threads + Sync, R: Read, C: Read>(
-    rt: &T,
-    alloc: Global,
-    task_source: &mut Source<R>,
-    part_source: &mut Source<C>,
-    rounds: u32,
+/// What is accepted of a part about the branch of this number.
+#[derive(Clone, Copy)]
+struct PartOfBranch<'a, T> {
+    rt: &'a T,
     number: u32,
-) -> Result<((), Vec<u8>), RunFault>
-    requires task { CanRead task_source.old }
-    requires part { CanRead part_source.old }
-    ensures { AsksBoth (ReadsIn ReadsPart number) rounds task_source.old task_source.new
-        part_source.old part_source.new (answered result) }
-{
-    let task = read_task(alloc, task_source)?;
-    verify_source(rt, alloc, &task, part_source, rounds, number)
 }
 
-/// The line that tells what is accepted of a source's part about a task.
-fn verify_source<T: Threads + Sync, C: Read>(
-    rt: &T,
-    alloc: Global,
-    task: &Task,
-    source: &mut Source<C>,
-    rounds: u32,
-    number: u32,
-) -> Result<((), Vec<u8>), RunFault>
-    requires { CanRead source.old }
-    ensures { AsksWithin (ReadsIn ReadsPart number) rounds task.now source.old source.new
-        (answered result) }
-{
-    let protocol = Protocol::build(alloc, task, rounds)?;
-    verify_in(rt, alloc, task, &protocol, source, number)
-}
+impl<'a, T: Threads + Sync> SecondText for PartOfBranch<'a, T> {
+    ghost reads = { λ part. ReadsIn ReadsPart part.number };
 
-/// The same on the task's protocol complex, if there is such a branch.
-fn verify_in<T: Threads + Sync, C: Read>(
-    rt: &T,
-    alloc: Global,
-    task: &Task,
-    protocol: &Protocol,
-    source: &mut Source<C>,
-    number: u32,
-) -> Result<((), Vec<u8>), RunFault>
-    requires source { CanRead source.old }
-    requires protocol { IsProtocol task.now protocol.now.rounds protocol.now }
-    ensures { ReadsIn ReadsPart number task.now protocol.now.rounds source.old source.new
-        (answered result) }
-{
-    let branch = branch_of(alloc, task, protocol, number)?;
-    verify_part(rt, alloc, task, protocol, branch, source)
+    fn read_about<C: Read>(
+        &self,
+        alloc: Global,
+        task: &Task,
+        protocol: &Protocol,
+        source: &mut Source<C>,
+    ) -> Result<((), Vec<u8>), RunFault> {
+        let branch = branch_of(alloc, task, protocol, self.number)?;
+        verify_part(self.rt, alloc, task, protocol, branch, source)
+    }
 }
 
 /// The line that tells what is accepted of a source's part about a branch.

@@ -1,7 +1,7 @@
 //! What is done with the task in a file and with what the source gives about it.
 
 ghost use Rattle.std.specs.Prelude.{◌≡◌, option_map};
-ghost use Rattle.wf_verify_engine.specs.Verify.{CanVerify};
+ghost use Rattle.wf_run.specs.Sources.{CanReadBoth};
 ghost use Rattle.wf_io.specs.Ends.{CanCount};
 ghost use Rattle.wf_program.specs.Files.{CanAsk};
 ghost use Rattle.wf_program.specs.Program.{DoesWithFile, WithFile, filed_of};
@@ -118,7 +118,7 @@ impl FileJob {
         source: &mut Source<R>,
         sink: &mut Sink<W>,
     ) -> Result<Done, Refusal>
-        requires { CanVerify task.old source.old sink.old }
+        requires { CanReadBoth task.old source.old sink.old }
         ensures { DoesWithFile self task.old task.new source.old source.new sink.old sink.new
             result }
     {

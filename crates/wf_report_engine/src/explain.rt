@@ -7,7 +7,8 @@ ghost use Rattle.wf_complex.specs.Protocol.{IsProtocol};
 ghost use Rattle.wf_report.specs.Reports.{AreNumbered, body_length, body_of, report_seen};
 ghost use Rattle.wf_obstruction_text.specs.Seen.{obstruction_seen};
 ghost use Rattle.wf_run.specs.Run.{Reads, answered};
-ghost use Rattle.wf_verify_engine.specs.Verify.{CanVerify, IsVerified};
+ghost use Rattle.wf_run.specs.Sources.{CanReadBoth};
+ghost use Rattle.wf_verify_engine.specs.Verify.{IsVerified};
 ghost use Rattle.wf_report_engine.specs.Explaining.{AreExplained, Explains, ExplainsBoth, ExplainsObstruction, ExplainsReport, ExplainsText, TellsObstruction, body_explained};
 
 use crate::trim::shortened;
@@ -39,7 +40,7 @@ pub fn run_explain<T: Threads + Sync, R: Read, C: Read, W: Write>(
     source: &mut Source<C>,
     sink: &mut Sink<W>,
 ) -> Result<(), RunFault>
-    requires { CanVerify task_source.old source.old sink.old }
+    requires { CanReadBoth task_source.old source.old sink.old }
     ensures { Explains task_source.old task_source.new source.old source.new
         sink.old sink.new result }
 {

@@ -8,7 +8,7 @@ ghost use Rattle.wf_complex.specs.Protocol.{Builds};
 ghost use Rattle.wf_report.specs.Reports.{AreNumbered, body_length, body_of, report_seen};
 ghost use Rattle.wf_check.specs.Truth.{HoldsOf};
 ghost use Rattle.wf_run.specs.Run.{answered};
-ghost use Rattle.wf_verify_engine.specs.Verify.{CanVerify};
+ghost use Rattle.wf_run.specs.Sources.{CanReadBoth};
 ghost use Rattle.wf_report_engine.specs.Lifting.{AsksLift, Lifts, LiftsBody, LiftsChecked, LiftsFor, LiftsMap, rounds_asked};
 
 use std::alloc::Global;
@@ -39,7 +39,7 @@ pub fn run_lift<T: Threads + Sync, R: Read, C: Read, W: Write>(
     sink: &mut Sink<W>,
     rounds: Option<u32>,
 ) -> Result<(), RunFault>
-    requires { CanVerify task_source.old report_source.old sink.old }
+    requires { CanReadBoth task_source.old report_source.old sink.old }
     ensures { Lifts rounds task_source.old task_source.new report_source.old report_source.new
         sink.old sink.new result }
 {

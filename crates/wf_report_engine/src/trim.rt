@@ -6,7 +6,8 @@ ghost use Rattle.wf_complex.specs.Protocol.{IsProtocol};
 ghost use Rattle.wf_lines.specs.Lines.{line_of};
 ghost use Rattle.wf_report.specs.Reports.{AreNumbered, body_length, report_seen};
 ghost use Rattle.wf_run.specs.Run.{answered};
-ghost use Rattle.wf_verify_engine.specs.Verify.{CanVerify, Checks, IsFaultless, IsVerified};
+ghost use Rattle.wf_run.specs.Sources.{CanReadBoth};
+ghost use Rattle.wf_verify_engine.specs.Verify.{Checks, IsFaultless, IsVerified};
 ghost use Rattle.wf_report_engine.specs.Trimming.{AreTrimmed, IsShortened, Trims, report_with};
 
 use std::alloc::{AllocError, Global};
@@ -33,7 +34,7 @@ pub fn run_trim<T: Threads + Sync, R: Read, C: Read, W: Write>(
     report_source: &mut Source<C>,
     sink: &mut Sink<W>,
 ) -> Result<(), RunFault>
-    requires { CanVerify task_source.old report_source.old sink.old }
+    requires { CanReadBoth task_source.old report_source.old sink.old }
     ensures { Trims task_source.old task_source.new report_source.old report_source.new
         sink.old sink.new result }
 {

@@ -2,7 +2,8 @@
 -- task after so many rounds.
 use Rattle.std.specs.Prelude.{◌≡◌, ℕ, List, Result, Ok, Err}
 use Rattle.wf_model.specs.Task.{Task}
-use Rattle.wf_io.specs.Seen.{Reading}
+use Rattle.wf_io.specs.Seen.{Reading, Writing}
+use Rattle.wf_io.specs.Ends.{CanCount, CanRead}
 use Rattle.wf_complex.specs.Protocol.{Built, Builds}
 use Rattle.wf_run.specs.Run.{IsBeyondLimits, IsTaskOf, Reads}
 use Rattle.wf_run.specs.declared.fault.RunFault.{RunFault}
@@ -30,3 +31,7 @@ AsksWithin reads r t old new result =
 abbrev pub AsksBoth : ReadsAbout → ℕ → Reading → Reading → Reading → Reading → Result (Unit {0} × List ℕ) RunFault → Type 0
 AsksBoth reads r task task' other other' result =
     (t : Result Task RunFault) × Reads IsTaskOf task task' t × NextReads (AsksWithin reads r) other other' t result
+
+-- all three ends can count what a run asks of them
+abbrev pub CanReadBoth : Reading → Reading → Writing → Type 0
+CanReadBoth task other sink = CanRead task × CanCount other sink

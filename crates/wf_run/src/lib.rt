@@ -4,6 +4,8 @@
 //! - [`RunFault`]: why a run is refused, with its number and its name; [`PartFault`]: why one part
 //!   among others is.
 //! - [`read_task`], [`hand_out`]: the first and the last step of a run.
+//! - [`run_over_task`], [`run_over_both`]: what all runs over a task do, and all over a task and a
+//!   text about it, for any [`TaskAnswer`] and any [`SecondText`].
 //! - [`run_views`]: a task's text in, and the list of the points of its protocol complex out.
 //! - [`run_points`]: a task's text in, and its points in words out; [`write_points`]: these words,
 //!   with what a map decides.
@@ -18,6 +20,7 @@
 
 mod cnf;
 mod fault;
+mod frames;
 mod laws;
 mod points;
 mod preset;
@@ -26,6 +29,7 @@ mod views;
 
 pub use cnf::run_cnf;
 pub use fault::{PartFault, RunFault};
+pub use frames::{SecondText, TaskAnswer, run_over_both, run_over_task};
 pub use laws::{listing_is_counted, presets_are_counted};
 pub use points::{run_points, write_points};
 pub use preset::run_preset;

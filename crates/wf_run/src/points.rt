@@ -2,14 +2,13 @@
 
 ghost use Rattle.std.specs.Prelude.{◌≡◌, ◌++◌, ◌<◌, IfOk, OnOk, string_bytes, length, slice_get};
 ghost use Rattle.wf_model.specs.PointsText.{decision_text, point_text, points_text};
-ghost use Rattle.wf_io.specs.Ends.{CanCount, CanRead};
+ghost use Rattle.wf_io.specs.Ends.{CanCount};
 ghost use Rattle.wf_complex.specs.Views.{view_at};
 ghost use Rattle.wf_complex.specs.Protocol.{IsProtocol};
-ghost use Rattle.wf_run.specs.Run.{Answers, Asks, answered};
 ghost use Rattle.wf_run.specs.Texts.{IsTextOf, Lists, undecided_points};
 
 use crate::fault::RunFault;
-use crate::steps::{hand_out, read_task};
+use crate::frames::{TaskAnswer, run_over_task};
 use std::alloc::{AllocError, Global};
 use std::fmt::Write as _;
 use std::io::{Read, Write};
@@ -28,30 +27,22 @@ pub fn run_points<R: Read, W: Write>(
     requires { CanCount source.old sink.old }
     ensures { Lists undecided_points rounds source.old source.new sink.old sink.new result }
 {
-    let answer = tell_source(alloc, source, rounds);
-    hand_out(sink, answer)
+    run_over_task(alloc, source, sink, rounds, &PointsInWords)
 }
 
-/// The points of a source's task in words.
-fn tell_source<R: Read>(
-    alloc: Global,
-    source: &mut Source<R>,
-    rounds: u32,
-) -> Result<((), Vec<u8>), RunFault>
-    requires { CanRead source.old }
-    ensures { Asks (IsTextOf undecided_points) rounds source.old source.new
-        (answered result) }
-{
-    let task = read_task(alloc, source)?;
-    tell_task(alloc, &task, rounds)
-}
+/// The points in words.
+#[derive(Clone, Copy)]
+struct PointsInWords;
 
-/// The points of a task in words.
-fn tell_task(alloc: Global, task: &Task, rounds: u32) -> Result<((), Vec<u8>), RunFault>
-    ensures { Answers (IsTextOf undecided_points) task.now rounds (answered result) }
-{
-    let protocol = Protocol::build(alloc, task, rounds)?;
-    Ok(((), write_points(alloc, task, &protocol, &[])?))
+impl TaskAnswer for PointsInWords {
+    type Answer = ();
+
+    ghost is_text = { λ words. IsTextOf undecided_points };
+
+    fn of_task(&self, alloc: Global, task: &Task, rounds: u32) -> Result<((), Vec<u8>), RunFault> {
+        let protocol = Protocol::build(alloc, task, rounds)?;
+        Ok(((), write_points(alloc, task, &protocol, &[])?))
+    }
 }
 
 /// The text that tells the points of a protocol complex, each with the value

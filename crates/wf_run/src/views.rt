@@ -5,14 +5,13 @@ ghost use Rattle.wf_model.specs.Execution.{executions};
 ghost use Rattle.wf_model.specs.Points.{points, last_view_count};
 ghost use Rattle.wf_model.specs.Report.{line};
 ghost use Rattle.wf_model.specs.ViewsText.{views_text};
-ghost use Rattle.wf_io.specs.Ends.{CanCount, CanRead};
+ghost use Rattle.wf_io.specs.Ends.{CanCount};
 ghost use Rattle.wf_complex.specs.Protocol.{IsProtocol};
-ghost use Rattle.wf_run.specs.Run.{Answers, Asks, answered};
 ghost use Rattle.wf_run.specs.Texts.{IsTextOf, Lists};
 ghost use Rattle.wf_run.specs.Views.{header_text, appearances_text};
 
 use crate::fault::RunFault;
-use crate::steps::{hand_out, read_task};
+use crate::frames::{TaskAnswer, run_over_task};
 use std::alloc::{AllocError, Global};
 use std::fmt::Write as _;
 use std::io::{Read, Write};
@@ -32,29 +31,22 @@ pub fn run_views<R: Read, W: Write>(
     requires { CanCount source.old sink.old }
     ensures { Lists views_text rounds source.old source.new sink.old sink.new result }
 {
-    let answer = list_source(alloc, source, rounds);
-    hand_out(sink, answer)
+    run_over_task(alloc, source, sink, rounds, &PointList)
 }
 
-/// The list of the points of a source's task.
-fn list_source<R: Read>(
-    alloc: Global,
-    source: &mut Source<R>,
-    rounds: u32,
-) -> Result<((), Vec<u8>), RunFault>
-    requires { CanRead source.old }
-    ensures { Asks (IsTextOf views_text) rounds source.old source.new (answered result) }
-{
-    let task = read_task(alloc, source)?;
-    list_task(alloc, &task, rounds)
-}
+/// The list of the points.
+#[derive(Clone, Copy)]
+struct PointList;
 
-/// The list of the points of a task.
-fn list_task(alloc: Global, task: &Task, rounds: u32) -> Result<((), Vec<u8>), RunFault>
-    ensures { Answers (IsTextOf views_text) task.now rounds (answered result) }
-{
-    let protocol = Protocol::build(alloc, task, rounds)?;
-    Ok(((), write_views(alloc, task, &protocol)?))
+impl TaskAnswer for PointList {
+    type Answer = ();
+
+    ghost is_text = { λ list. IsTextOf views_text };
+
+    fn of_task(&self, alloc: Global, task: &Task, rounds: u32) -> Result<((), Vec<u8>), RunFault> {
+        let protocol = Protocol::build(alloc, task, rounds)?;
+        Ok(((), write_views(alloc, task, &protocol)?))
+    }
 }
 
 /// The text that lists the points of a protocol complex.

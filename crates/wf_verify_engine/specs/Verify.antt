@@ -110,10 +110,6 @@ Verifies rounds task task' reports reports' sink sink' result = Ran (Checks roun
 abbrev pub Decides : Reading → Reading → Reading → Reading → Writing → Writing → Result (Unit {0}) RunFault → Type 0
 Decides task task' reports reports' sink sink' result = Ran (Checks None AreDecisions task task' reports reports') sink sink' result
 
--- all three ends can count what a run asks of them
-abbrev pub CanVerify : Reading → Reading → Writing → Type 0
-CanVerify task reports sink = CanRead task × CanCount reports sink
-
 -- a report of the code, and what clauses see of it
 abbrev pub seen : Result code.Report RunFault → Result Report RunFault
 seen (Ok r) = Ok (report_seen r)

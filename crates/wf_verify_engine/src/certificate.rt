@@ -5,7 +5,7 @@ ghost use Rattle.wf_io.specs.Ends.{CanRead};
 ghost use Rattle.wf_obstruction.specs.Tuples.{tuples_seen};
 ghost use Rattle.wf_obstruction_text.specs.Seen.{obstruction_seen};
 ghost use Rattle.wf_run.specs.Run.{Reads, answered};
-ghost use Rattle.wf_verify_engine.specs.Verify.{CanVerify};
+ghost use Rattle.wf_run.specs.Sources.{CanReadBoth};
 ghost use Rattle.wf_verify_engine.specs.Certificates.{ChecksBoth, ChecksCertificate, ChecksObstruction, ChecksReport, IsObstructionOf, IsSoundOrRefused, JudgesObstruction, VerifiesCertificate, as_verified, by_line, never_text, read_as_obstruction};
 
 use crate::outcome::{Accepted, Verified};
@@ -35,7 +35,7 @@ pub fn run_verify_certificate<T: Threads + Sync, R: Read, C: Read, W: Write>(
     sink: &mut Sink<W>,
     rounds: Option<u32>,
 ) -> Result<Verified, RunFault>
-    requires { CanVerify task_source.old source.old sink.old }
+    requires { CanReadBoth task_source.old source.old sink.old }
     ensures { VerifiesCertificate rounds task_source.old task_source.new source.old source.new
         sink.old sink.new result }
 {

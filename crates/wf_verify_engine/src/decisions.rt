@@ -4,7 +4,8 @@ ghost use Rattle.std.specs.Prelude.{None};
 ghost use Rattle.wf_io.specs.Ends.{CanRead};
 ghost use Rattle.wf_report.specs.Reports.{AreNumbered, body_length, report_seen};
 ghost use Rattle.wf_run.specs.Run.{answered};
-ghost use Rattle.wf_verify_engine.specs.Verify.{AreDecisions, CanVerify, Checks, Decides, IsVerified};
+ghost use Rattle.wf_run.specs.Sources.{CanReadBoth};
+ghost use Rattle.wf_verify_engine.specs.Verify.{AreDecisions, Checks, Decides, IsVerified};
 
 use crate::verify::{check_report, read_report_from};
 use std::alloc::Global;
@@ -26,7 +27,7 @@ pub fn run_decisions<T: Threads + Sync, R: Read, C: Read, W: Write>(
     report_source: &mut Source<C>,
     sink: &mut Sink<W>,
 ) -> Result<(), RunFault>
-    requires { CanVerify task_source.old report_source.old sink.old }
+    requires { CanReadBoth task_source.old report_source.old sink.old }
     ensures { Decides task_source.old task_source.new report_source.old report_source.new
         sink.old sink.new result }
 {

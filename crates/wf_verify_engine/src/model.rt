@@ -6,8 +6,8 @@ ghost use Rattle.wf_io.specs.Ends.{CanRead};
 ghost use Rattle.wf_complex.specs.Protocol.{IsProtocol};
 ghost use Rattle.wf_report.specs.Reports.{AreNumbered};
 ghost use Rattle.wf_run.specs.Run.{HasComplex, Reads, answered};
-ghost use Rattle.wf_verify_engine.specs.Verify.{CanVerify};
-ghost use Rattle.wf_verify_engine.specs.Models.{AsksMap, AsksModel, IsMapOf, Models, ReportsMap, map_read};
+ghost use Rattle.wf_run.specs.Sources.{CanReadBoth};
+ghost use Rattle.wf_verify_engine.specs.Models.{IsMapOf, Models, ReadsMap, ReportsMap, map_read};
 
 use std::alloc::Global;
 use std::io::{Read, Write};
@@ -17,7 +17,7 @@ use wf_cnf::read_map;
 use wf_complex::Protocol;
 use wf_io::{Sink, Source, read_all};
 use wf_report::{Body, Header, Report, write_report};
-use wf_run::{RunFault, hand_out, read_task};
+use wf_run::{RunFault, SecondText, run_over_both};
 use wf_task::{LONGEST, Task};
 
 /// Reads a task to its reader's end, and then a SAT solver's output to its own reader's end; takes
@@ -35,45 +35,39 @@ pub fn run_model<T: Threads + Sync, R: Read, C: Read, W: Write>(
     sink: &mut Sink<W>,
     rounds: u32,
 ) -> Result<(), RunFault>
-    requires { CanVerify task_source.old model_source.old sink.old }
+    requires { CanReadBoth task_source.old model_source.old sink.old }
     ensures { Models rounds task_source.old task_source.new model_source.old model_source.new
         sink.old sink.new result }
 {
-    let answer = report_sources(rt, alloc, task_source, model_source, rounds);
-    hand_out(sink, answer)
+    run_over_both(
+        alloc,
+        task_source,
+        model_source,
+        sink,
+        rounds,
+        &MapOfModel { rt },
+    )
 }
 
-/// The report of the map that a source's model gives for another source's task.
-fn report_sources<T: Threads + Sync, R: Read, C: Read>(
-    rt: &T,
-    alloc: Global,
-    task_source: &mut Source<R>,
-    model_source: &mut Source<C>,
-    rounds: u32,
-) -> Result<((), Vec<u8>), RunFault>
-    requires task { CanRead task_source.old }
-    requires model { CanRead model_source.old }
-    ensures { AsksModel rounds task_source.old task_source.new model_source.old model_source.new
-        (answered result) }
-{
-    let task = read_task(alloc, task_source)?;
-    report_source(rt, alloc, &task, model_source, rounds)
+/// The report of the map that a solver's model gives.
+#[derive(Clone, Copy)]
+struct MapOfModel<'a, T> {
+    rt: &'a T,
 }
 
-/// The report of the map that a source's model gives for a task.
-fn report_source<T: Threads + Sync, C: Read>(
-    rt: &T,
-    alloc: Global,
-    task: &Task,
-    source: &mut Source<C>,
-    rounds: u32,
-) -> Result<((), Vec<u8>), RunFault>
-    requires { CanRead source.old }
-    ensures { AsksMap rounds task.now source.old source.new (answered result) }
-{
-    let protocol = Protocol::build(alloc, task, rounds)?;
-    let map = read_model(alloc, task, &protocol, source)?;
-    report_map(rt, alloc, task, &protocol, map)
+impl<'a, T: Threads + Sync> SecondText for MapOfModel<'a, T> {
+    ghost reads = { λ map. ReadsMap };
+
+    fn read_about<C: Read>(
+        &self,
+        alloc: Global,
+        task: &Task,
+        protocol: &Protocol,
+        source: &mut Source<C>,
+    ) -> Result<((), Vec<u8>), RunFault> {
+        let map = read_model(alloc, task, protocol, source)?;
+        report_map(self.rt, alloc, task, protocol, map)
+    }
 }
 
 /// The map that a source's model gives.

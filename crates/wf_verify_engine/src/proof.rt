@@ -5,8 +5,8 @@ ghost use Rattle.wf_io.specs.Ends.{CanRead};
 ghost use Rattle.wf_complex.specs.Protocol.{IsProtocol};
 ghost use Rattle.wf_rup.specs.Seen.{HasNoModel};
 ghost use Rattle.wf_run.specs.Run.{answered};
-ghost use Rattle.wf_verify_engine.specs.Verify.{CanVerify};
-ghost use Rattle.wf_verify_engine.specs.Proofs.{AsksProof, AsksRefutation, ReadsAsProof, ReadsProof, Refutes};
+ghost use Rattle.wf_run.specs.Sources.{CanReadBoth};
+ghost use Rattle.wf_verify_engine.specs.Proofs.{ReadsAsProof, ReadsProof, Refutes};
 
 use crate::verify::accepted_text;
 use std::alloc::Global;
@@ -15,7 +15,7 @@ use wf_cnf::pose;
 use wf_complex::Protocol;
 use wf_io::{Sink, Source};
 use wf_report::Body;
-use wf_run::{RunFault, hand_out, read_task};
+use wf_run::{RunFault, SecondText, run_over_both};
 use wf_rup::{Checker, Proof};
 use wf_task::Task;
 
@@ -39,43 +39,29 @@ pub fn run_proof<R: Read, C: Read, W: Write>(
     sink: &mut Sink<W>,
     rounds: u32,
 ) -> Result<(), RunFault>
-    requires { CanVerify task_source.old proof_source.old sink.old }
+    requires { CanReadBoth task_source.old proof_source.old sink.old }
     ensures { Refutes rounds task_source.old task_source.new proof_source.old proof_source.new
         sink.old sink.new result }
 {
-    let answer = refute_sources(alloc, task_source, proof_source, rounds);
-    hand_out(sink, answer)
+    run_over_both(alloc, task_source, proof_source, sink, rounds, &NoneByProof)
 }
 
-/// The line that no decision map is accepted, where a source's proof shows
-/// that another source's task has none.
-fn refute_sources<R: Read, C: Read>(
-    alloc: Global,
-    task_source: &mut Source<R>,
-    proof_source: &mut Source<C>,
-    rounds: u32,
-) -> Result<((), Vec<u8>), RunFault>
-    requires task { CanRead task_source.old }
-    requires proof { CanRead proof_source.old }
-    ensures { AsksRefutation rounds task_source.old task_source.new
-        proof_source.old proof_source.new (answered result) }
-{
-    let task = read_task(alloc, task_source)?;
-    refute_source(alloc, &task, proof_source, rounds)
-}
+/// That no decision map is accepted, if a solver's proof shows it.
+#[derive(Clone, Copy)]
+struct NoneByProof;
 
-/// The line that no decision map is accepted, where a source's proof shows that a task has none.
-fn refute_source<C: Read>(
-    alloc: Global,
-    task: &Task,
-    source: &mut Source<C>,
-    rounds: u32,
-) -> Result<((), Vec<u8>), RunFault>
-    requires { CanRead source.old }
-    ensures { AsksProof rounds task.now source.old source.new (answered result) }
-{
-    let protocol = Protocol::build(alloc, task, rounds)?;
-    refute(alloc, task, &protocol, source)
+impl SecondText for NoneByProof {
+    ghost reads = { λ none. ReadsProof };
+
+    fn read_about<C: Read>(
+        &self,
+        alloc: Global,
+        task: &Task,
+        protocol: &Protocol,
+        source: &mut Source<C>,
+    ) -> Result<((), Vec<u8>), RunFault> {
+        refute(alloc, task, protocol, source)
+    }
 }
 
 /// The line that no decision map is accepted, where a source's proof shows that there is none on a
@@ -116,7 +102,7 @@ pub fn read_proof_from<C: Read>(
     read_pieces(alloc, source, checker, &mut piece)
 }
 
-/// The same, with the room for a piece.
+/// Reads a source to its end as a proof, piece by piece into this room.
 fn read_pieces<C: Read>(
     alloc: Global,
     source: &mut Source<C>,

@@ -4,7 +4,8 @@ ghost use Rattle.std.specs.Prelude.{◌≡◌, IfOk, string_bytes};
 ghost use Rattle.wf_io.specs.Ends.{CanRead};
 ghost use Rattle.wf_report.specs.Reports.{AreNumbered, body_length, body_of, report_seen};
 ghost use Rattle.wf_run.specs.Run.{Reads, answered};
-ghost use Rattle.wf_verify_engine.specs.Verify.{CanVerify, Checks, ChecksText, IsAccepted, IsReportOf, IsVerified, IsVerifiedFor, Judges, Verifies, accepted_text, accepted_words, accepted_of, seen};
+ghost use Rattle.wf_run.specs.Sources.{CanReadBoth};
+ghost use Rattle.wf_verify_engine.specs.Verify.{Checks, ChecksText, IsAccepted, IsReportOf, IsVerified, IsVerifiedFor, Judges, Verifies, accepted_text, accepted_words, accepted_of, seen};
 
 use crate::outcome::Accepted;
 use std::alloc::{AllocError, Global};
@@ -32,7 +33,7 @@ pub fn run_verify<T: Threads + Sync, R: Read, C: Read, W: Write>(
     sink: &mut Sink<W>,
     rounds: Option<u32>,
 ) -> Result<Accepted, RunFault>
-    requires { CanVerify task_source.old report_source.old sink.old }
+    requires { CanReadBoth task_source.old report_source.old sink.old }
     ensures { Verifies rounds task_source.old task_source.new report_source.old report_source.new
         sink.old sink.new result }
 {
