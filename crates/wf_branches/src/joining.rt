@@ -1,7 +1,6 @@
 //! Putting the parts of all branches together to the report of the whole question.
 
 ghost use Rattle.std.specs.Prelude.{◌≡◌, ◌++◌, ◌∷◌, [], IfOk, Ok, OnOk};
-ghost use Rattle.wf_io.specs.Ends.{CanRead};
 ghost use Rattle.wf_complex.specs.Protocol.{Builds, IsProtocol};
 ghost use Rattle.wf_report.specs.Reports.{body_length, body_of};
 ghost use Rattle.wf_run.specs.Run.{answered};

@@ -14,6 +14,7 @@ ghost use Rattle.wf_engine.specs.Texts.{IsAccountOf, IsFound, IsInOrder, IsSolve
 ghost use Rattle.wf_run.specs.Texts.{text_of_report};
 
 use crate::outcome::Outcome;
+use crate::search::{OptionalGate, Search, WantedReport};
 use std::alloc::{AllocError, Global};
 use std::io::{Read, Write};
 use std::thread::Threads;
@@ -49,29 +50,14 @@ pub fn run_solve_one<R: Read, W: Write>(
     ensures solves { Solves rounds form source.old source.new sink.old sink.new result }
     ensures in_order { SearchesInOrder result }
 {
-    run_solve_one_watched(alloc, source, sink, rounds, form, &Open)
-}
-
-/// The same as [`run_solve_one`], and the gate is told of the complex and of the search.
-fn run_solve_one_watched<G: Gate, R: Read, W: Write>(
-    alloc: Global,
-    source: &mut Source<R>,
-    sink: &mut Sink<W>,
-    rounds: u32,
-    form: Form,
-    gate: &G,
-) -> Result<(Outcome, Account), RunFault>
-    requires { CanCount source.old sink.old }
-    ensures solves { Solves rounds form source.old source.new sink.old sink.new result }
-    ensures in_order { SearchesInOrder result }
-{
-    let answer = solve_source_one(alloc, source, rounds, form, gate);
+    let wanted = WantedReport { rounds, form };
+    let answer = solve_source_one(alloc, source, wanted, &Open);
     hand_out(sink, answer)
 }
 
-/// The same as [`run_solve_one`], with the branches shared out among workers, which are threads
-/// where there are several. What is answered and written is the same for any number of them; which
-/// branches were searched is not.
+/// Reads a task and writes the report about it, as [`run_solve_one`] does, with the branches shared
+/// out among workers, which are threads if there are several. What is answered and written is the
+/// same for any number of them; which branches were searched is not.
 pub fn run_solve<T: Threads + Sync, R: Read, W: Write>(
     rt: &T,
     alloc: Global,
@@ -86,30 +72,35 @@ pub fn run_solve<T: Threads + Sync, R: Read, W: Write>(
     ensures solves { Solves rounds form source.old source.new sink.old sink.new result }
     ensures in_order { workers ≡ 1 → SearchesInOrder result }
 {
-    run_solve_watched(rt, alloc, source, sink, rounds, workers, form, &Open)
+    let search = Search {
+        wanted: WantedReport { rounds, form },
+        workers,
+        gate: Some(&Open),
+    };
+    run_counted_search(rt, alloc, source, sink, &search)
 }
 
-/// The same as [`run_solve`], and the gate is told how large the complex is, how many branches
-/// there are, and each worker's moments.
-pub fn run_solve_watched<T: Threads + Sync, G: Gate, R: Read, W: Write>(
+/// Reads a task and writes the report about it, with an account of the branches that were searched.
+/// One worker searches them in order, in this thread.
+pub fn run_counted_search<T: Threads + Sync, G: Gate, R: Read, W: Write>(
     rt: &T,
     alloc: Global,
     source: &mut Source<R>,
     sink: &mut Sink<W>,
-    rounds: u32,
-    workers: u32,
-    form: Form,
-    gate: &G,
+    search: &Search<G>,
 ) -> Result<(Outcome, Account), RunFault>
     requires ends { CanCount source.old sink.old }
-    requires workers { (0 < workers) × (workers ≤ most_workers) }
-    ensures solves { Solves rounds form source.old source.new sink.old sink.new result }
-    ensures in_order { workers ≡ 1 → SearchesInOrder result }
+    requires workers { (0 < search.now.workers) × (search.now.workers ≤ most_workers) }
+    ensures solves { Solves search.now.wanted.rounds search.now.wanted.form
+        source.old source.new sink.old sink.new result }
+    ensures in_order { search.now.workers ≡ 1 → SearchesInOrder result }
 {
-    if workers == 1 {
-        return run_solve_one_watched(alloc, source, sink, rounds, form, gate);
+    if search.workers == 1 {
+        let gate = OptionalGate { gate: search.gate };
+        let answer = solve_source_one(alloc, source, search.wanted, &gate);
+        return hand_out(sink, answer);
     }
-    let answer = solve_source(rt, alloc, source, rounds, workers, form, gate);
+    let answer = solve_source(rt, alloc, source, search);
     hand_out(sink, answer)
 }
 
@@ -117,16 +108,16 @@ pub fn run_solve_watched<T: Threads + Sync, G: Gate, R: Read, W: Write>(
 fn solve_source_one<G: Gate, R: Read>(
     alloc: Global,
     source: &mut Source<R>,
-    rounds: u32,
-    form: Form,
+    wanted: WantedReport,
     gate: &G,
 ) -> Result<((Outcome, Account), Vec<u8>), RunFault>
     requires { CanRead source.old }
-    ensures asks { Asks (IsSolved form) rounds source.old source.new (answered result) }
+    ensures asks { Asks (IsSolved wanted.form) wanted.rounds source.old source.new
+        (answered result) }
     ensures in_order { IfOk result (λ answer. IsInOrder answer.0) }
 {
     let task = read_task(alloc, source)?;
-    solve_task_one(alloc, &task, rounds, form, gate)
+    solve_task_one(alloc, &task, wanted, gate)
 }
 
 /// The answer for a source's task, with the text of its report, by some workers.
@@ -134,33 +125,30 @@ fn solve_source<T: Threads + Sync, G: Gate, R: Read>(
     rt: &T,
     alloc: Global,
     source: &mut Source<R>,
-    rounds: u32,
-    workers: u32,
-    form: Form,
-    gate: &G,
+    search: &Search<G>,
 ) -> Result<((Outcome, Account), Vec<u8>), RunFault>
     requires source { CanRead source.old }
-    requires workers { (0 < workers) × (workers ≤ most_workers) }
-    ensures { Asks (IsSolved form) rounds source.old source.new (answered result) }
+    requires workers { (0 < search.now.workers) × (search.now.workers ≤ most_workers) }
+    ensures { Asks (IsSolved search.now.wanted.form) search.now.wanted.rounds
+        source.old source.new (answered result) }
 {
     let task = read_task(alloc, source)?;
-    solve_task(rt, alloc, &task, rounds, workers, form, gate)
+    solve_task(rt, alloc, &task, search)
 }
 
 /// The answer for a task, with the text of its report, by one worker.
 fn solve_task_one<G: Gate>(
     alloc: Global,
     task: &Task,
-    rounds: u32,
-    form: Form,
+    wanted: WantedReport,
     gate: &G,
 ) -> Result<((Outcome, Account), Vec<u8>), RunFault>
-    ensures answers { Answers (IsSolved form) task.now rounds (answered result) }
+    ensures answers { Answers (IsSolved wanted.form) task.now wanted.rounds (answered result) }
     ensures in_order { IfOk result (λ answer. IsInOrder answer.0) }
 {
-    let (header, problem) = pose_problem(alloc, task, rounds, gate)?;
-    let (answer, account) = solve_one_watched(alloc, &problem, lines_kept(form), gate)?;
-    let (outcome, text) = with_text(alloc, task, rounds, header, answer, form)?;
+    let (header, problem) = pose_problem(alloc, task, wanted.rounds, gate)?;
+    let (answer, account) = solve_one_watched(alloc, &problem, lines_kept(wanted.form), gate)?;
+    let (outcome, text) = with_text(alloc, task, wanted, header, answer)?;
     Ok(((outcome, account), text))
 }
 
@@ -169,18 +157,25 @@ fn solve_task<T: Threads + Sync, G: Gate>(
     rt: &T,
     alloc: Global,
     task: &Task,
-    rounds: u32,
-    workers: u32,
-    form: Form,
-    gate: &G,
+    search: &Search<G>,
 ) -> Result<((Outcome, Account), Vec<u8>), RunFault>
-    requires { (0 < workers) × (workers ≤ most_workers) }
-    ensures { Answers (IsSolved form) task.now rounds (answered result) }
+    requires { (0 < search.now.workers) × (search.now.workers ≤ most_workers) }
+    ensures { Answers (IsSolved search.now.wanted.form) task.now search.now.wanted.rounds
+        (answered result) }
 {
-    let (header, problem) = pose_problem(alloc, task, rounds, gate)?;
-    let kept = lines_kept(form);
-    let (answer, account) = solve::<T, Branches, G>(rt, alloc, &problem, workers, kept, gate)?;
-    let (outcome, text) = with_text(alloc, task, rounds, header, answer, form)?;
+    let wanted = search.wanted;
+    let gate = OptionalGate { gate: search.gate };
+    let (header, problem) = pose_problem(alloc, task, wanted.rounds, &gate)?;
+    let kept = lines_kept(wanted.form);
+    let (answer, account) = solve::<T, Branches, OptionalGate<G>>(
+        rt,
+        alloc,
+        &problem,
+        search.workers,
+        kept,
+        &gate,
+    )?;
+    let (outcome, text) = with_text(alloc, task, wanted, header, answer)?;
     Ok(((outcome, account), text))
 }
 
@@ -216,32 +211,27 @@ pub fn lines_kept(form: Form) -> KeptLines
 pub(crate) fn with_text(
     alloc: Global,
     task: &Task,
-    rounds: u32,
+    wanted: WantedReport,
     header: Header,
     answer: Answer,
-    form: Form,
 ) -> Result<(Outcome, Vec<u8>), AllocError>
-    requires header { IsHead task.now rounds header }
-    requires answer { IsAnswer (problem_of task.now rounds) (lines_kept form) answer }
-    ensures found { IfOk result (λ r. IsFound form task.now rounds r.0 r.1.items) }
-    ensures account { (a : Account) → HasAccount (problem_of task.now rounds) answer a
-        → IfOk result (λ r. IsAccountOf task.now rounds r.0 a) }
+    requires header { IsHead task.now wanted.rounds header }
+    requires answer { IsAnswer (problem_of task.now wanted.rounds) (lines_kept wanted.form)
+        answer }
+    ensures found { IfOk result (λ r. IsFound wanted.form task.now wanted.rounds r.0 r.1.items) }
+    ensures account { (a : Account) → HasAccount (problem_of task.now wanted.rounds) answer a
+        → IfOk result (λ r. IsAccountOf task.now wanted.rounds r.0 a) }
     ensures in_order { (a : Account) → pool.IsInOrder answer a
         → IfOk result (λ r. IsInOrder (r.0, a)) }
 {
     match answer {
         Answer::Map(values, lines) => {
-            let text = report_text(
-                alloc,
-                task,
-                rounds,
-                header,
-                body_of_map(form, values, lines),
-            )?;
+            let body = body_of_map(wanted.form, values, lines);
+            let text = report_text(alloc, task, wanted.rounds, header, body)?;
             Ok((Outcome::Map, text))
         }
         Answer::Nothing(lines) => {
-            let text = report_text(alloc, task, rounds, header, Body::Nothing(lines))?;
+            let text = report_text(alloc, task, wanted.rounds, header, Body::Nothing(lines))?;
             Ok((Outcome::Nothing, text))
         }
     }

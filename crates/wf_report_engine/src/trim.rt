@@ -1,13 +1,11 @@
 //! Writing a shorter report.
 
 ghost use Rattle.std.specs.Prelude.{◌≡◌, IfOk, map};
-ghost use Rattle.wf_io.specs.Ends.{CanRead};
 ghost use Rattle.wf_complex.specs.Protocol.{IsProtocol};
 ghost use Rattle.wf_lines.specs.Lines.{line_of};
 ghost use Rattle.wf_report.specs.Reports.{AreNumbered, body_length, report_seen};
-ghost use Rattle.wf_run.specs.Run.{answered};
 ghost use Rattle.wf_run.specs.Sources.{CanReadBoth};
-ghost use Rattle.wf_verify_engine.specs.Verify.{Checks, IsFaultless, IsVerified};
+ghost use Rattle.wf_verify_engine.specs.Verify.{IsFaultless};
 ghost use Rattle.wf_report_engine.specs.Trimming.{AreTrimmed, IsShortened, Trims, report_with};
 
 use std::alloc::{AllocError, Global};
@@ -18,10 +16,10 @@ use wf_complex::Protocol;
 use wf_io::{Sink, Source};
 use wf_lines::Lines;
 use wf_report::{Body, CertFault, Report};
-use wf_run::{RunFault, hand_out, read_task};
+use wf_run::RunFault;
 use wf_task::Task;
 use wf_trim::trim;
-use wf_verify_engine::{check_report, read_report_from};
+use wf_verify_engine::{ReportAnswer, check_report, run_over_report};
 
 /// Reads a task and a report about it, and checks the report, as
 /// [`run_verify`](wf_verify_engine::run_verify) does; then it writes a report about
@@ -38,40 +36,37 @@ pub fn run_trim<T: Threads + Sync, R: Read, C: Read, W: Write>(
     ensures { Trims task_source.old task_source.new report_source.old report_source.new
         sink.old sink.new result }
 {
-    let answer = trim_sources(rt, alloc, task_source, report_source);
-    hand_out(sink, answer)
+    run_over_report(
+        alloc,
+        task_source,
+        report_source,
+        sink,
+        None,
+        &ShorterReport { rt },
+    )
 }
 
-/// The text of a shorter report than a source's about another source's task.
-fn trim_sources<T: Threads + Sync, R: Read, C: Read>(
-    rt: &T,
-    alloc: Global,
-    task_source: &mut Source<R>,
-    report_source: &mut Source<C>,
-) -> Result<((), Vec<u8>), RunFault>
-    requires task { CanRead task_source.old }
-    requires report { CanRead report_source.old }
-    ensures { Checks None AreTrimmed task_source.old task_source.new report_source.old
-        report_source.new (answered result) }
-{
-    let task = read_task(alloc, task_source)?;
-    let report = read_report_from(alloc, report_source)?;
-    trim_report(rt, alloc, &task, report)
+/// A shorter report.
+#[derive(Clone, Copy)]
+struct ShorterReport<'a, T> {
+    rt: &'a T,
 }
 
-/// The text of a shorter report about a task than this one.
-fn trim_report<T: Threads + Sync>(
-    rt: &T,
-    alloc: Global,
-    task: &Task,
-    report: Report,
-) -> Result<((), Vec<u8>), RunFault>
-    requires { AreNumbered (body_length report.body) }
-    ensures { IsVerified AreTrimmed task.now (report_seen report) (answered result) }
-{
-    let protocol = check_report(rt, alloc, task, &report)?;
-    let shorter = shortened(rt, alloc, task, &protocol, report)?;
-    Ok(((), shorter.into_text(alloc)?))
+impl<'a, T: Threads + Sync> ReportAnswer for ShorterReport<'a, T> {
+    type Answer = ();
+
+    ghost is_text = { λ shorter. AreTrimmed };
+
+    fn of_report(
+        &self,
+        alloc: Global,
+        task: &Task,
+        report: Report,
+    ) -> Result<((), Vec<u8>), RunFault> {
+        let protocol = check_report(self.rt, alloc, task, &report)?;
+        let shorter = shortened(self.rt, alloc, task, &protocol, report)?;
+        Ok(((), shorter.into_text(alloc)?))
+    }
 }
 
 /// A report without a fault that has the same answer and some of the lines of one that has no fault

@@ -1,13 +1,12 @@
 //! The frames of runs: what each run over one source does, and each run over two.
 
 ghost use Rattle.std.specs.Prelude.{ℕ, List, Ok, Result};
-ghost use Rattle.wf_model.specs.Task.{Task};
+ghost use Rattle.wf_model.specs.Task as model;
 ghost use Rattle.wf_io.specs.Ends.{CanCount, CanRead};
 ghost use Rattle.wf_io.specs.Seen.{Reading};
 ghost use Rattle.wf_complex.specs.Protocol.{Builds};
 ghost use Rattle.wf_run.specs.Run.{Answers, Asks, Ran, answered};
 ghost use Rattle.wf_run.specs.Sources.{AsksBoth, AsksWithin, CanReadBoth};
-ghost use Rattle.wf_run.specs.declared.fault.RunFault.{RunFault};
 
 use crate::fault::RunFault;
 use crate::steps::{hand_out, read_task};
@@ -23,7 +22,7 @@ pub trait TaskAnswer {
     type Answer: Drop;
 
     // which text an answer has, for a task and so many rounds
-    ghost is_text: { Self → Task → ℕ → Self.Answer → List ℕ → Type 0 };
+    ghost is_text: { Self → model.Task → ℕ → Self.Answer → List ℕ → Type 0 };
 
     /// The answer, with its text.
     fn of_task(
@@ -70,7 +69,7 @@ fn ask_source<A: TaskAnswer, R: Read>(
 /// of it.
 pub trait SecondText {
     // what is read of the second source about a task after so many rounds
-    ghost reads: { Self → Task → ℕ → Reading → Reading
+    ghost reads: { Self → model.Task → ℕ → Reading → Reading
         → Result (Unit {0} × List ℕ) RunFault → Type 0 };
 
     /// The text that is made of what is read.

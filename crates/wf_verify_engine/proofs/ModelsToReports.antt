@@ -18,11 +18,11 @@ use Rattle.wf_report.specs.declared.fault.CertFault.TheVariants as amiss
 use Rattle.wf_check.specs.Faults.{Fails}
 use Rattle.wf_run.specs.Faults.{of_report_fault}
 use Rattle.wf_run.specs.declared.fault.RunFault.{RunFault}
-use Rattle.wf_verify_engine.specs.Models.{AsksMap, IsMapOf, ReadsMap, ReportsMap}
-use Rattle.wf_run.specs.Run.{HasComplex, Next, Reads, answered}
+use Rattle.wf_verify_engine.specs.Models.{IsMapOf, ReportsMap}
+use Rattle.wf_run.specs.Run.{HasComplex, Reads, answered}
 use Rattle.wf_verify_engine.specs.Verify.{IsFaultOf}
 use Rattle.wf_verify_engine.proofs.WrittenReports.{points_few}
-use Rattle.wf_run.proofs.RunsInPieces.{IsRefusal, asked}
+use Rattle.wf_run.proofs.RunsInPieces.{IsRefusal}
 
 -- a map has a value for each point
 map_long : (t : Task) (r : ℕ) (old new : Reading) (m : List ℕ) → Reads (IsMapOf t r) old new (Ok m) → length m ≡ length (points t r)
@@ -40,10 +40,6 @@ module _ (t : Task) (r : ℕ) (b : Built) (built : Builds t r (Ok b)) where
       let long = map_long t b.rounds old new m reads in
       let few = points_few t b.rounds own_rounds.2.task in
       omega (arith, long, few, own_rounds.1)
-
-  -- what is made of the map, or why there is none
-  pub mapped : (old new : Reading) (m : Result (List ℕ) RunFault) (result : Result (Unit {0} × List ℕ) RunFault) → Reads (IsMapOf t b.rounds) old new m → Next (ReportsMap t b.rounds) m result → AsksMap r t old new result
-  mapped old new m result reads next = asked ReadsMap t r b built old new result (m, reads, next)
 
 module _ (t : Task) (r : ℕ) (m : List ℕ) where
   fault_of : (e : CertFault) → HasComplex t r → Fails e (report_fault t r (report_about t r (a_map m))) → IsFaultOf t (report_about t r (a_map m)) (of_report_fault e)

@@ -6,7 +6,7 @@ use Rattle.wf_io.specs.Seen.{Reading, Writing}
 use Rattle.wf_cnf.specs.Models.{IsMapOfModel}
 use Rattle.wf_cnf.specs.declared.solver.ModelFault.TheVariants as model
 use Rattle.wf_run.specs.Run.{Next, Ran, Reads}
-use Rattle.wf_run.specs.Sources.{AsksBoth, AsksWithin}
+use Rattle.wf_run.specs.Sources.{AsksBoth}
 use Rattle.wf_verify_engine.specs.Verify.{IsVerified}
 use Rattle.wf_run.specs.declared.fault.RunFault.{RunFault}
 use Rattle.wf_run.specs.declared.fault.RunFault.TheVariants.{Model, OutOfMemory}
@@ -31,11 +31,7 @@ ReportsMap t r m result = IsVerified IsReportText t (report_about t r (a_map m))
 abbrev pub ReadsMap : Task → ℕ → Reading → Reading → Result (Unit {0} × List ℕ) RunFault → Type 0
 ReadsMap t r old new result = (m : Result (List ℕ) RunFault) × Reads (IsMapOf t r) old new m × Next (ReportsMap t r) m result
 
--- the limits are judged before the model is read
-abbrev pub AsksMap : ℕ → Task → Reading → Reading → Result (Unit {0} × List ℕ) RunFault → Type 0
-AsksMap r t old new result = AsksWithin ReadsMap r t old new result
-
--- the task is read before that
+-- the task is read, and the limits are judged, before the other text is read
 abbrev pub AsksModel : ℕ → Reading → Reading → Reading → Reading → Result (Unit {0} × List ℕ) RunFault → Type 0
 AsksModel r task task' output output' result = AsksBoth ReadsMap r task task' output output' result
 

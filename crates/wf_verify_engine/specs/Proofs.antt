@@ -13,7 +13,7 @@ use Rattle.wf_rup.specs.Seen.{Known}
 use Rattle.wf_rup.specs.Whole.{IsFaultOfProof}
 use Rattle.wf_rup.specs.Posed.{IsPosed}
 use Rattle.wf_run.specs.Run.{Ran, by_result, failed_reads}
-use Rattle.wf_run.specs.Sources.{AsksBoth, AsksWithin}
+use Rattle.wf_run.specs.Sources.{AsksBoth}
 use Rattle.wf_verify_engine.specs.Verify.{accepted_text}
 use Rattle.wf_run.specs.declared.fault.RunFault.{RunFault}
 use Rattle.wf_run.specs.declared.fault.RunFault.TheVariants.{Proof, OutOfMemory, Read, TooLong}
@@ -61,11 +61,7 @@ IsAcceptedNone t r answer = HasNoDecisionMap t r × (answer.1 ≡ accepted_text 
 abbrev pub ReadsProof : Task → ℕ → Reading → Reading → Result (Unit {0} × List ℕ) RunFault → Type 0
 ReadsProof t r old new result = ReadsProofOf (question t r) (IsAcceptedNone t r) old new result
 
--- the limits are judged before the proof is read
-abbrev pub AsksProof : ℕ → Task → Reading → Reading → Result (Unit {0} × List ℕ) RunFault → Type 0
-AsksProof r t old new result = AsksWithin ReadsProof r t old new result
-
--- the task is read before that
+-- the task is read, and the limits are judged, before the other text is read
 abbrev pub AsksRefutation : ℕ → Reading → Reading → Reading → Reading → Result (Unit {0} × List ℕ) RunFault → Type 0
 AsksRefutation r task task' proof proof' result = AsksBoth ReadsProof r task task' proof proof' result
 

@@ -6,7 +6,6 @@ use Rattle.wf_model.specs.Report.{Report, Body, a_map, none, least, body_values,
 use Rattle.wf_model.specs.Check.{report_fault}
 use Rattle.wf_model.specs.PointsText.{points_text}
 use Rattle.wf_io.specs.Seen.{Reading, Writing}
-use Rattle.wf_io.specs.Ends.{CanRead, CanCount}
 use Rattle.wf_complex.specs.Protocol.{Built, IsProtocol}
 use Rattle.wf_report.specs.declared.report.Report as code
 use Rattle.wf_report.specs.Reports.{report_seen}

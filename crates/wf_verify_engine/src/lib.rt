@@ -9,6 +9,7 @@
 //!   solver's model gives out.
 //! - [`run_proof`]: a task's text and a SAT solver's clausal proof in, and that no decision map is
 //!   accepted out.
+//! - [`run_over_report`]: what all runs over a task and a report do, for any [`ReportAnswer`].
 //! - [`read_report_from`], [`read_proof_from`], [`report_of`], [`obstruction_of`],
 //!   [`check_report`], [`judge_obstruction`], [`accepted_words`]: steps for the runs of other
 //!   crates.
@@ -38,4 +39,7 @@ pub use laws::{
 pub use model::run_model;
 pub use outcome::{Accepted, Verified};
 pub use proof::{MOST_PROOF_BYTES, read_proof_from, run_proof};
-pub use verify::{accepted_words, check_report, read_report_from, report_of, run_verify};
+pub use verify::{
+    ReportAnswer, accepted_words, check_report, read_report_from, report_of, run_over_report,
+    run_verify,
+};

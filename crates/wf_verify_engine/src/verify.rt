@@ -1,9 +1,11 @@
 //! Checking a report about a task.
 
-ghost use Rattle.std.specs.Prelude.{◌≡◌, IfOk, string_bytes};
+ghost use Rattle.std.specs.Prelude.{◌≡◌, ℕ, IfOk, List, string_bytes};
+ghost use Rattle.wf_model.specs.Task as tasks;
+ghost use Rattle.wf_model.specs.Report as reports;
 ghost use Rattle.wf_io.specs.Ends.{CanRead};
 ghost use Rattle.wf_report.specs.Reports.{AreNumbered, body_length, body_of, report_seen};
-ghost use Rattle.wf_run.specs.Run.{Reads, answered};
+ghost use Rattle.wf_run.specs.Run.{Ran, Reads, answered};
 ghost use Rattle.wf_run.specs.Sources.{CanReadBoth};
 ghost use Rattle.wf_verify_engine.specs.Verify.{Checks, ChecksText, IsAccepted, IsReportOf, IsVerified, IsVerifiedFor, Judges, Verifies, accepted_text, accepted_words, accepted_of, seen};
 
@@ -37,26 +39,106 @@ pub fn run_verify<T: Threads + Sync, R: Read, C: Read, W: Write>(
     ensures { Verifies rounds task_source.old task_source.new report_source.old report_source.new
         sink.old sink.new result }
 {
-    let answer = verify_sources(rt, alloc, task_source, report_source, rounds);
+    let acceptance = Acceptance { rt, rounds };
+    run_over_report(alloc, task_source, report_source, sink, rounds, &acceptance)
+}
+
+/// What a run answers about a report that is accepted, beside the text that it writes.
+pub trait ReportAnswer {
+    /// What is answered.
+    type Answer: Drop;
+
+    // which text an answer has, for a task and a report about it
+    ghost is_text: { Self → tasks.Task → reports.Report → Self.Answer → List ℕ → Type 0 };
+
+    /// The answer about a report, with its text, if the report is accepted.
+    fn of_report(
+        &self,
+        alloc: Global,
+        task: &Task,
+        report: Report,
+    ) -> Result<(Self::Answer, Vec<u8>), RunFault>
+        requires { AreNumbered (body_length report.body) }
+        ensures { IsVerified (is_text self.now) task.now (report_seen report) (answered result) };
+}
+
+/// Reads a task to its reader's end, then a report about it to its own reader's end, and writes the
+/// text of what is answered about the report, if the report is accepted. If rounds are asked for, a
+/// report for others is refused before its complex is built.
+pub fn run_over_report<A: ReportAnswer, R: Read, C: Read, W: Write>(
+    alloc: Global,
+    task_source: &mut Source<R>,
+    report_source: &mut Source<C>,
+    sink: &mut Sink<W>,
+    rounds: Option<u32>,
+    asked: &A,
+) -> Result<A::Answer, RunFault>
+    requires { CanReadBoth task_source.old report_source.old sink.old }
+    ensures { Ran (Checks rounds (A.is_text asked.now) task_source.old task_source.new
+        report_source.old report_source.new) sink.old sink.new result }
+{
+    let answer = ask_sources(alloc, task_source, report_source, rounds, asked);
     hand_out(sink, answer)
 }
 
-/// What is accepted of two sources, with its text.
-fn verify_sources<T: Threads + Sync, R: Read, C: Read>(
-    rt: &T,
+/// What is answered about a source's report about another source's task.
+fn ask_sources<A: ReportAnswer, R: Read, C: Read>(
     alloc: Global,
     task_source: &mut Source<R>,
     report_source: &mut Source<C>,
     rounds: Option<u32>,
-) -> Result<(Accepted, Vec<u8>), RunFault>
+    asked: &A,
+) -> Result<(A::Answer, Vec<u8>), RunFault>
     requires task { CanRead task_source.old }
     requires report { CanRead report_source.old }
-    ensures { Checks rounds (IsAccepted rounds) task_source.old task_source.new
+    ensures { Checks rounds (A.is_text asked.now) task_source.old task_source.new
         report_source.old report_source.new (answered result) }
 {
     let task = read_task(alloc, task_source)?;
     let report = read_report_from(alloc, report_source)?;
-    verify(rt, alloc, &task, &report, rounds)
+    answer_for(alloc, &task, report, rounds, asked)
+}
+
+/// What is answered about a report, if it is for the rounds that are asked for.
+fn answer_for<A: ReportAnswer>(
+    alloc: Global,
+    task: &Task,
+    report: Report,
+    rounds: Option<u32>,
+    asked: &A,
+) -> Result<(A::Answer, Vec<u8>), RunFault>
+    requires { AreNumbered (body_length report.body) }
+    ensures { IsVerifiedFor rounds (A.is_text asked.now) task.now (report_seen report)
+        (answered result) }
+{
+    match rounds {
+        Some(wanted) if wanted != report.header.rounds => Err(RunFault::OtherRounds),
+        _ => asked.of_report(alloc, task, report),
+    }
+}
+
+/// What is accepted of a report, which is told with the rounds if these are asked for.
+#[derive(Clone, Copy)]
+struct Acceptance<'a, T> {
+    rt: &'a T,
+    rounds: Option<u32>,
+}
+
+impl<'a, T: Threads + Sync> ReportAnswer for Acceptance<'a, T> {
+    type Answer = Accepted;
+
+    ghost is_text = { λ acceptance. IsAccepted acceptance.rounds };
+
+    fn of_report(
+        &self,
+        alloc: Global,
+        task: &Task,
+        report: Report,
+    ) -> Result<(Accepted, Vec<u8>), RunFault> {
+        let _protocol = check_report(self.rt, alloc, task, &report)?;
+        let text = accepted_text(alloc, &report.body, self.rounds)?;
+        Ok((accepted_of(&report.body), text.into_bytes()))
+    }
 }
 
 /// Reads a report to its reader's end, as the first step of a run over a report. It is refused
@@ -89,43 +171,7 @@ pub(crate) fn check_text<T: Threads + Sync>(
     ensures { ChecksText rounds task.now text.now (answered result) }
 {
     let report = report_of(alloc, text)?;
-    verify(rt, alloc, task, &report, rounds)
-}
-
-/// What is accepted of a report about a task, with its text. Where rounds are
-/// asked for, a report for others is refused.
-fn verify<T: Threads + Sync>(
-    rt: &T,
-    alloc: Global,
-    task: &Task,
-    report: &Report,
-    rounds: Option<u32>,
-) -> Result<(Accepted, Vec<u8>), RunFault>
-    requires { AreNumbered (body_length report.now.body) }
-    ensures { IsVerifiedFor rounds (IsAccepted rounds) task.now (report_seen report.now)
-        (answered result) }
-{
-    match rounds {
-        Some(asked) if asked != report.header.rounds => Err(RunFault::OtherRounds),
-        _ => accept(rt, alloc, task, report, rounds),
-    }
-}
-
-/// What is accepted of a report about a task, with its text, which tells the
-/// rounds where they were asked for.
-fn accept<T: Threads + Sync>(
-    rt: &T,
-    alloc: Global,
-    task: &Task,
-    report: &Report,
-    rounds: Option<u32>,
-) -> Result<(Accepted, Vec<u8>), RunFault>
-    requires { AreNumbered (body_length report.now.body) }
-    ensures { IsVerified (IsAccepted rounds) task.now (report_seen report.now) (answered result) }
-{
-    let _protocol = check_report(rt, alloc, task, report)?;
-    let text = accepted_text(alloc, &report.body, rounds)?;
-    Ok((accepted_of(&report.body), text.into_bytes()))
+    answer_for(alloc, task, report, rounds, &Acceptance { rt, rounds })
 }
 
 /// The protocol complex for the rounds of a report about a task, where the
