@@ -12,7 +12,7 @@ use Rattle.wf_args.specs.CommandLine.{command_line}
 use Rattle.wf_args.specs.declared.Job.{Job}
 use Rattle.wf_args.specs.declared.Job.TheVariants as job
 use Rattle.wf_args.specs.declared.WordsFault.{WordsFault}
-use Rattle.wf_args.specs.declared.slip.Mistake.{Mistake}
+use Rattle.wf_args.specs.declared.mistake.Mistake.{Mistake}
 use Rattle.wf_args.specs.declared.WordsFault.TheVariants as fault
 
 -- ---- the parser

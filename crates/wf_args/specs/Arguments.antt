@@ -4,7 +4,7 @@ use Rattle.std.specs.declared.io.ErrorKind.{ErrorKind}
 use Rattle.std.specs.declared.io.ErrorKind.TheVariants as kind
 use Rattle.wf_args.specs.declared.WordsFault.{WordsFault}
 use Rattle.wf_args.specs.declared.WordsFault.TheVariants.{Words, OutOfMemory}
-use Rattle.wf_args.specs.declared.slip.Mistake.TheVariants.{NotText}
+use Rattle.wf_args.specs.declared.mistake.Mistake.TheVariants.{NotText}
 
 -- out of memory is a fault of its own; after any other, one of the words is no text
 abbrev pub IsFaultOf : ErrorKind → WordsFault → Type 0

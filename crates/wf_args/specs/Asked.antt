@@ -23,15 +23,15 @@ use Rattle.wf_args.specs.declared.Job.TheVariants as job
 use Rattle.wf_args.specs.declared.WordsFault.{WordsFault}
 use Rattle.wf_args.specs.declared.WordsFault.TheVariants as fault
 use Rattle.wf_args.specs.declared.presets.Options.{Options}
-use Rattle.wf_args.specs.declared.slip.Piece.{Piece}
-use Rattle.wf_args.specs.declared.slip.Piece.TheVariants as piece
-use Rattle.wf_args.specs.declared.slip.Mistake.{Mistake}
-use Rattle.wf_args.specs.declared.slip.Mistake.TheVariants as slip
+use Rattle.wf_args.specs.declared.mistake.Piece.{Piece}
+use Rattle.wf_args.specs.declared.mistake.Piece.TheVariants as piece
+use Rattle.wf_args.specs.declared.mistake.Mistake.{Mistake}
+use Rattle.wf_args.specs.declared.mistake.Mistake.TheVariants as mistake
 
 abbrev pub Path : Type 0
 Path = String Global
 
--- What words ask for: a job, or one about the task in the file of this path; or none, by this slip.
+-- What words ask for: a job, or one about the task in the file of this path; or none, by this mistake.
 -- Or they are refused, or answered with help or the version, by an error of one of these kinds; and
 -- whether one of them is a negative number.
 pub data Asked : Type 0 where
@@ -54,19 +54,19 @@ number_of name rows = option_and_then read_number (one_of name rows)
 abbrev pub has_flag : Text → List Row → Bool
 has_flag name rows = option_map_or (λ text. bytes_eq text (codes "true")) (first_of name rows) false
 
--- what is asked with something that is to be given; where it is not, that is the slip
+-- what is asked with something that is to be given; where it is not, that is the mistake
 abbrev pub given : {X : Type 0} → Mistake → Option X → (X → Asked) → Asked
-given slip (Some x) asks = asks x
-given slip None asks = no_job slip
+given mistake (Some x) asks = asks x
+given mistake None asks = no_job mistake
 
 -- with an option that may not be left out
 abbrev pub needed : {X : Type 0} → Piece → Option X → (X → Asked) → Asked
-needed what = given (slip.Missing what)
+needed what = given (mistake.Missing what)
 
--- a job without a file, or the slip by which there is none
-abbrev pub this_or_slip : Result Job Mistake → Asked
-this_or_slip (Ok j) = this_job j
-this_or_slip (Err s) = no_job s
+-- a job without a file, or the mistake by which there is none
+abbrev pub this_or_mistake : Result Job Mistake → Asked
+this_or_mistake (Ok j) = this_job j
+this_or_mistake (Err s) = no_job s
 
 -- ---- the job of each subcommand
 
@@ -92,7 +92,7 @@ form_of rows = form_asked (has_flag (codes "verdict") rows) (has_flag (codes "le
 
 -- the search of one branch, of which there is no account
 abbrev pub branch_job : ℕ → ℕ → Form → Bool → Bool → Asked
-branch_job rounds branch form true progress = no_job (slip.Beside piece.Branch piece.Account)
+branch_job rounds branch form true progress = no_job (mistake.Beside piece.Branch piece.Account)
 branch_job rounds branch form false progress = this_job (job.SolveBranch rounds branch form progress)
 
 -- the search of all branches, or of one where it is named
@@ -102,8 +102,8 @@ solve_in (Some branch) rounds workers form account progress = branch_job rounds 
 
 abbrev pub solve_asked : List Row → Asked
 solve_asked rows =
-    needed piece.Rounds (rounds_of rows) (λ rounds. given slip.Workers (workers_of rows) (λ workers.
-    given (slip.Beside piece.Verdict piece.Least) (form_of rows) (λ form. solve_in (branch_of rows) rounds workers form
+    needed piece.Rounds (rounds_of rows) (λ rounds. given mistake.Workers (workers_of rows) (λ workers.
+    given (mistake.Beside piece.Verdict piece.Least) (form_of rows) (λ form. solve_in (branch_of rows) rounds workers form
     (has_flag (codes "account") rows) (has_flag (codes "progress") rows))))
 
 -- a report about the whole is checked
@@ -113,7 +113,7 @@ verify_whole rows = needed piece.Task (task_of rows) (λ path. this_job_on path 
 -- a part about a branch is checked, for the rounds that are given with it
 abbrev pub verify_branch : ℕ → List Row → Asked
 verify_branch branch rows =
-    needed piece.Task (task_of rows) (λ path. given (slip.Needs piece.Branch piece.Rounds) (rounds_of rows) (λ rounds.
+    needed piece.Task (task_of rows) (λ path. given (mistake.Needs piece.Branch piece.Rounds) (rounds_of rows) (λ rounds.
     this_job_on path (λ task. job.VerifyBranch task rounds branch)))
 
 abbrev pub verify_in : Option ℕ → List Row → Asked
@@ -130,8 +130,8 @@ views_asked rows = needed piece.Rounds (rounds_of rows) (λ rounds. this_job (jo
 abbrev pub points_for : Option ℕ → Option Text → Asked
 points_for (Some rounds) None = this_job (job.Points rounds)
 points_for None (Some path) = this_job_on path (λ task. job.Decisions task)
-points_for (Some rounds) (Some path) = no_job (slip.Beside piece.Rounds piece.Task)
-points_for None None = no_job (slip.Neither piece.Rounds piece.Task)
+points_for (Some rounds) (Some path) = no_job (mistake.Beside piece.Rounds piece.Task)
+points_for None None = no_job (mistake.Neither piece.Rounds piece.Task)
 
 abbrev pub points_asked : List Row → Asked
 points_asked rows = points_for (rounds_of rows) (task_of rows)
@@ -179,7 +179,7 @@ options_of rows processes = record {
   names = number_of (codes "names") rows;
 }
 
--- the job of a preset, or the slip by which there is none
+-- the job of a preset, or the mistake by which there is none
 abbrev pub this_preset : Result Preset Mistake → Asked
 this_preset (Ok preset) = this_job (job.Preset preset)
 this_preset (Err s) = no_job s
@@ -221,7 +221,7 @@ is_negative text = false
 -- what the subcommand that is found asks for, where words are taken
 abbrev pub asked_in : Option (Text × List Row) → Asked
 asked_in (Some (name, rows)) = asked_of name rows
-asked_in None = no_job (slip.Missing piece.Command)
+asked_in None = no_job (mistake.Missing piece.Command)
 
 abbrev pub judged : Kinds → Bool → Option (Text × List Row) → Asked
 judged [] negative found = asked_in found
@@ -237,7 +237,7 @@ job_asked words = judged (fault_of command_line words) (list_any is_negative wor
 abbrev pub IsJob : Asked → Job → Type 0
 IsJob (this_job asked) j = j ≡ asked
 IsJob (this_job_on path asked) j = (task : Path) × (string_bytes task ≡ path) × (j ≡ asked task)
-IsJob (no_job slip) j = ⊥
+IsJob (no_job mistake) j = ⊥
 IsJob (refused kinds negative) j = ⊥
 
 -- `clap` refuses words by an error that may come, and it is told whether one
@@ -247,11 +247,11 @@ IsRefusal kinds negative fault.OutOfMemory = Unit {0}
 IsRefusal kinds negative (fault.Words s) = ⊥
 IsRefusal kinds negative (fault.Clap e n) = IsAmong (kind_of e) kinds × (kind_of e ≢ kind.OutOfMemory) × (n ≡ negative)
 
--- A fault is the one of these words: the slip by which there is no job, or the error has a kind
+-- A fault is the one of these words: the mistake by which there is no job, or the error has a kind
 -- that may come. Memory may run out at any words, and is no error of words.
 abbrev pub IsFault : Asked → WordsFault → Type 0
 IsFault asked fault.OutOfMemory = Unit {0}
-IsFault (no_job slip) (fault.Words s) = s ≡ slip
+IsFault (no_job mistake) (fault.Words s) = s ≡ mistake
 IsFault (refused kinds negative) (fault.Clap e n) = IsRefusal kinds negative (fault.Clap e n)
 IsFault asked e = ⊥
 

@@ -5,8 +5,8 @@ ghost use Rattle.wf_model.specs.Limits.{most_workers};
 ghost use Rattle.clap.specs.Words.{first_of, found_of, rows_of, subcommand_rows_of};
 ghost use Rattle.wf_args.specs.Job.{CanBeDone};
 ghost use Rattle.wf_args.specs.declared.WordsFault.TheVariants as fault;
-ghost use Rattle.wf_args.specs.declared.slip.Mistake.TheVariants as slip;
-ghost use Rattle.wf_args.specs.Asked.{Answers, this_or_slip, asked_in, asked_of, branch_job, branches_asked, cnf_asked, executions_asked, explain_asked, has_flag, join_asked, lift_asked, model_asked, number_of, obstruction_asked, points_asked, preset_job_asked, proof_asked, solve_asked, this_job, trim_asked, verify_asked, verify_branch, verify_whole, views_asked, workers_of};
+ghost use Rattle.wf_args.specs.declared.mistake.Mistake.TheVariants as mistake;
+ghost use Rattle.wf_args.specs.Asked.{Answers, this_or_mistake, asked_in, asked_of, branch_job, branches_asked, cnf_asked, executions_asked, explain_asked, has_flag, join_asked, lift_asked, model_asked, number_of, obstruction_asked, points_asked, preset_job_asked, proof_asked, solve_asked, this_job, trim_asked, verify_asked, verify_branch, verify_whole, views_asked, workers_of};
 
 use crate::forms::form_of;
 use crate::limits::MOST_WORKERS;
@@ -97,21 +97,21 @@ fn job_of(alloc: Global, name: &str, found: &ArgMatches<'_>) -> Result<Job, Word
     }
 }
 
-/// A job without a file, or its slip.
+/// A job without a file, or its mistake.
 fn this(found: Result<Job, Mistake>) -> Result<Job, WordsFault>
     requires { IfOk found CanBeDone }
-    ensures asked { Answers (this_or_slip found) result }
+    ensures asked { Answers (this_or_mistake found) result }
     ensures can_be_done { IfOk result CanBeDone }
 {
     match found {
         Ok(job) => Ok(job),
-        Err(slip) => Err(WordsFault::Words(slip)),
+        Err(mistake) => Err(WordsFault::Words(mistake)),
     }
 }
 
 /// The fault where something that has to be given is not.
 fn missing(what: Piece) -> WordsFault
-    ensures { result ≡ fault.Words (slip.Missing what) }
+    ensures { result ≡ fault.Words (mistake.Missing what) }
 {
     WordsFault::Words(Mistake::Missing(what))
 }
@@ -119,7 +119,7 @@ fn missing(what: Piece) -> WordsFault
 /// The job of `solve`. There is none with both `--verdict` and `--least`, nor
 /// with both `--branch` and `--account`.
 fn solve_job(found: &ArgMatches<'_>) -> Result<Job, Mistake>
-    ensures asked { this_or_slip result ≡ solve_asked (rows_of (found_of found.now)) }
+    ensures asked { this_or_mistake result ≡ solve_asked (rows_of (found_of found.now)) }
     ensures can_be_done { IfOk result CanBeDone }
 {
     let rounds = number(found, "rounds").ok_or(Mistake::Missing(Piece::Rounds))?;
@@ -150,7 +150,7 @@ fn branch_job(
     account: bool,
     progress: bool,
 ) -> Result<Job, Mistake>
-    ensures asked { this_or_slip result ≡ branch_job rounds branch form account progress }
+    ensures asked { this_or_mistake result ≡ branch_job rounds branch form account progress }
     ensures can_be_done { IfOk result CanBeDone }
 {
     if account {
@@ -207,7 +207,7 @@ fn verify_whole(alloc: Global, found: &ArgMatches<'_>) -> Result<Job, WordsFault
 
 /// The job of `views`.
 fn views_job(found: &ArgMatches<'_>) -> Result<Job, Mistake>
-    ensures asked { this_or_slip result ≡ views_asked (rows_of (found_of found.now)) }
+    ensures asked { this_or_mistake result ≡ views_asked (rows_of (found_of found.now)) }
     ensures can_be_done { IfOk result CanBeDone }
 {
     let rounds = number(found, "rounds").ok_or(Mistake::Missing(Piece::Rounds))?;
@@ -231,7 +231,7 @@ fn points_job(alloc: Global, found: &ArgMatches<'_>) -> Result<Job, WordsFault>
 
 /// The job of `branches`.
 fn branches_job(found: &ArgMatches<'_>) -> Result<Job, Mistake>
-    ensures asked { this_or_slip result ≡ branches_asked (rows_of (found_of found.now)) }
+    ensures asked { this_or_mistake result ≡ branches_asked (rows_of (found_of found.now)) }
     ensures can_be_done { IfOk result CanBeDone }
 {
     let rounds = number(found, "rounds").ok_or(Mistake::Missing(Piece::Rounds))?;
@@ -255,7 +255,7 @@ fn join_job(alloc: Global, found: &ArgMatches<'_>) -> Result<Job, WordsFault>
 
 /// The job of `cnf`.
 fn cnf_job(found: &ArgMatches<'_>) -> Result<Job, Mistake>
-    ensures asked { this_or_slip result ≡ cnf_asked (rows_of (found_of found.now)) }
+    ensures asked { this_or_mistake result ≡ cnf_asked (rows_of (found_of found.now)) }
     ensures can_be_done { IfOk result CanBeDone }
 {
     let rounds = number(found, "rounds").ok_or(Mistake::Missing(Piece::Rounds))?;
@@ -338,7 +338,7 @@ fn lift_job(alloc: Global, found: &ArgMatches<'_>) -> Result<Job, WordsFault>
 
 /// The job of `executions`.
 fn executions_job(found: &ArgMatches<'_>) -> Result<Job, Mistake>
-    ensures asked { this_or_slip result ≡ executions_asked (rows_of (found_of found.now)) }
+    ensures asked { this_or_mistake result ≡ executions_asked (rows_of (found_of found.now)) }
     ensures can_be_done { IfOk result CanBeDone }
 {
     let rounds = number(found, "rounds").ok_or(Mistake::Missing(Piece::Rounds))?;
@@ -358,7 +358,7 @@ fn obstruction_job(found: &ArgMatches<'_>) -> Job
 
 /// The job of `preset`.
 fn preset_job(found: &ArgMatches<'_>) -> Result<Job, Mistake>
-    ensures asked { this_or_slip result ≡ preset_job_asked (rows_of (found_of found.now)) }
+    ensures asked { this_or_mistake result ≡ preset_job_asked (rows_of (found_of found.now)) }
     ensures can_be_done { IfOk result CanBeDone }
 {
     let kind = text(found, "kind").ok_or(Mistake::Missing(Piece::Kind))?;

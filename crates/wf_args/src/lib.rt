@@ -12,15 +12,15 @@ mod command;
 mod forms;
 mod jobs;
 mod limits;
+mod mistake;
 mod presets;
-mod slip;
 mod version;
 
 use crate::command::whole_command;
 use crate::jobs::job_in;
 use clap::ArgMatches;
 use clap::error::ErrorKind;
-pub use slip::{Mistake, Piece};
+pub use mistake::{Mistake, Piece};
 use std::alloc::{AllocError, Global};
 use std::io;
 pub use version::{LOGIC, VERSION};

@@ -3,7 +3,7 @@
 ghost use Rattle.std.specs.Prelude.{◌≡◌};
 ghost use Rattle.wf_args.specs.Presets.{agreement_asked, inputs_asked, preset_asked, renaming_asked};
 
-use crate::slip::{Mistake, Piece};
+use crate::mistake::{Mistake, Piece};
 use wf_preset::{Inputs, Preset};
 
 /// The options of `preset`, as they were given.
@@ -16,7 +16,7 @@ pub(crate) struct Options {
 }
 
 impl Options {
-    /// The preset of a kind with these options. It is a slip to ask for another kind, to leave out
+    /// The preset of a kind with these options. It is a mistake to ask for another kind, to leave out
     /// an option that the kind needs, and to give one of the other kind.
     pub(crate) fn preset(self, kind: &str) -> Result<Preset, Mistake>
         ensures { result ≡ preset_asked kind.now self }

@@ -147,7 +147,7 @@ module _ (source source' : Reading) (sink sink' : Writing) where
   declined (words.Clap e negative) done read (inl (help, shows)) = shown None done read shows
   declined (words.Clap e negative) done read (inr (inl (version, shows))) = shown (Some version_line) done read shows
   declined (words.Clap e negative) done read (inr (inr (mistake, is, same))) = subst (IsDone most_bytes 0 source source' sink sink') (sym is) (untouched (refusal.Clap e negative) refl read same)
-  declined (words.Words slip) done read (is, same) = subst (IsDone most_bytes 0 source source' sink sink') (sym is) (untouched (refusal.Words slip) refl read same)
+  declined (words.Words mistake) done read (is, same) = subst (IsDone most_bytes 0 source source' sink sink') (sym is) (untouched (refusal.Words mistake) refl read same)
   declined words.OutOfMemory done read (is, same) = subst (IsDone most_bytes 0 source source' sink sink') (sym is) (untouched (refusal.Run run.OutOfMemory) refl read same)
 
   -- a check of the source's report about the task of a file, without and with a fault
@@ -367,7 +367,7 @@ of_fault e = (omega arith, omega arith)
 of_refusal : (e : Refusal) → (2 ≤ refusal_status e) × (refusal_status e ≤ 4)
 of_refusal (refusal.Run e) = of_fault e
 of_refusal (refusal.GaveUp at) = (omega arith, omega arith)
-of_refusal (refusal.Words slip) = (omega arith, omega arith)
+of_refusal (refusal.Words mistake) = (omega arith, omega arith)
 of_refusal (refusal.Clap e negative) = (omega arith, omega arith)
 
 small : (status : ℕ) → status ≤ 1 → failed_calls status ≡ 0

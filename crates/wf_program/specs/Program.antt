@@ -40,7 +40,7 @@ use Rattle.wf_obstruction_engine.specs.Finding.{FindsObstruction, gave_up_text, 
 use Rattle.wf_obstruction_engine.specs.declared.finding.Finding.{Finding}
 use Rattle.wf_obstruction_engine.specs.declared.finding.Finding.TheVariants.{Found, NotFound, GaveUp}
 use Rattle.wf_args.specs.Asked.{Answers, job_asked}
-use Rattle.wf_args.specs.Slips.{slip_line}
+use Rattle.wf_args.specs.Mistakes.{mistake_line}
 use Rattle.wf_args.specs.declared.Job.{Job}
 use Rattle.wf_args.specs.declared.Job.TheVariants.{Solve, SolveBranch, Verify, VerifyBranch, Views, Points, Branches, Join, Cnf, Model, Proof, Decisions, Trim, Explain, Lift, Executions, Obstruction, Preset}
 use Rattle.wf_args.specs.declared.WordsFault.{WordsFault}
@@ -69,7 +69,7 @@ fault_status e = 2
 abbrev pub refusal_status : Refusal → ℕ
 refusal_status (Run e) = fault_status e
 refusal_status (refusal.GaveUp at) = 2
-refusal_status (Words slip) = 2
+refusal_status (Words mistake) = 2
 refusal_status (Clap e negative) = 2
 
 -- the line that tells a refusal's number and name, with what it carries
@@ -80,7 +80,7 @@ refusal_line name = codes "wfcheck: " ++ (name ++ 10 ∷ [])
 abbrev pub refusal_text : Refusal → Option (List ℕ)
 refusal_text (Run e) = Some (refusal_line (fault_text e))
 refusal_text (refusal.GaveUp at) = Some (refusal_line (gave_up_text at))
-refusal_text (Words slip) = Some (refusal_line (codes "32 Words") ++ slip_line slip)
+refusal_text (Words mistake) = Some (refusal_line (codes "32 Words") ++ mistake_line mistake)
 refusal_text (Clap e negative) = None
 
 -- ---- what the words ask for
@@ -252,7 +252,7 @@ ShowsOrRefuses e negative sink sink' done =
 -- the words ask for a text, or they are refused, or memory ran out
 abbrev pub Declines : WordsFault → Writing → Writing → Result Done Refusal → Type 0
 Declines (fault.Clap e negative) sink sink' done = ShowsOrRefuses e negative sink sink' done
-Declines (fault.Words slip) sink sink' done = (done ≡ Err (Words slip)) × (sink' ≡ sink)
+Declines (fault.Words mistake) sink sink' done = (done ≡ Err (Words mistake)) × (sink' ≡ sink)
 Declines fault.OutOfMemory sink sink' done = (done ≡ Err (Run run.OutOfMemory)) × (sink' ≡ sink)
 
 -- the job was done; or there is none, and nothing was read, and no file was asked for

@@ -270,7 +270,7 @@ fn decline<W: Write>(alloc: Global, sink: &mut Sink<W>, fault: WordsFault) -> Re
             ErrorKind::DisplayVersion => show(alloc, sink, &VersionLine),
             _ => Err(Refusal::Clap { error, negative }),
         },
-        WordsFault::Words(slip) => Err(Refusal::Words(slip)),
+        WordsFault::Words(mistake) => Err(Refusal::Words(mistake)),
         WordsFault::OutOfMemory => Err(Refusal::Run(RunFault::OutOfMemory)),
     }
 }

@@ -1,10 +1,10 @@
 -- What is told of words that are read and make no job.
 use Rattle.std.specs.Prelude.{ℕ, List, [], ◌∷◌, ◌++◌, codes, decimal}
 use Rattle.wf_model.specs.Limits.{most_workers}
-use Rattle.wf_args.specs.declared.slip.Piece.{Piece}
-use Rattle.wf_args.specs.declared.slip.Piece.TheVariants as piece
-use Rattle.wf_args.specs.declared.slip.Mistake.{Mistake}
-use Rattle.wf_args.specs.declared.slip.Mistake.TheVariants as slip
+use Rattle.wf_args.specs.declared.mistake.Piece.{Piece}
+use Rattle.wf_args.specs.declared.mistake.Piece.TheVariants as piece
+use Rattle.wf_args.specs.declared.mistake.Mistake.{Mistake}
+use Rattle.wf_args.specs.declared.mistake.Mistake.TheVariants as mistake
 
 -- a piece of the command line as it is written there, or as help names it
 abbrev pub piece_text : Piece → List ℕ
@@ -25,18 +25,18 @@ piece_text piece.SetAgreement = codes "set-agreement"
 piece_text piece.Renaming = codes "renaming"
 
 -- what is wrong, and with which pieces
-abbrev pub slip_text : Mistake → List ℕ
-slip_text slip.NotText = codes "one of the words is no UTF-8 text"
-slip_text (slip.Missing what) = codes "the argument '" ++ (piece_text what ++ codes "' is missing")
-slip_text (slip.Needs who what) =
+abbrev pub mistake_text : Mistake → List ℕ
+mistake_text mistake.NotText = codes "one of the words is no UTF-8 text"
+mistake_text (mistake.Missing what) = codes "the argument '" ++ (piece_text what ++ codes "' is missing")
+mistake_text (mistake.Needs who what) =
     codes "'" ++ (piece_text who ++ (codes "' needs the argument '" ++ (piece_text what ++ codes "'")))
-slip_text (slip.Neither one other) =
+mistake_text (mistake.Neither one other) =
     codes "one of the arguments '" ++ (piece_text one ++ (codes "' and '" ++ (piece_text other ++ codes "' is needed")))
-slip_text (slip.Beside one other) =
+mistake_text (mistake.Beside one other) =
     codes "the argument '" ++ (piece_text one ++ (codes "' cannot be used with '" ++ (piece_text other ++ codes "'")))
-slip_text slip.OtherKind = codes "a preset is 'set-agreement' or 'renaming'"
-slip_text slip.Workers = codes "'--workers' takes a number from 1 to " ++ decimal most_workers
+mistake_text mistake.OtherKind = codes "a preset is 'set-agreement' or 'renaming'"
+mistake_text mistake.Workers = codes "'--workers' takes a number from 1 to " ++ decimal most_workers
 
 -- the line that tells it
-abbrev pub slip_line : Mistake → List ℕ
-slip_line s = codes "error: " ++ (slip_text s ++ 10 ∷ [])
+abbrev pub mistake_line : Mistake → List ℕ
+mistake_line s = codes "error: " ++ (mistake_text s ++ 10 ∷ [])

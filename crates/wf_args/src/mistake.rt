@@ -1,12 +1,12 @@
 //! What is wrong with words that `clap` takes and that make no job.
 
 ghost use Rattle.std.specs.Prelude.{Some};
-ghost use Rattle.wf_args.specs.Slips.{piece_text, slip_text};
+ghost use Rattle.wf_args.specs.Mistakes.{piece_text, mistake_text};
 
 use crate::limits::MOST_WORKERS;
 use std::fmt;
 
-/// A piece of the command line that a slip names. Its text is the piece as it is written there.
+/// A piece of the command line that a mistake names. Its text is the piece as it is written there.
 #[derive(Clone, Copy, Debug, PartialEq, Eq)]
 pub enum Piece {
     /// The name of a subcommand.
@@ -86,7 +86,7 @@ pub enum Mistake {
 }
 
 impl fmt::Display for Mistake {
-    ghost output = { λ slip. Some (slip_text slip) };
+    ghost output = { λ mistake. Some (mistake_text mistake) };
 
     fn fmt<W: fmt::Write>(&self, f: &mut fmt::Formatter<W>) -> fmt::Result {
         match self {
