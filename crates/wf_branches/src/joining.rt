@@ -10,6 +10,7 @@ ghost use Rattle.wf_branches.specs.Joining.{AcceptsJoined, GathersAll, HasListsF
 
 use crate::branch::cover_of;
 use crate::parts::{next_part, take_part};
+use crate::verifying::PartJudge;
 use std::alloc::{AllocError, Global};
 use std::io::{Read, Write};
 use std::thread::Threads;
@@ -124,11 +125,12 @@ fn gather<T: Threads + Sync>(
     ensures few { IfOk result (HasListsFor cover.now) }
 {
     let checker = ReportChecker::of(alloc, task)?;
+    let judge = PartJudge { rt, task, protocol };
     let mut rest = text;
     let mut lists = Vec::new(alloc);
     for number in 0..cover.branches() {
         let (part, behind) = next_part(rest);
-        match take_part(rt, alloc, task, protocol, cover, &checker, number, part)? {
+        match take_part(&judge, alloc, cover, &checker, number, part)? {
             Body::Map(values) => return Ok(Gathered::WithMap(values)),
             Body::Nothing(lines) => keep(&mut lists, lines)?,
             Body::Least(values, lines) => {

@@ -40,5 +40,5 @@ pub use laws::{
 };
 pub use listing::run_branches;
 pub use refuting::run_proof_branch;
-pub use solving::{run_solve_branch, run_solve_branch_watched};
+pub use solving::{BranchSearch, run_solve_branch};
 pub use verifying::run_verify_branch;

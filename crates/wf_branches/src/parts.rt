@@ -8,7 +8,7 @@ ghost use Rattle.wf_branches.specs.Branches.{IsCoverOf};
 ghost use Rattle.wf_branches.specs.Joining.{IsBodyIn, TakesPart, body_seen, ends_here, in_part, next_part, part_length};
 
 use crate::branch::branch_in;
-use crate::verifying::{check_part, part_of};
+use crate::verifying::{PartJudge, check_part, part_of};
 use std::alloc::Global;
 use std::thread::Threads;
 use wf_check::ReportChecker;
@@ -56,22 +56,20 @@ fn ends_here(text: &[u8]) -> bool
 
 /// What a part says of a branch, where it is accepted. Refused as one among others.
 pub(crate) fn take_part<T: Threads + Sync>(
-    rt: &T,
+    judge: &PartJudge<T>,
     alloc: Global,
-    task: &Task,
-    protocol: &Protocol,
     cover: &Cover,
     checker: &ReportChecker,
     number: u32,
     text: &[u8],
 ) -> Result<Body, RunFault>
-    requires protocol { IsProtocol task.now protocol.now.rounds protocol.now }
-    requires cover { IsCoverOf task.now protocol.now.rounds cover.now }
-    requires checker { IsCheckerOf task.now checker.now }
+    requires protocol { IsProtocol judge.now.task.now judge.now.protocol.now.rounds judge.now.protocol.now }
+    requires cover { IsCoverOf judge.now.task.now judge.now.protocol.now.rounds cover.now }
+    requires checker { IsCheckerOf judge.now.task.now checker.now }
     requires there { number < length (boxes_left_out cover.now) }
-    ensures { TakesPart number task.now protocol.now.rounds text.now (body_seen result) }
+    ensures { TakesPart number judge.now.task.now judge.now.protocol.now.rounds text.now (body_seen result) }
 {
-    match body_in(rt, alloc, task, protocol, cover, checker, number, text) {
+    match body_in(judge, alloc, cover, checker, number, text) {
         Ok(body) => Ok(body),
         Err(fault) => Err(in_part(number, fault)),
     }
@@ -79,24 +77,22 @@ pub(crate) fn take_part<T: Threads + Sync>(
 
 /// What a text says of a branch, where it is a part about it that is accepted.
 fn body_in<T: Threads + Sync>(
-    rt: &T,
+    judge: &PartJudge<T>,
     alloc: Global,
-    task: &Task,
-    protocol: &Protocol,
     cover: &Cover,
     checker: &ReportChecker,
     number: u32,
     text: &[u8],
 ) -> Result<Body, RunFault>
-    requires protocol { IsProtocol task.now protocol.now.rounds protocol.now }
-    requires cover { IsCoverOf task.now protocol.now.rounds cover.now }
-    requires checker { IsCheckerOf task.now checker.now }
+    requires protocol { IsProtocol judge.now.task.now judge.now.protocol.now.rounds judge.now.protocol.now }
+    requires cover { IsCoverOf judge.now.task.now judge.now.protocol.now.rounds cover.now }
+    requires checker { IsCheckerOf judge.now.task.now checker.now }
     requires there { number < length (boxes_left_out cover.now) }
-    ensures { IsBodyIn number task.now protocol.now.rounds text.now (body_seen result) }
+    ensures { IsBodyIn number judge.now.task.now judge.now.protocol.now.rounds text.now (body_seen result) }
 {
     let branch = branch_in(alloc, cover, number)?;
     let report = part_of(alloc, &branch, text)?;
-    check_part(rt, alloc, task, protocol, checker, branch, &report)?;
+    check_part(judge, alloc, checker, branch, &report)?;
     Ok(report.body)
 }
 

@@ -70,44 +70,52 @@ impl<'a, T: Threads + Sync> SecondText for PartOfBranch<'a, T> {
         source: &mut Source<C>,
     ) -> Result<((), Vec<u8>), RunFault> {
         let branch = branch_of(alloc, task, protocol, self.number)?;
-        verify_part(self.rt, alloc, task, protocol, branch, source)
+        let judge = PartJudge {
+            rt: self.rt,
+            task,
+            protocol,
+        };
+        verify_part(&judge, alloc, branch, source)
     }
+}
+
+/// What parts are judged by: a task, its protocol complex, and what starts threads.
+pub(crate) struct PartJudge<'a, T> {
+    pub(crate) rt: &'a T,
+    pub(crate) task: &'a Task,
+    pub(crate) protocol: &'a Protocol,
 }
 
 /// The line that tells what is accepted of a source's part about a branch.
 fn verify_part<T: Threads + Sync, C: Read>(
-    rt: &T,
+    judge: &PartJudge<T>,
     alloc: Global,
-    task: &Task,
-    protocol: &Protocol,
     branch: FoundBranch,
     source: &mut Source<C>,
 ) -> Result<((), Vec<u8>), RunFault>
     requires source { CanRead source.old }
-    requires protocol { IsProtocol task.now protocol.now.rounds protocol.now }
-    requires branch { IsBranch task.now protocol.now.rounds branch.number branch }
-    ensures { ReadsPart branch.number task.now protocol.now.rounds source.old source.new
+    requires protocol { IsProtocol judge.now.task.now judge.now.protocol.now.rounds judge.now.protocol.now }
+    requires branch { IsBranch judge.now.task.now judge.now.protocol.now.rounds branch.number branch }
+    ensures { ReadsPart branch.number judge.now.task.now judge.now.protocol.now.rounds source.old source.new
         (answered result) }
 {
     let text = read_all(alloc, source, LONGEST)?;
-    judge_part(rt, alloc, task, protocol, branch, &text)
+    judge_part(judge, alloc, branch, &text)
 }
 
 /// The line that tells what is accepted of a text as a part about a branch.
 fn judge_part<T: Threads + Sync>(
-    rt: &T,
+    judge: &PartJudge<T>,
     alloc: Global,
-    task: &Task,
-    protocol: &Protocol,
     branch: FoundBranch,
     text: &[u8],
 ) -> Result<((), Vec<u8>), RunFault>
-    requires protocol { IsProtocol task.now protocol.now.rounds protocol.now }
-    requires branch { IsBranch task.now protocol.now.rounds branch.number branch }
-    ensures { JudgesPart branch.number task.now protocol.now.rounds text.now (answered result) }
+    requires protocol { IsProtocol judge.now.task.now judge.now.protocol.now.rounds judge.now.protocol.now }
+    requires branch { IsBranch judge.now.task.now judge.now.protocol.now.rounds branch.number branch }
+    ensures { JudgesPart branch.number judge.now.task.now judge.now.protocol.now.rounds text.now (answered result) }
 {
     let report = part_of(alloc, &branch, text)?;
-    accept(rt, alloc, task, protocol, branch, &report)
+    accept(judge, alloc, branch, &report)
 }
 
 /// The report of a part about a branch.
@@ -137,44 +145,49 @@ fn behind<'a>(head: &[u8], text: &'a [u8]) -> Option<&'a [u8]>
 
 /// The line that tells what is accepted of a report about a branch.
 fn accept<T: Threads + Sync>(
-    rt: &T,
+    judge: &PartJudge<T>,
     alloc: Global,
-    task: &Task,
-    protocol: &Protocol,
     branch: FoundBranch,
     report: &Report,
 ) -> Result<((), Vec<u8>), RunFault>
     requires few { AreNumbered (body_length report.now.body) }
-    requires protocol { IsProtocol task.now protocol.now.rounds protocol.now }
-    requires branch { IsBranch task.now protocol.now.rounds branch.number branch }
-    ensures { ChecksPart branch.number task.now protocol.now.rounds (report_seen report.now)
-        (answered result) }
+    requires protocol { IsProtocol judge.now.task.now judge.now.protocol.now.rounds judge.now.protocol.now }
+    requires branch { IsBranch judge.now.task.now judge.now.protocol.now.rounds branch.number branch }
+    ensures { ChecksPart branch.number judge.now.task.now judge.now.protocol.now.rounds
+        (report_seen report.now) (answered result) }
 {
     let index = branch.index();
-    let checker = ReportChecker::of(alloc, task)?;
-    check_part(rt, alloc, task, protocol, &checker, branch, report)?;
-    let text = index.accepted(alloc, accepted_words(&report.body), protocol.rounds())?;
+    let checker = ReportChecker::of(alloc, judge.task)?;
+    check_part(judge, alloc, &checker, branch, report)?;
+    let rounds = judge.protocol.rounds();
+    let text = index.accepted(alloc, accepted_words(&report.body), rounds)?;
     Ok(((), text.into_bytes()))
 }
 
 /// Checks a report about a branch.
 pub(crate) fn check_part<T: Threads + Sync>(
-    rt: &T,
+    judge: &PartJudge<T>,
     alloc: Global,
-    task: &Task,
-    protocol: &Protocol,
     checker: &ReportChecker,
     branch: FoundBranch,
     report: &Report,
 ) -> Result<(), RunFault>
     requires few { AreNumbered (body_length report.now.body) }
-    requires protocol { IsProtocol task.now protocol.now.rounds protocol.now }
-    requires checker { IsCheckerOf task.now checker.now }
-    requires branch { IsBranch task.now protocol.now.rounds branch.number branch }
-    ensures { ChecksIn branch.number task.now protocol.now.rounds (report_seen report.now) result }
+    requires protocol { IsProtocol judge.now.task.now judge.now.protocol.now.rounds judge.now.protocol.now }
+    requires checker { IsCheckerOf judge.now.task.now checker.now }
+    requires branch { IsBranch judge.now.task.now judge.now.protocol.now.rounds branch.number branch }
+    ensures { ChecksIn branch.number judge.now.task.now judge.now.protocol.now.rounds
+        (report_seen report.now) result }
 {
     let is_elsewhere = is_outside(&report.body, &branch.sets);
-    checker.check_within(rt, alloc, task, protocol, branch.sets, report)?;
+    checker.check_within(
+        judge.rt,
+        alloc,
+        judge.task,
+        judge.protocol,
+        branch.sets,
+        report,
+    )?;
     if is_elsewhere {
         return Err(RunFault::NotInBranch);
     }

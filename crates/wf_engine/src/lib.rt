@@ -20,7 +20,7 @@ mod solve;
 pub use find::run_search;
 pub use laws::{answers_are_true, finding_is_counted, solving_is_counted, solving_is_finding};
 pub use outcome::Outcome;
-pub use search::{Search, WantedReport};
+pub use search::{OptionalGate, Search, WantedReport};
 pub use solve::{
     body_of_map, lines_kept, pose_problem, report_text, run_counted_search, run_solve,
     run_solve_one,

@@ -25,8 +25,9 @@ pub struct Search<'a, G> {
 
 /// A gate that there may be: it passes on what it is told, or holds nobody.
 #[derive(Clone, Copy)]
-pub(crate) struct OptionalGate<'a, G> {
-    pub(crate) gate: Option<&'a G>,
+pub struct OptionalGate<'a, G> {
+    /// Who is told, if anybody is.
+    pub gate: Option<&'a G>,
 }
 
 impl<'a, G: Gate> Gate for OptionalGate<'a, G> {

@@ -1,1 +1,2 @@
+pub mod JobKinds
 pub mod EveryRun

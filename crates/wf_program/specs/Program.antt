@@ -1,16 +1,18 @@
 -- What a run of the program reads, writes, tells and answers.
-use Rattle.std.specs.Prelude.{◌≡◌, ◌≢◌, ◌⊎◌, ℕ, Bool, true, false, List, [], ◌∷◌, ◌++◌, Option, Some, None, Result, Ok, Err, Vec, String, codes, map, string_bytes}
+use Rattle.std.specs.Prelude.{◌≡◌, ◌≢◌, ◌⊎◌, ◌<◌, ◌≤◌, ℕ, Bool, true, false, List, [], ◌∷◌, ◌++◌, Option, Some, None, Result, Ok, Err, Vec, String, codes, map, string_bytes}
 use Rattle.std.specs.declared.alloc.Global.{Global}
 use Rattle.clap.specs.Words.{kind_of}
 use Rattle.clap.specs.declared.error.Error.{Error}
 use Rattle.clap.specs.declared.error.ErrorKind.TheVariants as kind
 use Rattle.wf_core.specs.declared.Account as core
+use Rattle.wf_model.specs.Limits.{most_workers}
 use Rattle.wf_model.specs.Task.{Task}
 use Rattle.wf_model.specs.ViewsText.{views_text}
 use Rattle.wf_formula.specs.Dimacs.{question_text}
 use Rattle.wf_io.specs.Seen.{Reading, Writing}
 use Rattle.wf_io.specs.Ends.{CanCount, CanWrite}
 use Rattle.wf_io.specs.Texts.{Told, Tells}
+use Rattle.wf_engine.specs.declared.search.WantedReport.{WantedReport}
 use Rattle.wf_engine.specs.declared.outcome.Outcome.{Outcome}
 use Rattle.wf_engine.specs.declared.outcome.Outcome.TheVariants.{Map, Nothing}
 use Rattle.wf_verify_engine.specs.declared.outcome.Verified.{Verified}
@@ -53,6 +55,8 @@ use Rattle.wf_program.specs.declared.done.Note.{Note}
 use Rattle.wf_program.specs.declared.done.Note.TheVariants.{Account, NoObstruction}
 use Rattle.wf_program.specs.declared.filed.FileJob.{FileJob}
 use Rattle.wf_program.specs.declared.filed.FileJob.TheVariants as filed
+use Rattle.wf_program.specs.declared.lone.LoneJob.{LoneJob}
+use Rattle.wf_program.specs.declared.lone.LoneJob.TheVariants as lone
 use Rattle.wf_program.specs.declared.refusal.Refusal.{Refusal}
 use Rattle.wf_program.specs.declared.refusal.Refusal.TheVariants as refusal
 use Rattle.wf_program.specs.declared.refusal.Refusal.TheVariants.{Run, Words, Clap}
@@ -181,26 +185,47 @@ abbrev pub ListsOf : (Task → ℕ → List ℕ) → ℕ → Reading → Reading
 ListsOf text_of rounds source source' sink sink' done =
     (result : Result (Unit {0}) RunFault) × Lists text_of rounds source source' sink sink' result × (done ≡ written result)
 
--- what a job without a file does
-abbrev pub DoesAlone : Job → Reading → Reading → Writing → Writing → Result Done Refusal → Type 0
-DoesAlone (Solve rounds workers form true progress) source source' sink sink' done =
-    (result : Result (Outcome × core.Account) RunFault) × Solves rounds form source source' sink sink' result
+-- the source's task was decided for the report that is wanted, with an account or without one
+abbrev pub DecidesTask : Bool → WantedReport → ℕ → Reading → Reading → Writing → Writing → Result Done Refusal → Type 0
+DecidesTask true wanted workers source source' sink sink' done =
+    (result : Result (Outcome × core.Account) RunFault) × Solves wanted.rounds wanted.form source source' sink sink' result
     × (workers ≡ 1 → SearchesInOrder result) × (done ≡ solved result)
-DoesAlone (Solve rounds workers form false progress) source source' sink sink' done =
-    (result : Result Outcome RunFault) × Finds rounds form source source' sink sink' result × (done ≡ searched result)
-DoesAlone (SolveBranch rounds branch form progress) source source' sink sink' done =
-    (result : Result Outcome RunFault) × SolvesBranch rounds branch form source source' sink sink' result × (done ≡ searched result)
-DoesAlone (Views rounds) source source' sink sink' done = ListsOf views_text rounds source source' sink sink' done
-DoesAlone (Points rounds) source source' sink sink' done = ListsOf undecided_points rounds source source' sink sink' done
-DoesAlone (Branches rounds) source source' sink sink' done = ListsOf branches_text rounds source source' sink sink' done
-DoesAlone (Executions rounds) source source' sink sink' done = ListsOf executions_text rounds source source' sink sink' done
-DoesAlone (Cnf rounds branch) source source' sink sink' done =
+DecidesTask false wanted workers source source' sink sink' done =
+    (result : Result Outcome RunFault) × Finds wanted.rounds wanted.form source source' sink sink' result × (done ≡ searched result)
+
+-- what a job does without a file
+abbrev pub DoesAlone : LoneJob → Reading → Reading → Writing → Writing → Result Done Refusal → Type 0
+DoesAlone (lone.Solve wanted workers account progress) source source' sink sink' done = DecidesTask account wanted workers source source' sink sink' done
+DoesAlone (lone.SolveBranch wanted branch progress) source source' sink sink' done =
+    (result : Result Outcome RunFault) × SolvesBranch wanted.rounds branch wanted.form source source' sink sink' result × (done ≡ searched result)
+DoesAlone (lone.Views rounds) source source' sink sink' done = ListsOf views_text rounds source source' sink sink' done
+DoesAlone (lone.Points rounds) source source' sink sink' done = ListsOf undecided_points rounds source source' sink sink' done
+DoesAlone (lone.Branches rounds) source source' sink sink' done = ListsOf branches_text rounds source source' sink sink' done
+DoesAlone (lone.Executions rounds) source source' sink sink' done = ListsOf executions_text rounds source source' sink sink' done
+DoesAlone (lone.Cnf rounds branch) source source' sink sink' done =
     (result : Result (Unit {0}) RunFault) × ListsQuestion branch rounds source source' sink sink' result × (done ≡ written result)
-DoesAlone (Obstruction modulus progress) source source' sink sink' done =
+DoesAlone (lone.Obstruction modulus progress) source source' sink sink' done =
     (result : Result Finding RunFault) × FindsObstruction modulus source source' sink sink' result × (done ≡ sought result)
-DoesAlone (Preset preset) source source' sink sink' done =
+DoesAlone (lone.Preset preset) source source' sink sink' done =
     (result : Result (Unit {0}) RunFault) × WritesPreset preset sink sink' result × (source' ≡ source) × (done ≡ written result)
-DoesAlone job source source' sink sink' done = ⊥
+
+-- one worker at least, and no more than a run may have
+abbrev pub CanBeDoneAlone : LoneJob → Type 0
+CanBeDoneAlone (lone.Solve wanted workers account progress) = (0 < workers) × (workers ≤ most_workers)
+CanBeDoneAlone job = Unit {0}
+
+-- what a job does without a file; none where it has one
+abbrev pub lone_of : Job → Option LoneJob
+lone_of (Solve rounds workers form account progress) = Some (lone.Solve (record { rounds = rounds; form = form }) workers account progress)
+lone_of (SolveBranch rounds branch form progress) = Some (lone.SolveBranch (record { rounds = rounds; form = form }) branch progress)
+lone_of (Views rounds) = Some (lone.Views rounds)
+lone_of (Points rounds) = Some (lone.Points rounds)
+lone_of (Branches rounds) = Some (lone.Branches rounds)
+lone_of (Cnf rounds branch) = Some (lone.Cnf rounds branch)
+lone_of (Executions rounds) = Some (lone.Executions rounds)
+lone_of (Obstruction modulus progress) = Some (lone.Obstruction modulus progress)
+lone_of (Preset preset) = Some (lone.Preset preset)
+lone_of job = None
 
 -- what a job does with the task in its file, and the file's path; none where it has no file
 abbrev pub filed_of : Job → Option (FileJob × List ℕ)
@@ -217,15 +242,16 @@ filed_of job = None
 
 -- it was done with the task in the file, which is among those that may be opened under its path; or
 -- without one, and no file was asked for
-abbrev pub DoesBy : {F : Type 0} → Opens → Option (FileJob × List ℕ) → Job → Filing F → Filing F → Reading → Reading → Writing → Writing → Result Done Refusal → Type 0
-DoesBy opens (Some (what, path)) job folder folder' source source' sink sink' done =
+abbrev pub DoesBy : {F : Type 0} → Opens → Option (FileJob × List ℕ) → Option LoneJob → Filing F → Filing F → Reading → Reading → Writing → Writing → Result Done Refusal → Type 0
+DoesBy opens (Some (what, path)) alone folder folder' source source' sink sink' done =
     WithFile (opens path) (DoesWithFile what) folder folder' source source' sink sink' done
-DoesBy opens None job folder folder' source source' sink sink' done =
-    (folder' ≡ folder) × DoesAlone job source source' sink sink' done
+DoesBy opens None (Some what) folder folder' source source' sink sink' done =
+    (folder' ≡ folder) × DoesAlone what source source' sink sink' done
+DoesBy opens None None folder folder' source source' sink sink' done = ⊥
 
 -- what a job asks for was done
 abbrev pub Does : {F : Type 0} → Opens → Job → Filing F → Filing F → Reading → Reading → Writing → Writing → Result Done Refusal → Type 0
-Does opens job folder folder' source source' sink sink' done = DoesBy opens (filed_of job) job folder folder' source source' sink sink' done
+Does opens job folder folder' source source' sink sink' done = DoesBy opens (filed_of job) (lone_of job) folder folder' source source' sink sink' done
 
 -- the words ask neither for help nor for the version
 abbrev pub IsMistake : Error → Type 0
@@ -262,7 +288,7 @@ DoesAsked opens (Err e) folder folder' source source' sink sink' done = (folder'
 
 -- ---- a whole run
 
--- the exit status; an account that is asked for is told, and so is a refusal, and nothing else
+-- the exit status; a note is told, and so is a refusal, and nothing else
 abbrev pub Ends : Writing → Writing → Result Done Refusal → ℕ → Type 0
 Ends errors errors' (Ok done) result = (result ≡ done.status) × TellsNote errors errors' done.note
 Ends errors errors' (Err e) result = (result ≡ refusal_status e) × Tells errors errors' (refusal_text e)

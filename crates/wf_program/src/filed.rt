@@ -69,15 +69,7 @@ impl FileJob {
             Job::Trim { task } => (FileJob::Trim, task),
             Job::Explain { task } => (FileJob::Explain, task),
             Job::Lift { task, rounds } => (FileJob::Lift(*rounds), task),
-            Job::Solve { .. }
-            | Job::SolveBranch { .. }
-            | Job::Views { .. }
-            | Job::Points { .. }
-            | Job::Branches { .. }
-            | Job::Cnf { .. }
-            | Job::Executions { .. }
-            | Job::Obstruction { .. }
-            | Job::Preset(_) => return None,
+            _ => return None,
         };
         Some((filed, task.as_str()))
     }

@@ -14,6 +14,7 @@ mod executions;
 mod filed;
 mod files;
 mod laws;
+mod lone;
 mod program;
 mod refusal;
 mod version;

@@ -1,20 +1,16 @@
 //! From the words of a command line to the exit status.
 
-ghost use Rattle.std.specs.Prelude.{IfOk, None, ◌≡◌, ◌<◌, ◌≤◌};
-ghost use Rattle.wf_model.specs.Limits.{most_workers};
+ghost use Rattle.std.specs.Prelude.{IfOk};
 ghost use Rattle.wf_io.specs.Ends.{CanCount, CanWrite};
 ghost use Rattle.wf_io.specs.Texts.{Tells};
-ghost use Rattle.wf_engine.specs.Texts.{Finds, SearchesInOrder, Solves};
-ghost use Rattle.wf_branches.specs.Solving.{SolvesBranch};
-ghost use Rattle.wf_obstruction_engine.specs.Finding.{FindsObstruction};
 ghost use Rattle.wf_args.specs.Job.{CanBeDone};
 ghost use Rattle.wf_program.specs.Files.{CanAsk};
-ghost use Rattle.wf_program.specs.Program.{CanServe, Declines, Does, DoesAlone, Ends, IsAsked, ListsQuestion, Serves, Shows, filed_of};
+ghost use Rattle.wf_program.specs.Program.{CanServe, Declines, Does, Ends, IsAsked, Serves, Shows};
 
-use crate::done::{Done, after_searching, after_seeking, after_solving, after_writing};
-use crate::executions::run_executions;
+use crate::done::{Done, after_writing};
 use crate::filed::FileJob;
 use crate::files::{Files, Opener};
+use crate::lone::LoneJob;
 use crate::refusal::Refusal;
 use crate::version::VersionLine;
 use clap::error::ErrorKind;
@@ -23,14 +19,10 @@ use std::fmt::Display;
 use std::io::{Read, Write};
 use std::thread::Threads;
 use wf_args::{Job, WordsFault, read_words};
-use wf_branches::{run_branches, run_cnf_branch, run_solve_branch, run_solve_branch_watched};
-use wf_core::Account;
-use wf_engine::{Form, Outcome, run_find, run_find_watched, run_solve, run_solve_watched};
-use wf_finder::{Listener, Silent};
+use wf_finder::Listener;
 use wf_io::{Sink, Source};
-use wf_obstruction_engine::{Finding, run_obstruction};
 use wf_pool::Gate;
-use wf_run::{RunFault, hand_out, run_cnf, run_points, run_preset, run_views};
+use wf_run::{RunFault, hand_out};
 
 /// Runs what the words ask for, the first of which is the program's own name, and answers the exit
 /// status. Where the words could not be had, that is the refusal.
@@ -89,173 +81,12 @@ fn do_job<T: Threads + Sync, F: Files, G: Gate + Listener, R: Read, W: Write>(
     ensures { Does (F.opens folder.old.files) job.now folder.old folder.new source.old source.new
         sink.old sink.new result }
 {
-    match FileJob::of(job) {
-        Some((filed, path)) => filed.with_file(rt, alloc, folder, path, source, sink),
-        None => do_alone(rt, alloc, gate, source, sink, job),
+    if let Some((filed, path)) = FileJob::of(job) {
+        return filed.with_file(rt, alloc, folder, path, source, sink);
     }
-}
-
-/// Does what a job without a file asks for.
-fn do_alone<T: Threads + Sync, G: Gate + Listener, R: Read, W: Write>(
-    rt: &T,
-    alloc: Global,
-    gate: &G,
-    source: &mut Source<R>,
-    sink: &mut Sink<W>,
-    job: &Job,
-) -> Result<Done, Refusal>
-    requires ends { CanCount source.old sink.old }
-    requires limits { CanBeDone job.now }
-    requires alone { filed_of job.now ≡ None }
-    ensures { DoesAlone job.now source.old source.new sink.old sink.new result }
-{
-    match job {
-        Job::Solve {
-            rounds,
-            workers,
-            form,
-            account,
-            progress,
-        } => {
-            let gate = if *progress { Some(gate) } else { None };
-            if *account {
-                after_solving(solve_source(rt, alloc, gate, source, sink, *rounds, *workers, *form))
-            } else {
-                after_searching(find_source(
-                    rt, alloc, gate, source, sink, *rounds, *workers, *form,
-                ))
-            }
-        }
-        Job::SolveBranch {
-            rounds,
-            branch,
-            form,
-            progress,
-        } => {
-            let gate = if *progress { Some(gate) } else { None };
-            after_searching(search_source(alloc, gate, source, sink, *rounds, *branch, *form))
-        }
-        Job::Views { rounds } => after_writing(run_views(alloc, source, sink, *rounds)),
-        Job::Points { rounds } => after_writing(run_points(alloc, source, sink, *rounds)),
-        Job::Branches { rounds } => after_writing(run_branches(alloc, source, sink, *rounds)),
-        Job::Cnf { rounds, branch } => {
-            after_writing(ask_source(alloc, source, sink, *rounds, *branch))
-        }
-        Job::Executions { rounds } => {
-            after_writing(run_executions(alloc, source, sink, *rounds))
-        }
-        Job::Obstruction { modulus, progress } => {
-            let listener = if *progress { Some(gate) } else { None };
-            after_seeking(seek_source(alloc, listener, source, sink, *modulus))
-        }
-        Job::Preset(preset) => after_writing(run_preset(alloc, sink, *preset)),
-        Job::Verify { .. }
-        | Job::VerifyBranch { .. }
-        | Job::Join { .. }
-        | Job::Model { .. }
-        | Job::Proof { .. }
-        | Job::Decisions { .. }
-        | Job::Trim { .. }
-        | Job::Explain { .. }
-        | Job::Lift { .. } => unreachable!(),
-    }
-}
-
-/// Decides the source's task, and keeps an account. If there is a gate, it is told of the workers.
-fn solve_source<T: Threads + Sync, G: Gate, R: Read, W: Write>(
-    rt: &T,
-    alloc: Global,
-    gate: Option<&G>,
-    source: &mut Source<R>,
-    sink: &mut Sink<W>,
-    rounds: u32,
-    workers: u32,
-    form: Form,
-) -> Result<(Outcome, Account), RunFault>
-    requires ends { CanCount source.old sink.old }
-    requires workers { (0 < workers) × (workers ≤ most_workers) }
-    ensures solves { Solves rounds form source.old source.new sink.old sink.new result }
-    ensures in_order { workers ≡ 1 → SearchesInOrder result }
-{
-    match gate {
-        Some(gate) => { run_solve_watched(rt, alloc, source, sink, rounds, workers, form, gate) }
-        None => run_solve(rt, alloc, source, sink, rounds, workers, form),
-    }
-}
-
-/// Decides the source's task, without an account. If there is a gate, it is told of the workers.
-fn find_source<T: Threads + Sync, G: Gate, R: Read, W: Write>(
-    rt: &T,
-    alloc: Global,
-    gate: Option<&G>,
-    source: &mut Source<R>,
-    sink: &mut Sink<W>,
-    rounds: u32,
-    workers: u32,
-    form: Form,
-) -> Result<Outcome, RunFault>
-    requires ends { CanCount source.old sink.old }
-    requires workers { (0 < workers) × (workers ≤ most_workers) }
-    ensures { Finds rounds form source.old source.new sink.old sink.new result }
-{
-    match gate {
-        Some(gate) => run_find_watched(rt, alloc, source, sink, rounds, workers, form, gate),
-        None => run_find(rt, alloc, source, sink, rounds, workers, form),
-    }
-}
-
-/// Searches one branch of the question of the source's task. If there is a
-/// gate, it is told of the search.
-fn search_source<G: Gate, R: Read, W: Write>(
-    alloc: Global,
-    gate: Option<&G>,
-    source: &mut Source<R>,
-    sink: &mut Sink<W>,
-    rounds: u32,
-    branch: u32,
-    form: Form,
-) -> Result<Outcome, RunFault>
-    requires { CanCount source.old sink.old }
-    ensures { SolvesBranch rounds branch form source.old source.new sink.old sink.new result }
-{
-    match gate {
-        Some(gate) => run_solve_branch_watched(alloc, source, sink, rounds, branch, form, gate),
-        None => run_solve_branch(alloc, source, sink, rounds, branch, form),
-    }
-}
-
-/// Looks for an obstruction of the source's task. If there is a listener, it is told how the search
-/// goes on.
-fn seek_source<L: Listener, R: Read, W: Write>(
-    alloc: Global,
-    listener: Option<&L>,
-    source: &mut Source<R>,
-    sink: &mut Sink<W>,
-    modulus: Option<u32>,
-) -> Result<Finding, RunFault>
-    requires { CanCount source.old sink.old }
-    ensures { FindsObstruction modulus source.old source.new sink.old sink.new result }
-{
-    match listener {
-        Some(listener) => run_obstruction(alloc, source, sink, modulus, listener),
-        None => run_obstruction(alloc, source, sink, modulus, &Silent),
-    }
-}
-
-/// Writes the question of the source's task, or that of one of its branches.
-fn ask_source<R: Read, W: Write>(
-    alloc: Global,
-    source: &mut Source<R>,
-    sink: &mut Sink<W>,
-    rounds: u32,
-    branch: Option<u32>,
-) -> Result<(), RunFault>
-    requires { CanCount source.old sink.old }
-    ensures { ListsQuestion branch rounds source.old source.new sink.old sink.new result }
-{
-    match branch {
-        Some(branch) => run_cnf_branch(alloc, source, sink, rounds, branch),
-        None => run_cnf(alloc, source, sink, rounds),
+    match LoneJob::of(job) {
+        Some(lone) => lone.run(rt, alloc, gate, source, sink),
+        None => unreachable!(),
     }
 }
 

@@ -7,20 +7,20 @@ use Rattle.wf_branches.proofs.parts.body_in.Goals as goal
 
 pub returns-in_err-branch : goal.returns-in_err-branch
 returns-in_err-branch g c =
-    no_body c.args.number c.args.task.now c.args.protocol.now.rounds c.args.text.now OutOfMemory c.from_residual.result tt c.from_residual.ensures
+    no_body c.args.number c.args.judge.now.task.now c.args.judge.now.protocol.now.rounds c.args.text.now OutOfMemory c.from_residual.result tt c.from_residual.ensures
 
 pub returns-in_err-report : goal.returns-in_err-report
 returns-in_err-report g c =
-    let t = c.args.task.now in
-    let r = c.args.protocol.now.rounds in
+    let t = c.args.judge.now.task.now in
+    let r = c.args.judge.now.protocol.now.rounds in
     let branch = c.in_ok-branch.ensures t r c.requires.protocol.task c.requires.cover in
     let e = c.in_err-report.field-0.0 in
     no_body c.args.number t r c.args.text.now e c.from_residual-in_err-report.result (same_part c.args.number t r c.args.text.now c.in_ok-branch.branch branch (Err e) c.in_err-report.ensures.read) c.from_residual-in_err-report.ensures
 
 pub returns-in_err-check_part : goal.returns-in_err-check_part
 returns-in_err-check_part g c =
-    let t = c.args.task.now in
-    let r = c.args.protocol.now.rounds in
+    let t = c.args.judge.now.task.now in
+    let r = c.args.judge.now.protocol.now.rounds in
     let branch = c.in_ok-branch.ensures t r c.requires.protocol.task c.requires.cover in
     let report = report_seen c.in_ok-report.report in
     let e = c.in_err-check_part.field-0.0 in
@@ -29,8 +29,8 @@ returns-in_err-check_part g c =
 
 pub returns : goal.returns
 returns g c =
-    let t = c.args.task.now in
-    let r = c.args.protocol.now.rounds in
+    let t = c.args.judge.now.task.now in
+    let r = c.args.judge.now.protocol.now.rounds in
     let branch = c.in_ok-branch.ensures t r c.requires.protocol.task c.requires.cover in
     let report = report_seen c.in_ok-report.report in
     (Ok report, same_part c.args.number t r c.args.text.now c.in_ok-branch.branch branch (Ok report) c.in_ok-report.ensures.read, (subst (λ k. ChecksIn k t r report (Ok tt)) branch.number c.in_ok-check_part.ensures, refl))

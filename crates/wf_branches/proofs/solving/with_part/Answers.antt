@@ -9,17 +9,17 @@ use Rattle.wf_branches.proofs.solving.with_part.Goals as goal
 pub returns-in_ok-part_text-in-Map : goal.returns-in_ok-part_text-in-Map
 returns-in_ok-part_text-in-Map c =
     let t = c.args.task.now in
-    let r = c.args.rounds in
-    let i = c.args.index.number in
-    let answer = subst (IsAnswerAt (problem_of t r) (lines_kept c.args.form) i) c.in-Map.is c.requires.answer in
-    map_part t r i c.args.form c.in-Map.values.items c.in-Map.lines.items c.in_ok-part_text-in-Map.field-0.items c.requires.header.task answer
+    let r = c.args.wanted.rounds in
+    let i = c.args.head.index.number in
+    let answer = subst (IsAnswerAt (problem_of t r) (lines_kept c.args.wanted.form) i) c.in-Map.is c.requires.answer in
+    map_part t r i c.args.wanted.form c.in-Map.values.items c.in-Map.lines.items c.in_ok-part_text-in-Map.field-0.items c.requires.header.task answer
     (c.in_ok-part_text-in-Map.ensures ∙ ap (part_text t r i) c.body_of_map-body.ensures)
 
 pub returns-in_ok-part_text-in-Nothing : goal.returns-in_ok-part_text-in-Nothing
 returns-in_ok-part_text-in-Nothing c =
     let t = c.args.task.now in
-    let r = c.args.rounds in
-    let i = c.args.index.number in
-    let answer = subst (IsAnswerAt (problem_of t r) (lines_kept c.args.form) i) c.in-Nothing.is c.requires.answer in
-    none_part t r i c.args.form c.in-Nothing.lines.items c.in_ok-part_text-in-Nothing.field-0.items c.requires.header.task answer
+    let r = c.args.wanted.rounds in
+    let i = c.args.head.index.number in
+    let answer = subst (IsAnswerAt (problem_of t r) (lines_kept c.args.wanted.form) i) c.in-Nothing.is c.requires.answer in
+    none_part t r i c.args.wanted.form c.in-Nothing.lines.items c.in_ok-part_text-in-Nothing.field-0.items c.requires.header.task answer
     c.in_ok-part_text-in-Nothing.ensures

@@ -7,8 +7,8 @@ use Rattle.wf_branches.proofs.verifying.accept.Goals as goal
 
 pub returns : goal.returns
 returns g c =
-    let t = c.args.task.now in
-    let r = c.args.protocol.now.rounds in
+    let t = c.args.judge.now.task.now in
+    let r = c.args.judge.now.protocol.now.rounds in
     let index = c.index-index.ensures in
     let branch = c.requires.branch in
     let i = c.args.branch.number in

@@ -9,8 +9,8 @@ use Rattle.wf_branches.proofs.verifying.check_part.Goals as goal
 
 pub returns : goal.returns
 returns g c =
-    let t = c.args.task.now in
-    let r = c.args.protocol.now.rounds in
+    let t = c.args.judge.now.task.now in
+    let r = c.args.judge.now.protocol.now.rounds in
     let branch = c.requires.branch in
     let i = c.args.branch.number in
     let report = report_seen c.args.report.now in

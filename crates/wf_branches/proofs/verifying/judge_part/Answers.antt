@@ -8,7 +8,7 @@ pub returns-in_err-report : goal.returns-in_err-report
 returns-in_err-report g c =
     let e = c.in_err-report.field-0.0 in
     let is = subst (λ n. IsPartOf c.args.branch.number n c.args.text.now (Err e)) c.requires.branch.count c.in_err-report.ensures.read in
-    no_part c.args.branch.number c.args.task.now c.args.protocol.now.rounds c.args.text.now e c.from_residual.result is c.from_residual.ensures
+    no_part c.args.branch.number c.args.judge.now.task.now c.args.judge.now.protocol.now.rounds c.args.text.now e c.from_residual.result is c.from_residual.ensures
 
 pub returns : goal.returns
 returns g c =

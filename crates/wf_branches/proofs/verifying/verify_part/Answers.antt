@@ -5,5 +5,5 @@ use Rattle.wf_branches.proofs.verifying.verify_part.Goals as goal
 
 pub returns : goal.returns
 returns g c =
-    let judged = subst (λ text. JudgesPart c.args.branch.number c.args.task.now c.args.protocol.now.rounds text (answered c.judge_part.result)) c.deref.ensures.value c.judge_part.ensures in
+    let judged = subst (λ text. JudgesPart c.args.branch.number c.args.judge.now.task.now c.args.judge.now.protocol.now.rounds text (answered c.judge_part.result)) c.deref.ensures.value c.judge_part.ensures in
     (Ok c.in_ok-text.text.items, c.in_ok-text.ensures, judged)

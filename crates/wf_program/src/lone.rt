@@ -1,0 +1,228 @@
+//! What a job does without a file.
+
+ghost use Rattle.std.specs.Prelude.{◌≡◌, ◌<◌, ◌≤◌, IfSome};
+ghost use Rattle.wf_model.specs.Limits.{most_workers};
+ghost use Rattle.wf_args.specs.Job.{CanBeDone};
+ghost use Rattle.wf_io.specs.Ends.{CanCount};
+ghost use Rattle.wf_obstruction_engine.specs.Finding.{FindsObstruction};
+ghost use Rattle.wf_program.specs.Program.{CanBeDoneAlone, DecidesTask, DoesAlone, ListsQuestion, lone_of};
+
+use crate::done::{Done, after_searching, after_seeking, after_solving, after_writing};
+use crate::executions::run_executions;
+use crate::refusal::Refusal;
+use std::alloc::Global;
+use std::io::{Read, Write};
+use std::thread::Threads;
+use wf_args::Job;
+use wf_branches::{BranchSearch, run_branches, run_cnf_branch, run_solve_branch};
+use wf_engine::{Form, Search, WantedReport, run_counted_search, run_search};
+use wf_finder::{Listener, Silent};
+use wf_io::{Sink, Source};
+use wf_obstruction_engine::{Finding, run_obstruction};
+use wf_pool::Gate;
+use wf_run::{Preset, RunFault, run_cnf, run_points, run_preset, run_views};
+
+/// What a job does without a file.
+#[derive(Clone, Copy)]
+pub(crate) enum LoneJob {
+    /// Search the whole question of the source's task.
+    Solve {
+        wanted: WantedReport,
+        workers: u32,
+        account: bool,
+        progress: bool,
+    },
+    /// Search one branch of the question.
+    SolveBranch {
+        wanted: WantedReport,
+        branch: u32,
+        progress: bool,
+    },
+    /// List the points after so many rounds.
+    Views(u32),
+    /// Tell the points after so many rounds in words.
+    Points(u32),
+    /// List the branches of the question for so many rounds.
+    Branches(u32),
+    /// Write the question for so many rounds as a formula, or that of one branch.
+    Cnf(u32, Option<u32>),
+    /// List the executions of so many rounds in words.
+    Executions(u32),
+    /// Look for an obstruction, for this modulus if one is asked for.
+    Obstruction {
+        modulus: Option<u32>,
+        progress: bool,
+    },
+    /// Write the task of a name.
+    Preset(Preset),
+}
+
+impl LoneJob {
+    /// What a job does without a file; none if it has one.
+    pub(crate) fn of(job: &Job) -> Option<LoneJob>
+        ensures is { result ≡ lone_of job.now }
+        ensures limits { CanBeDone job.now → IfSome result CanBeDoneAlone }
+    {
+        match job {
+            Job::Solve {
+                rounds,
+                workers,
+                form,
+                account,
+                progress,
+            } => Some(LoneJob::Solve {
+                wanted: wanted(*rounds, *form),
+                workers: *workers,
+                account: *account,
+                progress: *progress,
+            }),
+            Job::SolveBranch {
+                rounds,
+                branch,
+                form,
+                progress,
+            } => Some(LoneJob::SolveBranch {
+                wanted: wanted(*rounds, *form),
+                branch: *branch,
+                progress: *progress,
+            }),
+            Job::Views { rounds } => Some(LoneJob::Views(*rounds)),
+            Job::Points { rounds } => Some(LoneJob::Points(*rounds)),
+            Job::Branches { rounds } => Some(LoneJob::Branches(*rounds)),
+            Job::Cnf { rounds, branch } => Some(LoneJob::Cnf(*rounds, *branch)),
+            Job::Executions { rounds } => Some(LoneJob::Executions(*rounds)),
+            Job::Obstruction { modulus, progress } => Some(LoneJob::Obstruction {
+                modulus: *modulus,
+                progress: *progress,
+            }),
+            Job::Preset(preset) => Some(LoneJob::Preset(*preset)),
+            _ => None,
+        }
+    }
+
+    /// Does it. If progress is asked for, the gate is told of a search.
+    pub(crate) fn run<T: Threads + Sync, G: Gate + Listener, R: Read, W: Write>(
+        self,
+        rt: &T,
+        alloc: Global,
+        gate: &G,
+        source: &mut Source<R>,
+        sink: &mut Sink<W>,
+    ) -> Result<Done, Refusal>
+        requires ends { CanCount source.old sink.old }
+        requires limits { CanBeDoneAlone self }
+        ensures { DoesAlone self source.old source.new sink.old sink.new result }
+    {
+        match self {
+            LoneJob::Solve {
+                wanted,
+                workers,
+                account,
+                progress,
+            } => {
+                let gate = told_if(progress, gate);
+                let search = Search {
+                    wanted,
+                    workers,
+                    gate,
+                };
+                decide(rt, alloc, source, sink, &search, account)
+            }
+            LoneJob::SolveBranch {
+                wanted,
+                branch,
+                progress,
+            } => {
+                let gate = told_if(progress, gate);
+                let search = BranchSearch {
+                    wanted,
+                    branch,
+                    gate,
+                };
+                after_searching(run_solve_branch(alloc, source, sink, &search))
+            }
+            LoneJob::Obstruction { modulus, progress } => {
+                after_seeking(seek(alloc, source, sink, modulus, told_if(progress, gate)))
+            }
+            LoneJob::Views(rounds) => after_writing(run_views(alloc, source, sink, rounds)),
+            LoneJob::Points(rounds) => after_writing(run_points(alloc, source, sink, rounds)),
+            LoneJob::Branches(rounds) => after_writing(run_branches(alloc, source, sink, rounds)),
+            LoneJob::Cnf(rounds, branch) => {
+                after_writing(write_question(alloc, source, sink, rounds, branch))
+            }
+            LoneJob::Executions(rounds) => {
+                after_writing(run_executions(alloc, source, sink, rounds))
+            }
+            LoneJob::Preset(preset) => after_writing(run_preset(alloc, sink, preset)),
+        }
+    }
+}
+
+/// The report that is wanted for so many rounds and in this form.
+fn wanted(rounds: u32, form: Form) -> WantedReport
+    ensures rounds { result.rounds ≡ rounds }
+    ensures form { result.form ≡ form }
+{
+    WantedReport { rounds, form }
+}
+
+/// The gate, if progress is asked for.
+fn told_if<G>(progress: bool, gate: &G) -> Option<&G> {
+    if progress { Some(gate) } else { None }
+}
+
+/// Decides the source's task, with an account or without one.
+fn decide<T: Threads + Sync, G: Gate, R: Read, W: Write>(
+    rt: &T,
+    alloc: Global,
+    source: &mut Source<R>,
+    sink: &mut Sink<W>,
+    search: &Search<G>,
+    account: bool,
+) -> Result<Done, Refusal>
+    requires ends { CanCount source.old sink.old }
+    requires workers { (0 < search.now.workers) × (search.now.workers ≤ most_workers) }
+    ensures { DecidesTask account search.now.wanted search.now.workers source.old source.new
+        sink.old sink.new result }
+{
+    if account {
+        after_solving(run_counted_search(rt, alloc, source, sink, search))
+    } else {
+        after_searching(run_search(rt, alloc, source, sink, search))
+    }
+}
+
+/// Looks for an obstruction of the source's task. If there is a listener, it is told how the search
+/// goes on.
+fn seek<L: Listener, R: Read, W: Write>(
+    alloc: Global,
+    source: &mut Source<R>,
+    sink: &mut Sink<W>,
+    modulus: Option<u32>,
+    listener: Option<&L>,
+) -> Result<Finding, RunFault>
+    requires { CanCount source.old sink.old }
+    ensures { FindsObstruction modulus source.old source.new sink.old sink.new result }
+{
+    match listener {
+        Some(listener) => run_obstruction(alloc, source, sink, modulus, listener),
+        None => run_obstruction(alloc, source, sink, modulus, &Silent),
+    }
+}
+
+/// Writes the question of the source's task, or that of one of its branches.
+fn write_question<R: Read, W: Write>(
+    alloc: Global,
+    source: &mut Source<R>,
+    sink: &mut Sink<W>,
+    rounds: u32,
+    branch: Option<u32>,
+) -> Result<(), RunFault>
+    requires { CanCount source.old sink.old }
+    ensures { ListsQuestion branch rounds source.old source.new sink.old sink.new result }
+{
+    match branch {
+        Some(branch) => run_cnf_branch(alloc, source, sink, rounds, branch),
+        None => run_cnf(alloc, source, sink, rounds),
+    }
+}
