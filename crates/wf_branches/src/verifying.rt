@@ -94,9 +94,12 @@ fn verify_part<T: Threads + Sync, C: Read>(
     source: &mut Source<C>,
 ) -> Result<((), Vec<u8>), RunFault>
     requires source { CanRead source.old }
-    requires protocol { IsProtocol judge.now.task.now judge.now.protocol.now.rounds judge.now.protocol.now }
-    requires branch { IsBranch judge.now.task.now judge.now.protocol.now.rounds branch.number branch }
-    ensures { ReadsPart branch.number judge.now.task.now judge.now.protocol.now.rounds source.old source.new
+    requires protocol { IsProtocol judge.now.task.now
+        judge.now.protocol.now.rounds judge.now.protocol.now }
+    requires branch { IsBranch judge.now.task.now
+        judge.now.protocol.now.rounds branch.number branch }
+    ensures { ReadsPart branch.number judge.now.task.now
+        judge.now.protocol.now.rounds source.old source.new
         (answered result) }
 {
     let text = read_all(alloc, source, LONGEST)?;
@@ -110,9 +113,12 @@ fn judge_part<T: Threads + Sync>(
     branch: FoundBranch,
     text: &[u8],
 ) -> Result<((), Vec<u8>), RunFault>
-    requires protocol { IsProtocol judge.now.task.now judge.now.protocol.now.rounds judge.now.protocol.now }
-    requires branch { IsBranch judge.now.task.now judge.now.protocol.now.rounds branch.number branch }
-    ensures { JudgesPart branch.number judge.now.task.now judge.now.protocol.now.rounds text.now (answered result) }
+    requires protocol { IsProtocol judge.now.task.now
+        judge.now.protocol.now.rounds judge.now.protocol.now }
+    requires branch { IsBranch judge.now.task.now
+        judge.now.protocol.now.rounds branch.number branch }
+    ensures { JudgesPart branch.number judge.now.task.now
+        judge.now.protocol.now.rounds text.now (answered result) }
 {
     let report = part_of(alloc, &branch, text)?;
     accept(judge, alloc, branch, &report)
@@ -151,8 +157,10 @@ fn accept<T: Threads + Sync>(
     report: &Report,
 ) -> Result<((), Vec<u8>), RunFault>
     requires few { AreNumbered (body_length report.now.body) }
-    requires protocol { IsProtocol judge.now.task.now judge.now.protocol.now.rounds judge.now.protocol.now }
-    requires branch { IsBranch judge.now.task.now judge.now.protocol.now.rounds branch.number branch }
+    requires protocol { IsProtocol judge.now.task.now
+        judge.now.protocol.now.rounds judge.now.protocol.now }
+    requires branch { IsBranch judge.now.task.now
+        judge.now.protocol.now.rounds branch.number branch }
     ensures { ChecksPart branch.number judge.now.task.now judge.now.protocol.now.rounds
         (report_seen report.now) (answered result) }
 {
@@ -173,9 +181,11 @@ pub(crate) fn check_part<T: Threads + Sync>(
     report: &Report,
 ) -> Result<(), RunFault>
     requires few { AreNumbered (body_length report.now.body) }
-    requires protocol { IsProtocol judge.now.task.now judge.now.protocol.now.rounds judge.now.protocol.now }
+    requires protocol { IsProtocol judge.now.task.now
+        judge.now.protocol.now.rounds judge.now.protocol.now }
     requires checker { IsCheckerOf judge.now.task.now checker.now }
-    requires branch { IsBranch judge.now.task.now judge.now.protocol.now.rounds branch.number branch }
+    requires branch { IsBranch judge.now.task.now
+        judge.now.protocol.now.rounds branch.number branch }
     ensures { ChecksIn branch.number judge.now.task.now judge.now.protocol.now.rounds
         (report_seen report.now) result }
 {
