@@ -67,7 +67,8 @@ pub(crate) fn take_part<T: Threads + Sync>(
     requires cover { IsCoverOf judge.now.task.now judge.now.protocol.now.rounds cover.now }
     requires checker { IsCheckerOf judge.now.task.now checker.now }
     requires there { number < length (boxes_left_out cover.now) }
-    ensures { TakesPart number judge.now.task.now judge.now.protocol.now.rounds text.now (body_seen result) }
+    ensures { TakesPart number judge.now.task.now judge.now.protocol.now.rounds
+        text.now (body_seen result) }
 {
     match body_in(judge, alloc, cover, checker, number, text) {
         Ok(body) => Ok(body),
@@ -88,7 +89,8 @@ fn body_in<T: Threads + Sync>(
     requires cover { IsCoverOf judge.now.task.now judge.now.protocol.now.rounds cover.now }
     requires checker { IsCheckerOf judge.now.task.now checker.now }
     requires there { number < length (boxes_left_out cover.now) }
-    ensures { IsBodyIn number judge.now.task.now judge.now.protocol.now.rounds text.now (body_seen result) }
+    ensures { IsBodyIn number judge.now.task.now judge.now.protocol.now.rounds
+        text.now (body_seen result) }
 {
     let branch = branch_in(alloc, cover, number)?;
     let report = part_of(alloc, &branch, text)?;
