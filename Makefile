@@ -9,11 +9,10 @@
 demo:
 	@gallery/demo $(if $(TASK),"$(TASK)" "$(ROUNDS)")
 
-# The proved program, at bin/wfcheck. Whatever it stands on is proved first.
+# The proved program, at bin/wfcheck. Whatever it stands on is proved first, several crates side by side. It may be stopped: called again,
+# it goes on there.
 build:
-	cd crates/wfcheck && rt run -- solve --rounds 1 --workers 1 --verdict < ../../examples/path-3.json > /dev/null
-	mkdir -p bin
-	cp crates/wfcheck/out/wfcheck bin/wfcheck
+	@checks/build
 
 # What changed since this last passed is proved over the work that is kept, and the tests that name it are run: no verdict.
 # The first time it proves every crate.
