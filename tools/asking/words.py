@@ -1,4 +1,4 @@
-"""The words of gallery/ask, and the question as a whole: the search and a solver are asked side by side."""
+"""The words of tools/ask, and the question as a whole: the search and a solver are asked side by side."""
 import argparse
 import pathlib
 import re
@@ -9,14 +9,10 @@ import subprocess
 import sys
 import tempfile
 
-import arrays
-import branches
-import never
-import runs
-import table
-from notes import Room, keep
-from questions import FEWER_ROUNDS, PLACES, SEARCH, Attempt, Question, first
-from runs import Clock, Late, Limits, Refused, Scope, Stopped, Undecided, say
+from . import arrays, branches, never, runs, table
+from .notes import Room, keep
+from .questions import FEWER_ROUNDS, PLACES, SEARCH, Attempt, Question, first
+from .runs import Clock, Late, Limits, Refused, Scope, Stopped, Undecided, say
 
 SOLVERS = {
     "cadical": "cadical -q --no-binary {formula} {proof}",
@@ -61,9 +57,9 @@ def asked(doc):
     words, found = parsed(doc)
     judge_numbers(words, found)
     path = pathlib.Path(found.task)
-    found.task = path if path.is_file() else runs.HERE / f"{found.task.removesuffix('.json')}.json"
+    found.task = path if path.is_file() else runs.TASKS / f"{found.task.removesuffix('.json')}.json"
     if not found.task.is_file():
-        words.error(f"{path} is no file, and no task of gallery/")
+        words.error(f"{path} is no file, and no task of gallery/tasks")
     rounds = re.fullmatch(r"(\d+)(?:\.\.(\d+))?", found.rounds, re.A)
     first_rounds, last = (int(rounds[1]), int(rounds[2] or rounds[1])) if rounds else (1, 0)
     if first_rounds > last:
@@ -156,7 +152,7 @@ def refusal(said, task):
     if not said.startswith("wfcheck: "):
         return said.rstrip("\n")
     about_task = re.match(r"wfcheck: (?:[1-9]|1[0-4]|18) ", said)
-    return said + (f"gallery/lint.py {task} says where, in words" if about_task else 'docs/FORMAT.md, "Refusals", says what that means')
+    return said + (f"tools/lint.py {task} says where, in words" if about_task else 'docs/FORMAT.md, "Refusals", says what that means')
 
 
 def main(doc):

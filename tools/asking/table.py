@@ -6,7 +6,7 @@ import re
 import sys
 import typing
 
-from notes import digest
+from .notes import digest
 
 HEADER = ["task", "rounds", "answer", "certificate", "bytes", "sha256", "seconds"]
 EVERY, NOT_DECIDED, NOTHING = "every", "not decided", "-"

@@ -7,9 +7,9 @@ import signal
 import subprocess
 import typing
 
-import runs
-from notes import VERDICT
-from runs import Clock, Late, Refused, say
+from . import runs
+from .notes import VERDICT
+from .runs import Clock, Late, Refused, say
 
 SEARCH = "the search"
 FEWER_ROUNDS = "the search after fewer rounds"

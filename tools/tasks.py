@@ -1,7 +1,7 @@
 #!/usr/bin/env python3
 """Task files from one predicate each.
 
-    tasks.py            writes the files of this folder
+    tasks.py            writes the files of gallery/tasks
     tasks.py NAME..     writes some of them
     tasks.py --list     says their names
 
@@ -19,14 +19,13 @@ import collections
 import itertools
 import json
 import pathlib
-import sys
 
-import lint
-
-HERE = pathlib.Path(__file__).resolve().parent
+GALLERY = pathlib.Path(__file__).resolve().parent.parent / "gallery/tasks"
 Task = collections.namedtuple("Task", "name text")
 MOST_PROCESSES, LARGEST, LARGEST_PLAIN = 4, 255, 63
-MOST_TUPLES = lint.MOST["tuples"]
+# how many bytes of a file are read, how many tuples it may have, and how many of what else
+LONGEST, MOST_TUPLES = 16_777_216, 65536
+MOST = {"input vertices": 64, "input simplices, with their faces": 4096, "listed outputs": 65536, "value lists": MOST_TUPLES}
 
 
 class Mistake(SystemExit):
@@ -65,10 +64,7 @@ def task(name, processes, inputs, legal, values, symmetric=False, first_block=No
     if first_block is not None:
         whole["first_block"] = first_block
     text = json.dumps(whole, separators=(",", ":"), sort_keys=True) + "\n"
-    try:
-        lint.read(text.encode())
-    except lint.Refused as refused:
-        raise Mistake(f"{name}: {refused.words}")
+    judge_sizes(name, whole, text)
     return Task(name, text)
 
 
@@ -92,6 +88,17 @@ def judge(name, processes, listed, values, first_block):
     if beyond:
         more = "" if largest == LARGEST else f"; up to {LARGEST} with first_block=1, which is version 2 of the file"
         raise Mistake(f"{name}: the value {beyond[0]!r} is not a whole number from 0 to {largest}{more}")
+
+
+def judge_sizes(name, whole, text):
+    """Refuses a task that is too large to be read."""
+    starts = [entry["in"] for entry in whole["delta"]]
+    found = [sum(len(start) == 1 for start in starts), len(starts), len(whole["outputs"]), sum(len(it["out"]) for it in whole["delta"])]
+    for many, (what, most) in zip(found, MOST.items()):
+        if many > most:
+            raise Mistake(f"{name}: there are {many} {what}, and at most {most} are read")
+    if len(text) > LONGEST:
+        raise Mistake(f"{name}: the file has more than {LONGEST} bytes")
 
 
 def by_size(simplex):
@@ -426,7 +433,7 @@ def main():
         words.error(f"no task here is named {unknown[0]!r}")
     for each in made:
         if not asked.names or each.name in asked.names:
-            print(each.name if asked.list else write(each, HERE).name)
+            print(each.name if asked.list else write(each, GALLERY).name)
 
 
 if __name__ == "__main__":

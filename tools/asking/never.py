@@ -1,11 +1,11 @@
-"""The answer for every number of rounds, for gallery/ask: `wfcheck obstruction` looks for an obstruction of the task, and `wfcheck verify`
+"""The answer for every number of rounds, for tools/ask: `wfcheck obstruction` looks for an obstruction of the task, and `wfcheck verify`
 has to accept it. If none is found, that says nothing about the task."""
 import re
 
-import table
-from notes import Room, keep
-from questions import answered
-from runs import Clock, Late, Refused, Scope, say
+from . import table
+from .notes import Room, keep
+from .questions import answered
+from .runs import Clock, Late, Refused, Scope, say
 
 ACCEPTED = "accepted none at every number of rounds"
 FIRST_BLOCK, GAVE_UP = "wfcheck: 50 FirstBlock", "wfcheck: 60 GaveUp"

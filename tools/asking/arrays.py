@@ -1,4 +1,4 @@
-"""The script of an array of jobs for gallery/ask: each job asks a share of a question's branches, on a cluster with one of these engines."""
+"""The script of an array of jobs for tools/ask: each job asks a share of a question's branches, on a cluster with one of these engines."""
 import json
 import math
 import pathlib
@@ -6,7 +6,7 @@ import re
 import shlex
 import sys
 
-from runs import Refused
+from .runs import Refused
 
 # how many jobs there are where --jobs doesn't say: a job costs an engine seconds, and Slurm refuses arrays above 1,001 if it isn't told
 JOBS = 16

@@ -16,7 +16,7 @@ import tempfile
 import time
 import typing
 
-from runs import not_cut_off, say
+from .runs import not_cut_off, say
 
 VERDICT = "verdict"
 TRIES, PAUSE = 20, 0.05

@@ -15,8 +15,8 @@ import threading
 import time
 import typing
 
-HERE = pathlib.Path(__file__).resolve().parent
-PROGRAM = HERE.parent / "bin/wfcheck"
+TOP = pathlib.Path(__file__).resolve().parent.parent.parent
+PROGRAM, TASKS = TOP / "bin/wfcheck", TOP / "gallery/tasks"
 # how many bytes are read of what a program says
 TOLD = 1 << 20
 # a program that one of these ended was most likely ended with all of this run, which then gets the signal within a second

@@ -1,4 +1,4 @@
-"""A question branch by branch, for gallery/ask: each is a job of its own, and what is accepted of one is noted in the folder of --keep."""
+"""A question branch by branch, for tools/ask: each is a job of its own, and what is accepted of one is noted in the folder of --keep."""
 import concurrent.futures
 import contextlib
 import functools
@@ -11,11 +11,10 @@ import tempfile
 import threading
 import typing
 
-import arrays
-import runs
-from notes import Notes, Room, digest, placed
-from questions import LONGEST, WITHOUT_LINES, Attempt, Question, answered
-from runs import Clock, Late, Refused, Scope, Stopped, Undecided, say
+from . import arrays, runs
+from .notes import Notes, Room, digest, placed
+from .questions import LONGEST, WITHOUT_LINES, Attempt, Question, answered
+from .runs import Clock, Late, Refused, Scope, Stopped, Undecided, say
 
 STATUS = {"map": 0, "none": 1, None: 3}
 SHOWN = 40
