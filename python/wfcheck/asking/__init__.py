@@ -1,0 +1,58 @@
+"""ask TASK ROUNDS [--solver WORDS] [--seconds N] [--keep FOLDER] [--jobs N]: a question that may be too hard for the search alone.
+
+First `wfcheck obstruction` looks for an obstruction of the task, once. If it finds one, and `verify` accepts it, the task has no map after
+any number of rounds, and nothing else is asked. If it finds none, that says nothing about the task.
+
+Then the search and a SAT solver are asked side by side, and wfcheck checks what they answer: a report by `verify`, a model by `model` and
+then `verify`, a clausal proof that there is no map by `proof`. The first answer that is accepted counts. Beside them the search looks
+for a map after fewer rounds than ROUNDS or FIRST, in a tenth of the time: `lift` makes it one after these rounds. You do
+not have to trust the solver. You trust this script to hand wfcheck the task that you named, and to pass on its answer.
+
+The last line says what is accepted in this run: `never`; `from R`, a map after R rounds and none after R - 1, or R is 0; `none up to R`,
+since a map after fewer rounds would give one after R; `map at R`; or `not decided`.
+
+    TASK       a task file, or the name of one in gallery/tasks
+    ROUNDS     a number, or FIRST..LAST: each in turn, up to the first with a map
+    --solver   cadical, kissat, cryptominisat5 or minisat (the last two write no proofs, and so find maps alone); or a command
+               with {formula}, with {proof} if it writes clausal proofs as text, and with {output} if it writes its model to
+               a file; or search, the search alone. Without it: the first of these four that is on the path
+    --seconds  the limit for each number of rounds, 60 if it isn't given; the checks are part of it. The obstruction has as much
+    --keep     a folder for what was accepted: the obstruction (TASK.obstruction), the solver's proof (.drat), its model (.said or .out)
+               and the report of that (.map), the search's report (.report), or that of a map of fewer rounds (.lifted). Nothing that is
+               there is written over: the next free name is taken
+    --table    a file to which a line is appended for each number of rounds that was asked, and one for `never`, with tabs between the task, the
+               rounds, the answer, the kind, bytes and SHA-256 of its certificate, and the seconds; before the first a line of these names
+    --no-obstruction
+               looks for no obstruction
+    --clauses  a formula with more clauses is not shown to a solver; 20 million if it isn't given
+    --memory   how many GB of memory each process gets that is started, 4 if it isn't given
+    --disk     how many GB each file may have that a process writes, 4 if it isn't given
+
+With --jobs an obstruction is looked for first, too. If none is accepted, the question of one number of rounds is cut into its branches,
+as `wfcheck branches` lists them. So many solvers at once are each asked about one, or so many searches, by `--solver search` or
+where no solver is on the path. Branches above one with a map are not asked. `wfcheck proof --branch` checks a proof, and
+`wfcheck verify --branch` what a search says of its branch, or a solver's model.
+
+What is accepted of a branch stays in the folder of --keep, with a note: a run that was cut off, as by Ctrl-C, goes on where it was when
+it is begun again by the same words. Several runs may share a folder. Where the lines of a search are more than `verify` reads, its
+answer is asked for by itself, and is told as `without lines`: --recheck can't check it again, and says so.
+
+Where no branch has a map there is none. Where the search wrote the part of each branch, `wfcheck join` puts them together to the report
+of the whole, which is left in the folder.
+
+    --jobs     how many branches are asked at once; --seconds is then the limit for each of them
+    --share    K/N: the branches I with I mod N = K alone, so that N machines share the work
+    --branch   this branch alone, as a job of an array does
+    --array    prints the script of such an array for slurm, pbs, sge, lsf or kubernetes, with so many jobs as --jobs says, or 16. Each asks
+               a share of the branches
+    --tally    FOLDER: what is noted there, and which branches are missing; nothing is asked
+    --recheck  FOLDER: has all proofs and parts that are noted there accepted again
+
+Both have the folder's obstruction of the task, TASK.obstruction, accepted again first.
+
+A note is trusted while the file that it names is there, with the SHA-256 that it names. What was not checked in this run is told as
+noted; after --recheck nothing is.
+
+The status is 0 for a map, 1 for none and for never, 2 for words or a question that are refused, 3 for a question that was not decided, 130
+where it was cut off. With --branch or --share it is 0 where these branches are decided, for a map, none or never, and 3 where they are not. It
+needs the program: what the variable WFCHECK names, else bin/wfcheck, as `make build` leaves it, else wfcheck on the path."""

@@ -1,1 +1,0 @@
-"""What tools/ask is made of: its words, the questions that it asks, the branches of a question, and their notes."""
