@@ -5,9 +5,9 @@
 
 # Three questions that the field knows the answers to, or with TASK=FILE ROUNDS=R a task of one's own. Where `make build` hasn't
 # left a program yet, it is run from its sources, without its proofs, in a minute or two. make itself ends with 2 for each status of
-# the program but 0 (no map is 1): `gallery/demo FILE R` passes it on.
+# the program but 0 (no map is 1): `tools/demo FILE R` passes it on.
 demo:
-	@gallery/demo $(if $(TASK),"$(TASK)" "$(ROUNDS)")
+	@tools/demo $(if $(TASK),"$(TASK)" "$(ROUNDS)")
 
 # The proved program, at bin/wfcheck. Whatever it stands on is proved first, several crates side by side. It may be stopped: called again,
 # it goes on there.

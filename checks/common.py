@@ -1,10 +1,13 @@
-"""The front door of the scripts of checks/ and of gallery/run: the program that they run, their words, and their last line.
+"""The front door of the scripts of checks/: the program that they run, where things are, their words, and their last line. It has the
+modules of oracle/ and python/ found by their names.
 
 `--help` shows what stands at the head of a script, and ends with status 0. A word that it doesn't know, and a name that nothing
 has, end it with status 2 before anything is run, and so does a program that isn't there. A script from which nothing was chosen has
 failed."""
 import argparse
+import os
 import pathlib
+import shutil
 import sys
 
 sys.dont_write_bytecode = True
@@ -13,6 +16,10 @@ if hasattr(sys, "set_int_max_str_digits"):
     sys.set_int_max_str_digits(0)
 ROOT = pathlib.Path(__file__).resolve().parent.parent
 BUILT = ROOT / "bin/wfcheck"
+TASKS, ANSWERS = ROOT / "gallery/tasks", ROOT / "gallery/answers"
+sys.path[1:1] = [str(ROOT / it) for it in ("oracle", "python")]
+# what a script runs is named by its words alone
+os.environ.pop("WFCHECK", None)
 
 
 class Program:
@@ -22,6 +29,18 @@ class Program:
 
 def program():
     return Program.path
+
+
+def task_file(name):
+    """The file of a task of the gallery."""
+    return TASKS / f"{name}.json"
+
+
+def copy_of_ask(folder):
+    """A copy of tools/ask in a folder, with the tasks that it finds by their names, and without a program."""
+    for part in ("tools", "python", "gallery/tasks"):
+        shutil.copytree(ROOT / part, folder / part, ignore=shutil.ignore_patterns("__pycache__"))
+    return folder / "tools/ask"
 
 
 class Script(argparse.ArgumentParser):

@@ -1,18 +1,17 @@
 """Small tasks, and what `wfcheck obstruction` has to say of each: a part of checks/fuzz.
 
 Each task is asked about modulo 2 and 3, and without a modulus; the kept ones modulo 4, 8 and 9 as well. The program has to find an
-obstruction exactly where gallery/finding.py does, and gallery/obstructions.py has to accept what it finds. It may say that no modulus
-has an obstruction only where gallery/finding.py finds whole numbers that show it."""
+obstruction exactly where oracle/finding.py does, and oracle/obstructions.py has to accept what it finds. It may say that no modulus
+has an obstruction only where oracle/finding.py finds whole numbers that show it."""
 import itertools
 import json
 import random
 import re
 
 import common
-# checks/fuzz has put gallery/ on the path
 import finding
-import lint
 import obstructions
+import task_file
 
 ROOT = common.ROOT
 PRIMES = [2, 3]
@@ -25,7 +24,7 @@ KEPT = {
     "modulo-9-symmetric": [2, 4, 8, 9],
 }
 NONE_FOUND = re.compile(r"no obstruction (?:(for any modulus)|modulo (\d+(?:, \d+)*))\n")
-# a larger modulus is not asked of gallery/finding.py in a case
+# a larger modulus is not asked of oracle/finding.py in a case
 LARGEST = 9
 
 
@@ -37,7 +36,7 @@ def random_task(choose):
     inputs = {tuple((p, choose.randrange(2)) for p in range(processes)) for _ in range(choose.choice([1, 1, 2]))}
     outputs = [list(enumerate(it)) for it in itertools.product(values, repeat=processes)]
     density, rules, delta = [choose.choice([0.3, 0.5, 0.7, 0.85]) for _ in range(processes)], {}, []
-    for simplex in lint.complex_of(sorted(inputs)):
+    for simplex in task_file.complex_of(sorted(inputs)):
         key = tuple(value for _, value in simplex) if symmetric else simplex
         every = list(itertools.product(values, repeat=len(simplex)))
         if key not in rules or choose.random() < 0.1:
@@ -59,13 +58,13 @@ def kept():
 
 def wrong(run, text, moduli, having=None):
     """What is wrong with what the program says of a task, or None."""
-    task = lint.read(text)[0]
+    task = task_file.read(text)[0]
     for modulus in moduli:
         found = finding.find(task, modulus)
         if found:
             obstructions.judge(task, finding.text_of(task, modulus, found))
         if having is not None and bool(found) != (modulus in having):
-            return f"gallery/finding.py finds {'an' if found else 'no'} obstruction modulo {modulus}"
+            return f"oracle/finding.py finds {'an' if found else 'no'} obstruction modulo {modulus}"
         ran = run(["obstruction", "--modulus", str(modulus)], text)
         if fault := wrong_modulus(task, modulus, found, ran):
             return f"modulo {modulus}: {fault}"

@@ -63,7 +63,8 @@ pub(crate) fn take_part<T: Threads + Sync>(
     number: u32,
     text: &[u8],
 ) -> Result<Body, RunFault>
-    requires protocol { IsProtocol judge.now.task.now judge.now.protocol.now.rounds judge.now.protocol.now }
+    requires protocol { IsProtocol judge.now.task.now
+        judge.now.protocol.now.rounds judge.now.protocol.now }
     requires cover { IsCoverOf judge.now.task.now judge.now.protocol.now.rounds cover.now }
     requires checker { IsCheckerOf judge.now.task.now checker.now }
     requires there { number < length (boxes_left_out cover.now) }
@@ -85,7 +86,8 @@ fn body_in<T: Threads + Sync>(
     number: u32,
     text: &[u8],
 ) -> Result<Body, RunFault>
-    requires protocol { IsProtocol judge.now.task.now judge.now.protocol.now.rounds judge.now.protocol.now }
+    requires protocol { IsProtocol judge.now.task.now
+        judge.now.protocol.now.rounds judge.now.protocol.now }
     requires cover { IsCoverOf judge.now.task.now judge.now.protocol.now.rounds cover.now }
     requires checker { IsCheckerOf judge.now.task.now checker.now }
     requires there { number < length (boxes_left_out cover.now) }

@@ -6,8 +6,8 @@ import collections
 import itertools
 import math
 
-import lint
 import reports
+import task_file
 
 FIRST, HEADER = "wfcheck obstruction 1", ["processes", "simplices", "modulus", "sum"]
 LONGEST, MOST_VALUES, MOST_TERMS = 16_777_216, 4, 16_777_216
@@ -112,13 +112,13 @@ def judge_tuple(found, inputs, allowed, values, it):
         if value not in values:
             raise Refused(f"55 NoSuchValue {it.line}", f"{at} no output has the value {value}")
     if it.values in allowed[simplex]:
-        words = f"{at} the task allows {list(it.values)} at input simplex {it.simplex}, {lint.shown(simplex)}"
+        words = f"{at} the task allows {list(it.values)} at input simplex {it.simplex}, {task_file.shown(simplex)}"
         raise Refused(f"56 Allowed {it.line}", words)
 
 
 def judge(task, text):
     """The obstruction that a text is, if it is one of the task. Raises its first fault otherwise."""
-    found, inputs, values = read(text), lint.complex_of(task["inputs"]), values_of(task)
+    found, inputs, values = read(text), task_file.complex_of(task["inputs"]), values_of(task)
     for line, name, right in ((2, "processes", task["processes"]), (3, "simplices", len(inputs))):
         if getattr(found, name) != right:
             raise Refused(f"21 Header {line}", f"{name} should be {right}")
@@ -126,7 +126,7 @@ def judge(task, text):
         raise Refused("50 FirstBlock", f'an obstruction says nothing about a task with "first_block" {task["first_block"]}')
     if not 1 <= found.sum < found.modulus:
         raise Refused("51 SumRange", f"the sum is not from 1 to the modulus less 1: {found.sum}, and the modulus is {found.modulus}")
-    allowed = {lint.simplex_of(entry["in"]): {tuple(it) for it in entry["out"]} for entry in task["delta"]}
+    allowed = {task_file.simplex_of(entry["in"]): {tuple(it) for it in entry["out"]} for entry in task["delta"]}
     for it in found.tuples:
         judge_tuple(found, inputs, allowed, set(values), it)
     if sum(len(values) ** it.values.count(values[0]) for it in found.tuples) > MOST_TERMS:
@@ -143,6 +143,6 @@ def judge(task, text):
         face = face_of(task, simplex)
         if face in left:
             rest, total = left[face]
-            words = f"on the face of input simplex {number}, {lint.shown(simplex)}, the sum of the values {rest} is {total}, and not 0"
+            words = f"on the face of input simplex {number}, {task_file.shown(simplex)}, the sum of the values {rest} is {total}, and not 0"
             raise Refused(f"59 NotCancelled {number}", words)
     return found

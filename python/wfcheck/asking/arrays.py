@@ -1,12 +1,15 @@
-"""The script of an array of jobs for gallery/ask: each job asks a share of a question's branches, on a cluster with one of these engines."""
+"""The script of an array of jobs for tools/ask: each job asks a share of a question's branches, on a cluster with one of these engines."""
+from __future__ import annotations
+
+import argparse
 import json
 import math
 import pathlib
 import re
 import shlex
-import sys
+from typing import List
 
-from runs import Refused
+from .runs import Refused
 
 # how many jobs there are where --jobs doesn't say: a job costs an engine seconds, and Slurm refuses arrays above 1,001 if it isn't told
 JOBS = 16
@@ -21,7 +24,7 @@ PLAIN = re.compile(r"[\w./+@=-]+", re.A)
 class Job:
     """What the script of each engine says: the command, how many jobs there are, and what each of them takes."""
 
-    def __init__(self, words, solver, count):
+    def __init__(self, words: argparse.Namespace, solver: str, count: int) -> None:
         self.count = min(count, words.jobs or JOBS)
         self.name = re.sub("[^a-z0-9]+", "-", f"ask-{words.task.stem}-{words.rounds[0]}".lower())[:50].strip("-")
         self.folder, self.keep = pathlib.Path.cwd(), words.keep.resolve()
@@ -29,39 +32,41 @@ class Job:
         self.seconds = math.ceil((math.ceil(count / self.count) + OTHERS) * words.seconds + BEGIN)
         self.memory = math.ceil(words.memory + SCRIPT)
 
-    def words_of(self, words, solver):
+    def words_of(self, words: argparse.Namespace, solver: str) -> str:
         """The command, with all that was said or found here: its solver by its path, its limits, and no --jobs, since a job asks one by one."""
-        command = [pathlib.Path(sys.argv[0]).resolve(), words.task.resolve(), words.rounds[0], "--keep", self.keep]
+        command = [*words.command, words.task.resolve(), words.rounds[0], "--keep", self.keep]
         command += [f"--seconds={words.seconds:g}", f"--memory={words.memory:g}", f"--disk={words.disk:g}", f"--clauses={words.clauses}"]
         command += ["--solver", solver, *["--no-obstruction"] * words.no_obstruction]
         return shlex.join(map(str, command))
 
-    def clock(self):
+    def clock(self) -> str:
         """The time of a job as hours, minutes and seconds."""
         minutes, seconds = divmod(self.seconds, 60)
         return f"{minutes // 60}:{minutes % 60:02}:{seconds:02}"
 
-    def told(self, name):
+    def told(self, name: str) -> str:
         """Where a job's words go, by what an engine calls it."""
         return f"{self.keep}/job-{name}.out"
 
-    def share(self, number):
+    def share(self, number: int) -> str:
+        """The line that asks a share of the branches."""
         return f'exec {self.command} --share "{number}/{self.count}"'
 
-    def script(self, mark, lines, number):
+    def script(self, mark: str, lines: List[str], number: str) -> str:
         """A script of the shell, with lines for an engine."""
         if not PLAIN.fullmatch(str(self.keep)):
             raise Refused(f"{self.keep} stands in a line for the engine, where it may have letters, digits and ./+@=-_ alone")
         return "\n".join(["#!/bin/sh", *(f"{mark} {it}" for it in lines), f"cd {shlex.quote(str(self.folder))} || exit 2", self.share(number)])
 
 
-def slurm(job):
+def slurm(job: Job) -> str:
+    """An array numbers its jobs from 0."""
     return job.script("#SBATCH", [
         f"--job-name={job.name}", f"--array=0-{job.count - 1}%{job.count}", "--ntasks=1", "--cpus-per-task=1",
         f"--time={job.clock()}", f"--mem={job.memory}G", f"--output={job.told('%A-%a')}"], "$SLURM_ARRAY_TASK_ID")
 
 
-def pbs(job):
+def pbs(job: Job) -> str:
     """An array has two jobs or more."""
     lines = [f"-N {job.name[:15]}", f"-l select=1:ncpus=1:mem={job.memory}gb", f"-l walltime={job.clock()}", "-j oe"]
     if job.count == 1:
@@ -70,21 +75,21 @@ def pbs(job):
     return job.script("#PBS", [*lines, *array], "$PBS_ARRAY_INDEX")
 
 
-def sge(job):
+def sge(job: Job) -> str:
     """Jobs are numbered from 1."""
     return job.script("#$", [
         f"-N {job.name}", f"-t 1-{job.count}", f"-tc {job.count}", f"-l h_rt={job.clock()}", f"-l h_vmem={job.memory}G",
         "-S /bin/sh", "-j y", f"-o {job.told('$JOB_ID-$TASK_ID')}"], "$((SGE_TASK_ID - 1))")
 
 
-def lsf(job):
+def lsf(job: Job) -> str:
     """Jobs are numbered from 1, and have minutes."""
     return job.script("#BSUB", [
         f'-J "{job.name}[1-{job.count}]%{job.count}"', "-n 1", f"-W {math.ceil(job.seconds / 60)}",
         f'-M {job.memory}GB', f'-R "rusage[mem={job.memory}GB]"', f"-o {job.told('%J-%I')}"], "$((LSB_JOBINDEX - 1))")
 
 
-def kubernetes(job):
+def kubernetes(job: Job) -> str:
     """An indexed Job. The image has the repository, the solver and the task at their paths, and the claim of a volume the folder."""
     quoted, volume = json.dumps, {"name": "keep", "mountPath": str(job.keep)}
     return "\n".join([
@@ -100,6 +105,6 @@ def kubernetes(job):
 ENGINES = {it.__name__: it for it in (slurm, pbs, sge, lsf, kubernetes)}
 
 
-def array(words, solver, count):
+def array(words: argparse.Namespace, solver: str, count: int) -> str:
     """The script for the engine that was named."""
     return ENGINES[words.array](Job(words, solver, count))

@@ -1,18 +1,20 @@
 """The table of `ask --table`: a line for each number of rounds that was asked, and one for all of them where there is an obstruction."""
+from __future__ import annotations
+
 import fcntl
 import hashlib
 import pathlib
 import re
 import sys
-import typing
+from typing import Collection, NamedTuple, Optional, Union
 
-from notes import digest
+from .notes import Note, digest
 
 HEADER = ["task", "rounds", "answer", "certificate", "bytes", "sha256", "seconds"]
 EVERY, NOT_DECIDED, NOTHING = "every", "not decided", "-"
 
 
-class Certificate(typing.NamedTuple):
+class Certificate(NamedTuple):
     """What shows an answer: its kind, its bytes, and its SHA-256."""
     kind: str = NOTHING
     size: object = NOTHING
@@ -22,21 +24,22 @@ class Certificate(typing.NamedTuple):
 class Table:
     """A file of values with tabs between them, to which lines are appended, or none."""
 
-    def __init__(self, file):
+    def __init__(self, file: Optional[pathlib.Path]) -> None:
         self.file = file
 
-    def of_file(self, file):
+    def of_file(self, file: pathlib.Path) -> Optional[Certificate]:
         """A certificate that is one file: a report, a solver's proof, the report of its model, a lifted map or an obstruction. None without a
         table, so that large files are not read for nothing."""
         return Certificate(file.suffix[1:], file.stat().st_size, digest(file)) if self.file else None
 
     @staticmethod
-    def of_notes(notes):
+    def of_notes(notes: Collection[Note]) -> Certificate:
         """The certificates of branches: their bytes together, and the SHA-256 of the notes, one behind another."""
         text = "".join(note.line() for note in notes).encode(errors="surrogateescape")
         return Certificate("branches", sum(note.size for note in notes), hashlib.sha256(text).hexdigest())
 
-    def add(self, task, rounds, answer, certificate, seconds):
+    def add(self, task: pathlib.Path, rounds: Union[int, str], answer: Optional[str], certificate: Optional[Certificate],
+            seconds: float) -> None:
         """Appends a line, and a header before it where the file is new. Several runs may do so at once."""
         if not self.file:
             return

@@ -17,9 +17,9 @@ import itertools
 import sys
 
 import formula
-import lint
 import reports
 import second_opinion as opinion
+import task_file
 
 ENOUGH_BOXES, MOST_LEVELS = 64, 8
 
@@ -200,7 +200,7 @@ def parts(task, rounds, form):
 
 def task_in(file):
     with open(file, "rb") as it:
-        return lint.read(it.read())[0]
+        return task_file.read(it.read())[0]
 
 
 def report_in(file):
@@ -239,7 +239,7 @@ def main():
         sys.exit(__doc__)
     try:
         return make(*(kind(word) for kind, word in zip(kinds, words)))
-    except lint.Refused as refused:
+    except task_file.Refused as refused:
         sys.exit(f"the task is refused, {refused.line}: {refused.words}")
     except (OSError, ValueError, reports.Unreadable) as fault:
         sys.exit(f"independent.py: {fault}")

@@ -1,16 +1,20 @@
 """A question for `ask`, and one attempt to answer it: by the search or by a SAT solver, and then by the check of what that wrote."""
+from __future__ import annotations
+
 import concurrent.futures
 import pathlib
 import re
 import shlex
 import signal
 import subprocess
-import typing
+from typing import Any, Callable, Dict, NamedTuple, Optional, Sequence, Tuple, TypeVar
 
-import runs
-from notes import VERDICT
-from runs import Clock, Late, Refused, say
+from . import runs
+from .notes import VERDICT
+from .runs import Clock, Given, Late, Look, Refused, Scope, say
 
+# what one of those who are asked answers
+T = TypeVar("T")
 SEARCH = "the search"
 FEWER_ROUNDS = "the search after fewer rounds"
 # the share of a question's time in which a map after fewer rounds is looked for
@@ -30,7 +34,7 @@ class NoFormula(Exception):
     """Why a solver is not asked."""
 
 
-class Answer(typing.NamedTuple):
+class Answer(NamedTuple):
     """What is accepted, whose it is, in how many seconds, and the files that show it, of which the first is the certificate."""
     word: str
     who: str
@@ -41,7 +45,7 @@ class Answer(typing.NamedTuple):
 class Question:
     """A task and a number of rounds, or one branch of that, with how many branches there are."""
 
-    def __init__(self, task, rounds, branch=None, count=None):
+    def __init__(self, task: pathlib.Path, rounds: int, branch: Optional[int] = None, count: Optional[int] = None) -> None:
         self.task, self.rounds, self.number, self.count = task, rounds, branch, count
         self.about = ["--task", task, "--rounds", rounds]
         self.branch = [] if branch is None else ["--branch", branch]
@@ -49,11 +53,11 @@ class Question:
         where = f" in branch {branch} of {count}" if self.branch else ""
         self.accepted = re.compile(rf"accepted (map|least|none){where} at {rounds} rounds?\s*")
 
-    def who(self, name):
+    def who(self, name: str) -> str:
         """Who says something, with the branch that it is about."""
         return f"branch {self.number}: {name}" if self.branch else name
 
-    def head(self):
+    def head(self) -> str:
         """What stands before a report that is about the branch alone."""
         return f"wfcheck part 1\nbranch {self.number}\nbranches {self.count}\n" if self.branch else ""
 
@@ -61,19 +65,22 @@ class Question:
 class Attempt:
     """One attempt at a question, with a folder and a clock of its own."""
 
-    def __init__(self, question, folder, scope, clock):
+    def __init__(self, question: Question, folder: pathlib.Path, scope: Scope, clock: Clock) -> None:
         self.question, self.folder, self.scope, self.clock = question, folder, scope, clock
 
-    def file(self, kind):
+    def file(self, kind: str) -> pathlib.Path:
+        """A file of this attempt."""
         return self.folder / f"{self.question.name}.{kind}"
 
-    def tell(self, name, text):
+    def tell(self, name: str, text: str) -> None:
+        """Says something about this question."""
         say(f"    {self.question.who(name)} {text}")
 
-    def wfcheck(self, words, given, wrote=None, look=None):
+    def wfcheck(self, words: Sequence[Any], given: Given, wrote: Optional[pathlib.Path] = None, look: Look = None) -> runs.Ended:
+        """Runs wfcheck over a file, within this attempt's time."""
         return self.scope.wfcheck(words, self.clock, given, wrote, look)
 
-    def accepted(self, command, file):
+    def accepted(self, command: str, file: pathlib.Path) -> Optional[str]:
         """What wfcheck accepts a file as, a map or none; None where it refuses it."""
         question = self.question
         try:
@@ -85,7 +92,7 @@ class Attempt:
         say(f"    wfcheck {command}: {ended.said.strip() if found else question.who(ended.why())} ({ended.taken:.2f} s)")
         return {"least": "map"}.get(found[1], found[1]) if found else None
 
-    def solve(self, wrote, *form):
+    def solve(self, wrote: pathlib.Path, *form: str) -> runs.Ended:
         """Has the search answer, and returns how it ended."""
         words = ["solve", "--rounds", self.question.rounds, "--workers", 1, *self.question.branch, *form]
         ended = self.wfcheck(words, self.question.task, wrote)
@@ -93,7 +100,7 @@ class Attempt:
             raise Refused(ended.said)
         return ended
 
-    def by_search(self):
+    def by_search(self) -> Optional[Answer]:
         """The search's answer, where its report is accepted. The whole question is asked for the verdict first: the lines of a refutation may
         be very many, and are asked for once it is known that there is one."""
         is_whole, report = not self.question.branch, self.file("report")
@@ -112,7 +119,7 @@ class Attempt:
         accepted = self.accepted("verify", report)
         return Answer(word, SEARCH, ended.taken, [report]) if accepted == word else None
 
-    def without_lines(self, size):
+    def without_lines(self, size: int) -> Optional[Answer]:
         """The search's answer alone, where the lines of a branch's refutation are more than `verify` reads. It is asked for by itself, with as
         much time again, and nothing else is accepted: that it holds is what the program's contract says."""
         self.tell(SEARCH, f"has written {size:,} bytes, and `verify` reads {LONGEST:,}: it is asked for the answer without lines")
@@ -123,7 +130,7 @@ class Attempt:
         self.tell(WITHOUT_LINES, f"says none in {ended.taken:.2f} s" if is_none else f"is missing: {ended.why()}")
         return Answer("none", WITHOUT_LINES, ended.taken, [verdict]) if is_none else None
 
-    def has_lines(self, report):
+    def has_lines(self, report: pathlib.Path) -> bool:
         """Has the search write the lines of its refutation, and says why where it doesn't."""
         try:
             ended = self.solve(report)
@@ -134,7 +141,7 @@ class Attempt:
             self.tell(SEARCH, f"has no refutation: {ended.why()}")
         return ended.status == 1
 
-    def by_fewer_rounds(self):
+    def by_fewer_rounds(self) -> Optional[Answer]:
         """A map after fewer rounds, lifted to these. The search looks for one in a short share of the time."""
         clock = Clock(self.clock.seconds * SHARE)
         for rounds in range(self.question.rounds):
@@ -147,7 +154,7 @@ class Attempt:
                 return None
         return None
 
-    def lifted(self, report, taken):
+    def lifted(self, report: pathlib.Path, taken: float) -> Optional[Answer]:
         """The map of a report of fewer rounds, for these rounds."""
         lifted = self.file("lifted")
         ended = self.wfcheck(["lift", *self.question.about], report, lifted)
@@ -156,11 +163,12 @@ class Attempt:
             return None
         return Answer("map", FEWER_ROUNDS, taken, [lifted]) if self.accepted("verify", lifted) == "map" else None
 
-    def write_formula(self, most):
+    def write_formula(self, most: int) -> None:
         """Writes the formula, where it has no more clauses than a limit."""
         formula = self.file("cnf")
 
-        def look():
+        def look() -> None:
+            """Looks how many clauses the formula has, as far as it is written."""
             with open(formula, "rb") as text:
                 found = CLAUSES.search(text.read(HEAD))
             if found and int(found[1]) > most:
@@ -173,7 +181,7 @@ class Attempt:
             raise NoFormula(f"there is no formula: {ended.why()}")
         look()
 
-    def by_solver(self, words, most):
+    def by_solver(self, words: str, most: int) -> Optional[Answer]:
         """A solver's answer, where its model or its proof is accepted."""
         solver = shlex.split(words)
         who = pathlib.PurePath(solver[0]).name
@@ -192,7 +200,7 @@ class Attempt:
             return None
         return self.judged(who, self.clock.taken() - begun)
 
-    def judged(self, name, taken):
+    def judged(self, name: str, taken: float) -> Optional[Answer]:
         """The answer of a solver that has ended, where it is accepted."""
         says, text = self.verdict()
         if says == "map":
@@ -204,7 +212,7 @@ class Attempt:
         self.tell(name, "says none, and writes no proof that could be checked" if says else "says nothing")
         return None
 
-    def verdict(self):
+    def verdict(self) -> Tuple[Optional[str], Optional[pathlib.Path]]:
         """What a solver says, and the file that has its model if it is a map."""
         files = [it for it in (self.file("out"), self.file("said")) if it.is_file()]
         for file in files:
@@ -213,14 +221,14 @@ class Attempt:
                     return "none" if found[1] else "map", files[0]
         return None, None
 
-    def of_proof(self, name, taken):
+    def of_proof(self, name: str, taken: float) -> Optional[Answer]:
         """A solver's proof, where it is accepted."""
         proof = self.file("drat")
         written = f"{lemmas(proof, self.clock):,} lemmas and {proof.stat().st_size:,} bytes"
         self.tell(name, f"says none in {taken:.2f} s, with a proof of {written}")
         return Answer("none", name, taken, [proof]) if self.accepted("proof", proof) == "none" else None
 
-    def of_model(self, name, taken, text):
+    def of_model(self, name: str, taken: float, text: pathlib.Path) -> Optional[Answer]:
         """The report of a solver's model, of a branch as a part: a map of the question may lie in another branch."""
         plain, report = self.file("plain"), self.file("map")
         ended = self.wfcheck(["model", *self.question.about], text, plain)
@@ -231,7 +239,7 @@ class Attempt:
         return Answer("map", name, taken, [report, text]) if self.accepted("verify", report) == "map" else None
 
 
-def lemmas(proof, clock):
+def lemmas(proof: pathlib.Path, clock: Clock) -> int:
     """How many lines of a proof are no deletions and no comments, and not empty: the line feeds that other bytes follow."""
     count, last = 0, b"\n"
     with open(proof, "rb") as text:
@@ -243,7 +251,7 @@ def lemmas(proof, clock):
     return count
 
 
-def answered(name, ask):
+def answered(name: str, ask: Callable[[], Optional[T]]) -> Optional[T]:
     """What one of those who are asked answers; None where its time is over, and where the system refuses it something."""
     try:
         return ask()
@@ -254,7 +262,7 @@ def answered(name, ask):
         return None
 
 
-def first(scope, asked):
+def first(scope: Scope, asked: Dict[str, Callable[[], Optional[Answer]]]) -> Optional[Answer]:
     """The first answer that is accepted; then the others are stopped. `asked` has a call for each name."""
     with concurrent.futures.ThreadPoolExecutor(len(asked)) as pool:
         jobs = [pool.submit(answered, name, ask) for name, ask in asked.items()]

@@ -1,4 +1,7 @@
-"""A question branch by branch, for gallery/ask: each is a job of its own, and what is accepted of one is noted in the folder of --keep."""
+"""A question branch by branch, for tools/ask: each is a job of its own, and what is accepted of one is noted in the folder of --keep."""
+from __future__ import annotations
+
+import argparse
 import concurrent.futures
 import contextlib
 import functools
@@ -9,13 +12,12 @@ import shutil
 import sys
 import tempfile
 import threading
-import typing
+from typing import Callable, Collection, Dict, Iterable, List, NamedTuple, Optional, Sequence, Tuple
 
-import arrays
-import runs
-from notes import Notes, Room, digest, placed
-from questions import LONGEST, WITHOUT_LINES, Attempt, Question, answered
-from runs import Clock, Late, Refused, Scope, Stopped, Undecided, say
+from . import arrays, runs, table
+from .notes import Note, Notes, Room, digest, placed
+from .questions import LONGEST, WITHOUT_LINES, Attempt, Question, answered
+from .runs import Clock, Late, Refused, Scope, Stopped, Undecided, say
 
 STATUS = {"map": 0, "none": 1, None: 3}
 SHOWN = 40
@@ -28,7 +30,7 @@ WINDOW = 16
 class Branches:
     """The branches of one question, with what is known of them."""
 
-    def __init__(self, words, solver, room, count):
+    def __init__(self, words: argparse.Namespace, solver: Optional[str], room: Room, count: int) -> None:
         self.words, self.solver, self.room, self.count = words, solver, room, count
         self.rounds, self.chosen = words.rounds[0], chosen_of(words, count)
         self.notes = Notes(words.keep)
@@ -41,11 +43,12 @@ class Branches:
         # while a map that another run has noted is looked at
         self.looks = threading.Lock()
 
-    def attempt(self, branch, made, scope):
+    def attempt(self, branch: int, made: pathlib.Path, scope: Scope) -> Attempt:
+        """An attempt at a branch, in a folder."""
         question = Question(self.words.task, self.rounds, branch, self.count)
         return Attempt(question, made, scope, Clock(self.words.seconds))
 
-    def ask(self, branch, scope):
+    def ask(self, branch: int, scope: Scope) -> Optional[str]:
         """Asks the solver about a branch, or the search where there is none, and notes what is accepted of it. Another run may have decided
         it meanwhile, or have found a map in a branch below."""
         if note := self.notes.of(branch):
@@ -64,7 +67,7 @@ class Branches:
                 self.fresh[branch] = answer.word
             return answer and answer.word
 
-    def map_below(self, branch, scope):
+    def map_below(self, branch: int, scope: Scope) -> Optional[int]:
         """A branch below this one that has a map which is accepted in this run. Such maps are smaller."""
         with self.looks:
             for lower, note in self.notes.maps_below(branch):
@@ -72,7 +75,7 @@ class Branches:
                     return lower
         return None
 
-    def recheck(self, branch, note, scope):
+    def recheck(self, branch: int, note: Note, scope: Scope) -> Optional[str]:
         """Has what a note names accepted again: a proof, or a part."""
         if not note.has_lines():
             say(f"    branch {branch}: {note.who} can't be checked again")
@@ -87,12 +90,13 @@ class Branches:
                 self.notes.refused.add(note)
             return word
 
-    def run(self, calls, up_to_map=False):
+    def run(self, calls: Dict[int, Callable[[Scope], Optional[str]]], up_to_map: bool = False) -> None:
         """Has so many branches at once decided, in their order, each by a call that gets a scope. Where a map is enough, one ends all that
         goes on behind it; branches before it go on, since their maps are smaller."""
         todo, going, maps, over, done = iter(calls.items()), {}, [], threading.Event(), []
 
-        def some():
+        def some() -> None:
+            """Decides one branch behind another, while any is left."""
             for branch, call in todo:
                 if over.is_set() or runs.CUT_OFF.is_set():
                     return
@@ -107,7 +111,8 @@ class Branches:
                 del going[branch]
                 done.append(branch)
 
-        def end(is_over):
+        def end(is_over: Callable[[int], bool]) -> None:
+            """Ends those that go on and for which a test holds."""
             for branch, scope in list(going.items()):
                 if is_over(branch):
                     scope.end()
@@ -123,7 +128,7 @@ class Branches:
                 end(lambda it: True)
         Scope(self.words.limits).go_on()
 
-    def ask_all(self):
+    def ask_all(self) -> None:
         """Asks about those branches that have no note, up to the first map. A map that is noted is accepted again first."""
         known = self.notes.all(self.chosen)
         self.tell_doubts()
@@ -135,33 +140,33 @@ class Branches:
         if self.late:
             say(f"    no end within the {self.words.seconds:g} s of a branch: {shown(sorted(self.late))}")
 
-    def turned(self, left):
+    def turned(self, left: List[int]) -> List[int]:
         """Branches in the order in which they are asked: the lowest first, but among a few of them each run that is at work in the folder
         begins at another place."""
         begin = self.room.place() * (self.words.jobs or 1) % WINDOW
         windows = [left[at:at + WINDOW] for at in range(0, len(left), WINDOW)]
         return [branch for window in windows for branch in window[begin:] + window[:begin]]
 
-    def recheck_all(self):
+    def recheck_all(self) -> None:
         """Has all that is noted accepted again."""
         known = self.notes.all(self.chosen)
         self.tell_doubts()
         self.run({branch: functools.partial(self.recheck, branch, note) for branch, note in known.items()})
 
-    def tell_doubts(self):
+    def tell_doubts(self) -> None:
         """Says which notes are not trusted, and why."""
         for branch, why in self.notes.doubts.items():
             say(f"    the note of branch {branch} is not trusted: {why}")
 
-    def without_lines(self):
+    def without_lines(self) -> List[int]:
         """The branches of which the search's answer alone is noted."""
         return [branch for branch, note in self.notes.all(self.chosen).items() if not note.has_lines()]
 
-    def known(self):
+    def known(self) -> Dict[int, str]:
         """What is accepted in this run or noted, by branch."""
         return {branch: note.word for branch, note in self.notes.all(self.chosen).items()} | self.fresh
 
-    def told(self, known):
+    def told(self, known: Dict[int, str]) -> Tuple[str, Optional[str]]:
         """What is known comes to, in words, and the answer. What was not checked in this run is told as noted."""
         maps = [branch for branch, word in known.items() if word == "map"]
         if not self.count:
@@ -184,14 +189,14 @@ class Branches:
         accepted = f"none: {some} of {self.count} branches by a proof or a refutation that is accepted"
         return accepted + f", the other {', and '.join(others)}" * bool(others), "none"
 
-    def in_table(self, answer, known):
+    def in_table(self, answer: Optional[str], known: Dict[int, str]) -> Optional[str]:
         """The answer in a table, with what it rests on where that was not checked in this run."""
         if answer != "none":
             return answer
         noted, alone_ = any(branch not in self.fresh for branch in known), any(branch in known for branch in self.without_lines())
         return answer + ", as noted" * noted + ", partly without lines" * alone_
 
-    def certificate(self, answer):
+    def certificate(self, answer: Optional[str]) -> Optional[table.Certificate]:
         """The report that the parts were joined to, or where there is none the certificates of all branches, or that of the map."""
         lines, notes = self.words.table, self.notes.all(self.chosen)
         if self.joined or not answer or not notes:
@@ -199,7 +204,7 @@ class Branches:
         least = next((note for note in notes.values() if note.word == "map"), None)
         return lines.of_file(self.words.keep / least.name) if least else lines.of_notes(notes.values())
 
-    def verify(self, whole):
+    def verify(self, whole: Attempt) -> None:
         """Has the report of the whole accepted once more, where it is not longer than `verify` reads."""
         size = whole.file("report").stat().st_size
         if size > LONGEST:
@@ -207,7 +212,7 @@ class Branches:
         else:
             whole.accepted("verify", whole.file("report"))
 
-    def join(self):
+    def join(self) -> None:
         """Puts the parts together where the search wrote one of each branch up to the first with a map: the report of the whole question,
         which is checked. Where a solver was asked about some of them there is none."""
         known = self.notes.all(self.chosen)
@@ -232,33 +237,34 @@ class Branches:
                 self.verify(whole)
 
 
-def as_noted(number):
+def as_noted(number: int) -> str:
     """How many branches were not checked in this run, in words."""
     return f", {number} of them as noted" if number else ""
 
 
-def alone(unseen, known):
+def alone(unseen: List[int], known: Collection[int]) -> str:
     """How many of some branches are known by the search's answer alone, in words."""
     number = sum(branch in known for branch in unseen)
     return f", {number} of them by {WITHOUT_LINES}" if number else ""
 
 
-class Listed(typing.NamedTuple):
+class Listed(NamedTuple):
     """How many branches there are, how many points, in how many branches most of these are open, and what tells which question it is."""
     count: int
     points: int
     large: int
     about: dict
 
-    def is_doubtful(self):
+    def is_doubtful(self) -> bool:
+        """Whether most of the branches are nearly as large as the whole."""
         return 2 * self.large > self.count > 1
 
-    def doubt(self):
+    def doubt(self) -> str:
         """Why branches may not help."""
         return f"nearly all of the {self.points:,} points are open in {self.large} of {self.count} branches: each may take as long as the whole"
 
 
-def listed(words):
+def listed(words: argparse.Namespace) -> Listed:
     """What `wfcheck branches` lists, and what the program says of itself."""
     scope, clock = Scope(words.limits), Clock(words.seconds)
     with tempfile.TemporaryDirectory() as made:
@@ -279,7 +285,7 @@ def listed(words):
     return Listed(int(count[1]), int(points[1]), large, about)
 
 
-def shown(numbers):
+def shown(numbers: Iterable[int]) -> str:
     """Numbers in words, those that follow one another as FIRST..LAST, up to a limit."""
     ranges = []
     for number in numbers:
@@ -291,7 +297,7 @@ def shown(numbers):
     return ", ".join(words[:SHOWN]) + (", .." if len(words) > SHOWN else "")
 
 
-def tally(branches):
+def tally(branches: Branches) -> None:
     """Says what is noted, and what is missing, and asks nothing."""
     known = branches.known()
     branches.tell_doubts()
@@ -304,7 +310,7 @@ def tally(branches):
         say(f"    missing: {len(missing)} of {branches.count} branches: {shown(missing)}")
 
 
-def of_chosen(branches):
+def of_chosen(branches: Branches) -> Tuple[str, int]:
     """What there is to say of the branches that were chosen, and the status: 0 where each of them is decided, or one has a map."""
     known, chosen = branches.known(), branches.chosen
     decided = [branch for branch in chosen if branch in known]
@@ -324,7 +330,7 @@ def of_chosen(branches):
     return text, 0 if maps or len(decided) == len(chosen) else STATUS[None]
 
 
-def chosen_of(words, count):
+def chosen_of(words: argparse.Namespace, count: int) -> Sequence[int]:
     """The branches that are asked."""
     if words.branch is not None:
         if not 0 <= words.branch < count:
@@ -333,7 +339,7 @@ def chosen_of(words, count):
     return range(words.share[0], count, words.share[1]) if words.share else range(count)
 
 
-def write_array(words, solver, question):
+def write_array(words: argparse.Namespace, solver: str, question: Listed) -> None:
     """Writes the script of an array of jobs."""
     if not question.count:
         raise Refused("there is no branch, so no array is needed: ask without --array")
@@ -342,7 +348,7 @@ def write_array(words, solver, question):
     print(arrays.array(words, solver, question.count))
 
 
-def main(words, solver, clock):
+def main(words: argparse.Namespace, solver: Optional[str], clock: Clock) -> int:
     """Asks about branches, or looks at what is known of them, and returns the status."""
     question = listed(words)
     if words.array:
@@ -377,7 +383,7 @@ def main(words, solver, clock):
         return ended(text, answer)
 
 
-def ended(text, answer):
+def ended(text: str, answer: Optional[str]) -> int:
     """Says what all comes to, and returns the status."""
     say(f"    {text}")
     return STATUS[answer]

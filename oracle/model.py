@@ -3,15 +3,13 @@
 
 What `wfcheck model` answers, byte for byte: the report of the map, or the line of a refusal. It shares nothing with the program. Its
 status is 0 where there is a report, else 2."""
+import argparse
 import json
 import pathlib
 import re
 import sys
 
-import common
-
-sys.path.insert(0, str(common.ROOT / "gallery"))
-import second_opinion  # noqa: E402
+import second_opinion
 
 SKIPPED = (b"c", b"s", b"SAT", b"UNSAT", b"INDET")
 LITERAL = re.compile(rb"-?[1-9][0-9]*")
@@ -63,10 +61,10 @@ def report(task, made, rounds, text):
 
 
 def main():
-    script = common.Script(__doc__)
+    script = argparse.ArgumentParser(prog="model.py", description=__doc__, formatter_class=argparse.RawDescriptionHelpFormatter)
     script.add_argument("task", type=pathlib.Path, metavar="TASK")
     script.add_argument("rounds", type=int, metavar="ROUNDS")
-    asked = script.asked()
+    asked = script.parse_args()
     task, rounds = json.loads(asked.task.read_text()), asked.rounds
     try:
         print(report(task, second_opinion.Complex(task, rounds), rounds, sys.stdin.buffer.read()), end="")

@@ -1,18 +1,22 @@
-"""The answer for every number of rounds, for gallery/ask: `wfcheck obstruction` looks for an obstruction of the task, and `wfcheck verify`
+"""The answer for every number of rounds, for tools/ask: `wfcheck obstruction` looks for an obstruction of the task, and `wfcheck verify`
 has to accept it. If none is found, that says nothing about the task."""
+from __future__ import annotations
+
+import argparse
+import pathlib
 import re
 
-import table
-from notes import Room, keep
-from questions import answered
-from runs import Clock, Late, Refused, Scope, say
+from . import table
+from .notes import Room, keep
+from .questions import answered
+from .runs import Clock, Late, Refused, Scope, say
 
 ACCEPTED = "accepted none at every number of rounds"
 FIRST_BLOCK, GAVE_UP = "wfcheck: 50 FirstBlock", "wfcheck: 60 GaveUp"
 MODULUS = re.compile(r"^modulus (\d+)$", re.M)
 
 
-def is_never(words):
+def is_never(words: argparse.Namespace) -> bool:
     """Whether an obstruction of the task is found and accepted. It is asked for once, with as much time as a number of rounds has."""
     with Room(words.keep) as room, room.attempt() as made:
         file, scope, clock = made / f"{words.task.stem}.obstruction", Scope(words.limits), Clock(words.seconds)
@@ -24,12 +28,12 @@ def is_never(words):
     return bool(found)
 
 
-def note(words, file, clock):
+def note(words: argparse.Namespace, file: pathlib.Path, clock: Clock) -> None:
     """Notes an obstruction that was accepted in the table."""
     words.table.add(words.task, table.EVERY, "never", words.table.of_file(file), clock.taken())
 
 
-def is_kept(words):
+def is_kept(words: argparse.Namespace) -> bool:
     """Whether the folder of --tally or --recheck has an obstruction of the task, and it is accepted."""
     file = words.keep / f"{words.task.stem}.obstruction"
     if not file.is_file():
@@ -42,7 +46,7 @@ def is_kept(words):
     return bool(accepted)
 
 
-def is_found(words, file, scope, clock):
+def is_found(words: argparse.Namespace, file: pathlib.Path, scope: Scope, clock: Clock) -> bool:
     """Whether an obstruction is found and accepted. A task with a first block has none, and nothing is said of it."""
     try:
         ended = scope.wfcheck(["obstruction"], clock, words.task, file)
@@ -58,7 +62,7 @@ def is_found(words, file, scope, clock):
     return ended.status == 0 and is_accepted(words, file, scope, clock)
 
 
-def is_accepted(words, file, scope, clock):
+def is_accepted(words: argparse.Namespace, file: pathlib.Path, scope: Scope, clock: Clock) -> bool:
     """Whether `verify` accepts an obstruction of the task; then there is no map, and the last line says so."""
     try:
         ended = scope.wfcheck(["verify", "--task", words.task], clock, file)
@@ -72,7 +76,7 @@ def is_accepted(words, file, scope, clock):
     return accepted
 
 
-def in_words(file):
+def in_words(file: pathlib.Path) -> str:
     """The modulus of an obstruction, and how many tuples it weighs."""
     text = file.read_text(errors="replace")
     modulus, tuples = MODULUS.search(text), text.count("\nt ")

@@ -1,7 +1,7 @@
 #!/usr/bin/env python3
 """second_opinion.py TASK REPORT: whether the report about the task holds, straight from the definitions.
 
-It shares nothing with the program: it is here to be read in ten minutes, and is slow. The task is read by lint.py, and the report's
+It shares nothing with the program: it is here to be read in ten minutes, and is slow. The task is read by task_file.py, and the report's
 text by reports.py. It says `holds: map`, `holds: least` or `holds: none`, or says in words what is wrong, as with a report of none
 that has no lines, or why it can't read the report, and ends with status 1. Whether a map is the least one it looks at where the
 report has the lines for it.
@@ -15,9 +15,9 @@ import random
 import sys
 
 sys.dont_write_bytecode = True
-import lint  # noqa: E402
 import obstructions  # noqa: E402
 import reports  # noqa: E402
+import task_file  # noqa: E402
 
 
 def faces(simplex):
@@ -189,11 +189,11 @@ def given(name, about):
     words.add_argument("report")
     asked = words.parse_args()
     try:
-        with open(asked.task, "rb") as task_file, open(asked.report, "rb") as report_file:
-            return lint.read(task_file.read(lint.LONGEST + 1))[0], report_file.read(reports.LONGEST + 1).decode("ascii", "replace")
+        with open(asked.task, "rb") as task_text, open(asked.report, "rb") as report_file:
+            return task_file.read(task_text.read(task_file.LONGEST + 1))[0], report_file.read(reports.LONGEST + 1).decode("ascii", "replace")
     except OSError as error:
         sys.exit(f"{name}: {error}")
-    except lint.Refused as refused:
+    except task_file.Refused as refused:
         sys.exit(f"the task is refused, {refused.line}: {refused.words}")
 
 

@@ -1,4 +1,3 @@
-#!/usr/bin/env python3
 """ask TASK ROUNDS [--solver WORDS] [--seconds N] [--keep FOLDER] [--jobs N]: a question that may be too hard for the search alone.
 
 First `wfcheck obstruction` looks for an obstruction of the task, once. If it finds one, and `verify` accepts it, the task has no map after
@@ -12,7 +11,7 @@ not have to trust the solver. You trust this script to hand wfcheck the task tha
 The last line says what is accepted in this run: `never`; `from R`, a map after R rounds and none after R - 1, or R is 0; `none up to R`,
 since a map after fewer rounds would give one after R; `map at R`; or `not decided`.
 
-    TASK       a task file, or the name of one of this folder
+    TASK       a task file, or the name of one in gallery/tasks
     ROUNDS     a number, or FIRST..LAST: each in turn, up to the first with a map
     --solver   cadical, kissat, cryptominisat5 or minisat (the last two write no proofs, and so find maps alone); or a command
                with {formula}, with {proof} if it writes clausal proofs as text, and with {output} if it writes its model to
@@ -56,22 +55,4 @@ noted; after --recheck nothing is.
 
 The status is 0 for a map, 1 for none and for never, 2 for words or a question that are refused, 3 for a question that was not decided, 130
 where it was cut off. With --branch or --share it is 0 where these branches are decided, for a map, none or never, and 3 where they are not. It
-needs bin/wfcheck, as `make build` leaves it."""
-import sys
-
-sys.dont_write_bytecode = True
-UNDECIDED = 3
-
-
-def main():
-    try:
-        import asking
-        return asking.main(__doc__)
-    except Exception as error:
-        # a status of Python's own would mean an answer
-        print(f"ask: {type(error).__name__}: {error}", file=sys.stderr)
-        return UNDECIDED
-
-
-if __name__ == "__main__":
-    sys.exit(main())
+needs the program: what the variable WFCHECK names, else bin/wfcheck, as `make build` leaves it, else wfcheck on the path."""

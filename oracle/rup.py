@@ -4,17 +4,19 @@
 What `wfcheck proof` answers, byte for byte, and slowly, most of all a number of millions of digits: it shares nothing with the program,
 and is here to be read. With --branch the proof is about that branch alone, which has to be there. A proof is lemmas and deletions. A lemma follows where unit propagation, with all its literals false, makes a clause that is kept false.
 Literals that hold without an assumption hold from then on, whatever is deleted. Its status is 0 where the proof is accepted, else 2."""
+import argparse
 import collections
 import json
 import pathlib
 import re
 import sys
 
-import common
+import formula
+import independent
 
-sys.path.insert(0, str(common.ROOT / "gallery"))
-import formula  # noqa: E402
-import independent  # noqa: E402
+# a number may have any number of digits, of which Python reads 4,300 if it isn't told
+if hasattr(sys, "set_int_max_str_digits"):
+    sys.set_int_max_str_digits(0)
 
 BLANKS = b" \t\r\n"
 NUMBER = re.compile(rb"-?[0-9]*")
@@ -152,11 +154,11 @@ def accepted(rounds, where=""):
 
 
 def main():
-    script = common.Script(__doc__)
+    script = argparse.ArgumentParser(prog="rup.py", description=__doc__, formatter_class=argparse.RawDescriptionHelpFormatter)
     script.add_argument("task", type=pathlib.Path, metavar="TASK")
     script.add_argument("rounds", type=int, metavar="ROUNDS")
     script.add_argument("--branch", type=int, metavar="I")
-    asked = script.asked()
+    asked = script.parse_args()
     task = json.loads(asked.task.read_bytes())
     variables, clauses = question(task, asked.rounds, asked.branch)
     refusal = judge(Kept(clauses), variables, sys.stdin.buffer.read())

@@ -1,5 +1,8 @@
-"""The words of gallery/ask, and the question as a whole: the search and a solver are asked side by side."""
+"""The words of tools/ask, and the question as a whole: the search and a solver are asked side by side."""
+from __future__ import annotations
+
 import argparse
+import os
 import pathlib
 import re
 import shlex
@@ -8,15 +11,14 @@ import signal
 import subprocess
 import sys
 import tempfile
+from typing import Dict, List, Optional, Tuple
 
-import arrays
-import branches
-import never
-import runs
-import table
-from notes import Room, keep
-from questions import FEWER_ROUNDS, PLACES, SEARCH, Attempt, Question, first
-from runs import Clock, Late, Limits, Refused, Scope, Stopped, Undecided, say
+from ..running import VARIABLE, NoProgram, program
+from . import __doc__ as about
+from . import arrays, branches, never, runs, table
+from .notes import Room, keep
+from .questions import FEWER_ROUNDS, PLACES, SEARCH, Attempt, Question, first
+from .runs import Clock, Late, Limits, Refused, Scope, Stopped, Undecided, say
 
 SOLVERS = {
     "cadical": "cadical -q --no-binary {formula} {proof}",
@@ -32,10 +34,10 @@ REFUSED, CUT_OFF = 2, 130
 GB = 1 << 30
 
 
-def parsed(doc):
+def parsed(listed: List[str]) -> Tuple[argparse.ArgumentParser, argparse.Namespace]:
     """The words as they stand."""
     words = argparse.ArgumentParser(
-        description=doc, formatter_class=argparse.RawDescriptionHelpFormatter, usage="ask TASK ROUNDS [options]", prog="ask")
+        description=about, formatter_class=argparse.RawDescriptionHelpFormatter, usage="ask TASK ROUNDS [options]", prog="ask")
     words.add_argument("task")
     words.add_argument("rounds")
     words.add_argument("--solver")
@@ -53,17 +55,22 @@ def parsed(doc):
     chosen.add_argument("--array", choices=list(arrays.ENGINES))
     chosen.add_argument("--tally", type=pathlib.Path)
     chosen.add_argument("--recheck", type=pathlib.Path)
-    return words, words.parse_args()
+    return words, words.parse_args(listed)
 
 
-def asked(doc):
-    """The words, the task's file, and the rounds in turn."""
-    words, found = parsed(doc)
+def asked(listed: List[str], command: List[str]) -> argparse.Namespace:
+    """The words, the task's file, and the rounds in turn. The command is that by which a job asks again."""
+    words, found = parsed(listed)
+    try:
+        found.command = [*named_program(), *command]
+        program()
+    except NoProgram as why:
+        words.error(str(why))
     judge_numbers(words, found)
     path = pathlib.Path(found.task)
-    found.task = path if path.is_file() else runs.HERE / f"{found.task.removesuffix('.json')}.json"
+    found.task = path if path.is_file() else runs.TASKS / f"{found.task.removesuffix('.json')}.json"
     if not found.task.is_file():
-        words.error(f"{path} is no file, and no task of gallery/")
+        words.error(f"{path} is no file, and no task of gallery/tasks")
     rounds = re.fullmatch(r"(\d+)(?:\.\.(\d+))?", found.rounds, re.A)
     first_rounds, last = (int(rounds[1]), int(rounds[2] or rounds[1])) if rounds else (1, 0)
     if first_rounds > last:
@@ -75,13 +82,16 @@ def asked(doc):
         wrong = wrong_command(SOLVERS.get(found.solver, found.solver))
         if wrong:
             words.error(f"--solver: {wrong}")
-    if not runs.PROGRAM.is_file():
-        words.error("bin/wfcheck is not there: `make build` leaves it")
     judge_folder(words, found)
     return found
 
 
-def judge_numbers(words, found):
+def named_program() -> List[str]:
+    """What tells a job of an array which program this run has, if a variable names it."""
+    return ["env", f"{VARIABLE}={program()}"] if os.environ.get(VARIABLE) else []
+
+
+def judge_numbers(words: argparse.ArgumentParser, found: argparse.Namespace) -> None:
     """Refuses numbers that mean nothing, and finds out whether branches are asked."""
     share = re.fullmatch(r"(\d+)/(\d+)", found.share, re.A) if found.share else None
     if found.share and not (share and int(share[1]) < int(share[2])):
@@ -102,7 +112,7 @@ def judge_numbers(words, found):
     found.limits = Limits(int(found.memory * GB), int(found.disk * GB))
 
 
-def judge_folder(words, found):
+def judge_folder(words: argparse.ArgumentParser, found: argparse.Namespace) -> None:
     """Finds the folder that keeps, and makes it where it may be new."""
     if found.looks:
         if found.keep:
@@ -119,7 +129,7 @@ def judge_folder(words, found):
         words.error(f"--keep: {error}")
 
 
-def wrong_command(solver):
+def wrong_command(solver: str) -> Optional[str]:
     """Why a solver's words can't be run; None where they can."""
     try:
         words = [word.format(**PLACES) for word in shlex.split(solver)]
@@ -128,7 +138,7 @@ def wrong_command(solver):
     return None if words and shutil.which(words[0]) else f"{words[0] if words else solver!r} is not on the path"
 
 
-def command(solver, limits):
+def command(solver: str, limits: Limits) -> str:
     """The command of a solver: of Kissat without the option that an older one doesn't know."""
     words = SOLVERS.get(solver, solver)
     if solver != "kissat":
@@ -144,23 +154,24 @@ def command(solver, limits):
     return words if status == SATISFIABLE else words.replace(f" {NO_FACTOR}", "")
 
 
-def by_path(solver):
+def by_path(solver: str) -> str:
     """The words of a solver, which is named by its path: a job may have another path to look it up in."""
     name, *rest = shlex.split(solver)
     path = str(pathlib.Path(shutil.which(name)).absolute())
     return " ".join(word if re.fullmatch(r"[\w./=+{}-]+", word, re.A) else shlex.quote(word) for word in [path, *rest])
 
 
-def refusal(said, task):
+def refusal(said: str, task: pathlib.Path) -> str:
     """What the program says of a question that it refuses, and where that is told in words."""
     if not said.startswith("wfcheck: "):
         return said.rstrip("\n")
     about_task = re.match(r"wfcheck: (?:[1-9]|1[0-4]|18) ", said)
-    return said + (f"gallery/lint.py {task} says where, in words" if about_task else 'docs/FORMAT.md, "Refusals", says what that means')
+    return said + (f"tools/lint.py {task} says where, in words" if about_task else 'docs/FORMAT.md, "Refusals", says what that means')
 
 
-def main(doc):
-    words = asked(doc)
+def main(listed: List[str], command: List[str]) -> int:
+    """Asks what a list of words says, and returns the status."""
+    words = asked(listed, command)
     sys.stdout.reconfigure(errors="backslashreplace")
     for end in runs.ENDING:
         # what is ignored, as after `nohup`, stays so
@@ -179,7 +190,7 @@ def main(doc):
         return branches.STATUS[None]
 
 
-def answered(words):
+def answered(words: argparse.Namespace) -> int:
     """Asks, and returns the status that the answer has."""
     if has_obstruction(words):
         return of_never(words)
@@ -206,21 +217,21 @@ def answered(words):
     return branches.STATUS[answer]
 
 
-def has_obstruction(words):
+def has_obstruction(words: argparse.Namespace) -> bool:
     """Whether the task has an obstruction that is accepted: one that is found, or where nothing is asked one that is kept."""
     if words.no_obstruction or words.array:
         return False
     return never.is_kept(words) if words.looks else never.is_never(words)
 
 
-def of_never(words):
+def of_never(words: argparse.Namespace) -> int:
     """The status of a task that has no map after any number of rounds. All its branches are decided then."""
     if not words.by_branch:
         say(f"{words.task.stem}: never")
     return 0 if words.branch is not None or words.share else branches.STATUS["none"]
 
 
-def summary(answers):
+def summary(answers: Dict[int, Optional[str]]) -> str:
     """What the answers by rounds come to. A map after some rounds gives one after more, so none there is none after fewer, too."""
     most = max((rounds for rounds, answer in answers.items() if answer == "none"), default=None)
     least = next((rounds for rounds, answer in answers.items() if answer == "map"), None)
@@ -230,7 +241,8 @@ def summary(answers):
     return ", ".join(told) or "not decided"
 
 
-def decided(words, rounds, solver, room, clock):
+def decided(words: argparse.Namespace, rounds: int, solver: Optional[str], room: Room, clock: Clock) -> Tuple[Optional[str],
+            Optional[table.Certificate]]:
     """The answer of the first that has one within the limit, and its certificate as a table has it; None for both where nobody has."""
     with room.attempt() as made:
         scope = Scope(words.limits)

@@ -2,6 +2,8 @@
 
 Nothing that was started goes on once its question is answered, its time is over or the run is cut off: then its whole group is killed,
 and so it is where the program itself has ended and a child of it goes on."""
+from __future__ import annotations
+
 import contextlib
 import ctypes
 import os
@@ -13,10 +15,13 @@ import sys
 import tempfile
 import threading
 import time
-import typing
+from typing import Any, Callable, Dict, Iterator, NamedTuple, Optional, Sequence, Union
 
-HERE = pathlib.Path(__file__).resolve().parent
-PROGRAM = HERE.parent / "bin/wfcheck"
+from ..running import TOP, program
+
+TASKS = TOP / "gallery/tasks"
+# a file that a program reads, and a call that is made again and again while it runs
+Given, Look = Union[str, pathlib.Path], Optional[Callable[[], None]]
 # how many bytes are read of what a program says
 TOLD = 1 << 20
 # a program that one of these ended was most likely ended with all of this run, which then gets the signal within a second
@@ -49,19 +54,19 @@ class Refused(Exception):
     """What the program says of a question that it refuses."""
 
 
-class Limits(typing.NamedTuple):
+class Limits(NamedTuple):
     """What each process that is started may take, in bytes: of memory, and for one file."""
     memory: int
     file: int
 
 
-class Ended(typing.NamedTuple):
+class Ended(NamedTuple):
     """How a program ended: its status, what it said, and the seconds that it took."""
     status: int
     said: str
     taken: float
 
-    def why(self):
+    def why(self) -> str:
         """Why it didn't end well, in one line."""
         if self.status == -signal.SIGXFSZ:
             return "it wrote more than one file may have (--disk)"
@@ -70,7 +75,7 @@ class Ended(typing.NamedTuple):
         return self.said.strip() or f"it ended with status {self.status}"
 
 
-def not_cut_off():
+def not_cut_off() -> None:
     """Raises Stopped once the run was cut off."""
     if CUT_OFF.is_set():
         raise Stopped
@@ -79,13 +84,14 @@ def not_cut_off():
 class Clock:
     """The time of one question, of which the search, the solver and the checks take their parts."""
 
-    def __init__(self, seconds):
+    def __init__(self, seconds: float) -> None:
         self.begun, self.seconds = time.monotonic(), seconds
 
-    def taken(self):
+    def taken(self) -> float:
+        """The seconds that are over."""
         return time.monotonic() - self.begun
 
-    def go_on(self):
+    def go_on(self) -> None:
         """Raises Late once the time is over, and Stopped once the run was cut off."""
         not_cut_off()
         if self.taken() >= self.seconds:
@@ -95,34 +101,35 @@ class Clock:
 class Scope:
     """What belongs together: once `end` is called, all that was started in it is stopped."""
 
-    def __init__(self, limits):
+    def __init__(self, limits: Limits) -> None:
         self.limits, self.ended = limits, threading.Event()
 
-    def end(self):
+    def end(self) -> None:
+        """Stops all that was started in the scope."""
         self.ended.set()
 
-    def go_on(self):
+    def go_on(self) -> None:
         """Raises Stopped once the scope has ended or the run was cut off."""
         not_cut_off()
         if self.ended.is_set():
             raise Stopped
 
-    def settle(self):
+    def settle(self) -> None:
         """Waits a moment where a child ended without an answer: it may have met a signal that this run gets, too. Raises Stopped then."""
         CUT_OFF.wait(GRACE)
         self.go_on()
 
-    def run(self, words, clock, **how):
+    def run(self, words: Sequence[Any], clock: Clock, **how: Any) -> int:
         """Runs a program, as `Child.wait` does, and returns its status."""
         self.go_on()
         look = how.pop("look", None)
         return Child(words, self, how).wait(clock, look)
 
-    def wfcheck(self, words, clock, given, wrote=None, look=None):
+    def wfcheck(self, words: Sequence[Any], clock: Clock, given: Given, wrote: Optional[pathlib.Path] = None, look: Look = None) -> Ended:
         """Runs wfcheck over a file. What it writes goes to a file that must not be there yet, or is told with what it says."""
         begun = time.monotonic()
         with open(given, "rb") as read, tempfile.TemporaryFile() as told, open(wrote or os.devnull, "xb" if wrote else "ab") as write:
-            status = self.run([PROGRAM, *map(str, words)], clock, look=look, stdin=read, stdout=write if wrote else told, stderr=told)
+            status = self.run([str(program()), *map(str, words)], clock, look=look, stdin=read, stdout=write if wrote else told, stderr=told)
             told.seek(0)
             return Ended(status, told.read(TOLD).decode(errors="replace"), time.monotonic() - begun)
 
@@ -130,11 +137,11 @@ class Scope:
 class Child:
     """A program that was started, with all that it starts."""
 
-    def __init__(self, words, scope, how):
+    def __init__(self, words: Sequence[Any], scope: Scope, how: Dict[str, Any]) -> None:
         self.scope = scope
         self.process = subprocess.Popen(words, start_new_session=True, preexec_fn=limited(scope.limits), **how)
 
-    def wait(self, clock, look=None):
+    def wait(self, clock: Clock, look: Look = None) -> int:
         """Waits for the end and returns the status, and calls `look` again and again until then. Raises Late or Stopped if that comes
         first. None of the group is left in any case."""
         pause = 0.0005
@@ -154,25 +161,26 @@ class Child:
         self.scope.go_on()
         return status
 
-    def has_ended(self):
+    def has_ended(self) -> bool:
         """Whether the program has ended; it keeps its number until `wait` asks for its status, so that the group can be named by it."""
         return os.waitid(os.P_PID, self.process.pid, os.WEXITED | os.WNOWAIT | os.WNOHANG) is not None
 
 
-def limited(limits):
+def limited(limits: Limits) -> Callable[[], None]:
     """Sets the limits in a process that is about to become another program, and has it end where this one is killed."""
     wanted = {resource.RLIMIT_AS: limits.memory, resource.RLIMIT_FSIZE: limits.file, resource.RLIMIT_CORE: 0}
     found = {kind: resource.getrlimit(kind)[1] for kind in wanted}
     least = {kind: most if found[kind] == resource.RLIM_INFINITY else min(most, found[kind]) for kind, most in wanted.items()}
 
-    def limit():
+    def limit() -> None:
+        """Sets the limits."""
         for kind, most in least.items():
             resource.setrlimit(kind, (most, most))
         LIBC.prctl(DIE_WITH_PARENT, signal.SIGKILL)
     return limit
 
 
-def say(text):
+def say(text: str) -> None:
     """Prints a line at once. Where that fails, nobody would see the answer, and the run ends."""
     try:
         with ONE_LINE:
@@ -184,11 +192,12 @@ def say(text):
 
 
 @contextlib.contextmanager
-def telling(what):
+def telling(what: Callable[[], str]) -> Iterator[None]:
     """Tells what goes on, as a call says it, again and again where standard error is a terminal."""
     over = threading.Event()
 
-    def tell():
+    def tell() -> None:
+        """Tells what goes on, until that is over."""
         while not over.wait(PERIOD):
             with contextlib.suppress(OSError), ONE_LINE:
                 sys.stderr.write(f"    .. {what()}\n")
@@ -203,7 +212,7 @@ def telling(what):
         over.set()
 
 
-def pieces(file, clock):
+def pieces(file: pathlib.Path, clock: Clock) -> Iterator[bytes]:
     """The lines of a file, those that are too long in pieces."""
     with open(file, "rb") as text:
         for number, piece in enumerate(iter(lambda: text.readline(1 << 16), b"")):

@@ -4,6 +4,8 @@ Nothing in the folder is ever written over or followed to another place: each at
 that is accepted gets the first free name. A note is a file `branch-I` with one line, which names the certificate of its branch and has
 its SHA-256. It is trusted only while that very certificate is there; so a note says that the certificate was accepted once, and
 `ask --recheck` has it accepted again."""
+from __future__ import annotations
+
 import contextlib
 import fcntl
 import hashlib
@@ -14,9 +16,12 @@ import re
 import shutil
 import tempfile
 import time
-import typing
+from typing import TYPE_CHECKING, Any, Dict, Iterable, Iterator, NamedTuple, Optional, Tuple
 
-from runs import not_cut_off, say
+from .runs import not_cut_off, say
+
+if TYPE_CHECKING:
+    from .questions import Answer
 
 VERDICT = "verdict"
 TRIES, PAUSE = 20, 0.05
@@ -30,7 +35,7 @@ LINE = re.compile(
 TEXT = {"encoding": "utf-8", "errors": "surrogateescape"}
 
 
-def digest(file):
+def digest(file: pathlib.Path) -> str:
     """The SHA-256 of a file."""
     found = hashlib.sha256()
     with open(file, "rb") as text:
@@ -44,10 +49,10 @@ class Room:
     """A folder for the files of one run, inside the folder that keeps, or among the temporary ones. It goes when the run ends; what a
     run that was killed left inside the folder goes when the next one begins, which sees by the lock that nobody works there."""
 
-    def __init__(self, keep):
+    def __init__(self, keep: Optional[pathlib.Path]) -> None:
         self.keep = keep
 
-    def __enter__(self):
+    def __enter__(self) -> Room:
         if self.keep:
             for left in self.keep.glob(f"{ROOMS}*"):
                 sweep(left)
@@ -59,16 +64,16 @@ class Room:
             (self.path / f"{LOCK}.new").rename(self.path / LOCK)
         return self
 
-    def __exit__(self, *_):
+    def __exit__(self, *_: Any) -> None:
         clear(self.path)
         self.lock.close()
 
-    def place(self):
+    def place(self) -> int:
         """The place of this run among those that have a room in the folder: 0 for one that is alone there."""
         return sorted({self.path.name, *(it.name for it in self.keep.glob(f"{ROOMS}*"))}).index(self.path.name) if self.keep else 0
 
     @contextlib.contextmanager
-    def attempt(self):
+    def attempt(self) -> Iterator[pathlib.Path]:
         """A folder for one attempt."""
         path = pathlib.Path(tempfile.mkdtemp(dir=self.path))
         try:
@@ -77,7 +82,7 @@ class Room:
             clear(path)
 
 
-def clear(folder):
+def clear(folder: pathlib.Path) -> None:
     """Takes a folder away. What was killed may have written there until a moment ago, so it is tried again."""
     for _ in range(TRIES):
         shutil.rmtree(folder, ignore_errors=True)
@@ -86,7 +91,7 @@ def clear(folder):
         time.sleep(PAUSE)
 
 
-def sweep(room):
+def sweep(room: pathlib.Path) -> None:
     """Takes away the room of a run that is gone. That of another machine stays, since its lock may not be seen from here."""
     with contextlib.suppress(OSError, ValueError):
         with open(os.open(room / LOCK, os.O_RDWR | os.O_NOFOLLOW)) as lock:
@@ -95,7 +100,7 @@ def sweep(room):
                 clear(room)
 
 
-def placed(file, folder):
+def placed(file: pathlib.Path, folder: pathlib.Path) -> pathlib.Path:
     """Puts a file into a folder, under its own name or the next that is free, and returns that. Where the same bytes are there they stay."""
     for number in itertools.count(1):
         place = folder / (file.name if number == 1 else f"{file.stem}.{number}{file.suffix}")
@@ -107,7 +112,7 @@ def placed(file, folder):
                 return place
 
 
-def keep(file, folder):
+def keep(file: pathlib.Path, folder: pathlib.Path) -> None:
     """Puts a file that is accepted into a folder, and says why if it can't be kept."""
     try:
         placed(file, folder)
@@ -115,7 +120,7 @@ def keep(file, folder):
         say(f"    {file.name} can't be kept: {error}")
 
 
-class Note(typing.NamedTuple):
+class Note(NamedTuple):
     """What is noted of a branch."""
     word: str
     who: str
@@ -124,18 +129,19 @@ class Note(typing.NamedTuple):
     digest: str
     name: str
 
-    def has_lines(self):
+    def has_lines(self) -> bool:
         """Whether the certificate can be checked again: the search's answer alone can't be."""
         return self.word != "none" or not self.name.endswith(f".{VERDICT}")
 
-    def line(self):
+    def line(self) -> str:
+        """The line of the note's file."""
         return f"{self.word}, by {self.who} in {self.taken} s, {self.size} bytes with SHA-256 {self.digest} in {self.name}\n"
 
 
 class Notes:
     """What is known of the branches of one question."""
 
-    def __init__(self, folder):
+    def __init__(self, folder: pathlib.Path) -> None:
         self.folder = folder
         # the SHA-256 of each certificate by what tells that it is the same, so that none is read twice; why a note is not trusted; and the
         # notes whose certificates were refused in this run
@@ -143,7 +149,7 @@ class Notes:
         # the branches that were noted to have none
         self.nones = set()
 
-    def not_about(self, about, room):
+    def not_about(self, about: Dict[str, Any], room: Optional[Room]) -> Optional[str]:
         """Why the folder is not about this question, by the names and words that say which one it is; None where it is. A folder that is about
         none yet is about this one from now on, where there is a room for that."""
         text, file = "".join(f"{name} {it}\n" for name, it in about.items()), self.folder / "question"
@@ -164,13 +170,13 @@ class Notes:
             return f"has notes about another {NAMES.get(other, other)}: {words[other]}, and not {about[other]}"
         return "has notes about another question, or of an older version of this script"
 
-    def line_of(self, branch):
+    def line_of(self, branch: int) -> Optional[Note]:
         """What is noted of a branch, whether it is to be trusted or not."""
         with open(self.folder / f"branch-{branch}", **TEXT) as file:
             found = LINE.fullmatch(file.read(1 << 14))
         return Note(**{**found.groupdict(), "size": int(found["size"])}) if found else None
 
-    def of(self, branch):
+    def of(self, branch: int) -> Optional[Note]:
         """The note of a branch; None where there is none that is to be trusted."""
         self.doubts.pop(branch, None)
         try:
@@ -184,7 +190,7 @@ class Notes:
             self.doubts[branch] = doubt
         return None if doubt else note
 
-    def doubt(self, note):
+    def doubt(self, note: Note) -> Optional[str]:
         """Why a note is not trusted; None where it is."""
         if note in self.refused:
             return f"{note.name} was refused"
@@ -199,7 +205,7 @@ class Notes:
             self.seen[key] = digest(file)
         return None if self.seen[key] == note.digest else f"{note.name} has another SHA-256"
 
-    def maps_below(self, branch):
+    def maps_below(self, branch: int) -> Iterator[Tuple[int, Note]]:
         """The branches below this one that are noted to have a map, with their notes."""
         numbers = (it.name.removeprefix("branch-") for it in self.folder.glob("branch-*"))
         there = {int(it) for it in numbers if re.fullmatch(r"\d{1,9}", it, re.A)}
@@ -212,11 +218,11 @@ class Notes:
             elif note and (trusted := self.of(lower)):
                 yield lower, trusted
 
-    def all(self, chosen):
+    def all(self, chosen: Iterable[int]) -> Dict[int, Note]:
         """The notes of some branches. Those of others are not looked at, since their certificates may be large and many."""
         return {branch: note for branch in chosen if (note := self.of(branch))}
 
-    def keep(self, branch, answer, made):
+    def keep(self, branch: int, answer: Answer, made: pathlib.Path) -> Note:
         """Puts the certificate of an answer into place, and then notes it, where no other run has noted the branch meanwhile."""
         if note := self.of(branch):
             return note

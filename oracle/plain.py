@@ -3,18 +3,16 @@
 
 What `wfcheck verify` answers, byte for byte, and slowly: it shares nothing with the program, and is here to be read. A line is cut
 at its spaces. A box is a set of values for each point, each box that is left is copied, and each tuple is tried for each value. The
-task is read by gallery/lint.py, and its executions and points are those of gallery/second_opinion.py. An obstruction is judged by
-gallery/obstructions.py. Its status is 0 where the report is accepted, else 2."""
+task is read by task_file.py, and its executions and points are those of second_opinion.py. An obstruction is judged by
+obstructions.py. Its status is 0 where the report is accepted, else 2."""
+import argparse
 import itertools
 import pathlib
 import sys
 
-import common
-
-sys.path.insert(0, str(common.ROOT / "gallery"))
-import lint  # noqa: E402
-import obstructions  # noqa: E402
-import second_opinion  # noqa: E402
+import obstructions
+import second_opinion
+import task_file
 
 LONGEST, MOST_ROUNDS, MOST_EXECUTIONS = 16_777_216, 8, 500_000
 NUMBER, PROCESS, VALUE = 2**32 - 1, 3, 255
@@ -168,8 +166,8 @@ def accepted(task, text, rounds=None):
 def judged(task, text, rounds=None):
     """What `verify` writes, what it tells, and its status, of the bytes of a task's file and of a report."""
     try:
-        return f"{accepted(lint.read(task)[0], text, rounds)}\n".encode(), b"", 0
-    except lint.Refused as refused:
+        return f"{accepted(task_file.read(task)[0], text, rounds)}\n".encode(), b"", 0
+    except task_file.Refused as refused:
         line = refused.line
     except Refused as refused:
         line = str(refused)
@@ -177,10 +175,10 @@ def judged(task, text, rounds=None):
 
 
 def main():
-    script = common.Script(__doc__)
+    script = argparse.ArgumentParser(prog="plain.py", description=__doc__, formatter_class=argparse.RawDescriptionHelpFormatter)
     script.add_argument("task", type=pathlib.Path, metavar="TASK")
     script.add_argument("--rounds", type=int, metavar="R", help="the rounds that the report has to be about")
-    asked = script.asked()
+    asked = script.parse_args()
     written, told, status = judged(asked.task.read_bytes(), sys.stdin.buffer.read(), asked.rounds)
     sys.stdout.write(written.decode())
     sys.stderr.write(told.decode())

@@ -10,8 +10,8 @@ import itertools
 import sys
 
 sys.dont_write_bytecode = True
-import lint  # noqa: E402
 import second_opinion  # noqa: E402
+import task_file  # noqa: E402
 
 
 def patterns(size, values, allowed):
@@ -53,10 +53,10 @@ def main():
     asked = words.parse_args()
     try:
         with open(asked.task, "rb") as file:
-            sys.stdout.write(text(lint.read(file.read())[0], asked.rounds))
+            sys.stdout.write(text(task_file.read(file.read())[0], asked.rounds))
     except OSError as error:
         sys.exit(f"formula.py: {error}")
-    except lint.Refused as refused:
+    except task_file.Refused as refused:
         sys.exit(f"the task is refused, {refused.line}: {refused.words}")
 
 

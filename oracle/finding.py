@@ -16,8 +16,8 @@ import math
 import sys
 
 sys.dont_write_bytecode = True
-import lint  # noqa: E402
 import obstructions  # noqa: E402
+import task_file  # noqa: E402
 
 # the term of the empty face
 EMPTY = (), ()
@@ -28,8 +28,8 @@ Combination = collections.namedtuple("Combination", "terms tuples")
 
 def columns(task):
     """The terms of each tuple that the task does not allow, with weight 1."""
-    inputs, values = lint.complex_of(task["inputs"]), obstructions.values_of(task)
-    allowed = {lint.simplex_of(entry["in"]): {tuple(it) for it in entry["out"]} for entry in task["delta"]}
+    inputs, values = task_file.complex_of(task["inputs"]), obstructions.values_of(task)
+    allowed = {task_file.simplex_of(entry["in"]): {tuple(it) for it in entry["out"]} for entry in task["delta"]}
     for number, simplex in enumerate(inputs):
         for decided in itertools.product(values, repeat=len(simplex)):
             if decided not in allowed[simplex]:
@@ -99,7 +99,7 @@ def find(task, modulus):
 def text_of(task, modulus, found):
     """The text of an obstruction."""
     total, tuples = found
-    header = [task["processes"], len(lint.complex_of(task["inputs"])), modulus, total]
+    header = [task["processes"], len(task_file.complex_of(task["inputs"])), modulus, total]
     lines = [obstructions.FIRST, *(f"{name} {number}" for name, number in zip(obstructions.HEADER, header))]
     for simplex, them in itertools.groupby(sorted(tuples), key=lambda it: it[0]):
         lines += [f"s {simplex}", *(f"t {tuples[it]} {' '.join(map(str, it[1]))}" for it in them)]
@@ -170,10 +170,10 @@ def main():
         words.error(f"{asked.modulus} is no prime and no power of one")
     try:
         with open(asked.task, "rb") as file:
-            task = lint.read(file.read(lint.LONGEST + 1))[0]
+            task = task_file.read(file.read(task_file.LONGEST + 1))[0]
     except OSError as error:
         words.error(str(error))
-    except lint.Refused as refused:
+    except task_file.Refused as refused:
         words.error(f"the task is refused, {refused.line}: {refused.words}")
     if task.get("first_block", 1) > 1:
         words.error("a task with a first block above 1 has no obstruction")

@@ -1,0 +1,148 @@
+"""Answers about a task, as objects that are read from the texts that the program writes."""
+import dataclasses
+import re
+from typing import Dict, List, NamedTuple, Sequence, Tuple, Union
+
+from .tasks import Simplex, Task
+from .views import Unreadable, View
+
+FIRST, OBSTRUCTION = "wfcheck report 1", "wfcheck obstruction 1"
+# behind the first line of a report stand its processes, rounds, points, executions and answer; of an obstruction its processes, simplices,
+# modulus and sum
+HEAD = 6
+NUMBER = re.compile(r"0|[1-9]\d*", re.A)
+
+
+class Taken(NamedTuple):
+    """A value is taken from the point at a process in an execution: no tuple that the task allows there has it."""
+    execution: int
+    process: int
+    value: int
+
+
+class Branching(NamedTuple):
+    """Each value that is left at a point is supposed in turn: as many blocks of steps follow."""
+    point: int
+
+
+class Closed(NamedTuple):
+    """A point has no value left, and so the block has no decision map."""
+    point: int
+
+
+Step = Union[Taken, Branching, Closed]
+STEPS = {"p": Taken, "b": Branching, "z": Closed}
+# the last line of a map's report that shows that the map is the least
+LEAST = "f"
+
+
+class Weighted(NamedTuple):
+    """A tuple that the task does not allow, with its weight: where the processes of an input simplex decide these values."""
+    simplex: Simplex
+    values: Tuple[int, ...]
+    weight: int
+
+
+@dataclasses.dataclass(frozen=True)
+class Map:
+    """A decision map: the value that is decided at each view, after so many rounds.
+
+    The views are in the order of their points. `steps` are those that show that no map is smaller, if that was asked for. `report` is
+    the text, which `verify` accepts."""
+    task: Task = dataclasses.field(repr=False)
+    rounds: int
+    values: Dict[View, int]
+    steps: Tuple[Step, ...] = dataclasses.field(repr=False)
+    report: str = dataclasses.field(repr=False)
+
+
+@dataclasses.dataclass(frozen=True)
+class Refutation:
+    """There is no decision map after so many rounds, with the steps that show it. `report` is the text, which `verify` accepts; without
+    steps it is the program's answer alone, and is not accepted."""
+    task: Task = dataclasses.field(repr=False)
+    rounds: int
+    steps: Tuple[Step, ...] = dataclasses.field(repr=False)
+    report: str = dataclasses.field(repr=False)
+
+
+@dataclasses.dataclass(frozen=True)
+class Proof:
+    """There is no decision map after so many rounds, by a SAT solver's clausal proof, which `wfcheck proof` accepts."""
+    task: Task = dataclasses.field(repr=False)
+    rounds: int
+    text: str = dataclasses.field(repr=False)
+
+
+@dataclasses.dataclass(frozen=True)
+class Obstruction:
+    """There is no decision map after any number of rounds. Whatever is decided, the weights of the tuples that occur add up to `sum`
+    modulo `modulus`, and that is not 0. `text` is what `verify` accepts."""
+    task: Task = dataclasses.field(repr=False)
+    modulus: int
+    sum: int
+    tuples: Tuple[Weighted, ...]
+    text: str = dataclasses.field(repr=False)
+
+
+Answer = Union[Map, Refutation, Proof, Obstruction]
+
+
+def text_of(answer: Union[Answer, str]) -> str:
+    """The text of an answer, which is what the program reads."""
+    if isinstance(answer, str):
+        return answer
+    return answer.report if isinstance(answer, (Map, Refutation)) else answer.text
+
+
+def numbers(words: Sequence[str], line: str) -> List[int]:
+    """The numbers that words are."""
+    if not all(NUMBER.fullmatch(it) for it in words):
+        raise Unreadable(f"{line[:40]!r} has a word that is no number")
+    return [int(it) for it in words]
+
+
+def body(text: str, first: str) -> Tuple[List[str], List[str]]:
+    """The lines of a text's head and of its body. Its first line says what it is, and its last line is `end`."""
+    lines = text.split("\n")
+    if lines[0] != first or lines[-2:] != ["end", ""]:
+        raise Unreadable(f"the text is not whole, or does not begin with {first!r}")
+    head = HEAD if first == FIRST else HEAD - 1
+    return lines[1:head], lines[head:-2]
+
+
+class Report(NamedTuple):
+    """What a report says beside the values of a map: its rounds, its answer, and its steps."""
+    rounds: int
+    answer: str
+    steps: Tuple[Step, ...]
+
+
+def report_of(text: str) -> Report:
+    """The report that a text is."""
+    head, lines = body(text, FIRST)
+    steps = tuple(step_of(line) for line in lines if not line.startswith("m ") and line != LEAST)
+    return Report(numbers(head[1].split(" ")[1:], head[1])[0], head[4].removeprefix("answer "), steps)
+
+
+def step_of(line: str) -> Step:
+    """The step that a line of a refutation is."""
+    kind, *words = line.split(" ")
+    if kind not in STEPS or len(words) != len(STEPS[kind]._fields):
+        raise Unreadable(f"{line[:40]!r} is no line of a refutation")
+    return STEPS[kind](*numbers(words, line))
+
+
+def obstruction_of(task: Task, text: str) -> Obstruction:
+    """The obstruction of a task that a text is."""
+    head, lines = body(text, OBSTRUCTION)
+    (modulus,), (total,) = (numbers(line.split(" ")[1:], line) for line in head[2:4])
+    simplices, at, tuples = task.simplices(), 0, []
+    for line in lines:
+        kind, *words = line.split(" ")
+        if kind == "s":
+            at = numbers(words, line)[0]
+        else:
+            weight, *values = numbers(words, line)
+            tuples.append(Weighted(simplices[at], tuple(values), weight))
+    return Obstruction(task, modulus, total, tuple(tuples), text)

@@ -1,0 +1,172 @@
+"""Tasks: made from a predicate, or read from a file.
+
+    from wfcheck import task, write
+
+    def legal(start, end):      # what the processes that take part begin with, and what they decide: by process
+        return len(set(end.values())) == 1 and set(end.values()) <= set(start.values())
+
+    write(task("mine", 2, [(0, 1)], legal, values=[0, 1]))      # mine.json
+"""
+import itertools
+import json
+import os
+import pathlib
+from typing import Any, Callable, Dict, Iterable, List, Mapping, NamedTuple, Optional, Sequence, Set, Tuple, Union
+
+# those that take part with a value each, by ascending process
+Simplex = Tuple[Tuple[int, int], ...]
+# what the processes that take part begin with and decide, by process
+Legal = Callable[[Dict[int, int], Dict[int, int]], Any]
+# a value for each process, or a dictionary where some take no part
+Input = Union[Sequence[int], Mapping[int, int]]
+MOST_PROCESSES, LARGEST, LARGEST_PLAIN = 4, 255, 63
+# how many bytes of a file are read, how many tuples it may have, and how many of what else
+LONGEST, MOST_TUPLES = 16_777_216, 65536
+MOST = {"input vertices": 64, "input simplices, with their faces": 4096, "listed outputs": 65536, "value lists": MOST_TUPLES}
+
+
+class Mistake(ValueError):
+    """What a task can't be made from, in a sentence."""
+
+
+class Task(NamedTuple):
+    """A task: a name for its file, and the text that the program reads."""
+    name: str
+    text: str
+
+    def simplices(self) -> List[Simplex]:
+        """The input simplices in the order of their numbers. The text has to be that of a task, as the program accepts it."""
+        return simplices([tuple(map(tuple, each)) for each in json.loads(self.text)["inputs"]])
+
+
+def read(path: Union[str, "os.PathLike[str]"]) -> Task:
+    """The task of a file, as it stands there: whether it is one is said by the program."""
+    file = pathlib.Path(path)
+    return Task(file.name.removesuffix(".json"), file.read_text(encoding="utf-8"))
+
+
+def write(made: Task, folder: Union[str, "os.PathLike[str]"] = ".") -> pathlib.Path:
+    """Writes the file of a task into a folder, and returns its path."""
+    path = pathlib.Path(folder) / f"{made.name}.json"
+    path.write_text(made.text, encoding="utf-8")
+    return path
+
+
+def faces(items: Sequence[Any]) -> List[Tuple[Any, ...]]:
+    """The non-empty parts of a list, in its order."""
+    return [part for size in range(1, len(items) + 1) for part in itertools.combinations(items, size)]
+
+
+def by_size(simplex: Simplex) -> Tuple[int, Simplex]:
+    """What simplices are ordered by: their size, and then as lists."""
+    return len(simplex), simplex
+
+
+def simplices(listed: Iterable[Sequence[Tuple[int, int]]]) -> List[Simplex]:
+    """These simplices and their faces, in the order of their numbers."""
+    return sorted({face for simplex in listed for face in faces(sorted(simplex))}, key=by_size)
+
+
+def task(name: str, processes: int, inputs: Iterable[Input], legal: Legal, values: Iterable[int], symmetric: bool = False,
+         first_block: Optional[int] = None) -> Task:
+    """The task in which some processes begin as one of the inputs says, and may decide what is legal.
+
+    An input is one value for each process, in their order, or a dictionary where some take no part. Each part of an input
+    is one too, of processes that alone take part. `legal(start, end)` is asked for every choice of the values by those that
+    take part. Outputs are whatever is legal somewhere. In a symmetric task a process doesn't know its name. With a first block
+    the file has version 2, and its values may be up to 255: in every round the first block has at least so many of those that
+    take part, or all of them; 1 leaves all words.
+
+    Raises Mistake where there is no such task, and where its file would be too large to be read."""
+    try:
+        listed = [tuple(dict(each if isinstance(each, Mapping) else enumerate(each)).items()) for each in inputs]
+        several = set(values)
+    except TypeError as error:
+        raise Mistake(f"{name}: inputs are a list of lists or dictionaries, and values a list of numbers ({error})") from error
+    judge(name, processes, listed, several, first_block)
+    rules = {start: tuples(name, start, legal, several) for start in simplices(listed)}
+    if not any(rules.values()):
+        raise Mistake(f"{name}: the predicate allows nothing, whatever the processes begin with")
+    whole: Dict[str, Any] = {"version": 1} if first_block is None else {"version": 2, "first_block": first_block}
+    text = text_of({**whole, "processes": processes, "symmetric": symmetric}, rules)
+    judge_sizes(name, rules, text)
+    return Task(name, text)
+
+
+def text_of(whole: Dict[str, Any], rules: Dict[Simplex, List[Tuple[int, ...]]]) -> str:
+    """The text of a task file, with what is allowed at each input simplex."""
+    ends = {tuple(zip((p for p, _ in start), each)) for start, rule in rules.items() for each in rule}
+    lists = {"inputs": facets(rules), "outputs": facets(ends), "delta": [{"in": start, "out": rule} for start, rule in rules.items()]}
+    return json.dumps({**whole, **lists}, separators=(",", ":"), sort_keys=True) + "\n"
+
+
+def judge(name: str, processes: int, listed: Sequence[Simplex], values: Set[int], first_block: Optional[int]) -> None:
+    """Refuses what no task file may have."""
+    if type(processes) is not int or not 1 <= processes <= MOST_PROCESSES:
+        raise Mistake(f"{name}: a task has 1 to {MOST_PROCESSES} processes, and not {processes!r}")
+    if not isinstance(name, str) or not name or pathlib.PurePath(name).name != name or name.endswith(".json"):
+        raise Mistake(f"{name}: a name is that of the file, without a folder and without .json")
+    if not values:
+        raise Mistake(f"{name}: there is no value that may be decided")
+    if first_block is not None and (type(first_block) is not int or not 1 <= first_block <= MOST_PROCESSES):
+        raise Mistake(f"{name}: a first block is 1 to {MOST_PROCESSES}, and not {first_block!r}")
+    if not listed or not all(listed):
+        raise Mistake(f"{name}: there is no input, or one in which nobody takes part")
+    strangers = sorted({p for simplex in listed for p, _ in simplex if type(p) is not int or p not in range(processes)}, key=repr)
+    if strangers:
+        raise Mistake(f"{name}: an input is of process {strangers[0]!r}, and the processes are 0 to {processes - 1}")
+    judge_values(name, [*values, *(v for simplex in listed for _, v in simplex)], LARGEST_PLAIN if first_block is None else LARGEST)
+
+
+def judge_values(name: str, values: Iterable[int], largest: int) -> None:
+    """Refuses values that are none, or too large."""
+    beyond = [v for v in values if type(v) is not int or not 0 <= v <= largest]
+    if beyond:
+        more = "" if largest == LARGEST else f"; up to {LARGEST} with first_block=1, which is version 2 of the file"
+        raise Mistake(f"{name}: the value {beyond[0]!r} is not a whole number from 0 to {largest}{more}")
+
+
+def judge_sizes(name: str, rules: Dict[Simplex, List[Tuple[int, ...]]], text: str) -> None:
+    """Refuses a task that is too large to be read."""
+    outputs = len(json.loads(text)["outputs"])
+    found = [sum(len(start) == 1 for start in rules), len(rules), outputs, sum(map(len, rules.values()))]
+    for many, (what, most) in zip(found, MOST.items()):
+        if many > most:
+            raise Mistake(f"{name}: there are {many} {what}, and at most {most} are read")
+    if len(text) > LONGEST:
+        raise Mistake(f"{name}: the file has more than {LONGEST} bytes")
+
+
+def tuples(name: str, start: Simplex, legal: Legal, values: Set[int]) -> List[Tuple[int, ...]]:
+    """The values that those who take part may decide, in the order of the processes."""
+    processes = [p for p, _ in start]
+    found = []
+    for choice in itertools.product(sorted(values), repeat=len(processes)):
+        if is_legal(name, legal, dict(start), dict(zip(processes, choice))):
+            found.append(choice)
+        if len(found) > MOST_TUPLES:
+            raise Mistake(f"{name}: where the processes begin with {dict(start)} more than {MOST_TUPLES} choices are legal, and no more "
+                          "are read")
+    return found
+
+
+def is_legal(name: str, legal: Legal, start: Dict[int, int], end: Dict[int, int]) -> bool:
+    """What a predicate says of a choice."""
+    processes = [*start]
+    try:
+        answer = legal(dict(start), end)
+    except KeyError as missing:
+        if type(missing.args[0]) is not int or missing.args[0] in processes:
+            raise
+        raise Mistake(f"{name}: the predicate looks up process {missing} where only {processes} take part: it is asked for each part "
+                      "of each input, since some may run alone, and `start` and `end` have those that take part") from missing
+    if answer is None:
+        raise Mistake(f"{name}: the predicate answers nothing where the processes begin with {start}: is a `return` missing?")
+    return bool(answer)
+
+
+def facets(listed: Iterable[Simplex]) -> List[Simplex]:
+    """Those that are no part of another one, by size and then as lists."""
+    every = set(listed)
+    parts = {face for simplex in every for face in faces(simplex) if len(face) < len(simplex)}
+    return sorted(every - parts, key=by_size)
