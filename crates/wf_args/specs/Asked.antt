@@ -31,9 +31,9 @@ use Rattle.wf_args.specs.declared.mistake.Mistake.TheVariants as mistake
 abbrev pub Path : Type 0
 Path = String Global
 
--- What words ask for: a job, or one about the task in the file of this path; or none, by this mistake.
--- Or they are refused, or answered with help or the version, by an error of one of these kinds; and
--- whether one of them is a negative number.
+-- What words ask for: a job, or one about the task in the file of this path; or none, by this
+-- mistake. Or they are refused, or answered with help or the version, by an error of one of these
+-- kinds; and whether one of them is a negative number.
 pub data Asked : Type 0 where
   this_job : Job → Asked
   this_job_on : Text → (Path → Job) → Asked

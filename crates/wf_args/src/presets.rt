@@ -16,8 +16,8 @@ pub(crate) struct Options {
 }
 
 impl Options {
-    /// The preset of a kind with these options. It is a mistake to ask for another kind, to leave out
-    /// an option that the kind needs, and to give one of the other kind.
+    /// The preset of a kind with these options. It is a mistake to ask for another kind, to leave
+    /// out an option that the kind needs, and to give one of the other kind.
     pub(crate) fn preset(self, kind: &str) -> Result<Preset, Mistake>
         ensures { result ≡ preset_asked kind.now self }
     {

@@ -22,7 +22,7 @@ use wf_task::Task;
 
 /// A step that takes values from a point of an execution.
 #[derive(Clone, Copy, Debug)]
-struct Removal<'a> {
+struct TakingStep<'a> {
     execution: u32,
     point: u32,
     values: &'a [u8],
@@ -127,7 +127,7 @@ fn put_next(
     ensures values { state.new.values ≡ state.old.values }
 {
     let count = grounds.take_step(seat, values, state)?;
-    let step = Removal {
+    let step = TakingStep {
         execution: seat.execution,
         point: seat.points[seat.place as usize],
         values: &values[..count],
@@ -156,7 +156,7 @@ fn place_of(task: &Task, number: u32, process: u8) -> Option<u8>
 fn put_step(
     text: &mut String,
     subject: &Subject,
-    step: &Removal,
+    step: &TakingStep,
     state: &State,
     grounds: &Grounds,
 ) -> Result<(), AllocError>
@@ -183,7 +183,7 @@ fn put_step(
 }
 
 /// Adds what the step of a number says of the point, and where.
-fn put_claim(text: &mut String, number: usize, step: &Removal) -> Result<(), AllocError>
+fn put_claim(text: &mut String, number: usize, step: &TakingStep) -> Result<(), AllocError>
     ensures { let v = step.now.point in OnOk result (string_bytes text.new ≡ string_bytes text.old
         ++ claim_text number v step.now.values.now step.now.execution) }
 {

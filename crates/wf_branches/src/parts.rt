@@ -12,11 +12,9 @@ use crate::verifying::{PartJudge, check_part, part_of};
 use std::alloc::Global;
 use std::thread::Threads;
 use wf_check::ReportChecker;
-use wf_complex::Protocol;
 use wf_report::{Body, CertFault};
 use wf_run::{PartFault, RunFault};
 use wf_search::Cover;
-use wf_task::Task;
 
 /// The line `end`, behind another line.
 const END_MARK: &[u8] = b"\nend\n";

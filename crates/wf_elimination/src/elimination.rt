@@ -3,7 +3,7 @@
 use crate::fault::{EliminationFault, judge_entries};
 use crate::kept::{Solved, Use};
 use crate::ring::Ring;
-use crate::row::{Coefficient, Equation};
+use crate::row::{Coefficient, SparseRow};
 use std::alloc::{AllocError, Global};
 
 /// Equations modulo a prime power, each solved for an unknown of the highest level that it has.
@@ -14,7 +14,7 @@ use std::alloc::{AllocError, Global};
 #[derive(Drop)]
 pub struct Elimination {
     pub(crate) ring: Ring,
-    pub(crate) row: Equation,
+    pub(crate) row: SparseRow,
     // what the equation that is worked on has at a level, and then below it
     pub(crate) current: Vec<Coefficient>,
     // of all equations that are kept
@@ -32,7 +32,7 @@ impl Elimination {
     pub fn new(alloc: Global, ring: Ring) -> Result<Elimination, AllocError> {
         Ok(Elimination {
             ring,
-            row: Equation::new(alloc)?,
+            row: SparseRow::new(alloc)?,
             current: Vec::new(alloc),
             entries: Vec::new(alloc),
             solved: Vec::new(alloc),

@@ -65,14 +65,14 @@ struct Level {
 
 /// The equation, and all unknowns.
 #[derive(Drop)]
-pub(crate) struct Equation {
+pub(crate) struct SparseRow {
     unknowns: Vec<Unknown>,
     levels: Vec<Level>,
 }
 
-impl Equation {
+impl SparseRow {
     /// No unknown.
-    pub(crate) fn new(alloc: Global) -> Result<Equation, AllocError> {
+    pub(crate) fn new(alloc: Global) -> Result<SparseRow, AllocError> {
         let mut levels = Vec::new(alloc);
         for _ in 0..LEVELS {
             levels.push(Level {
@@ -81,7 +81,7 @@ impl Equation {
                 solved: Vec::new(alloc),
             })?;
         }
-        Ok(Equation {
+        Ok(SparseRow {
             unknowns: Vec::new(alloc),
             levels,
         })

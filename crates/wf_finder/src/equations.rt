@@ -7,7 +7,7 @@ use std::alloc::Global;
 
 /// An unknown in the equation of these values.
 #[derive(Clone, Copy, PartialEq, Eq, PartialOrd, Ord)]
-pub(crate) struct Unknown {
+pub(crate) struct TupleUnknown {
     pub(crate) rest: u64,
     pub(crate) unknown: u32,
     /// Whether it is taken away, as one of the class without the place, and not added.
@@ -19,7 +19,7 @@ pub(crate) struct Unknown {
 #[derive(Drop)]
 pub(crate) struct Equations {
     /// The terms, equation by equation.
-    pub(crate) terms: Vec<Unknown>,
+    pub(crate) terms: Vec<TupleUnknown>,
 }
 
 impl Equations {
@@ -52,7 +52,7 @@ impl Equations {
         place: u8,
     ) -> Result<(), FinderFault> {
         for unknown in class.first..class.end {
-            self.terms.push(Unknown {
+            self.terms.push(TupleUnknown {
                 rest: without(classes.tuple(unknown)?, behind(class.size, place)),
                 unknown: number(unknown)?,
                 negative: false,
@@ -65,7 +65,7 @@ impl Equations {
     fn add_facet(&mut self, classes: &Classes, class: Class, place: u8) -> Result<(), FinderFault> {
         let facet = classes.class(class.facet(place)?)?;
         for unknown in facet.first..facet.end {
-            self.terms.push(Unknown {
+            self.terms.push(TupleUnknown {
                 rest: classes.tuple(unknown)?,
                 unknown: number(unknown)?,
                 negative: true,

@@ -19,7 +19,7 @@ pub(crate) struct Candidate {
 
 /// A term: values other than the least one at the places of a class.
 #[derive(Clone, Copy, PartialEq, Eq, PartialOrd, Ord)]
-struct Unknown {
+struct ClassTerm {
     class: u32,
     tuple: u64,
     // whether it is added, and not taken away
@@ -32,9 +32,9 @@ struct SmallerSearch {
     ring: Ring,
     elimination: Elimination,
     // the classes and tuples of all terms, in order; the number of an unknown is its place
-    keys: Vec<Unknown>,
+    keys: Vec<ClassTerm>,
     // the terms of a tuple
-    terms: Vec<Unknown>,
+    terms: Vec<ClassTerm>,
 }
 
 /// A tuple at a class, as a candidate.
@@ -79,7 +79,7 @@ fn keys(
     alloc: Global,
     problem: &CommonTuples,
     candidates: &[Candidate],
-) -> Result<Vec<Unknown>, FinderFault> {
+) -> Result<Vec<ClassTerm>, FinderFault> {
     let mut keys = Vec::new(alloc);
     keys.push(key(0, 0))?;
     let mut terms = Vec::new(alloc);
@@ -93,7 +93,7 @@ fn keys(
 }
 
 /// Adds the keys of these terms.
-fn add_keys(terms: &[Unknown], keys: &mut Vec<Unknown>) -> Result<(), FinderFault> {
+fn add_keys(terms: &[ClassTerm], keys: &mut Vec<ClassTerm>) -> Result<(), FinderFault> {
     for term in terms {
         keys.push(key(term.class, term.tuple))?;
     }
@@ -101,8 +101,8 @@ fn add_keys(terms: &[Unknown], keys: &mut Vec<Unknown>) -> Result<(), FinderFaul
 }
 
 /// A class and a tuple.
-fn key(class: u32, tuple: u64) -> Unknown {
-    Unknown {
+fn key(class: u32, tuple: u64) -> ClassTerm {
+    ClassTerm {
         class,
         tuple,
         positive: true,
@@ -195,7 +195,7 @@ impl SmallerSearch {
 fn expand(
     problem: &CommonTuples,
     candidate: Candidate,
-    terms: &mut Vec<Unknown>,
+    terms: &mut Vec<ClassTerm>,
 ) -> Result<(), FinderFault> {
     terms.clear();
     terms.push(key(candidate.class, candidate.tuple))?;
@@ -211,7 +211,7 @@ fn expand(
 fn expand_at(
     problem: &CommonTuples,
     place: u8,
-    terms: &mut Vec<Unknown>,
+    terms: &mut Vec<ClassTerm>,
 ) -> Result<(), FinderFault> {
     let least = problem.least()?;
     for at in 0..terms.len() {
@@ -238,13 +238,13 @@ fn expand_at(
 /// Adds the terms with each other value at a place, with the other sign.
 fn add_others(
     values: &[u64],
-    term: Unknown,
+    term: ClassTerm,
     rest: u64,
     behind: u8,
-    terms: &mut Vec<Unknown>,
+    terms: &mut Vec<ClassTerm>,
 ) -> Result<(), FinderFault> {
     for value in values.iter().skip(1) {
-        terms.push(Unknown {
+        terms.push(ClassTerm {
             class: term.class,
             tuple: with(rest, behind, *value),
             positive: !term.positive,
