@@ -20,6 +20,27 @@ use wf_network::{
 use wf_set::part::{self, Part};
 use wf_set::{Mask, difference, is_empty};
 
+/// An execution and its rule, each by its number.
+#[derive(Clone, Copy, Debug)]
+struct ExecutionRule {
+    number: u32,
+    rule: u32,
+}
+
+/// The candidates that were found in an execution, and those of them that its rule supports.
+#[derive(Clone, Copy, Debug)]
+struct Judgement<T> {
+    found: T,
+    supported: T,
+}
+
+/// What is supported in an execution's first places, so many of them.
+#[derive(Clone, Copy, Debug)]
+struct SupportedSets {
+    places: u8,
+    sets: [Mask; 4],
+}
+
 /// Takes out what is not supported in an execution, judged by its points'
 /// candidates as they stood before, and marks the executions of the points
 /// that lose something. The point that this empties, if there is one.
@@ -36,10 +57,11 @@ pub(crate) fn revise(
     let execution = network.execution(number as usize);
     let found = candidates_at(execution, &workspace.tracked.words);
     let rule = execution.simplex;
+    let at = ExecutionRule { number, rule };
     match in_nibbles(found) {
-        Some(nibbles) => revise_nibbles(number, rule, nibbles, network, workspace, lines),
+        Some(nibbles) => revise_nibbles(at, nibbles, network, workspace, lines),
         None => match in_word(found) {
-            Some(word) => revise_word(number, rule, word, network, workspace, lines),
+            Some(word) => revise_word(at, word, network, workspace, lines),
             None => revise_large(number, network, workspace, lines),
         },
     }
@@ -48,26 +70,27 @@ pub(crate) fn revise(
 /// Takes out of an execution what its rule does not support, if all candidates are below 4. The
 /// rule is the one of this number, and the candidates are packed.
 fn revise_nibbles(
-    number: u32,
-    rule: u32,
+    at: ExecutionRule,
     nibbles: u16,
     network: &Network,
     workspace: &mut Workspace,
     lines: &mut Lines,
 ) -> Option<u32>
-    requires revising { IsRevising network.now number lines.old workspace.old }
-    requires rule { rule ≡ rule_number network.now number }
+    requires revising { IsRevising network.now at.number lines.old workspace.old }
+    requires rule { at.rule ≡ rule_number network.now at.number }
     requires found { widened (nibbles_in nibbles)
-        ≡ found_in network.now number workspace.old.tracked.words.items }
-    ensures { Revises network.now number
+        ≡ found_in network.now at.number workspace.old.tracked.words.items }
+    ensures { Revises network.now at.number
         lines.old workspace.old lines.new workspace.new result }
 {
-    let supported = supported_nibbles(rule, nibbles, network, &mut workspace.memo);
+    let supported = supported_nibbles(at.rule, nibbles, network, &mut workspace.memo);
     if supported == nibbles {
         // most executions lose nothing
         return None;
     }
-    take_nibbles(number, nibbles, supported, network, workspace, lines)
+    let found = nibbles;
+    let judged = Judgement { found, supported };
+    take_nibbles(at.number, judged, network, workspace, lines)
 }
 
 /// Takes out of an execution the candidates below 4 that are not supported. This is no part of the
@@ -75,80 +98,73 @@ fn revise_nibbles(
 #[inline(never)]
 fn take_nibbles(
     number: u32,
-    nibbles: u16,
-    supported: u16,
+    judged: Judgement<u16>,
     network: &Network,
     workspace: &mut Workspace,
     lines: &mut Lines,
 ) -> Option<u32>
     requires revising { IsRevising network.now number lines.old workspace.old }
-    requires found { widened (nibbles_in nibbles)
+    requires found { widened (nibbles_in judged.found)
         ≡ found_in network.now number workspace.old.tracked.words.items }
-    requires supported { HasSupported (widened (nibbles_in supported))
-        (rule_in network.now number).table (widened (nibbles_in nibbles)) }
+    requires supported { HasSupported (widened (nibbles_in judged.supported))
+        (rule_in network.now number).table (widened (nibbles_in judged.found)) }
     ensures { Revises network.now number
         lines.old workspace.old lines.new workspace.new result }
 {
-    take_parts(
-        number,
-        unpacked_nibbles(nibbles),
-        unpacked_nibbles(supported),
-        network,
-        workspace,
-        lines,
-    )
+    let judged = Judgement {
+        found: unpacked_nibbles(judged.found),
+        supported: unpacked_nibbles(judged.supported),
+    };
+    take_parts(number, judged, network, workspace, lines)
 }
 
 /// Takes out of an execution what its rule does not support, if all candidates are below 16. The
 /// rule is the one of this number, and the candidates are packed.
 fn revise_word(
-    number: u32,
-    rule: u32,
+    at: ExecutionRule,
     word: u64,
     network: &Network,
     workspace: &mut Workspace,
     lines: &mut Lines,
 ) -> Option<u32>
-    requires revising { IsRevising network.now number lines.old workspace.old }
-    requires rule { rule ≡ rule_number network.now number }
+    requires revising { IsRevising network.now at.number lines.old workspace.old }
+    requires rule { at.rule ≡ rule_number network.now at.number }
     requires found { widened (parts_in word)
-        ≡ found_in network.now number workspace.old.tracked.words.items }
-    ensures { Revises network.now number
+        ≡ found_in network.now at.number workspace.old.tracked.words.items }
+    ensures { Revises network.now at.number
         lines.old workspace.old lines.new workspace.new result }
 {
-    let supported = supported_word(rule, word, network, &mut workspace.memo);
+    let supported = supported_word(at.rule, word, network, &mut workspace.memo);
     if supported == word {
         return None;
     }
-    take_word(number, word, supported, network, workspace, lines)
+    let found = word;
+    let judged = Judgement { found, supported };
+    take_word(at.number, judged, network, workspace, lines)
 }
 
 /// Takes out of an execution the candidates below 16 that are not supported.
 #[inline(never)]
 fn take_word(
     number: u32,
-    word: u64,
-    supported: u64,
+    judged: Judgement<u64>,
     network: &Network,
     workspace: &mut Workspace,
     lines: &mut Lines,
 ) -> Option<u32>
     requires revising { IsRevising network.now number lines.old workspace.old }
-    requires found { widened (parts_in word)
+    requires found { widened (parts_in judged.found)
         ≡ found_in network.now number workspace.old.tracked.words.items }
-    requires supported { HasSupported (widened (parts_in supported))
-        (rule_in network.now number).table (widened (parts_in word)) }
+    requires supported { HasSupported (widened (parts_in judged.supported))
+        (rule_in network.now number).table (widened (parts_in judged.found)) }
     ensures { Revises network.now number
         lines.old workspace.old lines.new workspace.new result }
 {
-    take_parts(
-        number,
-        unpacked(word),
-        unpacked(supported),
-        network,
-        workspace,
-        lines,
-    )
+    let judged = Judgement {
+        found: unpacked(judged.found),
+        supported: unpacked(judged.supported),
+    };
+    take_parts(number, judged, network, workspace, lines)
 }
 
 /// Takes out of an execution what its rule does not support, if some candidate is 16 or more.
@@ -166,33 +182,34 @@ fn revise_large(
     let execution = network.execution(number as usize);
     let rule = execution.simplex;
     let found = candidates_at(execution, &workspace.tracked.words);
+    let at = ExecutionRule { number, rule };
     match narrowed(found) {
-        Some(parts) => revise_parts(number, rule, parts, network, workspace, lines),
-        None => revise_sets(number, rule, found, network, workspace, lines),
+        Some(parts) => revise_parts(at, parts, network, workspace, lines),
+        None => revise_sets(at, found, network, workspace, lines),
     }
 }
 
 /// Takes out of an execution what its rule does not support, if all candidates are below 64.
 fn revise_parts(
-    number: u32,
-    rule: u32,
+    at: ExecutionRule,
     found: [Part; 4],
     network: &Network,
     workspace: &mut Workspace,
     lines: &mut Lines,
 ) -> Option<u32>
-    requires revising { IsRevising network.now number lines.old workspace.old }
-    requires rule { rule ≡ rule_number network.now number }
+    requires revising { IsRevising network.now at.number lines.old workspace.old }
+    requires rule { at.rule ≡ rule_number network.now at.number }
     requires long { length found ≡ 4 }
     requires found { widened found
-        ≡ found_in network.now number workspace.old.tracked.words.items }
-    ensures { Revises network.now number
+        ≡ found_in network.now at.number workspace.old.tracked.words.items }
+    ensures { Revises network.now at.number
         lines.old workspace.old lines.new workspace.new result }
 {
-    let Some(supported) = supported_narrow(rule, found, network, &mut workspace.memo) else {
+    let Some(supported) = supported_narrow(at.rule, found, network, &mut workspace.memo) else {
         return None;
     };
-    take_parts(number, found, supported, network, workspace, lines)
+    let judged = Judgement { found, supported };
+    take_parts(at.number, judged, network, workspace, lines)
 }
 
 /// Takes out of an execution the candidates below 64 that are not supported, place by place, and
@@ -201,22 +218,22 @@ fn revise_parts(
 #[inline(always)] // a copy for each caller, which knows more of the parts
 fn take_parts(
     number: u32,
-    found: [Part; 4],
-    supported: [Part; 4],
+    judged: Judgement<[Part; 4]>,
     network: &Network,
     workspace: &mut Workspace,
     lines: &mut Lines,
 ) -> Option<u32>
     requires revising { IsRevising network.now number lines.old workspace.old }
-    requires found { widened found
+    requires found { widened judged.found
         ≡ found_in network.now number workspace.old.tracked.words.items }
-    requires long { length found ≡ 4 }
-    requires supported_long { length supported ≡ 4 }
-    requires supported { HasSupported (widened supported)
-        (rule_in network.now number).table (widened found) }
+    requires long { length judged.found ≡ 4 }
+    requires supported_long { length judged.supported ≡ 4 }
+    requires supported { HasSupported (widened judged.supported)
+        (rule_in network.now number).table (widened judged.found) }
     ensures { Revises network.now number
         lines.old workspace.old lines.new workspace.new result }
 {
+    let Judgement { found, supported } = judged;
     let execution = network.execution(number as usize);
     let rule = &network.rules[execution.simplex as usize];
     let processes = rule.places();
@@ -241,41 +258,42 @@ fn take_parts(
 
 /// Takes out of an execution what its rule does not support, if some candidate is 64 or more.
 fn revise_sets(
-    number: u32,
-    rule: u32,
+    at: ExecutionRule,
     found: [Mask; 4],
     network: &Network,
     workspace: &mut Workspace,
     lines: &mut Lines,
 ) -> Option<u32>
-    requires revising { IsRevising network.now number lines.old workspace.old }
-    requires rule { rule ≡ rule_number network.now number }
+    requires revising { IsRevising network.now at.number lines.old workspace.old }
+    requires rule { at.rule ≡ rule_number network.now at.number }
     requires long { length found ≡ 4 }
-    requires found { found ≡ found_in network.now number workspace.old.tracked.words.items }
-    ensures { Revises network.now number
+    requires found { found ≡ found_in network.now at.number workspace.old.tracked.words.items }
+    ensures { Revises network.now at.number
         lines.old workspace.old lines.new workspace.new result }
 {
-    let supported = supported_sets(rule, found, network, &mut workspace.memo);
-    take_sets(number, found, supported, network, workspace, lines)
+    let supported = supported_sets(at.rule, found, network, &mut workspace.memo);
+    let judged = Judgement { found, supported };
+    take_sets(at.number, judged, network, workspace, lines)
 }
 
 /// Takes out of an execution the candidates that are not supported, place by place, and takes its
 /// mark away if nothing else can be lost there. The point that this empties, if there is one.
 fn take_sets(
     number: u32,
-    found: [Mask; 4],
-    supported: [Mask; 4],
+    judged: Judgement<[Mask; 4]>,
     network: &Network,
     workspace: &mut Workspace,
     lines: &mut Lines,
 ) -> Option<u32>
     requires revising { IsRevising network.now number lines.old workspace.old }
-    requires found { found ≡ found_in network.now number workspace.old.tracked.words.items }
-    requires long { length found ≡ 4 }
-    requires supported { HasSupported supported (rule_in network.now number).table found }
+    requires found { judged.found ≡ found_in network.now number workspace.old.tracked.words.items }
+    requires long { length judged.found ≡ 4 }
+    requires supported { HasSupported judged.supported
+        (rule_in network.now number).table judged.found }
     ensures { Revises network.now number
         lines.old workspace.old lines.new workspace.new result }
 {
+    let Judgement { found, supported } = judged;
     let execution = network.execution(number as usize);
     let rule = &network.rules[execution.simplex as usize];
     let processes = rule.places();
@@ -293,15 +311,12 @@ fn take_sets(
             return Some(at.point);
         }
     }
+    let supported = SupportedSets {
+        places: processes,
+        sets: supported,
+    };
     let sets = &workspace.tracked.words;
-    unmark(
-        number,
-        processes,
-        execution,
-        sets,
-        supported,
-        &mut workspace.marks,
-    );
+    unmark(number, execution, sets, supported, &mut workspace.marks);
     None
 }
 
@@ -309,23 +324,22 @@ fn take_sets(
 /// what is left is supported by what is left.
 fn unmark(
     number: u32,
-    places: u8,
     execution: PackedExecution,
     sets: &[Mask],
-    supported: [Mask; 4],
+    supported: SupportedSets,
     marks: &mut Marks,
 )
     requires number { number < 64 * length marks.old.words.items }
-    requires places { places ≤ 4 }
+    requires places { supported.places ≤ 4 }
     requires long { length execution.points ≡ 4 }
     requires within { All (λ v. v < length sets.now) execution.points }
     ensures others { KeepsBitsBut marks.old.words.items marks.new.words.items number }
     ensures same { bit_of marks.new.words.items number ≡ 0
-        → AreSame places (found_at execution sets.now) supported
+        → AreSame supported.places (found_at execution sets.now) supported.sets
         ⊎ (bit_of marks.old.words.items number ≡ 0) }
     ensures long { length marks.new.words.items ≡ length marks.old.words.items }
 {
-    if are_left(places, execution, sets, supported) {
+    if are_left(execution, sets, supported) {
         marks.take(number);
     }
 }
@@ -355,16 +369,17 @@ fn unmark_parts(
     }
 }
 
-/// Whether the first points of an execution, so many of them, have just these sets.
-fn are_left(count: u8, execution: PackedExecution, sets: &[Mask], supported: [Mask; 4]) -> bool
-    requires count { count ≤ 4 }
+/// Whether the first points of an execution have just the sets that were supported there.
+fn are_left(execution: PackedExecution, sets: &[Mask], supported: SupportedSets) -> bool
+    requires count { supported.places ≤ 4 }
     requires long { length execution.points ≡ 4 }
     requires within { All (λ v. v < length sets.now) execution.points }
-    ensures { OnTrue result (AreSame count (found_at execution sets.now) supported) }
+    ensures { OnTrue result
+        (AreSame supported.places (found_at execution sets.now) supported.sets) }
 {
-    for place in 0..count as usize {
+    for place in 0..supported.places as usize {
         let left = sets[execution.points[place] as usize];
-        if left != supported[place] {
+        if left != supported.sets[place] {
             return false;
         }
     }

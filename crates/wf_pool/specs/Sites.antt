@@ -6,11 +6,11 @@ use Rattle.wf_pool.specs.Work.{IsFresh, IsWorker}
 
 -- a worker of its board that tells the truth about its problem
 abbrev pub IsWorkerOf : {G : Type 0} → SharedState G → Worker → Type 0
-IsWorkerOf s w = IsWorker s.problem.now s.kept s.board.now w
+IsWorkerOf s w = IsWorker s.inquiry.problem.now s.inquiry.kept s.board.now w
 
 -- one that has settled nothing
 abbrev pub IsFreshOf : {G : Type 0} → SharedState G → Worker → Type 0
-IsFreshOf s w = IsFresh s.problem.now s.kept s.board.now w
+IsFreshOf s w = IsFresh s.inquiry.problem.now s.inquiry.kept s.board.now w
 
 abbrev pub AreWorkersOf : {G : Type 0} → SharedState G → List Worker → Type 0
 AreWorkersOf s ws = All (IsWorkerOf s) ws

@@ -9,6 +9,7 @@ use Rattle.wf_box.specs.Boxes.{ServeFor}
 use Rattle.wf_search.specs.declared.searching.Found.{Found}
 use Rattle.wf_search.specs.declared.searching.Found.TheVariants as found
 use Rattle.wf_pool.specs.declared.answer.KeptLines.{KeptLines}
+use Rattle.wf_pool.specs.declared.crew.CrewMembers.{CrewMembers}
 use Rattle.wf_pool.specs.declared.worker.MapAt.{MapAt}
 use Rattle.wf_pool.specs.declared.worker.LinesAt.{LinesAt}
 use Rattle.wf_pool.specs.declared.worker.Finds.{Finds}
@@ -85,6 +86,16 @@ IsPopped last old new = (length new.items + length (option_to_list last) ≡ len
 -- a list as long as another one, with the same room
 abbrev pub IsAlike : {X A : Type 0} → Vec X A → Vec X A → Type 0
 IsAlike old new = (length new.items ≡ length old.items) × (vec_capacity new ≡ vec_capacity old)
+
+-- the same of the workers of a crew and of their shares
+abbrev pub HaveRoom : {S : Type 0} → CrewMembers S → Type 0
+HaveRoom c = HasRoom c.workers × HasRoom c.shares
+
+abbrev pub AreGrown : {S : Type 0} → CrewMembers S → CrewMembers S → Type 0
+AreGrown old new = IsGrown old.workers new.workers × IsGrown old.shares new.shares
+
+abbrev pub AreAlike : {S : Type 0} → CrewMembers S → CrewMembers S → Type 0
+AreAlike old new = IsAlike old.workers new.workers × IsAlike old.shares new.shares
 
 -- workers of the board, and what they have settled
 abbrev pub AreWorkers : Problem → KeptLines → BoardId → List Worker → Type 0

@@ -1,4 +1,4 @@
-//! What a search finds, with those of its lines that are kept.
+//! What is asked about a problem, and what a search of a box finds.
 
 ghost use Rattle.std.specs.Prelude.{ℕ, IfOk, OnOk};
 ghost use Rattle.wf_box.specs.Boxes.{IsFor, ServeFor};
@@ -10,24 +10,32 @@ use std::alloc::{AllocError, Global};
 use wf_box::{Box0, KernelCache, Problem};
 use wf_search::{Found, FoundMap, Stop, search_map, search_with};
 
+/// What is asked about a problem: its least map, or that it has none, and which of its lines are
+/// kept for the answer.
+#[derive(Clone, Copy, Drop)]
+pub(crate) struct Inquiry<'a> {
+    pub(crate) problem: &'a Problem,
+    pub(crate) kept: KeptLines,
+}
+
 /// What a search of a box finds, with those of its lines that are kept. Where none is kept, its
 /// memory doesn't grow with the number of turns.
-pub(crate) fn find<S: Stop>(
+pub(crate) fn search_box<S: Stop>(
     alloc: Global,
-    problem: &Problem,
-    kept: KeptLines,
+    inquiry: Inquiry,
     boxed: Box0,
     stop: &mut S,
     answers: &mut KernelCache,
 ) -> Result<Found, AllocError>
-    requires boxed { IsFor problem.now boxed }
-    requires answers { ServeFor problem.now answers.old }
-    ensures found { IfOk result (IsFoundIn problem.now kept boxed.sets) }
+    requires boxed { IsFor inquiry.problem.now boxed }
+    requires answers { ServeFor inquiry.problem.now answers.old }
+    ensures found { IfOk result (IsFoundIn inquiry.problem.now inquiry.kept boxed.sets) }
     ensures asked { OnOk result ((n : ℕ) × S.asked n stop.old stop.new) }
     ensures stopped { IfOk result (OnStopped (S.is_stopped stop.new)) }
-    ensures answers { ServeFor problem.now answers.new }
+    ensures answers { ServeFor inquiry.problem.now answers.new }
 {
-    match kept {
+    let problem = inquiry.problem;
+    match inquiry.kept {
         KeptLines::All => search_with(alloc, problem, boxed, stop, answers),
         KeptLines::Refuting => match search_with(alloc, problem, boxed, stop, answers)? {
             Found::Map(map, _) => Ok(Found::Map(map, Vec::new(alloc))),

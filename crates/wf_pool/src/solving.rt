@@ -8,14 +8,14 @@ ghost use Rattle.wf_model.specs.Box.{root};
 ghost use Rattle.wf_box.specs.Boxes.{ServeFor};
 ghost use Rattle.wf_pool.specs.Branches.{AreLinesOf, HasEachLines, IsCoverOf, LeadIfKept, LeadInRoot, branch_count};
 ghost use Rattle.wf_pool.specs.declared.answer.KeptLines.TheVariants as keep;
-ghost use Rattle.wf_pool.specs.Work.{AreAllBut, AreAllSettled, AreToSettle, AreWorkers, HasSettledEach, IsFresh, IsGround};
+ghost use Rattle.wf_pool.specs.Work.{AreAllBut, AreAllSettled, AreToSettle, AreWorkers, HasSettledEach, IsFresh};
 ghost use Rattle.wf_pool.specs.Sites.{AreWorkersOf, IsWorkerOf};
 ghost use Rattle.wf_pool.specs.Together.{Tells};
-ghost use Rattle.wf_pool.specs.KernelCache.{IsAnswer, IsAnswerAt, HasAccount, HasBranchAnswer, IsInOrder};
+ghost use Rattle.wf_pool.specs.Answers.{IsAnswer, IsAnswerAt, HasAccount, HasBranchAnswer, IsInOrder};
 
 use crate::answer::{AllFinds, Answer, BranchAnswer, KeptLines, apart, in_order, map_of};
-use crate::crew::crew;
-use crate::finding::find;
+use crate::crew::{CrewMembers, crew};
+use crate::finding::{Inquiry, search_box};
 use crate::gate::{Gate, Moment, Open};
 use crate::site::SharedState;
 use crate::watch::{TellingStop, settle};
@@ -56,15 +56,22 @@ pub fn solve<R: Threads + Sync, H: Handout, G: Gate>(
     ensures answer { IfOk result (λ r. IsAnswer problem.now kept r.0) }
     ensures account { IfOk result (λ r. HasAccount problem.now r.0 r.1) }
 {
+    let inquiry = Inquiry { problem, kept };
     let mut answers = KernelCache::new(alloc);
     let cover = branches_of(alloc, problem, &mut answers)?;
     let branches = cover.branches();
     let used = workers.min(branches).max(1);
     gate.branches(branches);
     let (board, seats) = Board::make(alloc, branches, used)?;
-    let crew = search_all::<R, H, G>(rt, alloc, problem, kept, &cover, &board, seats, gate)?;
-    let (account, finds) = finish(alloc, problem, kept, board, crew)?;
-    let answer = answer_of(alloc, problem, kept, &cover, finds, account)?;
+    let site = SharedState {
+        inquiry,
+        cover: &cover,
+        board: &board,
+        gate,
+    };
+    let workers = search_all::<R, H, G>(rt, alloc, site, seats)?;
+    let (account, finds) = finish(alloc, inquiry, board, workers)?;
+    let answer = answer_of(alloc, inquiry, &cover, finds, account)?;
     Ok((answer, account))
 }
 
@@ -96,13 +103,15 @@ pub fn solve_one_watched<G: Gate>(
     ensures account { IfOk result (λ r. HasAccount problem.now r.0 r.1) }
     ensures in_order { IfOk result (λ r. IsInOrder r.0 r.1) }
 {
+    let inquiry = Inquiry { problem, kept };
     let mut answers = KernelCache::new(alloc);
     let cover = branches_of(alloc, problem, &mut answers)?;
     let branches = cover.branches();
     gate.branches(branches);
     let mut lists = Vec::with_capacity(alloc, branches as usize)?;
     for branch in 0..branches {
-        match search_whole(alloc, problem, kept, &cover, branch, gate, &mut answers)? {
+        let told = TellingStop { gate, branch };
+        match search_whole(alloc, inquiry, &cover, told, &mut answers)? {
             Answer::Map(map, own) => {
                 let account = Account {
                     branches,
@@ -110,13 +119,13 @@ pub fn solve_one_watched<G: Gate>(
                     searched: branch + 1,
                     cut: branches - branch - 1,
                 };
-                let lines = lines_to_map(alloc, problem, kept, &cover, lists, own)?;
+                let lines = lines_to_map(alloc, inquiry, &cover, lists, own)?;
                 return Ok((Answer::Map(map, lines), account));
             }
             Answer::Nothing(lines) => lists.push(lines)?,
         }
     }
-    let lines = lines_of_none(alloc, problem, kept, &cover, lists)?;
+    let lines = lines_of_none(alloc, inquiry, &cover, lists)?;
     let account = Account {
         branches,
         least: branches,
@@ -134,7 +143,8 @@ pub fn solve_root(alloc: Global, problem: &Problem, kept: KeptLines) -> Result<A
 {
     let root = Box0::root(alloc, problem)?;
     let mut answers = KernelCache::new(alloc);
-    match find(alloc, problem, kept, root, &mut Never, &mut answers)? {
+    let inquiry = Inquiry { problem, kept };
+    match search_box(alloc, inquiry, root, &mut Never, &mut answers)? {
         Found::Map(map, lines) => Ok(Answer::Map(map, lines)),
         Found::Refuted(lines) => Ok(Answer::Nothing(lines)),
         Found::Stopped => unreachable!(),
@@ -162,7 +172,9 @@ pub fn solve_branch<G: Gate>(
         return Ok(BranchAnswer::Missing(branches));
     }
     gate.branches(1);
-    let answer = search_whole(alloc, problem, kept, &cover, branch, gate, &mut answers)?;
+    let inquiry = Inquiry { problem, kept };
+    let told = TellingStop { gate, branch };
+    let answer = search_whole(alloc, inquiry, &cover, told, &mut answers)?;
     Ok(BranchAnswer::Answered(answer, branches))
 }
 
@@ -184,24 +196,22 @@ fn branches_of(
 /// goes by what closing found out in earlier branches, and leaves what is known then.
 fn search_whole<G: Gate>(
     alloc: Global,
-    problem: &Problem,
-    kept: KeptLines,
+    inquiry: Inquiry,
     cover: &Cover,
-    branch: u32,
-    gate: &G,
+    told: TellingStop<G>,
     answers: &mut KernelCache,
 ) -> Result<Answer, AllocError>
-    requires cover { IsCoverOf problem.now cover.now }
-    requires branch { branch < length (boxes_left_out cover.now) }
-    requires answers { ServeFor problem.now answers.old }
-    ensures branch { IfOk result (IsAnswerAt problem.now kept branch) }
-    ensures answers { ServeFor problem.now answers.new }
+    requires cover { IsCoverOf inquiry.problem.now cover.now }
+    requires branch { told.branch < length (boxes_left_out cover.now) }
+    requires answers { ServeFor inquiry.problem.now answers.old }
+    ensures branch { IfOk result (IsAnswerAt inquiry.problem.now inquiry.kept told.branch) }
+    ensures answers { ServeFor inquiry.problem.now answers.new }
 {
-    gate.at(0, Moment::Taken(branch));
-    let boxed = cover.branch(alloc, branch)?;
-    let mut told = TellingStop { gate, branch };
-    let found = find(alloc, problem, kept, boxed, &mut told, answers)?;
-    gate.at(0, Moment::Settled(branch));
+    let mut told = told;
+    told.gate.at(0, Moment::Taken(told.branch));
+    let boxed = cover.branch(alloc, told.branch)?;
+    let found = search_box(alloc, inquiry, boxed, &mut told, answers)?;
+    told.gate.at(0, Moment::Settled(told.branch));
     match found {
         Found::Map(map, lines) => Ok(Answer::Map(map, lines)),
         Found::Refuted(lines) => Ok(Answer::Nothing(lines)),
@@ -213,20 +223,20 @@ fn search_whole<G: Gate>(
 /// order, and its own, in their places among the lines of the root.
 fn lines_to_map(
     alloc: Global,
-    problem: &Problem,
-    kept: KeptLines,
+    inquiry: Inquiry,
     cover: &Cover,
     below: Vec<Lines>,
     own: Lines,
 ) -> Result<Lines, AllocError>
-    requires cover { IsCoverOf problem.now cover.now }
-    requires branch { length below.items < branch_count problem.now }
-    requires below { HasEachLines problem.now kept (length below.items) below.items }
+    requires cover { IsCoverOf inquiry.problem.now cover.now }
+    requires branch { length below.items < branch_count inquiry.problem.now }
+    requires below { let n = length below.items in
+        HasEachLines inquiry.problem.now inquiry.kept n below.items }
     ensures { let n = length below.items in
-        IfOk result (λ ls. LeadIfKept problem.now kept n own.items ls.items) }
+        IfOk result (λ ls. LeadIfKept inquiry.problem.now inquiry.kept n own.items ls.items) }
 {
-    match kept {
-        KeptLines::All => fill_to_map(alloc, problem, cover, below, own),
+    match inquiry.kept {
+        KeptLines::All => fill_to_map(alloc, inquiry.problem, cover, below, own),
         KeptLines::Refuting | KeptLines::Neither => Ok(own),
     }
 }
@@ -255,17 +265,18 @@ fn fill_to_map(
 /// places among those of the root.
 fn lines_of_none(
     alloc: Global,
-    problem: &Problem,
-    kept: KeptLines,
+    inquiry: Inquiry,
     cover: &Cover,
     lists: Vec<Lines>,
 ) -> Result<Lines, AllocError>
-    requires cover { IsCoverOf problem.now cover.now }
-    requires count { length lists.items ≡ branch_count problem.now }
-    requires lists { HasEachLines problem.now kept (branch_count problem.now) lists.items }
-    ensures { IfOk result (λ ls. AreLinesOf problem.now kept (root problem.now) ls.items) }
+    requires cover { IsCoverOf inquiry.problem.now cover.now }
+    requires count { length lists.items ≡ branch_count inquiry.problem.now }
+    requires lists { let n = branch_count inquiry.problem.now in
+        HasEachLines inquiry.problem.now inquiry.kept n lists.items }
+    ensures { let r = root inquiry.problem.now in
+        IfOk result (λ ls. AreLinesOf inquiry.problem.now inquiry.kept r ls.items) }
 {
-    match kept {
+    match inquiry.kept {
         KeptLines::All | KeptLines::Refuting => cover.fill(alloc, lists),
         KeptLines::Neither => Ok(Vec::new(alloc)),
     }
@@ -275,32 +286,21 @@ fn lines_of_none(
 fn search_all<R: Threads + Sync, H: Handout, G: Gate>(
     rt: &R,
     alloc: Global,
-    problem: &Problem,
-    kept: KeptLines,
-    cover: &Cover,
-    board: &Board,
+    site: SharedState<G>,
     seats: Vec<BoardSeat>,
-    gate: &G,
 ) -> Result<Vec<Worker>, AllocError>
-    requires ground { IsGround problem.now cover.now board.now }
-    requires count { length seats.items ≡ board.now.workers }
-    requires seats { All (λ d. d ≡ fresh_desk board.now) seats.items }
-    requires some { (0 < board.now.workers) × (board.now.workers < 2 ^ 32) }
-    requires few { board.now.branches * board.now.workers < 2 ^ 32 }
-    ensures count { IfOk result (λ ws. length ws.items ≡ board.now.workers) }
-    ensures workers { IfOk result (λ ws. AreWorkers problem.now kept board.now ws.items) }
-    ensures settled { IfOk result (λ ws. AreAllSettled board.now ws.items) }
+    requires count { length seats.items ≡ site.board.now.workers }
+    requires seats { All (λ d. d ≡ fresh_desk site.board.now) seats.items }
+    requires some { (0 < site.board.now.workers) × (site.board.now.workers < 2 ^ 32) }
+    requires few { site.board.now.branches * site.board.now.workers < 2 ^ 32 }
+    ensures count { IfOk result (λ ws. length ws.items ≡ site.board.now.workers) }
+    ensures workers { IfOk result (λ ws. AreWorkersOf site ws.items) }
+    ensures settled { IfOk result (λ ws. AreAllSettled site.board.now ws.items) }
 {
-    let (handout, shares) = H::deal(alloc, cover.branches(), seats.len() as u32)?;
-    let workers = fresh_workers(alloc, problem, kept, board, seats)?;
-    let site = SharedState {
-        problem,
-        kept,
-        cover,
-        board,
-        gate,
-    };
-    let (workers, shares) = crew(rt, alloc, &site, &handout, workers, shares)?;
+    let (handout, shares) = H::deal(alloc, site.cover.branches(), seats.len() as u32)?;
+    let workers = fresh_workers(alloc, site.inquiry, site.board, seats)?;
+    let members = CrewMembers { workers, shares };
+    let CrewMembers { workers, shares } = crew(rt, alloc, &site, &handout, members)?;
     let left = handout.finish(alloc, shares)?;
     work_left(alloc, &site, workers, left.as_slice())
 }
@@ -308,14 +308,14 @@ fn search_all<R: Threads + Sync, H: Handout, G: Gate>(
 /// A worker for each seat. None has found out anything.
 fn fresh_workers(
     alloc: Global,
-    problem: &Problem,
-    kept: KeptLines,
+    inquiry: Inquiry,
     board: &Board,
     seats: Vec<BoardSeat>,
 ) -> Result<Vec<Worker>, AllocError>
     requires { All (λ d. d ≡ fresh_desk board.now) seats.items }
     ensures count { IfOk result (λ ws. length ws.items ≡ length seats.items) }
-    ensures workers { IfOk result (λ ws. All (IsFresh problem.now kept board.now) ws.items) }
+    ensures workers { IfOk result (λ ws.
+        All (IsFresh inquiry.problem.now inquiry.kept board.now) ws.items) }
 {
     let mut workers = Vec::with_capacity(alloc, seats.len())?;
     let mut seats = seats;
@@ -374,16 +374,15 @@ fn settle_each<G: Gate>(
 /// The account of all workers, and what they found.
 fn finish(
     alloc: Global,
-    problem: &Problem,
-    kept: KeptLines,
+    inquiry: Inquiry,
     board: Board,
     workers: Vec<Worker>,
 ) -> Result<(Account, AllFinds), AllocError>
     requires count { length workers.items ≡ board.workers }
-    requires workers { AreWorkers problem.now kept board workers.items }
+    requires workers { AreWorkers inquiry.problem.now inquiry.kept board workers.items }
     requires settled { AreAllSettled board workers.items }
     ensures branches { IfOk result (λ r. r.0.branches ≡ board.branches) }
-    ensures tells { IfOk result (λ r. Tells problem.now kept r.0 r.1) }
+    ensures tells { IfOk result (λ r. Tells inquiry.problem.now inquiry.kept r.0 r.1) }
 {
     let (seats, finds) = apart(alloc, workers)?;
     Ok((board.finish(seats), finds))
@@ -393,24 +392,23 @@ fn finish(
 /// none, and the lines that refute the root if they are kept.
 fn answer_of(
     alloc: Global,
-    problem: &Problem,
-    kept: KeptLines,
+    inquiry: Inquiry,
     cover: &Cover,
     finds: AllFinds,
     account: Account,
 ) -> Result<Answer, AllocError>
-    requires cover { IsCoverOf problem.now cover.now }
-    requires branches { account.branches ≡ branch_count problem.now }
-    requires tells { Tells problem.now kept account finds }
-    ensures answer { IfOk result (IsAnswer problem.now kept) }
-    ensures account { IfOk result (λ a. HasAccount problem.now a account) }
+    requires cover { IsCoverOf inquiry.problem.now cover.now }
+    requires branches { account.branches ≡ branch_count inquiry.problem.now }
+    requires tells { Tells inquiry.problem.now inquiry.kept account finds }
+    ensures answer { IfOk result (IsAnswer inquiry.problem.now inquiry.kept) }
+    ensures account { IfOk result (λ a. HasAccount inquiry.problem.now a account) }
 {
     if account.least < account.branches {
-        return map_answer(alloc, problem, kept, cover, finds, account);
+        return map_answer(alloc, inquiry, cover, finds, account);
     }
-    match kept {
+    match inquiry.kept {
         KeptLines::All | KeptLines::Refuting => {
-            let lists = in_order(alloc, problem, kept, finds.lines, account.branches)?;
+            let lists = in_order(alloc, inquiry, finds.lines, account.branches)?;
             Ok(Answer::Nothing(cover.fill(alloc, lists)?))
         }
         KeptLines::Neither => Ok(Answer::Nothing(Vec::new(alloc))),
@@ -420,25 +418,24 @@ fn answer_of(
 /// The map of the least branch, and the lines that lead to it if they are kept.
 fn map_answer(
     alloc: Global,
-    problem: &Problem,
-    kept: KeptLines,
+    inquiry: Inquiry,
     cover: &Cover,
     finds: AllFinds,
     account: Account,
 ) -> Result<Answer, AllocError>
-    requires cover { IsCoverOf problem.now cover.now }
-    requires branches { account.branches ≡ branch_count problem.now }
-    requires tells { Tells problem.now kept account finds }
+    requires cover { IsCoverOf inquiry.problem.now cover.now }
+    requires branches { account.branches ≡ branch_count inquiry.problem.now }
+    requires tells { Tells inquiry.problem.now inquiry.kept account finds }
     requires some { account.least < account.branches }
-    ensures answer { IfOk result (IsAnswer problem.now kept) }
-    ensures account { IfOk result (λ a. HasAccount problem.now a account) }
+    ensures answer { IfOk result (IsAnswer inquiry.problem.now inquiry.kept) }
+    ensures account { IfOk result (λ a. HasAccount inquiry.problem.now a account) }
 {
     let AllFinds { maps, lines } = finds;
-    let (map, own) = map_of(problem, kept, maps, account.least);
-    match kept {
+    let (map, own) = map_of(inquiry, maps, account.least);
+    match inquiry.kept {
         KeptLines::All => {
-            let below = in_order(alloc, problem, kept, lines, account.least)?;
-            let lines = fill_to_map(alloc, problem, cover, below, own)?;
+            let below = in_order(alloc, inquiry, lines, account.least)?;
+            let lines = fill_to_map(alloc, inquiry.problem, cover, below, own)?;
             Ok(Answer::Map(map, lines))
         }
         KeptLines::Refuting | KeptLines::Neither => Ok(Answer::Map(map, own)),

@@ -5,7 +5,7 @@ ghost use Rattle.wf_pool.specs.Work.{HasLooked, HasSettled, IsToSettle};
 ghost use Rattle.wf_pool.specs.Sites.{IsWorkerOf};
 ghost use Rattle.wf_pool.specs.Looking.{looked_itself, looked_on};
 
-use crate::finding::find;
+use crate::finding::search_box;
 use crate::gate::{Gate, Moment};
 use crate::site::SharedState;
 use crate::worker::Worker;
@@ -100,21 +100,8 @@ pub(crate) fn settle<G: Gate>(
         branch,
         seat,
     };
-    let found = find(
-        alloc,
-        site.problem,
-        site.kept,
-        boxed,
-        &mut watch,
-        &mut answers,
-    )?;
-    let CuttingStop {
-        board: _,
-        gate: _,
-        worker: _,
-        branch: _,
-        seat,
-    } = watch;
+    let found = search_box(alloc, site.inquiry, boxed, &mut watch, &mut answers)?;
+    let CuttingStop { seat, .. } = watch;
     let me = Worker {
         seat,
         finds,

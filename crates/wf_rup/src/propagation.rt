@@ -64,23 +64,18 @@ fn visit_watchers(
     let mut list = watches.take(alloc, falsified);
     let mut kept = 0;
     for at in 0..list.len() {
-        let watch = list[at];
-        let place = watch.place;
-        if trail.is_true(watch.blocker) {
-            list[kept] = watch;
+        let Watcher { place, blocker } = list[at];
+        if trail.is_true(blocker) {
+            list[kept] = Watcher { place, blocker };
             kept += 1;
             continue;
         }
         match visit(place, falsified, clauses, trail, watches)? {
-            WatchOutcome::Gone => {}
-            WatchOutcome::Stays(blocker) => {
-                list[kept] = Watcher { place, blocker };
-                kept += 1;
-            }
+            WatchOutcome::Gone => continue,
+            WatchOutcome::Stays(blocker) => list[kept] = Watcher { place, blocker },
             WatchOutcome::Forces(blocker) => {
                 trail.put(blocker)?;
                 list[kept] = Watcher { place, blocker };
-                kept += 1;
             }
             WatchOutcome::Fails => {
                 close_gap(&mut list, kept, at);
@@ -88,6 +83,7 @@ fn visit_watchers(
                 return Ok(true);
             }
         }
+        kept += 1;
     }
     list.truncate(kept);
     watches.give(falsified, list);
@@ -118,14 +114,7 @@ fn visit(
     ensures clauses { clauses.new ≡ clauses.old }
     ensures sound { IfOk result (IsSound (kept_of clauses.old) trail.now) }
 {
-    let Some((first, second)) = clauses.watched_at(place) else {
-        return Ok(WatchOutcome::Gone);
-    };
-    let other = if first == falsified {
-        second
-    } else if second == falsified {
-        first
-    } else {
+    let Some(other) = other_watched(place, falsified, clauses) else {
         return Ok(WatchOutcome::Gone);
     };
     if trail.is_true(other) {
@@ -138,13 +127,8 @@ fn visit(
     match other_open_literal(literals, trail, other) {
         Some(literal) => {
             clauses.watch_at(place, other, literal);
-            watches.push(
-                literal,
-                Watcher {
-                    place,
-                    blocker: other,
-                },
-            )?;
+            let blocker = other;
+            watches.push(literal, Watcher { place, blocker })?;
             Ok(WatchOutcome::Gone)
         }
         None => {
@@ -154,5 +138,18 @@ fn visit(
                 Ok(WatchOutcome::Forces(other))
             }
         }
+    }
+}
+
+/// The other literal that the clause watches that begins at this place, if it watches this one.
+#[inline]
+fn other_watched(place: u32, falsified: Code, clauses: &Catalogue) -> Option<Code> {
+    let (first, second) = clauses.watched_at(place)?;
+    if first == falsified {
+        Some(second)
+    } else if second == falsified {
+        Some(first)
+    } else {
+        None
     }
 }

@@ -42,9 +42,9 @@ places-preserved-then-is_empty c =
     let none : values_in (wide_set c.difference-lost.result) ≡ [] = values_of_part c.difference-lost.result ∙ nil_from_length _ (eqb-true _ 0 (sym c.is_empty.ensures ∙ c.if-is_empty.true)) in
     let step : now ≡ and_then now (take_present c.args.number (map (loss (get_or (processes_of rule.simplex) c.places.place 0) (get_or x.points c.places.place 0)) (values_in (wide_set c.difference-lost.result)))) =
     sym (then_keeps now) ∙ ap (λ vs. and_then now (take_present c.args.number (map (loss (get_or (processes_of rule.simplex) c.places.place 0) (get_or x.points c.places.place 0)) vs))) (sym none) in
-    let done = place_done n.rules.items x rule words (widened c.args.found) (widened c.args.supported) c.args.number c.places.place (get_or (processes_of rule.simplex) c.places.place 0) (wide_set c.difference-lost.result)
+    let done = place_done n.rules.items x rule words (widened c.args.judged.found) (widened c.args.judged.supported) c.args.number c.places.place (get_or (processes_of rule.simplex) c.places.place 0) (wide_set c.difference-lost.result)
     now _ known (subst (λ m. IsWithin (length n.rules.items) m x) (sym c.requires.revising.working.long) inside) (omega (arith, c.places-processes.ensures.count, c.places-processes.ensures.few)) (omega (arith, c.places-processes.ensures.count, c.places-test.true))
-    (found_now n c.args.number x words (widened c.args.found) c.requires.revising.number c.execution-execution.ensures c.requires.found) (supported_now n c.args.number x words (widened c.args.found) (widened c.args.supported) c.requires.revising.number c.execution-execution.ensures c.requires.found c.requires.supported) refl (values_of_part c.difference-lost.result ∙ (parts_lacked c.args.found c.args.supported c.difference-lost.result c.places.place (omega (arith, c.places-test.true, c.places-processes.ensures.few, c.requires.long)) (omega (arith, c.places-test.true, c.places-processes.ensures.few, c.requires.supported_long)) c.difference-lost.ensures)) step in
+    (found_now n c.args.number x words (widened c.args.judged.found) c.requires.revising.number c.execution-execution.ensures c.requires.found) (supported_now n c.args.number x words (widened c.args.judged.found) (widened c.args.judged.supported) c.requires.revising.number c.execution-execution.ensures c.requires.found c.requires.supported) refl (values_of_part c.difference-lost.result ∙ (parts_lacked c.args.judged.found c.args.judged.supported c.difference-lost.result c.places.place (omega (arith, c.places-test.true, c.places-processes.ensures.few, c.requires.long)) (omega (arith, c.places-test.true, c.places-processes.ensures.few, c.requires.supported_long)) c.difference-lost.ensures)) step in
     (c.places.invariant.0, done ∙ c.places.invariant.1, c.places.invariant.2, c.places.invariant.3, c.places.invariant.4)
 
 pub places-preserved : goal.places-preserved
@@ -56,9 +56,9 @@ places-preserved c =
     let inside = execution_within n c.args.number x c.requires.revising.network c.requires.revising.number c.execution-execution.ensures in
     let known = known_at n.rules.items n.points x rule inside c.requires.revising.network.wide c.index-rule.ensures in
     let step = ap (λ b. reached c.take_part.new.lines.items (point_if b (get_or x.points c.places.place 0)) c.take_part.new.workspace.tracked.words.items) (sym c.if-take_part.false) ∙ c.take_part.ensures.step in
-    let done = place_done n.rules.items x rule words (widened c.args.found) (widened c.args.supported) c.args.number c.places.place c.process_at.result (wide_set c.difference-lost.result)
+    let done = place_done n.rules.items x rule words (widened c.args.judged.found) (widened c.args.judged.supported) c.args.number c.places.place c.process_at.result (wide_set c.difference-lost.result)
     (reached c.places.lines.items None c.places.workspace.tracked.words.items) _ known (subst (λ m. IsWithin (length n.rules.items) m x) (sym c.requires.revising.working.long) inside) (omega (arith, c.places-processes.ensures.count, c.places-processes.ensures.few)) (omega (arith, c.places-processes.ensures.count, c.places-test.true))
-    (found_now n c.args.number x words (widened c.args.found) c.requires.revising.number c.execution-execution.ensures c.requires.found) (supported_now n c.args.number x words (widened c.args.found) (widened c.args.supported) c.requires.revising.number c.execution-execution.ensures c.requires.found c.requires.supported) c.process_at.ensures (values_of_part c.difference-lost.result ∙ (parts_lacked c.args.found c.args.supported c.difference-lost.result c.places.place (omega (arith, c.places-test.true, c.places-processes.ensures.few, c.requires.long)) (omega (arith, c.places-test.true, c.places-processes.ensures.few, c.requires.supported_long)) c.difference-lost.ensures)) step
+    (found_now n c.args.number x words (widened c.args.judged.found) c.requires.revising.number c.execution-execution.ensures c.requires.found) (supported_now n c.args.number x words (widened c.args.judged.found) (widened c.args.judged.supported) c.requires.revising.number c.execution-execution.ensures c.requires.found c.requires.supported) c.process_at.ensures (values_of_part c.difference-lost.result ∙ (parts_lacked c.args.judged.found c.args.judged.supported c.difference-lost.result c.places.place (omega (arith, c.places-test.true, c.places-processes.ensures.few, c.requires.long)) (omega (arith, c.places-test.true, c.places-processes.ensures.few, c.requires.supported_long)) c.difference-lost.ensures)) step
     ∙ c.places.invariant.1 in
     let named : (p : Problem) → constraint_at p c.args.number ≡ constraint_seen n.rules.items x → NamesLost p c.args.lines.now c.args.workspace.now c.take_part.new.lines c.take_part.new.workspace = λ p at.
     named_then p _ _ _ _ _ _ (c.places.invariant.0 p at)
@@ -96,9 +96,9 @@ returns-then-take_part c = record {
       let inside = execution_within n c.args.number x c.requires.revising.network c.requires.revising.number c.execution-execution.ensures in
       let known = known_at n.rules.items n.points x rule inside c.requires.revising.network.wide c.index-rule.ensures in
       let step = ap (λ b. reached c.take_part.new.lines.items (point_if b (get_or x.points c.places.place 0)) c.take_part.new.workspace.tracked.words.items) (sym c.if-take_part.true) ∙ c.take_part.ensures.step in
-      let done = place_done n.rules.items x rule words (widened c.args.found) (widened c.args.supported) c.args.number c.places.place c.process_at.result (wide_set c.difference-lost.result)
+      let done = place_done n.rules.items x rule words (widened c.args.judged.found) (widened c.args.judged.supported) c.args.number c.places.place c.process_at.result (wide_set c.difference-lost.result)
       (reached c.places.lines.items None c.places.workspace.tracked.words.items) _ known (subst (λ m. IsWithin (length n.rules.items) m x) (sym c.requires.revising.working.long) inside) (omega (arith, c.places-processes.ensures.count, c.places-processes.ensures.few)) (omega (arith, c.places-processes.ensures.count, c.places-test.true))
-      (found_now n c.args.number x words (widened c.args.found) c.requires.revising.number c.execution-execution.ensures c.requires.found) (supported_now n c.args.number x words (widened c.args.found) (widened c.args.supported) c.requires.revising.number c.execution-execution.ensures c.requires.found c.requires.supported) c.process_at.ensures (values_of_part c.difference-lost.result ∙ (parts_lacked c.args.found c.args.supported c.difference-lost.result c.places.place (omega (arith, c.places-test.true, c.places-processes.ensures.few, c.requires.long)) (omega (arith, c.places-test.true, c.places-processes.ensures.few, c.requires.supported_long)) c.difference-lost.ensures)) step
+      (found_now n c.args.number x words (widened c.args.judged.found) c.requires.revising.number c.execution-execution.ensures c.requires.found) (supported_now n c.args.number x words (widened c.args.judged.found) (widened c.args.judged.supported) c.requires.revising.number c.execution-execution.ensures c.requires.found c.requires.supported) c.process_at.ensures (values_of_part c.difference-lost.result ∙ (parts_lacked c.args.judged.found c.args.judged.supported c.difference-lost.result c.places.place (omega (arith, c.places-test.true, c.places-processes.ensures.few, c.requires.long)) (omega (arith, c.places-test.true, c.places-processes.ensures.few, c.requires.supported_long)) c.difference-lost.ensures)) step
       ∙ c.places.invariant.1 in
       let seen : constraint_in n c.args.number ≡ constraint_seen n.rules.items x = ap (constraint_seen n.rules.items) (execution_is n c.args.number x c.requires.revising.number c.execution-execution.ensures) in
       done ∙ ap (λ k. and_then (reached c.args.lines.now.items None words) (revision c.args.number k)) (sym seen);
@@ -158,14 +158,14 @@ returns c = record {
       let left = found_at x c.deref.result.now in
       let left_here : left ≡ found_at x fewer = ap (found_at x) c.deref.ensures.value in
       let left_long : length left ≡ 4 = length-map x.points (λ v. get_or c.deref.result.now v []) ∙ inside.long in
-      let right : HasSupported (widened c.args.supported) rule.table (widened c.args.found) =
-      subst (λ (r : Rule). HasSupported (widened c.args.supported) r.table (widened c.args.found)) known.is
-      (supported_now n c.args.number x words (widened c.args.found) (widened c.args.supported) c.requires.revising.number c.execution-execution.ensures c.requires.found c.requires.supported) in
+      let right : HasSupported (widened c.args.judged.supported) rule.table (widened c.args.judged.found) =
+      subst (λ (r : Rule). HasSupported (widened c.args.judged.supported) r.table (widened c.args.judged.found)) known.is
+      (supported_now n c.args.number x words (widened c.args.judged.found) (widened c.args.judged.supported) c.requires.revising.number c.execution-execution.ensures c.requires.found c.requires.supported) in
       ap (lost (box_of fewer)) seen
       ∙ elim (c.unmark_parts.ensures.same none) [
         | inl same ↦
             loses_nothing n.rules.items x rule fewer left known (subst (λ m. IsWithin (length n.rules.items) m x) (sym done.long) inside) few left_here
-            (left_supports rule.table (widened c.args.supported) (widened c.args.found) left (omega (arith, known.wide, few, (length-map c.args.found wide_set ∙ c.requires.long))) (omega (arith, known.wide, few, left_long)) right
+            (left_supports rule.table (widened c.args.judged.supported) (widened c.args.judged.found) left (omega (arith, known.wide, few, (length-map c.args.judged.found wide_set ∙ c.requires.long))) (omega (arith, known.wide, few, left_long)) right
             (λ i low. ap (λ xs. get_or xs i []) same))
         | inr before ↦
             (let kept = c.places.invariant.4 before in

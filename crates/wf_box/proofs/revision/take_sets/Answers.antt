@@ -41,9 +41,9 @@ places-preserved-then-is_empty c =
     let none : values_in c.difference-lost.result ≡ [] = nil_from_length _ (eqb-true _ 0 (sym c.is_empty.ensures ∙ c.if-is_empty.true)) in
     let step : now ≡ and_then now (take_present c.args.number (map (loss (get_or (processes_of rule.simplex) c.places.place 0) (get_or x.points c.places.place 0)) (values_in c.difference-lost.result))) =
     sym (then_keeps now) ∙ ap (λ vs. and_then now (take_present c.args.number (map (loss (get_or (processes_of rule.simplex) c.places.place 0) (get_or x.points c.places.place 0)) vs))) (sym none) in
-    let done = place_done n.rules.items x rule words c.args.found c.args.supported c.args.number c.places.place (get_or (processes_of rule.simplex) c.places.place 0) c.difference-lost.result
+    let done = place_done n.rules.items x rule words c.args.judged.found c.args.judged.supported c.args.number c.places.place (get_or (processes_of rule.simplex) c.places.place 0) c.difference-lost.result
     now _ known (subst (λ m. IsWithin (length n.rules.items) m x) (sym c.requires.revising.working.long) inside) (omega (arith, c.places-processes.ensures.count, c.places-processes.ensures.few)) (omega (arith, c.places-processes.ensures.count, c.places-test.true))
-    (found_now n c.args.number x words c.args.found c.requires.revising.number c.execution-execution.ensures c.requires.found) (supported_now n c.args.number x words c.args.found c.args.supported c.requires.revising.number c.execution-execution.ensures c.requires.found c.requires.supported) refl c.difference-lost.ensures step in
+    (found_now n c.args.number x words c.args.judged.found c.requires.revising.number c.execution-execution.ensures c.requires.found) (supported_now n c.args.number x words c.args.judged.found c.args.judged.supported c.requires.revising.number c.execution-execution.ensures c.requires.found c.requires.supported) refl c.difference-lost.ensures step in
     (c.places.invariant.0, done ∙ c.places.invariant.1, c.places.invariant.2, c.places.invariant.3, c.places.invariant.4)
 
 pub places-preserved : goal.places-preserved
@@ -55,9 +55,9 @@ places-preserved c =
     let inside = execution_within n c.args.number x c.requires.revising.network c.requires.revising.number c.execution-execution.ensures in
     let known = known_at n.rules.items n.points x rule inside c.requires.revising.network.wide c.index-rule.ensures in
     let step = ap (λ b. reached c.take_place.new.lines.items (point_if b (get_or x.points c.places.place 0)) c.take_place.new.workspace.tracked.words.items) (sym c.if-take_place.false) ∙ c.take_place.ensures.step in
-    let done = place_done n.rules.items x rule words c.args.found c.args.supported c.args.number c.places.place c.process_at.result c.difference-lost.result
+    let done = place_done n.rules.items x rule words c.args.judged.found c.args.judged.supported c.args.number c.places.place c.process_at.result c.difference-lost.result
     (reached c.places.lines.items None c.places.workspace.tracked.words.items) _ known (subst (λ m. IsWithin (length n.rules.items) m x) (sym c.requires.revising.working.long) inside) (omega (arith, c.places-processes.ensures.count, c.places-processes.ensures.few)) (omega (arith, c.places-processes.ensures.count, c.places-test.true))
-    (found_now n c.args.number x words c.args.found c.requires.revising.number c.execution-execution.ensures c.requires.found) (supported_now n c.args.number x words c.args.found c.args.supported c.requires.revising.number c.execution-execution.ensures c.requires.found c.requires.supported) c.process_at.ensures c.difference-lost.ensures step
+    (found_now n c.args.number x words c.args.judged.found c.requires.revising.number c.execution-execution.ensures c.requires.found) (supported_now n c.args.number x words c.args.judged.found c.args.judged.supported c.requires.revising.number c.execution-execution.ensures c.requires.found c.requires.supported) c.process_at.ensures c.difference-lost.ensures step
     ∙ c.places.invariant.1 in
     let named : (p : Problem) → constraint_at p c.args.number ≡ constraint_seen n.rules.items x → NamesLost p c.args.lines.now c.args.workspace.now c.take_place.new.lines c.take_place.new.workspace = λ p at.
     named_then p _ _ _ _ _ _ (c.places.invariant.0 p at)
@@ -95,9 +95,9 @@ returns-then-take_place c = record {
       let inside = execution_within n c.args.number x c.requires.revising.network c.requires.revising.number c.execution-execution.ensures in
       let known = known_at n.rules.items n.points x rule inside c.requires.revising.network.wide c.index-rule.ensures in
       let step = ap (λ b. reached c.take_place.new.lines.items (point_if b (get_or x.points c.places.place 0)) c.take_place.new.workspace.tracked.words.items) (sym c.if-take_place.true) ∙ c.take_place.ensures.step in
-      let done = place_done n.rules.items x rule words c.args.found c.args.supported c.args.number c.places.place c.process_at.result c.difference-lost.result
+      let done = place_done n.rules.items x rule words c.args.judged.found c.args.judged.supported c.args.number c.places.place c.process_at.result c.difference-lost.result
       (reached c.places.lines.items None c.places.workspace.tracked.words.items) _ known (subst (λ m. IsWithin (length n.rules.items) m x) (sym c.requires.revising.working.long) inside) (omega (arith, c.places-processes.ensures.count, c.places-processes.ensures.few)) (omega (arith, c.places-processes.ensures.count, c.places-test.true))
-      (found_now n c.args.number x words c.args.found c.requires.revising.number c.execution-execution.ensures c.requires.found) (supported_now n c.args.number x words c.args.found c.args.supported c.requires.revising.number c.execution-execution.ensures c.requires.found c.requires.supported) c.process_at.ensures c.difference-lost.ensures step
+      (found_now n c.args.number x words c.args.judged.found c.requires.revising.number c.execution-execution.ensures c.requires.found) (supported_now n c.args.number x words c.args.judged.found c.args.judged.supported c.requires.revising.number c.execution-execution.ensures c.requires.found c.requires.supported) c.process_at.ensures c.difference-lost.ensures step
       ∙ c.places.invariant.1 in
       let seen : constraint_in n c.args.number ≡ constraint_seen n.rules.items x = ap (constraint_seen n.rules.items) (execution_is n c.args.number x c.requires.revising.number c.execution-execution.ensures) in
       done ∙ ap (λ k. and_then (reached c.args.lines.now.items None words) (revision c.args.number k)) (sym seen);
@@ -157,14 +157,14 @@ returns c = record {
       let left = found_at x c.deref.result.now in
       let left_here : left ≡ found_at x fewer = ap (found_at x) c.deref.ensures.value in
       let left_long : length left ≡ 4 = length-map x.points (λ v. get_or c.deref.result.now v []) ∙ inside.long in
-      let right : HasSupported c.args.supported rule.table c.args.found =
-      subst (λ (r : Rule). HasSupported c.args.supported r.table c.args.found) known.is
-      (supported_now n c.args.number x words c.args.found c.args.supported c.requires.revising.number c.execution-execution.ensures c.requires.found c.requires.supported) in
+      let right : HasSupported c.args.judged.supported rule.table c.args.judged.found =
+      subst (λ (r : Rule). HasSupported c.args.judged.supported r.table c.args.judged.found) known.is
+      (supported_now n c.args.number x words c.args.judged.found c.args.judged.supported c.requires.revising.number c.execution-execution.ensures c.requires.found c.requires.supported) in
       ap (lost (box_of fewer)) seen
       ∙ elim (c.unmark.ensures.same none) [
         | inl same ↦
             loses_nothing n.rules.items x rule fewer left known (subst (λ m. IsWithin (length n.rules.items) m x) (sym done.long) inside) few left_here
-            (left_supports rule.table c.args.supported c.args.found left (omega (arith, known.wide, few, c.requires.long)) (omega (arith, known.wide, few, left_long)) right
+            (left_supports rule.table c.args.judged.supported c.args.judged.found left (omega (arith, known.wide, few, c.requires.long)) (omega (arith, known.wide, few, left_long)) right
             (λ i low. same i (omega (arith, low, known.wide, c.places-processes.ensures.count))))
         | inr before ↦
             (let kept = c.places.invariant.4 before in

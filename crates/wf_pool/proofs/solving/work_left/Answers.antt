@@ -8,8 +8,8 @@ use Rattle.wf_pool.proofs.solving.work_left.Goals as goal
 
 pub returns-clause-workers : goal.returns-clause-workers
 returns-clause-workers g c =
-    let p = c.args.site.now.problem.now in
-    let k = c.args.site.now.kept in
+    let p = c.args.site.now.inquiry.problem.now in
+    let k = c.args.site.now.inquiry.kept in
     let b = c.args.site.now.board.now in
     let others = subst (AreWorkers p k b) (sym c.remove-first.ensures.items) (others_are p k b c.args.workers.items c.requires.workers) in
     subst (AreWorkers p k b) (sym c.in_ok-push.ensures.items) (All-push (IsWorker p k b) c.remove-first.new.self.items c.in_ok-settle_each.field-0 others c.in_ok-settle_each.ensures.worker)

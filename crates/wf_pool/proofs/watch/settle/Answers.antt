@@ -10,8 +10,8 @@ returns-clause-worker g c =
     let w = c.in_ok-settled.ensures in
     let look = c.in_ok-found.ensures.asked.1.1 in (
       w.seat,
-      w.honest site.problem.now site.kept
-          (looked_honest site.problem.now site.kept c.args.me.seat _ c.args.me.finds look c.requires.me.1)
-          (found_at site.problem.now site.kept site.cover.now c.args.branch c.in_ok-boxed.boxed.sets c.in_ok-found.found site.ground.cover (subst (λ (n : ℕ). c.args.branch < n) (sym site.ground.count) c.requires.branch.0) c.in_ok-boxed.ensures.branch c.in_ok-found.ensures.found),
-      subst (ServeFor site.problem.now) (sym w.answers) c.in_ok-found.ensures.answers,
+      w.honest site.inquiry.problem.now site.inquiry.kept
+          (looked_honest site.inquiry.problem.now site.inquiry.kept c.args.me.seat _ c.args.me.finds look c.requires.me.1)
+          (found_at site.inquiry.problem.now site.inquiry.kept site.cover.now c.args.branch c.in_ok-boxed.boxed.sets c.in_ok-found.found site.ground.cover (subst (λ (n : ℕ). c.args.branch < n) (sym site.ground.count) c.requires.branch.0) c.in_ok-boxed.ensures.branch c.in_ok-found.ensures.found),
+      subst (ServeFor site.inquiry.problem.now) (sym w.answers) c.in_ok-found.ensures.answers,
     )
