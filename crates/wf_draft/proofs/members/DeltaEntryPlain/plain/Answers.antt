@@ -3,7 +3,7 @@ use Rattle.wf_draft.specs.Shape.{entry_of}
 use Rattle.wf_draft.specs.DraftSeen.{entry_seen}
 use Rattle.wf_draft.specs.Members.{HoldEntry}
 use Rattle.wf_draft.proofs.TokensOfValues.{takes-object-if}
-use Rattle.wf_draft.proofs.members.EntryPlain.plain.Goals as goal
+use Rattle.wf_draft.proofs.members.DeltaEntryPlain.plain.Goals as goal
 
 pub returns : goal.returns
 returns c =

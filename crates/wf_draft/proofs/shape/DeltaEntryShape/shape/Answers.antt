@@ -1,7 +1,7 @@
 use Rattle.std.proofs.Common.{Some, option_map, option_and_then, sym, ap, ◌∙◌}
 use Rattle.wf_draft.specs.Shape.{simplex_of, tuples_of}
 use Rattle.wf_draft.proofs.Lists.{entry_found, numbers_seen, members_count}
-use Rattle.wf_draft.proofs.shape.EntryShape.shape.Goals as goal
+use Rattle.wf_draft.proofs.shape.DeltaEntryShape.shape.Goals as goal
 
 pub returns : goal.returns
 returns c =
