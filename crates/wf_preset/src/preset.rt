@@ -16,7 +16,7 @@ ghost use Rattle.wf_preset.specs.Preset.{inputs_seen, input_complex_of, has_proc
 use crate::family::{Family, list_at, list_count, numbers_below};
 use std::alloc::{AllocError, Global};
 use wf_simplex::{Complex, Simplex};
-use wf_task::{Limit, MOST_INPUTS, MOST_OUTPUTS, MOST_TUPLES, MOST_VERTICES, Row, Task, TaskFault};
+use wf_task::{MOST_INPUTS, MOST_OUTPUTS, MOST_TUPLES, MOST_VERTICES, Row, Task, TaskFault, TaskLimit};
 
 /// Which inputs the processes of set agreement may have.
 #[derive(Clone, Copy, Debug, PartialEq, Eq)]
@@ -124,7 +124,7 @@ pub fn set_agreement(
     let complex = input_complex(alloc, processes, inputs)?;
     let family = Family::Agreement(k);
     if family.has_more_tuples(alloc, complex.simplices(), MOST_TUPLES)? {
-        return Err(TaskFault::TooMany(Limit::Tuples));
+        return Err(TaskFault::TooMany(TaskLimit::Tuples));
     }
     Ok(task_for(alloc, processes, false, family, complex)?)
 }
@@ -146,11 +146,11 @@ pub fn renaming(alloc: Global, processes: u32, names: u32) -> Result<Task, TaskF
     let whole = whole(processes);
     let family = Family::Naming(names as u8);
     if family.count(alloc, &whole, MOST_OUTPUTS)?.is_none() {
-        return Err(TaskFault::TooMany(Limit::Outputs));
+        return Err(TaskFault::TooMany(TaskLimit::Outputs));
     }
     let complex = Complex::from_facets(alloc, &[whole])?;
     if family.has_more_tuples(alloc, complex.simplices(), MOST_TUPLES)? {
-        return Err(TaskFault::TooMany(Limit::Tuples));
+        return Err(TaskFault::TooMany(TaskLimit::Tuples));
     }
     Ok(task_for(alloc, processes, true, family, complex)?)
 }
@@ -164,14 +164,14 @@ fn input_complex(alloc: Global, processes: u8, inputs: Inputs) -> Result<Complex
     ensures { Gives (λ c. c) result (inputs_judged (input_complex_of processes inputs)) }
 {
     if inputs.vertex_count(processes) > MOST_VERTICES {
-        return Err(TaskFault::TooMany(Limit::Vertices));
+        return Err(TaskFault::TooMany(TaskLimit::Vertices));
     }
     if inputs.facet_count(processes) > MOST_INPUTS {
-        return Err(TaskFault::TooMany(Limit::Simplices));
+        return Err(TaskFault::TooMany(TaskLimit::Simplices));
     }
     let complex = Complex::from_facets(alloc, &inputs.facets(alloc, processes)?)?;
     if complex.simplices().len() > MOST_INPUTS {
-        return Err(TaskFault::TooMany(Limit::Simplices));
+        return Err(TaskFault::TooMany(TaskLimit::Simplices));
     }
     Ok(complex)
 }
