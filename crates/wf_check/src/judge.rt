@@ -1,6 +1,6 @@
 //! The lines of a refutation, or of the way to a least map, one by one.
 
-ghost use Rattle.std.specs.Prelude.{ℕ, ◌≡◌, ◌+◌, ◌<◌, ◌∷◌, [], List, IfSome, get_or, length, map};
+ghost use Rattle.std.specs.Prelude.{ℕ, ◌≡◌, ◌+◌, ◌<◌, ◌∷◌, [], List, IfSome, true, get_or, length, map};
 ghost use Rattle.wf_model.specs.Simplex.{processes_of};
 ghost use Rattle.wf_model.specs.Task.{inputs};
 ghost use Rattle.wf_model.specs.Problem.{Problem};
@@ -36,22 +36,22 @@ pub(crate) enum Goal<'a> {
 
 /// What lines are judged by.
 #[derive(Clone, Copy)]
-pub(crate) struct LineRules<'a> {
+pub(crate) struct LineRules<'a, 'b> {
     /// The task.
     pub(crate) task: &'a Task,
     /// Its protocol complex.
     pub(crate) protocol: &'a Protocol,
     /// The tuples of each rule of the task.
-    pub(crate) supports: &'a [TupleSupport],
+    pub(crate) supports: &'b [TupleSupport],
     /// What the lines are to show.
     pub(crate) claim: Goal<'a>,
 }
 
 /// Where a process takes part in an execution.
 #[derive(Clone, Copy)]
-pub(crate) struct Participant<'a> {
+struct Participant<'a, 'b> {
     // the tuples that are allowed there
-    support: &'a TupleSupport,
+    support: &'b TupleSupport,
     // the points of the execution
     points: &'a [u32],
     // the place of the process among those who take part
@@ -141,7 +141,8 @@ fn judge_line(
             Ok(JudgedSoFar::Going)
         }
         Line::Empty { point } => {
-            if judge_empty(rules.protocol, point, at, blocks)? {
+            let going = judge_empty(rules.protocol, point, at, blocks)?;
+            if going {
                 return Ok(JudgedSoFar::Going);
             }
             Ok(JudgedSoFar::Refuted)
@@ -241,8 +242,12 @@ fn judge_end(claim: Goal, at: u32, blocks: &Blocks) -> Result<(), CertFault>
 }
 
 /// Where the process takes part in the execution, if it does.
-fn participant_of<'a>(rules: &LineRules<'a>, execution: u32, process: u8) -> Option<Participant<'a>>
-    requires rules { AreMatched rules.now }
+fn participant_of<'a, 'b>(
+    rules: &LineRules<'a, 'b>,
+    execution: u32,
+    process: u8,
+) -> Option<Participant<'a, 'b>>
+    requires { AreMatched rules.now }
     ensures verdict { (k value : ℕ) (box : Box) (boxes : List Box) →
         verdict (problem_in rules.now) k (remove execution process value) box boxes
         ≡ verdict_at result k value box boxes }
@@ -253,8 +258,10 @@ fn participant_of<'a>(rules: &LineRules<'a>, execution: u32, process: u8) -> Opt
     }
     let number = rules.protocol.simplex_of(execution);
     let points = rules.protocol.points_of(execution);
+    let Some(place) = place_of(rules.task, number, process) else {
+        return None;
+    };
     let support = &rules.supports[number as usize];
-    let place = place_of(rules.task, number, process)?;
     Some(Participant {
         support,
         points,
@@ -276,20 +283,15 @@ fn judge_removal(
         (λ _. boxes_left true blocks.new) }
     ensures points { HasSamePoints blocks.old blocks.new }
 {
-    let Some(
-        Participant {
-            support,
-            points,
-            place,
-        },
-    ) = there
-    else {
+    let Some(seat) = there else {
         return Err(CertFault::NoSuch(at));
     };
-    if is_supported(support, points, blocks.sets(), place as usize, value) {
+    let points = seat.points;
+    let place = seat.place as usize;
+    if is_supported(seat.support, points, blocks.sets(), place, value) {
         return Err(CertFault::Unsound(at));
     }
-    blocks.take_out(points[place as usize], value)?;
+    blocks.take_out(points[place], value)?;
     Ok(())
 }
 
