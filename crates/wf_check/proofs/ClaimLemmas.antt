@@ -2,7 +2,7 @@
 use Rattle.std.proofs.Common.{◌≡◌, ℕ, zero, suc, ◌+◌, ◌<◌, List, [], ◌∷◌, drop, get_or, length, map, Option, Some, Result, Err, refl, ap, ◌∙◌, sym, subst, arith}
 use Rattle.wf_model.specs.Problem.{Problem}
 use Rattle.wf_model.specs.Box.{Box}
-use Rattle.wf_model.specs.Refutation.{Line, empty, branch}
+use Rattle.wf_model.specs.Refutation.{Line, remove, empty, branch}
 use Rattle.wf_model.specs.Check.{Refusal, Verdict, after_verdict, left, trailing, verdict}
 use Rattle.wf_lines.specs.Lines.{line_of}
 use Rattle.wf_lines.specs.declared.line.Line as line
@@ -16,6 +16,10 @@ use Rattle.wf_check.specs.declared.judge.Goal.{Goal}
 use Rattle.wf_check.specs.declared.judge.Goal.TheVariants.{Nothing, Least}
 use Rattle.wf_check.specs.declared.judge.JudgedSoFar.{JudgedSoFar}
 use Rattle.wf_check.specs.declared.judge.JudgedSoFar.TheVariants.{Going, Refuted, Found}
+
+pub remove_first : (p : Problem) (claim : Goal) (k e c a : ℕ) (ls : List Line) (box : Box) (boxes : List Box) → lines_fault p claim k (remove e c a ∷ ls) (box ∷ boxes) ≡ after_verdict (verdict p k (remove e c a) box boxes) (lines_fault p claim (suc k) ls)
+remove_first p Nothing k e c a ls box boxes = refl
+remove_first p (Least m) k e c a ls box boxes = refl
 
 pub empty_first : (p : Problem) (claim : Goal) (k v : ℕ) (ls : List Line) (box : Box) (boxes : List Box) → lines_fault p claim k (empty v ∷ ls) (box ∷ boxes) ≡ after_verdict (verdict p k (empty v) box boxes) (lines_fault p claim (suc k) ls)
 empty_first p Nothing k v ls box boxes = refl

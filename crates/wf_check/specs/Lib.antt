@@ -9,3 +9,4 @@ pub mod Claims
 pub mod Places
 pub mod RowBlocks
 pub mod Groups
+pub mod Rules

@@ -10,7 +10,7 @@ ghost use Rattle.wf_check.specs.Truth.{HoldsOf};
 ghost use Rattle.wf_check.specs.Within.{IsCheckerOf, fault_within, report_fault_within};
 ghost use Rattle.wf_report.specs.Reports.{AreNumbered, body_length, body_of, report_seen};
 
-use crate::judge::{Goal, judge_lines};
+use crate::judge::{Goal, LineRules, judge_lines};
 use crate::maps::first_violated;
 use crate::support::support_all;
 use crate::tuples::TupleSupport;
@@ -21,6 +21,14 @@ use wf_complex::Protocol;
 use wf_report::{Body, CertFault, FIRST_LINE, Report};
 use wf_set::Mask;
 use wf_task::Task;
+
+/// What a report answers, with the task and the protocol complex that the report is about.
+#[derive(Clone, Copy)]
+struct Answer<'a> {
+    task: &'a Task,
+    protocol: &'a Protocol,
+    body: &'a Body,
+}
 
 /// Accepts a report about a task and its protocol complex, or answers the
 /// first reason why it is refused.
@@ -98,7 +106,12 @@ impl ReportChecker {
             (box_of sets.items) (report_seen report.now)) }
     {
         judge_header(task, protocol, report)?;
-        self.judge(rt, alloc, task, protocol, sets, &report.body)
+        let answer = Answer {
+            task,
+            protocol,
+            body: &report.body,
+        };
+        self.judge(rt, alloc, &answer, sets)
     }
 
     /// Judges the map, the lines over the box with these values at each
@@ -107,44 +120,33 @@ impl ReportChecker {
         &self,
         rt: &R,
         alloc: Global,
-        task: &Task,
-        protocol: &Protocol,
+        answer: &Answer,
         sets: Vec<Mask>,
-        body: &Body,
     ) -> Result<(), CertFault>
-        requires checker { IsCheckerOf task.now self.now }
-        requires built { IsProtocol task.now protocol.now.rounds protocol.now }
-        requires long { length sets.items ≡ length protocol.now.points }
-        requires few { AreNumbered (body_length body.now) }
-        ensures { let p = problem_of task.now protocol.now.rounds in
-            Judges result (fault_within p (box_of sets.items) (body_of body.now)) }
+        requires checker { IsCheckerOf answer.now.task.now self.now }
+        requires built { let b = answer.now.protocol.now in
+            IsProtocol answer.now.task.now b.rounds b }
+        requires long { length sets.items ≡ length answer.now.protocol.now.points }
+        requires few { AreNumbered (body_length answer.now.body.now) }
+        ensures { let p = problem_of answer.now.task.now answer.now.protocol.now.rounds in
+            Judges result (fault_within p (box_of sets.items) (body_of answer.now.body.now)) }
     {
-        let supports = &self.supports;
-        match body {
+        let task = answer.task;
+        let protocol = answer.protocol;
+        let rules = LineRules {
+            task,
+            protocol,
+            supports: &self.supports,
+            claim: Goal::Nothing,
+        };
+        match answer.body {
             Body::Map(values) => judge_map(rt, task, protocol, values),
-            Body::Nothing(lines) => judge_lines(
-                alloc,
-                task,
-                protocol,
-                supports,
-                sets,
-                Goal::Nothing,
-                FIRST_LINE,
-                lines,
-            ),
+            Body::Nothing(lines) => judge_lines(alloc, &rules, sets, FIRST_LINE, lines),
             Body::Least(values, lines) => {
                 judge_map(rt, task, protocol, values)?;
+                let claim = Goal::Least(values);
                 let first = FIRST_LINE + values.len() as u32;
-                judge_lines(
-                    alloc,
-                    task,
-                    protocol,
-                    supports,
-                    sets,
-                    Goal::Least(values),
-                    first,
-                    lines,
-                )
+                judge_lines(alloc, &LineRules { claim, ..rules }, sets, first, lines)
             }
         }
     }
@@ -190,7 +192,12 @@ fn judge_body<R: Threads + Sync>(
         Body::Map(values) => judge_map(rt, task, protocol, values),
         Body::Nothing(_) | Body::Least(_, _) => {
             let sets = all_alike(alloc, task.values(), protocol.points())?;
-            judge_within(rt, alloc, task, protocol, sets, body)
+            let answer = Answer {
+                task,
+                protocol,
+                body,
+            };
+            judge_within(rt, alloc, &answer, sets)
         }
     }
 }
@@ -208,22 +215,21 @@ fn all_alike(alloc: Global, values: Mask, points: u32) -> Result<Vec<Mask>, Allo
 fn judge_within<R: Threads + Sync>(
     rt: &R,
     alloc: Global,
-    task: &Task,
-    protocol: &Protocol,
+    answer: &Answer,
     sets: Vec<Mask>,
-    body: &Body,
 ) -> Result<(), CertFault>
-    requires built { IsProtocol task.now protocol.now.rounds protocol.now }
-    requires long { length sets.items ≡ length protocol.now.points }
-    requires few { AreNumbered (body_length body.now) }
-    ensures { let p = problem_of task.now protocol.now.rounds in
-        Judges result (fault_within p (box_of sets.items) (body_of body.now)) }
+    requires built { let b = answer.now.protocol.now in
+        IsProtocol answer.now.task.now b.rounds b }
+    requires long { length sets.items ≡ length answer.now.protocol.now.points }
+    requires few { AreNumbered (body_length answer.now.body.now) }
+    ensures { let p = problem_of answer.now.task.now answer.now.protocol.now.rounds in
+        Judges result (fault_within p (box_of sets.items) (body_of answer.now.body.now)) }
 {
-    match body {
-        Body::Map(values) => judge_map(rt, task, protocol, values),
+    match answer.body {
+        Body::Map(values) => judge_map(rt, answer.task, answer.protocol, values),
         Body::Nothing(_) | Body::Least(_, _) => {
-            let checker = ReportChecker::of(alloc, task)?;
-            checker.judge(rt, alloc, task, protocol, sets, body)
+            let checker = ReportChecker::of(alloc, answer.task)?;
+            checker.judge(rt, alloc, answer, sets)
         }
     }
 }

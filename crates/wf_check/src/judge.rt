@@ -1,18 +1,18 @@
 //! The lines of a refutation, or of the way to a least map, one by one.
 
-ghost use Rattle.std.specs.Prelude.{◌≡◌, ◌+◌, ◌<◌, ◌≤◌, ◌∷◌, [], true, All, get_or, length, map};
+ghost use Rattle.std.specs.Prelude.{ℕ, ◌≡◌, ◌+◌, ◌<◌, ◌∷◌, [], List, IfSome, true, get_or, length, map};
 ghost use Rattle.wf_model.specs.Simplex.{processes_of};
 ghost use Rattle.wf_model.specs.Task.{inputs};
-ghost use Rattle.wf_model.specs.Problem.{Problem, problem_of};
-ghost use Rattle.wf_model.specs.Box.{is_supported};
+ghost use Rattle.wf_model.specs.Problem.{Problem};
+ghost use Rattle.wf_model.specs.Box.{Box};
 ghost use Rattle.wf_model.specs.Check.{verdict};
 ghost use Rattle.wf_model.specs.Refutation.{branch, empty, remove};
-ghost use Rattle.wf_complex.specs.Protocol.{IsProtocol};
 ghost use Rattle.wf_lines.specs.Lines.{line_of};
 ghost use Rattle.wf_set.specs.Sets.{box_of};
 ghost use Rattle.wf_check.specs.Blocks.{HasSamePoints, box_now, boxes_later, boxes_left};
 ghost use Rattle.wf_check.specs.Claims.{Ends, Judged, is_branch_of, lines_fault, verdict_on};
-ghost use Rattle.wf_check.specs.Places.{place_in, tuples_of, unless_supported};
+ghost use Rattle.wf_check.specs.Places.{place_in};
+ghost use Rattle.wf_check.specs.Rules.{AreMatched, IsInside, problem_in, verdict_at};
 ghost use Rattle.wf_check.specs.Faults.{Judges, Steps};
 
 use crate::boxes::Blocks;
@@ -25,14 +25,6 @@ use wf_report::CertFault;
 use wf_set::{Mask, is_empty};
 use wf_task::Task;
 
-/// A value that a line takes out.
-#[derive(Clone, Copy, Debug)]
-struct Removal {
-    execution: u32,
-    process: u8,
-    value: u8,
-}
-
 /// What lines are to show.
 #[derive(Clone, Copy, Debug)]
 pub(crate) enum Goal<'a> {
@@ -40,6 +32,30 @@ pub(crate) enum Goal<'a> {
     Nothing,
     /// That this is the least map.
     Least(&'a [u8]),
+}
+
+/// What lines are judged by.
+#[derive(Clone, Copy)]
+pub(crate) struct LineRules<'a, 'b> {
+    /// The task.
+    pub(crate) task: &'a Task,
+    /// Its protocol complex.
+    pub(crate) protocol: &'a Protocol,
+    /// The tuples of each rule of the task.
+    pub(crate) supports: &'b [TupleSupport],
+    /// What the lines are to show.
+    pub(crate) claim: Goal<'a>,
+}
+
+/// Where a process takes part in an execution.
+#[derive(Clone, Copy)]
+struct Participant<'a, 'b> {
+    // the tuples that are allowed there
+    support: &'b TupleSupport,
+    // the points of the execution
+    points: &'a [u32],
+    // the place of the process among those who take part
+    place: u8,
 }
 
 /// How far the lines have come.
@@ -57,41 +73,33 @@ enum JudgedSoFar {
 /// first fault is answered.
 pub(crate) fn judge_lines(
     alloc: Global,
-    task: &Task,
-    protocol: &Protocol,
-    supports: &[TupleSupport],
+    rules: &LineRules,
     sets: Vec<Mask>,
-    claim: Goal,
     first: u32,
     lines: &[Line],
 ) -> Result<(), CertFault>
-    requires built { IsProtocol task.now protocol.now.rounds protocol.now }
-    requires supports { supports.now ≡ tuples_of task.now.delta }
-    requires long { length sets.items ≡ length protocol.now.points }
+    requires rules { AreMatched rules.now }
+    requires long { length sets.items ≡ length rules.now.protocol.now.points }
     requires few { first + length lines.now < u32.MAX }
     ensures { let box = box_of sets.items in Judges result
-        (lines_fault (problem_of task.now protocol.now.rounds) claim.entry first
+        (lines_fault (problem_in rules.now) rules.now.claim first
         (map line_of lines.now) (box ∷ [])) }
 {
     let mut blocks = Blocks::of(alloc, sets);
-    judge_from(task, protocol, supports, claim, first, lines, &mut blocks)
+    judge_from(rules, first, lines, &mut blocks)
 }
 
 /// Judges the lines over the boxes of these blocks.
 fn judge_from(
-    task: &Task,
-    protocol: &Protocol,
-    supports: &[TupleSupport],
-    claim: Goal,
+    rules: &LineRules,
     first: u32,
     lines: &[Line],
     blocks: &mut Blocks,
 ) -> Result<(), CertFault>
-    requires built { IsProtocol task.now protocol.now.rounds protocol.now }
-    requires supports { supports.now ≡ tuples_of task.now.delta }
-    requires long { length blocks.old.sets.items ≡ length protocol.now.points }
+    requires rules { AreMatched rules.now }
+    requires long { length blocks.old.sets.items ≡ length rules.now.protocol.now.points }
     requires few { first + length lines.now < u32.MAX }
-    ensures { Judges result (lines_fault (problem_of task.now protocol.now.rounds) claim.entry first
+    ensures { Judges result (lines_fault (problem_in rules.now) rules.now.claim first
         (map line_of lines.now) (box_now blocks.old ∷ boxes_later blocks.old)) }
 {
     let mut progress = JudgedSoFar::Going;
@@ -100,10 +108,10 @@ fn judge_from(
         let JudgedSoFar::Going = progress else {
             return Err(CertFault::Trailing(at));
         };
-        progress = judge_line(task, protocol, supports, claim, *line, at, blocks)?;
+        progress = judge_line(rules, *line, at, blocks)?;
         at += 1;
     }
-    match (claim, progress) {
+    match (rules.claim, progress) {
         (_, JudgedSoFar::Found) | (Goal::Nothing, JudgedSoFar::Refuted) => Ok(()),
         _ => Err(CertFault::Unfinished),
     }
@@ -111,19 +119,15 @@ fn judge_from(
 
 /// Judges a line about the box of now. Answers how far the lines have come then.
 fn judge_line(
-    task: &Task,
-    protocol: &Protocol,
-    supports: &[TupleSupport],
-    claim: Goal,
+    rules: &LineRules,
     line: Line,
     at: u32,
     blocks: &mut Blocks,
 ) -> Result<JudgedSoFar, CertFault>
-    requires built { IsProtocol task.now protocol.now.rounds protocol.now }
-    requires supports { supports.now ≡ tuples_of task.now.delta }
-    requires long { length blocks.old.sets.items ≡ length protocol.now.points }
-    ensures step { let p = problem_of task.now protocol.now.rounds in
-        Judged result p claim.entry at (line_of line) blocks.old blocks.new }
+    requires rules { AreMatched rules.now }
+    requires long { length blocks.old.sets.items ≡ length rules.now.protocol.now.points }
+    ensures step { Judged result (problem_in rules.now) rules.now.claim
+        at (line_of line) blocks.old blocks.new }
     ensures points { HasSamePoints blocks.old blocks.new }
 {
     match line {
@@ -132,28 +136,23 @@ fn judge_line(
             process,
             value,
         } => {
-            let removal = Removal {
-                execution,
-                process,
-                value,
-            };
-            judge_removal(task, protocol, supports, removal, at, blocks)?;
+            let there = participant_of(rules, execution, process);
+            judge_removal(there, value, at, blocks)?;
             Ok(JudgedSoFar::Going)
         }
         Line::Empty { point } => {
-            let going = judge_empty(protocol, point, at, blocks)?;
-            Ok(if going {
-                JudgedSoFar::Going
-            } else {
-                JudgedSoFar::Refuted
-            })
+            let going = judge_empty(rules.protocol, point, at, blocks)?;
+            if going {
+                return Ok(JudgedSoFar::Going);
+            }
+            Ok(JudgedSoFar::Refuted)
         }
         Line::Branch { point } => {
-            judge_branch(protocol, claim, point, at, blocks)?;
+            judge_branch(rules.protocol, rules.claim, point, at, blocks)?;
             Ok(JudgedSoFar::Going)
         }
         Line::Found => {
-            judge_end(claim, at, blocks)?;
+            judge_end(rules.claim, at, blocks)?;
             Ok(JudgedSoFar::Found)
         }
     }
@@ -242,57 +241,57 @@ fn judge_end(claim: Goal, at: u32, blocks: &Blocks) -> Result<(), CertFault>
     }
 }
 
-/// Takes the value out at the point of a process in an execution, if it isn't supported there.
-fn judge_removal(
-    task: &Task,
-    protocol: &Protocol,
-    supports: &[TupleSupport],
-    removal: Removal,
-    at: u32,
-    blocks: &mut Blocks,
-) -> Result<(), CertFault>
-    requires built { IsProtocol task.now protocol.now.rounds protocol.now }
-    requires supports { supports.now ≡ tuples_of task.now.delta }
-    requires long { length blocks.old.sets.items ≡ length protocol.now.points }
-    ensures step { let p = problem_of task.now protocol.now.rounds in
-        let line = remove removal.execution removal.process removal.value in
-        Steps result (verdict p at line (box_now blocks.old) (boxes_later blocks.old))
-        (λ _. boxes_left true blocks.new) }
-    ensures points { HasSamePoints blocks.old blocks.new }
+/// Where the process takes part in the execution, if it does.
+fn participant_of<'a, 'b>(
+    rules: &LineRules<'a, 'b>,
+    execution: u32,
+    process: u8,
+) -> Option<Participant<'a, 'b>>
+    requires { AreMatched rules.now }
+    ensures verdict { (k value : ℕ) (box : Box) (boxes : List Box) →
+        verdict (problem_in rules.now) k (remove execution process value) box boxes
+        ≡ verdict_at result k value box boxes }
+    ensures inside { IfSome result (IsInside (length rules.now.protocol.now.points)) }
 {
-    if removal.execution >= protocol.executions() {
-        return Err(CertFault::NoSuch(at));
+    if execution >= rules.protocol.executions() {
+        return None;
     }
-    let number = protocol.simplex_of(removal.execution);
-    let points = protocol.points_of(removal.execution);
-    let Some(place) = place_of(task, number, removal.process) else {
-        return Err(CertFault::NoSuch(at));
+    let number = rules.protocol.simplex_of(execution);
+    let points = rules.protocol.points_of(execution);
+    let Some(place) = place_of(rules.task, number, process) else {
+        return None;
     };
-    let support = &supports[number as usize];
-    judge_value(support, points, place, removal.value, at, blocks)
+    let support = &rules.supports[number as usize];
+    Some(Participant {
+        support,
+        points,
+        place,
+    })
 }
 
-/// Takes the value out at the point of this place, if no tuple supports it there.
-fn judge_value(
-    support: &TupleSupport,
-    points: &[u32],
-    place: u8,
+/// Takes the value out at the point where a process takes part, if it does and no tuple supports
+/// the value there.
+fn judge_removal(
+    there: Option<Participant>,
     value: u8,
     at: u32,
     blocks: &mut Blocks,
 ) -> Result<(), CertFault>
-    requires place { place < length points.now }
-    requires few { length points.now ≤ 4 }
-    requires inside { All (λ v. v < length blocks.old.sets.items) points.now }
+    requires { IfSome there (IsInside (length blocks.old.sets.items)) }
     ensures step { let box = box_now blocks.old in let boxes = boxes_later blocks.old in
-        Steps result (unless_supported support.now points.now place value at box boxes)
+        Steps result (verdict_at there.entry at value box boxes)
         (λ _. boxes_left true blocks.new) }
     ensures points { HasSamePoints blocks.old blocks.new }
 {
-    if is_supported(support, points, blocks.sets(), place as usize, value) {
+    let Some(seat) = there else {
+        return Err(CertFault::NoSuch(at));
+    };
+    let points = seat.points;
+    let place = seat.place as usize;
+    if is_supported(seat.support, points, blocks.sets(), place, value) {
         return Err(CertFault::Unsound(at));
     }
-    blocks.take_out(points[place as usize], value)?;
+    blocks.take_out(points[place], value)?;
     Ok(())
 }
 

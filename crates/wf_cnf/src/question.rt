@@ -42,6 +42,17 @@ pub struct Question<'a> {
     page: Page,
 }
 
+/// What the clauses of a question are made of.
+#[derive(Clone, Copy)]
+struct ClauseSource<'a> {
+    variables: &'a Variables,
+    // those of each input simplex
+    patterns: &'a [Patterns],
+    protocol: &'a Protocol,
+    // what is left of each point, where the question is that of a branch
+    sets: &'a [Mask],
+}
+
 impl<'a> Model for Question<'a> {
     ghost use Rattle.std.specs.Prelude.{ℕ, List};
     ghost use Rattle.wf_cnf.specs.Questions.{question_seen, IsReady};
@@ -131,38 +142,36 @@ impl<'a> Question<'a> {
     {
         let mut page = self.page;
         page.put(sink, self.head.as_bytes())?;
-        put_clauses(
-            &mut page,
-            sink,
-            &self.variables,
-            &self.patterns,
-            self.protocol,
-            sets_of(self.branch),
-        )?;
+        let source = ClauseSource {
+            variables: &self.variables,
+            patterns: &self.patterns,
+            protocol: self.protocol,
+            sets: sets_of(self.branch),
+        };
+        put_clauses(&mut page, sink, &source)?;
         page.finish(sink)
     }
 }
 
-/// Adds all clauses: of the points, of the executions, and of what these sets rule out.
+/// Adds all clauses: of the points, of the executions, and of what the sets rule out.
 fn put_clauses<W: Write>(
     page: &mut Page,
     sink: &mut Sink<W>,
-    variables: &Variables,
-    patterns: &[Patterns],
-    protocol: &Protocol,
-    sets: &[Mask],
+    source: &ClauseSource,
 ) -> Result<(), WriteFault>
     requires open { CanWrite sink.old }
-    requires numbered { IsNumbered variables.now }
-    requires covered { AreCovered (map patterns_seen patterns.now) protocol.now }
-    requires few { length sets.now ≤ most_points }
-    ensures { PutsText sink.old page.old sink.new page.new
-        (text_after [] (values_in variables.now.values) (map patterns_seen patterns.now)
-        protocol.now (map values_in sets.now)) result }
+    requires numbered { IsNumbered source.now.variables.now }
+    requires covered { let s = source.now in
+        AreCovered (map patterns_seen s.patterns.now) s.protocol.now }
+    requires few { length source.now.sets.now ≤ most_points }
+    ensures { let s = source.now in PutsText sink.old page.old sink.new page.new
+        (text_after [] (values_in s.variables.now.values) (map patterns_seen s.patterns.now)
+        s.protocol.now (map values_in s.sets.now)) result }
 {
-    put_points(page, sink, variables, protocol.points())?;
-    put_executions(page, sink, variables, patterns, protocol)?;
-    put_exclusions(page, sink, variables, sets)
+    let variables = source.variables;
+    put_points(page, sink, variables, source.protocol.points())?;
+    put_executions(page, sink, variables, source.patterns, source.protocol)?;
+    put_exclusions(page, sink, variables, source.sets)
 }
 
 /// The minimal forbidden patterns of each input simplex.

@@ -10,11 +10,11 @@ use Rattle.wf_cnf.proofs.patterns.add_four_with.Goals as goal
 pub returns : goal.returns
 returns c =
     let v = c.args.value in
-    let fitting = c.args.fitting.now in
+    let fitting = c.args.search.now.fitting.now in
     let lists = map (group_of v) c.args.groups.now in
     let near : map vec_items c.deref-2.result.now ≡ lists ++ fitting ∷ [] = ap (map vec_items) c.deref-2.ensures.value ∙ c.in_ok-near.ensures in
     on_ok_weaker c.add_last_three.result
-    (with_lists (values_in c.args.values) c.args.places c.args.begun.now c.as_slice.result.now c.args.from v fitting c.deref.result.now lists (map vec_items c.deref-2.result.now) c.value-place.result
+    (with_lists (values_in c.args.search.now.values) c.args.search.now.places c.args.search.now.begun.now c.as_slice.result.now c.args.search.now.from v fitting c.deref.result.now lists (map vec_items c.deref-2.result.now) c.value-place.result
     (map pattern_seen c.args.found.now.items) (map pattern_seen c.add_last_three.new.found.items)
     c.value-place.ensures (c.as_slice.ensures ∙ c.longer-more.ensures) (c.deref.ensures.value ∙ c.in_ok-fit.ensures) near)
     c.add_last_three.ensures

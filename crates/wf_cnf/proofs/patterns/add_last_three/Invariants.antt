@@ -6,8 +6,8 @@ use Rattle.wf_cnf.proofs.patterns.add_last_three.Given as goal
 
 abbrev pub invariant-values : goal.invariant-values
 invariant-values l =
-    map pattern_seen l.found.items ++ flat_map (found_with (values_in l.values) l.places l.from l.begun l.fitting (map vec_items l.nearly)) (values_in l.left)
-    ≡ map pattern_seen l.fn.found.items ++ patterns_with l.places l.begun (found_at (values_in l.values) (drop l.from l.places) l.fitting (map vec_items l.nearly))
+    map pattern_seen l.found.items ++ flat_map (found_with (values_in l.search.values) l.search.places l.search.from l.search.begun.now l.search.fitting.now (map vec_items l.nearly)) (values_in l.left)
+    ≡ map pattern_seen l.fn.found.items ++ patterns_with l.search.places l.search.begun.now (found_at (values_in l.search.values) (drop l.search.from l.search.places) l.search.fitting.now (map vec_items l.nearly))
 
 abbrev pub decreases-values : goal.decreases-values
 decreases-values l = length (values_in l.left)

@@ -10,17 +10,17 @@ use Rattle.wf_cnf.proofs.patterns.add_last_two.Goals as goal
 
 pub values-init : goal.values-init
 values-init c = λ nearly allowed.
-    let low : c.args.from + 1 < length c.args.places = omega (arith, c.requires.from) in
+    let low : c.args.search.now.from + 1 < length c.args.search.now.places = omega (arith, c.requires.from) in
     ap (λ ps. map pattern_seen c.args.found.now.items ++ ps)
-    (before_more (values_in c.args.values) c.args.places c.args.begun.now c.args.from c.args.fitting.now nearly c.value-place.result (values_in c.values_at.result)
+    (before_more (values_in c.args.search.now.values) c.args.search.now.places c.args.search.now.begun.now c.args.search.now.from c.args.search.now.fitting.now nearly c.value-place.result (values_in c.values_at.result)
     (values_in c.meet-left.result) low c.value-place.ensures c.values_at.ensures c.meet-left.ensures)
 
 pub values-preserved : goal.values-preserved
 values-preserved c = λ nearly allowed.
-    let values = values_in c.args.values in
-    let places = c.args.places in
-    let begun = c.args.begun.now in
-    let fitting = c.args.fitting.now in
+    let values = values_in c.args.search.now.values in
+    let places = c.args.search.now.places in
+    let begun = c.args.search.now.begun.now in
+    let fitting = c.args.search.now.fitting.now in
     let place = c.value-place.result in
     let next = c.value-last.result in
     let v = c.in-Some.next.0 in
@@ -30,21 +30,21 @@ values-preserved c = λ nearly allowed.
     λ a. ap (λ s. has s a) c.set.ensures ∙ c.in_ok-fit.ensures v a (omega arith) in
     let here : AreAllowed place next values nearly c.args.near.now =
     subst (λ p. AreAllowed p next values nearly c.args.near.now) (sym c.value-place.ensures)
-    (subst (λ q. AreAllowed (slice_index places c.args.from) q values nearly c.args.near.now) (sym c.value-last.ensures) allowed) in
+    (subst (λ q. AreAllowed (slice_index places c.args.search.now.from) q values nearly c.args.near.now) (sym c.value-last.ensures) allowed) in
     let near_says : (a : ℕ) → has (values_in c.set-in-Some.result) a ≡ (has values a && occurs_in_each (map (having place v) nearly) next a) =
     λ a. ap (λ s. has s a) c.set-in-Some.ensures ∙ here v a (omega arith) in
-    one_list_more (found_with values places c.args.from begun fitting nearly) (map pattern_seen c.values.found.items)
+    one_list_more (found_with values places c.args.search.now.from begun fitting nearly) (map pattern_seen c.values.found.items)
     (map (λ a. zip places (c.as_slice.result.now ++ a ∷ [])) missing) (map pattern_seen c.add_last.new.found.items) v
     (values_in c.values.left) (values_in c.in-Some.next.1) _ c.in_ok-add_last.ensures c.in-Some.ensures
     (ap (λ l. map (λ a. zip places (l ++ a ∷ [])) missing) more
-    ∙ two_missing values places begun c.args.from fitting nearly place next v (values_in c.values_at-there.result) (values_in c.set.result) (values_in c.set-in-Some.result) (values_in c.difference-lacking.result) (values_in c.meet.result) missing
+    ∙ two_missing values places begun c.args.search.now.from fitting nearly place next v (values_in c.values_at-there.result) (values_in c.set.result) (values_in c.set-in-Some.result) (values_in c.difference-lacking.result) (values_in c.meet.result) missing
     c.requires.from c.value-place.ensures c.value-last.ensures c.values_at-there.ensures fit_says near_says c.difference-lacking.ensures c.meet.ensures c.meet-missing.ensures)
     (c.values.invariant nearly allowed)
 
 pub returns : goal.returns
 returns c = λ nearly allowed.
     let found = map pattern_seen c.values.found.items in
-    let f = found_with (values_in c.args.values) c.args.places c.args.from c.args.begun.now c.args.fitting.now nearly in
+    let f = found_with (values_in c.args.search.now.values) c.args.search.now.places c.args.search.now.from c.args.search.now.begun.now c.args.search.now.fitting.now nearly in
     let none_left : values_in c.values.left ≡ [] =
     subst (λ r. MatchOption r (values_in c.values.left ≡ []) (λ (s : ℕ × List ℕ). values_in c.values.left ≡ s.0 ∷ values_in s.1)) c.in_default.is c.split_first.ensures in
     sym (append-nil found) ∙ ap (λ l. found ++ flat_map f l) (sym none_left) ∙ c.values.invariant nearly allowed

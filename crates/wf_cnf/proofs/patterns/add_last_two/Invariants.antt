@@ -7,9 +7,9 @@ use Rattle.wf_cnf.specs.Patterns.{pattern_seen}
 use Rattle.wf_cnf.proofs.patterns.add_last_two.Given as goal
 
 abbrev pub invariant-values : goal.invariant-values
-invariant-values l = (nearly : List (List Tuple)) → AreAllowed (slice_index l.places l.from) (slice_index l.places (l.from + 1)) (values_in l.values) nearly l.near →
-    map pattern_seen l.found.items ++ flat_map (found_with (values_in l.values) l.places l.from l.begun l.fitting nearly) (values_in l.left)
-    ≡ map pattern_seen l.fn.found.items ++ patterns_with l.places l.begun (found_at (values_in l.values) (drop l.from l.places) l.fitting nearly)
+invariant-values l = (nearly : List (List Tuple)) → AreAllowed (slice_index l.search.places l.search.from) (slice_index l.search.places (l.search.from + 1)) (values_in l.search.values) nearly l.near →
+    map pattern_seen l.found.items ++ flat_map (found_with (values_in l.search.values) l.search.places l.search.from l.search.begun.now l.search.fitting.now nearly) (values_in l.left)
+    ≡ map pattern_seen l.fn.found.items ++ patterns_with l.search.places l.search.begun.now (found_at (values_in l.search.values) (drop l.search.from l.search.places) l.search.fitting.now nearly)
 
 abbrev pub decreases-values : goal.decreases-values
 decreases-values l = length (values_in l.left)

@@ -8,19 +8,19 @@ use Rattle.wf_cnf.proofs.question.put_clauses.Goals as goal
 
 pub returns-in_err-put_points : goal.returns-in_err-put_points
 returns-in_err-put_points g c =
-    let vs = values_in c.args.variables.now.values in
-    let b = c.args.protocol.now in
-    let second = executions_text vs (map patterns_seen c.args.patterns.now) b ++ exclusions_text vs (map values_in c.args.sets.now) in
+    let vs = values_in c.args.source.now.variables.now.values in
+    let b = c.args.source.now.protocol.now in
+    let second = executions_text vs (map patterns_seen c.args.source.now.patterns.now) b ++ exclusions_text vs (map values_in c.args.source.now.sets.now) in
     let text = points_text vs (length b.points) ++ second in
     stopped _ _ _ _ _ _ text (points_text vs c.points.result) text second c.from_residual.result c.from_residual.ensures.0 (begun _ _ text) c.in_err-put_points.ensures
     (ap (λ n. points_text vs n ++ second) (sym c.points.ensures.points))
 
 pub returns-in_err-put_executions : goal.returns-in_err-put_executions
 returns-in_err-put_executions g c =
-    let vs = values_in c.args.variables.now.values in
-    let b = c.args.protocol.now in
-    let executions = executions_text vs (map patterns_seen c.args.patterns.now) b in
-    let third = exclusions_text vs (map values_in c.args.sets.now) in
+    let vs = values_in c.args.source.now.variables.now.values in
+    let b = c.args.source.now.protocol.now in
+    let executions = executions_text vs (map patterns_seen c.args.source.now.patterns.now) b in
+    let third = exclusions_text vs (map values_in c.args.source.now.sets.now) in
     let text = points_text vs (length b.points) ++ (executions ++ third) in
     let result = c.from_residual-in_err-put_executions.result in
     stopped _ _ _ _ _ _ text executions (executions ++ third) third result c.from_residual-in_err-put_executions.ensures.0
@@ -29,10 +29,10 @@ returns-in_err-put_executions g c =
 
 pub returns : goal.returns
 returns g c =
-    let vs = values_in c.args.variables.now.values in
-    let b = c.args.protocol.now in
-    let executions = executions_text vs (map patterns_seen c.args.patterns.now) b in
-    let third = exclusions_text vs (map values_in c.args.sets.now) in
+    let vs = values_in c.args.source.now.variables.now.values in
+    let b = c.args.source.now.protocol.now in
+    let executions = executions_text vs (map patterns_seen c.args.source.now.patterns.now) b in
+    let third = exclusions_text vs (map values_in c.args.source.now.sets.now) in
     let text = points_text vs (length b.points) ++ (executions ++ third) in
     last_put _ _ _ _ _ _ text third third c.put_exclusions.result
     (went_on _ _ _ _ _ _ text executions (executions ++ third) third
