@@ -49,7 +49,7 @@ pub(crate) struct LineRules<'a, 'b> {
 
 /// Where a process takes part in an execution.
 #[derive(Clone, Copy)]
-struct Participant<'a, 'b> {
+struct LinePlace<'a, 'b> {
     // the tuples that are allowed there
     support: &'b TupleSupport,
     // the points of the execution
@@ -246,7 +246,7 @@ fn participant_of<'a, 'b>(
     rules: &LineRules<'a, 'b>,
     execution: u32,
     process: u8,
-) -> Option<Participant<'a, 'b>>
+) -> Option<LinePlace<'a, 'b>>
     requires { AreMatched rules.now }
     ensures verdict { (k value : ℕ) (box : Box) (boxes : List Box) →
         verdict (problem_in rules.now) k (remove execution process value) box boxes
@@ -262,7 +262,7 @@ fn participant_of<'a, 'b>(
         return None;
     };
     let support = &rules.supports[number as usize];
-    Some(Participant {
+    Some(LinePlace {
         support,
         points,
         place,
@@ -272,7 +272,7 @@ fn participant_of<'a, 'b>(
 /// Takes the value out at the point where a process takes part, if it does and no tuple supports
 /// the value there.
 fn judge_removal(
-    there: Option<Participant>,
+    there: Option<LinePlace>,
     value: u8,
     at: u32,
     blocks: &mut Blocks,
