@@ -24,7 +24,7 @@ use wf_task::Task;
 
 /// What a report answers, with the task and the protocol complex that the report is about.
 #[derive(Clone, Copy)]
-struct Answer<'a> {
+struct ReportedAnswer<'a> {
     task: &'a Task,
     protocol: &'a Protocol,
     body: &'a Body,
@@ -106,7 +106,7 @@ impl ReportChecker {
             (box_of sets.items) (report_seen report.now)) }
     {
         judge_header(task, protocol, report)?;
-        let answer = Answer {
+        let answer = ReportedAnswer {
             task,
             protocol,
             body: &report.body,
@@ -120,7 +120,7 @@ impl ReportChecker {
         &self,
         rt: &R,
         alloc: Global,
-        answer: &Answer,
+        answer: &ReportedAnswer,
         sets: Vec<Mask>,
     ) -> Result<(), CertFault>
         requires checker { IsCheckerOf answer.now.task.now self.now }
@@ -192,7 +192,7 @@ fn judge_body<R: Threads + Sync>(
         Body::Map(values) => judge_map(rt, task, protocol, values),
         Body::Nothing(_) | Body::Least(_, _) => {
             let sets = all_alike(alloc, task.values(), protocol.points())?;
-            let answer = Answer {
+            let answer = ReportedAnswer {
                 task,
                 protocol,
                 body,
@@ -215,7 +215,7 @@ fn all_alike(alloc: Global, values: Mask, points: u32) -> Result<Vec<Mask>, Allo
 fn judge_within<R: Threads + Sync>(
     rt: &R,
     alloc: Global,
-    answer: &Answer,
+    answer: &ReportedAnswer,
     sets: Vec<Mask>,
 ) -> Result<(), CertFault>
     requires built { let b = answer.now.protocol.now in
