@@ -9,7 +9,7 @@ use Rattle.wf_formula.specs.SolverText.{SolverFault, literal_of, then_literal, s
 use Rattle.wf_cnf.specs.Models.{assigned}
 use Rattle.wf_cnf.specs.declared.solver.ModelFault.{ModelFault}
 use Rattle.wf_cnf.specs.declared.solver.ModelFault.TheVariants.{OutOfMemory, NoModel, NotALiteral, NoSuchVariable}
-use Rattle.wf_cnf.specs.declared.solver.Literal.{Literal}
+use Rattle.wf_cnf.specs.declared.solver.StatedLiteral.{StatedLiteral}
 use Rattle.wf_cnf.specs.declared.solver.Stated.{Stated}
 
 -- ---- pieces of a text
@@ -51,7 +51,7 @@ Gives view (Err fault) answer = IsFault fault answer
 abbrev pub signed : Bool → ℕ → formula.Literal
 signed is_positive n = if is_positive then pos n else neg n
 
-abbrev pub literal_seen : Literal → formula.Literal
+abbrev pub literal_seen : StatedLiteral → formula.Literal
 literal_seen l = signed l.is_positive l.variable
 
 -- ---- what has been stated
