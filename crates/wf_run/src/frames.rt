@@ -68,6 +68,8 @@ fn ask_source<A: TaskAnswer, R: Read>(
 /// What a run reads of a second source about a task's protocol complex, and the text that it makes
 /// of it.
 pub trait SecondText {
+    ghost use Rattle.wf_run.specs.declared.fault.RunFault.{RunFault};
+
     // what is read of the second source about a task after so many rounds
     ghost reads: { Self → model.Task → ℕ → Reading → Reading
         → Result (Unit {0} × List ℕ) RunFault → Type 0 };
