@@ -1,0 +1,6 @@
+pub mod LiteralLemmas
+pub mod TrailLemmas
+pub mod HintLemmas
+pub mod SlotLemmas
+pub mod ModelLemmas
+pub mod FedLemmas
