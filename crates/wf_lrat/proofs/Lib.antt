@@ -4,3 +4,4 @@ pub mod HintLemmas
 pub mod SlotLemmas
 pub mod ModelLemmas
 pub mod FedLemmas
+pub mod GivenLemmas

@@ -1,6 +1,7 @@
 -- What contracts say, here and in the crates above.
 pub mod Ledger
 pub mod Hints
+pub mod Given
 pub mod Models
 pub mod Fed
 pub mod Slots
