@@ -5,3 +5,4 @@ pub mod SlotLemmas
 pub mod ModelLemmas
 pub mod FedLemmas
 pub mod GivenLemmas
+pub mod PieceLemmas
