@@ -47,7 +47,7 @@ pub(crate) fn sets_of<'a>(branch: Option<Branch<'a>>) -> &'a [Mask]
 }
 
 /// The values that the set of a point has not.
-fn missing_in(values: Mask, sets: &[Mask], point: usize) -> Mask
+pub(crate) fn missing_in(values: Mask, sets: &[Mask], point: usize) -> Mask
     requires { point < length sets.now }
     ensures { values_in result ≡ missing (values_in values) (map values_in sets.now) point }
 {

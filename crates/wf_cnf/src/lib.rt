@@ -5,6 +5,8 @@
 //!   law. That of a [`Branch`] asks for a map in it.
 //! - [`pose`]: gives a checker of clausal proofs the same clauses, with no text between;
 //!   [`pose_branch`] those of a branch.
+//! - [`pose_hints`] and [`pose_branch_hints`]: the same for a checker of proofs with hints, where the
+//!   clauses have their ids in the order in which they are written.
 //! - [`Patterns`]: what the tuples of a rule forbid, found once for each rule.
 //! - [`map_of_model`]: the values that a model gives at the points.
 //! - [`read_map`]: the same of the text in which a solver says its model.
@@ -15,6 +17,7 @@ mod exclusions;
 mod followers;
 mod groups;
 mod head;
+mod hints;
 mod models;
 mod patterns;
 mod posing;
@@ -24,6 +27,7 @@ mod tuples;
 mod variables;
 
 pub use exclusions::{Branch, pose_branch};
+pub use hints::{pose_branch_hints, pose_hints};
 pub use models::map_of_model;
 pub use patterns::{Pattern, Patterns};
 pub use posing::pose;

@@ -178,7 +178,11 @@ impl Posing {
 }
 
 /// Puts the clause of a point in place of what is there.
-fn put_point(clause: &mut Vec<Literal>, variables: &Variables, point: u32) -> Result<(), AllocError>
+pub(crate) fn put_point(
+    clause: &mut Vec<Literal>,
+    variables: &Variables,
+    point: u32,
+) -> Result<(), AllocError>
     requires numbered { IsNumbered variables.now }
     requires point { point < most_points }
     ensures { OnOk result
@@ -196,7 +200,7 @@ fn put_point(clause: &mut Vec<Literal>, variables: &Variables, point: u32) -> Re
 }
 
 /// Puts the clause of a pattern at these points in place of what is there.
-fn put_denied(
+pub(crate) fn put_denied(
     clause: &mut Vec<Literal>,
     variables: &Variables,
     pattern: &Pattern,

@@ -1,0 +1,183 @@
+//! The clauses by their ids.
+
+ghost use Rattle.std.specs.Prelude.{◌≡◌, ◌<◌, ◌-◌, ◌^◌, ◌∷◌, ◌++◌, [], Some, None, IfOk, OnOk, MatchOption, get_or, is_ok, if◌then◌else◌, length, replicate};
+ghost use Rattle.wf_lrat.specs.Ledger.{emptied, slot_of};
+ghost use Rattle.wf_lrat.specs.Slots.{clause_of};
+
+use std::alloc::{AllocError, Global};
+use std::marker::Model;
+use wf_drat::Code;
+
+/// The most words that there are.
+const MOST_WORDS: usize = u32::MAX as usize;
+
+/// So many words of clauses that were deleted are borne with.
+const FEW: usize = 4096;
+
+/// The clauses by their ids, one behind the other in one list: of each how many literals it has, and
+/// their codes.
+///
+/// Contracts see the clause of each id, if there is one.
+#[derive(Drop)]
+pub(crate) struct HintClauses {
+    arena: Vec<Code>,
+    // where the literals of each id begin; 0 where there is no clause
+    places: Vec<u32>,
+    // how many words of the arena are of clauses that were deleted
+    dead: usize,
+}
+
+impl Model for HintClauses {
+    ghost use Rattle.std.specs.Prelude.{List, Option, All};
+    ghost use Rattle.wf_clauses.specs.Formula.{Clause};
+    ghost use Rattle.wf_lrat.specs.Slots.{IsPlaced, slots_in};
+
+    ghost Value = { List (Option Clause) };
+
+    ghost view = { λ c. slots_in c.arena.items c.places.items };
+
+    ghost invariant = { λ c. All (IsPlaced c.arena.items) c.places.items };
+}
+
+impl HintClauses {
+    /// No clause.
+    pub(crate) fn new(alloc: Global) -> HintClauses
+        ensures { result ≡ [] }
+    {
+        HintClauses {
+            arena: Vec::new(alloc),
+            places: Vec::new(alloc),
+            dead: 0,
+        }
+    }
+
+    /// The largest id that there was.
+    #[inline]
+    pub(crate) fn len(&self) -> usize
+        ensures exact { result ≡ length self.now }
+        ensures small { result < 2 ^ 63 }
+    {
+        self.places.len()
+    }
+
+    /// The literals of the clause with this id, if there is one.
+    #[inline(always)]
+    pub(crate) fn literals(&self, id: u64) -> Option<&[Code]>
+        ensures { MatchOption result (slot_of self.now id ≡ None)
+            (λ codes. slot_of self.now id ≡ Some (clause_of codes.now)) }
+    {
+        if id == 0 || id > self.places.len() as u64 {
+            return None;
+        }
+        let place = self.places[(id - 1) as usize] as usize;
+        if place == 0 {
+            return None;
+        }
+        let size = self.arena[place - 1] as usize;
+        Some(&self.arena[place..place + size])
+    }
+
+    /// Keeps a clause under an id above all others. Refused for want of memory alone, which there is
+    /// for fewer than 2^32 words; then nothing changes.
+    pub(crate) fn put(&mut self, id: usize, clause: &[Code]) -> Result<(), AllocError>
+        requires { length self.old < id }
+        ensures { self.new ≡ (if is_ok result then self.old ++ (replicate (id - 1 - length self.old)
+            None ++ Some (clause_of clause.now) ∷ []) else self.old) }
+    {
+        let head = self.arena.len();
+        if head >= MOST_WORDS || clause.len() > MOST_WORDS - 1 - head {
+            return Err(AllocError);
+        }
+        self.arena.push(clause.len() as u32)?;
+        self.arena.extend_from_slice(clause)?;
+        self.places.resize(id, 0)?;
+        self.places[id - 1] = (head + 1) as u32;
+        Ok(())
+    }
+
+    /// There is no clause under the next id.
+    fn skip(&mut self) -> Result<(), AllocError>
+        ensures { self.new ≡ (if is_ok result then self.old ++ None ∷ [] else self.old) }
+    {
+        self.places.push(0)?;
+        Ok(())
+    }
+
+    /// There is no clause with this id from now on.
+    pub(crate) fn delete(&mut self, id: u64)
+        ensures { self.new ≡ emptied id self.old }
+    {
+        if id == 0 || id > self.places.len() as u64 {
+            return;
+        }
+        let at = (id - 1) as usize;
+        let size = self.words_at(at);
+        self.dead = self.dead.saturating_add(size);
+        self.places[at] = 0;
+    }
+
+    /// How many words the clause has of this number from 0; of no clause 0.
+    fn words_at(&self, number: usize) -> usize
+        requires { number < length self.now }
+    {
+        let place = self.places[number] as usize;
+        if place == 0 {
+            return 0;
+        }
+        self.arena[place - 1] as usize + 1
+    }
+
+    /// Gives back memory where most of it is of clauses that were deleted.
+    #[inline]
+    pub(crate) fn compact_in_time(&mut self, alloc: Global) -> Result<(), AllocError>
+        ensures { self.new ≡ self.old }
+    {
+        if self.dead > FEW && self.dead > self.arena.len() / 2 {
+            self.compact(alloc)?;
+        }
+        Ok(())
+    }
+
+    /// Gives back the memory of clauses that were deleted.
+    fn compact(&mut self, alloc: Global) -> Result<(), AllocError>
+        ensures { self.new ≡ self.old }
+    {
+        let words = self.arena.len().saturating_sub(self.dead);
+        let mut kept = HintClauses::with_room(alloc, words, self.places.len())?;
+        'ids: for number in 0..self.len() {
+            kept.copy(self, number)?;
+        }
+        *self = kept;
+        Ok(())
+    }
+
+    /// No clause, with room for so many words and ids.
+    fn with_room(alloc: Global, words: usize, ids: usize) -> Result<HintClauses, AllocError>
+        ensures { IfOk result (λ clauses. clauses ≡ []) }
+    {
+        Ok(HintClauses {
+            arena: Vec::with_capacity(alloc, words)?,
+            places: Vec::with_capacity(alloc, ids)?,
+            dead: 0,
+        })
+    }
+
+    /// Keeps what others have under the next id, which is this number from 0.
+    fn copy(&mut self, others: &HintClauses, number: usize) -> Result<(), AllocError>
+        requires next { length self.old ≡ number }
+        requires within { number < length others.now }
+        requires small { number < 2 ^ 63 }
+        ensures { OnOk result (self.new ≡ self.old ++ get_or others.now number None ∷ []) }
+    {
+        match others.literals(number as u64 + 1) {
+            Some(clause) => {
+                self.put(number + 1, clause)?;
+                Ok(())
+            }
+            None => {
+                self.skip()?;
+                Ok(())
+            }
+        }
+    }
+}

@@ -1,0 +1,24 @@
+//! A checker of clausal proofs with hints (LRAT): each clause comes with the ids of those from which
+//! it follows by unit propagation, one after the other.
+//!
+//! It knows propositional logic alone, and nothing of who wrote the proof. The promise: where
+//! [`HintChecker::is_refuted`] answers true, and so where [`HintProof::finish`] accepts, the clauses
+//! that were added have no common model, whatever the proof's bytes are.
+//!
+//! - [`HintChecker`]: takes the clauses one by one, and the steps of a proof. What hints come to is
+//!   a definition that computes (`specs/Hints`), and so is what a checker knows (`specs/Ledger`).
+//! - [`HintProof`]: reads a proof's text in pieces, and gives a checker each step. What the bytes
+//!   come to, and which fault is of which bytes, is such a definition too (`specs/Fed`).
+#![tactic(auto)]
+
+mod checker;
+mod clauses;
+mod proof;
+mod scan;
+mod trail;
+mod verdict;
+
+pub use checker::{HintChecker, MOST_ID_GROWTH};
+pub use proof::{HintFault, HintProof};
+pub use verdict::HintVerdict;
+pub use wf_drat::{Literal, MOST_VARIABLES};

@@ -1,0 +1,4 @@
+-- What contracts say, here and in the crates above.
+pub mod Text
+pub mod Moves
+pub mod Examples

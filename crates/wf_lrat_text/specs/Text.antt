@@ -1,0 +1,207 @@
+-- Which steps the text of a clausal proof with hints has: it is read byte by byte.
+use Rattle.std.specs.Prelude.{ℕ, ◌+◌, ◌-◌, ◌*◌, ◌^◌, ◌==◌, ◌&&◌, ◌||◌, nat_lt, min, Bool, true, false, List, [], ◌∷◌, ◌++◌, length, if◌then◌else◌}
+use Rattle.std.specs.Char.{is_ascii_digit}
+use Rattle.wf_clauses.specs.Formula.{Clause, pos, neg}
+use Rattle.wf_drat.specs.Codes.{most_variables}
+use Rattle.wf_drat.specs.Text.{is_blank, is_of_text}
+use Rattle.wf_lrat_text.specs.declared.reader.HintFlaw.{HintFlaw}
+use Rattle.wf_lrat_text.specs.declared.reader.HintFlaw.TheVariants.{NotALiteral, NoSuchVariable, NegativeHint, Binary}
+use Rattle.wf_lrat_text.specs.declared.reader.HintReading.{HintReading}
+use Rattle.wf_lrat_text.specs.declared.reader.HintReading.TheVariants.{Blank, Comment, Minus, Number}
+use Rattle.wf_lrat_text.specs.declared.reader.HintPart.{HintPart}
+use Rattle.wf_lrat_text.specs.declared.reader.HintPart.TheVariants.{Front, Literals, Hints, Ids}
+use Rattle.wf_lrat_text.specs.declared.reader.HintTurn.{HintTurn}
+use Rattle.wf_lrat_text.specs.declared.reader.HintTurn.TheVariants.{GoesOn, Begins, BeginsDeletion, Takes, EndsClause, Names, Ends, Stops}
+
+-- a step: a clause with an id, and the ids of those from which it follows,
+-- which ends in the line of this number; or ids of clauses to delete
+pub data Step : Type 0 where
+  addition : (line id : ℕ) → Clause → (hints : List ℕ) → Step
+  deletion : (ids : List ℕ) → Step
+
+-- where a text is read: it is on the variables from 1 to this number; the
+-- next byte stands in the line of this number; what the bytes before it are;
+-- which part of a step is at hand; and of that step its id, its literals so
+-- far, and the ids so far behind them or behind a d
+pub record State : Type 0 where
+  pub variables : ℕ
+  pub line : ℕ
+  pub reading : HintReading
+  pub part : HintPart
+  pub id : ℕ
+  pub clause : Clause
+  pub names : List ℕ
+
+-- at the front of a text
+abbrev pub at_start : ℕ → State
+at_start variables = record {
+  variables = min variables most_variables;
+  line = 1;
+  reading = Blank;
+  part = Front;
+  id = 0;
+  clause = [];
+  names = [];
+}
+
+-- ---- bytes
+
+-- the largest number that is told from larger ones: no clause has so large an id
+abbrev pub most_number : ℕ
+most_number = 1152921504606846976
+
+-- a number with one digit more, as far as it is told
+abbrev pub with_digit : ℕ → ℕ → ℕ
+with_digit value byte = min (value * 10 + (byte - 48)) most_number
+
+-- ---- what a byte comes to
+
+-- the byte stands in no number
+abbrev pub stray_turn : ℕ → HintTurn
+stray_turn byte = Stops (if is_of_text byte then NotALiteral else Binary)
+
+-- a number has this digit more
+abbrev pub digit_turn : Bool → ℕ → ℕ → HintTurn
+digit_turn is_negative value byte = GoesOn (Number is_negative (with_digit value byte))
+
+-- a number was read where a step begins: its id
+abbrev pub id_turn : Bool → ℕ → HintTurn
+id_turn is_negative value = if is_negative then Stops NotALiteral else Begins value
+
+-- a number was read among literals: one of them, or the 0 behind them
+abbrev pub literal_turn : ℕ → Bool → ℕ → HintTurn
+literal_turn variables is_negative value =
+    if value == 0 then (if is_negative then Stops NotALiteral else EndsClause)
+    else if nat_lt variables value then Stops NoSuchVariable
+    else Takes (if is_negative then neg value else pos value)
+
+-- a number was read among ids: one of them, or the 0 that ends the step; a
+-- negative one is refused for this flaw
+abbrev pub name_turn : HintFlaw → Bool → ℕ → HintTurn
+name_turn flaw is_negative value =
+    if value == 0 then (if is_negative then Stops NotALiteral else Ends)
+    else if is_negative then Stops flaw
+    else Names value
+
+-- a number was read in this part of a step
+abbrev pub number_turn_in : HintPart → ℕ → Bool → ℕ → HintTurn
+number_turn_in Front variables is_negative value = id_turn is_negative value
+number_turn_in Literals variables is_negative value = literal_turn variables is_negative value
+number_turn_in Hints variables is_negative value = name_turn NegativeHint is_negative value
+number_turn_in Ids variables is_negative value = name_turn NotALiteral is_negative value
+
+abbrev pub number_turn : State → Bool → ℕ → HintTurn
+number_turn s is_negative value = number_turn_in s.part s.variables is_negative value
+
+-- between two steps c or % begins a comment; a is the mark of a clause in the binary form
+abbrev pub mark_turn : ℕ → HintTurn
+mark_turn byte =
+    if byte == 99 || byte == 37 then GoesOn Comment
+    else if byte == 97 then Stops Binary
+    else stray_turn byte
+
+-- right behind an id a d begins a deletion
+abbrev pub kind_turn : ℕ → ℕ → HintTurn
+kind_turn literals byte = if literals == 0 && byte == 100 then BeginsDeletion else stray_turn byte
+
+-- a byte that begins no number, in this part of a step with so many literals
+abbrev pub other_turn_in : HintPart → ℕ → ℕ → HintTurn
+other_turn_in Front literals byte = mark_turn byte
+other_turn_in Literals literals byte = kind_turn literals byte
+other_turn_in Hints literals byte = stray_turn byte
+other_turn_in Ids literals byte = stray_turn byte
+
+-- behind a blank, or at the front
+abbrev pub first_turn : State → ℕ → HintTurn
+first_turn s byte =
+    if is_blank byte then GoesOn Blank
+    else if byte == 45 then GoesOn Minus
+    else if is_ascii_digit byte then digit_turn false 0 byte
+    else other_turn_in s.part (length s.clause) byte
+
+-- in a comment
+abbrev pub comment_turn : ℕ → HintTurn
+comment_turn byte = GoesOn (if byte == 10 then Blank else Comment)
+
+-- behind a sign
+abbrev pub sign_turn : ℕ → HintTurn
+sign_turn byte = if is_ascii_digit byte then digit_turn true 0 byte else stray_turn byte
+
+abbrev pub turn_behind : HintReading → State → ℕ → HintTurn
+turn_behind Blank s byte = first_turn s byte
+turn_behind Comment s byte = comment_turn byte
+turn_behind Minus s byte = sign_turn byte
+turn_behind (Number is_negative value) s byte =
+    if is_ascii_digit byte then digit_turn is_negative value byte
+    else if is_blank byte then number_turn s is_negative value
+    else stray_turn byte
+
+abbrev pub turn_of : State → ℕ → HintTurn
+turn_of s byte = turn_behind s.reading s byte
+
+-- ---- texts
+
+-- what is read then
+abbrev pub after : HintTurn → State → State
+after (GoesOn reading) s = record { variables = s.variables; line = s.line; reading = reading; part = s.part; id = s.id; clause = s.clause; names = s.names }
+after (Begins id) s = record { variables = s.variables; line = s.line; reading = Blank; part = Literals; id = id; clause = s.clause; names = s.names }
+after BeginsDeletion s = record { variables = s.variables; line = s.line; reading = Blank; part = Ids; id = s.id; clause = s.clause; names = s.names }
+after (Takes literal) s = record { variables = s.variables; line = s.line; reading = Blank; part = s.part; id = s.id; clause = s.clause ++ literal ∷ []; names = s.names }
+after EndsClause s = record { variables = s.variables; line = s.line; reading = Blank; part = Hints; id = s.id; clause = s.clause; names = s.names }
+after (Names id) s = record { variables = s.variables; line = s.line; reading = Blank; part = s.part; id = s.id; clause = s.clause; names = s.names ++ id ∷ [] }
+after Ends s = record { variables = s.variables; line = s.line; reading = Blank; part = Front; id = 0; clause = []; names = [] }
+after (Stops flaw) s = s
+
+-- lines are counted as far as 64 bits hold their number
+abbrev pub next_line : ℕ → State → State
+next_line byte s = record {
+  variables = s.variables;
+  line = if byte == 10 then min (s.line + 1) (2 ^ 64 - 1) else s.line;
+  reading = s.reading;
+  part = s.part;
+  id = s.id;
+  clause = s.clause;
+  names = s.names;
+}
+
+abbrev pub state_after : HintTurn → ℕ → State → State
+state_after turn byte s = next_line byte (after turn s)
+
+-- the step that ends here
+abbrev pub step_in : HintPart → State → Step
+step_in Ids s = deletion s.names
+step_in Front s = addition s.line s.id s.clause s.names
+step_in Literals s = addition s.line s.id s.clause s.names
+step_in Hints s = addition s.line s.id s.clause s.names
+
+abbrev pub step_of : State → Step
+step_of s = step_in s.part s
+
+-- where bytes leave off, or in which line they are none of a proof, and why
+pub data End : Type 0 where
+  open_in : State → End
+  broken_in : (line : ℕ) → HintFlaw → End
+
+-- what bytes say
+pub record Text : Type 0 where
+  pub steps : List Step
+  pub end : End
+
+-- these steps, and then a text
+abbrev pub behind : List Step → Text → Text
+behind steps text = record { steps = steps ++ text.steps; end = text.end }
+
+-- what bytes say of which the first one comes to this turn
+abbrev pub text_from : HintTurn → State → ℕ → (State → Text) → Text
+text_from (GoesOn reading) s byte rest = rest (state_after (GoesOn reading) byte s)
+text_from (Begins id) s byte rest = rest (state_after (Begins id) byte s)
+text_from BeginsDeletion s byte rest = rest (state_after BeginsDeletion byte s)
+text_from (Takes literal) s byte rest = rest (state_after (Takes literal) byte s)
+text_from EndsClause s byte rest = rest (state_after EndsClause byte s)
+text_from (Names id) s byte rest = rest (state_after (Names id) byte s)
+text_from Ends s byte rest = behind (step_of s ∷ []) (rest (state_after Ends byte s))
+text_from (Stops flaw) s byte rest = record { steps = []; end = broken_in s.line flaw }
+
+abbrev pub text_of : State → List ℕ → Text
+text_of s [] = record { steps = []; end = open_in s }
+text_of s (byte ∷ bytes) = text_from (turn_of s byte) s byte (λ next. text_of next bytes)

@@ -1,0 +1,506 @@
+//! The text of a clausal proof with hints, byte by byte.
+
+ghost use Rattle.std.specs.Prelude.{◌≡◌, ◌<◌, ◌≤◌, IfOk, IsTrue, length};
+ghost use Rattle.std.specs.Char.{is_ascii_digit};
+ghost use Rattle.wf_drat.specs.Codes.{most_variables};
+ghost use Rattle.wf_drat.specs.Text.{is_blank, is_of_text};
+ghost use Rattle.wf_lrat_text.specs.Moves.{Moves, MovesOverNumber, is_last};
+ghost use Rattle.wf_lrat_text.specs.Text.{after, at_start, comment_turn, digit_turn, first_turn, id_turn, kind_turn, literal_turn, mark_turn, name_turn, next_line, number_turn, other_turn_in, sign_turn, state_after, stray_turn, turn_of};
+ghost use Rattle.wf_lrat_text.specs.declared.reader.HintTurn.TheVariants.{Ends};
+
+use crate::numbers::{number_from, with_digit};
+use std::alloc::{AllocError, Global};
+use std::marker::Model;
+use wf_drat::{Literal, MOST_VARIABLES};
+
+/// Why a text is none of a proof with hints.
+#[derive(Clone, Copy)]
+pub enum HintFlaw {
+    /// A word is no literal, or no id.
+    NotALiteral,
+    /// A literal is of a variable that there isn't.
+    NoSuchVariable,
+    /// A hint is negative: it belongs to a step that rests on a resolution asymmetric tautology.
+    NegativeHint,
+    /// The proof is in the binary form.
+    Binary,
+}
+
+/// What the bytes before the next one are.
+#[derive(Clone, Copy)]
+pub enum HintReading {
+    /// The end of a word, or no word yet.
+    Blank,
+    /// The beginning of a line that is passed over.
+    Comment,
+    /// A sign, of which the number comes next.
+    Minus,
+    /// The beginning of a number, as far as it is told.
+    Number { is_negative: bool, value: u64 },
+}
+
+/// Which part of a step is at hand.
+#[derive(Clone, Copy)]
+pub enum HintPart {
+    /// None: an id begins the next step.
+    Front,
+    /// The literals of a clause; or a deletion's mark in place of the first one.
+    Literals,
+    /// The ids of the clauses from which the clause follows.
+    Hints,
+    /// The ids of the clauses to delete.
+    Ids,
+}
+
+/// What a byte comes to.
+#[derive(Clone, Copy)]
+pub enum HintTurn {
+    /// The bytes so far are this.
+    GoesOn { reading: HintReading },
+    /// The id of a step was read.
+    Begins { id: u64 },
+    /// The step is a deletion.
+    BeginsDeletion,
+    /// A literal was read.
+    Takes { literal: Literal },
+    /// The literals of the clause were read.
+    EndsClause,
+    /// A hint was read, or the id of a clause to delete.
+    Names { id: u64 },
+    /// A step was read.
+    Ends,
+    /// The text is none of a proof.
+    Stops { flaw: HintFlaw },
+}
+
+/// A text that is read up to some byte.
+#[derive(Drop)]
+pub struct HintReader {
+    variables: u32,
+    line: u64,
+    reading: HintReading,
+    part: HintPart,
+    id: u64,
+    clause: Vec<Literal>,
+    // hints, or the ids of clauses to delete
+    names: Vec<u64>,
+}
+
+impl Model for HintReader {
+    ghost use Rattle.std.specs.Prelude.{◌≤◌};
+    ghost use Rattle.wf_drat.specs.Codes.{most_variables};
+    ghost use Rattle.wf_lrat_text.specs.Text.{State};
+
+    ghost Value = { State };
+
+    ghost view = { λ r. record {
+      variables = r.variables;
+      line = r.line;
+      reading = r.reading;
+      part = r.part;
+      id = r.id;
+      clause = r.clause.items;
+      names = r.names.items;
+    } };
+
+    ghost invariant = { λ r. r.variables ≤ most_variables };
+}
+
+impl HintReader {
+    /// At the front of a text on the variables from 1 to this number.
+    pub fn new(alloc: Global, variables: u32) -> HintReader
+        ensures { result ≡ at_start variables }
+    {
+        HintReader {
+            variables: variables.min(MOST_VARIABLES),
+            line: 1,
+            reading: HintReading::Blank,
+            part: HintPart::Front,
+            id: 0,
+            clause: Vec::new(alloc),
+            names: Vec::new(alloc),
+        }
+    }
+
+    /// The number of the line in which the next byte stands.
+    #[inline]
+    pub fn line(&self) -> u64
+        ensures { result ≡ self.now.line }
+    {
+        self.line
+    }
+
+    /// Which part of a step is at hand.
+    #[inline]
+    pub fn part(&self) -> HintPart
+        ensures { result ≡ self.now.part }
+    {
+        self.part
+    }
+
+    /// The id of the step at hand.
+    #[inline]
+    pub fn id(&self) -> u64
+        ensures { result ≡ self.now.id }
+    {
+        self.id
+    }
+
+    /// The literals so far of the step at hand.
+    #[inline]
+    pub fn clause(&self) -> &[Literal]
+        ensures { result.now ≡ self.now.clause }
+    {
+        &self.clause
+    }
+
+    /// The hints so far of the step at hand, or the ids so far of a deletion.
+    #[inline]
+    pub fn names(&self) -> &[u64]
+        ensures { result.now ≡ self.now.names }
+    {
+        &self.names
+    }
+
+    /// What the next byte comes to.
+    #[inline]
+    pub fn turn(&self, byte: u8) -> HintTurn
+        ensures { result ≡ turn_of self.now byte }
+    {
+        match self.reading {
+            HintReading::Blank => self.first_turn(byte),
+            HintReading::Comment => comment_turn(byte),
+            HintReading::Minus => sign_turn(byte),
+            HintReading::Number { is_negative, value } => {
+                if byte.is_ascii_digit() {
+                    digit_turn(is_negative, value, byte)
+                } else if is_blank(byte) {
+                    self.number_turn(is_negative, value)
+                } else {
+                    stray_turn(byte)
+                }
+            }
+        }
+    }
+
+    /// What a byte comes to behind a blank or at the front.
+    fn first_turn(&self, byte: u8) -> HintTurn
+        ensures { result ≡ first_turn self.now byte }
+    {
+        if is_blank(byte) {
+            HintTurn::GoesOn {
+                reading: HintReading::Blank,
+            }
+        } else if byte == b'-' {
+            HintTurn::GoesOn {
+                reading: HintReading::Minus,
+            }
+        } else if byte.is_ascii_digit() {
+            digit_turn(false, 0, byte)
+        } else {
+            self.other_turn(byte)
+        }
+    }
+
+    /// What a byte comes to that begins no number.
+    fn other_turn(&self, byte: u8) -> HintTurn
+        ensures { result ≡ other_turn_in self.now.part (length self.now.clause) byte }
+    {
+        match self.part {
+            HintPart::Front => mark_turn(byte),
+            HintPart::Literals => kind_turn(self.clause.len(), byte),
+            HintPart::Hints => stray_turn(byte),
+            HintPart::Ids => stray_turn(byte),
+        }
+    }
+
+    /// What a number comes to.
+    #[inline(always)]
+    fn number_turn(&self, is_negative: bool, value: u64) -> HintTurn
+        ensures { result ≡ number_turn self.now is_negative value }
+    {
+        match self.part {
+            HintPart::Front => id_turn(is_negative, value),
+            HintPart::Literals => self.literal_turn(is_negative, value),
+            HintPart::Hints => name_turn(HintFlaw::NegativeHint, is_negative, value),
+            HintPart::Ids => name_turn(HintFlaw::NotALiteral, is_negative, value),
+        }
+    }
+
+    /// What a number comes to among literals.
+    #[inline(always)]
+    fn literal_turn(&self, is_negative: bool, value: u64) -> HintTurn
+        ensures { result ≡ literal_turn self.now.variables is_negative value }
+    {
+        if value == 0 {
+            if is_negative {
+                HintTurn::Stops {
+                    flaw: HintFlaw::NotALiteral,
+                }
+            } else {
+                HintTurn::EndsClause
+            }
+        } else if value > u64::from(self.variables) {
+            HintTurn::Stops {
+                flaw: HintFlaw::NoSuchVariable,
+            }
+        } else {
+            HintTurn::Takes {
+                literal: Literal::new(is_negative, value as u32),
+            }
+        }
+    }
+
+    /// Takes a byte that comes to this turn.
+    #[inline(always)]
+    pub fn follow(&mut self, turn: HintTurn, byte: u8) -> Result<(), AllocError>
+        ensures { IfOk result (λ done. self.new ≡ state_after turn byte self.old) }
+    {
+        self.change(turn)?;
+        self.pass(byte);
+        Ok(())
+    }
+
+    /// What is read behind this turn.
+    #[inline(always)]
+    fn change(&mut self, turn: HintTurn) -> Result<(), AllocError>
+        ensures { IfOk result (λ done. self.new ≡ after turn self.old) }
+    {
+        match turn {
+            HintTurn::GoesOn { reading } => {
+                self.reading = reading;
+                Ok(())
+            }
+            HintTurn::Begins { id } => {
+                self.reading = HintReading::Blank;
+                self.part = HintPart::Literals;
+                self.id = id;
+                Ok(())
+            }
+            HintTurn::BeginsDeletion => {
+                self.reading = HintReading::Blank;
+                self.part = HintPart::Ids;
+                Ok(())
+            }
+            HintTurn::Takes { literal } => {
+                self.reading = HintReading::Blank;
+                self.clause.push(literal)?;
+                Ok(())
+            }
+            HintTurn::EndsClause => {
+                self.reading = HintReading::Blank;
+                self.part = HintPart::Hints;
+                Ok(())
+            }
+            HintTurn::Names { id } => {
+                self.reading = HintReading::Blank;
+                self.names.push(id)?;
+                Ok(())
+            }
+            HintTurn::Ends => {
+                self.clear();
+                Ok(())
+            }
+            HintTurn::Stops { flaw: _ } => Ok(()),
+        }
+    }
+
+    /// No step is begun.
+    fn clear(&mut self)
+        ensures { self.new ≡ after Ends self.old }
+    {
+        self.reading = HintReading::Blank;
+        self.part = HintPart::Front;
+        self.id = 0;
+        self.clause.clear();
+        self.names.clear();
+    }
+
+    /// Takes the number that stands in a piece from this place on, where the reader is behind a
+    /// blank, the number stands there whole with the blank behind it, and it ends no step; and says
+    /// where the next byte stands. Otherwise nothing changes.
+    ///
+    /// It comes to the same as to read its bytes one by one.
+    #[inline(always)]
+    pub fn take_word(&mut self, piece: &[u8], from: usize) -> Result<Option<usize>, AllocError>
+        requires { from < length piece.now }
+        ensures { IfOk result (Moves piece.now self.old from self.old self.new) }
+    {
+        if !matches!(self.reading, HintReading::Blank) {
+            return Ok(None);
+        }
+        if piece[from] == b'-' {
+            self.take_number(piece, from + 1, true)
+        } else {
+            self.take_number(piece, from, false)
+        }
+    }
+
+    /// Takes the number whose first digit stands in a piece at this place.
+    #[inline(always)]
+    fn take_number(
+        &mut self,
+        piece: &[u8],
+        from: usize,
+        is_negative: bool,
+    ) -> Result<Option<usize>, AllocError>
+        requires { from ≤ length piece.now }
+        ensures { IfOk result (MovesOverNumber piece.now is_negative from self.old self.new) }
+    {
+        let number = number_from(piece, from);
+        if number.end == from || number.end == piece.len() || !is_blank(piece[number.end]) {
+            return Ok(None);
+        }
+        let turn = self.number_turn(is_negative, number.value);
+        if is_last(&turn) {
+            return Ok(None);
+        }
+        self.follow(turn, piece[number.end])?;
+        Ok(Some(number.end + 1))
+    }
+
+    /// Counts the line that a byte ends.
+    #[inline(always)]
+    fn pass(&mut self, byte: u8)
+        ensures { self.new ≡ next_line byte self.old }
+    {
+        if byte == b'\n' {
+            self.line = self.line.saturating_add(1);
+        }
+    }
+}
+
+/// Whether a turn ends a step, or the text.
+#[inline(always)]
+fn is_last(turn: &HintTurn) -> bool
+    ensures { result ≡ is_last turn.now }
+{
+    matches!(*turn, HintTurn::Ends | HintTurn::Stops { flaw: _ })
+}
+
+/// What a number comes to where a step begins.
+#[inline(always)]
+fn id_turn(is_negative: bool, value: u64) -> HintTurn
+    ensures { result ≡ id_turn is_negative value }
+{
+    if is_negative {
+        HintTurn::Stops {
+            flaw: HintFlaw::NotALiteral,
+        }
+    } else {
+        HintTurn::Begins { id: value }
+    }
+}
+
+/// What a number comes to among ids.
+#[inline(always)]
+fn name_turn(flaw: HintFlaw, is_negative: bool, value: u64) -> HintTurn
+    ensures { result ≡ name_turn flaw is_negative value }
+{
+    if value == 0 {
+        if is_negative {
+            HintTurn::Stops {
+                flaw: HintFlaw::NotALiteral,
+            }
+        } else {
+            HintTurn::Ends
+        }
+    } else if is_negative {
+        HintTurn::Stops { flaw }
+    } else {
+        HintTurn::Names { id: value }
+    }
+}
+
+/// What a byte comes to in a comment.
+fn comment_turn(byte: u8) -> HintTurn
+    ensures { result ≡ comment_turn byte }
+{
+    if byte == b'\n' {
+        HintTurn::GoesOn {
+            reading: HintReading::Blank,
+        }
+    } else {
+        HintTurn::GoesOn {
+            reading: HintReading::Comment,
+        }
+    }
+}
+
+/// What a byte comes to behind a sign.
+fn sign_turn(byte: u8) -> HintTurn
+    ensures { result ≡ sign_turn byte }
+{
+    if byte.is_ascii_digit() {
+        digit_turn(true, 0, byte)
+    } else {
+        stray_turn(byte)
+    }
+}
+
+/// What a byte comes to between two steps.
+fn mark_turn(byte: u8) -> HintTurn
+    ensures { result ≡ mark_turn byte }
+{
+    match byte {
+        // the second is how PicoSAT begins the first line
+        b'c' | b'%' => HintTurn::GoesOn {
+            reading: HintReading::Comment,
+        },
+        // the mark of a clause in the binary form
+        b'a' => HintTurn::Stops {
+            flaw: HintFlaw::Binary,
+        },
+        _ => stray_turn(byte),
+    }
+}
+
+/// What a byte comes to behind an id and so many literals.
+fn kind_turn(literals: usize, byte: u8) -> HintTurn
+    ensures { result ≡ kind_turn literals byte }
+{
+    if literals == 0 && byte == b'd' {
+        HintTurn::BeginsDeletion
+    } else {
+        stray_turn(byte)
+    }
+}
+
+/// What a byte comes to that stands in no number.
+fn stray_turn(byte: u8) -> HintTurn
+    ensures { result ≡ stray_turn byte }
+{
+    let flaw = if is_of_text(byte) {
+        HintFlaw::NotALiteral
+    } else {
+        HintFlaw::Binary
+    };
+    HintTurn::Stops { flaw }
+}
+
+/// A number with one digit more.
+#[inline]
+fn digit_turn(is_negative: bool, value: u64, digit: u8) -> HintTurn
+    requires { IsTrue (is_ascii_digit digit) }
+    ensures { result ≡ digit_turn is_negative value digit }
+{
+    let value = with_digit(value, digit);
+    HintTurn::GoesOn {
+        reading: HintReading::Number { is_negative, value },
+    }
+}
+
+/// Whether the byte stands between words.
+#[inline(always)]
+fn is_blank(byte: u8) -> bool
+    ensures { result ≡ is_blank byte }
+{
+    byte == b' ' || byte == b'\t' || byte == b'\r' || byte == b'\n'
+}
+
+/// Whether a text may have the byte: no other control characters, and none of 7F and above.
+fn is_of_text(byte: u8) -> bool
+    ensures { result ≡ is_of_text byte }
+{
+    is_blank(byte) || (b' ' <= byte && byte <= b'~')
+}
