@@ -28,9 +28,9 @@ use wf_rup::Literal;
 use wf_set::{Mask, split_first};
 use wf_task::Task;
 
-/// A checker of proofs with hints that knows the question of a task on its protocol complex: a proof
-/// that refutes it shows that the task has no decision map there. The clauses have their ids in the
-/// order in which [`Question`](crate::Question) writes them.
+/// A checker of proofs with hints that knows the question of a task on its protocol complex. A
+/// proof that refutes it shows that the task has no decision map there. The clauses have their ids
+/// in the order in which [`Question`](crate::Question) writes them.
 ///
 /// Its memory grows with the number of clauses and their literals. Refused where memory runs out.
 pub fn pose_hints(
@@ -48,8 +48,8 @@ pub fn pose_hints(
     hinted(alloc, &variables, &patterns, protocol, points)
 }
 
-/// The same of a branch, the values that it has at each point given: the clauses that rule out the
-/// others come behind those of the question.
+/// A checker of proofs with hints that knows the question of a branch, by the values that it has at
+/// each point. The clauses that rule out the others come behind those of the whole question.
 pub fn pose_branch_hints(
     alloc: Global,
     task: &Task,

@@ -5,7 +5,7 @@
 //!   law. That of a [`Branch`] asks for a map in it.
 //! - [`pose`]: gives a checker of clausal proofs the same clauses, with no text between;
 //!   [`pose_branch`] those of a branch.
-//! - [`pose_hints`] and [`pose_branch_hints`]: the same for a checker of proofs with hints, where the
+//! - [`pose_hints`] and [`pose_branch_hints`]: give them to a checker of proofs with hints. The
 //!   clauses have their ids in the order in which they are written.
 //! - [`Patterns`]: what the tuples of a rule forbid, found once for each rule.
 //! - [`map_of_model`]: the values that a model gives at the points.

@@ -1,9 +1,7 @@
 -- Laws of clauses that are added one after another.
-use Rattle.std.proofs.Common.{◌≡◌, ℕ, ◌+◌, Bool, true, false, List, [], ◌∷◌, ◌++◌, refl, sym, ◌∙◌, ap, subst, arith, length, map, append-nil, append_assoc, length-append}
+use Rattle.std.proofs.Common.{◌≡◌, ℕ, ◌+◌, Bool, true, false, List, [], ◌∷◌, ◌++◌, refl, sym, ◌∙◌, ap, arith, length, map, append-nil, append_assoc}
 use Rattle.std.specs.Prelude.{◌||◌, Some}
 use Rattle.std.specs.List.{list_any}
-use Rattle.std.proofs.lemmas.List.{map-append}
-use Rattle.std.proofs.lemmas.List.Folds.{list_any-append}
 use Rattle.wf_clauses.specs.Formula.{Clause, Formula}
 use Rattle.wf_lrat.specs.Given.{with_clauses}
 use Rattle.wf_lrat.specs.Ledger.{Ledger, added, empty_ledger, is_empty_clause, ledger_of}

@@ -1,18 +1,16 @@
 -- Laws of the literals that are open, and of the hints that are followed.
-use Rattle.std.proofs.Common.{◌≡◌, ℕ, ◌+◌, ◌<◌, true, false, Bool, List, [], ◌∷◌, ◌++◌, refl, sym, ◌∙◌, ap, arith, length, drop, get_or, map}
-use Rattle.std.specs.Prelude.{◌==◌, ◌||◌, cond, not, Option, Some, None}
-use Rattle.std.specs.List.{list_any}
+use Rattle.std.proofs.Common.{◌≡◌, ℕ, ◌+◌, ◌<◌, true, false, List, [], ◌∷◌, ◌++◌, refl, sym, ◌∙◌, ap, length, drop, get_or}
+use Rattle.std.specs.Prelude.{cond, not, Option, Some}
 use Rattle.std.proofs.lemmas.List.{drop_more}
-use Rattle.std.proofs.lemmas.Bool.{false≢true}
 use Rattle.wf_clauses.specs.Formula.{Clause, Literal, negation}
-use Rattle.wf_drat.specs.Codes.{code_of, code_of-literal_of, literal_of}
+use Rattle.wf_drat.specs.Codes.{literal_of}
 use Rattle.wf_lrat.specs.Hints.{by_hint, by_open, hinted, is_on, open_literals}
 use Rattle.wf_lrat.specs.Ledger.{slot_of}
 use Rattle.wf_lrat.specs.Slots.{clause_of, opened_of}
 use Rattle.wf_lrat.specs.declared.scan.Opened.{Opened}
 use Rattle.wf_lrat.specs.declared.scan.Opened.TheVariants.{Nothing, One, Several}
 use Rattle.wf_lrat.specs.declared.verdict.HintVerdict.{HintVerdict}
-use Rattle.wf_lrat.specs.declared.verdict.HintVerdict.TheVariants.{Conflict, NoConflict, UnknownHint}
+use Rattle.wf_lrat.specs.declared.verdict.HintVerdict.TheVariants.{Conflict, NoConflict}
 use Rattle.wf_lrat.proofs.LiteralLemmas.{literal_of-code_of}
 
 -- ---- a clause is looked through
@@ -23,15 +21,6 @@ joined Nothing ls = opened_of ls
 joined (One l) [] = One l
 joined (One l) (m ∷ ls) = Several
 joined Several ls = Several
-
-pub joined-end : (o : Opened) → joined o [] ≡ o
-joined-end Nothing = refl
-joined-end (One l) = refl
-joined-end Several = refl
-
-joined-one : (c : ℕ) (ls : List Literal) → opened_of (literal_of c ∷ ls) ≡ joined (One c) ls
-joined-one c [] = ap One (code_of-literal_of c)
-joined-one c (m ∷ ls) = refl
 
 pub closed-first : (trail : List Literal) (c : ℕ) (cs : List ℕ) → is_on trail (negation (literal_of c)) ≡ true
     → open_literals trail (clause_of (c ∷ cs)) ≡ open_literals trail (clause_of cs)
@@ -55,20 +44,9 @@ module _ (trail : List Literal) (clause : List ℕ) (i f : ℕ) (within : i < le
       → open_literals trail (clause_of (drop i clause)) ≡ literal_of (get_or clause i 0) ∷ open_literals trail (clause_of (drop (i + 1) clause))
   found h = first ∙ open-first trail (get_or clause i 0) (drop (i + 1) clause) (ap (is_on trail) (sym other) ∙ h)
 
-  pub found_first : (o : Opened) → o ≡ Nothing → is_on trail (literal_of f) ≡ false
-      → joined o (open_literals trail (clause_of (drop i clause))) ≡ joined (One (get_or clause i 0)) (open_literals trail (clause_of (drop (i + 1) clause)))
-  found_first o none h =
-      ap (λ x. joined x (open_literals trail (clause_of (drop i clause)))) none ∙ ap opened_of (found h)
-      ∙ joined-one (get_or clause i 0) (open_literals trail (clause_of (drop (i + 1) clause)))
-
   pub found_more : (o : Opened) (l : ℕ) → o ≡ One l → is_on trail (literal_of f) ≡ false
       → joined o (open_literals trail (clause_of (drop i clause))) ≡ Several
   found_more o l one h = ap (λ x. joined x (open_literals trail (clause_of (drop i clause)))) one ∙ ap (joined (One l)) (found h)
-
--- a literal of the clause is true from this place on
-pub any_first : (trail : List Literal) (clause : List ℕ) (i : ℕ) → i < length clause
-    → list_any (is_on trail) (clause_of (drop i clause)) ≡ (is_on trail (literal_of (get_or clause i 0)) || list_any (is_on trail) (clause_of (drop (i + 1) clause)))
-any_first trail clause i within = ap (λ cs. list_any (is_on trail) (clause_of cs)) (drop_more clause i 0 within)
 
 -- ---- hints are followed
 
@@ -87,9 +65,6 @@ module _ (slots : List (Option Clause)) (trail : List Literal) (hints : List ℕ
   -- the rest of the hints
   abbrev pub rest_of : List Literal → HintVerdict
   rest_of next = hinted slots next (drop (i + 1) hints)
-
-  pub unknown_step : slot_of slots (get_or hints i 0) ≡ None → hinted slots trail (drop i hints) ≡ UnknownHint
-  unknown_step none = ap (hinted slots trail) (drop_more hints i 0 within) ∙ ap (λ s. by_hint s trail rest_of) none
 
   pub hint_step : (clause : Clause) (o : Opened) → slot_of slots (get_or hints i 0) ≡ Some clause → o ≡ opened_of (open_literals trail clause)
       → hinted slots trail (drop i hints) ≡ verdict_on o trail rest_of

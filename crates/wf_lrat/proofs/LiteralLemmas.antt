@@ -1,7 +1,7 @@
 -- Literals and their codes say the same.
-use Rattle.std.proofs.Common.{◌≡◌, ℕ, ◌+◌, ◌*◌, ◌/◌, ◌%◌, true, false, Bool, List, [], ◌∷◌, refl, sym, ◌∙◌, ap, arith, map}
+use Rattle.std.proofs.Common.{◌≡◌, ℕ, ◌+◌, ◌*◌, ◌/◌, ◌%◌, List, [], ◌∷◌, refl, ◌∙◌, ap, arith}
 use Rattle.std.specs.Prelude.{◌==◌, ◌||◌}
-use Rattle.wf_clauses.specs.Formula.{Clause, Literal, neg, pos}
+use Rattle.wf_clauses.specs.Formula.{Literal, neg, pos}
 use Rattle.wf_drat.specs.Codes.{code_of, code_of-literal_of, literal_of}
 use Rattle.wf_lrat.specs.Hints.{is_on}
 use Rattle.wf_lrat.specs.Slots.{clause_of, has_code}

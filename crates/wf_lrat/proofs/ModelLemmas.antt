@@ -1,15 +1,15 @@
 -- Laws of models: what a conflict by hints means.
-use Rattle.std.proofs.Common.{◌≡◌, ℕ, ◌+◌, ◌-◌, ◌<◌, ◌≤◌, zero, suc, Bool, true, false, List, [], ◌∷◌, ◌++◌, refl, sym, ◌∙◌, ap, subst, arith, length, get_or, set, replicate, map, inl, inr}
+use Rattle.std.proofs.Common.{◌≡◌, ℕ, ◌+◌, ◌-◌, ◌<◌, suc, Bool, true, false, List, [], ◌∷◌, ◌++◌, refl, sym, ◌∙◌, ap, subst, arith, length, get_or, set, replicate, map, inl, inr}
 use Rattle.std.specs.Prelude.{◌==◌, ◌||◌, ◌&&◌, cond, not, if◌then◌else◌, Option, Some, None, Result, Ok, Err, IfOk, OnErr}
 use Rattle.std.specs.List.{All, list_all, list_any}
 use Rattle.std.proofs.Math.Bool.{not-not}
 use Rattle.std.proofs.lemmas.Bool.{cases_Bool, cases_lt, false≢true}
-use Rattle.std.proofs.lemmas.List.{get_or_past, get_or-replicate, length-replicate, length-set}
+use Rattle.std.proofs.lemmas.List.{get_or_past, get_or-replicate, length-replicate}
 use Rattle.std.proofs.lemmas.List.Elements.{All-append, All-map, All-push, All-set}
-use Rattle.wf_clauses.specs.Formula.{Assignment, Clause, Formula, Literal, IsModel, SatisfiesAll, holds, neg, negation, pos, satisfies}
+use Rattle.wf_clauses.specs.Formula.{Assignment, Clause, Formula, Literal, SatisfiesAll, holds, neg, negation, pos, satisfies}
 use Rattle.wf_drat.specs.Codes.{code_of, literal_of}
 use Rattle.wf_lrat.specs.Hints.{by_hint, by_open, hinted, is_next_id, is_on, is_tautology, open_literals, verdict_by, verdict_of, after_verdict}
-use Rattle.wf_lrat.specs.Ledger.{Ledger, deleted, emptied, emptied_each, is_empty_clause, learned, ledger_of, slot_of}
+use Rattle.wf_lrat.specs.Ledger.{Ledger, deleted, emptied, emptied_each, is_empty_clause, learned, slot_of}
 use Rattle.wf_lrat.specs.Models.{Entails, IsModelOf, IsSatisfied, KeepsModels, RefutesFormula}
 use Rattle.wf_lrat.specs.declared.verdict.HintVerdict.{HintVerdict}
 use Rattle.wf_lrat.specs.declared.verdict.HintVerdict.TheVariants.{Conflict, NoConflict, UnknownHint, IdOutOfRange}
@@ -240,13 +240,3 @@ pub sound_by : {E : Type 0} (r : Result HintVerdict E) (l : Ledger) (id : ℕ) (
     → IfOk r (λ v. v ≡ verdict_of l id clause hints) → IfOk r (λ v. v ≡ Conflict → Entails l clause)
 sound_by (Ok v) l id clause hints is = λ conflict. verdict_sound l id clause hints (sym is ∙ conflict)
 sound_by (Err x) l id clause hints is = is
-
--- as many ids
-length-emptied : (id : ℕ) (slots : List (Option Clause)) → length (emptied id slots) ≡ length slots
-length-emptied id slots = elim (cases_Bool (id == 0)) [
-  | inl none ↦ ap (λ b. length (if b then slots else set slots (id - 1) None)) none
-  | inr some ↦ ap (λ b. length (if b then slots else set slots (id - 1) None)) some ∙ length-set slots (id - 1) None
-]
-
-pub few_still : (count id : ℕ) (old new : List (Option Clause)) → count ≤ length old → new ≡ emptied id old → count ≤ length new
-few_still count id old new few is = omega (arith, few, ap length is, length-emptied id old)

@@ -1,12 +1,12 @@
 -- A proof's text in pieces: the next one is read where the one before left off.
-use Rattle.std.proofs.Common.{◌≡◌, ℕ, Bool, true, false, List, [], ◌∷◌, ◌++◌, refl, sym, ◌∙◌, ap, inl, inr}
+use Rattle.std.proofs.Common.{◌≡◌, ℕ, List, [], ◌∷◌, ◌++◌, refl, sym, ◌∙◌, ap, inl, inr}
 use Rattle.std.specs.Prelude.{if◌then◌else◌}
 use Rattle.std.proofs.lemmas.Bool.{cases_Bool}
 use Rattle.wf_clauses.specs.Formula.{Clause}
-use Rattle.wf_lrat_text.specs.Text.{End, State, Step, Text, addition, behind, broken_in, deletion, open_in, state_after, step_of, text_from, text_of, turn_of}
+use Rattle.wf_lrat_text.specs.Text.{State, Step, addition, deletion, state_after, step_of, text_from, text_of, turn_of}
 use Rattle.wf_lrat_text.specs.declared.reader.HintTurn.{HintTurn}
 use Rattle.wf_lrat_text.specs.declared.reader.HintTurn.TheVariants.{GoesOn, Begins, BeginsDeletion, Takes, EndsClause, Names, Ends, Stops}
-use Rattle.wf_lrat.specs.Fed.{Outcome, by_end, by_step, by_steps, by_verdict, fault_at, outcome_of, reads, refuses, refutes, unless_refuted}
+use Rattle.wf_lrat.specs.Fed.{Outcome, by_step, by_verdict, fault_at, outcome_of, reads, refuses, refutes, unless_refuted}
 use Rattle.wf_lrat.specs.Hints.{verdict_of}
 use Rattle.wf_lrat.specs.Ledger.{Ledger}
 use Rattle.wf_lrat.specs.declared.verdict.HintVerdict.{HintVerdict}

@@ -1,13 +1,12 @@
 -- Laws of clauses that lie in one list.
-use Rattle.std.proofs.Common.{◌≡◌, ℕ, ◌+◌, ◌-◌, ◌<◌, ◌≤◌, zero, suc, List, [], ◌∷◌, ◌++◌, refl, sym, ◌∙◌, ap, subst, arith, length, take, drop, get_or, set, replicate, map, length-drop, length-append, append_assoc, inl, inr}
-use Rattle.std.specs.Prelude.{◌==◌, if◌then◌else◌, false, Option, Some, None}
+use Rattle.std.proofs.Common.{◌≡◌, ℕ, ◌+◌, ◌-◌, ◌<◌, ◌≤◌, zero, suc, List, [], ◌∷◌, ◌++◌, refl, sym, ◌∙◌, ap, subst, arith, length, take, drop, get_or, set, replicate, length-drop, length-append, append_assoc, inl, inr}
+use Rattle.std.specs.Prelude.{◌==◌, if◌then◌else◌, false, Some, None}
 use Rattle.std.specs.List.{All, slice_range}
-use Rattle.std.proofs.lemmas.List.{drop-append-le, get_or_append_left, length-map, length-replicate, map-append, map-set, replicate_more, set_at, set_past, take-append-le, take_all, take_more, get_or-replicate}
+use Rattle.std.proofs.lemmas.List.{drop-append-le, get_or_append_left, length-replicate, map-append, map-set, replicate_more, set_at, take-append-le, take_all, get_or-replicate}
 use Rattle.std.proofs.Math.Seq.{drop-append_seam, take-length}
 use Rattle.std.proofs.lemmas.Bool.{cases_lt}
-use Rattle.std.proofs.lemmas.List.Elements.{All-append, All-push, All-set}
-use Rattle.wf_clauses.specs.Formula.{Clause}
-use Rattle.wf_lrat.specs.Ledger.{emptied, slot_of}
+use Rattle.std.proofs.lemmas.List.Elements.{All-append, All-push}
+use Rattle.wf_lrat.specs.Ledger.{emptied}
 use Rattle.wf_lrat.specs.Slots.{IsPlaced, clause_of, codes_at, slot_at, slots_in}
 
 other_test : (a b : ℕ) → (a ≡ b → ⊥) → (a == b) ≡ false
@@ -62,20 +61,10 @@ all_placed-append arena more places all = λ k d h. placed-append arena more (ge
 placed-nothing : (arena : List ℕ) → IsPlaced arena 0
 placed-nothing arena = λ pos. absurd (let bad : ⊥ = omega (arith, pos) in bad)
 
-pub all_placed-delete : (arena places : List ℕ) (i : ℕ) → All (IsPlaced arena) places → All (IsPlaced arena) (set places i 0)
-all_placed-delete arena places i all = All-set (IsPlaced arena) places i 0 (placed-nothing arena) all
-
 pub slots_in-delete : (arena places : List ℕ) (id : ℕ) → 0 < id → slots_in arena (set places (id - 1) 0) ≡ emptied id (slots_in arena places)
 slots_in-delete arena places id pos =
     map-set (slot_at arena) places (id - 1) 0
     ∙ sym (ap (λ b. if b then slots_in arena places else set (slots_in arena places) (id - 1) None) (other_test id 0 (λ e. let bad : ⊥ = omega (arith, pos, e) in bad)))
-
--- of an id that there never was nothing changes
-pub emptied-past : (slots : List (Option Clause)) (id : ℕ) → length slots < id → emptied id slots ≡ slots
-emptied-past slots id beyond =
-    let far : length slots ≤ id - 1 = omega (arith, beyond) in
-    ap (λ b. if b then slots else set slots (id - 1) None) (other_test id 0 (λ e. let bad : ⊥ = omega (arith, beyond, e) in bad))
-    ∙ set_past slots (id - 1) None far
 
 -- ---- a clause more
 
@@ -172,19 +161,3 @@ all_placed-put arena clause places gap place is all =
     (All-push (IsPlaced words) (replicate gap 0) place (all_placed-nothing words gap) (subst (IsPlaced words) (sym is) (placed-words arena clause)))
 
 -- ---- clauses one by one
-
--- a slot more, where the clauses before it were put
-pub take-slots : (slots kept : List (Option Clause)) (i : ℕ) (slot : Option Clause) → i < length slots → get_or slots i None ≡ slot → kept ≡ take i slots
-    → kept ++ slot ∷ [] ≡ take (i + 1) slots
-take-slots slots kept i slot within is so =
-    ap (λ xs. xs ++ slot ∷ []) so ∙ ap (λ x. take i slots ++ x ∷ []) (sym is) ∙ sym (take_more slots i None within)
-
--- the slot with the next id
-pub slot_of-next : (slots : List (Option Clause)) (n : ℕ) → slot_of slots (n + 1) ≡ get_or slots n None
-slot_of-next slots n =
-    let here : n + 1 - 1 ≡ n = omega arith in
-    ap (λ b. if b then None else get_or slots (n + 1 - 1) None) (other_test (n + 1) 0 (λ e. let bad : ⊥ = omega (arith, e) in bad))
-    ∙ ap (λ k. get_or slots k None) here
-
-pub no_gap : (slots : List (Option Clause)) (n : ℕ) (slot : Option Clause) → n ≡ 0 → slots ++ (replicate n None ++ slot ∷ []) ≡ slots ++ slot ∷ []
-no_gap slots n slot none = ap (λ k. slots ++ (replicate k None ++ slot ∷ [])) none

@@ -1,7 +1,7 @@
 -- Laws of the marks of a trail while they are taken away.
-use Rattle.std.proofs.Common.{◌≡◌, ◌≢◌, ℕ, ◌+◌, ◌<◌, ◌≤◌, Bool, true, false, List, [], ◌∷◌, refl, sym, ◌∙◌, ap, arith, length, drop, get_or, set, inl, inr}
+use Rattle.std.proofs.Common.{◌≡◌, ◌≢◌, ℕ, ◌+◌, ◌<◌, Bool, true, false, List, [], ◌∷◌, refl, sym, ◌∙◌, ap, arith, length, drop, get_or, set, inl, inr}
 use Rattle.std.specs.Prelude.{◌==◌, ◌||◌}
-use Rattle.std.proofs.lemmas.Bool.{cases_Bool, cases_eq, cases_lt, false≢true}
+use Rattle.std.proofs.lemmas.Bool.{cases_eq, cases_lt, false≢true}
 use Rattle.std.proofs.lemmas.List.{drop_more, get_or-set_other, get_or-set_same, get_or_past, set_past}
 use Rattle.wf_lrat.specs.Slots.{IsMarked, has_code}
 
@@ -35,12 +35,6 @@ left_more marks codes i within h = record {
         let there : has_code (get_or codes i 0 ∷ drop (i + 1) codes) l ≡ true = ap (λ cs. has_code cs l) (sym (drop_more codes i 0 within)) ∙ h.left l before in
         or_other (get_or codes i 0 == l) (has_code (drop (i + 1) codes) l) (other_test (get_or codes i 0) l (λ e. other (sym e))) there
   ];
-}
-
--- there is no mark to take away
-pub left_past : (marks : List Bool) (codes : List ℕ) (i : ℕ) → i < length codes → length marks ≤ get_or codes i 0 → AreLeft marks codes i → AreLeft marks codes (i + 1)
-left_past marks codes i within beyond h = record {
-  left = λ l on. (left_more marks codes i within h).left l (ap (λ (ms : List Bool). get_or ms l false) (set_past marks (get_or codes i 0) false beyond) ∙ on);
 }
 
 not_true : (b : Bool) → (b ≡ true → ⊥) → b ≡ false

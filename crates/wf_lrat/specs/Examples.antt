@@ -1,8 +1,8 @@
 -- Worked examples, by computation.
-use Rattle.std.specs.Prelude.{◌≡◌, ℕ, List, [], ◌∷◌, Option, Some, None, codes, false, true, refl}
+use Rattle.std.specs.Prelude.{◌≡◌, ℕ, List, [], ◌∷◌, Some, None, codes, true, refl}
 use Rattle.wf_clauses.specs.Formula.{Clause, neg, pos}
 use Rattle.wf_lrat_text.specs.Text.{at_start, text_of}
-use Rattle.wf_lrat.specs.Fed.{Outcome, outcome_of, reads, refuses, refutes}
+use Rattle.wf_lrat.specs.Fed.{Outcome, outcome_of, refuses, refutes}
 use Rattle.wf_lrat.specs.Hints.{hinted, verdict_of}
 use Rattle.wf_lrat.specs.Ledger.{Ledger, ledger_of}
 use Rattle.wf_lrat.specs.declared.verdict.HintVerdict.TheVariants as verdict

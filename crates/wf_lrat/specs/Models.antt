@@ -1,5 +1,5 @@
 -- Which assignments a ledger keeps.
-use Rattle.std.specs.Prelude.{◌≡◌, true, false, List, Option, Some, None, All}
+use Rattle.std.specs.Prelude.{◌≡◌, true, false, Option, Some, None, All}
 use Rattle.wf_clauses.specs.Formula.{Assignment, Clause, Formula, IsUnsatisfiable, satisfies}
 use Rattle.wf_lrat.specs.Ledger.{Ledger, ledger_of}
 

@@ -1,5 +1,5 @@
 -- How clauses lie in one list of numbers, and which literals are marked.
-use Rattle.std.specs.Prelude.{◌≡◌, ℕ, ◌+◌, ◌-◌, ◌<◌, ◌≤◌, ◌==◌, Bool, true, false, List, [], ◌∷◌, Option, Some, None, All, bit_xor, if◌then◌else◌, get_or, length, map}
+use Rattle.std.specs.Prelude.{◌≡◌, ℕ, ◌+◌, ◌-◌, ◌<◌, ◌≤◌, ◌==◌, Bool, false, List, [], ◌∷◌, Option, Some, None, if◌then◌else◌, get_or, length, map}
 use Rattle.std.specs.List.{list_any, slice_range}
 use Rattle.wf_clauses.specs.Formula.{Clause, Literal}
 use Rattle.wf_drat.specs.Codes.{code_of, literal_of}

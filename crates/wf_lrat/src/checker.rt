@@ -2,9 +2,8 @@
 
 ghost use Rattle.std.specs.Prelude.{◌≡◌, [], IfOk, OnErr, OnOk, IsTrue, is_ok, if◌then◌else◌, map};
 ghost use Rattle.wf_clauses.specs.Formula.{negation};
-ghost use Rattle.wf_drat.specs.Codes.{code_of};
 ghost use Rattle.wf_lrat.specs.Hints.{after_verdict, hinted, is_next_id, verdict_by, verdict_of};
-ghost use Rattle.wf_lrat.specs.Ledger.{added, deleted, emptied_each, empty_ledger, learned};
+ghost use Rattle.wf_lrat.specs.Ledger.{added, deleted, empty_ledger};
 ghost use Rattle.wf_lrat.specs.Models.{Entails, HasNoModel, KeepsModels};
 ghost use Rattle.wf_lrat.specs.Slots.{clause_of};
 ghost use Rattle.wf_lrat.specs.declared.verdict.HintVerdict.TheVariants.{Conflict};

@@ -1,12 +1,12 @@
 //! The text form of clausal proofs with hints (LRAT).
 //!
-//! A proof is a list of steps. A clause has an id, its literals in DIMACS, ended by 0, and the ids of
-//! the clauses from which it follows, ended by 0. A deletion has an id with no meaning, `d`, and the
-//! ids of the clauses to delete, ended by 0. A step may span lines. Lines that begin with `c` between
-//! two steps are passed over.
+//! A proof is a list of steps. A clause has an id, its literals in DIMACS, ended by 0, and the ids
+//! of the clauses from which it follows, ended by 0. A deletion has an id with no meaning, `d`, and
+//! the ids of the clauses to delete, ended by 0. A step may span lines. Lines that begin with `c`
+//! between two steps are passed over.
 
-ghost use Rattle.std.specs.Prelude.{◌≡◌, ◌⊎◌, ◌∷◌, List, ℕ, false, IfErr, IfOk, true};
-ghost use Rattle.wf_lrat.specs.Fed.{IsReadTo, IsRefusedFor, Outcome, by_step, fault_at, outcome_at_end, outcome_of, refuses, refutes};
+ghost use Rattle.std.specs.Prelude.{◌≡◌, ◌∷◌, List, ℕ, false, IfErr, IfOk};
+ghost use Rattle.wf_lrat.specs.Fed.{IsReadTo, IsRefusedFor, Outcome, by_step, fault_at, outcome_at_end, outcome_of, refutes};
 ghost use Rattle.wf_lrat.specs.Ledger.{Ledger};
 ghost use Rattle.wf_lrat.specs.Models.{HasNoModel, KeepsModels};
 ghost use Rattle.wf_lrat_text.specs.Text.{at_start, state_after, step_in, step_of, text_from, text_of};

@@ -1,4 +1,4 @@
-use Rattle.std.proofs.Common.{◌≡◌, ◌+◌, ◌<◌, ◌∙◌, ap, flat_map, map, length, arith, sym}
+use Rattle.std.proofs.Common.{◌≡◌, ◌+◌, ◌∙◌, ap, flat_map, map, length, arith, sym}
 use Rattle.std.proofs.lemmas.List.{length-map}
 use Rattle.wf_model.specs.Lists.{below}
 use Rattle.wf_set.specs.Sets.{values_in}

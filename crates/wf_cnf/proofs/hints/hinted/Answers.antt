@@ -1,4 +1,4 @@
-use Rattle.std.proofs.Common.{◌≡◌, ◌++◌, ◌∙◌, ap, map, refl}
+use Rattle.std.proofs.Common.{◌∙◌, ap, map, refl}
 use Rattle.wf_model.specs.Lists.{below}
 use Rattle.wf_set.specs.Sets.{values_in}
 use Rattle.wf_formula.specs.Encoding.{at_least_one}
