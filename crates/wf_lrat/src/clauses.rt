@@ -81,7 +81,8 @@ impl HintClauses {
     /// for fewer than 2^32 words; then nothing changes.
     pub(crate) fn put(&mut self, id: usize, clause: &[Code]) -> Result<(), AllocError>
         requires { length self.old < id }
-        ensures { self.new ≡ (if is_ok result then self.old ++ (replicate (id - 1 - length self.old)
+        ensures { self.new ≡ (if is_ok result then self.old
+            ++ (replicate (id - 1 - length self.old)
             None ++ Some (clause_of clause.now) ∷ []) else self.old) }
     {
         let head = self.arena.len();
