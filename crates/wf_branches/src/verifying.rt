@@ -80,6 +80,7 @@ impl<'a, T: Threads + Sync> SecondText for PartOfBranch<'a, T> {
 }
 
 /// What parts are judged by: a task, its protocol complex, and what starts threads.
+#[derive(Drop)]
 pub(crate) struct PartJudge<'a, T> {
     pub(crate) rt: &'a T,
     pub(crate) task: &'a Task,
