@@ -33,13 +33,8 @@ pub(crate) enum FileJob {
     /// Report the map of a solver's model for so many rounds.
     Model(u32),
     /// Check a solver's proof that there is no map after so many rounds, or none in the branch of
-    /// this number.
-    Proof {
-        rounds: u32,
-        branch: Option<u32>,
-        // whether the proof has hints
-        hints: bool,
-    },
+    /// this number. Whether the proof has hints stands at the end.
+    Proof(u32, Option<u32>, bool),
     /// Tell what a report's map decides.
     Decisions,
     /// Write a report with the lines that are needed.
@@ -72,15 +67,7 @@ impl FileJob {
                 rounds,
                 branch,
                 hints,
-            } => {
-                let (rounds, branch, hints) = (*rounds, *branch, *hints);
-                let proof = FileJob::Proof {
-                    rounds,
-                    branch,
-                    hints,
-                };
-                (proof, task)
-            }
+            } => (FileJob::Proof(*rounds, *branch, *hints), task),
             Job::Decisions { task } => (FileJob::Decisions, task),
             Job::Trim { task } => (FileJob::Trim, task),
             Job::Explain { task } => (FileJob::Explain, task),
@@ -141,22 +128,18 @@ impl FileJob {
             FileJob::Model(rounds) => {
                 after_writing(run_model(rt, alloc, task, source, sink, rounds))
             }
-            FileJob::Proof {
-                rounds,
-                branch,
-                hints: false,
-            } => after_writing(match branch {
-                None => run_proof(alloc, task, source, sink, rounds),
-                Some(branch) => run_proof_branch(alloc, task, source, sink, rounds, branch),
-            }),
-            FileJob::Proof {
-                rounds,
-                branch,
-                hints: true,
-            } => after_writing(match branch {
-                None => run_hinted_proof(alloc, task, source, sink, rounds),
-                Some(branch) => run_hinted_proof_branch(alloc, task, source, sink, rounds, branch),
-            }),
+            FileJob::Proof(rounds, None, false) => {
+                after_writing(run_proof(alloc, task, source, sink, rounds))
+            }
+            FileJob::Proof(rounds, None, true) => {
+                after_writing(run_hinted_proof(alloc, task, source, sink, rounds))
+            }
+            FileJob::Proof(rounds, Some(branch), false) => {
+                after_writing(run_proof_branch(alloc, task, source, sink, rounds, branch))
+            }
+            FileJob::Proof(rounds, Some(branch), true) => {
+                after_writing(run_hinted_proof_branch(alloc, task, source, sink, rounds, branch))
+            }
             FileJob::Decisions => after_writing(run_decisions(rt, alloc, task, source, sink)),
             FileJob::Trim => after_writing(run_trim(rt, alloc, task, source, sink)),
             FileJob::Explain => after_writing(run_explain(rt, alloc, task, source, sink)),
