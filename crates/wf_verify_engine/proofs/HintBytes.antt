@@ -1,17 +1,13 @@
 -- What bytes of a proof with hints come to, as they are read piece by piece.
-use Rattle.std.proofs.Common.{◌≡◌, ◌+◌, ◌≤◌, ℕ, List, [], length, take, ◌∷◌, ◌++◌, Bool, true, false, Option, Result, Ok, Err, ◌⊎◌, inl, inr, refl, sym, ap, ◌∙◌, subst, arith, append-nil}
+use Rattle.std.proofs.Common.{◌≡◌, ℕ, List, [], ◌∷◌, ◌++◌, true, Option, inl, inr, sym, ap, ◌∙◌, subst}
 use Rattle.std.specs.Prelude.{if◌then◌else◌}
-use Rattle.std.proofs.lemmas.Bool.{cases_Bool, false≢true}
-use Rattle.std.specs.Io.KnownBytes.{Consumes, Keeps, IsAtEnd}
-use Rattle.std.proofs.KnownBytes.{Consumes-nil}
+use Rattle.std.proofs.lemmas.Bool.{cases_Bool}
+use Rattle.std.specs.Io.KnownBytes.{IsAtEnd}
 use Rattle.wf_clauses.specs.Formula.{Clause}
-use Rattle.wf_io.specs.Seen.{Reading}
-use Rattle.wf_io.specs.Texts.{Gave}
-use Rattle.wf_lrat_text.specs.Text.{End, State, Step, addition, at_start, broken_in, deletion, open_in, text_of}
+use Rattle.wf_lrat_text.specs.Text.{End, State, Step, Text, addition, at_start, broken_in, deletion, open_in, text_of}
 use Rattle.wf_lrat.specs.Fed.{IsReadTo, IsRefusedFor, Outcome, by_end, by_step, by_steps, by_verdict, closed_in, outcome_at_end, outcome_of, reads, refuses, refutes, unless_refuted}
 use Rattle.wf_lrat.specs.Hints.{verdict_of}
 use Rattle.wf_lrat.specs.Ledger.{Ledger, deleted, learned}
-use Rattle.wf_lrat.specs.Models.{HasNoModel, KeepsModels}
 use Rattle.wf_lrat.specs.declared.verdict.HintVerdict.{HintVerdict}
 use Rattle.wf_lrat.specs.declared.verdict.HintVerdict.TheVariants as verdict
 use Rattle.wf_lrat.specs.declared.proof.HintFault.{HintFault}
@@ -21,16 +17,10 @@ use Rattle.wf_lrat.proofs.PieceLemmas.{outcome-pieces, resumed}
 use Rattle.wf_verify_engine.specs.Hints.{AreRefusedHints, IsFaultOfHints, IsRefuted, closed, outcome_so_far, whole_outcome}
 use Rattle.wf_run.specs.Faults.{of_hints}
 
--- ---- three outcomes that differ
+-- ---- outcomes that differ
 
 reads-refutes : (s : State) (l l' : Ledger) → reads s l ≡ refutes l' → ⊥
 reads-refutes s l l' e = cc
-
-refutes-reads : (s : State) (l l' : Ledger) → refutes l ≡ reads s l' → ⊥
-refutes-reads s l l' e = cc
-
-refutes-refuses : (fault : HintFault) (l l' : Ledger) → refutes l ≡ refuses fault l' → ⊥
-refutes-refuses fault l l' e = cc
 
 refuses-refutes : (fault : HintFault) (l l' : Ledger) → refuses fault l ≡ refutes l' → ⊥
 refuses-refutes fault l l' e = cc
@@ -69,10 +59,8 @@ steps_known [] end l = unless_known l (by_end end l) (by_end_known end l)
 steps_known (step ∷ steps) end l = unless_known l (by_step step l (λ next. by_steps steps end next)) (by_step_known step l (λ next. by_steps steps end next) (λ next. steps_known steps end next))
 
 -- further bytes change nothing then
-found_stays : (state state' : State) (bytes more : List ℕ) (l l' found : Ledger) → outcome_of (text_of state bytes) l ≡ refutes found → outcome_of (text_of state' more) found ≡ refutes found
-found_stays state state' bytes more l l' found e =
-    let text = text_of state bytes in
-    refuted_outcome (text_of state' more) found (steps_known text.steps text.end l found e)
+found_stays : (text other : Text) (l found : Ledger) → outcome_of text l ≡ refutes found → outcome_of other found ≡ refutes found
+found_stays text other l found e = refuted_outcome other found (steps_known text.steps text.end l found e)
 
 -- ---- piece by piece
 
@@ -91,7 +79,7 @@ module _ (posed : Ledger) (given : List ℕ) (state : State) (left : Ledger) whe
   further : (more : List ℕ) → IsFedTo posed given state left → outcome_so_far posed (given ++ more) ≡ outcome_of (text_of state more) left
   further more (inl e) = outcome-pieces (at_start posed.variables) given more posed ∙ ap (resumed more) e
   further more (inr e) =
-      outcome-pieces (at_start posed.variables) given more posed ∙ ap (resumed more) e ∙ sym (found_stays (at_start posed.variables) state given more posed posed left e)
+      outcome-pieces (at_start posed.variables) given more posed ∙ ap (resumed more) e ∙ sym (found_stays (text_of (at_start posed.variables) given) (text_of state more) posed left e)
 
   pub more_fed : (piece : List ℕ) (state' : State) (left' : Ledger) → IsFedTo posed given state left → IsReadTo (outcome_of (text_of state piece) left) state' left' → IsFedTo posed (given ++ piece) state' left'
   more_fed piece state' left' fed (inl e) = inl (further piece fed ∙ e)
@@ -100,7 +88,7 @@ module _ (posed : Ledger) (given : List ℕ) (state : State) (left : Ledger) whe
   -- what the whole comes to where there is nothing more
   whole : IsFedTo posed given state left → whole_outcome posed given ≡ outcome_at_end state left
   whole (inl e) = ap closed e
-  whole (inr e) = ap closed e ∙ sym (ap (closed_in state.line) (found_stays (at_start posed.variables) state given (10 ∷ []) posed posed left e))
+  whole (inr e) = ap closed e ∙ sym (ap (closed_in state.line) (found_stays (text_of (at_start posed.variables) given) (text_of state (10 ∷ [])) posed left e))
 
   pub whole_refuted : (new : Ledger) → IsFedTo posed given state left → outcome_at_end state left ≡ refutes new → IsRefuted (whole_outcome posed given)
   whole_refuted new fed e = (new, whole fed ∙ e)

@@ -1,9 +1,8 @@
 -- From the bytes of a proof with hints to the line that no decision map is accepted.
-use Rattle.std.proofs.Common.{◌≡◌, ◌+◌, ◌≤◌, ℕ, List, [], length, take, ◌++◌, Option, Some, Vec, Result, Ok, Err, refl, sym, ap, ◌∙◌, subst, arith}
+use Rattle.std.proofs.Common.{◌≡◌, ◌+◌, ◌≤◌, ℕ, List, [], length, take, ◌++◌, Option, Some, Vec, Result, Ok, Err, refl, sym, subst, arith}
 use Rattle.std.proofs.KnownBytes.{Consumes-kept, Consumes-nil}
 use Rattle.std.specs.Io.KnownBytes.{Consumes, Keeps, IsAtEnd}
 use Rattle.wf_model.specs.Task.{Task, IsTask}
-use Rattle.wf_model.specs.DecisionMap.{HasNoDecisionMap}
 use Rattle.wf_model.specs.Report.{none}
 use Rattle.wf_formula.specs.Encoding.{question}
 use Rattle.wf_formula.proofs.Tasks.{unsatisfiable_where}
@@ -20,8 +19,8 @@ use Rattle.wf_run.specs.Run.{answered}
 use Rattle.wf_run.specs.declared.fault.RunFault.{RunFault}
 use Rattle.wf_run.specs.declared.fault.RunFault.TheVariants as run
 use Rattle.wf_run.proofs.RunsInPieces.{IsRefusal}
-use Rattle.wf_verify_engine.specs.Hints.{AreRefusedHints, IsOfHints, IsRefuted, ReadsAsHints, ReadsHints, whole_outcome}
-use Rattle.wf_verify_engine.specs.Proofs.{most_proof_bytes}
+use Rattle.wf_verify_engine.specs.Hints.{AreRefusedHints, IsOfHints, ReadsAsHints, ReadsHints}
+use Rattle.wf_verify_engine.specs.Proofs.{IsAcceptedNone, most_proof_bytes}
 use Rattle.wf_verify_engine.specs.Verify.{accepted_text}
 use Rattle.wf_verify_engine.proofs.HintBytes.{IsFedTo, end_fault, more_fed, none_fed, piece_fault, whole_refuted}
 use Rattle.wf_verify_engine.proofs.ProofsToLines.{IsGiven, none_given, piece_given}
@@ -148,4 +147,4 @@ pub told : (t : Task) (r : ℕ) → IsTask t → (old new : Reading) (text : Lis
     → ReadsAsHints {X = Unit {0}} (ledger_of (question t r)) (λ accepted. HasNoModel (ledger_of (question t r))) old new (Ok tt) → ReadsHints t r old new (Ok (tt, text))
 told t r is old new text same read =
     let f = question t r in
-    accepted_of (ledger_of f) _ old new text (λ refuted. ((unsatisfiable_where t r is).0 (refutes_formula f refuted), same)) read
+    accepted_of (ledger_of f) (IsAcceptedNone t r) old new text (λ refuted. ((unsatisfiable_where t r is).0 (refutes_formula f refuted), same)) read
