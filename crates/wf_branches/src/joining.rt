@@ -1,6 +1,7 @@
 //! Putting the parts of all branches together to the report of the whole question.
 
 ghost use Rattle.std.specs.Prelude.{◌≡◌, ◌++◌, ◌∷◌, [], IfOk, Ok, OnOk};
+ghost use Rattle.std.specs.Thread.{IsSync};
 ghost use Rattle.wf_complex.specs.Protocol.{Builds, IsProtocol};
 ghost use Rattle.wf_report.specs.Reports.{body_length, body_of};
 ghost use Rattle.wf_run.specs.Run.{answered};
@@ -61,9 +62,10 @@ pub fn run_join<T: Threads + Sync, R: Read, C: Read, W: Write>(
 }
 
 /// The report that the parts of all branches come to.
-#[derive(Clone, Copy)]
+#[derive(Drop)]
 struct WholeOfParts<'a, T> {
     rt: &'a T,
+    ghost shared: { IsSync T.row },
 }
 
 impl<'a, T: Threads + Sync> SecondText for WholeOfParts<'a, T> {

@@ -26,6 +26,7 @@ use wf_task::Task;
 
 /// A search of one branch of a question, for a report in the form that is wanted. If there is a
 /// gate, it is told of the complex and of the search, as that of the only branch.
+#[derive(Drop)]
 pub struct BranchSearch<'a, G> {
     /// The report that is wanted.
     pub wanted: WantedReport,

@@ -1,6 +1,7 @@
 //! Checking a part: a report whose answer is about one branch of a task's question.
 
 ghost use Rattle.std.specs.Prelude.{◌≡◌, ◌++◌, ℕ, List, IfOk, IfSome, None};
+ghost use Rattle.std.specs.Thread.{IsSync};
 ghost use Rattle.wf_io.specs.Ends.{CanRead};
 ghost use Rattle.wf_complex.specs.Protocol.{IsProtocol};
 ghost use Rattle.wf_report.specs.Reports.{AreNumbered, body_length, body_of, report_seen};
@@ -53,10 +54,11 @@ pub fn run_verify_branch<T: Threads + Sync, R: Read, C: Read, W: Write>(
 }
 
 /// What is accepted of a part about the branch of this number.
-#[derive(Clone, Copy)]
+#[derive(Drop)]
 struct PartOfBranch<'a, T> {
     rt: &'a T,
     number: u32,
+    ghost shared: { IsSync T.row },
 }
 
 impl<'a, T: Threads + Sync> SecondText for PartOfBranch<'a, T> {
@@ -80,6 +82,7 @@ impl<'a, T: Threads + Sync> SecondText for PartOfBranch<'a, T> {
 }
 
 /// What parts are judged by: a task, its protocol complex, and what starts threads.
+#[derive(Drop)]
 pub(crate) struct PartJudge<'a, T> {
     pub(crate) rt: &'a T,
     pub(crate) task: &'a Task,

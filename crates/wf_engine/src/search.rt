@@ -14,6 +14,7 @@ pub struct WantedReport {
 
 /// A search for a report, by so many workers. If there is a gate, it is told how large the complex
 /// is, how many branches there are, and each worker's moments.
+#[derive(Drop)]
 pub struct Search<'a, G> {
     /// The report that is wanted.
     pub wanted: WantedReport,
@@ -24,7 +25,7 @@ pub struct Search<'a, G> {
 }
 
 /// A gate that there may be: it passes on what it is told, or holds nobody.
-#[derive(Clone, Copy)]
+#[derive(Drop)]
 pub struct OptionalGate<'a, G> {
     /// Who is told, if anybody is.
     pub gate: Option<&'a G>,

@@ -248,7 +248,7 @@ pub fn body_of_map(form: Form, values: Vec<u8>, lines: Lines) -> Body
 }
 
 /// The text of the report with this header and this answer.
-#[tactic(auto, unfolding(crate::specs::Texts::text_of_report))]
+#[tactic(auto, unfolding(wf_run::specs::Texts::text_of_report))]
 pub fn report_text(
     alloc: Global,
     task: &Task,

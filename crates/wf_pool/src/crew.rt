@@ -137,6 +137,7 @@ fn put_back<H: Handout, G>(
 
 /// The last worker works in a thread of its own, or after the others where none can be had; the
 /// first one works in this thread. Each worker and share comes back to its place.
+#[cycle(crew)]
 pub(crate) fn crew<R: Threads + Sync, H: Handout, G: Gate>(
     rt: &R,
     alloc: Global,
@@ -170,6 +171,7 @@ pub(crate) fn crew<R: Threads + Sync, H: Handout, G: Gate>(
 
 /// The last worker works in a thread of its own beside the others, or after them where none can be
 /// had. Each worker and share comes back to its place.
+#[cycle(crew)]
 fn last_beside<R: Threads + Sync, H: Handout, G: Gate>(
     rt: &R,
     alloc: Global,

@@ -10,8 +10,8 @@ use std::alloc::{AllocError, Global};
 use wf_box::{Box0, KernelCache, Problem};
 use wf_search::{Found, FoundMap, Stop, search_map, search_with};
 
-/// What is asked about a problem: its least map, or that it has none, and which of its lines are
-/// kept for the answer.
+/// What is asked: the least map of a problem, or that it has none, with those lines of its search
+/// that are kept.
 #[derive(Clone, Copy, Drop)]
 pub(crate) struct Inquiry<'a> {
     pub(crate) problem: &'a Problem,
@@ -29,10 +29,11 @@ pub(crate) fn search_box<S: Stop>(
 ) -> Result<Found, AllocError>
     requires boxed { IsFor inquiry.problem.now boxed }
     requires answers { ServeFor inquiry.problem.now answers.old }
-    ensures found { IfOk result (IsFoundIn inquiry.problem.now inquiry.kept boxed.sets) }
+    ensures found { let q = inquiry.entry in
+        IfOk result (IsFoundIn q.problem.now q.kept boxed.sets) }
     ensures asked { OnOk result ((n : ℕ) × S.asked n stop.old stop.new) }
     ensures stopped { IfOk result (OnStopped (S.is_stopped stop.new)) }
-    ensures answers { ServeFor inquiry.problem.now answers.new }
+    ensures answers { ServeFor inquiry.entry.problem.now answers.new }
 {
     let problem = inquiry.problem;
     match inquiry.kept {

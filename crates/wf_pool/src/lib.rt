@@ -11,7 +11,7 @@
 //! - `worker`: a seat, what the worker keeps of what it found, and what
 //!   closing found out on the way.
 //! - `site`: what all workers share.
-//! - `finding`: what a search finds, with those of its lines that are kept.
+//! - `finding`: what is asked about a problem, and what a search of a box finds.
 //! - `watch`: a worker at a branch; it looks at the board before each turn of its search.
 //! - `crew`: all workers, each in a thread of its own where one can be had.
 //! - `answer`: what the workers kept, brought together by branch.

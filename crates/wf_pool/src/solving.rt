@@ -204,8 +204,9 @@ fn search_whole<G: Gate>(
     requires cover { IsCoverOf inquiry.problem.now cover.now }
     requires branch { told.branch < length (boxes_left_out cover.now) }
     requires answers { ServeFor inquiry.problem.now answers.old }
-    ensures branch { IfOk result (IsAnswerAt inquiry.problem.now inquiry.kept told.branch) }
-    ensures answers { ServeFor inquiry.problem.now answers.new }
+    ensures branch { let q = inquiry.entry in
+        IfOk result (IsAnswerAt q.problem.now q.kept told.entry.branch) }
+    ensures answers { ServeFor inquiry.entry.problem.now answers.new }
 {
     let mut told = told;
     told.gate.at(0, Moment::Taken(told.branch));
@@ -232,8 +233,8 @@ fn lines_to_map(
     requires branch { length below.items < branch_count inquiry.problem.now }
     requires below { let n = length below.items in
         HasEachLines inquiry.problem.now inquiry.kept n below.items }
-    ensures { let n = length below.items in
-        IfOk result (λ ls. LeadIfKept inquiry.problem.now inquiry.kept n own.items ls.items) }
+    ensures { let q = inquiry.entry in let n = length below.items in
+        IfOk result (λ ls. LeadIfKept q.problem.now q.kept n own.items ls.items) }
 {
     match inquiry.kept {
         KeptLines::All => fill_to_map(alloc, inquiry.problem, cover, below, own),
@@ -273,8 +274,8 @@ fn lines_of_none(
     requires count { length lists.items ≡ branch_count inquiry.problem.now }
     requires lists { let n = branch_count inquiry.problem.now in
         HasEachLines inquiry.problem.now inquiry.kept n lists.items }
-    ensures { let r = root inquiry.problem.now in
-        IfOk result (λ ls. AreLinesOf inquiry.problem.now inquiry.kept r ls.items) }
+    ensures { let q = inquiry.entry in
+        IfOk result (λ ls. AreLinesOf q.problem.now q.kept (root q.problem.now) ls.items) }
 {
     match inquiry.kept {
         KeptLines::All | KeptLines::Refuting => cover.fill(alloc, lists),
@@ -293,9 +294,9 @@ fn search_all<R: Threads + Sync, H: Handout, G: Gate>(
     requires seats { All (λ d. d ≡ fresh_desk site.board.now) seats.items }
     requires some { (0 < site.board.now.workers) × (site.board.now.workers < 2 ^ 32) }
     requires few { site.board.now.branches * site.board.now.workers < 2 ^ 32 }
-    ensures count { IfOk result (λ ws. length ws.items ≡ site.board.now.workers) }
-    ensures workers { IfOk result (λ ws. AreWorkersOf site ws.items) }
-    ensures settled { IfOk result (λ ws. AreAllSettled site.board.now ws.items) }
+    ensures count { IfOk result (λ ws. length ws.items ≡ site.entry.board.now.workers) }
+    ensures workers { IfOk result (λ ws. AreWorkersOf site.entry ws.items) }
+    ensures settled { IfOk result (λ ws. AreAllSettled site.entry.board.now ws.items) }
 {
     let (handout, shares) = H::deal(alloc, site.cover.branches(), seats.len() as u32)?;
     let workers = fresh_workers(alloc, site.inquiry, site.board, seats)?;
@@ -315,7 +316,7 @@ fn fresh_workers(
     requires { All (λ d. d ≡ fresh_desk board.now) seats.items }
     ensures count { IfOk result (λ ws. length ws.items ≡ length seats.items) }
     ensures workers { IfOk result (λ ws.
-        All (IsFresh inquiry.problem.now inquiry.kept board.now) ws.items) }
+        All (IsFresh inquiry.entry.problem.now inquiry.entry.kept board.now) ws.items) }
 {
     let mut workers = Vec::with_capacity(alloc, seats.len())?;
     let mut seats = seats;
@@ -382,7 +383,7 @@ fn finish(
     requires workers { AreWorkers inquiry.problem.now inquiry.kept board workers.items }
     requires settled { AreAllSettled board workers.items }
     ensures branches { IfOk result (λ r. r.0.branches ≡ board.branches) }
-    ensures tells { IfOk result (λ r. Tells inquiry.problem.now inquiry.kept r.0 r.1) }
+    ensures tells { IfOk result (λ r. Tells inquiry.entry.problem.now inquiry.entry.kept r.0 r.1) }
 {
     let (seats, finds) = apart(alloc, workers)?;
     Ok((board.finish(seats), finds))
@@ -400,8 +401,8 @@ fn answer_of(
     requires cover { IsCoverOf inquiry.problem.now cover.now }
     requires branches { account.branches ≡ branch_count inquiry.problem.now }
     requires tells { Tells inquiry.problem.now inquiry.kept account finds }
-    ensures answer { IfOk result (IsAnswer inquiry.problem.now inquiry.kept) }
-    ensures account { IfOk result (λ a. HasAccount inquiry.problem.now a account) }
+    ensures answer { IfOk result (IsAnswer inquiry.entry.problem.now inquiry.entry.kept) }
+    ensures account { IfOk result (λ a. HasAccount inquiry.entry.problem.now a account) }
 {
     if account.least < account.branches {
         return map_answer(alloc, inquiry, cover, finds, account);
@@ -427,8 +428,8 @@ fn map_answer(
     requires branches { account.branches ≡ branch_count inquiry.problem.now }
     requires tells { Tells inquiry.problem.now inquiry.kept account finds }
     requires some { account.least < account.branches }
-    ensures answer { IfOk result (IsAnswer inquiry.problem.now inquiry.kept) }
-    ensures account { IfOk result (λ a. HasAccount inquiry.problem.now a account) }
+    ensures answer { IfOk result (IsAnswer inquiry.entry.problem.now inquiry.entry.kept) }
+    ensures account { IfOk result (λ a. HasAccount inquiry.entry.problem.now a account) }
 {
     let AllFinds { maps, lines } = finds;
     let (map, own) = map_of(inquiry, maps, account.least);

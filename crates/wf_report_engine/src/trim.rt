@@ -1,6 +1,7 @@
 //! Writing a shorter report.
 
 ghost use Rattle.std.specs.Prelude.{◌≡◌, IfOk, map};
+ghost use Rattle.std.specs.Thread.{IsSync};
 ghost use Rattle.wf_complex.specs.Protocol.{IsProtocol};
 ghost use Rattle.wf_lines.specs.Lines.{line_of};
 ghost use Rattle.wf_report.specs.Reports.{AreNumbered, body_length, report_seen};
@@ -47,9 +48,10 @@ pub fn run_trim<T: Threads + Sync, R: Read, C: Read, W: Write>(
 }
 
 /// A shorter report.
-#[derive(Clone, Copy)]
+#[derive(Drop)]
 struct ShorterReport<'a, T> {
     rt: &'a T,
+    ghost shared: { IsSync T.row },
 }
 
 impl<'a, T: Threads + Sync> ReportAnswer for ShorterReport<'a, T> {

@@ -1,6 +1,7 @@
 //! Telling what a map decides.
 
 ghost use Rattle.std.specs.Prelude.{None};
+ghost use Rattle.std.specs.Thread.{IsSync};
 ghost use Rattle.wf_run.specs.Sources.{CanReadBoth};
 ghost use Rattle.wf_verify_engine.specs.Verify.{AreDecisions, Decides};
 
@@ -39,9 +40,10 @@ pub fn run_decisions<T: Threads + Sync, R: Read, C: Read, W: Write>(
 }
 
 /// What a report's map decides at the points.
-#[derive(Clone, Copy)]
+#[derive(Drop)]
 struct MapInWords<'a, T> {
     rt: &'a T,
+    ghost shared: { IsSync T.row },
 }
 
 impl<'a, T: Threads + Sync> ReportAnswer for MapInWords<'a, T> {

@@ -1,6 +1,7 @@
 //! Reporting the map of a model that a SAT solver found.
 
 ghost use Rattle.std.specs.Prelude.{◌≤◌, length};
+ghost use Rattle.std.specs.Thread.{IsSync};
 ghost use Rattle.wf_model.specs.Limits.{most_bytes};
 ghost use Rattle.wf_io.specs.Ends.{CanRead};
 ghost use Rattle.wf_complex.specs.Protocol.{IsProtocol};
@@ -50,9 +51,10 @@ pub fn run_model<T: Threads + Sync, R: Read, C: Read, W: Write>(
 }
 
 /// The report of the map that a solver's model gives.
-#[derive(Clone, Copy)]
+#[derive(Drop)]
 struct MapOfModel<'a, T> {
     rt: &'a T,
+    ghost shared: { IsSync T.row },
 }
 
 impl<'a, T: Threads + Sync> SecondText for MapOfModel<'a, T> {

@@ -1,6 +1,7 @@
 //! Checking a report about a task.
 
 ghost use Rattle.std.specs.Prelude.{◌≡◌, ℕ, IfOk, List, string_bytes};
+ghost use Rattle.std.specs.Thread.{IsSync};
 ghost use Rattle.wf_model.specs.Task as tasks;
 ghost use Rattle.wf_model.specs.Report as reports;
 ghost use Rattle.wf_io.specs.Ends.{CanRead};
@@ -118,10 +119,11 @@ fn answer_for<A: ReportAnswer>(
 }
 
 /// What is accepted of a report, which is told with the rounds if these are asked for.
-#[derive(Clone, Copy)]
+#[derive(Drop)]
 struct Acceptance<'a, T> {
     rt: &'a T,
     rounds: Option<u32>,
+    ghost shared: { IsSync T.row },
 }
 
 impl<'a, T: Threads + Sync> ReportAnswer for Acceptance<'a, T> {

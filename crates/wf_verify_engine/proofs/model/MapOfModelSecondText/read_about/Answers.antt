@@ -1,6 +1,6 @@
 use Rattle.std.proofs.Common.{Ok, Err}
 use Rattle.wf_verify_engine.proofs.ModelsToReports.{map_few, passed}
-use Rattle.wf_verify_engine.proofs.model.MapOfModel.read_about.Goals as goal
+use Rattle.wf_verify_engine.proofs.model.MapOfModelSecondText.read_about.Goals as goal
 
 pub returns-in_err-map : goal.returns-in_err-map
 returns-in_err-map g c =

@@ -1,7 +1,7 @@
 use Rattle.wf_run.specs.Run.{answered}
 use Rattle.wf_branches.specs.Verifying.{ReadsPart}
 use Rattle.wf_branches.proofs.BranchProofs.{found_in, missing_in}
-use Rattle.wf_branches.proofs.verifying.PartOfBranch.read_about.Goals as goal
+use Rattle.wf_branches.proofs.verifying.PartOfBranchSecondText.read_about.Goals as goal
 
 pub returns-in_err-branch : goal.returns-in_err-branch
 returns-in_err-branch g c =
