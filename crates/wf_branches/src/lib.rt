@@ -38,10 +38,10 @@ pub use joining::run_join;
 pub use laws::{
     branch_answers_are_true, branch_proving_is_counted, branch_refutations_are_true,
     branch_solving_is_counted, branches_cover_all_maps, hinted_branch_proving_is_counted,
-    hinted_branch_refutations_are_true, joining_is_counted, joins_are_accepted,
-    joins_are_true, joins_of_searches_are_whole, listing_branches_is_counted,
-    part_acceptances_are_true, part_checking_is_counted, parts_of_searches_are_joined,
-    parts_of_searches_join_to_the_whole, solved_reports_are_accepted,
+    hinted_branch_refutations_are_true, joining_is_counted, joins_are_accepted, joins_are_true,
+    joins_of_searches_are_whole, listing_branches_is_counted, part_acceptances_are_true,
+    part_checking_is_counted, parts_of_searches_are_joined, parts_of_searches_join_to_the_whole,
+    solved_reports_are_accepted,
 };
 pub use listing::run_branches;
 pub use refuting::run_proof_branch;

@@ -36,9 +36,9 @@ pub use decisions::run_decisions;
 pub use hints::{read_hints_from, run_hinted_proof};
 pub use laws::{
     acceptances_are_true, accepted_reports_are_verified, deciding_is_counted, decisions_are_true,
-    hinted_proving_is_counted, hinted_refutations_are_true, modelling_is_counted, models_are_accepted, models_are_true, obstructions_are_true,
-    proving_is_counted, refutations_are_true, verifying_certificates_is_counted,
-    verifying_is_counted,
+    hinted_proving_is_counted, hinted_refutations_are_true, modelling_is_counted,
+    models_are_accepted, models_are_true, obstructions_are_true, proving_is_counted,
+    refutations_are_true, verifying_certificates_is_counted, verifying_is_counted,
 };
 pub use model::run_model;
 pub use outcome::{Accepted, Verified};
