@@ -5,7 +5,7 @@
     tasks.py NAME..     writes some of them
     tasks.py --list     says their names
 
-The predicates are in python/wfcheck/gallery.py. A task of your own is made by the module wfcheck: docs/FORMAT.md, "Writing a task"."""
+The predicates are in python/wfcheck/gallery.py. A task of your own is made by the module wfcheck: docs/TASKS.md."""
 import argparse
 import pathlib
 import sys

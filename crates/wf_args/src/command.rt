@@ -20,7 +20,7 @@ const PROOFS: &str =
 
 /// What the help of `obstruction` says of the answers.
 const OBSTRUCTIONS: &str =
-    "Status 0: an obstruction is written; verify accepts it, and explain tells it in words.\nStatus 1: none was found, and standard error tells which moduli were tried. The task may still have no decision map.\nExample: wfcheck obstruction < gallery/set-agreement-3-2.json";
+    "Status 0: an obstruction is written; verify accepts it, and explain tells it in words.\nStatus 1: none was found, and standard error tells which moduli were tried. The task may still have no decision map.\nExample: wfcheck obstruction < gallery/tasks/set-agreement-3-2.json";
 
 fn number<'a>(alloc: Global, name: &'a str, help: &'a str) -> Arg<'a>
     ensures { IsOption (line.required (line.number_option name.now)) result }

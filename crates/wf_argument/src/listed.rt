@@ -1,17 +1,17 @@
 //! The executions in words, each with its points.
 
 ghost use Rattle.std.specs.Prelude.{◌≡◌, ◌++◌, ◌<◌, [], codes, decimal, flat_map, length};
-ghost use Rattle.wf_model.specs.Execution.{executions};
-ghost use Rattle.wf_model.specs.Problem.{problem_of};
 ghost use Rattle.wf_model.specs.Simplex.{processes_of};
 ghost use Rattle.wf_io.specs.Ends.{CanWrite};
 ghost use Rattle.wf_io.specs.Texts.{PutsText, WritesText};
 ghost use Rattle.wf_complex.specs.Protocol.{IsProtocol};
 ghost use Rattle.wf_argument.specs.Listing.{before_process, execution_line, executions_text, spaced};
+ghost use Rattle.wf_argument.specs.Subject.{IsMatched, executions_in, problem_in};
 ghost use Rattle.wf_argument.specs.Table.{IsWhole, break_text, table_of, text_of};
 ghost use Rattle.wf_argument.specs.Text.{block_text, word_text};
 
 use crate::executions::{Executions, LocatedExecution, block_of, members_of};
+use crate::subject::Subject;
 use std::io::Write;
 use wf_complex::Protocol;
 use wf_io::{Page, Sink, WriteFault};
@@ -39,7 +39,12 @@ pub fn write_executions<W: Write>(
         (executions_text task.now protocol.now.rounds) result }
 {
     let mut page = page;
-    put_executions(&mut page, sink, table, task, protocol)?;
+    let subject = Subject {
+        task,
+        protocol,
+        executions: table,
+    };
+    put_executions(&mut page, sink, &subject)?;
     page.finish(sink)
 }
 
@@ -47,18 +52,15 @@ pub fn write_executions<W: Write>(
 fn put_executions<W: Write>(
     page: &mut Page,
     sink: &mut Sink<W>,
-    table: &Executions,
-    task: &Task,
-    protocol: &Protocol,
+    subject: &Subject,
 ) -> Result<(), WriteFault>
     requires open { CanWrite sink.old }
-    requires protocol { IsProtocol task.now protocol.now.rounds protocol.now }
-    requires table { table.now ≡ table_of task.now protocol.now.rounds }
+    requires subject { IsMatched subject.now }
     ensures { PutsText sink.old page.old sink.new page.new
-        (executions_text task.now protocol.now.rounds) result }
+        (executions_text subject.now.task.now subject.now.protocol.now.rounds) result }
 {
-    for execution in 0..protocol.executions() {
-        put_execution(page, sink, table, task, protocol, execution)?;
+    for execution in 0..subject.protocol.executions() {
+        put_execution(page, sink, subject, execution)?;
     }
     Ok(())
 }
@@ -67,21 +69,19 @@ fn put_executions<W: Write>(
 fn put_execution<W: Write>(
     page: &mut Page,
     sink: &mut Sink<W>,
-    table: &Executions,
-    task: &Task,
-    protocol: &Protocol,
+    subject: &Subject,
     execution: u32,
 ) -> Result<(), WriteFault>
     requires open { CanWrite sink.old }
-    requires protocol { IsProtocol task.now protocol.now.rounds protocol.now }
-    requires table { table.now ≡ table_of task.now protocol.now.rounds }
-    requires execution { execution < length protocol.now.simplices }
-    ensures { PutsText sink.old page.old sink.new page.new
-        (execution_line (problem_of task.now protocol.now.rounds)
-        (executions task.now protocol.now.rounds) execution) result }
+    requires subject { IsMatched subject.now }
+    requires execution { execution < length subject.now.protocol.now.simplices }
+    ensures { PutsText sink.old page.old sink.new page.new (execution_line
+        (problem_in subject.now) (executions_in subject.now) execution) result }
 {
+    let protocol = subject.protocol;
     put_number(page, sink, execution)?;
-    put_words(page, sink, &table.find(task, protocol, execution))?;
+    let found = subject.executions.find(subject.task, protocol, execution);
+    put_words(page, sink, &found)?;
     put_end(page, sink, protocol.points_of(execution))
 }
 

@@ -15,7 +15,7 @@ ghost use Rattle.wf_argument.specs.Trail.{state_of, values_of};
 use crate::executions::Executions;
 use crate::grounds::Grounds;
 use crate::state::{Case, State};
-use crate::steps::put_taking;
+use crate::steps::{LineRun, put_taking};
 use crate::subject::Subject;
 use crate::words::{put_any, put_margin};
 use std::alloc::{AllocError, Global};
@@ -24,6 +24,15 @@ use wf_complex::Protocol;
 use wf_lines::Line;
 use wf_set::{Mask, split_first};
 use wf_task::Task;
+
+/// Memory that is used again from part to part.
+#[derive(Drop)]
+struct Room {
+    // what the step of now rests on
+    grounds: Grounds,
+    // the values of the part of now
+    values: Vec<u8>,
+}
 
 /// Adds the parts of the argument that these lines make. Answers how many steps they make.
 pub(crate) fn put_lines(
@@ -74,12 +83,14 @@ fn put_parts(
         let parts = parts_of (map line_of lines.now) in
         OnOk result (state.new.number ≡ 1 + steps_made p (Some (state_of state.old)) parts) }
 {
-    let mut grounds = Grounds::new(alloc);
-    let mut values = Vec::new(alloc);
+    let mut room = Room {
+        grounds: Grounds::new(alloc),
+        values: Vec::new(alloc),
+    };
     let mut told = 0;
     'parts: while told < lines.len() {
         let rest = &lines[told..];
-        let Some(count) = put_part(text, subject, rest, state, &mut grounds, &mut values)? else {
+        let Some(count) = put_part(text, subject, rest, state, &mut room)? else {
             return Ok(());
         };
         told += count;
@@ -94,8 +105,7 @@ fn put_part(
     subject: &Subject,
     lines: &[Line],
     state: &mut State,
-    grounds: &mut Grounds,
-    values: &mut Vec<u8>,
+    room: &mut Room,
 ) -> Result<Option<usize>, AllocError>
     requires subject { IsMatched subject.now }
     requires some { 0 < length lines.now }
@@ -119,18 +129,13 @@ fn put_part(
             process,
             value,
         } => {
-            let count = set_values(values, execution, process, value, lines)?;
-            put_taking(text, subject, execution, process, values, state, grounds)?;
+            let count = set_values(&mut room.values, execution, process, value, lines)?;
+            let run = LineRun::of(execution, process, &room.values);
+            put_taking(text, subject, &run, state, &mut room.grounds)?;
             Ok(Some(count))
         }
-        Line::Empty { point } => {
-            let is_going = put_end(text, point, state)?;
-            Ok(one_if(is_going))
-        }
-        Line::Branch { point } => {
-            let is_going = put_split(text, point, state, values)?;
-            Ok(one_if(is_going))
-        }
+        Line::Empty { point } => Ok(one_if(put_end(text, point, state)?)),
+        Line::Branch { point } => Ok(one_if(put_split(text, point, state, &mut room.values)?)),
         Line::Found => Ok(None),
     }
 }

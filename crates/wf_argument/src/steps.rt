@@ -30,73 +30,104 @@ struct TakingStep<'a> {
     points: &'a [u32],
 }
 
+/// What lines, one after another, take from a process in an execution.
+#[derive(Clone, Copy, Debug)]
+pub(crate) struct LineRun<'a> {
+    execution: u32,
+    process: u8,
+    values: &'a [u8],
+}
+
+/// Values that are still to be taken from a process where it takes part in an execution.
+#[derive(Clone, Copy, Debug)]
+struct ValuesToTake<'a> {
+    seat: Participant<'a>,
+    values: &'a [u8],
+}
+
+impl<'a> LineRun<'a> {
+    /// Lines that take these values.
+    pub(crate) fn of(execution: u32, process: u8, values: &'a [u8]) -> LineRun<'a>
+        ensures execution { result.execution ≡ execution }
+        ensures process { result.process ≡ process }
+        ensures values { result.values.now ≡ values.now }
+    {
+        LineRun {
+            execution,
+            process,
+            values,
+        }
+    }
+}
+
 /// Adds the steps that take values from a process in an execution, and takes them. Where it takes
 /// no part there, nothing is said.
 pub(crate) fn put_taking(
     text: &mut String,
     subject: &Subject,
-    execution: u32,
-    process: u8,
-    values: &[u8],
+    run: &LineRun,
     state: &mut State,
     grounds: &mut Grounds,
 ) -> Result<(), AllocError>
     requires subject { IsMatched subject.now }
-    requires few { state.old.number + length values.now < 2 ^ 64 }
+    requires few { state.old.number + length run.now.values.now < 2 ^ 64 }
     requires values { values_of state.old ≡ (problem_in subject.now).values }
     ensures text { let p = problem_in subject.now in let s = state_of state.old in
-        let at = place_of 0 process (constraint_at p execution).scope in
+        let at = place_of 0 run.now.process (constraint_at p run.now.execution).scope in
         let es = executions_in subject.now in
         OnOk result (string_bytes text.new ≡ string_bytes text.old
-        ++ told_taking p es s execution values.now at) }
+        ++ told_taking p es s run.now.execution run.now.values.now at) }
     ensures state { let p = problem_in subject.now in let s = state_of state.old in
-        let at = place_of 0 process (constraint_at p execution).scope in
-        OnOk result (state_of state.new ≡ after_taking p s execution values.now at) }
+        let at = place_of 0 run.now.process (constraint_at p run.now.execution).scope in OnOk result
+        (state_of state.new ≡ after_taking p s run.now.execution run.now.values.now at) }
     ensures values { state.new.values ≡ state.old.values }
 {
     let protocol = subject.protocol;
-    if execution >= protocol.executions() {
+    if run.execution >= protocol.executions() {
         return Ok(());
     }
-    let number = protocol.simplex_of(execution);
-    let Some(place) = place_of(subject.task, number, process) else {
+    let number = protocol.simplex_of(run.execution);
+    let Some(place) = place_of(subject.task, number, run.process) else {
         return Ok(());
     };
-    let points = protocol.points_of(execution);
-    let tuples = subject.task.tuples(number);
     let seat = Participant {
-        execution,
+        execution: run.execution,
         place,
-        points,
-        tuples,
+        points: protocol.points_of(run.execution),
+        tuples: subject.task.tuples(number),
     };
-    put_steps(text, subject, &seat, values, state, grounds)?;
-    Ok(())
+    let taking = ValuesToTake {
+        seat,
+        values: run.values,
+    };
+    put_steps(text, subject, &taking, state, grounds)
 }
 
 /// Adds the steps that take values from a process where it takes part, and takes them.
 fn put_steps(
     text: &mut String,
     subject: &Subject,
-    seat: &Participant,
-    values: &[u8],
+    taking: &ValuesToTake,
     state: &mut State,
     grounds: &mut Grounds,
 ) -> Result<(), AllocError>
     requires subject { IsMatched subject.now }
-    requires seat { IsSeat subject.now seat.now }
-    requires few { state.old.number + length values.now < 2 ^ 64 }
+    requires seat { IsSeat subject.now taking.now.seat }
+    requires few { state.old.number + length taking.now.values.now < 2 ^ 64 }
     requires values { values_of state.old ≡ (problem_in subject.now).values }
-    ensures text { OnOk result (string_bytes text.new
-        ≡ string_bytes text.old ++ taking_left subject.now seat.now state.old values.now) }
-    ensures state { OnOk result (state_of state.new
-        ≡ state_after subject.now seat.now state.old values.now) }
+    ensures text { let x = taking.now in OnOk result (string_bytes text.new
+        ≡ string_bytes text.old ++ taking_left subject.now x.seat state.old x.values.now) }
+    ensures state { let x = taking.now in OnOk result (state_of state.new
+        ≡ state_after subject.now x.seat state.old x.values.now) }
     ensures values { state.new.values ≡ state.old.values }
 {
     let mut told = 0;
-    'steps: while told < values.len() {
-        let rest = &values[told..];
-        told += put_next(text, subject, seat, rest, state, grounds)?;
+    'steps: while told < taking.values.len() {
+        let rest = ValuesToTake {
+            seat: taking.seat,
+            values: &taking.values[told..],
+        };
+        told += put_next(text, subject, &rest, state, grounds)?;
     }
     Ok(())
 }
@@ -105,32 +136,32 @@ fn put_steps(
 fn put_next(
     text: &mut String,
     subject: &Subject,
-    seat: &Participant,
-    values: &[u8],
+    taking: &ValuesToTake,
     state: &mut State,
     grounds: &mut Grounds,
 ) -> Result<usize, AllocError>
     requires subject { IsMatched subject.now }
-    requires seat { IsSeat subject.now seat.now }
-    requires some { 0 < length values.now }
+    requires seat { IsSeat subject.now taking.now.seat }
+    requires some { 0 < length taking.now.values.now }
     requires few { state.old.number + 1 < 2 ^ 64 }
     requires values { values_of state.old ≡ (problem_in subject.now).values }
-    ensures text { let x = subject.now in IfOk result (λ count.
-        string_bytes text.new ++ taking_left x seat.now state.new (drop count values.now)
-        ≡ string_bytes text.old ++ taking_left x seat.now state.old values.now) }
-    ensures state { let x = subject.now in IfOk result (λ count.
-        state_after x seat.now state.new (drop count values.now)
-        ≡ state_after x seat.now state.old values.now) }
+    ensures text { let x = subject.now in let seat = taking.now.seat in IfOk result (λ count.
+        string_bytes text.new ++ taking_left x seat state.new (drop count taking.now.values.now)
+        ≡ string_bytes text.old ++ taking_left x seat state.old taking.now.values.now) }
+    ensures state { let x = subject.now in let seat = taking.now.seat in IfOk result (λ count.
+        state_after x seat state.new (drop count taking.now.values.now)
+        ≡ state_after x seat state.old taking.now.values.now) }
     ensures number { OnOk result (state.new.number ≡ state.old.number + 1) }
     ensures some { IfOk result (λ count. 0 < count) }
-    ensures within { IfOk result (λ count. count ≤ length values.now) }
+    ensures within { IfOk result (λ count. count ≤ length taking.now.values.now) }
     ensures values { state.new.values ≡ state.old.values }
 {
-    let count = grounds.take_step(seat, values, state)?;
+    let seat = &taking.seat;
+    let count = grounds.take_step(seat, taking.values, state)?;
     let step = TakingStep {
         execution: seat.execution,
         point: seat.points[seat.place as usize],
-        values: &values[..count],
+        values: &taking.values[..count],
         points: seat.points,
     };
     put_step(text, subject, &step, state, grounds)?;

@@ -69,6 +69,8 @@ struct WholeOfParts<'a, T> {
 }
 
 impl<'a, T: Threads + Sync> SecondText for WholeOfParts<'a, T> {
+    ghost is_ready = { λ _. IsSync T.row };
+
     ghost reads = { λ whole. ReadsParts };
 
     fn read_about<C: Read>(

@@ -62,6 +62,8 @@ struct PartOfBranch<'a, T> {
 }
 
 impl<'a, T: Threads + Sync> SecondText for PartOfBranch<'a, T> {
+    ghost is_ready = { λ _. IsSync T.row };
+
     ghost reads = { λ part. ReadsIn ReadsPart part.number };
 
     fn read_about<C: Read>(

@@ -17,8 +17,8 @@ use std::marker::Model;
 use wf_drat::{Code, Literal};
 
 /// A clause's id is at most so many times as large as the number of clauses that there ever were,
-/// this one among them: so memory follows the length of a proof. Solvers number their clauses one by
-/// one, or leave a few numbers out.
+/// this one among them: so memory follows the length of a proof. Solvers number their clauses one
+/// by one, or leave a few numbers out.
 pub const MOST_ID_GROWTH: u64 = 64;
 
 /// Clauses that are kept by their ids.

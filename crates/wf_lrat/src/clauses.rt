@@ -14,8 +14,8 @@ const MOST_WORDS: usize = u32::MAX as usize;
 /// So many words of clauses that were deleted are borne with.
 const FEW: usize = 4096;
 
-/// The clauses by their ids, one behind the other in one list: of each how many literals it has, and
-/// their codes.
+/// The clauses by their ids, one behind the other in one list: of each how many literals it has,
+/// and their codes.
 ///
 /// Contracts see the clause of each id, if there is one.
 #[derive(Drop)]
@@ -77,11 +77,12 @@ impl HintClauses {
         Some(&self.arena[place..place + size])
     }
 
-    /// Keeps a clause under an id above all others. Refused for want of memory alone, which there is
-    /// for fewer than 2^32 words; then nothing changes.
+    /// Keeps a clause under an id above all others. Refused for want of memory alone, which there
+    /// is for fewer than 2^32 words; then nothing changes.
     pub(crate) fn put(&mut self, id: usize, clause: &[Code]) -> Result<(), AllocError>
         requires { length self.old < id }
-        ensures { self.new ≡ (if is_ok result then self.old ++ (replicate (id - 1 - length self.old)
+        ensures { self.new ≡ (if is_ok result then self.old
+            ++ (replicate (id - 1 - length self.old)
             None ++ Some (clause_of clause.now) ∷ []) else self.old) }
     {
         let head = self.arena.len();

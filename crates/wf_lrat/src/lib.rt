@@ -1,8 +1,8 @@
-//! A checker of clausal proofs with hints (LRAT): each clause comes with the ids of those from which
-//! it follows by unit propagation, one after the other.
+//! A checker of clausal proofs with hints (LRAT): each clause comes with the ids of those from
+//! which it follows by unit propagation, one after the other.
 //!
-//! It knows propositional logic alone, and nothing of who wrote the proof. The promise: where
-//! [`HintChecker::is_refuted`] answers true, and so where [`HintProof::finish`] accepts, the clauses
+//! It knows propositional logic alone, and nothing of who wrote the proof. The promise: if
+//! [`HintChecker::is_refuted`] answers true, and so if [`HintProof::finish`] accepts, the clauses
 //! that were added have no common model, whatever the proof's bytes are.
 //!
 //! - [`HintChecker`]: takes the clauses one by one, and the steps of a proof. What hints come to is

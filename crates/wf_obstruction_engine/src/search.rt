@@ -16,7 +16,7 @@ pub const MODULI: [u32; 8] = [2, 3, 4, 5, 7, 8, 9, 2_147_483_647];
 #[derive(Drop)]
 pub(crate) enum Sought {
     /// It found this.
-    FoundObstruction(Obstruction),
+    Found(Obstruction),
     /// It found none modulo these numbers.
     NotFound(Tried),
 }
@@ -67,7 +67,7 @@ impl<L: Listener> ObstructionSearch<'_, L> {
     /// Looks for one modulo this number.
     fn only(&self, modulus: u32) -> Result<Sought, Stopped> {
         match self.modulo(modulus)? {
-            Some(found) => Ok(Sought::FoundObstruction(found)),
+            Some(found) => Ok(Sought::Found(found)),
             None => Ok(Sought::NotFound(Tried::Only(modulus))),
         }
     }
@@ -77,7 +77,7 @@ impl<L: Listener> ObstructionSearch<'_, L> {
     fn each(&self) -> Result<Sought, Stopped> {
         for (place, modulus) in MODULI.iter().enumerate() {
             if let Some(found) = self.modulo(*modulus)? {
-                return Ok(Sought::FoundObstruction(found));
+                return Ok(Sought::Found(found));
             }
             if place == 0 && self.has_none()? {
                 return Ok(Sought::NotFound(Tried::AllNumbers));

@@ -55,6 +55,8 @@ struct ShorterReport<'a, T> {
 }
 
 impl<'a, T: Threads + Sync> ReportAnswer for ShorterReport<'a, T> {
+    ghost is_ready = { λ _. IsSync T.row };
+
     type Answer = ();
 
     ghost is_text = { λ shorter. AreTrimmed };

@@ -74,6 +74,9 @@ pub trait SecondText {
     ghost reads: { Self → model.Task → ℕ → Reading → Reading
         → Result (Unit {0} × List ℕ) RunFault → Type 0 };
 
+    // what has to hold of it before it reads
+    ghost is_ready: { Self → Type 0 } = { λ _. Unit {0} };
+
     /// The text that is made of what is read.
     fn read_about<C: Read>(
         &self,
@@ -82,6 +85,7 @@ pub trait SecondText {
         protocol: &Protocol,
         source: &mut Source<C>,
     ) -> Result<((), Vec<u8>), RunFault>
+        requires ready { is_ready self.now }
         requires source { CanRead source.old }
         requires protocol { Builds task.now protocol.now.rounds (Ok protocol.now) }
         ensures { reads self.now task.now protocol.now.rounds source.old source.new
@@ -99,7 +103,8 @@ pub fn run_over_both<B: SecondText, R: Read, C: Read, W: Write>(
     rounds: u32,
     second: &B,
 ) -> Result<(), RunFault>
-    requires { CanReadBoth task_source.old source.old sink.old }
+    requires ready { B.is_ready second.now }
+    requires ends { CanReadBoth task_source.old source.old sink.old }
     ensures { Ran (AsksBoth (B.reads second.now) rounds task_source.old task_source.new
         source.old source.new) sink.old sink.new result }
 {
@@ -115,6 +120,7 @@ fn ask_both<B: SecondText, R: Read, C: Read>(
     rounds: u32,
     second: &B,
 ) -> Result<((), Vec<u8>), RunFault>
+    requires ready { B.is_ready second.now }
     requires task { CanRead task_source.old }
     requires source { CanRead source.old }
     ensures { AsksBoth (B.reads second.now) rounds task_source.old task_source.new
@@ -132,7 +138,8 @@ fn ask_about<B: SecondText, C: Read>(
     rounds: u32,
     second: &B,
 ) -> Result<((), Vec<u8>), RunFault>
-    requires { CanRead source.old }
+    requires ready { B.is_ready second.now }
+    requires source { CanRead source.old }
     ensures { AsksWithin (B.reads second.now) rounds task.now source.old source.new
         (answered result) }
 {

@@ -39,10 +39,23 @@ pub fn trim(
     ensures { IfOk result (λ kept. AreAmong kept.items lines.now) }
 {
     let mut trimmer = Trimmer::start(alloc, task.values(), protocol.points(), lines)?;
+    let told = TaskLines {
+        task,
+        protocol,
+        lines,
+    };
     for number in 0..lines.len() {
-        trimmer.read(task, protocol, lines, number)?;
+        trimmer.read(&told, number)?;
     }
     trimmer.kept.of(alloc, lines)
+}
+
+/// Lines, with the task and the protocol complex that they are about.
+#[derive(Clone, Copy)]
+struct TaskLines<'a> {
+    task: &'a Task,
+    protocol: &'a Protocol,
+    lines: &'a [Line],
 }
 
 /// Where a block begins.
@@ -122,22 +135,19 @@ impl Trimmer {
     }
 
     /// Reads the line of a number.
-    fn read(
-        &mut self,
-        task: &Task,
-        protocol: &Protocol,
-        lines: &[Line],
-        number: usize,
-    ) -> Result<(), AllocError>
-        requires { number < length lines.now }
+    fn read(&mut self, told: &TaskLines, number: usize) -> Result<(), AllocError>
+        requires { number < length told.now.lines.now }
     {
-        match lines[number] {
+        match told.lines[number] {
             Line::Remove {
                 execution,
                 process,
                 value,
-            } => self.remove(protocol, number, execution, process, value),
-            Line::Empty { point } => self.close(task, protocol, lines, number, point),
+            } => match point_of(told.protocol, execution, process) {
+                Some(point) => self.remove(number, point, value),
+                None => Ok(()),
+            },
+            Line::Empty { point } => self.close(told, number, point),
             Line::Branch { point } => self.open(number, point),
             Line::Found => {
                 self.keep_all(number);
@@ -146,23 +156,10 @@ impl Trimmer {
         }
     }
 
-    /// The line takes a value out, if it is there.
-    fn remove(
-        &mut self,
-        protocol: &Protocol,
-        number: usize,
-        execution: u32,
-        process: u8,
-        value: u8,
-    ) -> Result<(), AllocError> {
+    /// The line takes a value out at a point, if the value is there.
+    fn remove(&mut self, number: usize, point: u32, value: u8) -> Result<(), AllocError> {
         let values = self.values;
-        if execution >= protocol.executions() || !holds(values, value) {
-            return Ok(());
-        }
-        let Some(point) = protocol.point_at(execution, process) else {
-            return Ok(());
-        };
-        if self.path.find(point, value).is_none() {
+        if holds(values, value) && self.path.find(point, value).is_none() {
             self.path.push(point, value, number)?;
         }
         Ok(())
@@ -237,19 +234,12 @@ impl Trimmer {
     }
 
     /// The line says that a point has no candidate left, which ends the block.
-    fn close(
-        &mut self,
-        task: &Task,
-        protocol: &Protocol,
-        lines: &[Line],
-        number: usize,
-        point: u32,
-    ) -> Result<(), AllocError>
-        requires { number < length lines.now }
+    fn close(&mut self, told: &TaskLines, number: usize, point: u32) -> Result<(), AllocError>
+        requires { number < length told.now.lines.now }
     {
         self.kept.keep(number);
         self.need_all(point)?;
-        self.end_block(task, protocol, lines, 0)?;
+        self.end_block(told, 0)?;
         let end = number + 1;
         let mut bound = 0;
         for _ in 0..self.branches.len() {
@@ -261,7 +251,7 @@ impl Trimmer {
                 return Ok(());
             }
             bound = self.end_branch(&branch, end)?;
-            self.end_block(task, protocol, lines, bound)?;
+            self.end_block(told, bound)?;
         }
         Ok(())
     }
@@ -281,38 +271,25 @@ impl Trimmer {
 
     /// Goes through the lines of the block of now that take values out, from the last one to the
     /// first: those that are needed are kept.
-    fn end_block(
-        &mut self,
-        task: &Task,
-        protocol: &Protocol,
-        lines: &[Line],
-        bound: u32,
-    ) -> Result<(), AllocError> {
+    fn end_block(&mut self, told: &TaskLines, bound: u32) -> Result<(), AllocError> {
         for _ in self.block.path..self.path.len() {
             if let Some(step) = self.path.pop() {
-                self.judge(task, protocol, lines, step, bound)?;
+                self.judge(told, step, bound)?;
             }
         }
         Ok(())
     }
 
     /// Keeps the line by which a value went, if it is needed.
-    fn judge(
-        &mut self,
-        task: &Task,
-        protocol: &Protocol,
-        lines: &[Line],
-        step: LostValue,
-        bound: u32,
-    ) -> Result<(), AllocError> {
+    fn judge(&mut self, told: &TaskLines, step: LostValue, bound: u32) -> Result<(), AllocError> {
         if step.point >= bound && self.needs.count(step.line) == 0 {
             return Ok(());
         }
         self.kept.keep(step.line);
-        let Some(line) = lines.get(step.line) else {
+        let Some(line) = told.lines.get(step.line) else {
             return Ok(());
         };
-        match claim_of(task, protocol, *line) {
+        match claim_of(told.task, told.protocol, *line) {
             Some(claim) => self.need_reasons(claim, bound),
             None => Ok(()),
         }
@@ -395,6 +372,14 @@ impl Trimmer {
             self.kept.keep(step.line);
         }
     }
+}
+
+/// The point of a process in an execution; none where the complex has no such point.
+fn point_of(protocol: &Protocol, execution: u32, process: u8) -> Option<u32> {
+    if execution >= protocol.executions() {
+        return None;
+    }
+    protocol.point_at(execution, process)
 }
 
 /// Whether the lines end in that of a map.

@@ -47,6 +47,8 @@ struct MapInWords<'a, T> {
 }
 
 impl<'a, T: Threads + Sync> ReportAnswer for MapInWords<'a, T> {
+    ghost is_ready = { λ _. IsSync T.row };
+
     type Answer = ();
 
     ghost is_text = { λ words. AreDecisions };

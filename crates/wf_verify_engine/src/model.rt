@@ -58,6 +58,8 @@ struct MapOfModel<'a, T> {
 }
 
 impl<'a, T: Threads + Sync> SecondText for MapOfModel<'a, T> {
+    ghost is_ready = { λ _. IsSync T.row };
+
     ghost reads = { λ map. ReadsMap };
 
     fn read_about<C: Read>(

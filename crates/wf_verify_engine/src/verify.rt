@@ -52,6 +52,9 @@ pub trait ReportAnswer {
     // which text an answer has, for a task and a report about it
     ghost is_text: { Self → tasks.Task → reports.Report → Self.Answer → List ℕ → Type 0 };
 
+    // what has to hold of it before it is asked
+    ghost is_ready: { Self → Type 0 } = { λ _. Unit {0} };
+
     /// The answer about a report, with its text, if the report is accepted.
     fn of_report(
         &self,
@@ -59,7 +62,8 @@ pub trait ReportAnswer {
         task: &Task,
         report: Report,
     ) -> Result<(Self::Answer, Vec<u8>), RunFault>
-        requires { AreNumbered (body_length report.body) }
+        requires ready { is_ready self.now }
+        requires few { AreNumbered (body_length report.body) }
         ensures { IsVerified (is_text self.now) task.now (report_seen report) (answered result) };
 }
 
@@ -74,7 +78,8 @@ pub fn run_over_report<A: ReportAnswer, R: Read, C: Read, W: Write>(
     rounds: Option<u32>,
     asked: &A,
 ) -> Result<A::Answer, RunFault>
-    requires { CanReadBoth task_source.old report_source.old sink.old }
+    requires ready { A.is_ready asked.now }
+    requires ends { CanReadBoth task_source.old report_source.old sink.old }
     ensures { Ran (Checks rounds (A.is_text asked.now) task_source.old task_source.new
         report_source.old report_source.new) sink.old sink.new result }
 {
@@ -90,6 +95,7 @@ fn ask_sources<A: ReportAnswer, R: Read, C: Read>(
     rounds: Option<u32>,
     asked: &A,
 ) -> Result<(A::Answer, Vec<u8>), RunFault>
+    requires ready { A.is_ready asked.now }
     requires task { CanRead task_source.old }
     requires report { CanRead report_source.old }
     ensures { Checks rounds (A.is_text asked.now) task_source.old task_source.new
@@ -108,7 +114,8 @@ fn answer_for<A: ReportAnswer>(
     rounds: Option<u32>,
     asked: &A,
 ) -> Result<(A::Answer, Vec<u8>), RunFault>
-    requires { AreNumbered (body_length report.body) }
+    requires ready { A.is_ready asked.now }
+    requires few { AreNumbered (body_length report.body) }
     ensures { IsVerifiedFor rounds (A.is_text asked.now) task.now (report_seen report)
         (answered result) }
 {
@@ -127,6 +134,8 @@ struct Acceptance<'a, T> {
 }
 
 impl<'a, T: Threads + Sync> ReportAnswer for Acceptance<'a, T> {
+    ghost is_ready = { λ _. IsSync T.row };
+
     type Answer = Accepted;
 
     ghost is_text = { λ acceptance. IsAccepted acceptance.rounds };

@@ -8,5 +8,5 @@ use Rattle.wf_argument.proofs.listed.put_executions.Given as goal
 
 abbrev pub invariant-loop-execution : goal.invariant-loop-execution
 invariant-loop-execution g l =
-    IsPut l.initial.sink l.initial.page l.sink l.page (executions_text l.task l.protocol.rounds)
-    (flat_map (execution_line (problem_of l.task l.protocol.rounds) (executions l.task l.protocol.rounds)) (numbers_left l.execution (length (executions l.task l.protocol.rounds))))
+    IsPut l.initial.sink l.initial.page l.sink l.page (executions_text l.subject.task.now l.subject.protocol.now.rounds)
+    (flat_map (execution_line (problem_of l.subject.task.now l.subject.protocol.now.rounds) (executions l.subject.task.now l.subject.protocol.now.rounds)) (numbers_left l.execution (length (executions l.subject.task.now l.subject.protocol.now.rounds))))

@@ -14,10 +14,10 @@ put_step-requires-clause-execution c = c.requires.seat.execution
 
 pub returns-clause-text : goal.returns-clause-text
 returns-clause-text c =
-    let x = c.args.subject.now in let seat = c.args.seat.now in
+    let x = c.args.subject.now in let seat = c.args.taking.now.seat in
     let p = problem_in x in let es = executions_in x in let s = state_of c.args.state.now in
     let e = seat.execution in let v = point_at seat in let count = c.in_ok-count.count in
-    let values = take count c.args.values.now in let took = c.in_ok-count.ensures in
+    let values = take count c.args.taking.now.values.now in let took = c.in_ok-count.ensures in
     let after = c.take_step.new.state in
     let noted = c.take_step.new.self.needed.items in let why = c.take_step.new.self.reasons.items in
     let line : State → List ℕ → List ℕ = λ s all. string_bytes c.args.text.now ++ indented s.depth (claim_text s.number v values e ++ (execution_text (slice_get es e) ++ (codes ", " ++ (grounds_text seat.points.now noted why ++ rest_text v (left_at all s.gone v))))) in
@@ -25,8 +25,8 @@ returns-clause-text c =
     let one : after.number + 1 ≡ suc after.number = omega arith in
     let next : State → State = λ s. record s { number = suc s.number } in
     let with_number : ℕ → State = λ n. record (state_of after) { number = n } in
-    told_step p s (with_number (after.number + 1)) e count (seat.place, v) c.args.values.now es (string_bytes c.args.text.now) (string_bytes c.put_step.new.text)
-    (is_step p s (with_number (after.number + 1)) e count (seat.place, v) c.args.values.now seat.place v seat.points.now seat.tuples.now refl c.requires.seat.points c.requires.seat.tuples took.steps
+    told_step p s (with_number (after.number + 1)) e count (seat.place, v) c.args.taking.now.values.now es (string_bytes c.args.text.now) (string_bytes c.put_step.new.text)
+    (is_step p s (with_number (after.number + 1)) e count (seat.place, v) c.args.taking.now.values.now seat.place v seat.points.now seat.tuples.now refl c.requires.seat.points c.requires.seat.tuples took.steps
     (ap with_number one ∙ ap next took.state))
     (c.in_ok-put_step.ensures
     ∙ (λ i. line (took.state i) (same i))
@@ -34,7 +34,7 @@ returns-clause-text c =
 
 pub returns-clause-state : goal.returns-clause-state
 returns-clause-state c =
-    let x = c.args.subject.now in let seat = c.args.seat.now in
+    let x = c.args.subject.now in let seat = c.args.taking.now.seat in
     let p = problem_in x in let s = state_of c.args.state.now in
     let e = seat.execution in let v = point_at seat in let count = c.in_ok-count.count in
     let took = c.in_ok-count.ensures in
@@ -42,6 +42,6 @@ returns-clause-state c =
     let one : after.number + 1 ≡ suc after.number = omega arith in
     let next : State → State = λ s. record s { number = suc s.number } in
     let with_number : ℕ → State = λ n. record (state_of after) { number = n } in
-    state_step p s (with_number (after.number + 1)) e count (seat.place, v) c.args.values.now
-    (is_step p s (with_number (after.number + 1)) e count (seat.place, v) c.args.values.now seat.place v seat.points.now seat.tuples.now refl c.requires.seat.points c.requires.seat.tuples took.steps
+    state_step p s (with_number (after.number + 1)) e count (seat.place, v) c.args.taking.now.values.now
+    (is_step p s (with_number (after.number + 1)) e count (seat.place, v) c.args.taking.now.values.now seat.place v seat.points.now seat.tuples.now refl c.requires.seat.points c.requires.seat.tuples took.steps
     (ap with_number one ∙ ap next took.state))

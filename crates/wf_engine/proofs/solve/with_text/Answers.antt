@@ -14,7 +14,7 @@ returns-in_ok-text-in-Map-clause-found c =
     let answer = subst (IsAnswer (problem_of t r) (lines_kept c.args.wanted.form)) c.in-Map.is c.requires.answer in
     let lines = map line_of c.in-Map.lines.items in
     map_verdict t r c.args.wanted.form c.in-Map.values.items lines _ c.requires.header.task answer.0 answer.1
-    (c.in_ok-text-in-Map.ensures ∙ ap (text_of_report t r) c.body_of_map.ensures)
+    (c.in_ok-text-in-Map.ensures ∙ ap (text_of_report t r) c.body_of_map-body.ensures)
 
 pub returns-in_ok-text-in-Nothing-clause-found : goal.returns-in_ok-text-in-Nothing-clause-found
 returns-in_ok-text-in-Nothing-clause-found c =

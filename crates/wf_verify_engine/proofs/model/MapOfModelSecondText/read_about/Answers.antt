@@ -8,7 +8,7 @@ returns-in_err-map g c =
     (Err e, c.in_err-map.ensures, passed e c.from_residual.result c.from_residual.ensures)
 
 pub report_map-requires-clause-few : goal.report_map-requires-clause-few
-report_map-requires-clause-few g c =
+report_map-requires-clause-few g c κs within =
     map_few c.args.task.now c.args.protocol.now.rounds c.args.protocol.now c.requires.protocol c.args.source.now c.read_model.new.source c.in_ok-map.map.items c.in_ok-map.ensures
 
 pub returns : goal.returns
