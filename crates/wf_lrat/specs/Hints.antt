@@ -32,7 +32,8 @@ abbrev pub hinted : List (Option Clause) → List Literal → List ℕ → HintV
 hinted slots trail [] = NoConflict
 hinted slots trail (id ∷ ids) = by_hint (slot_of slots id) trail (λ next. hinted slots next ids)
 
--- one of its literals is true where all are assumed to be false: it has a literal beside its negation
+-- one of its literals is true where all are assumed to be false: it has a literal beside its
+-- negation
 abbrev pub is_tautology : Clause → Bool
 is_tautology clause = list_any (is_on (map negation clause)) clause
 

@@ -15,8 +15,8 @@ returns g c =
     let words = accepted_words (body_of c.args.report.now.body) in (
       c.in_ok-check_part.ensures,
       ap (λ v. v.items) c.into_bytes.ensures.value ∙ c.in_ok-text.ensures
-          ∙ ap (λ w. accepted_in w c.index-index.result.number c.index-index.result.count c.rounds.result) c.accepted_words.ensures
-          ∙ ap (λ k. accepted_in words k c.index-index.result.count c.rounds.result) index.number
-          ∙ ap (λ n. accepted_in words i n c.rounds.result) (index.count ∙ branch.count)
-          ∙ ap (accepted_in words i (length (branches t r))) c.rounds.ensures,
+          ∙ ap (λ w. accepted_in w c.index-index.result.number c.index-index.result.count c.rounds-rounds.result) c.accepted_words.ensures
+          ∙ ap (λ k. accepted_in words k c.index-index.result.count c.rounds-rounds.result) index.number
+          ∙ ap (λ n. accepted_in words i n c.rounds-rounds.result) (index.count ∙ branch.count)
+          ∙ ap (accepted_in words i (length (branches t r))) c.rounds-rounds.ensures,
     )
