@@ -62,10 +62,9 @@ pub fn run_join<T: Threads + Sync, R: Read, C: Read, W: Write>(
 }
 
 /// The report that the parts of all branches come to.
-#[derive(Drop)]
+#[derive(Clone, Copy)]
 struct WholeOfParts<'a, T> {
     rt: &'a T,
-    ghost shared: { IsSync T.row },
 }
 
 impl<'a, T: Threads + Sync> SecondText for WholeOfParts<'a, T> {

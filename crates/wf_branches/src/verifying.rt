@@ -54,11 +54,10 @@ pub fn run_verify_branch<T: Threads + Sync, R: Read, C: Read, W: Write>(
 }
 
 /// What is accepted of a part about the branch of this number.
-#[derive(Drop)]
+#[derive(Clone, Copy)]
 struct PartOfBranch<'a, T> {
     rt: &'a T,
     number: u32,
-    ghost shared: { IsSync T.row },
 }
 
 impl<'a, T: Threads + Sync> SecondText for PartOfBranch<'a, T> {

@@ -48,10 +48,9 @@ pub fn run_trim<T: Threads + Sync, R: Read, C: Read, W: Write>(
 }
 
 /// A shorter report.
-#[derive(Drop)]
+#[derive(Clone, Copy)]
 struct ShorterReport<'a, T> {
     rt: &'a T,
-    ghost shared: { IsSync T.row },
 }
 
 impl<'a, T: Threads + Sync> ReportAnswer for ShorterReport<'a, T> {

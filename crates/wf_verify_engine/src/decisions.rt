@@ -40,10 +40,9 @@ pub fn run_decisions<T: Threads + Sync, R: Read, C: Read, W: Write>(
 }
 
 /// What a report's map decides at the points.
-#[derive(Drop)]
+#[derive(Clone, Copy)]
 struct MapInWords<'a, T> {
     rt: &'a T,
-    ghost shared: { IsSync T.row },
 }
 
 impl<'a, T: Threads + Sync> ReportAnswer for MapInWords<'a, T> {

@@ -51,10 +51,9 @@ pub fn run_model<T: Threads + Sync, R: Read, C: Read, W: Write>(
 }
 
 /// The report of the map that a solver's model gives.
-#[derive(Drop)]
+#[derive(Clone, Copy)]
 struct MapOfModel<'a, T> {
     rt: &'a T,
-    ghost shared: { IsSync T.row },
 }
 
 impl<'a, T: Threads + Sync> SecondText for MapOfModel<'a, T> {

@@ -126,11 +126,10 @@ fn answer_for<A: ReportAnswer>(
 }
 
 /// What is accepted of a report, which is told with the rounds if these are asked for.
-#[derive(Drop)]
+#[derive(Clone, Copy)]
 struct Acceptance<'a, T> {
     rt: &'a T,
     rounds: Option<u32>,
-    ghost shared: { IsSync T.row },
 }
 
 impl<'a, T: Threads + Sync> ReportAnswer for Acceptance<'a, T> {
