@@ -153,7 +153,7 @@ model_asked rows =
 abbrev pub proof_asked : List Row → Asked
 proof_asked rows =
     needed piece.Task (task_of rows) (λ path. needed piece.Rounds (rounds_of rows) (λ rounds. this_job_on path (λ task. job.Proof task rounds
-    (branch_of rows))))
+    (branch_of rows) (has_flag (codes "lrat") rows))))
 
 abbrev pub trim_asked : List Row → Asked
 trim_asked rows = needed piece.Task (task_of rows) (λ path. this_job_on path (λ task. job.Trim task))

@@ -82,7 +82,7 @@ abbrev pub model : Shape
 model = subcommand (codes "model") (required task_option ∷ rounds ∷ [])
 
 abbrev pub proof : Shape
-proof = subcommand (codes "proof") (required task_option ∷ rounds ∷ branch_option ∷ [])
+proof = subcommand (codes "proof") (required task_option ∷ rounds ∷ branch_option ∷ flag_option (codes "lrat") ∷ [])
 
 abbrev pub trim : Shape
 trim = subcommand (codes "trim") (required task_option ∷ [])

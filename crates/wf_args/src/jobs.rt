@@ -290,6 +290,7 @@ fn proof_job(alloc: Global, found: &ArgMatches<'_>) -> Result<Job, WordsFault>
             task: String::from_str(alloc, task)?,
             rounds,
             branch: number(found, "branch"),
+            hints: flag(found, "lrat"),
         }),
         (None, _) => Err(missing(Piece::Task)),
         (Some(_), None) => Err(missing(Piece::Rounds)),

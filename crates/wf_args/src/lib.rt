@@ -118,6 +118,8 @@ pub enum Job {
         /// The branch of the question that the proof is about alone, by its
         /// number, where one is named.
         branch: Option<u32>,
+        /// Whether the proof has hints (LRAT).
+        hints: bool,
     },
     /// Tell the points with what the map of a report decides there.
     Decisions {

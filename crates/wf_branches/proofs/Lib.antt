@@ -21,3 +21,4 @@ pub mod Joinable
 pub mod JoinedSearches
 pub mod JoinLimits
 pub mod SolvedReports
+pub mod HintedBranches

@@ -2,6 +2,7 @@
 pub mod Branches
 pub mod Listing
 pub mod Refuting
+pub mod Hints
 pub mod Solving
 pub mod Verifying
 pub mod Joining

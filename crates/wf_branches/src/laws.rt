@@ -1,6 +1,7 @@
 //! Laws of runs over branches: that what they say is true, what all of them
 //! together come to, and what holds after each.
 
+ghost use Rattle.wf_branches.specs.Hints.{HintedBranchProvingIsCounted, HintedBranchRefutationsAreTrue};
 ghost use Rattle.wf_branches.specs.SolvedReports.{SolvedReportsAreAccepted};
 ghost use Rattle.wf_branches.specs.Laws.{BranchAnswersAreTrue, BranchesCoverAllMaps, BranchProvingIsCounted, BranchRefutationsAreTrue, BranchSolvingIsCounted, JoiningIsCounted, JoinsAreAccepted, JoinsAreTrue, JoinsOfSearchesAreWhole, ListingBranchesIsCounted, PartAcceptancesAreTrue, PartCheckingIsCounted, PartsOfSearchesAreJoined, PartsOfSearchesJoinToTheWhole};
 
@@ -22,6 +23,13 @@ pub fn branch_answers_are_true()
 /// so, whatever the proof's bytes are.
 pub fn branch_refutations_are_true()
     ensures { BranchRefutationsAreTrue }
+{}
+
+/// What is accepted for a SAT solver's proof with hints about a branch is true: the source of the
+/// task gave its bytes, the branch is there, no decision map lies in it, and the sink took the line
+/// that says so, whatever the proof's bytes are.
+pub fn hinted_branch_refutations_are_true()
+    ensures { HintedBranchRefutationsAreTrue }
 {}
 
 /// The writing of a branch's question takes at most one byte more than a text may have, tells each
@@ -54,6 +62,13 @@ pub fn part_checking_is_counted()
 /// nothing where it is refused for anything but a failed write.
 pub fn branch_proving_is_counted()
     ensures { BranchProvingIsCounted }
+{}
+
+/// A check of a proof with hints about a branch takes at most one byte more than a text may have of
+/// the task's source, and one more than a proof may have of the proof's, tells each failed call,
+/// and writes nothing where it is refused for anything but a failed write.
+pub fn hinted_branch_proving_is_counted()
+    ensures { HintedBranchProvingIsCounted }
 {}
 
 /// What is written for the parts of all branches is true: the source of the task gave its bytes,

@@ -9,6 +9,8 @@
 //!   is accepted of the branch out.
 //! - [`run_proof_branch`]: a task's text and a SAT solver's clausal proof in, and that no decision
 //!   map of one branch is accepted out.
+//! - [`run_hinted_proof_branch`]: a task's text and a solver's proof with hints in, and that no
+//!   decision map of one branch is accepted out.
 //! - [`run_join`]: a task's text and the parts of its branches in, and the
 //!   report of the whole question out.
 //!
@@ -21,6 +23,7 @@
 
 mod asking;
 mod branch;
+mod hinted;
 mod joining;
 mod laws;
 mod listing;
@@ -30,13 +33,15 @@ mod solving;
 mod verifying;
 
 pub use asking::run_cnf_branch;
+pub use hinted::run_hinted_proof_branch;
 pub use joining::run_join;
 pub use laws::{
     branch_answers_are_true, branch_proving_is_counted, branch_refutations_are_true,
-    branch_solving_is_counted, branches_cover_all_maps, joining_is_counted, joins_are_accepted,
-    joins_are_true, joins_of_searches_are_whole, listing_branches_is_counted,
-    part_acceptances_are_true, part_checking_is_counted, parts_of_searches_are_joined,
-    parts_of_searches_join_to_the_whole, solved_reports_are_accepted,
+    branch_solving_is_counted, branches_cover_all_maps, hinted_branch_proving_is_counted,
+    hinted_branch_refutations_are_true, joining_is_counted, joins_are_accepted, joins_are_true,
+    joins_of_searches_are_whole, listing_branches_is_counted, part_acceptances_are_true,
+    part_checking_is_counted, parts_of_searches_are_joined, parts_of_searches_join_to_the_whole,
+    solved_reports_are_accepted,
 };
 pub use listing::run_branches;
 pub use refuting::run_proof_branch;

@@ -27,11 +27,13 @@ use Rattle.wf_verify_engine.proofs.CheckCounts.{checked}
 use Rattle.wf_run.proofs.Counts.{counted, handed, preset_counted}
 use Rattle.wf_verify_engine.proofs.ModelCounts.{modelled}
 use Rattle.wf_verify_engine.proofs.ProofCounts.{proved}
+use Rattle.wf_verify_engine.proofs.HintCounts.{proved_by_hints}
 use Rattle.wf_formula.specs.Branches.{branch_text}
 use Rattle.wf_branches.specs.Branches.{IsBranchTextOf}
 use Rattle.wf_branches.specs.Listing.{branches_text}
 use Rattle.wf_branches.specs.Solving.{IsSolvedIn}
 use Rattle.wf_branches.proofs.Counts.{branch_counted, branch_proved}
+use Rattle.wf_branches.proofs.HintedBranches.{branch_proved_by_hints}
 use Rattle.wf_branches.proofs.CheckedParts.{part_checked}
 use Rattle.wf_branches.proofs.JoinedTruth.{joining_counted}
 use Rattle.wf_branches.specs.Joining.{most_parts_bytes}
@@ -60,7 +62,7 @@ failed (Err e) = failed_calls (refusal_status e)
 
 -- how many bytes the text may have that is read of the source
 abbrev most_with : FileJob → ℕ
-most_with (filed.Proof rounds branch) = most_proof_bytes
+most_with (filed.Proof rounds branch hints) = most_proof_bytes
 most_with (filed.Join rounds) = most_parts_bytes
 most_with f = most_bytes
 
@@ -231,10 +233,14 @@ module _ (file file' source source' : Reading) (sink sink' : Writing) where
   did_with (filed.Join rounds) done (result, does, is) =
       both_written most_parts_bytes result done is (joining_counted rounds file file' source source' sink sink' result does)
   did_with (filed.Model rounds) done (result, does, is) = both_written most_bytes result done is (modelled rounds file file' source source' sink sink' result does)
-  did_with (filed.Proof rounds None) done (result, does, is) =
+  did_with (filed.Proof rounds None false) done (result, does, is) =
       both_written most_proof_bytes result done is (proved rounds file file' source source' sink sink' result does)
-  did_with (filed.Proof rounds (Some branch)) done (result, does, is) =
+  did_with (filed.Proof rounds (Some branch) false) done (result, does, is) =
       both_written most_proof_bytes result done is (branch_proved rounds branch file file' source source' sink sink' result does)
+  did_with (filed.Proof rounds None true) done (result, does, is) =
+      both_written most_proof_bytes result done is (proved_by_hints rounds file file' source source' sink sink' result does)
+  did_with (filed.Proof rounds (Some branch) true) done (result, does, is) =
+      both_written most_proof_bytes result done is (branch_proved_by_hints rounds branch file file' source source' sink sink' result does)
   did_with filed.Decisions done (result, does, is) =
       both_written most_bytes result done is (checked None AreDecisions file file' source source' sink sink' result does)
   did_with filed.Trim done (result, does, is) =
@@ -343,7 +349,7 @@ did opens folder folder' source source' sink sink' (Ok (job.Verify task rounds))
 did opens folder folder' source source' sink sink' (Ok (job.VerifyBranch task rounds branch)) done does = with_file (Ok (job.VerifyBranch task rounds branch)) refl (filed.VerifyBranch rounds branch) refl (opens (string_bytes task)) folder folder' source source' sink sink' done does
 did opens folder folder' source source' sink sink' (Ok (job.Join task rounds)) done does = with_file (Ok (job.Join task rounds)) refl (filed.Join rounds) refl (opens (string_bytes task)) folder folder' source source' sink sink' done does
 did opens folder folder' source source' sink sink' (Ok (job.Model task rounds)) done does = with_file (Ok (job.Model task rounds)) refl (filed.Model rounds) refl (opens (string_bytes task)) folder folder' source source' sink sink' done does
-did opens folder folder' source source' sink sink' (Ok (job.Proof task rounds branch)) done does = with_file (Ok (job.Proof task rounds branch)) refl (filed.Proof rounds branch) refl (opens (string_bytes task)) folder folder' source source' sink sink' done does
+did opens folder folder' source source' sink sink' (Ok (job.Proof task rounds branch hints)) done does = with_file (Ok (job.Proof task rounds branch hints)) refl (filed.Proof rounds branch hints) refl (opens (string_bytes task)) folder folder' source source' sink sink' done does
 did opens folder folder' source source' sink sink' (Ok (job.Decisions task)) done does = with_file (Ok (job.Decisions task)) refl (filed.Decisions) refl (opens (string_bytes task)) folder folder' source source' sink sink' done does
 did opens folder folder' source source' sink sink' (Ok (job.Trim task)) done does = with_file (Ok (job.Trim task)) refl (filed.Trim) refl (opens (string_bytes task)) folder folder' source source' sink sink' done does
 did opens folder folder' source source' sink sink' (Ok (job.Explain task)) done does = with_file (Ok (job.Explain task)) refl (filed.Explain) refl (opens (string_bytes task)) folder folder' source source' sink sink' done does

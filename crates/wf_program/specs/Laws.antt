@@ -18,7 +18,7 @@ file_count (Ok (VerifyBranch task rounds branch)) = 1
 file_count (Ok (Decisions task)) = 1
 file_count (Ok (Join task rounds)) = 1
 file_count (Ok (Model task rounds)) = 1
-file_count (Ok (Proof task rounds branch)) = 1
+file_count (Ok (Proof task rounds branch hints)) = 1
 file_count (Ok (Trim task)) = 1
 file_count (Ok (Explain task)) = 1
 file_count (Ok (Lift task rounds)) = 1
@@ -26,7 +26,7 @@ file_count asked = 0
 
 -- how many bytes the text may have that a job reads of the source
 abbrev pub most_read : Result Job WordsFault → ℕ
-most_read (Ok (Proof task rounds branch)) = most_proof_bytes
+most_read (Ok (Proof task rounds branch hints)) = most_proof_bytes
 most_read (Ok (Join task rounds)) = most_parts_bytes
 most_read asked = most_bytes
 

@@ -26,6 +26,7 @@ use Rattle.wf_verify_engine.specs.Verify.{Decides}
 use Rattle.wf_verify_engine.specs.Certificates.{VerifiesCertificate}
 use Rattle.wf_verify_engine.specs.Models.{Models}
 use Rattle.wf_verify_engine.specs.Proofs.{Refutes}
+use Rattle.wf_verify_engine.specs.Hints.{RefutesByHints}
 use Rattle.wf_run.specs.Presets.{WritesPreset}
 use Rattle.wf_argument.specs.Listing.{executions_text}
 use Rattle.wf_report_engine.specs.Trimming.{Trims}
@@ -36,6 +37,7 @@ use Rattle.wf_branches.specs.Branches.{ListsBranch}
 use Rattle.wf_branches.specs.Listing.{branches_text}
 use Rattle.wf_branches.specs.Joining.{Joins}
 use Rattle.wf_branches.specs.Refuting.{RefutesBranch}
+use Rattle.wf_branches.specs.Hints.{RefutesBranchByHints}
 use Rattle.wf_branches.specs.Solving.{SolvesBranch}
 use Rattle.wf_branches.specs.Verifying.{VerifiesBranch}
 use Rattle.wf_obstruction_engine.specs.Finding.{FindsObstruction, gave_up_text, tried_text}
@@ -157,9 +159,12 @@ DoesWithFile (filed.VerifyBranch rounds branch) task task' source source' sink s
     Ended written (VerifiesBranch rounds branch) task task' source source' sink sink' done
 DoesWithFile (filed.Join rounds) task task' source source' sink sink' done = Ended written (Joins rounds) task task' source source' sink sink' done
 DoesWithFile (filed.Model rounds) task task' source source' sink sink' done = Ended written (Models rounds) task task' source source' sink sink' done
-DoesWithFile (filed.Proof rounds None) task task' source source' sink sink' done = Ended written (Refutes rounds) task task' source source' sink sink' done
-DoesWithFile (filed.Proof rounds (Some branch)) task task' source source' sink sink' done =
+DoesWithFile (filed.Proof rounds None false) task task' source source' sink sink' done = Ended written (Refutes rounds) task task' source source' sink sink' done
+DoesWithFile (filed.Proof rounds (Some branch) false) task task' source source' sink sink' done =
     Ended written (RefutesBranch rounds branch) task task' source source' sink sink' done
+DoesWithFile (filed.Proof rounds None true) task task' source source' sink sink' done = Ended written (RefutesByHints rounds) task task' source source' sink sink' done
+DoesWithFile (filed.Proof rounds (Some branch) true) task task' source source' sink sink' done =
+    Ended written (RefutesBranchByHints rounds branch) task task' source source' sink sink' done
 DoesWithFile filed.Decisions task task' source source' sink sink' done = Ended written Decides task task' source source' sink sink' done
 DoesWithFile filed.Trim task task' source source' sink sink' done = Ended written Trims task task' source source' sink sink' done
 DoesWithFile filed.Explain task task' source source' sink sink' done = Ended written Explains task task' source source' sink sink' done
@@ -233,7 +238,7 @@ filed_of (Verify task rounds) = Some (filed.Verify rounds, string_bytes task)
 filed_of (VerifyBranch task rounds branch) = Some (filed.VerifyBranch rounds branch, string_bytes task)
 filed_of (Join task rounds) = Some (filed.Join rounds, string_bytes task)
 filed_of (Model task rounds) = Some (filed.Model rounds, string_bytes task)
-filed_of (Proof task rounds branch) = Some (filed.Proof rounds branch, string_bytes task)
+filed_of (Proof task rounds branch hints) = Some (filed.Proof rounds branch hints, string_bytes task)
 filed_of (Decisions task) = Some (filed.Decisions, string_bytes task)
 filed_of (Trim task) = Some (filed.Trim, string_bytes task)
 filed_of (Explain task) = Some (filed.Explain, string_bytes task)

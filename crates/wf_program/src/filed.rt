@@ -13,11 +13,13 @@ use std::alloc::Global;
 use std::io::{Read, Write};
 use std::thread::Threads;
 use wf_args::Job;
-use wf_branches::{run_join, run_proof_branch, run_verify_branch};
+use wf_branches::{run_hinted_proof_branch, run_join, run_proof_branch, run_verify_branch};
 use wf_io::{Sink, Source};
 use wf_report_engine::{run_explain, run_lift, run_trim};
 use wf_run::RunFault;
-use wf_verify_engine::{run_decisions, run_model, run_proof, run_verify_certificate};
+use wf_verify_engine::{
+    run_decisions, run_hinted_proof, run_model, run_proof, run_verify_certificate,
+};
 
 /// What a job does with the task in a file, and with what the source gives about it.
 #[derive(Clone, Copy)]
@@ -30,9 +32,9 @@ pub(crate) enum FileJob {
     Join(u32),
     /// Report the map of a solver's model for so many rounds.
     Model(u32),
-    /// Check a solver's proof that there is no map after so many rounds, or
-    /// none in the branch of this number.
-    Proof(u32, Option<u32>),
+    /// Check a solver's proof that there is no map after so many rounds, or none in the branch of
+    /// this number. Whether the proof has hints stands at the end.
+    Proof(u32, Option<u32>, bool),
     /// Tell what a report's map decides.
     Decisions,
     /// Write a report with the lines that are needed.
@@ -64,7 +66,8 @@ impl FileJob {
                 task,
                 rounds,
                 branch,
-            } => (FileJob::Proof(*rounds, *branch), task),
+                hints,
+            } => (FileJob::Proof(*rounds, *branch, *hints), task),
             Job::Decisions { task } => (FileJob::Decisions, task),
             Job::Trim { task } => (FileJob::Trim, task),
             Job::Explain { task } => (FileJob::Explain, task),
@@ -125,11 +128,17 @@ impl FileJob {
             FileJob::Model(rounds) => {
                 after_writing(run_model(rt, alloc, task, source, sink, rounds))
             }
-            FileJob::Proof(rounds, None) => {
+            FileJob::Proof(rounds, None, false) => {
                 after_writing(run_proof(alloc, task, source, sink, rounds))
             }
-            FileJob::Proof(rounds, Some(branch)) => {
+            FileJob::Proof(rounds, None, true) => {
+                after_writing(run_hinted_proof(alloc, task, source, sink, rounds))
+            }
+            FileJob::Proof(rounds, Some(branch), false) => {
                 after_writing(run_proof_branch(alloc, task, source, sink, rounds, branch))
+            }
+            FileJob::Proof(rounds, Some(branch), true) => {
+                after_writing(run_hinted_proof_branch(alloc, task, source, sink, rounds, branch))
             }
             FileJob::Decisions => after_writing(run_decisions(rt, alloc, task, source, sink)),
             FileJob::Trim => after_writing(run_trim(rt, alloc, task, source, sink)),

@@ -15,6 +15,8 @@ use Rattle.wf_cnf.specs.declared.solver.ModelFault.{ModelFault}
 use Rattle.wf_cnf.specs.declared.solver.ModelFault.TheVariants as model
 use Rattle.wf_rup.specs.declared.proof.ProofFault.{ProofFault}
 use Rattle.wf_rup.specs.declared.proof.ProofFault.TheVariants as proof
+use Rattle.wf_lrat.specs.declared.proof.HintFault.{HintFault}
+use Rattle.wf_lrat.specs.declared.proof.HintFault.TheVariants as hints
 use Rattle.wf_obstruction.specs.declared.fault.ObstructionFault.{ObstructionFault}
 use Rattle.wf_obstruction.specs.declared.fault.ObstructionFault.TheVariants as obstruction
 use Rattle.wf_run.specs.declared.fault.PartFault.{PartFault}
@@ -22,7 +24,7 @@ use Rattle.wf_run.specs.declared.fault.PartFault.TheVariants as part
 use Rattle.wf_run.specs.declared.fault.Printed.{Printed}
 use Rattle.wf_run.specs.declared.fault.Printed.TheVariants as printed
 use Rattle.wf_run.specs.declared.fault.RunFault.{RunFault}
-use Rattle.wf_run.specs.declared.fault.RunFault.TheVariants.{TooLong, Task, Build, Cert, Model, Proof, Obstruction, OtherRounds, NoMap, NoBranch, OtherPart, NotInBranch, NoPart, InPart, TooManyParts, OutOfMemory, Read, Write}
+use Rattle.wf_run.specs.declared.fault.RunFault.TheVariants.{TooLong, Task, Build, Cert, Model, Proof, Hints, Obstruction, OtherRounds, NoMap, NoBranch, OtherPart, NotInBranch, NoPart, InPart, TooManyParts, OutOfMemory, Read, Write}
 
 -- a text that is too long is one refusal, and so is out of memory, wherever they came
 abbrev pub of_read : ReadFault → RunFault
@@ -52,6 +54,10 @@ abbrev pub of_proof : ProofFault → RunFault
 of_proof proof.OutOfMemory = OutOfMemory
 of_proof e = Proof e
 
+abbrev pub of_hints : HintFault → RunFault
+of_hints hints.OutOfMemory = OutOfMemory
+of_hints e = Hints e
+
 -- what is printed of a solver's text that gives no map
 abbrev pub model_text : ModelFault → List ℕ
 model_text (model.NoModel line) = codes "37 NoModel " ++ decimal line
@@ -67,6 +73,18 @@ proof_text (proof.NotImplied line) = codes "40 NotImplied " ++ decimal line
 proof_text (proof.NoContradiction line) = codes "41 NoContradiction " ++ decimal line
 proof_text proof.Binary = codes "42 Binary: ask the solver for text by --no-binary"
 proof_text proof.OutOfMemory = task_text.fault_text task.OutOfMemory
+
+-- what is printed of a proof with hints that is not accepted
+abbrev pub hints_text : HintFault → List ℕ
+hints_text (hints.NotALiteral line) = codes "38 NotALiteral " ++ decimal line
+hints_text (hints.NoSuchVariable line) = codes "39 NoSuchVariable " ++ decimal line
+hints_text (hints.NegativeHint line) = codes "61 NegativeHint " ++ decimal line
+hints_text (hints.NoConflict line) = codes "62 NoConflict " ++ decimal line
+hints_text (hints.UnknownHint line) = codes "63 UnknownHint " ++ decimal line
+hints_text (hints.IdOutOfRange line) = codes "64 IdOutOfRange " ++ decimal line
+hints_text (hints.NoContradiction line) = codes "41 NoContradiction " ++ decimal line
+hints_text hints.Binary = codes "42 Binary: ask the solver for text by --no-binary"
+hints_text hints.OutOfMemory = task_text.fault_text task.OutOfMemory
 
 -- what is printed of weighted tuples that are no obstruction
 abbrev pub obstruction_text : ObstructionFault → List ℕ
@@ -96,6 +114,7 @@ fault_text (Build e) = build_text.fault_text e
 fault_text (Cert e) = report_faults.fault_text e
 fault_text (Model e) = model_text e
 fault_text (Proof e) = proof_text e
+fault_text (Hints e) = hints_text e
 fault_text (Obstruction e) = obstruction_text e
 fault_text OtherRounds = codes "36 OtherRounds"
 fault_text NoMap = codes "43 NoMap"

@@ -1,7 +1,7 @@
 //! Why a run is refused.
 
 ghost use Rattle.std.specs.Prelude.{◌≡◌, Some};
-ghost use Rattle.wf_run.specs.Faults.{of_read, of_task, of_build, of_report_fault, of_model, of_proof, fault_text, model_text, obstruction_text, part_fault_text, printed_text, proof_text};
+ghost use Rattle.wf_run.specs.Faults.{of_read, of_task, of_build, of_report_fault, of_model, of_proof, of_hints, fault_text, hints_text, model_text, obstruction_text, part_fault_text, printed_text, proof_text};
 ghost use Rattle.wf_run.specs.declared.fault.RunFault.TheVariants.{OutOfMemory, Write};
 
 use std::alloc::AllocError;
@@ -9,6 +9,7 @@ use std::fmt;
 use wf_cnf::ModelFault;
 use wf_complex::BuildFault;
 use wf_io::{ReadFault, WriteFault};
+use wf_lrat::HintFault;
 use wf_obstruction::ObstructionFault;
 use wf_report::CertFault;
 use wf_rup::ProofFault;
@@ -29,6 +30,8 @@ pub enum RunFault {
     Model(ModelFault),
     /// 38 to 42: the text is no clausal proof that the task has no decision map.
     Proof(ProofFault),
+    /// 38, 39, 41, 42, 61 to 64: the text is no proof with hints that the task has no decision map.
+    Hints(HintFault),
     /// 36: the report is about other rounds than were asked for.
     OtherRounds,
     /// 43: the report is accepted, and has no map to be lifted.
@@ -112,6 +115,7 @@ impl RunFault {
             RunFault::InPart { branch, fault } => Printed::InPart(branch, fault),
             RunFault::Model(fault) => printed_model(fault),
             RunFault::Proof(fault) => printed_proof(fault),
+            RunFault::Hints(fault) => printed_hints(fault),
             RunFault::Obstruction(fault) => printed_obstruction(fault),
             RunFault::OtherRounds => Printed::Words("36 OtherRounds", None),
             RunFault::NoMap => Printed::Words("43 NoMap", None),
@@ -162,6 +166,23 @@ fn printed_proof(fault: ProofFault) -> Printed
             Printed::Words("42 Binary: ask the solver for text by --no-binary", None)
         }
         ProofFault::OutOfMemory => Printed::Task(TaskFault::OutOfMemory),
+    }
+}
+
+/// What is printed of a proof with hints that is not accepted.
+fn printed_hints(fault: HintFault) -> Printed
+    ensures { printed_text result ≡ hints_text fault }
+{
+    match fault {
+        HintFault::NotALiteral { line } => Printed::Words("38 NotALiteral", Some(line)),
+        HintFault::NoSuchVariable { line } => Printed::Words("39 NoSuchVariable", Some(line)),
+        HintFault::NegativeHint { line } => Printed::Words("61 NegativeHint", Some(line)),
+        HintFault::NoConflict { line } => Printed::Words("62 NoConflict", Some(line)),
+        HintFault::UnknownHint { line } => Printed::Words("63 UnknownHint", Some(line)),
+        HintFault::IdOutOfRange { line } => Printed::Words("64 IdOutOfRange", Some(line)),
+        HintFault::NoContradiction { line } => Printed::Words("41 NoContradiction", Some(line)),
+        HintFault::Binary => Printed::Words("42 Binary: ask the solver for text by --no-binary", None),
+        HintFault::OutOfMemory => Printed::Task(TaskFault::OutOfMemory),
     }
 }
 
@@ -268,6 +289,17 @@ impl From<ProofFault> for RunFault {
         match fault {
             ProofFault::OutOfMemory => RunFault::OutOfMemory,
             fault => RunFault::Proof(fault),
+        }
+    }
+}
+
+impl From<HintFault> for RunFault {
+    ghost from_gives = { λ x e. e ≡ of_hints x };
+
+    fn from(fault: HintFault) -> RunFault {
+        match fault {
+            HintFault::OutOfMemory => RunFault::OutOfMemory,
+            fault => RunFault::Hints(fault),
         }
     }
 }

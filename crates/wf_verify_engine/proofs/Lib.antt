@@ -11,3 +11,6 @@ pub mod CertificatesAreTrue
 pub mod CertificateCounts
 pub mod ModelsAreTrue
 pub mod RefutationsAreTrue
+pub mod HintBytes
+pub mod HintsToLines
+pub mod HintCounts

@@ -12,6 +12,7 @@ use Rattle.wf_verify_engine.specs.declared.outcome.Accepted.{Accepted}
 use Rattle.wf_verify_engine.specs.declared.outcome.Verified.TheVariants.{Obstruction}
 use Rattle.wf_run.specs.Texts.{text_of_report}
 use Rattle.wf_verify_engine.specs.Models.{Models}
+use Rattle.wf_verify_engine.specs.Hints.{RefutesByHints}
 use Rattle.wf_verify_engine.specs.Proofs.{Refutes}
 use Rattle.wf_verify_engine.specs.Verify.{Decides, Verifies, accepted_of, accepted_text}
 use Rattle.wf_verify_engine.specs.Certificates.{VerifiesCertificate, never_text}
@@ -69,6 +70,13 @@ abbrev pub RefutationsAreTrue : Type 0
 RefutationsAreTrue =
     (rounds : ℕ) (task task' proof proof' : Reading) (sink sink' : Writing)
     → Refutes rounds task task' proof proof' sink sink' (Ok tt)
+    → (t : Task) × GaveTask task task' t × HasNoDecisionMap t rounds × Wrote sink sink' (accepted_text (Some rounds) (none []))
+
+-- the same of a proof with hints
+abbrev pub HintedRefutationsAreTrue : Type 0
+HintedRefutationsAreTrue =
+    (rounds : ℕ) (task task' proof proof' : Reading) (sink sink' : Writing)
+    → RefutesByHints rounds task task' proof proof' sink sink' (Ok tt)
     → (t : Task) × GaveTask task task' t × HasNoDecisionMap t rounds × Wrote sink sink' (accepted_text (Some rounds) (none []))
 
 -- ---- what an obstruction shows

@@ -13,6 +13,7 @@ use Rattle.wf_verify_engine.specs.Certificates.{VerifiesCertificate}
 use Rattle.wf_verify_engine.specs.declared.outcome.Verified.{Verified}
 use Rattle.wf_verify_engine.specs.declared.outcome.Verified.TheVariants as verified
 use Rattle.wf_verify_engine.specs.Models.{Models}
+use Rattle.wf_verify_engine.specs.Hints.{RefutesByHints}
 use Rattle.wf_verify_engine.specs.Proofs.{Refutes, most_proof_bytes}
 use Rattle.wf_run.specs.Given.{GaveTask}
 use Rattle.wf_run.specs.Laws.{IsChecked}
@@ -49,6 +50,11 @@ abbrev pub ProvingIsCounted : Type 0
 ProvingIsCounted =
     (rounds : ℕ) (task task' proof proof' : Reading) (sink sink' : Writing) (result : Result (Unit {0}) RunFault)
     → Refutes rounds task task' proof proof' sink sink' result → IsChecked most_proof_bytes task task' proof proof' sink sink' result
+
+abbrev pub HintedProvingIsCounted : Type 0
+HintedProvingIsCounted =
+    (rounds : ℕ) (task task' proof proof' : Reading) (sink sink' : Writing) (result : Result (Unit {0}) RunFault)
+    → RefutesByHints rounds task task' proof proof' sink sink' result → IsChecked most_proof_bytes task task' proof proof' sink sink' result
 
 -- the answer of a check says what the search found, or memory ran out
 abbrev pub Accepts : Accepted → Result (Accepted × List ℕ) RunFault → Type 0

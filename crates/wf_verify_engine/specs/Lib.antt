@@ -5,4 +5,5 @@ pub mod Verify
 pub mod Certificates
 pub mod Models
 pub mod Proofs
+pub mod Hints
 pub mod Laws

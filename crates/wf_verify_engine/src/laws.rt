@@ -1,7 +1,7 @@
 //! Laws of checks: that what they say is true, and what holds after each, whatever it answers.
 
-ghost use Rattle.wf_verify_engine.specs.Headline.{AcceptancesAreTrue, DecisionsAreTrue, ModelsAreTrue, ObstructionsAreTrue, RefutationsAreTrue};
-ghost use Rattle.wf_verify_engine.specs.Laws.{AcceptedReportsAreVerified, DecidingIsCounted, ModellingIsCounted, ModelsAreAccepted, ProvingIsCounted, VerifyingCertificatesIsCounted, VerifyingIsCounted};
+ghost use Rattle.wf_verify_engine.specs.Headline.{AcceptancesAreTrue, DecisionsAreTrue, HintedRefutationsAreTrue, ModelsAreTrue, ObstructionsAreTrue, RefutationsAreTrue};
+ghost use Rattle.wf_verify_engine.specs.Laws.{AcceptedReportsAreVerified, DecidingIsCounted, HintedProvingIsCounted, ModellingIsCounted, ModelsAreAccepted, ProvingIsCounted, VerifyingCertificatesIsCounted, VerifyingIsCounted};
 
 /// What a check accepts is true: its sources gave the bytes of a task and the text of a report
 /// about it, and the report's map is a decision map, the least one where it says so; where it says
@@ -27,6 +27,13 @@ pub fn models_are_true()
 /// took the line that says so, whatever the proof's bytes are.
 pub fn refutations_are_true()
     ensures { RefutationsAreTrue }
+{}
+
+/// What is accepted for a SAT solver's proof with hints is true: the source of the task gave its
+/// bytes, no function on the views is a decision map, and the sink took the line that says so,
+/// whatever the proof's bytes are.
+pub fn hinted_refutations_are_true()
+    ensures { HintedRefutationsAreTrue }
 {}
 
 /// What is accepted as an obstruction is true: the source of the task gave its bytes, and after
@@ -73,6 +80,13 @@ pub fn modelling_is_counted()
 /// it is refused for anything but a failed write.
 pub fn proving_is_counted()
     ensures { ProvingIsCounted }
+{}
+
+/// A check of a proof with hints takes at most one byte more than a text may have of the task's
+/// source, and one more than a proof may have of the proof's, tells each failed call, and writes
+/// nothing where it is refused for anything but a failed write.
+pub fn hinted_proving_is_counted()
+    ensures { HintedProvingIsCounted }
 {}
 
 /// What is reported of a SAT solver's model is accepted as a map by a check that asks for the same

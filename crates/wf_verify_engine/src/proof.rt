@@ -23,7 +23,7 @@ use wf_task::Task;
 pub const MOST_PROOF_BYTES: u64 = 1 << 62;
 
 /// how many bytes of a proof are asked for at once
-const PIECE: usize = 65_536;
+pub(crate) const PIECE: usize = 65_536;
 
 /// Reads a task to its reader's end, and then a SAT solver's clausal proof to its own reader's end;
 /// checks each lemma by unit propagation over the formula of the task and these rounds, which is

@@ -11,4 +11,5 @@ returns c =
     (ap app_of_fields c.after_help.ensures ∙ c.subcommand.ensures.0, ap (λ f. f.has_globals) c.after_help.ensures ∙ c.subcommand.ensures.1) in
     let has_task = taken _ _ _ _ _ c.arg-command.ensures c.task.ensures told in
     let has_rounds = c.taking-command.ensures _ _ has_task c.rounds.ensures in
-    c.taking.ensures _ _ has_rounds c.branch-alloc.ensures
+    let has_branch = c.taking-command-2.ensures _ _ has_rounds c.branch-alloc.ensures in
+    c.taking.ensures _ _ has_branch c.flag.ensures

@@ -1,7 +1,7 @@
-use Rattle.std.proofs.Common.{sym, subst}
+use Rattle.std.proofs.Common.{codes, sym, subst}
 use Rattle.clap.specs.Words.{found_of, rows_of}
 use Rattle.wf_args.specs.declared.Job.TheVariants as job
-use Rattle.wf_args.specs.Asked.{IsJob, branch_of, proof_asked}
+use Rattle.wf_args.specs.Asked.{IsJob, branch_of, has_flag, proof_asked}
 use Rattle.wf_args.proofs.ParsedWords.{on_file_for}
 use Rattle.wf_args.proofs.jobs.proof_job.Goals as goal
 
@@ -10,5 +10,6 @@ returns-in_ok-from_str-in-Some-Some-clause-asked c =
     let rows = rows_of (found_of c.args.found.now) in
     let file = c.in_ok-from_str-in-Some-Some in
     let given = c.in-Some-Some in
-    subst (λ branch. IsJob (proof_asked rows) (job.Proof file.field-0 given.rounds branch)) (sym c.number-in-Some-Some.ensures)
-    (on_file_for _ _ _ _ (λ rounds task. job.Proof task rounds (branch_of rows)) _ _ _ given.ensures given.ensures' file.ensures.ok)
+    subst (λ branch. IsJob (proof_asked rows) (job.Proof file.field-0 given.rounds branch c.flag.result)) (sym c.number-in-Some-Some.ensures)
+    (subst (λ hints. IsJob (proof_asked rows) (job.Proof file.field-0 given.rounds (branch_of rows) hints)) (sym c.flag.ensures)
+    (on_file_for _ _ _ _ (λ rounds task. job.Proof task rounds (branch_of rows) (has_flag (codes "lrat") rows)) _ _ _ given.ensures given.ensures' file.ensures.ok))

@@ -1,0 +1,78 @@
+-- A run over two sources: a task, and the clausal proof with hints by which a SAT solver shows that
+-- its question has no model.
+use Rattle.std.specs.Prelude.{◌≡◌, ◌⊎◌, ◌≤◌, ◌+◌, ℕ, List, length, Option, Result, Ok, Err}
+use Rattle.std.specs.Io.KnownBytes.{IsAtEnd}
+use Rattle.wf_model.specs.Task.{Task}
+use Rattle.wf_formula.specs.Encoding.{question}
+use Rattle.wf_io.specs.Seen.{Reading, Writing}
+use Rattle.wf_io.specs.Texts.{Gave}
+use Rattle.wf_lrat_text.specs.Text.{at_start, text_of}
+use Rattle.wf_lrat.specs.Fed.{Outcome, outcome_at_end, outcome_of, reads, refuses, refutes}
+use Rattle.wf_lrat.specs.Ledger.{Ledger, ledger_of}
+use Rattle.wf_lrat.specs.declared.proof.HintFault.{HintFault}
+use Rattle.wf_run.specs.Run.{Ran, by_result, failed_reads}
+use Rattle.wf_run.specs.Sources.{AsksBoth}
+use Rattle.wf_verify_engine.specs.Proofs.{IsAcceptedNone, most_proof_bytes}
+use Rattle.wf_run.specs.declared.fault.RunFault.{RunFault}
+use Rattle.wf_run.specs.declared.fault.RunFault.TheVariants.{Hints, OutOfMemory, Read, TooLong}
+
+-- ---- what bytes come to
+
+-- what the first bytes of a proof come to, about these clauses
+abbrev pub outcome_so_far : Ledger → List ℕ → Outcome
+outcome_so_far posed given = outcome_of (text_of (at_start posed.variables) given) posed
+
+-- what a proof comes to of which this is known before its end
+abbrev pub closed : Outcome → Outcome
+closed (reads state l) = outcome_at_end state l
+closed (refutes l) = refutes l
+closed (refuses fault l) = refuses fault l
+
+-- what a whole proof comes to, about these clauses
+abbrev pub whole_outcome : Ledger → List ℕ → Outcome
+whole_outcome posed given = closed (outcome_so_far posed given)
+
+-- the contradiction is found
+abbrev pub IsRefuted : Outcome → Type 0
+IsRefuted outcome = (l : Ledger) × (outcome ≡ refutes l)
+
+-- ---- why a proof is refused
+
+-- The first bytes of a proof are refused for this fault; or they are the whole proof, which is.
+abbrev pub IsFaultOfHints : Ledger → List ℕ → Option (List ℕ) → HintFault → Ledger → Type 0
+IsFaultOfHints posed given left fault l =
+    (outcome_so_far posed given ≡ refuses fault l) ⊎ (IsAtEnd left × (whole_outcome posed given ≡ refuses fault l))
+
+-- what may come of a proof that gave these bytes and is refused, about these clauses
+abbrev pub AreRefusedHints : Ledger → List ℕ → Option (List ℕ) → RunFault → Type 0
+AreRefusedHints posed given left (Hints fault) = (l : Ledger) × IsFaultOfHints posed given left fault l
+AreRefusedHints posed given left TooLong = Unit {0}
+AreRefusedHints posed given left OutOfMemory = Unit {0}
+AreRefusedHints posed given left Read = Unit {0}
+AreRefusedHints posed given left e = ⊥
+
+-- ---- what is made of a proof
+
+-- What is made of the bytes that a source gave as a proof about these clauses. Where it is accepted,
+-- this holds of what is answered, the proof comes to the contradiction, and the source is at its
+-- end. There are too many bytes where there is one more than a proof may have.
+abbrev pub IsOfHints : {X : Type 0} → Ledger → (X → Type 0) → List ℕ → Option (List ℕ) → Result X RunFault → Type 0
+IsOfHints posed holds given left (Ok x) =
+    holds x × IsRefuted (whole_outcome posed given) × IsAtEnd left × (length given ≤ most_proof_bytes)
+IsOfHints posed holds given left (Err TooLong) = length given ≡ most_proof_bytes + 1
+IsOfHints posed holds given left (Err e) = AreRefusedHints posed given left e × (length given ≤ most_proof_bytes + 1)
+
+-- a source's bytes as a proof about these clauses
+abbrev pub ReadsAsHints : {X : Type 0} → Ledger → (X → Type 0) → Reading → Reading → Result X RunFault → Type 0
+ReadsAsHints posed holds old new result =
+    (given : List ℕ) × Gave old new given (by_result failed_reads result) × IsOfHints posed holds given new.left result
+
+-- a source's bytes as a proof that there is no decision map: that the task's question has no model
+abbrev pub ReadsHints : Task → ℕ → Reading → Reading → Result (Unit {0} × List ℕ) RunFault → Type 0
+ReadsHints t r old new result = ReadsAsHints (ledger_of (question t r)) (IsAcceptedNone t r) old new result
+
+-- The proof of a source was checked about the task of another source and r rounds, and that no
+-- decision map is accepted was written. The task is read, and the limits are judged, before the
+-- proof is read.
+abbrev pub RefutesByHints : ℕ → Reading → Reading → Reading → Reading → Writing → Writing → Result (Unit {0}) RunFault → Type 0
+RefutesByHints r task task' proof proof' sink sink' result = Ran (AsksBoth ReadsHints r task task' proof proof') sink sink' result
