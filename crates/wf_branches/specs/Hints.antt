@@ -1,6 +1,6 @@
 -- A run over two sources: a task, and the clausal proof with hints by which a SAT solver shows that
 -- the question of one branch has no model.
-use Rattle.std.specs.Prelude.{◌≡◌, ℕ, List, length, Result, Ok}
+use Rattle.std.specs.Prelude.{ℕ, List, length, Result, Ok}
 use Rattle.wf_model.specs.Task.{Task}
 use Rattle.wf_formula.specs.Branches.{branch_question, branches}
 use Rattle.wf_io.specs.Seen.{Reading, Writing}
