@@ -181,7 +181,10 @@ fn printed_hints(fault: HintFault) -> Printed
         HintFault::UnknownHint { line } => Printed::Words("63 UnknownHint", Some(line)),
         HintFault::IdOutOfRange { line } => Printed::Words("64 IdOutOfRange", Some(line)),
         HintFault::NoContradiction { line } => Printed::Words("41 NoContradiction", Some(line)),
-        HintFault::Binary => Printed::Words("42 Binary: ask the solver for text by --no-binary", None),
+        HintFault::Binary => Printed::Words(
+            "42 Binary: ask the solver for text by --no-binary",
+            None,
+        ),
         HintFault::OutOfMemory => Printed::Task(TaskFault::OutOfMemory),
     }
 }

@@ -64,7 +64,8 @@ found_stays text other l found e = refuted_outcome other found (steps_known text
 
 -- ---- piece by piece
 
--- what was read so far of a proof about some clauses: the text is read here, and the checker knows this
+-- what was read so far of a proof about some clauses: the text is read here, and the checker
+-- knows this
 abbrev pub IsFedTo : Ledger → List ℕ → State → Ledger → Type 0
 IsFedTo posed given state left = IsReadTo (outcome_so_far posed given) state left
 

@@ -53,10 +53,11 @@ AreRefusedHints posed given left e = ⊥
 
 -- ---- what is made of a proof
 
--- What is made of the bytes that a source gave as a proof about these clauses. Where it is accepted,
--- this holds of what is answered, the proof comes to the contradiction, and the source is at its
--- end. There are too many bytes where there is one more than a proof may have.
-abbrev pub IsOfHints : {X : Type 0} → Ledger → (X → Type 0) → List ℕ → Option (List ℕ) → Result X RunFault → Type 0
+-- What is made of the bytes that a source gave as a proof about these clauses. If the proof is
+-- accepted, this holds of what is answered, the proof comes to the contradiction, and the source
+-- is at its end. If there is one byte more than a proof may have, there are too many bytes.
+abbrev pub IsOfHints : {X : Type 0} → Ledger → (X → Type 0) → List ℕ → Option (List ℕ) →
+    Result X RunFault → Type 0
 IsOfHints posed holds given left (Ok x) =
     holds x × IsRefuted (whole_outcome posed given) × IsAtEnd left × (length given ≤ most_proof_bytes)
 IsOfHints posed holds given left (Err TooLong) = length given ≡ most_proof_bytes + 1

@@ -13,13 +13,14 @@
 //!   decision map is accepted out.
 //! - [`run_over_report`]: what all runs over a task and a report do, for any [`ReportAnswer`].
 //! - [`read_report_from`], [`read_proof_from`], [`read_hints_from`], [`report_of`],
-//!   [`obstruction_of`], [`check_report`], [`judge_obstruction`], [`accepted_words`]: steps for the runs of other
-//!   crates.
+//!   [`obstruction_of`], [`check_report`], [`judge_obstruction`], [`accepted_words`]: steps for the
+//!   runs of other crates.
 //!
 //! Each engine has one relation that says what it read, answered and wrote. The laws say what
 //! follows from the relation alone: that what is accepted and told is true
 //! ([`acceptances_are_true`], [`decisions_are_true`], [`models_are_true`],
-//! [`refutations_are_true`], [`hinted_refutations_are_true`], [`obstructions_are_true`], stated alone in `specs/Headline.antt`).
+//! [`refutations_are_true`], [`hinted_refutations_are_true`], [`obstructions_are_true`], stated
+//! alone in `specs/Headline.antt`).
 #![tactic(auto)]
 
 mod certificate;
