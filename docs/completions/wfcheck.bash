@@ -79,7 +79,7 @@ _wfcheck() {
         join) words="--task --rounds --help" ;;
         cnf) words="--rounds --branch --help" ;;
         model) words="--task --rounds --help" ;;
-        proof) words="--task --rounds --branch --help" ;;
+        proof) words="--task --rounds --branch --lrat --help" ;;
         trim) words="--task --help" ;;
         explain) words="--task --help" ;;
         lift) words="--task --rounds --help" ;;

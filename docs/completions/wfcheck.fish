@@ -48,6 +48,7 @@ complete -c wfcheck -n '__fish_seen_subcommand_from model' -l help -d 'Print hel
 complete -c wfcheck -n '__fish_seen_subcommand_from proof' -l task -r -F -d 'The file that has the task'
 complete -c wfcheck -n '__fish_seen_subcommand_from proof' -l rounds -x -d 'How many rounds of immediate snapshots, 0 to 8'
 complete -c wfcheck -n '__fish_seen_subcommand_from proof' -l branch -x -d 'One branch of the question alone: its number in the list that branches writes, from 0'
+complete -c wfcheck -n '__fish_seen_subcommand_from proof' -l lrat -d 'The proof has hints (LRAT), as CaDiCaL writes it with --lrat --no-binary'
 complete -c wfcheck -n '__fish_seen_subcommand_from proof' -l help -d 'Print help'
 complete -c wfcheck -n '__fish_seen_subcommand_from trim' -l task -r -F -d 'The file that has the task'
 complete -c wfcheck -n '__fish_seen_subcommand_from trim' -l help -d 'Print help'
