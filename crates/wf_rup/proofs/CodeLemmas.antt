@@ -44,7 +44,7 @@ satisfies_codes-front a clause i h =
     list_any-append (holds_code a) (take i clause) (drop i clause) in
     ap (satisfies_codes a) (sym (take-append-drop i clause)) ∙ parts ∙ ap (λ b. b || satisfies_codes a (drop i clause)) h
 
-or-neither : (x y : Bool) → (x || y) ≡ false → (x ≡ false) × (y ≡ false)
+pub or-neither : (x y : Bool) → (x || y) ≡ false → (x ≡ false) × (y ≡ false)
 or-neither true y h = absurd (false≢true (sym h))
 or-neither false y h = (refl, h)
 

@@ -61,7 +61,7 @@ deletes-taken old t f g r clause e taken =
     }))
 
 -- a clause that is kept stands somewhere
-record IsPlaced (f : List (List ℕ)) (c : List ℕ) : Type 0 where
+pub record IsPlaced (f : List (List ℕ)) (c : List ℕ) : Type 0 where
   pub number : ℕ
   pub kept : IsKeptAt f number
   pub is : get_or f number [] ≡ c
@@ -72,7 +72,7 @@ placed-later f x c placed =
     let within : suc placed.number < length (x ∷ f) = omega arith in
     record { number = suc placed.number; kept = record { within = within; some = placed.kept.some }; is = placed.is }
 
-placed : (f : List (List ℕ)) (c : List ℕ) → Contains (kept_of f) c → IsPlaced f c
+pub placed : (f : List (List ℕ)) (c : List ℕ) → Contains (kept_of f) c → IsPlaced f c
 placed [] c (k, within, is) = absurd (omega arith)
 placed ([] ∷ f) c there = placed-later f [] c (placed f c there)
 placed ((x ∷ xs) ∷ f) c (zero, within, is) =
@@ -129,7 +129,7 @@ deletes-known v old new known clause codes same e less = subst (λ k. Deletes cl
 
 -- ---- the same of a clause that is known to be there
 
-has-contained : (xs : List ℕ) (x : ℕ) → Contains xs x → has xs x ≡ true
+pub has-contained : (xs : List ℕ) (x : ℕ) → Contains xs x → has xs x ≡ true
 has-contained xs x (k, within, is) = list_any_at (λ z. z == x) xs k x within (same_test (get_or xs k x) x is)
 
 same-codes : (x y : ℕ) → literal_of x ≡ literal_of y → x ≡ y

@@ -7,7 +7,7 @@ use Rattle.wf_rup.specs.Fed.{Learns, IsBroken, IsRefusedIn, IsRefusedStep, fault
 use Rattle.std.specs.Prelude.{if◌then◌else◌}
 use Rattle.wf_clauses.specs.Formula.{Clause}
 use Rattle.wf_rup.specs.Seen.{Known}
-use Rattle.wf_rup.specs.Unit.{DoesNotFollow}
+use Rattle.wf_rup.specs.Rat.{IsUnjustified}
 use Rattle.wf_drat.specs.Moves.{Moves}
 use Rattle.wf_drat.specs.Text.{State, Step, Text, behind, deletion, lemma, state_after, step_of, text_from, text_of, turn_of}
 use Rattle.wf_rup.specs.declared.proof.ProofFault.{ProofFault}
@@ -120,7 +120,7 @@ fault-of_flaw text line flaw.NotALiteral old new b = b
 fault-of_flaw text line flaw.NoSuchVariable old new b = b
 fault-of_flaw text line flaw.Binary old new b = (line, b)
 
--- the next step is a lemma that does not follow
+-- the next step is a lemma that may not be added
 refused-in : (text : Text) (state : State) (byte : ℕ) (bytes : List ℕ) (old mid new : Known) (line : ℕ) → turn_of state byte ≡ Ends
     → IsUpTo text state (byte ∷ bytes) old mid → IsRefusedStep (step_of state) line mid new → IsRefusedIn text line old new
 refused-in text state byte bytes old mid new line e u r =
@@ -133,7 +133,7 @@ refused-in text state byte bytes old mid new line e u r =
         steps = ap (λ (x : Text). x.steps) (turned text state byte bytes u.done Ends e u.same) ∙ ap (λ step. u.done ++ step ∷ rest) r.is;
         taken = subst (λ k. TakesSteps u.done old k) (sym r.unchanged) u.taken;
       };
-      refused = subst (λ k. DoesNotFollow k r.clause) (sym r.unchanged) r.refused;
+      refused = subst (λ k. IsUnjustified k r.clause) (sym r.unchanged) r.refused;
     }
 
 fault-of_step : (text : Text) (state : State) (byte : ℕ) (bytes : List ℕ) (old mid new : Known) (fault : ProofFault) → turn_of state byte ≡ Ends

@@ -9,7 +9,10 @@ pub mod DeletedLemmas
 pub mod StoredLemmas
 pub mod IndexLemmas
 pub mod HashLemmas
+pub mod FirstsLemmas
 pub mod CatalogueLemmas
+pub mod RatLemmas
+pub mod ResolvingLemmas
 pub mod FedLemmas
 pub mod PosedLemmas
 pub mod Pieces

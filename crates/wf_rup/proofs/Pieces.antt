@@ -85,7 +85,7 @@ not_all text old new refuted all = false≢true (sym all.unrefuted ∙ refuted_s
 pub no_fault : (text : Text) (old new : Known) (fault : ProofFault) → old.is_refuted ≡ true → IsFaultIn text old new fault → fault ≡ OutOfMemory
 no_fault text old new (NotALiteral line) refuted broken = absurd (not_all text old new refuted broken.all)
 no_fault text old new (NoSuchVariable line) refuted broken = absurd (not_all text old new refuted broken.all)
-no_fault text old new (NotImplied line) refuted is = absurd (is.refused (inl (refuted_still is.first.done old new refuted is.first.taken)))
+no_fault text old new (NotImplied line) refuted is = absurd (is.refused.does_not_follow (inl (refuted_still is.first.done old new refuted is.first.taken)))
 no_fault text old new (NoContradiction line) refuted never = absurd never
 no_fault text old new Binary refuted broken = absurd (not_all text old new refuted broken.1.all)
 no_fault text old new OutOfMemory refuted is = refl

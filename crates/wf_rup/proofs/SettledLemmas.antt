@@ -24,7 +24,7 @@ any-more : (p q : ℕ → Bool) → ((x : ℕ) → p x ≡ true → q x ≡ true
 any-more p q more [] h = absurd (false≢true h)
 any-more p q more (x ∷ c) h = grind (arith, common_steps, h, more x, any-more p q more c)
 
-any-at : (q : ℕ → Bool) (c : List ℕ) (l : ℕ) → has c l ≡ true → q l ≡ true → list_any q c ≡ true
+pub any-at : (q : ℕ → Bool) (c : List ℕ) (l : ℕ) → has c l ≡ true → q l ≡ true → list_any q c ≡ true
 any-at q [] l h here = absurd (false≢true h)
 any-at q (x ∷ c) l h here = grind (arith, common_steps, h, here, any-at q c l)
 

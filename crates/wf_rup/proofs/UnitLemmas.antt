@@ -38,7 +38,7 @@ has-first y ys = grind (arith, common_steps)
 has-later : (x y : ℕ) (ys : List ℕ) → has ys x ≡ true → has (y ∷ ys) x ≡ true
 has-later x y ys h = grind (arith, common_steps, h)
 
-any-found : (q : ℕ → Bool) (xs : List ℕ) → list_any q xs ≡ true → (x : ℕ) × (has xs x ≡ true) × (q x ≡ true)
+pub any-found : (q : ℕ → Bool) (xs : List ℕ) → list_any q xs ≡ true → (x : ℕ) × (has xs x ≡ true) × (q x ≡ true)
 any-found q [] h = absurd (false≢true h)
 any-found q (y ∷ ys) h = elim (cases_Bool (q y)) [
   | inl hit ↦ (y, has-first y ys, hit)
@@ -122,7 +122,7 @@ not-false trail codes consistent (inr twice) each =
     contradiction trail (opposite twice.first) twice.first_open.unfalsified
     (ap (has trail) (sym (opposite-of twice.first)) ∙ each (literal_of twice.first) (Contains-image literal_of codes twice.first twice.first_open.inside))
 
-apart-not : (x y : ℕ) → (x == y) ≡ false → x ≡ y → ⊥
+pub apart-not : (x y : ℕ) → (x == y) ≡ false → x ≡ y → ⊥
 apart-not x y h e = grind (arith, h, e)
 
 code-of : (x : ℕ) (l : Literal) → literal_of x ≡ l → x ≡ code_of l

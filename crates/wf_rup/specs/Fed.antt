@@ -1,10 +1,11 @@
 -- What a checker makes of a proof's steps.
-use Rattle.std.specs.Prelude.{◌≡◌, ◌⊎◌, ◌++◌, ℕ, true, false, List, [], ◌∷◌, Bool}
+use Rattle.std.specs.Prelude.{◌≡◌, ◌⊎◌, ◌++◌, ◌+◌, ◌^◌, ℕ, true, false, List, [], ◌∷◌, Bool}
 use Rattle.wf_clauses.specs.Formula.{Clause}
 use Rattle.wf_rup.specs.Deleted.{Deletes, HasAlike, IsWithout}
 use Rattle.wf_rup.specs.Kept.{AddsAtMost, IsKept, KnowsStill}
-use Rattle.wf_rup.specs.Seen.{Entails, Known}
-use Rattle.wf_drat.specs.Text.{State, Step, Text, broken_in, deletion, lemma, open_in, state_after, step_of, text_of}
+use Rattle.wf_rup.specs.Rat.{IsRedundant, IsUnjustified}
+use Rattle.wf_rup.specs.Seen.{Known}
+use Rattle.wf_drat.specs.Text.{State, Step, Text, at_start, broken_in, deletion, lemma, open_in, state_after, step_of, text_of}
 use Rattle.wf_rup.specs.Unit.{DoesNotFollow}
 use Rattle.wf_rup.specs.declared.proof.ProofFault.{ProofFault}
 use Rattle.wf_rup.specs.declared.proof.ProofFault.TheVariants.{NotALiteral, NoSuchVariable, NotImplied, NoContradiction, Binary, OutOfMemory}
@@ -13,9 +14,18 @@ use Rattle.wf_drat.specs.declared.reader.Turn.TheVariants.{GoesOn, BeginsDeletio
 use Rattle.wf_drat.specs.declared.reader.Flaw.{Flaw}
 use Rattle.wf_drat.specs.declared.reader.Flaw.TheVariants as flaw
 
--- a lemma is entailed by what was known, and known from now on beside it, and no clause else
+-- a proof may bring in so many variables beside those of the clauses
+abbrev pub most_new_variables : ℕ
+most_new_variables = 2 ^ 22
+
+-- where a proof's text begins, of clauses on the variables from 1 to this number
+abbrev pub proof_start : ℕ → State
+proof_start variables = at_start (variables + most_new_variables)
+
+-- each model of what was known can be changed into one of the lemma too; the lemma is known from now
+-- on beside what was known, and no clause else
 pub record Learns (clause : Clause) (old new : Known) : Type 0 where
-  pub entailed : Entails old clause
+  pub redundant : IsRedundant old clause
   pub kept : IsKept clause new
   pub still : KnowsStill old new
   pub alone : AddsAtMost clause old new
@@ -63,12 +73,12 @@ pub record IsBroken (text : Text) (line : ℕ) (flaw : Flaw) (old new : Known) :
   pub all : TakesAll text old new
   pub end : text.end ≡ broken_in line flaw
 
--- the first steps are taken, and the next one is a lemma that ends in this line and does not follow
+-- the first steps are taken, and the next one is a lemma that ends in this line and may not be added
 pub record IsRefusedIn (text : Text) (line : ℕ) (old new : Known) : Type 0 where
   pub clause : Clause
   pub left : List Step
   pub first : TakesFirst text (lemma line clause ∷ left) old new
-  pub refused : DoesNotFollow new clause
+  pub refused : IsUnjustified new clause
 
 -- the text is refused for this fault
 abbrev pub IsFaultIn : Text → Known → Known → ProofFault → Type 0
@@ -111,12 +121,12 @@ fault_at line flaw.NotALiteral = NotALiteral line
 fault_at line flaw.NoSuchVariable = NoSuchVariable line
 fault_at line flaw.Binary = Binary
 
--- the step is a lemma that ends in this line and does not follow
+-- the step is a lemma that ends in this line and may not be added
 pub record IsRefusedStep (step : Step) (line : ℕ) (old new : Known) : Type 0 where
   pub clause : Clause
   pub is : step ≡ lemma line clause
   pub unchanged : new ≡ old
-  pub refused : DoesNotFollow old clause
+  pub refused : IsUnjustified old clause
 
 -- the step is refused for this fault
 abbrev pub IsFaultOfStep : Step → Known → Known → ProofFault → Type 0

@@ -7,8 +7,11 @@ pub mod Propagation
 pub mod Settled
 pub mod Seen
 pub mod Unit
+pub mod Rat
+pub mod Resolving
 pub mod Deleted
 pub mod Index
+pub mod Firsts
 pub mod Fed
 pub mod Kept
 pub mod Posed

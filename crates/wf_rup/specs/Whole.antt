@@ -1,8 +1,8 @@
 -- The formula that a list of vectors holds, and why a proof of it is refused.
 use Rattle.std.specs.Prelude.{◌≡◌, ◌⊎◌, ◌++◌, ℕ, List, [], ◌∷◌, Vec, map}
 use Rattle.wf_clauses.specs.Formula.{Clause, Formula, Literal}
-use Rattle.wf_drat.specs.Text.{State, Text, at_start, open_in, text_of}
-use Rattle.wf_rup.specs.Fed.{IsFaultIn, IsReadTo}
+use Rattle.wf_drat.specs.Text.{State, Text, open_in, text_of}
+use Rattle.wf_rup.specs.Fed.{IsFaultIn, IsReadTo, proof_start}
 use Rattle.wf_rup.specs.Posed.{IsPosed}
 use Rattle.wf_rup.specs.Seen.{Known}
 use Rattle.wf_rup.specs.Unit.{DoesNotFollow}
@@ -18,21 +18,21 @@ formula_of variables vectors = record { variables = variables; clauses = clauses
 -- what the bytes of a proof say, of clauses on the variables from 1 to this
 -- number: a line feed ends its last line
 abbrev pub text_of_proof : ℕ → List ℕ → Text
-text_of_proof variables given = text_of (at_start variables) (given ++ 10 ∷ [])
+text_of_proof variables given = text_of (proof_start variables) (given ++ 10 ∷ [])
 
 -- the bytes leave off in this line, all steps of the proof are taken, and the contradiction does
 -- not follow by unit propagation
 pub record EndsUnrefuted (posed : Known) (given : List ℕ) (line : ℕ) (known : Known) : Type 0 where
   pub last : State
-  pub end : (text_of (at_start posed.variables) given).end ≡ open_in last
+  pub end : (text_of (proof_start posed.variables) given).end ≡ open_in last
   pub in_line : line ≡ last.line
   pub next : State
   pub read : IsReadTo (text_of_proof posed.variables given) next posed known
   pub refused : DoesNotFollow known []
 
 -- A proof of these bytes is refused for this fault, where this was known before its first step, and
--- that behind the steps that were taken: it ends too early; or it has a flaw, or a lemma that does
--- not follow, in the line that is named.
+-- that behind the steps that were taken: it ends too early; or it has a flaw, or a lemma that may
+-- not be added, in the line that is named.
 abbrev pub IsFaultOfProof : Known → List ℕ → Known → ProofFault → Type 0
 IsFaultOfProof posed given known (NoContradiction line) = EndsUnrefuted posed given line known
 IsFaultOfProof posed given known OutOfMemory = ⊥

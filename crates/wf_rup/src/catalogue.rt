@@ -1,10 +1,12 @@
 //! The clauses that are kept, each found by its literals.
 
-ghost use Rattle.std.specs.Prelude.{◌≡◌, ◌<◌, ◌↔◌, ◌∷◌, ◌++◌, ℕ, [], false, All, Contains, get_or, length, is_ok, IfOk, IfSome, IsTrue, None, OnErr, if◌then◌else◌};
+ghost use Rattle.std.specs.Prelude.{◌≡◌, ◌<◌, ◌≤◌, ◌↔◌, ◌∷◌, ◌++◌, ℕ, [], false, true, All, Contains, get_or, length, is_ok, IfOk, IfSome, IsTrue, None, OnErr, if◌then◌else◌};
 ghost use Rattle.wf_rup.specs.Index.{IsAlikeAt, IsFoundAt, IsOther, IsTaken};
+ghost use Rattle.wf_rup.specs.Stored.{has};
 
 use crate::alike::are_alike;
 use crate::clauses::Clauses;
+use crate::firsts::Firsts;
 use crate::hash::hash_of;
 use crate::index::{HashEntry, Index};
 use crate::trail::Trail;
@@ -27,19 +29,21 @@ struct FoundClause {
 pub(crate) struct Catalogue {
     clauses: Clauses,
     index: Index,
+    firsts: Firsts,
     // the literals of a clause, while it is hashed or compared
     seen: Trail,
 }
 
 impl Model for Catalogue {
     ghost use Rattle.std.specs.Prelude.{List, ℕ};
+    ghost use Rattle.wf_rup.specs.Firsts.{AreFirsts};
     ghost use Rattle.wf_rup.specs.Index.{IsIndexed};
 
     ghost Value = { List (List ℕ) };
 
     ghost view = { λ c. c.clauses };
 
-    ghost invariant = { λ c. IsIndexed c.clauses c.index };
+    ghost invariant = { λ c. IsIndexed c.clauses c.index × AreFirsts c.firsts c.clauses };
 }
 
 impl Catalogue {
@@ -50,6 +54,7 @@ impl Catalogue {
         Ok(Catalogue {
             clauses: Clauses::new(alloc),
             index: Index::new(alloc)?,
+            firsts: Firsts::new(alloc, codes)?,
             seen: Trail::new(alloc, codes)?,
         })
     }
@@ -77,6 +82,13 @@ impl Catalogue {
         requires { number < length self.now }
     {
         self.clauses.watched(number)
+    }
+
+    /// A number that no clause with this literal is below.
+    pub(crate) fn first_with(&self, literal: Code) -> usize
+        ensures { (n : ℕ) → has (get_or self.now n []) literal ≡ true → result ≤ n }
+    {
+        self.firsts.of(literal) as usize
     }
 
     /// Where a clause begins.
@@ -129,6 +141,7 @@ impl Catalogue {
             hash,
             number: number as u32,
         };
+        self.firsts.note(clause, number as u32)?;
         self.index.push(alloc, entry)?;
         self.clauses.push(clause, first, second)
     }

@@ -4,8 +4,8 @@ ghost use Rattle.std.specs.Prelude.{◌≡◌, [], false, IfOk, IsTrue, map};
 ghost use Rattle.wf_drat.specs.Codes.{code_of};
 ghost use Rattle.wf_rup.specs.Deleted.{Deletes, HasAlike, IsWithout};
 ghost use Rattle.wf_rup.specs.Kept.{AddsAtMost, IsKept, KnowsStill};
-ghost use Rattle.wf_rup.specs.Seen.{Entails, HasNoModel, KeepsModels, KeepsModelsOf, KnowsNothing};
-ghost use Rattle.wf_rup.specs.Unit.{DoesNotFollow};
+ghost use Rattle.wf_rup.specs.Rat.{IsRedundant, IsUnjustified, KeepsSatisfiable};
+ghost use Rattle.wf_rup.specs.Seen.{HasNoModel, KeepsModels, KeepsModelsOf, KnowsNothing};
 
 use crate::database::Database;
 use std::alloc::{AllocError, Global};
@@ -75,17 +75,18 @@ impl Checker {
         self.database.add(alloc, &self.codes)
     }
 
-    /// Whether the lemma follows by unit propagation from what is kept and the negated lemma. If so
-    /// it is added. Otherwise nothing changes.
+    /// Whether the lemma may be added: it follows by unit propagation from what is kept and the
+    /// negated lemma, or is a resolution asymmetric tautology (RAT) on its first literal. If so it
+    /// is added, and what is kept has a model then if it had one before. Otherwise nothing changes.
     pub fn derive(&mut self, alloc: Global, lemma: &[Literal]) -> Result<bool, AllocError>
-        ensures follows { IfOk result (λ follows. IsTrue follows → Entails self.old lemma.now) }
-        ensures refused { IfOk result (λ follows. follows ≡ false
-            → DoesNotFollow self.old lemma.now) }
-        ensures unchanged { IfOk result (λ follows. follows ≡ false → self.new ≡ self.old) }
-        ensures added { IfOk result (λ follows. IsTrue follows → IsKept lemma.now self.new) }
-        ensures still { IfOk result (λ follows. KnowsStill self.old self.new) }
-        ensures alone { IfOk result (λ follows. AddsAtMost lemma.now self.old self.new) }
-        ensures kept { KeepsModels self.old self.new }
+        ensures redundant { IfOk result (λ taken. IsTrue taken → IsRedundant self.old lemma.now) }
+        ensures refused { IfOk result (λ taken. taken ≡ false
+            → IsUnjustified self.old lemma.now) }
+        ensures unchanged { IfOk result (λ taken. taken ≡ false → self.new ≡ self.old) }
+        ensures added { IfOk result (λ taken. IsTrue taken → IsKept lemma.now self.new) }
+        ensures still { IfOk result (λ taken. KnowsStill self.old self.new) }
+        ensures alone { IfOk result (λ taken. AddsAtMost lemma.now self.old self.new) }
+        ensures kept { KeepsSatisfiable self.old self.new }
     {
         put_codes(&mut self.codes, lemma)?;
         self.database.derive(alloc, &self.codes)

@@ -1,17 +1,17 @@
 //! Clauses and what they force, with literals by their codes.
 
-ghost use Rattle.std.specs.Prelude.{◌≡◌, ◌++◌, ◌∷◌, [], false, true, IfOk, IsTrue, length, take};
+ghost use Rattle.std.specs.Prelude.{◌≡◌, ◌++◌, ◌∷◌, [], false, true, IfOk, IsTrue};
 ghost use Rattle.wf_rup.specs.Deleted.{DeletesStored, HasAlikeStored, IsStoredWithout};
 ghost use Rattle.wf_rup.specs.Kept.{IsStored, StoresAtMost, StoresStill};
-ghost use Rattle.wf_rup.specs.Propagation.{AddsClause, Implies};
-ghost use Rattle.wf_rup.specs.Stored.{HasNoStoredModel, KeepsStoredModels, KeepsStoredModelsOf, KeepsStoredModelsWith, StoredEntails, StoresNothing, has, kept_of};
-ghost use Rattle.wf_rup.specs.Settled.{Refuses, StopsBefore};
+ghost use Rattle.wf_rup.specs.Propagation.{AddsClause};
+ghost use Rattle.wf_rup.specs.Rat.{IsStoredRedundant, KeepsStoredSatisfiable, RefusesBoth};
+ghost use Rattle.wf_rup.specs.Stored.{HasNoStoredModel, KeepsStoredModels, KeepsStoredModelsOf, KeepsStoredModelsWith, StoresNothing, has, kept_of};
 
 use crate::catalogue::Catalogue;
 use crate::propagation::propagate;
+use crate::rat::is_justified;
 use crate::scan::{open_literal, other_open_literal};
-use crate::settled::settle;
-use crate::trail::{Trail, negated};
+use crate::trail::Trail;
 use crate::watches::{Watcher, Watches};
 use std::alloc::{AllocError, Global};
 use std::marker::Model;
@@ -84,14 +84,8 @@ impl Database {
         };
         match other_open_literal(clause, &self.trail, first) {
             Some(second) => {
-                store(
-                    alloc,
-                    clause,
-                    first,
-                    second,
-                    &mut self.clauses,
-                    &mut self.watches,
-                )?;
+                let watched = (first, second);
+                store(alloc, clause, watched, &mut self.clauses, &mut self.watches)?;
                 Ok(())
             }
             None => self.force(alloc, first),
@@ -109,15 +103,8 @@ impl Database {
             if clause.is_empty() {
                 continue;
             }
-            let (first, second) = self.clauses.watched(number);
-            store(
-                alloc,
-                clause,
-                first,
-                second,
-                &mut clauses,
-                &mut self.watches,
-            )?;
+            let watched = self.clauses.watched(number);
+            store(alloc, clause, watched, &mut clauses, &mut self.watches)?;
         }
         self.clauses = clauses;
         self.forgotten = 0;
@@ -158,37 +145,34 @@ impl Database {
         Ok(())
     }
 
-    /// Whether the lemma follows by unit propagation from what is kept and
-    /// the negated lemma. If so it is kept.
+    /// Whether the lemma may be added: it follows by unit propagation from what is kept and the
+    /// negated lemma, or is a resolution asymmetric tautology on its first literal. If so it is
+    /// kept.
     pub(crate) fn derive(&mut self, alloc: Global, lemma: &[Code]) -> Result<bool, AllocError>
-        ensures follows { IfOk result
-            (λ follows. IsTrue follows → StoredEntails self.old lemma.now) }
-        ensures refused { IfOk result (λ follows. follows ≡ false → Refuses self.old lemma.now) }
-        ensures unchanged { IfOk result (λ follows. follows ≡ false → self.new ≡ self.old) }
-        ensures stored { IfOk result (λ follows. IsTrue follows → IsStored lemma.now self.new) }
-        ensures still { IfOk result (λ follows. StoresStill self.old self.new) }
-        ensures alone { IfOk result (λ follows. StoresAtMost lemma.now self.old self.new) }
-        ensures kept { KeepsStoredModels self.old self.new }
+        ensures redundant { IfOk result
+            (λ taken. IsTrue taken → IsStoredRedundant self.old lemma.now) }
+        ensures refused { IfOk result (λ taken. taken ≡ false → RefusesBoth self.old lemma.now) }
+        ensures unchanged { IfOk result (λ taken. taken ≡ false → self.new ≡ self.old) }
+        ensures stored { IfOk result (λ taken. IsTrue taken → IsStored lemma.now self.new) }
+        ensures still { IfOk result (λ taken. StoresStill self.old self.new) }
+        ensures alone { IfOk result (λ taken. StoresAtMost lemma.now self.old self.new) }
+        ensures kept { KeepsStoredSatisfiable self.old self.new }
     {
         if self.is_refuted {
             return Ok(true);
         }
         self.compact_in_time(alloc)?;
-        let count = self.trail.len();
-        let found = assume(
+        let justified = is_justified(
             alloc,
             lemma,
             &mut self.clauses,
             &mut self.trail,
             &mut self.watches,
-        );
-        self.trail.undo(count);
-        if found? {
+        )?;
+        if justified {
             self.add(alloc, lemma)?;
-            Ok(true)
-        } else {
-            Ok(false)
         }
+        Ok(justified)
     }
 
     /// A clause with these literals is no longer kept. Where there is none nothing changes. What a
@@ -206,48 +190,20 @@ impl Database {
     }
 }
 
-/// Assumes that the clause is false and propagates; whether that leads to a conflict.
-fn assume(
-    alloc: Global,
-    clause: &[Code],
-    clauses: &mut Catalogue,
-    trail: &mut Trail,
-    watches: &mut Watches,
-) -> Result<bool, AllocError>
-    ensures clauses { clauses.new ≡ clauses.old }
-    ensures front { take (length trail.old) trail.new ≡ trail.old }
-    ensures conflict { IfOk result (λ found. IsTrue found
-        → Implies (kept_of clauses.old) trail.old clause.now) }
-    ensures refused { IfOk result (λ found. found ≡ false
-        → StopsBefore (kept_of clauses.old) clause.now trail.new) }
-{
-    let from = trail.len();
-    for literal in clause {
-        if trail.is_true(*literal) {
-            return Ok(true);
-        }
-        let opposite = negated(*literal);
-        trail.put(opposite)?;
-    }
-    if propagate(alloc, from, clauses, trail, watches)? {
-        return Ok(true);
-    }
-    settle(clauses, trail)
-}
-
 /// Stores a clause that watches these two literals.
 fn store(
     alloc: Global,
     clause: &[Code],
-    first: Code,
-    second: Code,
+    watched: (Code, Code),
     clauses: &mut Catalogue,
     watches: &mut Watches,
 ) -> Result<(), AllocError>
     ensures sound { AddsClause clause.now (kept_of clauses.old) (kept_of clauses.new) }
     ensures exact { IfOk result (λ done. clauses.new ≡ clauses.old ++ clause.now ∷ []) }
 {
+    let (first, second) = watched;
     let number = clauses.len();
+    watches.make_room(alloc, clause)?;
     clauses.push(alloc, clause, first, second)?;
     let place = clauses.place(number);
     watches.push(

@@ -5,15 +5,19 @@
 //! between two steps are passed over.
 
 ghost use Rattle.std.specs.Prelude.{◌≡◌, IfErr, IfOk};
-ghost use Rattle.wf_rup.specs.Fed.{IsFaultAtEnd, IsFaultIn, IsFaultOfStep, IsFaultOfTurn, IsReadIn, IsTurned, TakesStep, fault_at};
-ghost use Rattle.wf_rup.specs.Seen.{HasNoModel, KeepsModels};
-ghost use Rattle.wf_drat.specs.Text.{at_start, step_of, text_of, turn_of};
+ghost use Rattle.wf_rup.specs.Fed.{IsFaultAtEnd, IsFaultIn, IsFaultOfStep, IsFaultOfTurn, IsReadIn, IsTurned, TakesStep, fault_at, proof_start};
+ghost use Rattle.wf_rup.specs.Rat.{KeepsSatisfiable};
+ghost use Rattle.wf_rup.specs.Seen.{HasNoModel};
+ghost use Rattle.wf_drat.specs.Text.{step_of, text_of, turn_of};
 ghost use Rattle.wf_drat.specs.declared.reader.Turn.TheVariants.{Ends};
 
 use crate::checker::Checker;
 use std::alloc::{AllocError, Global};
 use std::marker::Model;
 use wf_drat::{Flaw, Reader, Turn};
+
+/// A proof may bring in so many variables beside those of the clauses.
+pub const MOST_NEW_VARIABLES: u32 = 1 << 22;
 
 /// Why a proof is refused. Lines are counted from 1.
 #[derive(Clone, Copy, Debug, PartialEq, Eq)]
@@ -23,13 +27,14 @@ pub enum ProofFault {
         /// The number of the line.
         line: u64,
     },
-    /// This line has a literal of a variable that the clauses don't have.
+    /// This line has a variable whose number is larger than those of the clauses' variables and of
+    /// the [`MOST_NEW_VARIABLES`] that a proof may bring in.
     NoSuchVariable {
         /// The number of the line.
         line: u64,
     },
-    /// The lemma that ends in this line does not follow by unit propagation. Steps that rest on
-    /// resolution asymmetric tautologies (RAT) alone are refused so.
+    /// The lemma that ends in this line neither follows by unit propagation nor is a resolution
+    /// asymmetric tautology (RAT) on its first literal.
     NotImplied {
         /// The number of the line.
         line: u64,
@@ -69,12 +74,13 @@ impl Model for Proof {
 }
 
 impl Proof {
-    /// A proof of which nothing was read, of clauses on the variables from 1 to this number.
+    /// A proof of which nothing was read, of clauses on the variables from 1 to this number. It may
+    /// bring in the next [`MOST_NEW_VARIABLES`] variables.
     pub fn new(alloc: Global, variables: u32) -> Proof
-        ensures { result ≡ at_start variables }
+        ensures { result ≡ proof_start variables }
     {
         Proof {
-            reader: Reader::new(alloc, variables),
+            reader: Reader::new(alloc, variables.saturating_add(MOST_NEW_VARIABLES)),
         }
     }
 
@@ -82,15 +88,15 @@ impl Proof {
     /// contradiction is passed over.
     ///
     /// A fault is the first one: the steps before it are taken, and none behind it. Either the text
-    /// has a flaw there, or the next step is a lemma that does not follow by unit propagation from
-    /// what is known then. Behind a fault nothing is said of where the text is read.
+    /// has a flaw there, or the next step is a lemma that may not be added to what is known then.
+    /// Behind a fault nothing is said of where the text is read.
     pub fn feed(
         &mut self,
         alloc: Global,
         checker: &mut Checker,
         piece: &[u8],
     ) -> Result<(), ProofFault>
-        ensures kept { KeepsModels checker.old checker.new }
+        ensures kept { KeepsSatisfiable checker.old checker.new }
         ensures read { IfOk result (λ done.
             IsReadIn (text_of self.old piece.now) self.new checker.old checker.new) }
         ensures refused { IfErr result
@@ -136,7 +142,7 @@ impl Proof {
 
     /// Reads one byte; whether the contradiction is found by it.
     fn read(&mut self, alloc: Global, checker: &mut Checker, byte: u8) -> Result<bool, ProofFault>
-        ensures kept { KeepsModels checker.old checker.new }
+        ensures kept { KeepsSatisfiable checker.old checker.new }
         ensures read { IfOk result
             (IsTurned (turn_of self.old byte) byte self.old self.new checker.old checker.new) }
         ensures refused { IfErr result
@@ -154,7 +160,7 @@ impl Proof {
         turn: Turn,
         byte: u8,
     ) -> Result<bool, ProofFault>
-        ensures kept { KeepsModels checker.old checker.new }
+        ensures kept { KeepsSatisfiable checker.old checker.new }
         ensures taken { IfOk result
             (IsTurned turn byte self.old self.new checker.old checker.new) }
         ensures refused { IfErr result (IsFaultOfTurn turn self.old checker.old checker.new) }
@@ -184,7 +190,7 @@ impl Proof {
         checker: &mut Checker,
         byte: u8,
     ) -> Result<bool, ProofFault>
-        ensures kept { KeepsModels checker.old checker.new }
+        ensures kept { KeepsSatisfiable checker.old checker.new }
         ensures taken { IfOk result
             (IsTurned Ends byte self.old self.new checker.old checker.new) }
         ensures refused { IfErr result (IsFaultOfStep (step_of self.old) checker.old checker.new) }
@@ -198,7 +204,7 @@ impl Proof {
 
     /// The clause is deleted, or it is a lemma that has to follow.
     fn judge(&self, alloc: Global, checker: &mut Checker) -> Result<(), ProofFault>
-        ensures kept { KeepsModels checker.old checker.new }
+        ensures kept { KeepsSatisfiable checker.old checker.new }
         ensures taken { IfOk result (λ done. TakesStep (step_of self.now) checker.old checker.new) }
         ensures refused { IfErr result (IsFaultOfStep (step_of self.now) checker.old checker.new) }
     {

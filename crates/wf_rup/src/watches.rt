@@ -37,7 +37,19 @@ impl Watches {
         }
     }
 
-    /// The clause watches the literal.
+    /// There are lists for all literals of a clause.
+    pub(crate) fn make_room(&mut self, alloc: Global, clause: &[Code]) -> Result<(), AllocError> {
+        let mut codes = self.lists.len();
+        for literal in clause {
+            codes = codes.max(*literal as usize + 1);
+        }
+        for _ in self.lists.len()..codes {
+            self.lists.push(Vec::new(alloc))?;
+        }
+        Ok(())
+    }
+
+    /// The clause watches the literal, if there is a list for it.
     #[inline]
     pub(crate) fn push(&mut self, literal: Code, watch: Watcher) -> Result<(), AllocError> {
         let at = literal as usize;

@@ -14,8 +14,8 @@ use wf_drat::Literal;
 ///
 /// Nothing is believed of the proof: whatever its bytes are, a formula of which it is accepted has
 /// no model. Where it is refused, and memory didn't run out, the fault is the first one of its text
-/// to a checker that knew the formula and nothing else: a flaw, a lemma that does not follow by
-/// unit propagation from what is known there, or an end before the contradiction.
+/// to a checker that knew the formula and nothing else: a flaw, a lemma that may not be added to
+/// what is known there, or an end before the contradiction.
 pub fn check_proof(
     alloc: Global,
     variables: u32,

@@ -1,20 +1,20 @@
 use Rattle.std.proofs.Common.{◌∙◌, ap}
 use Rattle.std.proofs.lemmas.Result.{IfOk-weaker}
 use Rattle.wf_rup.specs.Seen.{known_of}
-use Rattle.wf_rup.proofs.LiteralLemmas.{entails-clause, keeps-models}
+use Rattle.wf_rup.proofs.RatLemmas.{is-redundant, is-unjustified, keeps-satisfiable}
 use Rattle.wf_rup.proofs.StoredLemmas.{is-kept, knows-alone, knows-still}
-use Rattle.wf_rup.proofs.UnitLemmas.{does-not-follow}
+
 use Rattle.wf_rup.proofs.checker.Checker.derive.Goals as goal
 
-pub returns-clause-follows : goal.returns-clause-follows
-returns-clause-follows c = IfOk-weaker c.derive.result _ _
-    (λ follows entailed yes. entails-clause c.self.inside.variables c.self.inside.database c.args.self.now c.args.lemma.now _ c.self.view_is
-    (c.deref.ensures.value ∙ c.in_ok-put_codes.ensures) (entailed yes))
-    c.derive.ensures.follows
+pub returns-clause-redundant : goal.returns-clause-redundant
+returns-clause-redundant c = IfOk-weaker c.derive.result _ _
+    (λ taken redundant yes. is-redundant c.self.inside.variables c.self.inside.database c.args.self.now c.args.lemma.now _ c.self.view_is
+    (c.deref.ensures.value ∙ c.in_ok-put_codes.ensures) (redundant yes))
+    c.derive.ensures.redundant
 
 pub returns-clause-refused : goal.returns-clause-refused
 returns-clause-refused c = IfOk-weaker c.derive.result _ _
-    (λ follows refuses no. does-not-follow c.self.inside.variables c.self.inside.database c.args.self.now c.args.lemma.now _ c.self.view_is
+    (λ follows refuses no. is-unjustified c.self.inside.variables c.self.inside.database c.args.self.now c.args.lemma.now _ c.self.view_is
     (c.deref.ensures.value ∙ c.in_ok-put_codes.ensures) (refuses no))
     c.derive.ensures.refused
 
@@ -24,7 +24,7 @@ returns-clause-unchanged c = IfOk-weaker c.derive.result _ _
     c.derive.ensures.unchanged
 
 pub returns-clause-kept : goal.returns-clause-kept
-returns-clause-kept c = keeps-models c.self.inside.variables c.self.inside.database c.derive.new.self c.args.self.now c.self.view_is c.derive.ensures.kept
+returns-clause-kept c = keeps-satisfiable c.self.inside.variables c.self.inside.database c.derive.new.self c.args.self.now c.self.view_is c.derive.ensures.kept
 
 pub returns-clause-added : goal.returns-clause-added
 returns-clause-added c = IfOk-weaker c.derive.result _ _

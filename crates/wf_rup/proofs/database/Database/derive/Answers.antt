@@ -1,14 +1,27 @@
-use Rattle.std.proofs.Common.{◌∙◌, ap, sym, subst}
-use Rattle.wf_rup.specs.Settled.{Refuses}
-use Rattle.wf_rup.proofs.TrailLemmas.{All-has_front}
+use Rattle.std.proofs.Common.{◌∙◌, ap, sym}
+use Rattle.wf_rup.specs.Stored.{Stored}
+use Rattle.wf_rup.proofs.RatLemmas.{redundant-in, refused-in, satisfiable-in}
 use Rattle.wf_rup.proofs.database.Database.derive.Goals as goal
 
-pub returns-else-branch-clause-refused : goal.returns-else-branch-clause-refused
-returns-else-branch-clause-refused c = λ no.
+pub returns-in_err-add-clause-kept : goal.returns-in_err-add-clause-kept
+returns-in_err-add-clause-kept c =
+    satisfiable-in c.args.self.now c.self-2.inside.trail c.self-2.inside.clauses c.self-2.inside.is_refuted c.args.lemma.now
+    (c.self-2.view_is ∙ c.in_ok-compact_in_time.ensures) c.add.new.self c.is_justified.new.trail c.is_justified.new.clauses
+    c.in_ok-justified.ensures.trail c.in_ok-justified.ensures.clauses (c.in_ok-justified.ensures.justified c.if-justified.true) c.in_err-add.ensures.sound
+
+pub returns-in_ok-add-clause-redundant : goal.returns-in_ok-add-clause-redundant
+returns-in_ok-add-clause-redundant c =
+    λ yes. redundant-in c.args.self.now c.self-2.inside.trail c.self-2.inside.clauses c.self-2.inside.is_refuted c.args.lemma.now
+    (c.self-2.view_is ∙ c.in_ok-compact_in_time.ensures) (c.in_ok-justified.ensures.justified c.if-justified.true)
+
+pub returns-in_ok-add-clause-kept : goal.returns-in_ok-add-clause-kept
+returns-in_ok-add-clause-kept c =
+    satisfiable-in c.args.self.now c.self-2.inside.trail c.self-2.inside.clauses c.self-2.inside.is_refuted c.args.lemma.now
+    (c.self-2.view_is ∙ c.in_ok-compact_in_time.ensures) c.add.new.self c.is_justified.new.trail c.is_justified.new.clauses
+    c.in_ok-justified.ensures.trail c.in_ok-justified.ensures.clauses (c.in_ok-justified.ensures.justified c.if-justified.true) c.in_ok-add.ensures.sound
+
+pub returns-else-justified-clause-refused : goal.returns-else-justified-clause-refused
+returns-else-justified-clause-refused c = λ no.
     let same = c.self-2.view_is ∙ c.in_ok-compact_in_time.ensures in
-    subst (λ s. Refuses s c.args.lemma.now) same (record {
-      trail = c.assume-found.new.trail;
-      includes = All-has_front c.self-2.inside.trail c.assume-found.new.trail c.in_ok-found.ensures.front;
-      stops = c.in_ok-found.ensures.refused c.if-branch.false;
-      unrefuted = ap (λ s. s.is_refuted) (same ∙ sym c.self.view_is) ∙ c.if-self.false;
-    })
+    refused-in c.args.self.now c.self-2.inside.trail c.self-2.inside.clauses c.self-2.inside.is_refuted c.args.lemma.now same
+    (ap (λ (s : Stored). s.is_refuted) (same ∙ sym c.self.view_is) ∙ c.if-self.false) (c.in_ok-justified.ensures.refused c.if-justified.false)

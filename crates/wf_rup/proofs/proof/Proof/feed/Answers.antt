@@ -2,6 +2,7 @@ use Rattle.std.proofs.Common.{get_or, drop, ◌+◌, arith, refl, sym, ◌∙◌
 use Rattle.wf_rup.specs.Fed.{IsTurned}
 use Rattle.wf_drat.specs.Text.{text_of, turn_of}
 use Rattle.wf_rup.proofs.FedLemmas.{fault-in, refuted-before, refuted-in, up-to_byte, up-to_next, up-to_unmoved}
+use Rattle.wf_rup.proofs.RatLemmas.{satisfiable-on, satisfiable-same}
 use Rattle.wf_rup.proofs.proof.Proof.feed.Goals as goal
 
 pub returns-then-is_refuted-clause-read : goal.returns-then-is_refuted-clause-read
@@ -9,7 +10,7 @@ returns-then-is_refuted-clause-read c =
     inl (refuted-before (text_of c.args.self.now c.args.piece.now) c.args.checker.now (sym c.is_refuted.ensures.exact ∙ c.if-is_refuted.true))
 
 pub returns-in-Ok-true-clause-kept : goal.returns-in-Ok-true-clause-kept
-returns-in-Ok-true-clause-kept c = λ a model. c.read.ensures.kept a (c.bytes.invariant.0 a model)
+returns-in-Ok-true-clause-kept c = satisfiable-on c.args.checker.now c.bytes.checker c.read.new.checker c.bytes.invariant.0 c.read.ensures.kept
 
 pub returns-in-Ok-true-clause-read : goal.returns-in-Ok-true-clause-read
 returns-in-Ok-true-clause-read c =
@@ -25,7 +26,7 @@ returns-in-Ok-true-clause-read c =
     (subst (IsTurned (turn_of state byte) byte state c.read.new.self now c.read.new.checker) c.in-Ok-true.field-0-test c.in-Ok-true.ensures.read))
 
 pub returns-in-Err-read-clause-kept : goal.returns-in-Err-read-clause-kept
-returns-in-Err-read-clause-kept c = λ a model. c.read.ensures.kept a (c.bytes.invariant.0 a model)
+returns-in-Err-read-clause-kept c = satisfiable-on c.args.checker.now c.bytes.checker c.read.new.checker c.bytes.invariant.0 c.read.ensures.kept
 
 pub returns-in-Err-read-clause-refused : goal.returns-in-Err-read-clause-refused
 returns-in-Err-read-clause-refused c =
@@ -50,7 +51,7 @@ bytes-preserved c =
     let now = c.bytes.checker in
     let left = up-to_unmoved text bytes c.bytes.at c.in-Ok-None.field-0 c.self.inside.reader state c.bytes.self old now c.in-Ok-None.field-0-is c.in-Ok-None.ensures c.self.view_is c.bytes.invariant.1 in
     let within = c.bytes-test.true in (
-      λ a model. c.read.ensures.kept a (c.bytes.invariant.0 a model),
+      satisfiable-on c.args.checker.now c.bytes.checker c.read.new.checker c.bytes.invariant.0 c.read.ensures.kept,
       up-to_next (turn_of state byte) text state c.read.new.self byte (drop (c.bytes.at + 1) bytes) old now c.read.new.checker refl
           (up-to_byte text state bytes c.bytes.at old now within left)
           (subst (IsTurned (turn_of state byte) byte state c.read.new.self now c.read.new.checker) c.in-Ok-false.field-0-test c.in-Ok-false.ensures.read),

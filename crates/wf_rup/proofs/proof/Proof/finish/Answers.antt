@@ -1,8 +1,12 @@
 use Rattle.std.proofs.lemmas.Bool.{false≢true}
+use Rattle.wf_rup.proofs.RatLemmas.{no-model-before, no-model-of_empty}
 use Rattle.wf_rup.proofs.proof.Proof.finish.Goals as goal
 
 pub returns-then-is_refuted-clause-accepted : goal.returns-then-is_refuted-clause-accepted
-returns-then-is_refuted-clause-accepted c = λ a model. c.is_refuted.ensures.sound c.if-is_refuted.true a (c.feed.ensures.kept a model)
+returns-then-is_refuted-clause-accepted c =
+    no-model-before c.args.checker.now c.feed.new.checker c.feed.ensures.kept (c.is_refuted.ensures.sound c.if-is_refuted.true)
 
 pub returns-in-Ok-true-clause-accepted : goal.returns-in-Ok-true-clause-accepted
-returns-in-Ok-true-clause-accepted c = λ a model. false≢true (c.in-Ok-true.ensures.follows c.in-Ok-true.field-0-test a (c.feed.ensures.kept a model))
+returns-in-Ok-true-clause-accepted c =
+    no-model-before c.args.checker.now c.feed.new.checker c.feed.ensures.kept
+    (no-model-of_empty c.feed.new.checker (c.in-Ok-true.ensures.redundant c.in-Ok-true.field-0-test))

@@ -7,7 +7,7 @@ use Rattle.wf_rup.specs.Settled.{IsFalseOn, Stops}
 use Rattle.wf_rup.specs.Stored.{kept_of}
 use Rattle.wf_rup.proofs.CodeLemmas.{Implies-at, satisfies_codes-neither}
 use Rattle.wf_rup.proofs.SettledLemmas.{false-more, front-front, stops-before}
-use Rattle.wf_rup.proofs.database.assume.Goals as goal
+use Rattle.wf_rup.proofs.rat.assume.Goals as goal
 
 pub returns-then-is_true-clause-conflict : goal.returns-then-is_true-clause-conflict
 returns-then-is_true-clause-conflict c = λ found.
@@ -17,7 +17,7 @@ returns-then-is_true-clause-conflict c = λ found.
 pub loop-literal-preserved : goal.loop-literal-preserved
 loop-literal-preserved c =
     let old = c.loop-literal.trail in
-    let clause = c.args.clause.now in
+    let clause = c.args.candidate.now.clause.now in
     let i = c.loop-literal.literal-index in
     record {
       front = front-front c.args.trail.now old c.put.new.self c.loop-literal.invariant.front c.in_ok-put.ensures.front;
@@ -28,14 +28,14 @@ loop-literal-preserved c =
           (c.in_ok-put.ensures.exact ∙ ap (with_literal old) c.negated-opposite.ensures.exact) c.loop-literal.invariant.negated;
     }
 
-pub returns-clause-refused : goal.returns-clause-refused
-returns-clause-refused c =
-    let clause = c.args.clause.now in
+pub returns-in-Whole-clause-refused : goal.returns-in-Whole-clause-refused
+returns-in-Whole-clause-refused c =
+    let clause = c.args.candidate.now.clause.now in
     let whole : take c.loop-literal.literal-index clause ≡ clause = take_all _ _ c.loop-literal-test.false in
     let all : IsFalseOn c.loop-literal.trail clause = subst (IsFalseOn c.loop-literal.trail) whole c.loop-literal.invariant.negated in
     let stops : IfOk c.settle.result (λ found. found ≡ false → Stops (kept_of c.args.clauses.now) c.settle.new.trail) =
     subst (λ f. IfOk c.settle.result (λ found. found ≡ false → Stops (kept_of f) c.settle.new.trail)) c.in_ok-propagate.ensures.clauses c.settle.ensures.stops in
     IfOk-weaker c.settle.result _ _
-    (λ found here no. stops-before (kept_of c.args.clauses.now) clause c.loop-literal.trail c.propagate.new.trail c.settle.new.trail all
+    (λ found here no effort. stops-before (kept_of c.args.clauses.now) clause c.loop-literal.trail c.propagate.new.trail c.settle.new.trail all
     c.in_ok-propagate.ensures.trail.front c.settle.ensures.trail.front (here no))
     stops

@@ -1,0 +1,81 @@
+-- Laws of the resolvents of a lemma with the clauses of a list, one by one.
+use Rattle.std.proofs.Common.{◌≡◌, ℕ, ◌+◌, ◌<◌, ◌≤◌, true, false, List, [], ◌∷◌, refl, sym, ◌∙◌, ap, subst, arith, length, get_or, inl, inr}
+use Rattle.std.specs.List.{Contains}
+use Rattle.std.proofs.lemmas.Bool.{cases_lt, false≢true}
+use Rattle.std.proofs.lemmas.List.{get_or_default}
+use Rattle.wf_rup.specs.Propagation.{Implies, opposite}
+use Rattle.wf_rup.specs.Rat.{ResolvesOn, resolvent_of}
+use Rattle.wf_rup.specs.Resolving.{StopsShort, StopsShortOfRat, StopsShortOfResolvent}
+use Rattle.wf_rup.specs.Stored.{has, kept_of}
+use Rattle.wf_rup.proofs.DeletedLemmas.{placed}
+use Rattle.wf_rup.proofs.KeptLemmas.{Contains-kept}
+use Rattle.wf_rup.proofs.StoredLemmas.{some-literal}
+
+-- with each clause before this number that has the literal the lemma has a resolvent that is implied
+abbrev pub AreResolvedBefore : List (List ℕ) → List ℕ → List ℕ → ℕ → ℕ → Type 0
+AreResolvedBefore f trail lemma negation number =
+    (k : ℕ) → k < number → has (get_or f k []) negation ≡ true → Implies (kept_of f) trail (resolvent_of lemma negation (get_or f k []))
+
+-- no clause before the first one has the literal
+pub resolved-first : (f : List (List ℕ)) (trail lemma : List ℕ) (negation first : ℕ)
+    → ((n : ℕ) → has (get_or f n []) negation ≡ true → first ≤ n) → AreResolvedBefore f trail lemma negation first
+resolved-first f trail lemma negation first least = λ k before there. absurd (let after = least k there in omega (arith, before, after))
+
+module _ (f : List (List ℕ)) (trail lemma : List ℕ) (negation number : ℕ) (clause : List ℕ) (within : number < length f) (is : clause ≡ get_or f number clause) where
+  here : clause ≡ get_or f number []
+  here = is ∙ get_or_default f number clause [] within
+
+  -- the clause of one place more
+  pub resolved-more : AreResolvedBefore f trail lemma negation number → (has clause negation ≡ true → Implies (kept_of f) trail (resolvent_of lemma negation clause))
+      → AreResolvedBefore f trail lemma negation (number + 1)
+  resolved-more before one = λ k less there. elim (cases_lt k number) [
+    | inl early ↦ before k early there
+    | inr late ↦
+        let same : number ≡ k = omega (arith, less, late) in
+        let at : clause ≡ get_or f k [] = here ∙ ap (λ (n : ℕ). get_or f n []) same in
+        subst (λ c. Implies (kept_of f) trail (resolvent_of lemma negation c)) at (one (subst (λ c. has c negation ≡ true) (sym at) there))
+  ]
+
+  -- the resolvent with this clause doesn't follow
+  pub stops-at : (pivot : ℕ) → negation ≡ opposite pivot → has clause negation ≡ true → StopsShort (kept_of f) trail (resolvent_of lemma negation clause)
+      → StopsShortOfResolvent (kept_of f) trail lemma pivot
+  stops-at pivot e inside short = record {
+    clause = clause;
+    stored_is = Contains-kept f number clause within is (some-literal clause negation inside);
+    inside = subst (λ (l : ℕ). has clause l ≡ true) e inside;
+    stops = subst (λ (l : ℕ). StopsShort (kept_of f) trail (resolvent_of lemma l clause)) e short;
+  }
+
+each-clause : (f : List (List ℕ)) (trail lemma : List ℕ) (negation number : ℕ) → length f ≤ number → AreResolvedBefore f trail lemma negation number
+    → (clause : List ℕ) → Contains (kept_of f) clause → has clause negation ≡ true → Implies (kept_of f) trail (resolvent_of lemma negation clause)
+each-clause f trail lemma negation number long all clause there inside =
+    let at = placed f clause there in
+    let within : at.number < length f = at.kept.within in
+    subst (λ c. Implies (kept_of f) trail (resolvent_of lemma negation c)) at.is
+    (all at.number (omega (arith, within, long)) (subst (λ c. has c negation ≡ true) (sym at.is) inside))
+
+-- all clauses were looked at
+pub resolves-on : (f : List (List ℕ)) (trail lemma : List ℕ) (pivot negation number : ℕ) → negation ≡ opposite pivot → has lemma pivot ≡ true
+    → has trail negation ≡ false → length f ≤ number → AreResolvedBefore f trail lemma negation number → ResolvesOn (kept_of f) trail lemma pivot
+resolves-on f trail lemma pivot negation number e inside free long all = record {
+  inside = inside;
+  unfalsified = subst (λ (l : ℕ). has trail l ≡ false) e free;
+  each = subst (λ (l : ℕ). (clause : List ℕ) → Contains (kept_of f) clause → has clause l ≡ true → Implies (kept_of f) trail (resolvent_of lemma l clause)) e
+      (each-clause f trail lemma negation number long all);
+}
+
+-- ---- a lemma that isn't RAT
+
+pub short-empty : (clauses : List (List ℕ)) (trail lemma : List ℕ) → length lemma ≡ 0 → StopsShortOfRat clauses trail lemma
+short-empty clauses trail [] e = tt
+short-empty clauses trail (p ∷ ps) e = absurd (omega (arith, e))
+
+pub short-true : (clauses : List (List ℕ)) (trail lemma : List ℕ) (pivot : ℕ) → pivot ≡ get_or lemma 0 pivot → 0 < length lemma
+    → has trail (opposite pivot) ≡ true → StopsShortOfRat clauses trail lemma
+short-true clauses trail [] pivot e some there = absurd (omega (arith, some))
+short-true clauses trail (p ∷ ps) pivot e some there = inl (subst (λ (l : ℕ). has trail (opposite l) ≡ true) e there)
+
+pub short-resolvent : (clauses : List (List ℕ)) (trail lemma : List ℕ) (pivot : ℕ) → pivot ≡ get_or lemma 0 pivot → 0 < length lemma
+    → StopsShortOfResolvent clauses trail lemma pivot → StopsShortOfRat clauses trail lemma
+short-resolvent clauses trail [] pivot e some one = absurd (omega (arith, some))
+short-resolvent clauses trail (p ∷ ps) pivot e some one = inr (subst (StopsShortOfResolvent clauses trail (p ∷ ps)) e one)
