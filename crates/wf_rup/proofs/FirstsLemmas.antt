@@ -26,9 +26,9 @@ noted-more clause old new i d number within lowered here before = λ l there.
     elim (cases_Bool (has (take i clause) l)) [
       | inl early ↦ lowered l number (before l early)
       | inr late ↦ elim (cases_eq x l) [
-          | inl same ↦ subst (λ (m : ℕ). get_or new m (suc number) ≤ number) same here
-          | inr other ↦ absurd (false≢true (sym (other_test x l other) ∙ or-second (has (take i clause) l) (x == l) late parts))
-        ]
+        | inl same ↦ subst (λ (m : ℕ). get_or new m (suc number) ≤ number) same here
+        | inr other ↦ absurd (false≢true (sym (other_test x l other) ∙ or-second (has (take i clause) l) (x == l) late parts))
+      ]
     ]
 
 pub firsts-lowered : (old new : List ℕ) (clauses : List (List ℕ)) → AreFirsts old clauses → IsLowered old new → AreFirsts new clauses
@@ -39,13 +39,13 @@ firsts-pushed : (firsts : List ℕ) (clauses : List (List ℕ)) (c : List ℕ) (
 firsts-pushed firsts clauses c number h last noted = λ l n there. elim (cases_lt n (length clauses)) [
   | inl within ↦ h l n (subst (λ xs. has xs l ≡ true) (get_or_append_left clauses (c ∷ []) [] n within) there)
   | inr beyond ↦ elim (cases_eq n number) [
-      | inl same ↦
-          let here : get_or (clauses ++ c ∷ []) n [] ≡ c = get_or_push clauses c [] n (sym last ∙ sym same) in
-          subst (λ (m : ℕ). get_or firsts l (suc m) ≤ m) (sym same) (noted l (subst (λ xs. has xs l ≡ true) here there))
-      | inr other ↦
-          let past : length (clauses ++ c ∷ []) ≤ n = omega (arith, length_push clauses c, beyond, other, last) in
-          absurd (false≢true (subst (λ xs. has xs l ≡ true) (get_or_past (clauses ++ c ∷ []) n [] past) there))
-    ]
+    | inl same ↦
+        let here : get_or (clauses ++ c ∷ []) n [] ≡ c = get_or_push clauses c [] n (sym last ∙ sym same) in
+        subst (λ (m : ℕ). get_or firsts l (suc m) ≤ m) (sym same) (noted l (subst (λ xs. has xs l ≡ true) here there))
+    | inr other ↦
+        let past : length (clauses ++ c ∷ []) ≤ n = omega (arith, length_push clauses c, beyond, other, last) in
+        absurd (false≢true (subst (λ xs. has xs l ≡ true) (get_or_past (clauses ++ c ∷ []) n [] past) there))
+  ]
 ]
 
 -- where the clause is stored in the end, and where it is not

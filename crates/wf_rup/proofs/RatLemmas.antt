@@ -1,7 +1,7 @@
 -- Why a resolution asymmetric tautology may be added, and when a lemma is none.
-use Rattle.std.proofs.Common.{◌≡◌, ℕ, ◌+◌, ◌*◌, ◌/◌, ◌%◌, ◌<◌, zero, suc, Bool, true, false, List, [], ◌∷◌, ◌++◌, refl, sym, ◌∙◌, ap, subst, arith, length, map, take, get_or, bit_xor, inl, inr, append-nil}
-use Rattle.std.specs.Prelude.{◌==◌, ◌||◌, not, filter, if◌then◌else◌}
-use Rattle.std.specs.List.{All, Contains, list_all, list_any}
+use Rattle.std.proofs.Common.{◌≡◌, ℕ, ◌/◌, ◌%◌, ◌<◌, zero, suc, Bool, true, false, List, [], ◌∷◌, ◌++◌, refl, sym, ◌∙◌, ap, subst, arith, length, map, get_or, bit_xor, inl, inr, append-nil}
+use Rattle.std.specs.Prelude.{◌==◌, ◌||◌, not, if◌then◌else◌}
+use Rattle.std.specs.List.{Contains, list_all}
 use Rattle.std.specs.Int.Bits.{xor_zero_r}
 use Rattle.std.proofs.lemmas.Nat.{xor_shr, xor_mod}
 use Rattle.std.proofs.lemmas.Bool.{cases_Bool, cases_eq, false≢true}
@@ -10,9 +10,9 @@ use Rattle.std.proofs.lemmas.List.{map-append}
 use Rattle.std.proofs.lemmas.List.Elements.{All-contains_itself}
 use Rattle.std.proofs.lemmas.List.Folds.{list_any-append}
 use Rattle.std.proofs.lemmas.List.Sums.{AllPass-from_list_all, list_all-from_AllPass}
-use Rattle.wf_clauses.specs.Formula.{Assignment, Clause, Literal, negation, satisfies}
-use Rattle.wf_drat.specs.Codes.{code_of, code_of-literal_of, hold_codes, holds_code, is_model_of_codes, literal_of, satisfies_codes}
-use Rattle.wf_rup.specs.Propagation.{Implies, opposite}
+use Rattle.wf_clauses.specs.Formula.{Assignment, Clause, Literal, negation}
+use Rattle.wf_drat.specs.Codes.{code_of, code_of-literal_of, holds_code, literal_of, satisfies_codes}
+use Rattle.wf_rup.specs.Propagation.{opposite}
 use Rattle.wf_rup.specs.Rat.{IsJustified, IsRat, IsRedundant, IsStoredRedundant, IsUnjustified, KeepsSatisfiable, KeepsStoredSatisfiable, RefusesBoth, RefusesRat, ResolvesOn, others_than, resolvent, resolvent_of, without}
 use Rattle.wf_rup.specs.Resolving.{StopsShort, StopsShortOfBoth, StopsShortOfRat}
 use Rattle.wf_rup.specs.Seen.{HasNoModel, IsModelOf, KeepsModels, Known, known_of}
@@ -68,9 +68,9 @@ holds-still : (a : Assignment) (p c : ℕ) → (c ≡ opposite p → ⊥) → ho
 holds-still a p c other h = elim (cases_eq (c / 2) (p / 2)) [
   | inr apart ↦ holds-apart a p c apart ∙ h
   | inl same ↦ elim (cases_eq c p) [
-      | inl it ↦ subst (λ (x : ℕ). holds_code (with_true a p) x ≡ true) (sym it) (holds-it a p)
-      | inr not_it ↦ absurd (other (is-opposite c p same not_it))
-    ]
+    | inl it ↦ subst (λ (x : ℕ). holds_code (with_true a p) x ≡ true) (sym it) (holds-it a p)
+    | inr not_it ↦ absurd (other (is-opposite c p same not_it))
+  ]
 ]
 
 -- ---- clauses under that assignment

@@ -11,15 +11,17 @@ use Rattle.wf_formula.specs.Encoding.{question}
 use Rattle.wf_formula.proofs.Tasks.{unsatisfiable_where}
 use Rattle.wf_io.specs.Seen.{Reading}
 use Rattle.wf_io.specs.Texts.{Gave}
-use Rattle.wf_drat.specs.Text.{State, at_start, text_of}
-use Rattle.wf_rup.specs.Fed.{IsFaultAtEnd, IsFaultIn, IsReadIn}
+use Rattle.wf_drat.specs.Text.{State, text_of}
+use Rattle.wf_rup.specs.Fed.{IsFaultAtEnd, IsFaultIn, IsReadIn, proof_start}
 use Rattle.wf_rup.specs.Kept.{IsKept}
-use Rattle.wf_rup.specs.Seen.{HasNoModel, KeepsModels, Known}
+use Rattle.wf_rup.specs.Rat.{KeepsSatisfiable}
+use Rattle.wf_rup.specs.Seen.{HasNoModel, Known}
 use Rattle.wf_rup.specs.declared.proof.ProofFault.{ProofFault}
 use Rattle.wf_rup.specs.declared.proof.ProofFault.TheVariants as proof
 use Rattle.wf_rup.specs.Posed.{FollowsFrom, IsPosed}
 use Rattle.wf_rup.proofs.ProofPieces.{IsFed, fed_more, nothing_fed}
 use Rattle.wf_rup.proofs.PosedLemmas.{some_itself}
+use Rattle.wf_rup.proofs.RatLemmas.{no-model-before, satisfiable-on, satisfiable-same}
 use Rattle.wf_run.specs.Faults.{of_proof}
 use Rattle.wf_run.specs.Run.{answered}
 use Rattle.wf_verify_engine.specs.Verify.{accepted_text}
@@ -39,14 +41,14 @@ pub record IsGiven (old new : Reading) (given : List ℕ) (count : ℕ) : Type 0
 pub record IsRead (old new : Reading) (known left : Known) (state : State) (count : ℕ) : Type 0 where
   pub given : List ℕ
   pub source : IsGiven old new given count
-  pub kept : KeepsModels known left
+  pub kept : KeepsSatisfiable known left
   pub fed : IsFed known given state left
 
-pub nothing_read : (old : Reading) (known : Known) (state : State) → state ≡ at_start known.variables → IsRead old old known known state 0
+pub nothing_read : (old : Reading) (known : Known) (state : State) → state ≡ proof_start known.variables → IsRead old old known known state 0
 nothing_read old known state same = record {
   given = [];
   source = record { gave = record { bytes_are = Consumes-nil old.left; taken = omega arith; failures = omega arith }; counted = refl };
-  kept = λ a model. model;
+  kept = satisfiable-same known;
   fed = nothing_fed known state same;
 }
 
@@ -118,11 +120,11 @@ module _ (old new : Reading) (known : Known) (given : List ℕ) (count : ℕ) (s
 module _ (old mid new : Reading) (known left : Known) (state : State) (count : ℕ) (before : IsRead old mid known left state count) where
   -- the piece was taken
   pub piece_read : (left' : Known) (state' : State) (n : ℕ) (piece : List ℕ) → n ≡ length piece → Consumes mid.left new.left piece → new.taken ≡ mid.taken + n → new.failures ≡ mid.failures + 0
-      → KeepsModels left left' → IsReadIn (text_of state piece) state' left left' → IsRead old new known left' state' (count + n)
+      → KeepsSatisfiable left left' → IsReadIn (text_of state piece) state' left left' → IsRead old new known left' state' (count + n)
   piece_read left' state' n piece long bytes taken failures keeps read = record {
     given = before.given ++ piece;
     source = piece_given old mid new before.given count before.source n piece long bytes taken failures;
-    kept = λ a model. keeps a (before.kept a model);
+    kept = satisfiable-on known left left' before.kept keeps;
     fed = fed_more known before.given state left piece state' left' before.fed read;
   }
 
@@ -140,7 +142,7 @@ module _ (old mid new : Reading) (known left : Known) (state : State) (count : �
 
     -- there is none, and the proof is accepted
     pub ended : count ≤ most_proof_bytes → IsAtEnd new.left → HasNoModel left → ReadsAsProof {X = Unit {0}} known (λ accepted. HasNoModel known) old new (Ok tt)
-    ended few end refuted = accepted old new known before.given count at_end few end (λ a model. refuted a (before.kept a model))
+    ended few end refuted = accepted old new known before.given count at_end few end (no-model-before known left before.kept refuted)
 
     -- there is none, and the proof is refused
     pub end_refused : {X : Type 0} (holds : X → Type 0) (left' : Known) (e : ProofFault) (result : Result X RunFault) → count ≤ most_proof_bytes + 1

@@ -14,8 +14,7 @@ returns-in_default-clause-none c = λ no n alike.
 pub invariant_of-self-2 : goal.invariant_of-self-2
 invariant_of-self-2 c =
     let found : IsFoundAt c.bucket.result.now c.self.inside.clauses c.args.clause.now c.in-Some.found
-    = subst (λ o. IfSome o (IsFoundAt c.bucket.result.now c.self.inside.clauses c.args.clause.now)) c.in-Some.is c.in_ok-found.ensures.some in
-    (
+    = subst (λ o. IfSome o (IsFoundAt c.bucket.result.now c.self.inside.clauses c.args.clause.now)) c.in-Some.is c.in_ok-found.ensures.some in (
       subst (λ cs. IsIndexed cs c.take.new.self) (sym c.forget.ensures)
           (indexed-forgotten c.self.inside.clauses c.self.inside.index c.take.new.self found.entry c.in-Some.found.number c.self.invariant.0
           (c.take.ensures found.entry (subst (λ xs. found.entry ≡ get_or xs c.in-Some.found.place found.entry) c.bucket.ensures found.is)) found.numbered),

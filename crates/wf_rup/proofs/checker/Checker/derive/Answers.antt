@@ -3,7 +3,6 @@ use Rattle.std.proofs.lemmas.Result.{IfOk-weaker}
 use Rattle.wf_rup.specs.Seen.{known_of}
 use Rattle.wf_rup.proofs.RatLemmas.{is-redundant, is-unjustified, keeps-satisfiable}
 use Rattle.wf_rup.proofs.StoredLemmas.{is-kept, knows-alone, knows-still}
-
 use Rattle.wf_rup.proofs.checker.Checker.derive.Goals as goal
 
 pub returns-clause-redundant : goal.returns-clause-redundant

@@ -2,7 +2,7 @@ use Rattle.std.proofs.Common.{get_or, drop, ◌+◌, arith, refl, sym, ◌∙◌
 use Rattle.wf_rup.specs.Fed.{IsTurned}
 use Rattle.wf_drat.specs.Text.{text_of, turn_of}
 use Rattle.wf_rup.proofs.FedLemmas.{fault-in, refuted-before, refuted-in, up-to_byte, up-to_next, up-to_unmoved}
-use Rattle.wf_rup.proofs.RatLemmas.{satisfiable-on, satisfiable-same}
+use Rattle.wf_rup.proofs.RatLemmas.{satisfiable-on}
 use Rattle.wf_rup.proofs.proof.Proof.feed.Goals as goal
 
 pub returns-then-is_refuted-clause-read : goal.returns-then-is_refuted-clause-read

@@ -1,4 +1,3 @@
-use Rattle.std.proofs.lemmas.Bool.{false≢true}
 use Rattle.wf_rup.proofs.RatLemmas.{no-model-before, no-model-of_empty}
 use Rattle.wf_rup.proofs.proof.Proof.finish.Goals as goal
 
