@@ -2,8 +2,10 @@
 """rup.py TASK ROUNDS [--branch I] < PROOF: whether a clausal proof refutes the question of a task, straight from docs/FORMAT.md.
 
 What `wfcheck proof` answers, byte for byte, and slowly, most of all a number of millions of digits: it shares nothing with the program,
-and is here to be read. With --branch the proof is about that branch alone, which has to be there. A proof is lemmas and deletions. A lemma follows where unit propagation, with all its literals false, makes a clause that is kept false.
-Literals that hold without an assumption hold from then on, whatever is deleted. Its status is 0 where the proof is accepted, else 2."""
+and is here to be read. With --branch the proof is about that branch alone, which has to be there. A proof is lemmas and deletions. A lemma
+follows if unit propagation, with all its literals false, makes a kept clause false. A lemma that does not follow is kept if it is a
+resolution asymmetric tautology (RAT) on its first literal. Literals that hold without an assumption hold from then on, whatever is
+deleted. The status is 0 if the proof is accepted, else 2."""
 import argparse
 import collections
 import json
@@ -21,6 +23,8 @@ if hasattr(sys, "set_int_max_str_digits"):
 BLANKS = b" \t\r\n"
 NUMBER = re.compile(rb"-?[0-9]*")
 COMMENT = re.compile(rb"[c%][^\n]*")
+# a proof may bring in so many variables beside the question's, and no number may be larger than the second one
+NEW_VARIABLES, MOST_VARIABLES = 1 << 22, 2147483646
 
 
 class Refused(Exception):
@@ -45,6 +49,13 @@ class Kept:
     def follows(self, lemma):
         """Whether unit propagation finds a contradiction where all of the lemma's literals are false."""
         return self.is_refuted or not self.spread(set(self.held), [-it for it in lemma])
+
+    def is_rat(self, lemma):
+        """Whether the lemma's resolvents on its first literal follow; a literal that holds is a clause of its own."""
+        if not lemma or -lemma[0] in self.held:
+            return False
+        negation = -lemma[0]
+        return all(self.follows(lemma + [it for it in clause if it != negation]) for clause in self.users.get(negation, ()))
 
     def add(self, clause):
         clause = tuple(sorted(set(clause)))
@@ -129,12 +140,12 @@ def question(task, rounds, branch=None):
 def judge(kept, variables, text):
     """Why a proof is refused, or None. What is kept is changed."""
     try:
-        ahead = steps(text, variables)
+        ahead = steps(text, min(variables + NEW_VARIABLES, MOST_VARIABLES))
         while not kept.is_refuted:
             line, is_deletion, clause = next(ahead)
             if is_deletion:
                 kept.delete(clause)
-            elif kept.follows(clause):
+            elif kept.follows(clause) or kept.is_rat(clause):
                 kept.add(clause)
             else:
                 raise Refused(f"40 NotImplied {line}")

@@ -16,7 +16,7 @@ const KINDS: &str =
 
 /// What the help of `proof` says of the texts.
 const PROOFS: &str =
-    "The proof is DRAT as text, as CaDiCaL and Kissat write it with --no-binary: lemmas and deletions. Each lemma has to\nfollow by unit propagation from the formula and the lemmas before it, and the contradiction at last. Then the\ntask has no decision map after these rounds, whatever the solver did, and the answer is: accepted none at R rounds.\nA proof is refused where a lemma does not follow so, which those that need RAT do not, or where it ends too soon.\nWith --lrat the proof is LRAT as text: the hints of each lemma have to lead to a conflict.";
+    "The proof is DRAT as text, as CaDiCaL and Kissat write it with --no-binary: lemmas and deletions. Each lemma has to\nfollow by unit propagation from the formula and the lemmas before it, or be RAT on its first literal, and the\ncontradiction has to follow at last. Then the task has no decision map after these rounds, whatever the solver did,\nand the answer is: accepted none at R rounds. A proof is refused if a lemma is neither, or if it ends too soon.\nWith --lrat the proof is LRAT as text: the hints of each lemma have to lead to a conflict.";
 
 /// What the help of `obstruction` says of the answers.
 const OBSTRUCTIONS: &str =

@@ -17,11 +17,11 @@ use wf_run::{RunFault, SecondText, run_over_both};
 use wf_task::Task;
 use wf_verify_engine::read_proof_from;
 
-/// Reads a task to its reader's end, and then a SAT solver's clausal proof to
-/// its own reader's end; checks each lemma by unit propagation over the formula
-/// of one branch of the task's question after these rounds, which is made here;
-/// and writes that no decision map is accepted in that branch. Where that is
-/// written, no decision map lies in the branch, whatever the proof's bytes are.
+/// Reads a task to its reader's end, and then a SAT solver's clausal proof to its own reader's end.
+/// Checks each lemma, by unit propagation or as a resolution asymmetric tautology, over the formula
+/// of one branch of the task's question after these rounds, which is made here. Writes that no
+/// decision map is accepted in that branch. If that is written, no decision map lies in the branch,
+/// whatever the proof's bytes are.
 ///
 /// A branch that is not there is refused before the proof is read, with how
 /// many branches there are.

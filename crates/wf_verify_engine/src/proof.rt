@@ -25,10 +25,10 @@ pub const MOST_PROOF_BYTES: u64 = 1 << 62;
 /// how many bytes of a proof are asked for at once
 pub(crate) const PIECE: usize = 65_536;
 
-/// Reads a task to its reader's end, and then a SAT solver's clausal proof to its own reader's end;
-/// checks each lemma by unit propagation over the formula of the task and these rounds, which is
-/// made here; and writes that no decision map is accepted. Where that is written, no function on
-/// the views is a decision map, whatever the proof's bytes are.
+/// Reads a task to its reader's end, and then a SAT solver's clausal proof to its own reader's end.
+/// Checks each lemma, by unit propagation or as a resolution asymmetric tautology, over the formula
+/// of the task and these rounds, which is made here. Writes that no decision map is accepted. If
+/// that is written, no function on the views is a decision map, whatever the proof's bytes are.
 ///
 /// The proof is read in pieces and may be longer than memory. Too many rounds or executions are
 /// refused before it is read, and more than [`MOST_PROOF_BYTES`] once that many were.
