@@ -10,9 +10,9 @@ ghost use Rattle.wf_branches.specs.Hints.{ReadsBranchHints, ReadsHintsIn, Refute
 use crate::branch::{FoundBranch, branch_of};
 use std::alloc::Global;
 use std::io::{Read, Write};
-use wf_cnf::pose_branch_hints;
 use wf_complex::Protocol;
 use wf_io::{Sink, Source};
+use wf_posing::pose_branch_hints;
 use wf_run::{RunFault, SecondText, run_over_both};
 use wf_task::Task;
 use wf_verify_engine::read_hints_from;

@@ -18,7 +18,7 @@ use crate::branch::{FoundBranch, branch_of};
 use std::alloc::Global;
 use std::io::{Read, Write};
 use std::thread::Threads;
-use wf_check::ReportChecker;
+use wf_check::{ReportChecker, TaskReport};
 use wf_complex::Protocol;
 use wf_io::{Sink, Source, read_all};
 use wf_report::{Body, Report, read_report};
@@ -194,14 +194,12 @@ pub(crate) fn check_part<T: Threads + Sync>(
         (report_seen report.now) result }
 {
     let is_elsewhere = is_outside(&report.body, &branch.sets);
-    checker.check_within(
-        judge.rt,
-        alloc,
-        judge.task,
-        judge.protocol,
-        branch.sets,
+    let about = TaskReport {
+        task: judge.task,
+        protocol: judge.protocol,
         report,
-    )?;
+    };
+    checker.check_within(judge.rt, alloc, &about, branch.sets)?;
     if is_elsewhere {
         return Err(RunFault::NotInBranch);
     }

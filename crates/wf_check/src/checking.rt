@@ -22,7 +22,7 @@ use wf_report::{Body, CertFault, FIRST_LINE, Report};
 use wf_set::Mask;
 use wf_task::Task;
 
-/// What a report answers, with the task and the protocol complex that the report is about.
+/// What a report answers, with the task and the protocol complex that the answer is about.
 #[derive(Clone, Copy)]
 struct ReportedAnswer<'a> {
     task: &'a Task,
@@ -55,6 +55,17 @@ pub fn check<R: Threads + Sync>(
 {
     judge_header(task, protocol, report)?;
     judge_body(rt, alloc, task, protocol, &report.body)
+}
+
+/// A report about a task, with the task and the protocol complex that the report is about.
+#[derive(Clone, Copy)]
+pub struct TaskReport<'a> {
+    /// The task.
+    pub task: &'a Task,
+    /// The protocol complex of the task.
+    pub protocol: &'a Protocol,
+    /// The report.
+    pub report: &'a Report,
 }
 
 /// What is made of a task once, to check reports whose answers are about one box alone.
@@ -93,18 +104,23 @@ impl ReportChecker {
         &self,
         rt: &R,
         alloc: Global,
-        task: &Task,
-        protocol: &Protocol,
+        about: &TaskReport,
         sets: Vec<Mask>,
-        report: &Report,
     ) -> Result<(), CertFault>
-        requires checker { IsCheckerOf task.now self.now }
-        requires built { IsProtocol task.now protocol.now.rounds protocol.now }
-        requires long { length sets.items ≡ length protocol.now.points }
-        requires few { AreNumbered (body_length report.now.body) }
-        ensures { Judges result (report_fault_within task.now protocol.now.rounds
-            (box_of sets.items) (report_seen report.now)) }
+        requires checker { IsCheckerOf about.now.task.now self.now }
+        requires built { let b = about.now.protocol.now in
+            IsProtocol about.now.task.now b.rounds b }
+        requires long { length sets.items ≡ length about.now.protocol.now.points }
+        requires few { AreNumbered (body_length about.now.report.now.body) }
+        ensures { let a = about.now in
+            Judges result (report_fault_within a.task.now a.protocol.now.rounds
+            (box_of sets.items) (report_seen a.report.now)) }
     {
+        let TaskReport {
+            task,
+            protocol,
+            report,
+        } = *about;
         judge_header(task, protocol, report)?;
         let answer = ReportedAnswer {
             task,

@@ -1,8 +1,8 @@
 //! The checker of reports.
 //!
 //! - [`check`]: accepts a report about a task, or answers the first reason why it is refused.
-//! - [`ReportChecker`]: the same of reports whose answers are about one box alone.
-//!   It is made once of a task.
+//! - [`ReportChecker`]: judges reports whose answers are about one box alone, each of them a
+//!   [`TaskReport`]. The checker is made once of a task.
 //!
 //! It stands on reports, protocol complexes and sets of values alone: what it accepts rests on
 //! nothing of the search.
@@ -19,4 +19,4 @@ mod rows;
 mod support;
 mod tuples;
 
-pub use checking::{ReportChecker, check};
+pub use checking::{ReportChecker, TaskReport, check};

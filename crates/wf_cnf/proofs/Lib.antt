@@ -7,5 +7,5 @@ pub mod Questions
 pub mod PutLemmas
 pub mod SolverLemmas
 pub mod StatedLemmas
-pub mod PosingLemmas
 pub mod ExclusionLemmas
+pub mod Lemmas

@@ -137,12 +137,6 @@ clauses_same t r b h =
     ∙ sym (flat_mapped (clauses_of (values t)) (λ e. get_or ks e no_constraint) (below (length ks)))
     ∙ ap (flat_map (clauses_of (values t))) (by_place ks no_constraint)
 
--- first those of the points, then those of the executions
-pub clauses_are_question : (t : Task) (r : ℕ) (b : Built) (all : List ℕ) (patterns : List (List Pattern)) → IsProtocol t r b → all ≡ values t → patterns ≡ patterns_of t
-    → map (at_least_one all) (below (length b.points)) ++ clauses_on all patterns b ≡ (question t r).clauses
-clauses_are_question t r b all patterns h all_is patterns_are =
-    λ i. map (at_least_one (all_is i)) (below (length (h.points_are i))) ++ ((λ j. clauses_on (all_is j) (patterns_are j) b) ∙ clauses_same t r b h) i
-
 -- the clauses that rule out what a box with all points has not
 pub exclusions_same : (t : Task) (r : ℕ) (b : Built) (all : List ℕ) (box : Box) → IsProtocol t r b → all ≡ values t → length box ≡ length b.points
     → exclusions_on all box ≡ exclusions (problem_of t r) box

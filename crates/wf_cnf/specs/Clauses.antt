@@ -1,12 +1,12 @@
 -- The clauses of the executions of a protocol complex, by what the program keeps: the minimal
 -- forbidden patterns of each input simplex.
-use Rattle.std.specs.Prelude.{◌<◌, ◌*◌, ◌++◌, ℕ, List, [], map, flat_map, length, slice_index, All}
+use Rattle.std.specs.Prelude.{◌<◌, ℕ, List, [], map, flat_map, length, slice_index, All}
 use Rattle.std.specs.List.{slice_index_or}
 use Rattle.wf_model.specs.Limits.{most_points}
 use Rattle.wf_model.specs.Lists.{below}
 use Rattle.wf_model.specs.Task.{Task, values}
 use Rattle.wf_complex.specs.Protocol.{Built}
-use Rattle.wf_clauses.specs.Formula.{Clause, Formula, neg}
+use Rattle.wf_clauses.specs.Formula.{Clause, neg}
 use Rattle.wf_formula.specs.Patterns.{Pattern, minimal_patterns}
 use Rattle.wf_formula.specs.Encoding.{variable, at_least_one}
 use Rattle.wf_formula.specs.Dimacs.{clause_text}
@@ -28,13 +28,6 @@ clauses_at values patterns b e = map (denied_at values (points_in b e)) (pattern
 -- those of all executions
 abbrev pub clauses_on : List ℕ → List (List Pattern) → Built → List Clause
 clauses_on values patterns b = flat_map (clauses_at values patterns b) (below (length b.scopes))
-
--- the formula of so many points and all executions
-abbrev pub formula_on : List ℕ → List (List Pattern) → ℕ → Built → Formula
-formula_on values patterns points b = record {
-  variables = points * length values;
-  clauses = map (at_least_one values) (below points) ++ clauses_on values patterns b;
-}
 
 -- the text of those of all executions
 abbrev pub executions_text : List ℕ → List (List Pattern) → Built → List ℕ

@@ -174,8 +174,9 @@ fn put_clauses<W: Write>(
     put_exclusions(page, sink, variables, source.sets)
 }
 
-/// The minimal forbidden patterns of each input simplex.
-pub(crate) fn all_patterns(alloc: Global, task: &Task) -> Result<Vec<Patterns>, AllocError>
+/// The minimal forbidden patterns of each input simplex, in order. Refused for want of memory
+/// alone.
+pub fn all_patterns(alloc: Global, task: &Task) -> Result<Vec<Patterns>, AllocError>
     ensures { IfOk result (λ patterns. map patterns_seen patterns.items ≡ patterns_of task.now) }
 {
     let values = task.values();

@@ -13,12 +13,11 @@ ghost use Rattle.wf_cnf.specs.Variables.{IsNumbered};
 use std::alloc::{AllocError, Global};
 use std::io::Write;
 use wf_io::{Page, Sink, WriteFault};
-use wf_rup::Literal;
 use wf_set::{Mask, count, holds};
 
 /// The values of a problem, and what numbers its variables.
 #[derive(Drop)]
-pub(crate) struct Variables {
+pub struct Variables {
     /// The values.
     pub values: Mask,
     /// How many there are.
@@ -28,7 +27,7 @@ pub(crate) struct Variables {
 }
 
 impl Variables {
-    /// Those of problems with these values.
+    /// Those of problems with these values. Refused for want of memory alone.
     pub fn of(alloc: Global, values: Mask) -> Result<Variables, AllocError>
         ensures values { IfOk result (λ v. v.values ≡ values) }
         ensures numbered { IfOk result IsNumbered }
@@ -67,26 +66,8 @@ impl Variables {
         points * self.width
     }
 
-    /// The literal that a point has a value.
-    pub fn positive(&self, point: u32, value: u8) -> Literal
-        requires numbered { IsNumbered self.now }
-        requires point { point < most_points }
-        ensures { result ≡ pos (variable (values_in self.now.values) point value) }
-    {
-        Literal::positive(self.number(point, value))
-    }
-
-    /// The literal that a point has not a value.
-    pub fn negative(&self, point: u32, value: u8) -> Literal
-        requires numbered { IsNumbered self.now }
-        requires point { point < most_points }
-        ensures { result ≡ neg (variable (values_in self.now.values) point value) }
-    {
-        Literal::negative(self.number(point, value))
-    }
-
     /// Adds the literal that a point has a value.
-    pub fn put<W: Write>(
+    pub(crate) fn put<W: Write>(
         &self,
         page: &mut Page,
         sink: &mut Sink<W>,
@@ -103,7 +84,7 @@ impl Variables {
     }
 
     /// Adds the literal that a point has not a value.
-    pub fn put_not<W: Write>(
+    pub(crate) fn put_not<W: Write>(
         &self,
         page: &mut Page,
         sink: &mut Sink<W>,

@@ -42,31 +42,48 @@ pub(crate) fn pack(
     for (number, simplex) in inputs.iter().enumerate() {
         let size = simplex.colours();
         let count = executions_on(size, first_block, rounds);
-        pack_on(&mut executions, &numbers, number as u32, size, place, count)?;
+        let run = SimplexRun {
+            simplex: number as u32,
+            size,
+            first: place,
+            count,
+        };
+        pack_on(&mut executions, &numbers, run)?;
         place += count as usize * size as usize;
     }
     Ok(executions)
 }
 
-/// Adds the executions on one simplex, whose points begin at this place of the numbers.
+/// The executions on one simplex, which follow one another.
+#[derive(Clone, Copy)]
+struct SimplexRun {
+    // the number of the simplex
+    simplex: u32,
+    // how many processes each of the executions has
+    size: u8,
+    // the place where the numbers of their points begin
+    first: usize,
+    // how many executions there are
+    count: u32,
+}
+
+/// Adds the executions of a run, with the points of these numbers.
 fn pack_on(
     executions: &mut Vec<PackedExecution>,
     numbers: &[u32],
-    simplex: u32,
-    size: u8,
-    first: usize,
-    count: u32,
+    run: SimplexRun,
 ) -> Result<(), AllocError>
-    requires some { 0 < size }
-    requires few { size ≤ 4 }
-    requires room { first + count * size ≤ length numbers.now }
-    ensures { OnOk result (executions.new.items
-        ≡ executions.old.items ++ map (packed_on numbers.now) (laid_on simplex size first count)) }
+    requires some { 0 < run.size }
+    requires few { run.size ≤ 4 }
+    requires room { run.first + run.count * run.size ≤ length numbers.now }
+    ensures { OnOk result (executions.new.items ≡ executions.old.items
+        ++ map (packed_on numbers.now) (laid_on run.simplex run.size run.first run.count)) }
 {
-    let mut place = first;
-    for _turn in 0..count {
+    let size = run.size;
+    let mut place = run.first;
+    for _turn in 0..run.count {
         executions.push(PackedExecution {
-            simplex,
+            simplex: run.simplex,
             points: four(&numbers[place..place + size as usize]),
         })?;
         place += size as usize;

@@ -16,7 +16,7 @@ use crate::fault::BuildFault;
 use crate::firsts::{First, firsts_of};
 use crate::layout::{MOST_EXECUTIONS, execution_count, lay_out, place_count};
 use crate::packed::{PackedExecution, pack};
-use crate::rounds::last_views;
+use crate::rounds::{RoundPlan, last_views};
 use crate::views::Views;
 use std::alloc::{AllocError, Global};
 use std::marker::Model;
@@ -196,16 +196,13 @@ fn complex_from(
 {
     let mut views = Views::start(alloc);
     let room = place_count(inputs, first_block, rounds);
-    let lasts = last_views(alloc, &mut views, inputs, first_block, rounds, room)?;
-    let points = points_of(alloc, &mut views, lasts, symmetric)?;
-    let placed = place_all(
-        alloc,
-        inputs,
+    let plan = RoundPlan {
         first_block,
         rounds,
-        points.numbers,
-        &points.firsts,
-    )?;
+    };
+    let lasts = last_views(alloc, &mut views, inputs, plan, room)?;
+    let points = points_of(alloc, &mut views, lasts, symmetric)?;
+    let placed = place_all(alloc, inputs, plan, points.numbers, &points.firsts)?;
     Ok(Protocol {
         rounds,
         views,
@@ -230,25 +227,26 @@ struct LaidOut {
 fn place_all(
     alloc: Global,
     inputs: &[Simplex],
-    first_block: u8,
-    rounds: u32,
+    plan: RoundPlan,
     numbers: Vec<u32>,
     places: &[u32],
 ) -> Result<LaidOut, AllocError>
-    requires one { 1 ≤ first_block }
-    requires most { first_block ≤ most_processes }
-    requires few { execution_total first_block rounds inputs.now ≤ most_executions }
+    requires one { 1 ≤ plan.first_block }
+    requires most { plan.first_block ≤ most_processes }
+    requires few { execution_total plan.first_block plan.rounds inputs.now ≤ most_executions }
     requires inputs { length inputs.now ≤ most_inputs }
     requires sizes { All (λ s. length s ≤ most_processes) inputs.now }
-    requires numbers { length numbers.items ≡ place_total first_block rounds inputs.now }
+    requires numbers { length numbers.items ≡ place_total plan.first_block plan.rounds inputs.now }
     requires places { All (λ j. j < length numbers.items) places.now }
     requires ascending { AllPairs (λ i j. i < j) places.now }
     ensures inputs { IfOk result (λ p. p.inputs.items ≡ inputs.now) }
     ensures executions { IfOk result (λ p. p.executions.value.items
-        ≡ map (packed_on numbers.items) (laid_out first_block rounds 0 0 inputs.now)) }
-    ensures firsts { IfOk result (λ p. firsts_in p.firsts.items
-        ≡ firsts_at inputs.now (laid_out first_block rounds 0 0 inputs.now) places.now) }
+        ≡ map (packed_on numbers.items) (laid_out plan.first_block plan.rounds 0 0 inputs.now)) }
+    ensures firsts { IfOk result (λ p. firsts_in p.firsts.items ≡ firsts_at inputs.now
+        (laid_out plan.first_block plan.rounds 0 0 inputs.now) places.now) }
 {
+    let first_block = plan.first_block;
+    let rounds = plan.rounds;
     let packed = pack(alloc, inputs, first_block, rounds, numbers)?;
     let firsts = firsts_among(alloc, inputs, first_block, rounds, places)?;
     let inputs = inputs.to_vec(alloc)?;

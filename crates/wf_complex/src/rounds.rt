@@ -256,27 +256,36 @@ fn walk(
     Ok(())
 }
 
-/// The last views of all executions on these simplices whose first blocks have at least
-/// `first_block` participants, or all where they are fewer, one after another: simplex by simplex,
-/// execution by execution, and by ascending process. Room is made for `room` of them at once.
+/// How the executions on a simplex are made.
+#[derive(Clone, Copy)]
+pub(crate) struct RoundPlan {
+    /// The least number of participants in the first block of a round, but for rounds with fewer
+    /// participants, which have all in that block.
+    pub first_block: u8,
+    /// How many rounds there are.
+    pub rounds: u32,
+}
+
+/// The last views of all executions on these simplices by this plan, one after another: simplex by
+/// simplex, execution by execution, and by ascending process. Room is made for `room` of them at
+/// once.
 pub(crate) fn last_views(
     alloc: Global,
     views: &mut Views,
     simplices: &[Simplex],
-    first_block: u8,
-    rounds: u32,
+    plan: RoundPlan,
     room: usize,
 ) -> Result<Vec<u32>, AllocError>
-    requires one { 1 ≤ first_block }
-    requires most { first_block ≤ most_processes }
-    requires room { length views.old + cost_of_each first_block rounds simplices.now + 4
+    requires one { 1 ≤ plan.first_block }
+    requires most { plan.first_block ≤ most_processes }
+    requires room { length views.old + cost_of_each plan.first_block plan.rounds simplices.now + 4
         ≤ most_number }
     ensures extends { Extends views.old views.new }
-    ensures added { OnOk result
-        (length views.new ≤ length views.old + cost_of_each first_block rounds simplices.now) }
+    ensures added { OnOk result (length views.new
+        ≤ length views.old + cost_of_each plan.first_block plan.rounds simplices.now) }
     ensures within { IfOk result (λ lasts. All (λ k. k < length views.new) lasts.items) }
     ensures made { IfOk result (λ lasts. views_at views.new lasts.items
-        ≡ flat_map (leaves_of first_block rounds) simplices.now) }
+        ≡ flat_map (leaves_of plan.first_block plan.rounds) simplices.now) }
 {
     let mut lasts = Vec::with_capacity(alloc, room)?;
     let mut round = Round {
@@ -286,13 +295,13 @@ pub(crate) fn last_views(
     for simplex in simplices {
         let first = first_views(views, simplex)?;
         let size = simplex.colours();
-        round.make(alloc, size, first_block)?;
+        round.make(alloc, size, plan.first_block)?;
         walk(
             views,
             &mut lasts,
             &first[..size as usize],
             &round.sights,
-            rounds,
+            plan.rounds,
         )?;
     }
     Ok(lasts)

@@ -24,7 +24,7 @@ use wf_core::Account;
 use wf_handout::Stealing;
 use wf_io::{Sink, Source};
 use wf_lines::{Form, Lines};
-use wf_pool::{Answer, Gate, KeptLines, Open, solve, solve_one_watched};
+use wf_pool::{Answer, Gate, Inquiry, KeptLines, Open, solve, solve_one_watched};
 use wf_report::{Body, Header, Report};
 use wf_run::{RunFault, hand_out, read_task};
 use wf_task::Task;
@@ -166,15 +166,12 @@ fn solve_task<T: Threads + Sync, G: Gate>(
     let wanted = search.wanted;
     let gate = OptionalGate { gate: search.gate };
     let (header, problem) = pose_problem(alloc, task, wanted.rounds, &gate)?;
-    let kept = lines_kept(wanted.form);
-    let (answer, account) = solve::<T, Branches, OptionalGate<G>>(
-        rt,
-        alloc,
-        &problem,
-        search.workers,
-        kept,
-        &gate,
-    )?;
+    let inquiry = Inquiry {
+        problem: &problem,
+        kept: lines_kept(wanted.form),
+    };
+    let workers = search.workers;
+    let (answer, account) = solve::<T, Branches, _>(rt, alloc, inquiry, workers, &gate)?;
     let (outcome, text) = with_text(alloc, task, wanted, header, answer)?;
     Ok(((outcome, account), text))
 }

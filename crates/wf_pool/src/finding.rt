@@ -13,9 +13,11 @@ use wf_search::{Found, FoundMap, Stop, search_map, search_with};
 /// What is asked: the least map of a problem, or that it has none, with those lines of its search
 /// that are kept.
 #[derive(Clone, Copy, Drop)]
-pub(crate) struct Inquiry<'a> {
-    pub(crate) problem: &'a Problem,
-    pub(crate) kept: KeptLines,
+pub struct Inquiry<'a> {
+    /// The problem.
+    pub problem: &'a Problem,
+    /// The lines that are kept for the answer.
+    pub kept: KeptLines,
 }
 
 /// What a search of a box finds, with those of its lines that are kept. Where none is kept, its

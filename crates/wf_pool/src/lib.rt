@@ -41,6 +41,7 @@ mod watch;
 mod worker;
 
 pub use answer::{Answer, BranchAnswer, KeptLines};
+pub use finding::Inquiry;
 pub use gate::{Gate, Moment, Open};
 pub use laws::{a_problem_has_one_answer, searches_have_most_workers};
 pub use solving::{MAX_WORKERS, solve, solve_branch, solve_one, solve_one_watched, solve_root};

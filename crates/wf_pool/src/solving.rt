@@ -47,18 +47,16 @@ pub const MAX_WORKERS: u32 = 64;
 pub fn solve<R: Threads + Sync, H: Handout, G: Gate>(
     rt: &R,
     alloc: Global,
-    problem: &Problem,
+    inquiry: Inquiry,
     workers: u32,
-    kept: KeptLines,
     gate: &G,
 ) -> Result<(Answer, Account), AllocError>
     requires { (0 < workers) × (workers ≤ most_workers) }
-    ensures answer { IfOk result (λ r. IsAnswer problem.now kept r.0) }
-    ensures account { IfOk result (λ r. HasAccount problem.now r.0 r.1) }
+    ensures answer { let q = inquiry.entry in IfOk result (λ r. IsAnswer q.problem.now q.kept r.0) }
+    ensures account { IfOk result (λ r. HasAccount inquiry.entry.problem.now r.0 r.1) }
 {
-    let inquiry = Inquiry { problem, kept };
     let mut answers = KernelCache::new(alloc);
-    let cover = branches_of(alloc, problem, &mut answers)?;
+    let cover = branches_of(alloc, inquiry.problem, &mut answers)?;
     let branches = cover.branches();
     let used = workers.min(branches).max(1);
     gate.branches(branches);

@@ -13,7 +13,7 @@ use wf_core::Account;
 use wf_examples::{AGREEMENT_3_2, CONSENSUS_2, PATH_2};
 use wf_handout::{Counter, Handout, Stealing};
 use wf_lines::{Line, Lines};
-use wf_pool::{Answer, Gate, KeptLines, MAX_WORKERS, Open, solve, solve_one};
+use wf_pool::{Answer, Gate, Inquiry, KeptLines, MAX_WORKERS, Open, solve, solve_one};
 
 /// The line of a value that is lost.
 macro_rules! lost {
@@ -136,14 +136,13 @@ fn one_worker_alone(rt: HostRuntime) -> Result<(), Fail> {
 fn run<R: Threads + Sync, H: Handout, G: Gate>(
     rt: &R,
     alloc: Global,
-    problem: &Problem,
+    inquiry: Inquiry,
     workers: u32,
-    kept: KeptLines,
     gate: &G,
 ) -> Result<(Vec<u8>, Lines, Account), AllocError>
     requires { (0 < workers) × (workers ≤ MAX_WORKERS) }
 {
-    let (answer, account) = solve::<R, H, G>(rt, alloc, problem, workers, kept, gate)?;
+    let (answer, account) = solve::<R, H, G>(rt, alloc, inquiry, workers, gate)?;
     let (values, lines) = parts_of(alloc, answer);
     Ok((values, lines, account))
 }
@@ -151,15 +150,11 @@ fn run<R: Threads + Sync, H: Handout, G: Gate>(
 #[test]
 fn a_root_without_branches(rt: HostRuntime) -> Result<(), Fail> {
     let problem = problem_of(rt.alloc(), CONSENSUS_2, 0)?;
-    let kept = KeptLines::Refuting;
-    let (_, lines, account) = run::<_, Stealing, _>(
-        &rt,
-        rt.alloc(),
-        &problem,
-        MAX_WORKERS,
-        kept,
-        &Open,
-    )?;
+    let inquiry = Inquiry {
+        problem: &problem,
+        kept: KeptLines::Refuting,
+    };
+    let (_, lines, account) = run::<_, Stealing, _>(&rt, rt.alloc(), inquiry, MAX_WORKERS, &Open)?;
     assert_eq!(rt; (lines.as_slice(), account), (CONSENSUS_LINES, NO_BRANCHES));
     Ok(())
 }
@@ -264,9 +259,9 @@ fn finds_the_map<R: Threads + Sync + Abort, H: Handout>(
     for (place, (workers, kept, (rule, barred), searched, idle)) in RUNS.iter().enumerate() {
         let workers = (*workers).clamp(1, MAX_WORKERS);
         let gate = Hold::new(*rule, *barred);
-        let (values, lines, account) = run::<R, H, Hold>(
-            rt, alloc, problem, workers, *kept, &gate,
-        )?;
+        let kept = *kept;
+        let inquiry = Inquiry { problem, kept };
+        let (values, lines, account) = run::<R, H, Hold>(rt, alloc, inquiry, workers, &gate)?;
         let wanted = match kept {
             KeptLines::All => MAP_LINES,
             KeptLines::Refuting | KeptLines::Neither => &[],
@@ -289,7 +284,8 @@ fn the_map_is_found_by_workers_that_are_held_or_may_not_start(rt: HostRuntime) -
     finds_the_map::<_, Stealing>(&rt, rt.alloc(), &problem)
 }
 
-/// The same map and lines a thousand times, by three workers and by as many as may be asked for.
+/// Finds the least map and its lines a thousand times, by three workers and by as many as may be
+/// asked for.
 fn finds_the_least_map<R: Threads + Sync + Abort, H: Handout>(
     rt: &R,
     alloc: Global,
@@ -297,10 +293,11 @@ fn finds_the_least_map<R: Threads + Sync + Abort, H: Handout>(
     let problem = problem_of(alloc, PATH_2, 1)?;
     for turn in 0..1000u32 {
         let workers = if turn % 100 == 0 { MAX_WORKERS } else { 3 };
-        let kept = KeptLines::All;
-        let (values, lines, account) = run::<R, H, Open>(
-            rt, alloc, &problem, workers, kept, &Open,
-        )?;
+        let inquiry = Inquiry {
+            problem: &problem,
+            kept: KeptLines::All,
+        };
+        let (values, lines, account) = run::<R, H, Open>(rt, alloc, inquiry, workers, &Open)?;
         assert_eq!(rt;
             (
                 values.as_slice(),

@@ -218,19 +218,36 @@ fn version_shown(least_block: Option<u8>) -> Value
     }
 }
 
+/// What the text of a task says, key by key.
+#[derive(Drop)]
+pub(crate) struct TaskFields {
+    /// How many participants a first block has at least, if the text says so.
+    pub least_block: Option<u8>,
+    /// How many processes there are.
+    pub processes: u8,
+    /// Whether processes are told apart by rank and not by name.
+    pub symmetric: bool,
+    /// The facets of the input complex.
+    pub inputs: Value,
+    /// The facets of the output complex.
+    pub outputs: Value,
+    /// The entries of the input simplices.
+    pub delta: Value,
+}
+
 /// The value of a task, its keys in alphabetical order.
-pub(crate) fn task_value(
-    alloc: Global,
-    least_block: Option<u8>,
-    processes: u8,
-    symmetric: bool,
-    inputs: Value,
-    outputs: Value,
-    delta: Value,
-) -> Result<Value, AllocError>
-    ensures { IfOk result (λ v. view v ≡
-        keyed least_block processes symmetric (view inputs) (view outputs) (view delta)) }
+pub(crate) fn task_value(alloc: Global, fields: TaskFields) -> Result<Value, AllocError>
+    ensures { let f = fields in IfOk result (λ v. view v ≡ keyed f.least_block f.processes
+        f.symmetric (view f.inputs) (view f.outputs) (view f.delta)) }
 {
+    let TaskFields {
+        least_block,
+        processes,
+        symmetric,
+        inputs,
+        outputs,
+        delta,
+    } = fields;
     // from the last key on, so that each goes in front of those that are there
     let mut members = Map::new(alloc);
     put(&mut members, alloc, "version", version_shown(least_block))?;

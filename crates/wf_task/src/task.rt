@@ -14,7 +14,7 @@ ghost use Rattle.wf_task.specs.TaskSeen.{task_of_parts, tuples_at};
 ghost use Rattle.wf_draft.specs.Listed.{ListsVertices, ListsFew};
 ghost use Rattle.wf_task.specs.Faultless.{IsFaultless};
 
-use crate::canonical::{entries, facets, list, task_value};
+use crate::canonical::{TaskFields, entries, facets, list, task_value};
 use crate::complexes::{complex, judge_sizes};
 use crate::judge::{judge_first_block, judge_numbers};
 use crate::row::Row;
@@ -119,17 +119,15 @@ impl Task {
         let delta = entries(alloc, self.inputs.simplices(), &self.tuples)?;
         let inputs = list(alloc, &facets(alloc, &self.inputs)?)?;
         let outputs = list(alloc, &facets(alloc, &self.outputs)?)?;
-        let processes = self.processes;
-        let symmetric = self.symmetric;
-        task_value(
-            alloc,
-            self.least_block,
-            processes,
-            symmetric,
+        let fields = TaskFields {
+            least_block: self.least_block,
+            processes: self.processes,
+            symmetric: self.symmetric,
             inputs,
             outputs,
             delta,
-        )
+        };
+        task_value(alloc, fields)
     }
 
     /// How many processes there are.

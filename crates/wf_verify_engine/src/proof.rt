@@ -11,9 +11,9 @@ ghost use Rattle.wf_verify_engine.specs.Proofs.{ReadsAsProof, ReadsProof, Refute
 use crate::verify::accepted_text;
 use std::alloc::Global;
 use std::io::{Read, Write};
-use wf_cnf::pose;
 use wf_complex::Protocol;
 use wf_io::{Sink, Source};
+use wf_posing::pose;
 use wf_report::Body;
 use wf_run::{RunFault, SecondText, run_over_both};
 use wf_rup::{Checker, Proof};

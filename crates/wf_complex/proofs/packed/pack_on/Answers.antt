@@ -7,17 +7,17 @@ use Rattle.wf_complex.proofs.packed.pack_on.Goals as goal
 pub loop-turn-preserved : goal.loop-turn-preserved
 loop-turn-preserved c =
     let numbers = c.args.numbers.now in
-    let size = c.args.size in
-    let more : (c.loop-turn._turn + 1) * c.args.size ≡ c.loop-turn._turn * c.args.size + c.args.size = grind arith in
-    let left : c.args.count - c.loop-turn._turn ≡ (c.args.count - (c.loop-turn._turn + 1)) + 1 = omega (arith, c.loop-turn-test.true) in
-    let rest = map (packed_on numbers) (laid_on c.args.simplex size (c.loop-turn.place + size) (c.args.count - (c.loop-turn._turn + 1))) in
-    let long : (c.loop-turn.place + c.args.size) - c.loop-turn.place ≡ c.args.size = omega arith in
+    let size = c.args.run.size in
+    let more : (c.loop-turn._turn + 1) * c.args.run.size ≡ c.loop-turn._turn * c.args.run.size + c.args.run.size = grind arith in
+    let left : c.args.run.count - c.loop-turn._turn ≡ (c.args.run.count - (c.loop-turn._turn + 1)) + 1 = omega (arith, c.loop-turn-test.true) in
+    let rest = map (packed_on numbers) (laid_on c.args.run.simplex size (c.loop-turn.place + size) (c.args.run.count - (c.loop-turn._turn + 1))) in
+    let long : (c.loop-turn.place + c.args.run.size) - c.loop-turn.place ≡ c.args.run.size = omega arith in
     let part = c.four.ensures.points ∙ ap (λ n. four_of (take n (drop c.loop-turn.place numbers))) long in
     record {
       place = omega (arith, more, c.loop-turn.invariant.place);
       packed =
           (λ i. c.in_ok-push.ensures.items i ++ rest)
-          ∙ (λ i. (c.loop-turn.executions.items ++ record { simplex = c.args.simplex; points = part i } ∷ []) ++ rest)
-          ∙ sym (made_on-more (packed_on numbers) c.args.simplex size c.loop-turn.place (c.args.count - (c.loop-turn._turn + 1)) (c.args.count - c.loop-turn._turn) c.loop-turn.executions.items left)
+          ∙ (λ i. (c.loop-turn.executions.items ++ record { simplex = c.args.run.simplex; points = part i } ∷ []) ++ rest)
+          ∙ sym (made_on-more (packed_on numbers) c.args.run.simplex size c.loop-turn.place (c.args.run.count - (c.loop-turn._turn + 1)) (c.args.run.count - c.loop-turn._turn) c.loop-turn.executions.items left)
           ∙ c.loop-turn.invariant.packed;
     }

@@ -5,6 +5,6 @@ use Rattle.wf_complex.proofs.packed.pack_on.Given as goal
 
 abbrev pub invariant-loop-turn : goal.invariant-loop-turn
 invariant-loop-turn l = record {
-  place : l.place ≡ l.first + l._turn * l.size;
-  packed : l.executions.items ++ map (packed_on l.numbers) (laid_on l.simplex l.size l.place (l.count - l._turn)) ≡ l.initial.executions.items ++ map (packed_on l.numbers) (laid_on l.simplex l.size l.first l.count);
+  place : l.place ≡ l.run.first + l._turn * l.run.size;
+  packed : l.executions.items ++ map (packed_on l.numbers) (laid_on l.run.simplex l.run.size l.place (l.run.count - l._turn)) ≡ l.initial.executions.items ++ map (packed_on l.numbers) (laid_on l.run.simplex l.run.size l.run.first l.run.count);
 }

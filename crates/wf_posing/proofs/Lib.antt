@@ -1,0 +1,2 @@
+pub mod PosingLemmas
+pub mod ExclusionLemmas

@@ -1,0 +1,2 @@
+-- What the crate's own code and proofs use.
+pub mod Posed
