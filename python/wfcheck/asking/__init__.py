@@ -50,6 +50,18 @@ of the whole, which is left in the folder.
 
 Both have the folder's obstruction of the task, TASK.obstruction, accepted again first.
 
+With --split the solver is asked about cases. In each case one point has one of its candidates: the values that no clause of the question
+excludes by itself, which in a branch are the branch's. So many cases are asked at once as --jobs says. --seconds is the limit for each; the
+check of the whole has as much time as all cases together. A map of one case decides the question. If all cases are refuted, one proof is
+composed of their proofs, and `wfcheck proof` checks it as any other. The solver has to write DRAT proofs as text; LRAT is not read.
+
+    --split    POINT: cuts the question, or with --branch that branch, into the cases of this point, by its number; `auto` is the point with
+               most candidates, and of several the first
+
+The proofs of refuted cases stay in the folder of --keep (.case), until the whole is accepted. A run that is begun again asks about the other
+cases alone. If the whole is refused, it is tried once more without its deletions. Then the proof of the case at fault is taken away, and
+nothing is noted.
+
 A note is trusted while the file that it names is there, with the SHA-256 that it names. What was not checked in this run is told as
 noted; after --recheck nothing is.
 
