@@ -3,6 +3,9 @@
 First `wfcheck obstruction` looks for an obstruction of the task, once. If it finds one, and `verify` accepts it, the task has no map after
 any number of rounds, and nothing else is asked. If it finds none, that says nothing about the task.
 
+Then the search is asked about some of the processes alone, the fewest first, in a tenth of the time. If they have no map, the whole has none:
+the lines of their refutation are numbered as those of the whole task, and `verify` has to accept that report.
+
 Then the search and a SAT solver are asked side by side, and wfcheck checks what they answer: a report by `verify`, a model by `model` and
 then `verify`, a clausal proof that there is no map by `proof`. The first answer that is accepted counts. Beside them the search looks
 for a map after fewer rounds than ROUNDS or FIRST, in a tenth of the time: `lift` makes it one after these rounds. You do
@@ -24,6 +27,8 @@ since a map after fewer rounds would give one after R; `map at R`; or `not decid
                rounds, the answer, the kind, bytes and SHA-256 of its certificate, and the seconds; before the first a line of these names
     --no-obstruction
                looks for no obstruction
+    --no-restrict
+               asks about no smaller set of processes
     --clauses  a formula with more clauses is not shown to a solver; 20 million if it isn't given
     --memory   how many GB of memory each process gets that is started, 4 if it isn't given
     --disk     how many GB each file may have that a process writes, 4 if it isn't given

@@ -15,9 +15,9 @@ from typing import Dict, List, Optional, Tuple
 
 from ..running import VARIABLE, NoProgram, program
 from . import __doc__ as about
-from . import arrays, branches, cases, never, questions, runs, table
+from . import arrays, branches, cases, fewer, never, questions, runs, table
 from .notes import Notes, Room, keep
-from .questions import FEWER_ROUNDS, PLACES, SEARCH, Attempt, Question, first
+from .questions import FEWER_ROUNDS, PLACES, SEARCH, Answer, Attempt, Question, first
 from .runs import Clock, Late, Limits, Refused, Scope, Stopped, Undecided, say
 
 SOLVERS = {
@@ -47,6 +47,7 @@ def parsed(listed: List[str]) -> Tuple[argparse.ArgumentParser, argparse.Namespa
     words.add_argument("--disk", type=float, default=4)
     words.add_argument("--keep", type=pathlib.Path)
     words.add_argument("--no-obstruction", action="store_true")
+    words.add_argument("--no-restrict", action="store_true")
     words.add_argument("--jobs", type=int)
     words.add_argument("--table", type=pathlib.Path)
     words.add_argument("--split")
@@ -285,12 +286,19 @@ def decided(words: argparse.Namespace, rounds: int, solver: Optional[str], room:
     with room.attempt() as made:
         scope = Scope(words.limits)
         attempt = Attempt(Question(words.task, rounds), made, scope, clock)
+        if not words.no_restrict and (answer := questions.answered("the search on fewer", lambda: fewer.none_of_fewer(attempt))):
+            return kept(words, answer)
         those = {SEARCH: attempt.by_search}
         if rounds and rounds == words.rounds[0]:
             those[FEWER_ROUNDS] = attempt.by_fewer_rounds
         if solver:
             those[shlex.split(solver)[0]] = lambda: attempt.by_solver(solver, words.clauses)
         answer = first(scope, those)
-        for file in answer.files if answer and words.keep else []:
-            keep(file, words.keep)
-        return (answer.word, words.table.of_file(answer.files[0])) if answer else (None, None)
+        return kept(words, answer) if answer else (None, None)
+
+
+def kept(words: argparse.Namespace, answer: Answer) -> Tuple[str, Optional[table.Certificate]]:
+    """An answer whose files are put into the folder, where there is one, and its certificate as a table has it."""
+    for file in answer.files if words.keep else []:
+        keep(file, words.keep)
+    return answer.word, words.table.of_file(answer.files[0])
