@@ -8,14 +8,14 @@
     print(decide(task("mine", 2, [(0, 1)], legal, values=[0, 1]), 1))
 
 It needs Python 3.9 and the program `wfcheck`, which is found by the variable WFCHECK, else at bin/wfcheck of this repository, else on the
-path. `python3 -m wfcheck ask` is tools/ask."""
+path. `python3 -m wfcheck ask` is tools/ask, and `python3 -m wfcheck restrict` writes the task of some processes alone."""
 import sys
 
 try:
     from .answers import Answer, Branching, Closed, Map, Obstruction, Proof, Refutation, Step, Taken, Weighted
     from .running import Error, NoAnswer, NoProgram, Refused
     from .questions import decide, explain, obstruction, points, solve, trim, verify
-    from .tasks import Mistake, Task, read, task, write
+    from .tasks import Mistake, Task, read, restrict, task, write
     from .views import View
 except Exception as error:
     # of `python3 -m wfcheck`: a status of Python's own would mean an answer
@@ -26,6 +26,6 @@ except Exception as error:
 
 __all__ = [
     "Answer", "Branching", "Closed", "Error", "Map", "Mistake", "NoAnswer", "NoProgram", "Obstruction", "Proof", "Refutation", "Refused",
-    "Step", "Taken", "Task", "View", "Weighted", "decide", "explain", "obstruction", "points", "read", "solve", "task", "trim",
-    "verify", "write",
+    "Step", "Taken", "Task", "View", "Weighted", "decide", "explain", "obstruction", "points", "read", "restrict", "solve", "task",
+    "trim", "verify", "write",
 ]

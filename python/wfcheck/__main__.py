@@ -1,15 +1,19 @@
-"""`python3 -m wfcheck ask TASK ROUNDS ..` is what tools/ask is."""
+"""`python3 -m wfcheck ask TASK ROUNDS ..` is what tools/ask is. `python3 -m wfcheck restrict --processes 0,2 < TASK` writes the task of some
+processes alone."""
+import argparse
 import pathlib
 import sys
 from typing import List
 
 UNDECIDED, REFUSED = 3, 2
 FOLDER = pathlib.Path(__file__).resolve().parent.parent
-USAGE = "usage: python3 -m wfcheck ask TASK ROUNDS [options]"
+USAGE = "usage: python3 -m wfcheck ask TASK ROUNDS [options]\n       python3 -m wfcheck restrict --processes P,.. < TASK"
 
 
 def main(words: List[str]) -> int:
     """Does what the words say, and returns the status."""
+    if words[:1] == ["restrict"]:
+        return restricted(words[1:])
     if words[:1] != ["ask"]:
         print(USAGE, file=sys.stdout if words[:1] == ["--help"] else sys.stderr)
         return 0 if words[:1] == ["--help"] else REFUSED
@@ -20,6 +24,29 @@ def main(words: List[str]) -> int:
         # a status of Python's own would mean an answer
         print(f"ask: {type(error).__name__}: {error}", file=sys.stderr)
         return UNDECIDED
+
+
+def numbers(text: str) -> List[int]:
+    """The numbers of a list such as 0,2."""
+    return [int(it) for it in text.split(",")]
+
+
+def restricted(listed: List[str]) -> int:
+    """Reads a task, and writes that of some of its processes."""
+    from .tasks import Mistake, Task, restrict
+    words = argparse.ArgumentParser(prog="python3 -m wfcheck restrict", description="Reads a task on standard input, and writes the task of some "
+                                    "processes alone: the first of them is process 0 there, the next process 1, and so on.")
+    words.add_argument("--processes", required=True, type=numbers, metavar="P,..", help="the processes, such as 0,2")
+    kept = words.parse_args(listed).processes
+    try:
+        sys.stdout.write(restrict(Task("task", sys.stdin.read()), kept).text)
+    except Mistake as mistake:
+        print(f"restrict: {mistake}", file=sys.stderr)
+        return REFUSED
+    except (AttributeError, LookupError, RecursionError, TypeError, ValueError):
+        print("restrict: what is read is no task: tools/lint.py FILE says where it is wrong", file=sys.stderr)
+        return REFUSED
+    return 0
 
 
 if __name__ == "__main__":

@@ -88,16 +88,46 @@ def task(name: str, processes: int, inputs: Iterable[Input], legal: Legal, value
     if not any(rules.values()):
         raise Mistake(f"{name}: the predicate allows nothing, whatever the processes begin with")
     whole: Dict[str, Any] = {"version": 1} if first_block is None else {"version": 2, "first_block": first_block}
-    text = text_of({**whole, "processes": processes, "symmetric": symmetric}, rules)
+    ends = {tuple(zip((p for p, _ in start), each)) for start, rule in rules.items() for each in rule}
+    text = text_of({**whole, "processes": processes, "symmetric": symmetric}, rules, ends)
     judge_sizes(name, rules, text)
     return Task(name, text)
 
 
-def text_of(whole: Dict[str, Any], rules: Dict[Simplex, List[Tuple[int, ...]]]) -> str:
-    """The text of a task file, with what is allowed at each input simplex."""
-    ends = {tuple(zip((p for p, _ in start), each)) for start, rule in rules.items() for each in rule}
+def text_of(whole: Dict[str, Any], rules: Dict[Simplex, List[Tuple[int, ...]]], ends: Iterable[Simplex]) -> str:
+    """The text of a task file, with what is allowed at each input simplex, and with output simplices."""
     lists = {"inputs": facets(rules), "outputs": facets(ends), "delta": [{"in": start, "out": rule} for start, rule in rules.items()]}
     return json.dumps({**whole, **lists}, separators=(",", ":"), sort_keys=True) + "\n"
+
+
+def restrict(made: Task, processes: Iterable[int]) -> Task:
+    """The task of some processes alone: the input and output simplices on them, with what is allowed there. Each of them gets its rank among
+    them as its number: of processes 0 and 2 the second is process 1.
+
+    A decision map of the whole task is one of this task in the executions in which these processes alone take part. So if this task has
+    none after some rounds, the whole has none after as many. The text of the whole has to be that of a task, as the program accepts it.
+
+    Raises Mistake where no process is named, one that the task has not, or where no input is of these processes alone."""
+    named, whole = [*processes], json.loads(made.text)
+    strangers = [it for it in named if type(it) is not int or it not in range(whole["processes"])]
+    if strangers or not named:
+        told = f"and not {strangers[0]!r}" if strangers else "and none is named"
+        raise Mistake(f"{made.name}: the processes are 0 to {whole['processes'] - 1}, {told}")
+    kept = sorted(set(named))
+    ranks = {process: rank for rank, process in enumerate(kept)}
+
+    def part(simplex: Iterable[Sequence[int]]) -> Simplex:
+        """A simplex's vertices of these processes."""
+        return tuple((ranks[p], v) for p, v in simplex if p in ranks)
+
+    entries = [it for it in whole["delta"] if len(part(it["in"])) == len(it["in"])]
+    rules = {part(it["in"]): sorted({tuple(each) for each in it["out"]}) for it in entries}
+    if not rules:
+        raise Mistake(f"{made.name}: no input is of these processes alone: {', '.join(map(str, kept))}")
+    others = {name: it for name, it in whole.items() if name in ("version", "first_block", "symmetric")}
+    ordered = {start: rules[start] for start in sorted(rules, key=by_size)}
+    ends = {part(it) for it in whole["outputs"]} - {()}
+    return Task("-".join([made.name, *(f"p{it}" for it in kept)]), text_of({**others, "processes": len(kept)}, ordered, ends))
 
 
 def judge(name: str, processes: int, listed: Sequence[Simplex], values: Set[int], first_block: Optional[int]) -> None:

@@ -3,6 +3,9 @@
 First `wfcheck obstruction` looks for an obstruction of the task, once. If it finds one, and `verify` accepts it, the task has no map after
 any number of rounds, and nothing else is asked. If it finds none, that says nothing about the task.
 
+Then the search is asked about some of the processes alone, the fewest first, in a tenth of the time. If they have no map, the whole has none:
+the lines of their refutation are numbered as those of the whole task, and `verify` has to accept that report.
+
 Then the search and a SAT solver are asked side by side, and wfcheck checks what they answer: a report by `verify`, a model by `model` and
 then `verify`, a clausal proof that there is no map by `proof`. The first answer that is accepted counts. Beside them the search looks
 for a map after fewer rounds than ROUNDS or FIRST, in a tenth of the time: `lift` makes it one after these rounds. You do
@@ -24,6 +27,8 @@ since a map after fewer rounds would give one after R; `map at R`; or `not decid
                rounds, the answer, the kind, bytes and SHA-256 of its certificate, and the seconds; before the first a line of these names
     --no-obstruction
                looks for no obstruction
+    --no-restrict
+               asks about no smaller set of processes
     --clauses  a formula with more clauses is not shown to a solver; 20 million if it isn't given
     --memory   how many GB of memory each process gets that is started, 4 if it isn't given
     --disk     how many GB each file may have that a process writes, 4 if it isn't given
@@ -49,6 +54,18 @@ of the whole, which is left in the folder.
     --recheck  FOLDER: has all proofs and parts that are noted there accepted again
 
 Both have the folder's obstruction of the task, TASK.obstruction, accepted again first.
+
+With --split the solver is asked about cases. In each case one point has one of its candidates: the values that no clause of the question
+excludes by itself, which in a branch are the branch's. So many cases are asked at once as --jobs says. --seconds is the limit for each; the
+check of the whole has as much time as all cases together. A map of one case decides the question. If all cases are refuted, one proof is
+composed of their proofs, and `wfcheck proof` checks it as any other. The solver has to write DRAT proofs as text; LRAT is not read.
+
+    --split    POINT: cuts the question, or with --branch that branch, into the cases of this point, by its number; `auto` is the point with
+               most candidates, and of several the first
+
+The proofs of refuted cases stay in the folder of --keep (.case), until the whole is accepted. A run that is begun again asks about the other
+cases alone. If the whole is refused, it is tried once more without its deletions. Then the proof of the case at fault is taken away, and
+nothing is noted.
 
 A note is trusted while the file that it names is there, with the SHA-256 that it names. What was not checked in this run is told as
 noted; after --recheck nothing is.

@@ -2,8 +2,6 @@
 from __future__ import annotations
 
 import argparse
-import concurrent.futures
-import contextlib
 import functools
 import os
 import pathlib
@@ -12,15 +10,16 @@ import shutil
 import sys
 import tempfile
 import threading
-from typing import Callable, Collection, Dict, Iterable, List, NamedTuple, Optional, Sequence, Tuple
+from typing import Collection, Dict, List, NamedTuple, Optional, Sequence, Tuple
 
-from . import arrays, runs, table
+from . import arrays, pool, table
+from .cases import Cases
 from .notes import Note, Notes, Room, digest, placed
-from .questions import LONGEST, WITHOUT_LINES, Attempt, Question, answered
-from .runs import Clock, Late, Refused, Scope, Stopped, Undecided, say
+from .pool import shown
+from .questions import LONGEST, WITHOUT_LINES, Answer, Attempt, Question, answered
+from .runs import Clock, Late, Refused, Scope, Undecided, say
 
 STATUS = {"map": 0, "none": 1, None: 3}
-SHOWN = 40
 # what share of the points is open in a branch that is nearly as large as the whole
 LARGE, OPEN = 0.9, re.compile(r"^branch \d+ (\d+) \d+$", re.M)
 # among so many of the lowest branches runs begin at different places
@@ -57,15 +56,22 @@ class Branches:
             return None
         with self.room.attempt() as made:
             attempt = self.attempt(branch, made, scope)
+            by_cases = Cases(self.words, self.solver, self.room, attempt) if self.words.split else None
             try:
-                answer = attempt.by_solver(self.solver, self.words.clauses) if self.solver else attempt.by_search()
+                answer = by_cases.answer() if by_cases else self.answer(attempt)
             except Late:
-                self.late.append(branch)
+                self.late += [branch] * (by_cases is None)
                 raise
             if answer:
                 self.notes.keep(branch, answer, made)
                 self.fresh[branch] = answer.word
+                if by_cases:
+                    by_cases.clear()
             return answer and answer.word
+
+    def answer(self, attempt: Attempt) -> Optional[Answer]:
+        """The solver's answer about a branch, or that of the search where there is no solver."""
+        return attempt.by_solver(self.solver, self.words.clauses) if self.solver else attempt.by_search()
 
     def map_below(self, branch: int, scope: Scope) -> Optional[int]:
         """A branch below this one that has a map which is accepted in this run. Such maps are smaller."""
@@ -90,43 +96,11 @@ class Branches:
                 self.notes.refused.add(note)
             return word
 
-    def run(self, calls: Dict[int, Callable[[Scope], Optional[str]]], up_to_map: bool = False) -> None:
+    def run(self, calls: Dict[int, pool.Call], up_to_map: bool = False) -> None:
         """Has so many branches at once decided, in their order, each by a call that gets a scope. Where a map is enough, one ends all that
         goes on behind it; branches before it go on, since their maps are smaller."""
-        todo, going, maps, over, done = iter(calls.items()), {}, [], threading.Event(), []
-
-        def some() -> None:
-            """Decides one branch behind another, while any is left."""
-            for branch, call in todo:
-                if over.is_set() or runs.CUT_OFF.is_set():
-                    return
-                going[branch] = scope = Scope(self.words.limits)
-                # a map that comes from now on ends the scope
-                if up_to_map and any(it < branch for it in maps):
-                    scope.end()
-                with contextlib.suppress(Stopped):
-                    if answered(f"branch {branch}", functools.partial(call, scope)) == "map":
-                        maps.append(branch)
-                        end(lambda it: up_to_map and it > branch)
-                del going[branch]
-                done.append(branch)
-
-        def end(is_over: Callable[[int], bool]) -> None:
-            """Ends those that go on and for which a test holds."""
-            for branch, scope in list(going.items()):
-                if is_over(branch):
-                    scope.end()
-
-        many = self.words.jobs or 1
-        told = runs.telling(lambda: f"{len(done)} of {len(calls)} branches are done, and these go on: {shown(sorted([*going]))}")
-        with concurrent.futures.ThreadPoolExecutor(many) as pool, told:
-            try:
-                for job in concurrent.futures.as_completed([pool.submit(some) for _ in range(many)]):
-                    job.result()
-            finally:
-                over.set()
-                end(lambda it: True)
-        Scope(self.words.limits).go_on()
+        kind = pool.Kind("branch {}".format, "branches", shown, lambda found, other: up_to_map and other > found)
+        pool.run(self.words, kind, calls)
 
     def ask_all(self) -> None:
         """Asks about those branches that have no note, up to the first map. A map that is noted is accepted again first."""
@@ -283,18 +257,6 @@ def listed(words: argparse.Namespace) -> Listed:
     large = sum(int(it) >= LARGE * int(points[1]) for it in OPEN.findall(text))
     about = {"task": digest(words.task), "rounds": words.rounds[0], "branches": branches, "program": version.said.strip()}
     return Listed(int(count[1]), int(points[1]), large, about)
-
-
-def shown(numbers: Iterable[int]) -> str:
-    """Numbers in words, those that follow one another as FIRST..LAST, up to a limit."""
-    ranges = []
-    for number in numbers:
-        if ranges and ranges[-1][1] == number - 1:
-            ranges[-1][1] = number
-        else:
-            ranges.append([number, number])
-    words = [str(first) if first == last else f"{first}..{last}" for first, last in ranges]
-    return ", ".join(words[:SHOWN]) + (", .." if len(words) > SHOWN else "")
 
 
 def tally(branches: Branches) -> None:

@@ -80,8 +80,8 @@ class Attempt:
         """Runs wfcheck over a file, within this attempt's time."""
         return self.scope.wfcheck(words, self.clock, given, wrote, look)
 
-    def accepted(self, command: str, file: pathlib.Path) -> Optional[str]:
-        """What wfcheck accepts a file as, a map or none; None where it refuses it."""
+    def checked(self, command: str, file: pathlib.Path) -> Tuple[Optional[str], runs.Ended]:
+        """What wfcheck accepts a file as, a map or none, and how it ended; no word where it refuses the file."""
         question = self.question
         try:
             ended = self.wfcheck([command, *question.about, *question.branch], file)
@@ -90,7 +90,11 @@ class Attempt:
             raise
         found = question.accepted.fullmatch(ended.said) if ended.status == 0 else None
         say(f"    wfcheck {command}: {ended.said.strip() if found else question.who(ended.why())} ({ended.taken:.2f} s)")
-        return {"least": "map"}.get(found[1], found[1]) if found else None
+        return ({"least": "map"}.get(found[1], found[1]) if found else None), ended
+
+    def accepted(self, command: str, file: pathlib.Path) -> Optional[str]:
+        """What wfcheck accepts a file as, a map or none; None where it refuses it."""
+        return self.checked(command, file)[0]
 
     def solve(self, wrote: pathlib.Path, *form: str) -> runs.Ended:
         """Has the search answer, and returns how it ended."""
@@ -183,22 +187,24 @@ class Attempt:
 
     def by_solver(self, words: str, most: int) -> Optional[Answer]:
         """A solver's answer, where its model or its proof is accepted."""
-        solver = shlex.split(words)
-        who = pathlib.PurePath(solver[0]).name
         try:
             self.write_formula(most)
         except NoFormula as why:
-            self.tell(who, f"is left out: {why}")
+            self.tell(solver_name(words), f"is left out: {why}")
             return None
+        return self.of_formula(words)
+
+    def of_formula(self, words: str) -> Optional[Answer]:
+        """A solver's answer about the formula that is written."""
         names = {name: str(self.file(kind)) for name, kind in PLACES.items()}
         begun = self.clock.taken()
         with open(self.file("said"), "xb") as said:
-            words = [word.format(**names) for word in solver]
-            status = self.scope.run(words, self.clock, stdin=subprocess.DEVNULL, stdout=said, stderr=said)
+            command = [word.format(**names) for word in shlex.split(words)]
+            status = self.scope.run(command, self.clock, stdin=subprocess.DEVNULL, stdout=said, stderr=said)
         if status < 0:
-            self.tell(who, f"has no answer: {runs.Ended(status, '', 0).why()}")
+            self.tell(solver_name(words), f"has no answer: {runs.Ended(status, '', 0).why()}")
             return None
-        return self.judged(who, self.clock.taken() - begun)
+        return self.judged(solver_name(words), self.clock.taken() - begun)
 
     def judged(self, name: str, taken: float) -> Optional[Answer]:
         """The answer of a solver that has ended, where it is accepted."""
@@ -221,11 +227,16 @@ class Attempt:
                     return "none" if found[1] else "map", files[0]
         return None, None
 
-    def of_proof(self, name: str, taken: float) -> Optional[Answer]:
-        """A solver's proof, where it is accepted."""
+    def tell_proof(self, name: str, taken: float) -> None:
+        """Says that a solver has written a proof, and how large it is."""
         proof = self.file("drat")
         written = f"{lemmas(proof, self.clock):,} lemmas and {proof.stat().st_size:,} bytes"
         self.tell(name, f"says none in {taken:.2f} s, with a proof of {written}")
+
+    def of_proof(self, name: str, taken: float) -> Optional[Answer]:
+        """A solver's proof, where it is accepted."""
+        self.tell_proof(name, taken)
+        proof = self.file("drat")
         return Answer("none", name, taken, [proof]) if self.accepted("proof", proof) == "none" else None
 
     def of_model(self, name: str, taken: float, text: pathlib.Path) -> Optional[Answer]:
@@ -237,6 +248,11 @@ class Attempt:
             return None
         report.write_bytes(self.question.head().encode() + plain.read_bytes())
         return Answer("map", name, taken, [report, text]) if self.accepted("verify", report) == "map" else None
+
+
+def solver_name(words: str) -> str:
+    """What a solver is called whose command these words are."""
+    return pathlib.PurePath(shlex.split(words)[0]).name
 
 
 def lemmas(proof: pathlib.Path, clock: Clock) -> int:

@@ -15,9 +15,9 @@ from typing import Dict, List, Optional, Tuple
 
 from ..running import VARIABLE, NoProgram, program
 from . import __doc__ as about
-from . import arrays, branches, never, runs, table
-from .notes import Room, keep
-from .questions import FEWER_ROUNDS, PLACES, SEARCH, Attempt, Question, first
+from . import arrays, branches, cases, fewer, never, questions, runs, table
+from .notes import Notes, Room, keep
+from .questions import FEWER_ROUNDS, PLACES, SEARCH, Answer, Attempt, Question, first
 from .runs import Clock, Late, Limits, Refused, Scope, Stopped, Undecided, say
 
 SOLVERS = {
@@ -47,8 +47,10 @@ def parsed(listed: List[str]) -> Tuple[argparse.ArgumentParser, argparse.Namespa
     words.add_argument("--disk", type=float, default=4)
     words.add_argument("--keep", type=pathlib.Path)
     words.add_argument("--no-obstruction", action="store_true")
+    words.add_argument("--no-restrict", action="store_true")
     words.add_argument("--jobs", type=int)
     words.add_argument("--table", type=pathlib.Path)
+    words.add_argument("--split")
     chosen = words.add_mutually_exclusive_group()
     chosen.add_argument("--branch", type=int)
     chosen.add_argument("--share")
@@ -76,8 +78,8 @@ def asked(listed: List[str], command: List[str]) -> argparse.Namespace:
     if first_rounds > last:
         words.error(f"{found.rounds} is no number of rounds, and not FIRST..LAST")
     found.rounds = range(first_rounds, last + 1)
-    if found.by_branch and first_rounds < last:
-        words.error("branches are those of one number of rounds, and not of FIRST..LAST")
+    if (found.by_branch or found.split) and first_rounds < last:
+        words.error(f"{'cases' if found.split else 'branches'} are those of one number of rounds, and not of FIRST..LAST")
     if found.solver not in (None, SEARCH_ALONE):
         wrong = wrong_command(SOLVERS.get(found.solver, found.solver))
         if wrong:
@@ -98,7 +100,8 @@ def judge_numbers(words: argparse.ArgumentParser, found: argparse.Namespace) -> 
         words.error("--share is to be K/N, where K is below N")
     found.share = (int(share[1]), int(share[2])) if share else None
     found.looks = found.tally or found.recheck
-    found.by_branch = bool(found.jobs is not None or found.branch is not None or found.share or found.array or found.looks)
+    judge_split(words, found)
+    found.by_branch = found.branch is not None or not found.split and bool(found.jobs is not None or found.share or found.array or found.looks)
     if found.jobs is not None and found.jobs < 1:
         words.error("--jobs is to be above 0")
     for name in ("seconds", "memory", "disk"):
@@ -112,6 +115,16 @@ def judge_numbers(words: argparse.ArgumentParser, found: argparse.Namespace) -> 
     found.limits = Limits(int(found.memory * GB), int(found.disk * GB))
 
 
+def judge_split(words: argparse.ArgumentParser, found: argparse.Namespace) -> None:
+    """Refuses cases of what is not one question."""
+    if found.split is None:
+        return
+    if not re.fullmatch(rf"\d{{1,9}}|{cases.AUTO}", found.split, re.A):
+        words.error(f"--split is to be the number of a point, or {cases.AUTO}")
+    if found.share or found.array or found.looks:
+        words.error("--split is about the whole question or one branch, and not about --share, --array, --tally or --recheck")
+
+
 def judge_folder(words: argparse.ArgumentParser, found: argparse.Namespace) -> None:
     """Finds the folder that keeps, and makes it where it may be new."""
     if found.looks:
@@ -120,8 +133,8 @@ def judge_folder(words: argparse.ArgumentParser, found: argparse.Namespace) -> N
         if not found.looks.is_dir():
             words.error(f"{found.looks} is no folder")
         found.keep = found.looks
-    if found.by_branch and not found.keep:
-        words.error("branches need --keep: the folder has what is known of them")
+    if (found.by_branch or found.split) and not found.keep:
+        words.error(f"{'cases' if found.split else 'branches'} need --keep: the folder has what is known of them")
     try:
         if found.keep:
             found.keep.mkdir(parents=True, exist_ok=True)
@@ -180,7 +193,8 @@ def main(listed: List[str], command: List[str]) -> int:
     try:
         return answered(words)
     except Stopped:
-        print("cut off" + (": begun again by the same words it goes on where it was" if words.by_branch else ""), file=sys.stderr)
+        goes_on = ": begun again by the same words it goes on where it was" if words.by_branch or words.split else ""
+        print(f"cut off{goes_on}", file=sys.stderr)
         return CUT_OFF
     except Refused as refused:
         print(refusal(str(refused), words.task), file=sys.stderr)
@@ -198,10 +212,14 @@ def answered(words: argparse.Namespace) -> int:
     if not solver and not words.looks:
         print(NO_SOLVER, file=sys.stderr)
     solver = None if solver in (None, SEARCH_ALONE) or words.looks else command(solver, words.limits)
+    if words.split and not solver:
+        raise Refused("--split needs a SAT solver that writes proofs")
     if words.array:
         return branches.main(words, by_path(solver) if solver else SEARCH_ALONE, Clock(words.seconds))
     if words.by_branch:
         return branches.main(words, solver, Clock(words.seconds))
+    if words.split:
+        return in_cases(words, solver)
     answers = {}
     with Room(words.keep) as room:
         for rounds in words.rounds:
@@ -215,6 +233,27 @@ def answered(words: argparse.Namespace) -> int:
                 break
     say(f"{words.task.stem}: {summary(answers)}")
     return branches.STATUS[answer]
+
+
+def in_cases(words: argparse.Namespace, solver: str) -> int:
+    """Asks about the whole question case by case, and returns the status that the answer has."""
+    rounds, clock, about = words.rounds[0], Clock(words.seconds), branches.listed(words).about
+    with Room(words.keep) as room:
+        if why := Notes(words.keep).not_about(about, room):
+            raise Refused(f"{words.keep} {why}: choose another folder")
+        say(f"{words.task.stem} after {rounds} {'round' if rounds == 1 else 'rounds'}:")
+        with room.attempt() as made:
+            whole = Attempt(Question(words.task, rounds), made, Scope(words.limits), Clock(words.seconds))
+            by_cases = cases.Cases(words, solver, room, whole)
+            answer = questions.answered("the question", by_cases.answer)
+            for file in answer.files if answer else []:
+                keep(file, words.keep)
+            if answer:
+                by_cases.clear()
+            words.table.add(words.task, rounds, answer and answer.word, answer and words.table.of_file(answer.files[0]), clock.taken())
+    word = answer and answer.word
+    say(f"{words.task.stem}: {summary({rounds: word})}")
+    return branches.STATUS[word]
 
 
 def has_obstruction(words: argparse.Namespace) -> bool:
@@ -247,12 +286,19 @@ def decided(words: argparse.Namespace, rounds: int, solver: Optional[str], room:
     with room.attempt() as made:
         scope = Scope(words.limits)
         attempt = Attempt(Question(words.task, rounds), made, scope, clock)
+        if not words.no_restrict and (answer := questions.answered("the search on fewer", lambda: fewer.none_of_fewer(attempt))):
+            return kept(words, answer)
         those = {SEARCH: attempt.by_search}
         if rounds and rounds == words.rounds[0]:
             those[FEWER_ROUNDS] = attempt.by_fewer_rounds
         if solver:
             those[shlex.split(solver)[0]] = lambda: attempt.by_solver(solver, words.clauses)
         answer = first(scope, those)
-        for file in answer.files if answer and words.keep else []:
-            keep(file, words.keep)
-        return (answer.word, words.table.of_file(answer.files[0])) if answer else (None, None)
+        return kept(words, answer) if answer else (None, None)
+
+
+def kept(words: argparse.Namespace, answer: Answer) -> Tuple[str, Optional[table.Certificate]]:
+    """An answer whose files are put into the folder, where there is one, and its certificate as a table has it."""
+    for file in answer.files if words.keep else []:
+        keep(file, words.keep)
+    return answer.word, words.table.of_file(answer.files[0])
