@@ -26,7 +26,7 @@ SOLVERS = {
     "cryptominisat5": "cryptominisat5 --verb 0 {formula}",
     "minisat": "minisat -verb=0 {formula} {output}",
 }
-# bounded variable addition, which Kissat has from version 4.0 on: lemmas over variables that the formula doesn't have are refused
+# Kissat's bounded variable addition, from version 4.0 on, brings in new variables: those of two cases of a split would be mixed up
 NO_FACTOR, SATISFIABLE = "--no-factor", 10
 SEARCH_ALONE = "search"
 NO_SOLVER = "no SAT solver is on the path (Debian has the packages cadical, cryptominisat and minisat): the search alone is asked"
