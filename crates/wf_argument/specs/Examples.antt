@@ -77,7 +77,7 @@ taken_in_turn = refl
 pub in_two_steps : steps_in one_point_twice 4 (0, 0) ([] ∷ []) (2 ∷ 0 ∷ 1 ∷ 3 ∷ []) ≡ (2 ∷ 0 ∷ []) ∷ (1 ∷ 3 ∷ []) ∷ []
 in_two_steps = refl
 
--- the same values, where an earlier step took the first of them
+-- one step takes both values, if an earlier step took the first of them
 pub in_one_step : steps_in one_point_twice 4 (0, 0) ((lost 0 (Some 2) ∷ []) ∷ []) (0 ∷ 1 ∷ []) ≡ (0 ∷ 1 ∷ []) ∷ []
 in_one_step = refl
 

@@ -98,7 +98,7 @@ take tuples points n place v s a = record {
 abbrev pub take_each : List Tuple → List ℕ → ℕ → ℕ → ℕ → Gone → List ℕ → Taking
 take_each tuples points n place v gone values = fold (take tuples points n place v) (record { gone = gone; reasons = [] }) values
 
--- the same in an execution
+-- what step n takes at a place of an execution, with the reasons
 abbrev pub take_in : Constraint → ℕ → ℕ × ℕ → Gone → List ℕ → Taking
 take_in k n at gone values = take_each k.tuples (points_in k) n at.0 at.1 gone values
 
@@ -131,7 +131,7 @@ abbrev pub in_steps : List Tuple → List ℕ → ℕ → ℕ → ℕ → Gone �
 in_steps tuples points n place v gone [] = []
 in_steps tuples points n place v gone (a ∷ values) = steps_from tuples points n place v (taken n v gone a) (a ∷ []) values
 
--- the same in an execution
+-- the values of each step at a place of an execution, where step n begins with the first
 abbrev pub steps_in : Constraint → ℕ → ℕ × ℕ → Gone → List ℕ → List (List ℕ)
 steps_in k n at gone values = in_steps k.tuples (points_in k) n at.0 at.1 gone values
 

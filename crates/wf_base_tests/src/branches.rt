@@ -53,7 +53,8 @@ fn are_refuting(
     Ok(Some(is_read && checker.is_refuted()))
 }
 
-/// The same of renaming after a round.
+/// Whether the proof refutes the branch of renaming after a round; `None` if there are not as many
+/// sets as points.
 fn is_refuted_by(alloc: Global, sets: &[Mask], lemmas: &[u8]) -> Result<Option<bool>, Fail> {
     let (task, protocol) = joined(alloc, RENAMING_2_3, 1)?;
     Ok(are_refuting(alloc, &task, &protocol, sets, lemmas)?)

@@ -28,7 +28,8 @@ IsQuietBut number ks marks box = (e : ℕ) → e ≢ number → e < length ks �
 abbrev pub IsUntouched : Users → List (List ℕ) → List ℕ → List (List ℕ) → List ℕ → Type 0
 IsUntouched u words marks fewer more = (e : ℕ) → bit_of more e ≡ 0 → (bit_of marks e ≡ 0) × ((v : ℕ) → IsUser u v e → get_or fewer v [] ≡ get_or words v [])
 
--- the same of each execution but this one
+-- each execution but this one, if it has no mark, had none before, and its points have the sets
+-- that they had
 abbrev pub IsUntouchedBut : ℕ → Users → List (List ℕ) → List ℕ → List (List ℕ) → List ℕ → Type 0
 IsUntouchedBut number u words marks fewer more = (e : ℕ) → e ≢ number → bit_of more e ≡ 0 → (bit_of marks e ≡ 0) × ((v : ℕ) → IsUser u v e → get_or fewer v [] ≡ get_or words v [])
 

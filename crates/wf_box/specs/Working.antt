@@ -67,15 +67,15 @@ LeavesUntouched n old new = IsUntouched n.users old.tracked.words.items old.mark
 abbrev pub LeavesOthersUntouched : Network → ℕ → Workspace → Workspace → Type 0
 LeavesOthersUntouched n number old new = IsUntouchedBut number n.users old.tracked.words.items old.marks.words.items new.tracked.words.items new.marks.words.items
 
--- where the execution is not marked, it has lost nothing
+-- an execution without a mark has lost nothing
 abbrev pub IsQuietAt : Network → ℕ → Workspace → Type 0
 IsQuietAt n e w = bit_of w.marks.words.items e ≡ 0 → lost (sets_in w.tracked) (constraint_in n e) ≡ []
 
--- where the execution is not marked, no candidate was taken out
+-- no candidate was taken out, if this execution has no mark
 abbrev pub IsSilent : ℕ → Workspace → Workspace → Type 0
 IsSilent e old new = bit_of new.marks.words.items e ≡ 0 → new.tracked.words.items ≡ old.tracked.words.items
 
--- where an execution of the point is not marked, no candidate was taken out
+-- no candidate was taken out, if some execution of the point has no mark
 abbrev pub AreSilent : Network → ℕ → Workspace → Workspace → Type 0
 AreSilent n v old new = (e : ℕ) → IsUser n.users v e → IsSilent e old new
 

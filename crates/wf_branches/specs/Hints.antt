@@ -21,7 +21,7 @@ use Rattle.wf_verify_engine.specs.Proofs.{most_proof_bytes}
 abbrev pub ReadsBranchHints : ℕ → Task → ℕ → Reading → Reading → Result (Unit {0} × List ℕ) RunFault → Type 0
 ReadsBranchHints i t r old new result = ReadsAsHints (ledger_of (branch_question t r i)) (IsAcceptedBranch i t r) old new result
 
--- the same where there is a branch i; else the source is left alone
+-- a source's bytes as such a proof about branch i, if that is there; else the source is left alone
 abbrev pub ReadsHintsIn : ℕ → ReadsAbout
 ReadsHintsIn i = ReadsIn ReadsBranchHints i
 
@@ -33,8 +33,8 @@ RefutesBranchByHints r i task task' proof proof' sink sink' result = Ran (AsksBo
 
 -- ---- laws
 
--- where a proof is accepted about a branch, the source of the task gave its bytes, the branch is
--- there, no decision map lies in it, and the sink took the line that says so
+-- a proof with hints is accepted about a branch only if the source of the task gave its bytes, the
+-- branch is there, no decision map lies in it, and the sink took the line that says so
 abbrev pub HintedBranchRefutationsAreTrue : Type 0
 HintedBranchRefutationsAreTrue =
     (rounds branch : ℕ) (task task' proof proof' : Reading) (sink sink' : Writing)

@@ -27,9 +27,9 @@ use Rattle.wf_branches.specs.Verifying.{HoldsIn, VerifiesBranch}
 use Rattle.wf_branches.specs.Joining.{Joins, JoinsText, most_parts_bytes}
 use Rattle.wf_branches.specs.Searched.{AreTooMuch, HasPartsOf, IsWholeText}
 
--- where branch i was searched, the source gave the bytes of a task, the
--- branch is there, and the sink took what its search answers: the part of the
--- least decision map there, or that none lies there
+-- branch i is searched only if the source gave the bytes of a task, the branch is there, and the
+-- sink took what its search answers: the part of the least decision map there, or that none lies
+-- there
 abbrev pub BranchAnswersAreTrue : Type 0
 BranchAnswersAreTrue =
     (rounds branch : ℕ) (form : Form) (source source' : Reading) (sink sink' : Writing) (found : Outcome)
@@ -37,11 +37,11 @@ BranchAnswersAreTrue =
     → (t : Task) × (text : List ℕ) × GaveTask source source' t × HasBranch t rounds branch
     × IsSolvedIn form t rounds branch found text × Wrote sink sink' text
 
--- where no decision map lies in any branch, no function on the views is a decision map
+-- no function on the views is a decision map, if none lies in any branch
 abbrev pub BranchesCoverAllMaps : Type 0
 BranchesCoverAllMaps = (t : Task) (r : ℕ) → IsTask t → ((i : ℕ) → HasBranch t r i → HasNoMapIn t r i) → HasNoDecisionMap t r
 
--- where a proof is accepted about a branch, the source of the task gave its bytes, the branch is
+-- a proof is accepted about a branch only if the source of the task gave its bytes, the branch is
 -- there, no decision map lies in it, and the sink took the line that says so
 abbrev pub BranchRefutationsAreTrue : Type 0
 BranchRefutationsAreTrue =
@@ -68,7 +68,7 @@ pub record GaveTruePart (task task' part part' : Reading) (t : Task) (r i : ℕ)
   pub part_given : GaveAll part part' (part_text t r i body)
   pub holds : HoldsIn t r i body
 
--- where a part is accepted about a branch, such a part was given, and the sink took the line that
+-- a part is accepted about a branch only if such a part was given, and the sink took the line that
 -- says what is accepted of it
 abbrev pub PartAcceptancesAreTrue : Type 0
 PartAcceptancesAreTrue =
@@ -89,9 +89,9 @@ BranchProvingIsCounted =
     → RefutesBranch rounds branch task task' proof proof' sink sink' result
     → IsChecked most_proof_bytes task task' proof proof' sink sink' result
 
--- where parts were joined, the source gave the bytes of a task, and the sink took the text of a
--- report; what that says of the whole question is true: a map is a decision map, the least one
--- where lines say so, and where there is none, no function on the views is one
+-- parts are joined only if the source gave the bytes of a task, and the sink took the text of a
+-- report that is true of the whole question: a map is a decision map, and the least one if lines
+-- say so; if there is no map, no function on the views is one
 abbrev pub JoinsAreTrue : Type 0
 JoinsAreTrue =
     (rounds : ℕ) (task task' parts parts' : Reading) (sink sink' : Writing)
@@ -123,9 +123,9 @@ PartsOfSearchesJoinToTheWhole =
     → asked ≢ form.Verdict → HasPartsOf asked t r found parts
     → JoinsText t r parts (Ok (tt, text)) → IsWholeText asked t r found text
 
--- where parts were joined that searches of the branches wrote in one of these forms, the sources
--- gave the bytes of a task and of the parts, and the sink took the text that a search of the whole
--- question writes in that form, to the byte
+-- parts that searches of the branches wrote in one of these forms are joined to the text that a
+-- search of the whole question writes in that form, to the byte; the sources gave the bytes of a
+-- task and of the parts, and the sink took that text
 abbrev pub JoinsOfSearchesAreWhole : Type 0
 JoinsOfSearchesAreWhole =
     (rounds : ℕ) (task task' parts parts' : Reading) (sink sink' : Writing)

@@ -40,12 +40,12 @@ abbrev pub FindsBranch : Task → ℕ → ℕ → Result (Unit {0}) RunFault →
 FindsBranch t r i (Ok found) = HasBranch t r i
 FindsBranch t r i (Err e) = IsNoBranch t r i e
 
--- a source's bytes about branch i, where there is one; else the source is left alone
+-- a source's bytes about branch i, if that is there; else the source is left alone
 abbrev pub ReadsIn : (ℕ → ReadsAbout) → ℕ → ReadsAbout
 ReadsIn reads i t r old new result =
     (found : Result (Unit {0}) RunFault) × FindsBranch t r i found × NextReads (λ there. reads i t r) old new found result
 
--- the same of a proof
+-- a source's bytes as a proof about branch i, if that is there; else the source is left alone
 abbrev pub ReadsProofIn : ℕ → ReadsAbout
 ReadsProofIn i = ReadsIn ReadsBranchProof i
 

@@ -44,7 +44,7 @@ abbrev pub Judged : Result JudgedSoFar CertFault → Problem → Goal → ℕ �
 Judged result p claim k l old new =
     (ls : List Line) → Leaves result (lines_fault p claim k (l ∷ ls) (box_now old ∷ boxes_later old)) (λ progress. fault_left p claim (suc k) ls progress new)
 
--- the same of a line that ends a search
+-- what is answered about line k, which ends a search, is right, whatever lines follow it
 abbrev pub Ends : {X : Type 0} → Result X CertFault → Problem → Goal → ℕ → Box → List Box → Type 0
 Ends result p claim k box boxes =
     (ls : List Line) → Leaves result (lines_fault p claim k (found ∷ ls) (box ∷ boxes)) (λ _. first_trailing (suc k) ls)

@@ -9,8 +9,8 @@ use Rattle.wf_check.specs.declared.boxes.TrailEntry.TheVariants.{Was, Later}
 abbrev pub is_settled : ℕ → List (List ℕ) → Bool
 is_settled low sets = list_all (λ set. not (nat_lt 1 (length (values_in set)))) (take low sets)
 
--- the same of each point that branches and has values left, by the sets of
--- then; the last entry comes first
+-- each point that branches and has values left was kept with a point below which none had two
+-- candidates then; the last entry comes first
 abbrev pub are_settled : List TrailEntry → List (List ℕ) → Bool
 are_settled [] sets = true
 are_settled (Was v set ∷ below) sets = are_settled below (slice_set sets v set)

@@ -11,8 +11,8 @@ counts_text n =
     ++ (line (codes "c processes") (n.processes ∷ []) ++ (line (codes "c rounds") (n.rounds ∷ [])
     ++ (line (codes "c points") (n.points ∷ []) ++ line (codes "c executions") (n.executions ∷ []))))
 
--- all lines before the clauses, with further ones before those on values,
--- where these are the values
+-- all lines before the clauses of a question on these values, with further lines before those on
+-- the values
 abbrev pub head_text : Counts → List ℕ → List ℕ → List ℕ
 head_text n further vs =
     counts_text n ++ (further ++ (line (codes "c values") vs

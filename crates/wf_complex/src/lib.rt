@@ -4,9 +4,9 @@
 //! - [`PackedExecution`]: an execution with its points, as it is kept and shared.
 //! - [`Views`]: views under numbers, one number for one view. A view is what a process knows after
 //!   some rounds of immediate snapshots: at the start its input, and later the views that it saw.
-//!   The same views come back in a great many executions, so a table keeps each once, and views
-//!   name the views inside them by their numbers: a look-up costs one hash of a few numbers,
-//!   however deep the view is.
+//!   A view comes back in a great many executions, so a table keeps each view once, and views name
+//!   the views inside them by their numbers: a look-up costs one hash of a few numbers, however
+//!   deep the view is.
 //! - [`put_view`]: a view in words.
 //! - [`turn_count`]: how many executions a simplex of some size has.
 #![tactic(auto)]

@@ -40,7 +40,7 @@ two_disagree = each_at 0 1 ((1 ∷ []) ∷ [])
     ++ each_at 1 1 ((0 ∷ []) ∷ [])
     ++ each_at 2 1 ((0 ∷ 1 ∷ []) ∷ (1 ∷ 0 ∷ []) ∷ [])
 
--- the same of processes 0 and 1, where a value may also be the input of process 2
+-- processes 0 and 1 disagree so, and a value may also be the input of process 2
 abbrev pub three_disagree : List WeightedTuple
 three_disagree = each_at 0 1 ((1 ∷ []) ∷ [])
     ++ each_at 1 1 ((0 ∷ []) ∷ (2 ∷ []) ∷ [])

@@ -16,7 +16,8 @@ data_at depth ts = converted of_json (value depth ts)
 abbrev pub Takes : {X : Type 0} → (Data → Option X) → ℕ → List Token → X → List Token → Type 0
 Takes f deep old x new = (depth : ℕ) → deep ≤ depth → converted f (data_at depth old) ≡ Some (x, new)
 
--- the same of the items of a list, with the bracket that closes it
+-- the tokens begin with the items of a list, which are read as xs, and with the bracket that closes
+-- it; `new` are those after it
 abbrev pub TakesItems : {X : Type 0} → (Data → Option X) → ℕ → List Token → List X → List Token → Type 0
 TakesItems f deep old xs new = (depth : ℕ) → deep ≤ depth → (n : ℕ) → length old ≤ n → converted (all_of f) (converted of_items (items (value depth) n old)) ≡ Some (xs, new)
 

@@ -16,9 +16,9 @@ pub data Step : Type 0 where
   lemma : (line : ℕ) → Clause → Step
   deletion : Clause → Step
 
--- where a text is read: it is on the variables from 1 to this number; the
--- next byte stands in the line of this number; what the bytes before it are;
--- whether the step at hand is a deletion; and its literals so far
+-- a reader of a text: the text is on the variables from 1 to this number; the next byte stands in
+-- the line of this number; what the bytes before it are; whether the step at hand is a deletion;
+-- and its literals so far
 pub record State : Type 0 where
   pub variables : ℕ
   pub line : ℕ
@@ -130,7 +130,7 @@ state_after turn byte s = next_line byte (after turn s)
 abbrev pub step_of : State → Step
 step_of s = if s.is_deletion then deletion s.clause else lemma s.line s.clause
 
--- where bytes leave off, or in which line they are none of a proof, and why
+-- bytes leave off in this state; or they are none of a proof, in this line and for this reason
 pub data End : Type 0 where
   open_in : State → End
   broken_in : (line : ℕ) → Flaw → End

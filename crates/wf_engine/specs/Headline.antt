@@ -21,8 +21,8 @@ Says form t r Map text =
     (m : View → ℕ) × IsLeast t r m × ((ls : List Line) × (text ≡ text_of_report t r (body_of_map form (listed t r m) ls)))
 Says form t r Nothing text = HasNoDecisionMap t r × ((ls : List Line) × (text ≡ text_of_report t r (body_of_none form ls)))
 
--- where a search ends well, the source gave the bytes of a task, and the sink
--- took, whole, a text that is true of it
+-- a search ends well only if the source gave the bytes of a task, and the sink took, whole, a text
+-- that is true of the task
 abbrev pub AnswersAreTrue : Type 0
 AnswersAreTrue =
     (rounds : ℕ) (form : Form) (source source' : Reading) (sink sink' : Writing) (found : Outcome)

@@ -82,7 +82,7 @@ abbrev pub Finds : ℕ → Form → Reading → Reading → Writing → Writing 
 Finds r form source source' sink sink' result =
     Ran (Asks (IsFound form) r source source') sink sink' result
 
--- the same, with the account of the branches
+-- the source's task was decided for r rounds, and the account of the branches was given
 abbrev pub Solves : ℕ → Form → Reading → Reading → Writing → Writing → Result (Outcome × Account) RunFault → Type 0
 Solves r form source source' sink sink' result =
     Ran (Asks (IsSolved form) r source source') sink sink' result

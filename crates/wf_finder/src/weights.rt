@@ -19,8 +19,8 @@ pub(crate) struct Weighing {
     pub(crate) tuples: Vec<Weighted>,
 }
 
-/// The same tuples, each once, by ascending class and tuple: with the sum of its weights, if that
-/// is not 0.
+/// The tuples, each once, by ascending class and tuple: with the sum of its weights. Tuples whose
+/// sum is 0 are left out.
 pub(crate) fn add_up(
     alloc: Global,
     ring: Ring,

@@ -34,6 +34,6 @@ what_it_rules_out = refl
 pub an_open_point : exclusions (record { points = 2; values = 0 ∷ 1 ∷ 2 ∷ []; constraints = [] }) ((0 ∷ 2 ∷ []) ∷ (0 ∷ 1 ∷ 2 ∷ []) ∷ []) ≡ (neg 2 ∷ []) ∷ []
 an_open_point = refl
 
--- where closing empties a point there is no branch
+-- a problem has no branch, if closing empties a point
 pub consensus_has_no_branch : length (branches consensus 1) ≡ 0
 consensus_has_no_branch = refl

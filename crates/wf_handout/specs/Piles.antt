@@ -29,7 +29,7 @@ Held items views =
 abbrev pub Takes : Pile → List ℕ → Pile → Type 0
 Takes v xs w = (w ≡ pile v.parts v.dealt (v.taken ++ xs)) × ((h : ℕ → ℕ) → total h w.taken ≤ total h w.dealt)
 
--- where the pass has both parts, nothing is left
+-- nothing is left, if the pass has both parts
 abbrev pub AllTaken : Pile → Type 0
 AllTaken v = v.parts ≡ 2 → (h : ℕ → ℕ) → total h v.dealt ≡ total h v.taken
 

@@ -33,7 +33,7 @@ block_limit = 8388608
 abbrev pub row_set : {X : Type 0} → (X → Bool) → List X → ℕ → ℕ
 row_set p rows start = mask_l (map p (chunk start 64 rows))
 
--- the same for so many words, from the word of this number on
+-- the rows that pass a test, in so many words, from the word of this number on
 unfoldable pub row_sets : {X : Type 0} → (X → Bool) → List X → ℕ → ℕ → List ℕ
 row_sets p rows word n = map (λ k. row_set p rows (64 * k)) (range_with_len word n)
 
@@ -61,7 +61,7 @@ is_met_early live words v = not (bit_and live (row_set (is_value v) words 0) == 
 
 -- ---- columns
 
--- where the rows are cut into blocks, the set of rows of each value that occurs stands at its start
+-- rows that are cut into blocks have, for each value that occurs, the set of its rows at its start
 pub record IsCut (c : Column) : Type 0 where
   pub few : c.blocks ≤ block_limit
   pub whole : c.values ≡ ors c.words.items
@@ -82,7 +82,7 @@ pub record AreApart (next values words : ℕ) (starts : List ℕ) (end : ℕ) : 
   pub within : (v : ℕ) → v < next → has (part_values values) v ≡ true → slice_index starts v + words ≤ end
   pub apart : (u v : ℕ) → u < v → v < next → has (part_values values) u ≡ true → slice_index starts u + words ≤ slice_index starts v
 
--- the same for all values of a word
+-- each value of a word that occurs has its words apart from those of the others
 abbrev pub ArePlaces : ℕ → Places → Type 0
 ArePlaces values p = AreApart part_limit values p.words p.starts.items p.end
 

@@ -132,7 +132,7 @@ impl Column {
         self.values.count_ones() as usize
     }
 
-    /// The same rows, cut into so many blocks.
+    /// Cuts the rows of the column into so many blocks.
     pub(crate) fn cut(self, alloc: Global, blocks: usize) -> Result<Column, AllocError>
         requires whole { IsWhole self }
         requires one_hot { All IsOneHot self.words.items }

@@ -250,7 +250,7 @@ impl TupleTable {
         })
     }
 
-    /// The same table once more. Its rows are shared, and not copied.
+    /// Shares the table: another handle on its rows, which are not copied.
     ///
     /// Refused where there are too many who share them.
     pub fn share(&self) -> Result<TupleTable, AllocError>

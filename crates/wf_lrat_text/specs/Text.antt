@@ -19,10 +19,9 @@ pub data Step : Type 0 where
   addition : (line id : ℕ) → Clause → (hints : List ℕ) → Step
   deletion : (ids : List ℕ) → Step
 
--- where a text is read: it is on the variables from 1 to this number; the
--- next byte stands in the line of this number; what the bytes before it are;
--- which part of a step is at hand; and of that step its id, its literals so
--- far, and the ids so far behind them or behind a d
+-- a reader of a text: the text is on the variables from 1 to this number; the next byte stands in
+-- the line of this number; what the bytes before it are; which part of a step is at hand; and of
+-- that step its id, its literals so far, and the ids so far behind them or behind a d
 pub record State : Type 0 where
   pub variables : ℕ
   pub line : ℕ
@@ -177,7 +176,7 @@ step_in Hints s = addition s.line s.id s.clause s.names
 abbrev pub step_of : State → Step
 step_of s = step_in s.part s
 
--- where bytes leave off, or in which line they are none of a proof, and why
+-- bytes leave off in this state; or they are none of a proof, in this line and for this reason
 pub data End : Type 0 where
   open_in : State → End
   broken_in : (line : ℕ) → HintFlaw → End

@@ -23,7 +23,7 @@ box_left (Some box) = left_out box ∷ []
 abbrev pub closed_to : Step → List Item
 closed_to s = map written s.lines ++ box_left s.left
 
--- the same for boxes one after another
+-- the closings of boxes, one after another
 abbrev pub closed_each : Problem → List Box → List Item
 closed_each p boxes = flat_map (λ box. closed_to (closing p box)) boxes
 
@@ -63,7 +63,8 @@ filled (written l ∷ items) lists = l ∷ filled items lists
 filled (left_out box ∷ items) [] = filled items []
 filled (left_out box ∷ items) (lines ∷ lists) = lines ++ filled items lists
 
--- the same up to the last of the lists, for the first boxes: what stands after them is not written
+-- an outline with the lists in the place of its first boxes, up to the last of the lists: what
+-- stands after them is not written
 abbrev pub filled_up_to : List Item → List (List Line) → List Line
 filled_up_to [] lists = []
 filled_up_to (written l ∷ items) lists = l ∷ filled_up_to items lists

@@ -35,6 +35,6 @@ same_point x y = same_view x.point y.point
 abbrev pub appearances_in : Task → ℕ × Execution → List Appearance
 appearances_in t e = map (λ v. record { point = class t v; execution = e.0; process = process_of v }) (last_views e.1)
 
--- where each point appears first, point by point
+-- the first appearance of each point, point by point
 abbrev pub first_appearances : Task → ℕ → List Appearance
 first_appearances t r = distinct same_point (flat_map (appearances_in t) (enumerate_from 0 (executions t r)))

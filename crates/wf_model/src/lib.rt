@@ -5,7 +5,7 @@
 //! - The terms of the field (Herlihy and Shavit 1999, Borowsky and Gafni 1997): `Simplex`, `Task`,
 //!   `Word`, `View`, `Execution`, `Points`, and `DecisionMap`, in which a decision map is a
 //!   function on the views. Read these first.
-//! - The same by numbers: `Problem`, where the points have numbers and each execution is a
+//! - These terms by numbers: `Problem`, in which points have numbers and each execution is a
 //!   constraint; `Box`, `Refutation`, `Closing` and `Split`, which say what a refutation is, in
 //!   which order the search goes and how it is cut into branches; and `Check`, what a checker
 //!   answers. `problem_of` leads from the first level to the second.

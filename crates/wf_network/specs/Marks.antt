@@ -60,7 +60,7 @@ KeepsBitsBut old new bit = (n : ℕ) → n ≢ bit → bit_of new n ≡ bit_of o
 abbrev pub KeepsWordsBut : List ℕ → List ℕ → ℕ → Type 0
 KeepsWordsBut old new word = (i : ℕ) → i ≢ word → slice_index new i ≡ slice_index old i
 
--- where a bit is not set, it was not set before
+-- a bit that is not set was not set before
 abbrev pub IsMore : List ℕ → List ℕ → Type 0
 IsMore words more = (n : ℕ) → bit_of more n ≡ 0 → bit_of words n ≡ 0
 

@@ -62,7 +62,7 @@ AreLeads rules es leads = (r : ℕ) → r < length leads → IsLead rules es (ge
 abbrev pub constraint_seen : List Rule → PackedExecution → Constraint
 constraint_seen rules e = record { scope = zip (processes_of (rule_of rules e).simplex) e.points; tuples = (rule_of rules e).table.rows }
 
--- the same of each execution in turn
+-- the constraint of each execution in turn
 abbrev pub constraints_seen : List Rule → List PackedExecution → List Constraint
 constraints_seen rules es = map (constraint_seen rules) es
 

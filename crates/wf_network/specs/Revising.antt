@@ -18,7 +18,7 @@ use Rattle.wf_network.specs.Users.{no_execution}
 abbrev pub wide_set : ℕ → List ℕ
 wide_set part = part ∷ 0 ∷ 0 ∷ 0 ∷ []
 
--- the same for each part
+-- the set of each part
 abbrev pub widened : List ℕ → List (List ℕ)
 widened parts = map wide_set parts
 
@@ -51,7 +51,7 @@ left_of candidates (Some supported) = supported
 abbrev pub found_at : PackedExecution → List (List ℕ) → List (List ℕ)
 found_at e sets = map (λ v. get_or sets v []) e.points
 
--- the same for the execution of this number
+-- the candidates of the points of the execution of this number
 abbrev pub found_in : Network → ℕ → List (List ℕ) → List (List ℕ)
 found_in n e sets = found_at (get_or (executions_in n) e no_execution) sets
 
@@ -85,14 +85,14 @@ answer_seen (Some known) = Some (record { execution = known.execution; candidate
 abbrev pub IsKnownParts : List Constraint → Option RevisedParts → Type 0
 IsKnownParts ks known = IsKnown ks (answer_seen known)
 
--- the same of an answer for candidates below 16, where it is one
+-- an answer for candidates below 16, if it is one, as one for sets
 abbrev pub word_seen : RevisedWord → Option Revised
 word_seen known = cond (known.execution == NO_EXECUTION) None (Some (record { execution = known.execution; candidates = widened (parts_in known.candidates); supported = widened (parts_in known.supported) }))
 
 abbrev pub IsKnownWord : List Constraint → RevisedWord → Type 0
 IsKnownWord ks known = IsKnown ks (word_seen known)
 
--- the same of an answer for candidates below 4
+-- an answer for candidates below 4, if it is one, as one for sets
 abbrev pub nibbles_seen : RevisedNibbles → Option Revised
 nibbles_seen known = cond (known.execution == NO_EXECUTION) None (Some (record { execution = known.execution; candidates = widened (nibbles_in known.candidates); supported = widened (nibbles_in known.supported) }))
 

@@ -33,7 +33,7 @@ seen modulus term = record { labels = labels_code term.labels; values = values_c
 abbrev pub placed : ℕ → ℕ → Term → Term
 placed label value term = record { labels = term.labels * 65536 + (label + 1); values = term.values * 256 + value; weight = term.weight }
 
--- the same with the opposite weight
+-- the term with one place more, in front of the others, and with the opposite weight
 abbrev pub opposed : ℕ → ℕ → ℕ → Term → Term
 opposed modulus label value term = record { labels = term.labels * 65536 + (label + 1); values = term.values * 256 + value; weight = modulus - term.weight }
 
@@ -55,7 +55,7 @@ pub record IsBaseOf (t : Task) (base : Base) : Type 0 where
 
 -- ---- how many terms there are
 
--- where there are so many values
+-- the number of terms of a tuple, if there are so many values
 abbrev pub term_count : ℕ → ℕ → List ℕ → ℕ
 term_count least values [] = 1
 term_count least values (z ∷ zs) = if z == least then term_count least values zs * values else term_count least values zs

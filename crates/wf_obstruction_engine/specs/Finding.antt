@@ -87,6 +87,6 @@ limit_text limit.Terms = codes "more terms than verify adds up"
 limit_text limit.Length = codes "a longer text than verify reads"
 limit_text limit.Internal = codes "an internal error"
 
--- where the search gave up
+-- the text of a search that gave up: at which modulus and limit
 abbrev pub gave_up_text : gave_up.GaveUp → List ℕ
 gave_up_text at = codes "60 GaveUp modulo " ++ (decimal at.modulus ++ (codes ": " ++ limit_text at.limit))

@@ -10,7 +10,7 @@ use Rattle.wf_simplex.specs.Order.{nat_cmp-Equal, slice_cmp-Equal}
 use Rattle.wf_counting.specs.Obstruction.{WeightedTuple}
 use Rattle.wf_obstruction_words.specs.Words.{same_line, tuple_cmp}
 
--- the same simplex, weight and tuple
+-- whether two entries have one simplex, one weight and one tuple
 abbrev pub same_entry : WeightedTuple → WeightedTuple → Bool
 same_entry x y = same_line x y && pointwise (λ a b. a == b) x.tuple y.tuple
 

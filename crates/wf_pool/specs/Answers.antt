@@ -58,7 +58,7 @@ abbrev pub HasBranchAnswer : Problem → KeptLines → ℕ → BranchAnswer → 
 HasBranchAnswer p kept i (at.Answered answer n) = (n ≡ length (split p)) × (i < length (split p)) × IsAnswerAt p kept i answer
 HasBranchAnswer p kept i (at.Missing n) = (n ≡ length (split p)) × (n ≤ i)
 
--- the same map, or none, and the same lines
+-- two answers have one map, or none, and one list of lines
 abbrev pub IsSame : Answer → Answer → Type 0
 IsSame (answer.Map m ls) (answer.Map n ks) = (m.items ≡ n.items) × (map line_of ls.items ≡ map line_of ks.items)
 IsSame (answer.Map m ls) (answer.Nothing ks) = ⊥

@@ -77,12 +77,13 @@ abbrev pub Places : {A : Type 0} → Problem → KeptLines → (ℕ → Type 0) 
 Places p kept branches old new =
     (i : ℕ) → i < length old → HasLines p kept (map (λ l. l.items) old) i ⊎ branches i → HasLines p kept (map (λ l. l.items) new) i
 
--- where branch n has this map, to which its own lines lead, the root has it,
--- to which these lines lead
+-- the root has the map of branch n, and these lines lead to it, if the own lines of the branch lead
+-- to it there
 abbrev pub LeadInRoot : Problem → ℕ → List Line → List Line → Type 0
 LeadInRoot p n own ls = (m : List ℕ) → IsMapAt p keep.All n m own → HasCanonicalMap p m (root p) (map line_of ls)
 
--- the same, as far as lines that lead to a map are kept
+-- the root has the map of branch n, and these lines lead to it as far as such lines are kept, if
+-- the own lines of the branch lead to it there
 abbrev pub LeadIfKept : Problem → KeptLines → ℕ → List Line → List Line → Type 0
 LeadIfKept p kept n own ls = (m : List ℕ) → IsMapAt p kept n m own → LeadInBox p kept (root p) ls
 

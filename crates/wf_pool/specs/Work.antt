@@ -87,7 +87,7 @@ IsPopped last old new = (length new.items + length (option_to_list last) ≡ len
 abbrev pub IsAlike : {X A : Type 0} → Vec X A → Vec X A → Type 0
 IsAlike old new = (length new.items ≡ length old.items) × (vec_capacity new ≡ vec_capacity old)
 
--- the same of the workers of a crew and of their shares
+-- the lists of the workers of a crew and of their shares have room
 abbrev pub HaveRoom : {S : Type 0} → CrewMembers S → Type 0
 HaveRoom c = HasRoom c.workers × HasRoom c.shares
 
@@ -129,8 +129,8 @@ HasSettledEach left old new = (x : ℕ) → times x (settled new.seat) ≡ times
 abbrev pub HasSettled : ℕ → Worker → Worker → Type 0
 HasSettled i old new = HasSettledEach (i ∷ []) old new
 
--- a worker that told the truth about a problem still does, whatever lines are kept; and so it does
--- where this holds of the problem
+-- a worker that told the truth about a problem still does, whatever lines are kept; or it does if
+-- this holds of the problem
 abbrev pub StaysHonest : Worker → Worker → Type 0
 StaysHonest old new = (p : Problem) (kept : KeptLines) → IsHonest p kept old.seat old.finds → IsHonest p kept new.seat new.finds
 
@@ -149,7 +149,7 @@ IsFoundIn p kept box (found.Map m ls) = IsMapOf p box m.items × LeadInBox p kep
 IsFoundIn p kept box (found.Refuted ls) = AreLinesOf p kept box ls.items
 IsFoundIn p kept box found.Stopped = Unit {0}
 
--- the same of branch i
+-- what a search of branch i found, with those of its lines that are kept
 abbrev pub IsFoundAt : Problem → KeptLines → ℕ → Found → Type 0
 IsFoundAt p kept i (found.Map m ls) = IsMapAt p kept i m.items ls.items
 IsFoundAt p kept i (found.Refuted ls) = AreLinesAt p kept i ls.items

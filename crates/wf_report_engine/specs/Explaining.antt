@@ -85,7 +85,7 @@ ToldObstruction task task' sink sink' =
     (t : Task) × (o : Obstruction) × GaveTask task task' t × ((r : ℕ) → HasNoDecisionMap t r)
     × Wrote sink sink' (obstruction.argument_text t o)
 
--- where an explanation ends well, it told one or the other
+-- an explanation that ends well told one or the other
 abbrev pub ExplanationsAreTrue : Type 0
 ExplanationsAreTrue =
     (task task' source source' : Reading) (sink sink' : Writing)

@@ -23,7 +23,7 @@ with_body r body = record { processes = r.processes; rounds = r.rounds; points =
 abbrev pub report_with : Report → List Line → Report
 report_with r ls = with_body r (with_lines r.body ls)
 
--- the same answer, with some of the lines
+-- the second body has the answer of the first, and some of its lines
 abbrev pub IsShorter : Body → Body → Type 0
 IsShorter body shorter = (ls : List Line) × AreAmong ls (body_lines body) × (shorter ≡ with_lines body ls)
 

@@ -43,12 +43,11 @@ IsForIn cover boxed = (p : Problem) → IsWellFormed p → cover ≡ outline p �
 abbrev pub IsFilled : {A B : Type 0} → List Item → List (Vec Line A) → Vec Line B → Type 0
 IsFilled cover lists lines = map line_of lines.items ≡ filled cover (each_seen lists)
 
--- where each list refutes its branch, the lines refute the root
+-- the lines refute the root, if each list refutes its branch
 abbrev pub RefutesRoot : {A B : Type 0} → List Item → List (Vec Line A) → Vec Line B → Type 0
 RefutesRoot cover lists lines = (p : Problem) → cover ≡ outline p → RefuteBranches p (each_seen lists) → IsRefutedBy p (root p) (map line_of lines.items)
 
--- where each list has the canonical lines of its branch, the lines are the
--- canonical ones of the root
+-- the lines are the canonical ones of the root, if each list has the canonical lines of its branch
 abbrev pub IsCanonicalInRoot : {A B : Type 0} → List Item → List (Vec Line A) → Vec Line B → Type 0
 IsCanonicalInRoot cover lists lines = (p : Problem) → cover ≡ outline p → AreCanonicalForBranches p (each_seen lists) → HasCanonicalLines p (root p) (map line_of lines.items)
 
@@ -57,8 +56,8 @@ IsCanonicalInRoot cover lists lines = (p : Problem) → cover ≡ outline p → 
 abbrev pub IsFilledUpTo : {A B : Type 0} → List Item → List (Vec Line A) → Vec Line B → Type 0
 IsFilledUpTo cover lists lines = map line_of lines.items ≡ filled_up_to cover (each_seen lists)
 
--- where the lists lead to a map in the first branches, the lines are the
--- canonical ones of the root that lead to it
+-- the lines are the canonical ones of the root that lead to a map, if the lists lead to that map in
+-- the first branches
 abbrev pub LeadsToMapInRoot : {A B : Type 0} → List Item → List (Vec Line A) → Vec Line B → Type 0
 LeadsToMapInRoot cover lists lines =
     (p : Problem) (m : List ℕ) → cover ≡ outline p → LeadToMap p m (split p) (each_seen lists) → HasCanonicalMap p m (root p) (map line_of lines.items)

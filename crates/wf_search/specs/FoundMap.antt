@@ -32,7 +32,7 @@ HasAskedForMap t Asked (Ok Nothing) = Asked (turns t.lines)
 HasAskedForMap t Asked (Ok Stopped) = AskedAtAll Asked
 HasAskedForMap t Asked (Err e) = AskedAtAll Asked
 
--- where the search was stopped, this holds
+-- this holds, if the search was stopped
 abbrev pub OnMapStopped : Type 0 → FoundMap → Type 0
 OnMapStopped P (Map values) = Unit {0}
 OnMapStopped P Nothing = Unit {0}

@@ -21,7 +21,7 @@ left_to_find p boxes GoesOn = in_turn (canonical p) boxes
 left_to_find p boxes Nothing = record { lines = []; map = None }
 left_to_find p boxes (Map values) = record { lines = []; map = Some values.items }
 
--- where the search goes on, it does so in boxes of the problem
+-- a search that goes on does so in boxes of the problem
 abbrev pub LeavesBoxes : Problem → List Box → TurnEnd → Type 0
 LeavesBoxes p boxes GoesOn = AreBoxesOf p boxes
 LeavesBoxes p boxes Nothing = Unit {0}

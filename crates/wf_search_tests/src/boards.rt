@@ -154,24 +154,15 @@ fn work(board: &Board, job: Job) -> Worked
     Worked { seat, statuses }
 }
 
-/// Two jobs that are done at once.
-#[derive(Drop)]
-struct JobPair {
-    first: Job,
-    second: Job,
-}
-
-/// Two workers at once.
-fn two<R: Threads + Sync>(rt: &R, board: &Board, jobs: JobPair) -> (Worked, Worked)
+fn two<R: Threads + Sync>(rt: &R, board: &Board, first: Job, second: Job) -> (Worked, Worked)
     requires board { board.now.branches ≡ BRANCHES }
-    requires first { (jobs.first.worker < 4) × (jobs.first.seat ≡ fresh_desk board.now) }
-    requires second { (jobs.second.worker < 4) × (jobs.second.seat ≡ fresh_desk board.now) }
+    requires first { (first.worker < 4) × (first.seat ≡ fresh_desk board.now) }
+    requires second { (second.worker < 4) × (second.seat ≡ fresh_desk board.now) }
     ensures first { (result.0.seat.table ≡ board.now.table)
         × (result.0.seat.branches ≡ board.now.branches) }
     ensures second { (result.1.seat.table ≡ board.now.table)
         × (result.1.seat.branches ≡ board.now.branches) }
 {
-    let JobPair { first, second } = jobs;
     join(rt, move || work(board, first), move || work(board, second))
 }
 
@@ -179,14 +170,16 @@ fn two<R: Threads + Sync>(rt: &R, board: &Board, jobs: JobPair) -> (Worked, Work
 fn four<R: Threads + Sync>(
     rt: &R,
     board: &Board,
-    low: JobPair,
-    high: JobPair,
+    first: Job,
+    second: Job,
+    third: Job,
+    fourth: Job,
 ) -> ((Worked, Worked), (Worked, Worked))
     requires board { board.now.branches ≡ BRANCHES }
-    requires first { (low.first.worker < 4) × (low.first.seat ≡ fresh_desk board.now) }
-    requires second { (low.second.worker < 4) × (low.second.seat ≡ fresh_desk board.now) }
-    requires third { (high.first.worker < 4) × (high.first.seat ≡ fresh_desk board.now) }
-    requires fourth { (high.second.worker < 4) × (high.second.seat ≡ fresh_desk board.now) }
+    requires first { (first.worker < 4) × (first.seat ≡ fresh_desk board.now) }
+    requires second { (second.worker < 4) × (second.seat ≡ fresh_desk board.now) }
+    requires third { (third.worker < 4) × (third.seat ≡ fresh_desk board.now) }
+    requires fourth { (fourth.worker < 4) × (fourth.seat ≡ fresh_desk board.now) }
     ensures first { (result.0.0.seat.table ≡ board.now.table)
         × (result.0.0.seat.branches ≡ board.now.branches) }
     ensures second { (result.0.1.seat.table ≡ board.now.table)
@@ -199,23 +192,23 @@ fn four<R: Threads + Sync>(
     join(
         rt,
         move || -> (Worked, Worked)
-            requires { IsSync R.row × (board.now.branches ≡ BRANCHES) × (low.first.worker < 4)
-                × (low.first.seat ≡ fresh_desk board.now) × (low.second.worker < 4)
-                × (low.second.seat ≡ fresh_desk board.now) }
+            requires { IsSync R.row × (board.now.branches ≡ BRANCHES) × (first.worker < 4)
+                × (first.seat ≡ fresh_desk board.now) × (second.worker < 4)
+                × (second.seat ≡ fresh_desk board.now) }
             ensures { (result.0.seat.table ≡ board.entry.now.table)
                 × (result.0.seat.branches ≡ board.entry.now.branches)
                 × (result.1.seat.table ≡ board.entry.now.table)
                 × (result.1.seat.branches ≡ board.entry.now.branches) }
-        { two(rt, board, low) },
+        { two(rt, board, first, second) },
         move || -> (Worked, Worked)
-            requires { IsSync R.row × (board.now.branches ≡ BRANCHES) × (high.first.worker < 4)
-                × (high.first.seat ≡ fresh_desk board.now) × (high.second.worker < 4)
-                × (high.second.seat ≡ fresh_desk board.now) }
+            requires { IsSync R.row × (board.now.branches ≡ BRANCHES) × (third.worker < 4)
+                × (third.seat ≡ fresh_desk board.now) × (fourth.worker < 4)
+                × (fourth.seat ≡ fresh_desk board.now) }
             ensures { (result.0.seat.table ≡ board.entry.now.table)
                 × (result.0.seat.branches ≡ board.entry.now.branches)
                 × (result.1.seat.table ≡ board.entry.now.table)
                 × (result.1.seat.branches ≡ board.entry.now.branches) }
-        { two(rt, board, high) },
+        { two(rt, board, third, fourth) },
     )
 }
 
@@ -226,31 +219,27 @@ fn run<R: Threads + Sync>(
     plan: Plan,
 ) -> Result<(Account, [[Status; 64]; 4]), AllocError> {
     let (board, mut seats) = Board::make(alloc, BRANCHES, 4)?;
-    let low = JobPair {
-        first: Job {
-            worker: 0,
-            seat: next_seat(&board, &mut seats),
-            plan,
-        },
-        second: Job {
-            worker: 1,
-            seat: next_seat(&board, &mut seats),
-            plan,
-        },
+    let first = Job {
+        worker: 0,
+        seat: next_seat(&board, &mut seats),
+        plan,
     };
-    let high = JobPair {
-        first: Job {
-            worker: 2,
-            seat: next_seat(&board, &mut seats),
-            plan,
-        },
-        second: Job {
-            worker: 3,
-            seat: next_seat(&board, &mut seats),
-            plan,
-        },
+    let second = Job {
+        worker: 1,
+        seat: next_seat(&board, &mut seats),
+        plan,
     };
-    let ((a, b), (c, d)) = four(rt, &board, low, high);
+    let third = Job {
+        worker: 2,
+        seat: next_seat(&board, &mut seats),
+        plan,
+    };
+    let fourth = Job {
+        worker: 3,
+        seat: next_seat(&board, &mut seats),
+        plan,
+    };
+    let ((a, b), (c, d)) = four(rt, &board, first, second, third, fourth);
     let Worked {
         seat: a,
         statuses: of_a,

@@ -9,7 +9,7 @@ use Rattle.std.specs.Cmp.{IsTotalOrder, IsEquivalence, then_total, on_total, nat
 use Rattle.std.specs.Cmp.Lexicographic.{slice_cmp, lists_total, pointwise, pointwise_decides}
 use Rattle.wf_model.specs.Simplex.{Vertex, Simplex, same_vertex, vertex_cmp, simplex_cmp}
 
--- the same vertices at the same places
+-- whether two simplices have the same vertices at the same places
 abbrev pub same_simplex : Simplex → Simplex → Bool
 same_simplex s t = pointwise same_vertex s t
 

@@ -7,7 +7,7 @@ use Rattle.wf_model.specs.Word.{Word, words}
 use Rattle.wf_model.specs.Lists.{below}
 use Rattle.wf_simplex.specs.declared.word.TheConstants.{WORDS}
 
--- where the words of a size begin in the table
+-- the place in the table at which the words of a size begin
 abbrev pub start_of : ℕ → ℕ
 start_of zero = 0
 start_of (suc zero) = 0
@@ -15,7 +15,7 @@ start_of (suc (suc zero)) = 1
 start_of (suc (suc (suc zero))) = 4
 start_of (suc (suc (suc (suc n)))) = 17
 
--- where they end
+-- the place behind the words of a size
 abbrev pub end_of : ℕ → ℕ
 end_of zero = 0
 end_of (suc zero) = 1

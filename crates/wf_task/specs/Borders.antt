@@ -11,6 +11,6 @@ borders_if false s = []
 abbrev pub borders_of : Simplex → List Simplex
 borders_of s = borders_if (nat_lt 1 (length s)) s
 
--- where the item at a place stood before one was left out
+-- the place that an item had before another item was left out
 abbrev pub place_before : ℕ → ℕ → ℕ
 place_before left_out place = if nat_lt place left_out then place else place + 1

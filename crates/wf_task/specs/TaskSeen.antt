@@ -23,7 +23,7 @@ task_with_block least_block n symmetric inputs tuples outputs = record {
   outputs = outputs;
 }
 
--- the same with all words allowed
+-- the task of these parts that allows all words
 abbrev pub task_of_parts : ℕ → Bool → List Simplex → List (List Tuple) → List Simplex → Task
 task_of_parts n symmetric inputs tuples outputs = task_with_block None n symmetric inputs tuples outputs
 

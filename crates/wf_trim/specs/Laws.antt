@@ -32,7 +32,7 @@ abbrev pub MapsOfClassesLiftAsTheyAre : Type 0
 MapsOfClassesLiftAsTheyAre = (t : Task) (r : ℕ) (m : View → ℕ)
     → IsTask t → ((v : View) → m (class t v) ≡ m v) → IsDecisionMap t r m → IsDecisionMap t (suc r) (λ v. m (own_before v))
 
--- where there is no decision map after r + 1 rounds there is none after r
+-- no decision map exists after r rounds, if none exists after r + 1
 abbrev pub NoDecisionMapBefore : Type 0
 NoDecisionMapBefore = (t : Task) (r : ℕ) → IsTask t → HasNoDecisionMap t (suc r) → HasNoDecisionMap t r
 

@@ -19,8 +19,8 @@ stretches m r k before after (s ∷ ss) =
 abbrev pub earlier : Stretch → ℕ → ℕ
 earlier s e = s.before + (e - s.after) / s.each
 
--- where a point of the complex after appears first, and the point that its
--- process has in the execution before
+-- the first appearance of a point of the complex after, and the point that its process has in the
+-- execution before
 pub record GoesOn (b a : Built) (list : List Stretch) (v : ℕ) : Type 0 where
   pub execution : ℕ
   pub process : ℕ

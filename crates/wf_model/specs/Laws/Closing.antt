@@ -19,8 +19,8 @@ abbrev pub ClosingLeavesAClosedBox : Type 0
 ClosingLeavesAClosedBox = (p : Problem) (box b : Box)
     → IsBoxOf p box → (closing p box).left ≡ Some b → IsClosedBranch p box b
 
--- where a sweep loses nothing, each candidate is supported in each execution, wherever its point
--- stands
+-- each candidate is supported in each execution, wherever its point stands, if a sweep loses
+-- nothing
 abbrev pub ClosedBoxesSupportTheirCandidates : Type 0
 ClosedBoxesSupportTheirCandidates = (p : Problem) (box : Box) (execution place process point a : ℕ)
     (k : Constraint)

@@ -1,5 +1,5 @@
 -- Laws of least trees: that they lead to the least solution, that the canonical search writes one
--- where it finds a map, and that a checker finds no fault exactly in their lines.
+-- if it finds a map, and that a checker finds no fault exactly in their lines.
 use Rattle.std.specs.Prelude.{◌≡◌, ℕ, List, [], ◌∷◌, length, Some, None}
 use Rattle.wf_model.specs.Task.{Task, IsTask}
 use Rattle.wf_model.specs.DecisionMap.{IsLeast}
@@ -25,7 +25,7 @@ LeastTreeLeadsToTheLeastMap = (t : Task) (r : ℕ) (m : List ℕ) (tree : Tree)
     → IsLeastTree (problem_of t r) m tree (root (problem_of t r))
     → IsLeast t r (map_by_number t r m)
 
--- where the canonical search finds a map, its lines are those of a tree that leads to it
+-- the canonical search that finds a map writes the lines of a tree that leads to that map
 abbrev pub CanonicalLinesLeadToTheMap : Type 0
 CanonicalLinesLeadToTheMap = (p : Problem) (box : Box) (m : List ℕ)
     → IsAscendingBox box → (canonical p box).map ≡ Some m

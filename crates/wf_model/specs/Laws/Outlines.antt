@@ -16,19 +16,19 @@ OutlinesLeaveOutTheBranches = (p : Problem) → boxes_left_out (outline p) ≡ s
 abbrev pub BranchesAreFew : Type 0
 BranchesAreFew = (p : Problem) → length p.values ≤ most_values → length (split p) ≤ most_branches
 
--- where the lists refute the branches, the outline filled with them refutes the root
+-- an outline refutes the root, if it is filled with lists that refute the branches
 abbrev pub FilledOutlinesRefute : Type 0
 FilledOutlinesRefute = (p : Problem) (lists : List (List Line))
     → RefuteBranches p lists → IsRefutedBy p (root p) (filled (outline p) lists)
 
--- where the lists are the canonical ones of the branches, the outline filled with them is the
--- canonical one of the root
+-- an outline has the canonical lines of the root, if it is filled with the canonical lines of the
+-- branches
 abbrev pub FilledOutlinesAreCanonical : Type 0
 FilledOutlinesAreCanonical = (p : Problem) (lists : List (List Line))
     → AreCanonicalForBranches p lists → HasCanonicalLines p (root p) (filled (outline p) lists)
 
--- where the lists lead to a map in the first branches, the outline filled up to the last of them is
--- the canonical search of the root, which leads to that map
+-- an outline that is filled up to the last of these lists has the lines of the canonical search of
+-- the root, which leads to a map, if the lists lead to that map in the first branches
 abbrev pub FilledOutlinesLeadToTheMap : Type 0
 FilledOutlinesLeadToTheMap = (p : Problem) (m : List ℕ) (lists : List (List Line))
     → LeadToMap p m (split p) lists → HasCanonicalMap p m (root p) (filled_up_to (outline p) lists)

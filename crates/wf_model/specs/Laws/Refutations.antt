@@ -14,7 +14,7 @@ abbrev pub NoTreeRefutesASolution : Type 0
 NoTreeRefutesASolution = (p : Problem) (t : Tree) (box : Box) (m : List ℕ)
     → InRange p → Refutes p t box → IsSolution p m → LiesIn m box → ⊥
 
--- where a tree refutes the root, no function on the views is a decision map
+-- no function on the views is a decision map, if a tree refutes the root
 abbrev pub RefutationLeavesNoMap : Type 0
 RefutationLeavesNoMap = (t : Task) (r : ℕ) (refutation : Tree)
     → HasListedValues t → Refutes (problem_of t r) refutation (root (problem_of t r))

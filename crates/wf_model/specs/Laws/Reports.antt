@@ -46,7 +46,7 @@ AcceptedMapsAreListed = (t : Task) (r : ℕ) (report : Report) (m : List ℕ)
     → report_fault t r report ≡ None → report.body ≡ a_map m
     → listed t r (map_by_number t r m) ≡ m
 
--- where a report without a fault is lines alone, no function on the views is a decision map
+-- no function on the views is a decision map, if a report without a fault is lines alone
 abbrev pub AcceptedRefutationsLeaveNoMap : Type 0
 AcceptedRefutationsLeaveNoMap = (t : Task) (r : ℕ) (report : Report) (ls : List Line)
     → IsTask t → report_fault t r report ≡ None → report.body ≡ none ls
@@ -84,13 +84,13 @@ LeastTreesAreAccepted = (t : Task) (r : ℕ) (m : View → ℕ) (tree : Tree)
     → IsLeastTree (problem_of t r) (listed t r m) tree (root (problem_of t r))
     → report_fault t r (report_about t r (least (listed t r m) (lines tree))) ≡ None
 
--- where the canonical search finds no map, a checker finds no fault in a report of its lines
+-- a checker finds no fault in a report of the lines of the canonical search, if that finds no map
 abbrev pub CanonicalRefutationsAreAccepted : Type 0
 CanonicalRefutationsAreAccepted = (t : Task) (r : ℕ)
     → IsTask t → (canonical_answer t r).map ≡ None
     → report_fault t r (report_about t r (none (canonical_answer t r).lines)) ≡ None
 
--- where the canonical search finds a map, a checker finds no fault in a report of it and its lines
+-- a checker finds no fault in a report of the map and the lines of a canonical search
 abbrev pub CanonicalLeastMapsAreAccepted : Type 0
 CanonicalLeastMapsAreAccepted = (t : Task) (r : ℕ) (m : List ℕ)
     → IsTask t → (canonical_answer t r).map ≡ Some m

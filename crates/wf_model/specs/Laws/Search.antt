@@ -13,12 +13,12 @@ CanonicalSearchGoesBySteps = (p : Problem) (box : Box)
     → canonical p box
     ≡ searched (closing p box).lines (closing p box).left (branching (canonical p))
 
--- where the canonical search finds no map, its lines are those of a tree that refutes the box
+-- the canonical search that finds no map writes the lines of a tree that refutes the box
 abbrev pub CanonicalSearchRefutes : Type 0
 CanonicalSearchRefutes = (p : Problem) (box : Box)
     → (canonical p box).map ≡ None → IsRefutedBy p box (canonical p box).lines
 
--- where the canonical search finds a map, it is the least solution in the box
+-- a map that the canonical search finds is the least solution in the box
 abbrev pub CanonicalMapIsTheLeastSolution : Type 0
 CanonicalMapIsTheLeastSolution = (p : Problem) (box : Box) (m : List ℕ)
     → IsWellFormed p → IsBoxOf p box → (canonical p box).map ≡ Some m → IsLeastIn p box m
@@ -29,7 +29,7 @@ abbrev pub CanonicalMapIsTheLeastMap : Type 0
 CanonicalMapIsTheLeastMap = (t : Task) (r : ℕ) (m : List ℕ)
     → IsTask t → (canonical_answer t r).map ≡ Some m → IsLeast t r (map_by_number t r m)
 
--- where the canonical search of a task's root finds no map, no function on the views is one
+-- no function on the views is a decision map, if the canonical search of a task's root finds none
 abbrev pub CanonicalSearchLeavesNoMap : Type 0
 CanonicalSearchLeavesNoMap = (t : Task) (r : ℕ)
     → IsTask t → (canonical_answer t r).map ≡ None → HasNoDecisionMap t r
