@@ -10,13 +10,13 @@ import glob
 import os
 import pathlib
 import re
-from typing import List, Optional, Tuple
+from typing import List, Optional
 
 from . import composing, pool
 from .composing import Case, CaseProof, NoSteps
 from .notes import Room
 from .questions import Answer, Attempt, NoFormula, Question, solver_name
-from .runs import Clock, Ended, Late, Scope, say
+from .runs import Clock, Ended, Late, Scope
 
 CASE, AUTO = "case", "auto"
 # the refusal of a lemma that doesn't follow, and any refusal that names a line

@@ -18,7 +18,7 @@ from typing import BinaryIO, Iterator, List, NamedTuple, Optional, Sequence, Tup
 from .runs import Clock, Refused
 
 PIECE = 1 << 20
-NUMBERS = re.compile(r"^c values (.*)\n(?:c .*\n)*p cnf (\d+) (\d+)$", re.M)
+NUMBERS = re.compile(r"^c values(.*)\n(?:c .*\n)*p cnf (\d+) (\d+)$", re.M)
 EXCLUDED = re.compile(rb"^-(\d+) 0$", re.M)
 SIGNED = re.compile(rb"^c by (.*) in ([\d.]+) s\n")
 LONG = 1 << 14
@@ -70,6 +70,8 @@ def candidates(formula: pathlib.Path, clock: Clock) -> List[List[Case]]:
             clock.go_on()
             excluded.update(map(int, EXCLUDED.findall(piece + text.readline())))
     many = len(values)
+    if not many:
+        return []
     every = [[Case(point, int(value), many * point + place) for place, value in enumerate(values, 1)] for point in range(variables // many)]
     return [[case for case in cases if case.variable not in excluded] for cases in every]
 
@@ -79,7 +81,7 @@ def cases_of(formula: pathlib.Path, point: Optional[int], clock: Clock) -> List[
     found = candidates(formula, clock)
     if point is not None and point >= len(found):
         raise Refused(f"--split {point}: there are {len(found)} points, numbered from 0")
-    chosen = max(found, key=len) if point is None else found[point]
+    chosen = max(found, key=len, default=[]) if point is None else found[point]
     if len(chosen) < 2:
         raise Refused("--split: no point has two candidates" if point is None else f"--split {point}: this point has one candidate")
     return chosen
