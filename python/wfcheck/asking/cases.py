@@ -10,19 +10,18 @@ import glob
 import os
 import pathlib
 import re
-from typing import List, Optional, Tuple
+from typing import List, Optional
 
 from . import composing, pool
 from .composing import Case, CaseProof, NoSteps
 from .notes import Room
 from .questions import Answer, Attempt, NoFormula, Question, solver_name
-from .runs import Clock, Ended, Late, Scope, say
+from .runs import Clock, Ended, Late, Scope
 
 CASE, AUTO = "case", "auto"
-# the refusal of a lemma that doesn't follow, and any refusal that names a line
+# the refusal of a lemma that doesn't follow, and those of a proof that is wrong in a line or as a whole
 NOT_IMPLIED = "wfcheck: 40 "
-LINE = re.compile(r"wfcheck: (?:38|39|40) \w+ (\d+)\s*")
-STATUS_REFUSED = 2
+WRONG = re.compile(r"wfcheck: (?:(?:38|39|40) \w+ (?P<line>\d+)|4[12] .*)\s*")
 
 
 class CaseAttempt(Attempt):
@@ -149,11 +148,11 @@ class Cases:
         return None
 
     def blame(self, proofs: List[CaseProof], ends: List[int], ended: Ended) -> None:
-        """Takes away the case proof in which a proof is refused, or all where it is not seen in which; none where the proof was not judged."""
-        if ended.status != STATUS_REFUSED:
+        """Takes away the case proof in which a proof is wrong, or all where it is not seen in which; none where the proof was not judged."""
+        found = WRONG.fullmatch(ended.said)
+        if not found:
             return
-        found = LINE.fullmatch(ended.said)
-        wrong = [next(it for it, end in zip(proofs, ends) if int(found[1]) <= end)] if found and int(found[1]) <= ends[-1] else proofs
+        wrong = [it for it, end in zip(proofs, ends) if found["line"] and int(found["line"]) <= end][:1] or proofs
         for it in wrong:
             it.file.unlink(missing_ok=True)
         point = proofs[0].case.point

@@ -18,8 +18,9 @@ from typing import BinaryIO, Iterator, List, NamedTuple, Optional, Sequence, Tup
 from .runs import Clock, Refused
 
 PIECE = 1 << 20
-NUMBERS = re.compile(r"^c values (.*)\n(?:c .*\n)*p cnf (\d+) (\d+)$", re.M)
+NUMBERS = re.compile(r"^c values(.*)\n(?:c .*\n)*p cnf (\d+) (\d+)$", re.M)
 EXCLUDED = re.compile(rb"^-(\d+) 0$", re.M)
+STEP = re.compile(rb"(d ?)?((?:-?[1-9]\d* )*)0\r?\n")
 SIGNED = re.compile(rb"^c by (.*) in ([\d.]+) s\n")
 LONG = 1 << 14
 
@@ -70,6 +71,8 @@ def candidates(formula: pathlib.Path, clock: Clock) -> List[List[Case]]:
             clock.go_on()
             excluded.update(map(int, EXCLUDED.findall(piece + text.readline())))
     many = len(values)
+    if not many:
+        return []
     every = [[Case(point, int(value), many * point + place) for place, value in enumerate(values, 1)] for point in range(variables // many)]
     return [[case for case in cases if case.variable not in excluded] for cases in every]
 
@@ -79,7 +82,7 @@ def cases_of(formula: pathlib.Path, point: Optional[int], clock: Clock) -> List[
     found = candidates(formula, clock)
     if point is not None and point >= len(found):
         raise Refused(f"--split {point}: there are {len(found)} points, numbered from 0")
-    chosen = max(found, key=len) if point is None else found[point]
+    chosen = max(found, key=len, default=[]) if point is None else found[point]
     if len(chosen) < 2:
         raise Refused("--split: no point has two candidates" if point is None else f"--split {point}: this point has one candidate")
     return chosen
@@ -95,10 +98,13 @@ def write_case(formula: pathlib.Path, case: Case, wrote: pathlib.Path) -> None:
         made.write(b"%d 0\n" % case.variable)
 
 
-def steps(proof: pathlib.Path, clock: Clock) -> Iterator[Tuple[bool, Tuple[int, ...]]]:
-    """The steps of a proof: whether each is a deletion, and its literals, ascending and each once."""
-    is_begun, is_deletion, clause = False, False, []
+def steps(proof: pathlib.Path, clock: Clock) -> Iterator[Tuple[bool, bytes]]:
+    """The steps of a proof: whether each is a deletion, and its literals with a space behind each. Most solvers write a line for each."""
+    is_begun, is_deletion, clause = False, False, b""
     for number, line in enumerate(lines_of(proof, clock), 1):
+        if not is_begun and (found := STEP.fullmatch(line)):
+            yield found[1] is not None, found[2]
+            continue
         for word in line.split():
             if not is_begun and word[:1] in b"c%":
                 break
@@ -106,10 +112,10 @@ def steps(proof: pathlib.Path, clock: Clock) -> Iterator[Tuple[bool, Tuple[int, 
                 is_deletion, word = True, word[1:]
             is_begun = True
             if literal := literal_of(word, number):
-                clause.append(literal)
+                clause += b"%d " % literal
             elif word:
-                yield is_deletion, tuple(sorted(set(clause)))
-                is_begun, is_deletion, clause = False, False, []
+                yield is_deletion, clause
+                is_begun, is_deletion, clause = False, False, b""
 
 
 def literal_of(word: bytes, line: int) -> int:
@@ -123,22 +129,21 @@ def literal_of(word: bytes, line: int) -> int:
 def weaken(proof: pathlib.Path, case: Case, sign: Tuple[str, float], wrote: pathlib.Path, clock: Clock) -> None:
     """Writes the case proof that a solver's proof of a case gives, up to the empty lemma, with a comment that signs it. A lemma that holds
     in the case is left out. A literal that is a lemma by itself holds for the rest of the solver's proof, so no such lemma is deleted."""
-    has, added = -case.variable, collections.Counter()
+    holds, fails, added = b"%d" % case.variable, b"-%d" % case.variable, collections.Counter()
     with open(wrote, "xb") as made:
         made.write(b"c by %s in %.2f s\n" % (sign[0].encode(errors="replace"), sign[1]))
-        for is_deletion, clause in steps(proof, clock):
-            text = " ".join(map(str, clause))
+        for is_deletion, text in steps(proof, clock):
+            clause = frozenset(text.split())
             # a number for each clause takes less memory. If two had one, the proof would be refused at worst
-            key = hash(text)
-            if case.variable in clause or is_deletion and (len(clause) < 2 or not added[key]):
+            key = hash(clause)
+            if holds in clause or is_deletion and (len(clause) < 2 or not added[key]):
                 continue
             if not clause:
                 break
             added[key] += -1 if is_deletion else 1
             if not added[key]:
                 del added[key]
-            lemma = text if has in clause else f"{text} {has}"
-            made.write(f"{'d ' if is_deletion else ''}{lemma} 0\n".encode())
+            made.write(b"%s%s%s0\n" % (b"d " if is_deletion else b"", text, b"" if fails in clause else fails + b" "))
 
 
 def compose(proofs: Sequence[CaseProof], has_deletions: bool, wrote: pathlib.Path, clock: Clock) -> List[int]:

@@ -5,7 +5,6 @@ from __future__ import annotations
 
 import itertools
 import json
-import pathlib
 import re
 from typing import Dict, Iterable, Iterator, List, NamedTuple, Optional, Sequence, Set, Tuple
 
