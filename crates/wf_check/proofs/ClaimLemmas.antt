@@ -7,7 +7,8 @@ use Rattle.wf_model.specs.Check.{Refusal, Verdict, after_verdict, left, trailing
 use Rattle.wf_lines.specs.Lines.{line_of}
 use Rattle.wf_lines.specs.declared.line.Line as line
 use Rattle.wf_check.specs.Blocks.{box_now, boxes_later}
-use Rattle.wf_check.specs.Claims.{Leaves, fault_left, lines_fault, verdict_on}
+use Rattle.wf_check.specs.Claims.{Leaves, fault_left, verdict_on}
+use Rattle.wf_check.specs.Left.{LinesLeft, Takes, claim_fault, claimed, fault_from, fault_of, left_of, lines_fault}
 use Rattle.wf_check.specs.Faults.{Fails, IsFault, Judges}
 use Rattle.wf_check.specs.declared.boxes.Blocks.{Blocks}
 use Rattle.wf_report.specs.declared.fault.CertFault.{CertFault}
@@ -62,25 +63,36 @@ judges_fault result e f whole is same h = subst (λ r. Judges r whole) (sym is) 
 
 -- ---- all lines
 
--- where all blocks are done, or the map is found, the next line is one too many
-pub trailing_there : (p : Problem) (claim : Goal) (k i : ℕ) (lines : List line.Line) (progress : JudgedSoFar) (blocks : Blocks) → i < length lines → (progress ≡ Going → ⊥)
-    → fault_left p claim k (map line_of (drop i lines)) progress blocks ≡ Some (trailing k)
-trailing_there p claim k i [] progress blocks low h = absurd (omega (arith, low))
-trailing_there p claim k (suc i) (l ∷ lines) progress blocks low h = trailing_there p claim k i lines progress blocks (omega (arith, low)) h
-trailing_there p claim k zero (l ∷ lines) Going blocks low h = absurd (h refl)
-trailing_there p Nothing k zero (l ∷ lines) Refuted blocks low h = refl
-trailing_there p (Least m) k zero (l ∷ lines) Refuted blocks low h = refl
-trailing_there p claim k zero (l ∷ lines) Found blocks low h = refl
-
 -- the next line, before those that follow it
-next_line : (lines : List line.Line) (i : ℕ) (d : line.Line) → i < length lines → map line_of (drop i lines) ≡ line_of (get_or lines i d) ∷ map line_of (drop (i + 1) lines)
+pub next_line : (lines : List line.Line) (i : ℕ) (d : line.Line) → i < length lines → map line_of (drop i lines) ≡ line_of (get_or lines i d) ∷ map line_of (drop (i + 1) lines)
 next_line [] i d low = absurd (omega (arith, low))
 next_line (x ∷ lines) zero d low = refl
 next_line (x ∷ lines) (suc i) d low =
     let e : suc i + 1 ≡ suc (i + 1) = omega arith in
     rw e (next_line lines i d (omega (arith, low)))
 
-pub going_on : (p : Problem) (claim : Goal) (k i : ℕ) (lines : List line.Line) (d : line.Line) (progress : JudgedSoFar) (blocks : Blocks) → i < length lines → progress ≡ Going
-    → fault_left p claim k (map line_of (drop i lines)) progress blocks ≡ lines_fault p claim k (line_of (get_or lines i d) ∷ map line_of (drop (i + 1) lines)) (box_now blocks ∷ boxes_later blocks)
-going_on p claim k i lines d progress blocks low going =
-    ap (λ progress. fault_left p claim k (map line_of (drop i lines)) progress blocks) going ∙ ap (λ ls. lines_fault p claim k ls (box_now blocks ∷ boxes_later blocks)) (next_line lines i d low)
+-- ---- line by line
+
+pub claim_is : (p : Problem) (claim : Goal) (k : ℕ) (ls : List Line) (boxes : List Box) → claim_fault p (claimed claim) k ls boxes ≡ lines_fault p claim k ls boxes
+claim_is p Nothing k ls boxes = refl
+claim_is p (Least m) k ls boxes = refl
+
+pub takes_fault : {X : Type 0} (result : Result X CertFault) (e f : CertFault) (p : Problem) (claim : Option (List ℕ)) (l : Line) (old new : LinesLeft) → result ≡ Err e → e ≡ f
+    → ((ls : List Line) → Fails f (fault_of p claim (l ∷ ls) old)) → Takes p claim l old new result
+takes_fault result e f p claim l old new is same h = subst (Takes p claim l old new) (sym is) (λ ls. subst (λ e. Fails e (fault_of p claim (l ∷ ls) old)) (sym same) (h ls))
+
+-- the fault of the lines that follow, as the checker of lines sees it
+pub seen_left : (p : Problem) (claim : Goal) (k : ℕ) (ls : List Line) (progress : JudgedSoFar) (blocks : Blocks) → fault_from p (claimed claim) k ls (left_of progress blocks) ≡ fault_left p claim k ls progress blocks
+seen_left p Nothing k ls Going blocks = refl
+seen_left p (Least m) k ls Going blocks = refl
+seen_left p Nothing k ls Refuted blocks = refl
+seen_left p (Least m) k ls Refuted blocks = refl
+seen_left p Nothing k ls Found blocks = refl
+seen_left p (Least m) k ls Found blocks = refl
+
+-- a line behind the last one
+pub trailing_now : (p : Problem) (claim : Goal) (k : ℕ) (l : Line) (ls : List Line) (progress : JudgedSoFar) (blocks : Blocks) → (progress ≡ Going → ⊥) → fault_left p claim k (l ∷ ls) progress blocks ≡ Some (trailing k)
+trailing_now p claim k l ls Going blocks h = absurd (h refl)
+trailing_now p Nothing k l ls Refuted blocks h = refl
+trailing_now p (Least m) k l ls Refuted blocks h = refl
+trailing_now p claim k l ls Found blocks h = refl

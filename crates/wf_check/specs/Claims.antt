@@ -3,20 +3,16 @@ use Rattle.std.specs.Prelude.{◌≡◌, ℕ, suc, Bool, true, List, [], ◌∷�
 use Rattle.wf_model.specs.Problem.{Problem}
 use Rattle.wf_model.specs.Box.{Box, first_open}
 use Rattle.wf_model.specs.Refutation.{Line, found}
-use Rattle.wf_model.specs.Check.{Refusal, Verdict, first_fault, first_least_fault, first_trailing, is_point, least_verdict, verdict}
+use Rattle.wf_model.specs.Check.{Refusal, Verdict, first_trailing, is_point, least_verdict, verdict}
 use Rattle.wf_check.specs.Blocks.{box_now, boxes_later}
 use Rattle.wf_check.specs.Faults.{Fails}
+use Rattle.wf_check.specs.Left.{lines_fault}
 use Rattle.wf_check.specs.declared.boxes.Blocks.{Blocks}
 use Rattle.wf_report.specs.declared.fault.CertFault.{CertFault}
 use Rattle.wf_check.specs.declared.judge.Goal.{Goal}
 use Rattle.wf_check.specs.declared.judge.Goal.TheVariants.{Nothing, Least}
 use Rattle.wf_check.specs.declared.judge.JudgedSoFar.{JudgedSoFar}
 use Rattle.wf_check.specs.declared.judge.JudgedSoFar.TheVariants.{Going, Refuted, Found}
-
--- the first fault of lines that are to show the claim over these boxes, the first line being line k
-abbrev pub lines_fault : Problem → Goal → ℕ → List Line → List Box → Option Refusal
-lines_fault p Nothing k ls boxes = first_fault p k ls boxes
-lines_fault p (Least m) k ls boxes = first_least_fault p m.now k ls boxes
 
 -- the verdict of line k, which doesn't end a search
 abbrev pub verdict_on : Problem → Goal → ℕ → Line → Box → List Box → Verdict

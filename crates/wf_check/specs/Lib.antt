@@ -2,6 +2,8 @@
 pub mod Faults
 pub mod Truth
 pub mod Within
+pub mod Left
+pub mod Rules
 -- What only this crate's own code and proofs use.
 pub mod Blocks
 pub mod Settled
@@ -9,4 +11,3 @@ pub mod Claims
 pub mod Places
 pub mod RowBlocks
 pub mod Groups
-pub mod Rules

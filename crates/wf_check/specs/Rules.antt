@@ -11,7 +11,7 @@ use Rattle.wf_check.specs.declared.judge.LinePlace.{LinePlace}
 -- the complex and the tuples are those of the task
 pub record AreMatched (x : LineRules) : Type 0 where
   pub protocol : IsProtocol x.task.now x.protocol.now.rounds x.protocol.now
-  pub supports : x.supports.now ≡ tuples_of x.task.now.delta
+  pub supports : x.checker.now ≡ tuples_of x.task.now.delta
 
 abbrev pub problem_in : LineRules → Problem
 problem_in x = problem_of x.task.now x.protocol.now.rounds

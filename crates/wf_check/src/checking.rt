@@ -2,13 +2,14 @@
 
 ghost use Rattle.std.specs.Prelude.{◌≡◌, IfOk, OnOk, length, replicate};
 ghost use Rattle.wf_model.specs.Problem.{problem_of};
+ghost use Rattle.wf_model.specs.Report as reports;
 ghost use Rattle.wf_model.specs.Check.{body_fault, header_fault, map_fault, report_fault};
 ghost use Rattle.wf_complex.specs.Protocol.{IsProtocol};
 ghost use Rattle.wf_set.specs.Sets.{box_of};
 ghost use Rattle.wf_check.specs.Faults.{Judges};
 ghost use Rattle.wf_check.specs.Truth.{HoldsOf};
 ghost use Rattle.wf_check.specs.Within.{IsCheckerOf, fault_within, report_fault_within};
-ghost use Rattle.wf_report.specs.Reports.{AreNumbered, body_length, body_of, report_seen};
+ghost use Rattle.wf_report.specs.Reports.{AreNumbered, body_length, body_of, report_seen, with_header};
 
 use crate::judge::{Goal, LineRules, judge_lines};
 use crate::maps::first_violated;
@@ -18,7 +19,7 @@ use std::alloc::{AllocError, Global};
 use std::marker::Model;
 use std::thread::Threads;
 use wf_complex::Protocol;
-use wf_report::{Body, CertFault, FIRST_LINE, Report};
+use wf_report::{Body, CertFault, FIRST_LINE, Header, Report};
 use wf_set::Mask;
 use wf_task::Task;
 
@@ -53,7 +54,7 @@ pub fn check<R: Threads + Sync>(
         Judges result (report_fault task.now r (report_seen report.now)) }
     ensures truth { OnOk result (HoldsOf task.now protocol.now.rounds (body_of report.now.body)) }
 {
-    judge_header(task, protocol, report)?;
+    judge_front(task, protocol, report)?;
     judge_body(rt, alloc, task, protocol, &report.body)
 }
 
@@ -94,6 +95,13 @@ impl ReportChecker {
         Ok(ReportChecker { supports })
     }
 
+    /// The tuples of each rule of the task.
+    pub(crate) fn supports(&self) -> &[TupleSupport]
+        ensures { result.now ≡ self.now }
+    {
+        &self.supports
+    }
+
     /// Accepts a report whose answer is about one box alone, that with these values at each point,
     /// or answers the first reason why it is refused. The header is judged first, and the rest as
     /// [`check`] does, but for where the lines begin.
@@ -121,7 +129,7 @@ impl ReportChecker {
             protocol,
             report,
         } = *about;
-        judge_header(task, protocol, report)?;
+        judge_front(task, protocol, report)?;
         let answer = ReportedAnswer {
             task,
             protocol,
@@ -152,7 +160,7 @@ impl ReportChecker {
         let rules = LineRules {
             task,
             protocol,
-            supports: &self.supports,
+            checker: self,
             claim: Goal::Nothing,
         };
         match answer.body {
@@ -168,13 +176,13 @@ impl ReportChecker {
     }
 }
 
-/// Judges the numbers of the header.
-fn judge_header(task: &Task, protocol: &Protocol, report: &Report) -> Result<(), CertFault>
+/// Judges the numbers of a report's header, whatever the report's body is: the first number that
+/// is not that of the task and its protocol complex is answered.
+pub fn judge_header(task: &Task, protocol: &Protocol, header: Header) -> Result<(), CertFault>
     requires built { IsProtocol task.now protocol.now.rounds protocol.now }
-    ensures { let r = protocol.now.rounds in
-        Judges result (header_fault task.now r (problem_of task.now r) (report_seen report.now)) }
+    ensures { let r = protocol.now.rounds in (body : reports.Body) →
+        Judges result (header_fault task.now r (problem_of task.now r) (with_header header body)) }
 {
-    let header = report.header;
     if header.processes != u32::from(task.processes()) {
         return Err(CertFault::Header(2));
     }
@@ -188,6 +196,15 @@ fn judge_header(task: &Task, protocol: &Protocol, report: &Report) -> Result<(),
         return Err(CertFault::Header(5));
     }
     Ok(())
+}
+
+/// Judges the numbers of a report's header.
+fn judge_front(task: &Task, protocol: &Protocol, report: &Report) -> Result<(), CertFault>
+    requires built { IsProtocol task.now protocol.now.rounds protocol.now }
+    ensures { let r = protocol.now.rounds in
+        Judges result (header_fault task.now r (problem_of task.now r) (report_seen report.now)) }
+{
+    judge_header(task, protocol, report.header)
 }
 
 /// Judges the map, the lines over the box with all values at all points, or
@@ -219,7 +236,7 @@ fn judge_body<R: Threads + Sync>(
 }
 
 /// The box with these values at so many points.
-fn all_alike(alloc: Global, values: Mask, points: u32) -> Result<Vec<Mask>, AllocError>
+pub fn all_alike(alloc: Global, values: Mask, points: u32) -> Result<Vec<Mask>, AllocError>
     ensures { IfOk result (λ sets. sets.items ≡ replicate points values) }
 {
     let sets = vec![in alloc; values; points as usize]?;
@@ -250,8 +267,9 @@ fn judge_within<R: Threads + Sync>(
     }
 }
 
-/// Judges a map: its length, and then the executions. The least violated one is answered.
-fn judge_map<R: Threads + Sync>(
+/// Judges a map: its length, and then the executions, which are looked at in several threads. The
+/// least violated execution is answered.
+pub fn judge_map<R: Threads + Sync>(
     rt: &R,
     task: &Task,
     protocol: &Protocol,

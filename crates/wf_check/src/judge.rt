@@ -1,6 +1,6 @@
 //! The lines of a refutation, or of the way to a least map, one by one.
 
-ghost use Rattle.std.specs.Prelude.{ℕ, ◌≡◌, ◌+◌, ◌<◌, ◌∷◌, [], List, IfSome, true, get_or, length, map};
+ghost use Rattle.std.specs.Prelude.{ℕ, suc, ◌≡◌, ◌+◌, ◌<◌, ◌∷◌, [], List, IfSome, OnOk, true, get_or, length, map};
 ghost use Rattle.wf_model.specs.Simplex.{processes_of};
 ghost use Rattle.wf_model.specs.Task.{inputs};
 ghost use Rattle.wf_model.specs.Problem.{Problem};
@@ -10,15 +10,18 @@ ghost use Rattle.wf_model.specs.Refutation.{branch, empty, remove};
 ghost use Rattle.wf_lines.specs.Lines.{line_of};
 ghost use Rattle.wf_set.specs.Sets.{box_of};
 ghost use Rattle.wf_check.specs.Blocks.{HasSamePoints, box_now, boxes_later, boxes_left};
-ghost use Rattle.wf_check.specs.Claims.{Ends, Judged, is_branch_of, lines_fault, verdict_on};
+ghost use Rattle.wf_check.specs.Claims.{Ends, Judged, is_branch_of, verdict_on};
+ghost use Rattle.wf_check.specs.Left.{Takes, boxes, claimed, fault_of, lines_fault};
 ghost use Rattle.wf_check.specs.Places.{place_in};
 ghost use Rattle.wf_check.specs.Rules.{AreMatched, IsInside, problem_in, verdict_at};
 ghost use Rattle.wf_check.specs.Faults.{Judges, Steps};
 
 use crate::boxes::Blocks;
+use crate::checking::ReportChecker;
 use crate::support::is_supported;
 use crate::tuples::TupleSupport;
 use std::alloc::Global;
+use std::marker::Model;
 use wf_complex::Protocol;
 use wf_lines::Line;
 use wf_report::CertFault;
@@ -27,7 +30,7 @@ use wf_task::Task;
 
 /// What lines are to show.
 #[derive(Clone, Copy, Debug)]
-pub(crate) enum Goal<'a> {
+pub enum Goal<'a> {
     /// That there is no map.
     Nothing,
     /// That this is the least map.
@@ -36,15 +39,15 @@ pub(crate) enum Goal<'a> {
 
 /// What lines are judged by.
 #[derive(Clone, Copy)]
-pub(crate) struct LineRules<'a, 'b> {
+pub struct LineRules<'a, 'b> {
     /// The task.
-    pub(crate) task: &'a Task,
+    pub task: &'a Task,
     /// Its protocol complex.
-    pub(crate) protocol: &'a Protocol,
-    /// The tuples of each rule of the task.
-    pub(crate) supports: &'b [TupleSupport],
+    pub protocol: &'a Protocol,
+    /// What was made of the task once.
+    pub checker: &'b ReportChecker,
     /// What the lines are to show.
-    pub(crate) claim: Goal<'a>,
+    pub claim: Goal<'a>,
 }
 
 /// Where a process takes part in an execution.
@@ -69,6 +72,77 @@ enum JudgedSoFar {
     Found,
 }
 
+/// Judges lines one by one, and keeps none of them.
+///
+/// A clause sees it as what the lines that follow still have to show.
+#[derive(Drop)]
+pub struct LineChecker {
+    blocks: Blocks,
+    progress: JudgedSoFar,
+    // the number of the next line
+    at: u32,
+}
+
+impl Model for LineChecker {
+    ghost use Rattle.std.specs.Prelude.{length};
+    ghost use Rattle.wf_check.specs.Left.{LinesLeft, left_of};
+
+    ghost Value = { LinesLeft };
+
+    ghost view = { λ c. record {
+      line = c.at;
+      points = length c.blocks.sets.items;
+      left = left_of c.progress c.blocks;
+    } };
+}
+
+impl LineChecker {
+    /// No line was taken, and the box with these values at each point is to be refuted, or searched
+    /// up to a map. The first line has this number.
+    pub fn of(alloc: Global, sets: Vec<Mask>, first: u32) -> LineChecker
+        ensures { result ≡ record {
+          line = first;
+          points = length sets.items;
+          left = boxes (box_of sets.items ∷ []);
+        } }
+    {
+        LineChecker {
+            blocks: Blocks::of(alloc, sets),
+            progress: JudgedSoFar::Going,
+            at: first,
+        }
+    }
+
+    /// Takes the next line. A fault is that of all lines, whatever follows this one. Behind a fault
+    /// nothing is said of what is left.
+    pub fn take(&mut self, rules: &LineRules, line: Line) -> Result<(), CertFault>
+        requires rules { AreMatched rules.now }
+        requires long { self.old.points ≡ length rules.now.protocol.now.points }
+        requires few { self.old.line < u32.MAX }
+        ensures judged { Takes (problem_in rules.now) (claimed rules.now.claim) (line_of line)
+            self.old self.new result }
+        ensures next { OnOk result (self.new.line ≡ suc self.old.line) }
+        ensures points { self.new.points ≡ self.old.points }
+    {
+        let JudgedSoFar::Going = self.progress else {
+            return Err(CertFault::Trailing(self.at));
+        };
+        self.progress = judge_line(rules, line, self.at, &mut self.blocks)?;
+        self.at += 1;
+        Ok(())
+    }
+
+    /// Judges what is left if no line follows.
+    pub fn finish(&self, claim: Goal) -> Result<(), CertFault>
+        ensures { (p : Problem) → Judges result (fault_of p (claimed claim.entry) [] self.now) }
+    {
+        match (claim, self.progress) {
+            (_, JudgedSoFar::Found) | (Goal::Nothing, JudgedSoFar::Refuted) => Ok(()),
+            _ => Err(CertFault::Unfinished),
+        }
+    }
+}
+
 /// Judges the lines over the box with these values at each point, in order, from this line on. The
 /// first fault is answered.
 pub(crate) fn judge_lines(
@@ -85,36 +159,11 @@ pub(crate) fn judge_lines(
         (lines_fault (problem_in rules.now) rules.now.claim first
         (map line_of lines.now) (box ∷ [])) }
 {
-    let mut blocks = Blocks::of(alloc, sets);
-    judge_from(rules, first, lines, &mut blocks)
-}
-
-/// Judges the lines over the boxes of these blocks.
-fn judge_from(
-    rules: &LineRules,
-    first: u32,
-    lines: &[Line],
-    blocks: &mut Blocks,
-) -> Result<(), CertFault>
-    requires rules { AreMatched rules.now }
-    requires long { length blocks.old.sets.items ≡ length rules.now.protocol.now.points }
-    requires few { first + length lines.now < u32.MAX }
-    ensures { Judges result (lines_fault (problem_in rules.now) rules.now.claim first
-        (map line_of lines.now) (box_now blocks.old ∷ boxes_later blocks.old)) }
-{
-    let mut progress = JudgedSoFar::Going;
-    let mut at = first;
+    let mut checker = LineChecker::of(alloc, sets, first);
     for line in lines {
-        let JudgedSoFar::Going = progress else {
-            return Err(CertFault::Trailing(at));
-        };
-        progress = judge_line(rules, *line, at, blocks)?;
-        at += 1;
+        checker.take(rules, *line)?;
     }
-    match (rules.claim, progress) {
-        (_, JudgedSoFar::Found) | (Goal::Nothing, JudgedSoFar::Refuted) => Ok(()),
-        _ => Err(CertFault::Unfinished),
-    }
+    checker.finish(rules.claim)
 }
 
 /// Judges a line about the box of now. Answers how far the lines have come then.
@@ -261,7 +310,7 @@ fn participant_of<'a, 'b>(
     let Some(place) = place_of(rules.task, number, process) else {
         return None;
     };
-    let support = &rules.supports[number as usize];
+    let support = &rules.checker.supports()[number as usize];
     Some(LinePlace {
         support,
         points,

@@ -2,8 +2,8 @@
 pub mod Reports
 pub mod Faults
 pub mod Grammar
--- What only this crate's own code and proofs use.
 pub mod Reading
-pub mod Numbers
 pub mod Steps
+-- What only this crate's own code and proofs use.
+pub mod Numbers
 pub mod Writing

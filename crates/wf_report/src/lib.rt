@@ -6,6 +6,8 @@
 //! - [`CertFault`]: why a text is no report, or why a report is not accepted.
 //! - [`cut`] and [`number`]: what stands before a byte and behind it, and the number that a word
 //!   spells.
+//! - [`number_behind`], [`value_of`] and [`step_in`]: what one line says, in the header, in a map and
+//!   in each other [`Section`].
 //!
 //! The laws say that the text of a report is read as that report, and that
 //! what is read as a report is its text.
@@ -21,7 +23,7 @@ mod writing;
 pub use bytes::{cut, number};
 pub use fault::CertFault;
 pub use laws::{reports_are_read_as_written, reports_are_written_as_read};
-pub use reading::{FIRST_LINE, read_report};
+pub use reading::{FIRST_LINE, Section, number_behind, read_report, step_in, value_of};
 pub use report::{Body, Header, Report};
 pub use wf_task::LONGEST;
 pub use writing::write_report;

@@ -28,7 +28,7 @@ const LAST_PROCESS: u32 = 3;
 
 /// What a line stands in.
 #[derive(Clone, Copy, Debug)]
-enum Section {
+pub enum Section {
     /// The values of a map, which no step follows.
     Values,
     /// A refutation.
@@ -93,8 +93,9 @@ fn read_number<'a>(text: &'a [u8], at: u32, name: &[u8]) -> Result<(u32, &'a [u8
     Ok((number, rest))
 }
 
-/// The number of a line that is this word and a number.
-fn number_behind(line: &[u8], name: &[u8]) -> Option<u32>
+/// The number of a line that is this word and a number. Here and below a line is given without its
+/// line feed.
+pub fn number_behind(line: &[u8], name: &[u8]) -> Option<u32>
     requires { lacks 10 line.now ≡ true }
     ensures { result ≡ number_of_line name.now (line.now ++ 10 ∷ []) }
 {
@@ -223,7 +224,7 @@ fn put<T: Drop>(list: &mut Vec<T>, one: T) -> Result<(), AllocError>
 }
 
 /// The value of a line of a map.
-fn value_of(line: &[u8]) -> Option<u8>
+pub fn value_of(line: &[u8]) -> Option<u8>
     requires { lacks 10 line.now ≡ true }
     ensures { result ≡ value_of_line 2 (line.now ++ 10 ∷ []) }
 {
@@ -235,7 +236,7 @@ fn value_of(line: &[u8]) -> Option<u8>
 }
 
 /// The step of a line, if it may stand in this part of a report.
-fn step_in(part: Section, line: &[u8]) -> Option<Line>
+pub fn step_in(part: Section, line: &[u8]) -> Option<Line>
     requires { lacks 10 line.now ≡ true }
     ensures { option_map line_of result ≡ step_in part (line.now ++ 10 ∷ []) }
 {

@@ -2,7 +2,7 @@ use Rattle.std.proofs.Common.{◌∙◌, IfSome, length, suc, ap, sym, subst}
 use Rattle.std.proofs.lemmas.Result.{err_from_is_err_and}
 use Rattle.wf_model.specs.Check.{left}
 use Rattle.wf_check.specs.Blocks.{box_now, boxes_later, boxes_left}
-use Rattle.wf_check.specs.Claims.{lines_fault}
+use Rattle.wf_check.specs.Left.{lines_fault}
 use Rattle.wf_check.specs.Faults.{IsFault}
 use Rattle.wf_check.specs.Rules.{IsInside, problem_in}
 use Rattle.wf_check.proofs.ClaimLemmas.{branch_first, empty_first, fault_first, leaves_fault, left_first, line_seen, remove_first}
