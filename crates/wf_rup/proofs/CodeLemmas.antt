@@ -1,11 +1,6 @@
 -- Laws of literals and clauses under an assignment.
-use Rattle.std.proofs.Common.{◌≡◌, ℕ, ◌+◌, ◌/◌, ◌%◌, ◌<◌, zero, suc, true, false, List, [], ◌∷◌, ◌++◌, refl, sym, ◌∙◌, ap, arith, length, take, drop, get_or, inl, inr}
-use Rattle.std.specs.Prelude.{Bool, ◌==◌, not, if◌then◌else◌, ◌||◌}
-use Rattle.std.specs.List.{list_any}
-use Rattle.std.specs.Int.Bits.{bit_xor, xor_zero_r}
-use Rattle.std.proofs.lemmas.Nat.{xor_shr, xor_mod}
-use Rattle.std.proofs.lemmas.Grind.{common_steps}
-use Rattle.std.proofs.Math.Bool.{not-not}
+use Rattle.std.proofs.Common.{◌≡◌, ℕ, ◌+◌, ◌<◌, true, false, List, ◌++◌, refl, sym, ◌∙◌, ap, length, take, drop, get_or, inl, inr}
+use Rattle.std.specs.Prelude.{Bool, ◌||◌}
 use Rattle.std.proofs.lemmas.List.Sums.{AllPass-from_list_all}
 use Rattle.std.proofs.lemmas.Bool.{cases_Bool, false≢true}
 use Rattle.std.proofs.lemmas.List.{take-append-drop}
@@ -13,25 +8,6 @@ use Rattle.std.proofs.lemmas.List.Folds.{list_any-append, list_any_at, list_any_
 use Rattle.wf_rup.specs.Propagation.{Implies}
 use Rattle.wf_clauses.specs.Formula.{Assignment}
 use Rattle.wf_drat.specs.Codes.{holds_code, hold_codes, is_model_of_codes, satisfies_codes}
-
-flipped : (a : Assignment) (r q : ℕ) → r < 2 → (if bit_xor r 1 == 0 then a q else not (a q)) ≡ not (if r == 0 then a q else not (a q))
-flipped a zero q h = refl
-flipped a (suc zero) q h = sym (not-not (a q))
-flipped a (suc (suc r)) q h = absurd (omega arith)
-
--- of a literal and its negation one holds
-pub holds_code-negated : (a : Assignment) (l : ℕ) → holds_code a (bit_xor l 1) ≡ not (holds_code a l)
-unfolding holds_code
-holds_code-negated a l =
-    let same : bit_xor l 1 / 2 ≡ l / 2 = xor_shr l 1 1 ∙ xor_zero_r (l / 2) in
-    let other : bit_xor l 1 % 2 ≡ bit_xor (l % 2) 1 = xor_mod l 1 1 in
-    let small : l % 2 < 2 = omega arith in
-    rw (same, other) (flipped a (l % 2) (l / 2) small)
-
--- where all literals of a list hold, one of them does
-pub holds_code-of_all : (a : Assignment) (ls : List ℕ) (l : ℕ) → hold_codes a ls ≡ true → list_any (λ x. x == l) ls ≡ true → holds_code a l ≡ true
-holds_code-of_all a [] l all here = cc
-holds_code-of_all a (x ∷ xs) l all here = grind (arith, common_steps, holds_code-of_all a xs l)
 
 -- a model satisfies each clause
 pub satisfies_codes-at : (a : Assignment) (f : List (List ℕ)) (i : ℕ) (c : List ℕ) → is_model_of_codes a f ≡ true → i < length f → c ≡ get_or f i c → satisfies_codes a c ≡ true

@@ -7,12 +7,14 @@ use Rattle.std.proofs.lemmas.List.Elements.{All-contains}
 use Rattle.std.proofs.lemmas.List.Folds.{list_any_at}
 use Rattle.wf_clauses.specs.Formula.{Clause, Literal}
 use Rattle.wf_drat.specs.Codes.{code_of, code_of-literal_of, literal_of}
-use Rattle.wf_rup.specs.Deleted.{AreAlike, Deletes, DeletesStored, HasAlike, HasAlikeStored, HaveSameLiterals, IsStoredWithout, IsWithout, IsAmong}
-use Rattle.wf_rup.specs.Index.{IsAlikeAt, IsKeptAt, IsTaken}
+use Rattle.wf_clause_store.specs.Alike.{AreAlike, IsAmong}
+use Rattle.wf_rup.specs.Deleted.{Deletes, DeletesStored, HasAlike, HasAlikeStored, HaveSameLiterals, IsStoredWithout, IsWithout}
+use Rattle.wf_clause_store.specs.Index.{IsAlikeAt, IsKeptAt, IsTaken}
 use Rattle.wf_rup.specs.Seen.{Known, known_of}
-use Rattle.wf_rup.specs.Stored.{Stored, has, kept_of}
+use Rattle.wf_rup.specs.Stored.{Stored, kept_of}
+use Rattle.wf_clause_store.specs.Literals.{has}
 use Rattle.wf_rup.proofs.LiteralLemmas.{literal_of-code_of}
-use Rattle.wf_rup.proofs.TrailLemmas.{same_test}
+use Rattle.wf_clause_store.proofs.TrailLemmas.{same_test}
 use Rattle.wf_rup.proofs.UnitLemmas.{Contains-image, Contains-of_image, image-at}
 
 -- ---- one clause less

@@ -1,16 +1,10 @@
 pub mod CodeLemmas
 pub mod LiteralLemmas
-pub mod ClauseLemmas
-pub mod TrailLemmas
 pub mod KeptLemmas
 pub mod SettledLemmas
 pub mod UnitLemmas
 pub mod DeletedLemmas
 pub mod StoredLemmas
-pub mod IndexLemmas
-pub mod HashLemmas
-pub mod FirstsLemmas
-pub mod CatalogueLemmas
 pub mod RatLemmas
 pub mod ResolvingLemmas
 pub mod FedLemmas

@@ -12,17 +12,17 @@ use Rattle.std.proofs.lemmas.List.Folds.{list_any-append}
 use Rattle.std.proofs.lemmas.List.Sums.{AllPass-from_list_all, list_all-from_AllPass}
 use Rattle.wf_clauses.specs.Formula.{Assignment, Clause, Literal, negation}
 use Rattle.wf_drat.specs.Codes.{code_of, code_of-literal_of, holds_code, literal_of, satisfies_codes}
-use Rattle.wf_rup.specs.Propagation.{opposite}
+use Rattle.wf_clause_store.specs.Literals.{has, opposite}
 use Rattle.wf_rup.specs.Rat.{IsJustified, IsRat, IsRedundant, IsStoredRedundant, IsUnjustified, KeepsSatisfiable, KeepsStoredSatisfiable, RefusesBoth, RefusesRat, ResolvesOn, others_than, resolvent, resolvent_of, without}
 use Rattle.wf_rup.specs.Resolving.{StopsShort, StopsShortOfBoth, StopsShortOfRat}
 use Rattle.wf_rup.specs.Seen.{HasNoModel, IsModelOf, KeepsModels, Known, known_of}
 use Rattle.wf_rup.specs.Settled.{Refuses}
-use Rattle.wf_rup.specs.Stored.{IsModelOfStored, KeepsStoredModelsOf, Stored, has, kept_of}
+use Rattle.wf_rup.specs.Stored.{IsModelOfStored, KeepsStoredModelsOf, Stored, kept_of}
 use Rattle.wf_rup.specs.Unit.{DoesNotFollow, FollowsByPropagation}
 use Rattle.wf_rup.proofs.DeletedLemmas.{has-contained}
 use Rattle.wf_rup.proofs.LiteralLemmas.{literal_of-code_of, model_of_known, model_of_stored, satisfies-codes}
 use Rattle.wf_rup.proofs.SettledLemmas.{any-at}
-use Rattle.wf_rup.proofs.TrailLemmas.{All-has_front, other_test, same_test}
+use Rattle.wf_clause_store.proofs.TrailLemmas.{All-has_front, other_test, same_test}
 use Rattle.wf_rup.proofs.UnitLemmas.{Contains-image, Contains-map, any-found, apart-not, code_of-negation, does-not-follow}
 
 -- ---- an assignment under which a literal holds

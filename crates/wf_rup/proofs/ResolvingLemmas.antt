@@ -3,15 +3,16 @@ use Rattle.std.proofs.Common.{◌≡◌, ℕ, ◌+◌, ◌<◌, ◌≤◌, true,
 use Rattle.std.specs.List.{Contains}
 use Rattle.std.proofs.lemmas.Bool.{cases_lt}
 use Rattle.std.proofs.lemmas.List.{get_or_default}
-use Rattle.wf_rup.specs.Propagation.{Implies, opposite}
+use Rattle.wf_rup.specs.Propagation.{Implies}
+use Rattle.wf_clause_store.specs.Literals.{has, opposite}
 use Rattle.wf_rup.specs.Rat.{ResolvesOn, resolvent_of}
 use Rattle.wf_rup.specs.Resolving.{StopsShort, StopsShortOfRat, StopsShortOfResolvent}
-use Rattle.wf_rup.specs.Stored.{has, kept_of}
+use Rattle.wf_rup.specs.Stored.{kept_of}
 use Rattle.wf_rup.proofs.DeletedLemmas.{placed}
 use Rattle.wf_rup.proofs.KeptLemmas.{Contains-kept}
 use Rattle.wf_rup.proofs.StoredLemmas.{some-literal}
 
--- with each clause before this number that has the literal the lemma has a resolvent that is implied
+-- with each clause before this number that has the literal, the lemma has an implied resolvent
 abbrev pub AreResolvedBefore : List (List ℕ) → List ℕ → List ℕ → ℕ → ℕ → Type 0
 AreResolvedBefore f trail lemma negation number =
     (k : ℕ) → k < number → has (get_or f k []) negation ≡ true → Implies (kept_of f) trail (resolvent_of lemma negation (get_or f k []))

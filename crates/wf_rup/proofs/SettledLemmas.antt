@@ -3,13 +3,13 @@ use Rattle.std.proofs.Common.{◌≡◌, ℕ, ◌+◌, ◌<◌, ◌≤◌, zero,
 use Rattle.std.specs.List.{All, Contains, list_any}
 use Rattle.std.proofs.lemmas.Bool.{false≢true}
 use Rattle.std.proofs.lemmas.Grind.{common_steps, take_at_read}
-use Rattle.wf_rup.specs.Propagation.{is_satisfied_by, opposite, with_literal}
+use Rattle.wf_rup.specs.Propagation.{is_satisfied_by}
+use Rattle.wf_clause_store.specs.Literals.{has, opposite, with_literal}
 use Rattle.wf_rup.specs.Settled.{IsFalseOn, Stands, StandsOneOf, Stops, StopsBefore}
 use Rattle.wf_rup.specs.declared.settled.Standing.{Standing}
 use Rattle.std.proofs.lemmas.List.Elements.{All-push}
 use Rattle.wf_rup.specs.declared.settled.Standing.TheVariants.{Settled, Forces, Fails}
-use Rattle.wf_rup.specs.Stored.{has}
-use Rattle.wf_rup.proofs.TrailLemmas.{has-front, has-with, has-with_same}
+use Rattle.wf_clause_store.proofs.TrailLemmas.{has-front, has-with, has-with_same}
 
 abbrev pub open_one : Bool → ℕ
 open_one true = 0

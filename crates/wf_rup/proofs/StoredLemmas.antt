@@ -9,12 +9,12 @@ use Rattle.std.proofs.lemmas.List.Folds.{list_any_at}
 use Rattle.wf_clauses.specs.Formula.{Assignment, Clause, Literal, SatisfiesAll, holds, satisfies}
 use Rattle.wf_drat.specs.Codes.{code_of, literal_of}
 use Rattle.wf_rup.specs.Kept.{AddsAtMost, IsKept, IsStored, KnowsStill, StoresAtMost, StoresStill}
-use Rattle.wf_rup.specs.Propagation.{with_literal}
+use Rattle.wf_clause_store.specs.Literals.{has, with_literal}
 use Rattle.wf_rup.specs.Seen.{IsModelOf, Known, known_of}
-use Rattle.wf_rup.specs.Stored.{Stored, has, kept_of}
+use Rattle.wf_rup.specs.Stored.{Stored, kept_of}
 use Rattle.wf_rup.proofs.DeletedLemmas.{back-again}
 use Rattle.wf_rup.proofs.KeptLemmas.{kept_of-pushed}
-use Rattle.wf_rup.proofs.TrailLemmas.{has-front, has-with_same}
+use Rattle.wf_clause_store.proofs.TrailLemmas.{has-front, has-with_same}
 use Rattle.wf_rup.proofs.UnitLemmas.{Contains-image, Contains-map}
 
 -- a literal that was put on a trail is on all that extend it

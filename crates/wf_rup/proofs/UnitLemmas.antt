@@ -9,31 +9,17 @@ use Rattle.std.proofs.lemmas.Grind.{common_steps}
 use Rattle.std.proofs.lemmas.List.Elements.{All-contains, Contains-append_cases}
 use Rattle.wf_clauses.specs.Formula.{Clause, Literal, negation, pos, neg}
 use Rattle.wf_drat.specs.Codes.{code_of, code_of-literal_of, literal_of}
-use Rattle.wf_rup.specs.Propagation.{opposite}
+use Rattle.wf_clause_store.specs.Literals.{has, opposite}
 use Rattle.wf_rup.specs.Seen.{Known, known_of}
 use Rattle.wf_rup.specs.Settled.{IsConsistent, IsSettled, Refuses}
-use Rattle.wf_rup.specs.Stored.{Stored, has}
+use Rattle.wf_rup.specs.Stored.{Stored}
+use Rattle.wf_clause_store.proofs.TrailLemmas.{All-has, has-behind, has-first}
 use Rattle.wf_rup.specs.Unit.{DoesNotFollow, HasConflict, IsForcedBy, given, last}
 
 -- ---- lists
 
-pub has-behind : (x y : ℕ) (ys : List ℕ) → (y ≡ x → ⊥) → has (y ∷ ys) x ≡ true → has ys x ≡ true
-has-behind x y ys other h = grind (arith, common_steps, h, other)
-
-pub All-has : (P : ℕ → Type 0) (xs : List ℕ) (x : ℕ) → All P xs → has xs x ≡ true → P x
-All-has P [] x all h = absurd (false≢true h)
-All-has P (y ∷ ys) x all h = elim (cases_eq y x) [
-  | inl same ↦ let first : 0 < length (y ∷ ys) = omega arith in subst P same (all 0 0 first)
-  | inr other ↦
-      let rest : All P ys = λ k d here. let deeper : suc k < length (y ∷ ys) = omega arith in all (suc k) d deeper in
-      All-has P ys x rest (has-behind x y ys other h)
-]
-
 found-first : (q : ℕ → Bool) (y : ℕ) (ys : List ℕ) → q y ≡ false → list_any q (y ∷ ys) ≡ true → list_any q ys ≡ true
 found-first q y ys none h = grind (arith, common_steps, h, none)
-
-pub has-first : (y : ℕ) (ys : List ℕ) → has (y ∷ ys) y ≡ true
-has-first y ys = grind (arith, common_steps)
 
 has-later : (x y : ℕ) (ys : List ℕ) → has ys x ≡ true → has (y ∷ ys) x ≡ true
 has-later x y ys h = grind (arith, common_steps, h)

@@ -1,8 +1,9 @@
 -- Which clause a deletion takes.
-use Rattle.std.specs.Prelude.{◌≡◌, ◌⊎◌, ◌++◌, ◌∷◌, ℕ, true, List, All, Contains}
+use Rattle.std.specs.Prelude.{◌≡◌, ◌⊎◌, ◌++◌, ◌∷◌, ℕ, List, All, Contains}
 use Rattle.wf_clauses.specs.Formula.{Clause}
 use Rattle.wf_rup.specs.Seen.{Known}
-use Rattle.wf_rup.specs.Stored.{Stored, has}
+use Rattle.wf_rup.specs.Stored.{Stored}
+use Rattle.wf_clause_store.specs.Alike.{AreAlike}
 
 -- each clause has the literals of the other
 abbrev pub HaveSameLiterals : Clause → Clause → Type 0
@@ -31,18 +32,6 @@ abbrev pub Deletes : Clause → Known → Known → Type 0
 Deletes clause old new = (new ≡ old) ⊎ IsWithout clause old new
 
 -- ---- the same of codes
-
--- the list has each of these
-abbrev pub IsAmong : List ℕ → List ℕ → Type 0
-IsAmong codes others = All (λ l. has codes l ≡ true) others
-
--- the literals that were seen are those of the clause
-abbrev pub IsSeenOf : List ℕ → List ℕ → Type 0
-IsSeenOf clause seen = (l : ℕ) → has seen l ≡ has clause l
-
--- each clause has the literals of the other
-abbrev pub AreAlike : List ℕ → List ℕ → Type 0
-AreAlike clause other = IsAmong clause other × IsAmong other clause
 
 -- a clause that is stored has these literals
 pub record HasAlikeStored (clause : List ℕ) (stored : Stored) : Type 0 where

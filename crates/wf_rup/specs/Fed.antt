@@ -22,8 +22,8 @@ most_new_variables = 2 ^ 22
 abbrev pub proof_start : ℕ → State
 proof_start variables = at_start (variables + most_new_variables)
 
--- each model of what was known can be changed into one of the lemma too; the lemma is known from now
--- on beside what was known, and no clause else
+-- each model of what was known can be changed into one of the lemma too; from now on the lemma is
+-- known beside what was known, and no clause else
 pub record Learns (clause : Clause) (old new : Known) : Type 0 where
   pub redundant : IsRedundant old clause
   pub kept : IsKept clause new
@@ -73,7 +73,7 @@ pub record IsBroken (text : Text) (line : ℕ) (flaw : Flaw) (old new : Known) :
   pub all : TakesAll text old new
   pub end : text.end ≡ broken_in line flaw
 
--- the first steps are taken, and the next one is a lemma that ends in this line and may not be added
+-- the first steps are taken; the next one is a lemma that ends in this line and may not be added
 pub record IsRefusedIn (text : Text) (line : ℕ) (old new : Known) : Type 0 where
   pub clause : Clause
   pub left : List Step

@@ -2,7 +2,8 @@
 use Rattle.std.specs.Prelude.{◌≡◌, ◌⊎◌, ◌++◌, ℕ, true, List, [], ◌∷◌, Contains, length, take}
 use Rattle.wf_clauses.specs.Formula.{Clause, Literal}
 use Rattle.wf_rup.specs.Seen.{Known}
-use Rattle.wf_rup.specs.Stored.{Stored, has}
+use Rattle.wf_rup.specs.Stored.{Stored}
+use Rattle.wf_clause_store.specs.Literals.{has}
 
 -- the clause is known, or one of its literals is, or all is refuted
 abbrev pub IsKept : Clause → Known → Type 0

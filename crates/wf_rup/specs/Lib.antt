@@ -10,8 +10,6 @@ pub mod Unit
 pub mod Rat
 pub mod Resolving
 pub mod Deleted
-pub mod Index
-pub mod Firsts
 pub mod Fed
 pub mod Kept
 pub mod Posed

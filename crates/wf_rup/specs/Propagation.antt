@@ -1,23 +1,11 @@
 -- What unit propagation may find out from clauses and the literals that are true.
-use Rattle.std.specs.Prelude.{◌≡◌, ℕ, Bool, true, false, not, List, [], ◌∷◌, ◌++◌, if◌then◌else◌, length, take, bit_xor}
+use Rattle.std.specs.Prelude.{◌≡◌, ℕ, Bool, true, false, List, length, take}
 use Rattle.std.specs.List.{list_any}
-use Rattle.wf_rup.specs.Stored.{has}
+use Rattle.wf_clause_store.specs.Literals.{has, opposite}
 use Rattle.wf_clauses.specs.Formula.{Assignment}
 use Rattle.wf_drat.specs.Codes.{hold_codes, holds_code, is_model_of_codes, satisfies_codes}
 use Rattle.wf_rup.specs.declared.propagation.WatchOutcome.{WatchOutcome}
 use Rattle.wf_rup.specs.declared.propagation.WatchOutcome.TheVariants.{Gone, Stays, Forces, Fails}
-
--- one of the two literals holds, and never both
-abbrev pub IsNegationOf : ℕ → ℕ → Type 0
-IsNegationOf literal other = (a : Assignment) → holds_code a other ≡ not (holds_code a literal)
-
--- the code of a literal's negation
-abbrev pub opposite : ℕ → ℕ
-opposite literal = bit_xor literal 1
-
--- the list, and the literal where it isn't there yet
-abbrev pub with_literal : List ℕ → ℕ → List ℕ
-with_literal literals l = if has literals l then literals else literals ++ l ∷ []
 
 -- a literal of the clause is true
 abbrev pub is_satisfied_by : List ℕ → List ℕ → Bool
@@ -28,14 +16,6 @@ pub record IsOpen (trail clause : List ℕ) (literal : ℕ) : Type 0 where
   pub inside : has clause literal ≡ true
   pub unfalsified : has trail (opposite literal) ≡ false
 
--- where the literals of the trail hold, this one does
-abbrev pub MakesTrue : List ℕ → ℕ → Type 0
-MakesTrue trail literal = (a : Assignment) → hold_codes a trail ≡ true → holds_code a literal ≡ true
-
--- where the literals of the trail hold, this one doesn't
-abbrev pub MakesFalse : List ℕ → ℕ → Type 0
-MakesFalse trail literal = (a : Assignment) → hold_codes a trail ≡ true → holds_code a literal ≡ false
-
 -- where the literals of the trail hold, the clause isn't satisfied
 abbrev pub MakesEachFalse : List ℕ → List ℕ → Type 0
 MakesEachFalse trail clause = (a : Assignment) → hold_codes a trail ≡ true → satisfies_codes a clause ≡ false
@@ -44,10 +24,6 @@ MakesEachFalse trail clause = (a : Assignment) → hold_codes a trail ≡ true �
 abbrev pub LeavesAlone : List ℕ → List ℕ → ℕ → Type 0
 LeavesAlone trail clause literal =
     (a : Assignment) → hold_codes a trail ≡ true → satisfies_codes a clause ≡ true → holds_code a literal ≡ true
-
--- where the old literals and this one hold, the new ones do
-abbrev pub AddsLiteral : ℕ → List ℕ → List ℕ → Type 0
-AddsLiteral literal old new = (a : Assignment) → hold_codes a old ≡ true → holds_code a literal ≡ true → hold_codes a new ≡ true
 
 -- a model of the old clauses that satisfies this one is a model of the new ones
 abbrev pub AddsClause : List ℕ → List (List ℕ) → List (List ℕ) → Type 0

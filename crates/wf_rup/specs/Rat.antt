@@ -3,10 +3,11 @@
 use Rattle.std.specs.Prelude.{◌≡◌, ◌⊎◌, ◌++◌, ◌==◌, ℕ, true, false, not, List, [], ◌∷◌, Contains, filter}
 use Rattle.wf_clauses.specs.Formula.{Assignment, Clause, Literal, negation, satisfies}
 use Rattle.wf_drat.specs.Codes.{code_of, satisfies_codes}
-use Rattle.wf_rup.specs.Propagation.{Implies, opposite}
+use Rattle.wf_rup.specs.Propagation.{Implies}
+use Rattle.wf_clause_store.specs.Literals.{has, opposite}
 use Rattle.wf_rup.specs.Seen.{IsModelOf, Known}
 use Rattle.wf_rup.specs.Settled.{Refuses}
-use Rattle.wf_rup.specs.Stored.{IsModelOfStored, Stored, has}
+use Rattle.wf_rup.specs.Stored.{IsModelOfStored, Stored}
 use Rattle.wf_rup.specs.Unit.{DoesNotFollow, FollowsByPropagation}
 
 -- each model of what is known can be changed into one that satisfies the clause too
@@ -80,7 +81,7 @@ pub record RefusesResolvent (stored : Stored) (lemma : List ℕ) (pivot : ℕ) :
   pub inside : has clause (opposite pivot) ≡ true
   pub refuses : Refuses stored (resolvent_of lemma (opposite pivot) clause)
 
--- the lemma has no first literal, or the negation of that literal is true, or a resolvent is refused
+-- the lemma has no first literal, or that literal is false, or a resolvent is refused
 abbrev pub RefusesRat : Stored → List ℕ → Type 0
 RefusesRat stored [] = Unit {0}
 RefusesRat stored (pivot ∷ others) =

@@ -1,9 +1,8 @@
 -- Where unit propagation from some literals and a negated clause stops before a conflict.
 use Rattle.std.specs.Prelude.{◌≡◌, ◌⊎◌, ℕ, true, List, [], ◌∷◌, Contains, length, take}
-use Rattle.wf_rup.specs.Propagation.{opposite}
+use Rattle.wf_clause_store.specs.Literals.{has, opposite}
 use Rattle.wf_rup.specs.Rat.{resolvent_of}
 use Rattle.wf_rup.specs.Settled.{StopsBefore}
-use Rattle.wf_rup.specs.Stored.{has}
 
 -- the literals, the negated clause and what they force are in no conflict
 pub record StopsShort (clauses : List (List ℕ)) (trail clause : List ℕ) : Type 0 where

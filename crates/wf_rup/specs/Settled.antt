@@ -2,8 +2,9 @@
 use Rattle.std.specs.Prelude.{◌≡◌, ◌==◌, ◌⊎◌, ℕ, true, false, List, All, Contains}
 use Rattle.wf_clauses.specs.Formula.{Assignment}
 use Rattle.wf_drat.specs.Codes.{hold_codes}
-use Rattle.wf_rup.specs.Propagation.{IsOpen, LeavesAlone, MakesEachFalse, is_satisfied_by, opposite}
-use Rattle.wf_rup.specs.Stored.{Stored, has}
+use Rattle.wf_rup.specs.Propagation.{IsOpen, LeavesAlone, MakesEachFalse, is_satisfied_by}
+use Rattle.wf_clause_store.specs.Literals.{has, opposite}
+use Rattle.wf_rup.specs.Stored.{Stored}
 use Rattle.wf_rup.specs.declared.settled.Standing.{Standing}
 use Rattle.wf_rup.specs.declared.settled.Standing.TheVariants.{Settled, Forces, Fails}
 

@@ -5,16 +5,16 @@ ghost use Rattle.wf_rup.specs.Deleted.{DeletesStored, HasAlikeStored, IsStoredWi
 ghost use Rattle.wf_rup.specs.Kept.{IsStored, StoresAtMost, StoresStill};
 ghost use Rattle.wf_rup.specs.Propagation.{AddsClause};
 ghost use Rattle.wf_rup.specs.Rat.{IsStoredRedundant, KeepsStoredSatisfiable, RefusesBoth};
-ghost use Rattle.wf_rup.specs.Stored.{HasNoStoredModel, KeepsStoredModels, KeepsStoredModelsOf, KeepsStoredModelsWith, StoresNothing, has, kept_of};
+ghost use Rattle.wf_rup.specs.Stored.{HasNoStoredModel, KeepsStoredModels, KeepsStoredModelsOf, KeepsStoredModelsWith, StoresNothing, kept_of};
+ghost use Rattle.wf_clause_store.specs.Literals.{has};
 
-use crate::catalogue::Catalogue;
 use crate::propagation::propagate;
 use crate::rat::is_justified;
 use crate::scan::{open_literal, other_open_literal};
-use crate::trail::Trail;
 use crate::watches::{Watcher, Watches};
 use std::alloc::{AllocError, Global};
 use std::marker::Model;
+use wf_clause_store::{Catalogue, Trail};
 use wf_drat::Code;
 
 /// so many clauses that are no longer kept are borne with

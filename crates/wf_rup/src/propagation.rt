@@ -4,11 +4,10 @@ ghost use Rattle.std.specs.Prelude.{◌≡◌, ◌≤◌, IfOk, IsTrue, vec_len}
 ghost use Rattle.wf_rup.specs.Propagation.{Conflicts, Extends, IsSound};
 ghost use Rattle.wf_rup.specs.Stored.{kept_of};
 
-use crate::catalogue::Catalogue;
 use crate::scan::other_open_literal;
-use crate::trail::{Trail, negated};
 use crate::watches::{Watcher, Watches};
 use std::alloc::{AllocError, Global};
+use wf_clause_store::{Catalogue, Trail, negated};
 use wf_drat::Code;
 
 /// What became of a clause that watches a literal which is false.

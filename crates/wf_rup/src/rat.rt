@@ -11,15 +11,15 @@ ghost use Rattle.wf_rup.specs.Propagation.{Implies};
 ghost use Rattle.wf_rup.specs.Rat.{IsJustified, ResolvesOn, resolvent_of};
 ghost use Rattle.wf_rup.specs.Resolving.{StopsShort, StopsShortOfBoth, StopsShortOfRat};
 ghost use Rattle.wf_rup.specs.Settled.{StopsBefore};
-ghost use Rattle.wf_rup.specs.Stored.{has, kept_of};
+ghost use Rattle.wf_clause_store.specs.Literals.{has};
+ghost use Rattle.wf_rup.specs.Stored.{kept_of};
 ghost use Rattle.wf_rup.specs.declared.rat.Effort.TheVariants.{Whole};
 
-use crate::catalogue::Catalogue;
 use crate::propagation::propagate;
 use crate::settled::settle;
-use crate::trail::{Trail, negated};
 use crate::watches::Watches;
 use std::alloc::{AllocError, Global};
+use wf_clause_store::{Catalogue, Trail, negated};
 use wf_drat::Code;
 
 /// How much is done to find a conflict.
@@ -33,13 +33,13 @@ pub(crate) enum Effort {
 
 /// A clause of which it is asked whether it follows, and with how much effort.
 #[derive(Clone, Copy)]
-struct Candidate<'a> {
+struct AskedClause<'a> {
     clause: &'a [Code],
     effort: Effort,
 }
 
-/// Whether the lemma follows from the clauses and the literals that are true, or is RAT on its first
-/// literal. Before that is denied, each clause is looked at.
+/// Whether the lemma follows from the clauses and the literals that are true, or is RAT on its
+/// first literal. Before that is denied, each clause is looked at.
 pub(crate) fn is_justified(
     alloc: Global,
     lemma: &[Code],
@@ -54,14 +54,14 @@ pub(crate) fn is_justified(
     ensures refused { IfOk result (λ yes. yes ≡ false
         → StopsShortOfBoth (kept_of clauses.old) trail.old lemma.now) }
 {
-    let watched = Candidate {
+    let watched = AskedClause {
         clause: lemma,
         effort: Effort::Watched,
     };
     if is_justified_with(alloc, &watched, clauses, trail, watches)? {
         return Ok(true);
     }
-    let whole = Candidate {
+    let whole = AskedClause {
         clause: lemma,
         effort: Effort::Whole,
     };
@@ -71,7 +71,7 @@ pub(crate) fn is_justified(
 /// Whether the lemma follows or is RAT on its first literal, as far as this effort shows it.
 fn is_justified_with(
     alloc: Global,
-    lemma: &Candidate,
+    lemma: &AskedClause,
     clauses: &mut Catalogue,
     trail: &mut Trail,
     watches: &mut Watches,
@@ -92,7 +92,7 @@ fn is_justified_with(
 /// Whether the lemma is RAT on its first literal, as far as this effort shows it.
 fn is_rat(
     alloc: Global,
-    lemma: &Candidate,
+    lemma: &AskedClause,
     clauses: &mut Catalogue,
     trail: &mut Trail,
     watches: &mut Watches,
@@ -118,7 +118,7 @@ fn is_rat(
             continue;
         }
         put_resolvent(&mut resolvent, lemma.clause, negation, clause)?;
-        let candidate = Candidate {
+        let candidate = AskedClause {
             clause: &resolvent,
             effort: lemma.effort,
         };
@@ -159,7 +159,7 @@ fn put_resolvent(
 /// Whether the clause follows by unit propagation, as far as this effort shows it.
 fn follows(
     alloc: Global,
-    candidate: &Candidate,
+    candidate: &AskedClause,
     clauses: &mut Catalogue,
     trail: &mut Trail,
     watches: &mut Watches,
@@ -180,7 +180,7 @@ fn follows(
 /// Assumes that the clause is false and propagates; whether that leads to a conflict.
 fn assume(
     alloc: Global,
-    candidate: &Candidate,
+    candidate: &AskedClause,
     clauses: &mut Catalogue,
     trail: &mut Trail,
     watches: &mut Watches,

@@ -3,7 +3,7 @@
 ghost use Rattle.std.specs.Prelude.{◌≡◌, ◌==◌, false, IfNone, IfSome};
 ghost use Rattle.wf_rup.specs.Propagation.{IsOpen, LeavesAlone, MakesEachFalse, is_satisfied_by};
 
-use crate::trail::Trail;
+use wf_clause_store::Trail;
 use wf_drat::Code;
 
 /// Whether a literal of the clause is true.

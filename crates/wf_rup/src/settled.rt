@@ -8,10 +8,9 @@ ghost use Rattle.wf_rup.specs.Propagation.{Conflicts, Extends};
 ghost use Rattle.wf_rup.specs.Settled.{HoldsNever, IsConsistent, Stands, StandsOneOf, Stops};
 ghost use Rattle.wf_rup.specs.Stored.{kept_of};
 
-use crate::catalogue::Catalogue;
 use crate::scan::{is_satisfied, open_literal, other_open_literal};
-use crate::trail::Trail;
 use std::alloc::AllocError;
+use wf_clause_store::{Catalogue, Trail};
 use wf_drat::Code;
 
 /// What a clause comes to, given the literals that are true.

@@ -2,7 +2,7 @@ use Rattle.std.proofs.Common.{◌≡◌, ◌∙◌, ap, subst, false, take}
 use Rattle.std.specs.Prelude.{IfOk, not}
 use Rattle.std.proofs.lemmas.List.{take_all}
 use Rattle.std.proofs.lemmas.Result.{IfOk-weaker}
-use Rattle.wf_rup.specs.Propagation.{with_literal}
+use Rattle.wf_clause_store.specs.Literals.{with_literal}
 use Rattle.wf_rup.specs.Settled.{IsFalseOn, Stops}
 use Rattle.wf_rup.specs.Stored.{kept_of}
 use Rattle.wf_rup.proofs.CodeLemmas.{Implies-at, satisfies_codes-neither}

@@ -1,8 +1,7 @@
 use Rattle.std.proofs.Common.{◌≡◌, ◌+◌, ◌∙◌, sym, subst, false, take}
 use Rattle.std.proofs.lemmas.List.{take_all}
-use Rattle.wf_rup.specs.Propagation.{opposite}
+use Rattle.wf_clause_store.specs.Literals.{has, opposite}
 use Rattle.wf_rup.specs.Settled.{IsConsistentAt}
-use Rattle.wf_rup.specs.Stored.{has}
 use Rattle.wf_rup.proofs.SettledLemmas.{All-one_more}
 use Rattle.wf_rup.proofs.settled.is_contradictory.Goals as goal
 

@@ -1,6 +1,6 @@
 use Rattle.std.proofs.Common.{sym, subst, ap, ◌∙◌, inr}
 use Rattle.wf_drat.specs.Codes.{is_model_of_codes}
-use Rattle.wf_rup.specs.Index.{IsTaken}
+use Rattle.wf_clause_store.specs.Index.{IsTaken}
 use Rattle.wf_rup.specs.Stored.{IsModelOfStored, kept_of}
 use Rattle.wf_rup.proofs.DeletedLemmas.{deletes-taken, none-stored}
 use Rattle.wf_rup.proofs.KeptLemmas.{model-less}

@@ -1,0 +1,70 @@
+-- Laws of the numbers that no clause with a literal is below.
+use Rattle.std.proofs.Common.{◌≡◌, ℕ, ◌+◌, ◌<◌, ◌≤◌, suc, Bool, true, false, List, [], ◌∷◌, ◌++◌, sym, ◌∙◌, ap, subst, arith, length, length-set, get_or, set, take, inl, inr, get_or-set_other, get_or-set_same}
+use Rattle.std.specs.Prelude.{◌==◌, ◌||◌, if◌then◌else◌}
+use Rattle.std.proofs.lemmas.Bool.{cases_Bool, cases_eq, cases_lt, false≢true}
+use Rattle.std.proofs.lemmas.List.{get_or_append_left, get_or_past, get_or_push, length_push}
+use Rattle.std.proofs.lemmas.Grind.{take_at_read}
+use Rattle.wf_clause_store.specs.Firsts.{AreFirsts, IsLowered}
+use Rattle.wf_clause_store.specs.Literals.{has}
+use Rattle.wf_clause_store.proofs.TrailLemmas.{has-push, other_test}
+
+-- each literal of the clause has a number up to this one
+abbrev pub AreNoted : List ℕ → List ℕ → ℕ → Type 0
+AreNoted firsts clause number = (l : ℕ) → has clause l ≡ true → get_or firsts l (suc number) ≤ number
+
+or-second : (a b : Bool) → a ≡ false → (a || b) ≡ true → b ≡ true
+or-second true b none h = absurd (false≢true (sym none))
+or-second false b none h = h
+
+-- with the literal at a place noted too
+pub noted-more : (clause old new : List ℕ) (i d number : ℕ) → i < length clause → IsLowered old new → get_or new (get_or clause i d) (suc number) ≤ number
+    → AreNoted old (take i clause) number → AreNoted new (take (i + 1) clause) number
+noted-more clause old new i d number within lowered here before = λ l there.
+    let x = get_or clause i d in
+    let parts : (has (take i clause) l || (x == l)) ≡ true =
+    sym (ap (λ xs. has xs l) (take_at_read clause i d within).1 ∙ has-push (take i clause) x l) ∙ there in
+    elim (cases_Bool (has (take i clause) l)) [
+      | inl early ↦ lowered l number (before l early)
+      | inr late ↦ elim (cases_eq x l) [
+        | inl same ↦ subst (λ (m : ℕ). get_or new m (suc number) ≤ number) same here
+        | inr other ↦ absurd (false≢true (sym (other_test x l other) ∙ or-second (has (take i clause) l) (x == l) late parts))
+      ]
+    ]
+
+pub firsts-lowered : (old new : List ℕ) (clauses : List (List ℕ)) → AreFirsts old clauses → IsLowered old new → AreFirsts new clauses
+firsts-lowered old new clauses h lowered = λ l n there. lowered l n (h l n there)
+
+firsts-pushed : (firsts : List ℕ) (clauses : List (List ℕ)) (c : List ℕ) (number : ℕ) → AreFirsts firsts clauses → number ≡ length clauses
+    → AreNoted firsts c number → AreFirsts firsts (clauses ++ c ∷ [])
+firsts-pushed firsts clauses c number h last noted = λ l n there. elim (cases_lt n (length clauses)) [
+  | inl within ↦ h l n (subst (λ xs. has xs l ≡ true) (get_or_append_left clauses (c ∷ []) [] n within) there)
+  | inr beyond ↦ elim (cases_eq n number) [
+    | inl same ↦
+        let here : get_or (clauses ++ c ∷ []) n [] ≡ c = get_or_push clauses c [] n (sym last ∙ sym same) in
+        subst (λ (m : ℕ). get_or firsts l (suc m) ≤ m) (sym same) (noted l (subst (λ xs. has xs l ≡ true) here there))
+    | inr other ↦
+        let past : length (clauses ++ c ∷ []) ≤ n = omega (arith, length_push clauses c, beyond, other, last) in
+        absurd (false≢true (subst (λ xs. has xs l ≡ true) (get_or_past (clauses ++ c ∷ []) n [] past) there))
+  ]
+]
+
+-- where the clause is stored in the end, and where it is not
+pub firsts-either : (old new : List ℕ) (clauses after : List (List ℕ)) (c : List ℕ) (number : ℕ) (b : Bool) → AreFirsts old clauses → IsLowered old new
+    → number ≡ length clauses → AreNoted new c number → after ≡ (if b then clauses ++ c ∷ [] else clauses) → AreFirsts new after
+firsts-either old new clauses after c number true h lowered last noted is =
+    subst (AreFirsts new) (sym is) (firsts-pushed new clauses c number (firsts-lowered old new clauses h lowered) last noted)
+firsts-either old new clauses after c number false h lowered last noted is =
+    subst (AreFirsts new) (sym is) (firsts-lowered old new clauses h lowered)
+
+emptied : (clauses : List (List ℕ)) (n number : ℕ) → n ≡ number → get_or (set clauses number []) n [] ≡ []
+emptied clauses n number same = elim (cases_lt number (length clauses)) [
+  | inl within ↦ subst (λ (m : ℕ). get_or (set clauses number []) m [] ≡ []) (sym same) (get_or-set_same clauses number [] [] within)
+  | inr beyond ↦ get_or_past (set clauses number []) n [] (omega (arith, length-set clauses number [], beyond, same))
+]
+
+-- a clause less
+pub firsts-forgotten : (firsts : List ℕ) (clauses : List (List ℕ)) (number : ℕ) → AreFirsts firsts clauses → AreFirsts firsts (set clauses number [])
+firsts-forgotten firsts clauses number h = λ l n there. elim (cases_eq n number) [
+  | inr other ↦ h l n (subst (λ xs. has xs l ≡ true) (get_or-set_other clauses number n [] [] other) there)
+  | inl same ↦ absurd (false≢true (subst (λ xs. has xs l ≡ true) (emptied clauses n number same) there))
+]
