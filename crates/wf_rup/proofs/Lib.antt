@@ -17,3 +17,4 @@ pub mod FedLemmas
 pub mod PosedLemmas
 pub mod Pieces
 pub mod ProofPieces
+pub mod PropagationLaws

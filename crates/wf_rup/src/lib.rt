@@ -20,6 +20,7 @@ mod database;
 mod firsts;
 mod hash;
 mod index;
+mod laws;
 mod proof;
 mod propagation;
 mod rat;
@@ -30,6 +31,7 @@ mod watches;
 mod whole;
 
 pub use checker::Checker;
+pub use laws::{what_follows_is_entailed, what_is_justified_is_redundant};
 pub use proof::{MOST_NEW_VARIABLES, Proof, ProofFault};
 pub use wf_drat::{Literal, MOST_VARIABLES};
 pub use whole::check_proof;
