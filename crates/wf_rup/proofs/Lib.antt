@@ -11,3 +11,4 @@ pub mod FedLemmas
 pub mod PosedLemmas
 pub mod Pieces
 pub mod ProofPieces
+pub mod PropagationLaws

@@ -14,4 +14,5 @@ pub mod Fed
 pub mod Kept
 pub mod Posed
 pub mod Whole
+pub mod Laws
 pub mod Examples

@@ -22,6 +22,7 @@
 
 mod checker;
 mod database;
+mod laws;
 mod proof;
 mod propagation;
 mod rat;
@@ -31,6 +32,7 @@ mod watches;
 mod whole;
 
 pub use checker::Checker;
+pub use laws::{what_follows_is_entailed, what_is_justified_is_redundant};
 pub use proof::{MOST_NEW_VARIABLES, Proof, ProofFault};
 pub use wf_drat::{Literal, MOST_VARIABLES};
 pub use whole::check_proof;

@@ -1,0 +1,14 @@
+-- What the definitions of lemmas say together.
+use Rattle.std.specs.Prelude.{◌⊎◌}
+use Rattle.wf_clauses.specs.Formula.{Clause}
+use Rattle.wf_rup.specs.Rat.{IsRat, IsRedundant}
+use Rattle.wf_rup.specs.Seen.{Entails, Known}
+use Rattle.wf_rup.specs.Unit.{FollowsByPropagation}
+
+-- each model of what is known satisfies a clause that follows by unit propagation
+abbrev pub WhatFollowsIsEntailed : Type 0
+WhatFollowsIsEntailed = (known : Known) (clause : Clause) → FollowsByPropagation known clause → Entails known clause
+
+-- a clause that follows or is RAT on its first literal may be added: if there is a model, there is one of both
+abbrev pub WhatIsJustifiedIsRedundant : Type 0
+WhatIsJustifiedIsRedundant = (known : Known) (clause : Clause) → FollowsByPropagation known clause ⊎ IsRat known clause → IsRedundant known clause
