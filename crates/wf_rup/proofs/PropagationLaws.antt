@@ -1,7 +1,7 @@
 -- What follows by unit propagation is entailed, and a clause that is RAT may be added.
-use Rattle.std.proofs.Common.{◌≡◌, ℕ, ◌+◌, ◌<◌, zero, suc, Bool, true, false, List, [], ◌∷◌, ◌++◌, refl, sym, ◌∙◌, ap, subst, arith, length, map, get_or, inl, inr}
-use Rattle.std.specs.Prelude.{◌⊎◌, ◌==◌, ◌||◌, not, filter, if◌then◌else◌}
-use Rattle.std.specs.List.{All, Contains, list_any}
+use Rattle.std.proofs.Common.{◌≡◌, ℕ, ◌<◌, zero, suc, Bool, true, false, List, [], ◌∷◌, ◌++◌, refl, sym, ◌∙◌, ap, subst, arith, length, map, get_or, inl, inr}
+use Rattle.std.specs.Prelude.{◌⊎◌, ◌==◌, ◌||◌, not, if◌then◌else◌}
+use Rattle.std.specs.List.{Contains}
 use Rattle.std.proofs.lemmas.Bool.{cases_Bool, cases_eq, false≢true}
 use Rattle.std.proofs.lemmas.Grind.{common_steps}
 use Rattle.std.proofs.lemmas.List.Elements.{All-contains, All-contains_itself, Contains-append_cases}
@@ -10,8 +10,8 @@ use Rattle.wf_clauses.specs.Formula.{Assignment, Clause, Literal, holds, neg, ne
 use Rattle.wf_drat.specs.Codes.{code_of, literal_of}
 use Rattle.wf_rup.specs.Laws.{WhatFollowsIsEntailed, WhatIsJustifiedIsRedundant}
 use Rattle.wf_rup.specs.Rat.{IsKnownClause, IsRat, IsRedundant, resolvent, without}
-use Rattle.wf_rup.specs.Seen.{Entails, IsModelOf, Known}
-use Rattle.wf_rup.specs.Unit.{FollowsByPropagation, HasConflict, IsForcedBy, given, last}
+use Rattle.wf_rup.specs.Seen.{IsModelOf, Known}
+use Rattle.wf_rup.specs.Unit.{HasConflict, IsForcedBy, given, last}
 use Rattle.wf_rup.proofs.LiteralLemmas.{literal_of-code_of}
 use Rattle.wf_clause_store.proofs.TrailLemmas.{other_test, same_test}
 use Rattle.wf_rup.proofs.UnitLemmas.{Contains-of_image}
