@@ -51,6 +51,11 @@ pub enum ProofFault {
 }
 
 impl From<AllocError> for ProofFault {
+    ghost use Rattle.std.specs.Prelude.{◌≡◌};
+    ghost use Rattle.wf_rup.specs.declared.proof.ProofFault.TheVariants.{OutOfMemory};
+
+    ghost from_gives = { λ _ e. e ≡ OutOfMemory };
+
     fn from(_error: AllocError) -> ProofFault {
         ProofFault::OutOfMemory
     }
