@@ -6,7 +6,6 @@ use Rattle.wf_model.specs.Refutation.{Line, remove, empty, branch}
 use Rattle.wf_model.specs.Check.{Refusal, Verdict, after_verdict, left, trailing, verdict}
 use Rattle.wf_lines.specs.Lines.{line_of}
 use Rattle.wf_lines.specs.declared.line.Line as line
-use Rattle.wf_check.specs.Blocks.{box_now, boxes_later}
 use Rattle.wf_check.specs.Claims.{Leaves, fault_left, verdict_on}
 use Rattle.wf_check.specs.Left.{LinesLeft, Takes, claim_fault, claimed, fault_from, fault_of, left_of, lines_fault}
 use Rattle.wf_check.specs.Faults.{Fails, IsFault, Judges}

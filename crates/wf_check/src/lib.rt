@@ -3,8 +3,8 @@
 //! - [`check`]: accepts a report about a task, or answers the first reason why it is refused.
 //! - [`ReportChecker`]: judges reports whose answers are about one box alone, each of them a
 //!   [`TaskReport`]. The checker is made once of a task.
-//! - [`judge_header`], [`judge_map`] and [`LineChecker`]: the steps of a check. The last takes lines
-//!   one by one and keeps none, by [`LineRules`], for a [`Goal`].
+//! - [`judge_header`], [`judge_map`] and [`LineChecker`]: the steps of a check. A `LineChecker`
+//!   takes lines one by one and keeps none, by [`LineRules`], for a [`Goal`].
 //!
 //! It stands on reports, protocol complexes and sets of values alone: what it accepts rests on
 //! nothing of the search.

@@ -6,8 +6,8 @@
 //! - [`CertFault`]: why a text is no report, or why a report is not accepted.
 //! - [`cut`] and [`number`]: what stands before a byte and behind it, and the number that a word
 //!   spells.
-//! - [`number_behind`], [`value_of`] and [`step_in`]: what one line says, in the header, in a map and
-//!   in each other [`Section`].
+//! - [`number_behind`], [`value_of`] and [`step_in`]: what one line says, in the header, in a map
+//!   and in each other [`Section`].
 //!
 //! The laws say that the text of a report is read as that report, and that
 //! what is read as a report is its text.
