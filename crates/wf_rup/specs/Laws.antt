@@ -9,7 +9,7 @@ use Rattle.wf_rup.specs.Unit.{FollowsByPropagation}
 abbrev pub WhatFollowsIsEntailed : Type 0
 WhatFollowsIsEntailed = (known : Known) (clause : Clause) → FollowsByPropagation known clause → Entails known clause
 
--- a clause that follows or is RAT on its first literal may be added: each model of what is known can
--- be changed into one that satisfies the clause too
+-- a clause that follows or is RAT on its first literal may be added: each model of what is known
+-- can be changed into one that satisfies the clause too
 abbrev pub WhatIsJustifiedIsRedundant : Type 0
 WhatIsJustifiedIsRedundant = (known : Known) (clause : Clause) → FollowsByPropagation known clause ⊎ IsRat known clause → IsRedundant known clause
