@@ -1,7 +1,7 @@
 # Needs the toolchain's command `rt` on the path, and Python 3. `bench` needs g++ and rustc as well; where there is a C compiler, `test`
 # also has calls of the operating system fail in turn.
 
-.PHONY: demo build quick test definitions bench
+.PHONY: demo build verifier quick test definitions bench
 
 # Three questions that the field knows the answers to, or with TASK=FILE ROUNDS=R a task of one's own. Where `make build` hasn't
 # left a program yet, it is run from its sources, without its proofs, in a minute or two. make itself ends with 2 for each status of
@@ -13,6 +13,10 @@ demo:
 # it goes on there.
 build:
 	@checks/build
+
+# The checker alone, at bin/wfverify: what it stands on is proved first, less than half of what bin/wfcheck stands on.
+verifier:
+	@checks/build wfverify
 
 # What changed since this last passed is proved over the work that is kept, and the tests that name it are run: no verdict.
 # The first time it proves every crate.

@@ -63,7 +63,7 @@ class Script(argparse.ArgumentParser):
         if "program" in found:
             Program.path = found.program.resolve()
             if not Program.path.is_file():
-                self.error(f"{found.program} is not there: `make build` leaves bin/wfcheck")
+                self.error(f"{found.program} is not there: `make build` leaves bin/wfcheck, and `make verifier` bin/wfverify")
         return found
 
     def chosen(self, things, words, name, fits=str.__eq__):

@@ -1,3 +1,2 @@
-pub mod OptionsAndCommands
+pub mod AddedCommands
 pub mod ParsedWords
-pub mod MatchGetters

@@ -2,27 +2,12 @@
 use Rattle.std.specs.Prelude.{ℕ, List, [], ◌∷◌, Some, true, false, codes, pos}
 use Rattle.clap.specs.Simple.{App, Shape, new_rule, new_shape}
 use Rattle.clap.specs.Walk.{Rule, Text}
-use Rattle.clap.specs.declared.builder.action.ArgAction.TheVariants.{Set, SetTrue}
+use Rattle.clap.specs.declared.builder.action.ArgAction.TheVariants.{Set}
 use Rattle.clap.specs.declared.builder.value_parser.ValueParser.TheVariants as parser
 use Rattle.wf_model.specs.Limits.{most_workers}
+use Rattle.wf_words.specs.Options.{flag_option, number_option, required, task_option}
 
 -- ---- options
-
--- `--NAME N`, for a whole number below 2^32
-abbrev pub number_option : Text → Rule
-number_option name = record (new_rule name) {
-  long = Some name;
-  action = Some Set;
-  parser = Some (parser.Signed (pos 0) (pos 4294967295));
-}
-
--- `--NAME`
-abbrev pub flag_option : Text → Rule
-flag_option name = record (new_rule name) { long = Some name; action = Some SetTrue }
-
--- `--task FILE`
-abbrev pub task_option : Rule
-task_option = record (new_rule (codes "task")) { long = Some (codes "task"); action = Some Set; value_names = 1 }
 
 -- `--workers W`, from 1 to as many as a run may have
 abbrev pub workers_option : Rule
@@ -39,10 +24,6 @@ modulus_option = record (number_option (codes "modulus")) { parser = Some (parse
 -- a word without a name
 abbrev pub kind_word : Rule
 kind_word = record (new_rule (codes "kind")) { action = Some Set; value_names = 1 }
-
--- what may not be left out
-abbrev pub required : Rule → Rule
-required option = record option { required = true }
 
 abbrev pub rounds : Rule
 rounds = required (number_option (codes "rounds"))

@@ -6,9 +6,9 @@ use Rattle.wf_preset.specs.declared.preset.Inputs.TheVariants.{Own, All}
 use Rattle.wf_preset.specs.declared.named.Preset.{Preset}
 use Rattle.wf_preset.specs.declared.named.Preset.TheVariants as preset
 use Rattle.wf_args.specs.declared.presets.Options.{Options}
-use Rattle.wf_args.specs.declared.mistake.Piece.TheVariants.{K, Names, Renaming, SetAgreement, Values}
-use Rattle.wf_args.specs.declared.mistake.Mistake.{Mistake}
-use Rattle.wf_args.specs.declared.mistake.Mistake.TheVariants.{Beside, Needs, OtherKind}
+use Rattle.wf_words.specs.declared.mistake.Piece.TheVariants.{K, Names, Renaming, SetAgreement, Values}
+use Rattle.wf_words.specs.declared.mistake.Mistake.{Mistake}
+use Rattle.wf_words.specs.declared.mistake.Mistake.TheVariants.{Beside, Needs, OtherKind}
 
 -- the processes have their own inputs, unless there is a number of values
 abbrev pub inputs_asked : Option ℕ → Inputs

@@ -2,13 +2,16 @@
 
 ghost use Rattle.std.specs.Prelude.{◌≡◌, [], IfOk};
 ghost use Rattle.clap.specs.Words.{app_of};
+ghost use Rattle.wf_words.specs.Building.{IsLeaf, IsOption};
+ghost use Rattle.wf_words.specs.Options.{required};
 ghost use Rattle.wf_args.specs.CommandLine as line;
-ghost use Rattle.wf_args.specs.Building.{Adds, IsLeaf, IsOption, Takes, with_first};
+ghost use Rattle.wf_args.specs.Building.{Adds, with_first};
 
-use crate::limits::{LARGEST_MODULUS, LEAST_MODULUS, MOST_WORKERS};
-use crate::version::VERSION;
+use crate::limits::{LARGEST_MODULUS, LEAST_MODULUS};
 use clap::{Arg, ArgAction, Command, value_parser};
 use std::alloc::{AllocError, Global};
+use wf_words::options::{flag, number, optional, taking, task, task_file};
+use wf_words::{MOST_WORKERS, VERSION};
 
 /// What the help of `preset` says of the kinds.
 const KINDS: &str =
@@ -21,31 +24,6 @@ const PROOFS: &str =
 /// What the help of `obstruction` says of the answers.
 const OBSTRUCTIONS: &str =
     "Status 0: an obstruction is written; verify accepts it, and explain tells it in words.\nStatus 1: none was found, and standard error tells which moduli were tried. The task may still have no decision map.\nExample: wfcheck obstruction < gallery/tasks/set-agreement-3-2.json";
-
-fn number<'a>(alloc: Global, name: &'a str, help: &'a str) -> Arg<'a>
-    ensures { IsOption (line.required (line.number_option name.now)) result }
-{
-    optional(alloc, name, help).required(true)
-}
-
-fn optional<'a>(alloc: Global, name: &'a str, help: &'a str) -> Arg<'a>
-    ensures { IsOption (line.number_option name.now) result }
-{
-    Arg::new(alloc, name)
-        .long(name)
-        .help(help)
-        .action(ArgAction::Set)
-        .value_parser(value_parser!(u32))
-}
-
-fn flag<'a>(alloc: Global, name: &'a str, help: &'a str) -> Arg<'a>
-    ensures { IsOption (line.flag_option name.now) result }
-{
-    Arg::new(alloc, name)
-        .long(name)
-        .help(help)
-        .action(ArgAction::SetTrue)
-}
 
 /// The number of rounds, which may not be left out.
 fn rounds<'a>(alloc: Global) -> Arg<'a>
@@ -60,7 +38,7 @@ fn rounds<'a>(alloc: Global) -> Arg<'a>
 
 /// The number of workers.
 fn workers<'a>(alloc: Global) -> Arg<'a>
-    ensures { IsOption (line.required line.workers_option) result }
+    ensures { IsOption (required line.workers_option) result }
 {
     let most = MOST_WORKERS as i64;
     number(
@@ -76,16 +54,6 @@ fn subcommand<'a>(alloc: Global, name: &'a str, about: &'a str) -> Command<'a>
     ensures { IsLeaf (line.subcommand name.now []) result }
 {
     Command::new(alloc, name).about(about)
-}
-
-/// A subcommand with one option more, if there is memory for it.
-fn taking<'a>(
-    command: Result<Command<'a>, AllocError>,
-    option: Arg<'a>,
-) -> Result<Command<'a>, AllocError>
-    ensures { Takes command.entry option.entry result }
-{
-    command?.arg(option)
 }
 
 fn solve_command<'a>(alloc: Global) -> Result<Command<'a>, AllocError>
@@ -131,23 +99,6 @@ fn solve_command<'a>(alloc: Global) -> Result<Command<'a>, AllocError>
         ),
     );
     taking(command, branch(alloc))
-}
-
-fn task_file<'a>(alloc: Global, help: &'a str) -> Arg<'a>
-    ensures { IsOption line.task_option result }
-{
-    Arg::new(alloc, "task")
-        .long("task")
-        .value_name("FILE")
-        .help(help)
-        .action(ArgAction::Set)
-}
-
-/// The file of a task, which may not be left out.
-fn task<'a>(alloc: Global) -> Arg<'a>
-    ensures { IsOption (line.required line.task_option) result }
-{
-    task_file(alloc, "The file that has the task").required(true)
 }
 
 fn verify_command<'a>(alloc: Global) -> Result<Command<'a>, AllocError>
@@ -371,7 +322,7 @@ fn obstruction_command<'a>(alloc: Global) -> Result<Command<'a>, AllocError>
 
 /// The kind of a preset.
 fn kind<'a>(alloc: Global) -> Arg<'a>
-    ensures { IsOption (line.required line.kind_word) result }
+    ensures { IsOption (required line.kind_word) result }
 {
     Arg::new(alloc, "kind")
         .value_name("KIND")

@@ -2,33 +2,19 @@
 
 ghost use Rattle.std.specs.Prelude.{◌≡◌, ◌<◌, ◌≤◌, IfOk, IfSome, option_map};
 ghost use Rattle.wf_model.specs.Limits.{most_workers};
-ghost use Rattle.clap.specs.Words.{first_of, found_of, rows_of, subcommand_rows_of};
+ghost use Rattle.clap.specs.Words.{found_of, rows_of, subcommand_rows_of};
+ghost use Rattle.wf_words.specs.Asked.{Answers, this_job};
 ghost use Rattle.wf_args.specs.Job.{CanBeDone};
-ghost use Rattle.wf_args.specs.declared.WordsFault.TheVariants as fault;
-ghost use Rattle.wf_args.specs.declared.mistake.Mistake.TheVariants as mistake;
-ghost use Rattle.wf_args.specs.Asked.{Answers, this_or_mistake, asked_in, asked_of, branch_job, branches_asked, cnf_asked, executions_asked, explain_asked, has_flag, join_asked, lift_asked, model_asked, number_of, obstruction_asked, points_asked, preset_job_asked, proof_asked, solve_asked, this_job, trim_asked, verify_asked, verify_branch, verify_whole, views_asked, workers_of};
+ghost use Rattle.wf_args.specs.Asked.{this_or_mistake, asked_in, asked_of, branch_job, branches_asked, cnf_asked, executions_asked, explain_asked, join_asked, lift_asked, model_asked, obstruction_asked, points_asked, preset_job_asked, proof_asked, solve_asked, trim_asked, verify_asked, verify_branch, verify_whole, views_asked, workers_of};
 
+use crate::Job;
 use crate::forms::form_of;
-use crate::limits::MOST_WORKERS;
 use crate::presets::Options;
-use crate::{Job, Mistake, Piece, WordsFault};
 use clap::ArgMatches;
 use std::alloc::Global;
 use wf_lines::Form;
-
-/// The number of an option, if it is given.
-fn number(found: &ArgMatches<'_>, name: &str) -> Option<u32>
-    ensures { result ≡ number_of name.now (rows_of (found_of found.now)) }
-{
-    found.get_one::<u32>(name)
-}
-
-/// The text of an option, if it is given.
-fn text<'a>(found: &ArgMatches<'a>, name: &str) -> Option<&'a str>
-    ensures { option_map (λ s. s.now) result ≡ first_of name.now (rows_of (found_of found.now)) }
-{
-    found.get_str(name)
-}
+use wf_words::found::{flag, number, text};
+use wf_words::{MOST_WORKERS, Mistake, Piece, WordsFault, missing};
 
 /// The number of workers, if it is given and within the limits.
 fn workers(found: &ArgMatches<'_>) -> Option<u32>
@@ -40,16 +26,6 @@ fn workers(found: &ArgMatches<'_>) -> Option<u32>
         Some(workers)
     } else {
         None
-    }
-}
-
-/// Whether a flag is given.
-fn flag(found: &ArgMatches<'_>, name: &str) -> bool
-    ensures { result ≡ has_flag name.now (rows_of (found_of found.now)) }
-{
-    match text(found, name) {
-        Some(value) => value == "true",
-        None => false,
     }
 }
 
@@ -107,13 +83,6 @@ fn this(found: Result<Job, Mistake>) -> Result<Job, WordsFault>
         Ok(job) => Ok(job),
         Err(mistake) => Err(WordsFault::Words(mistake)),
     }
-}
-
-/// The fault where something that has to be given is not.
-fn missing(what: Piece) -> WordsFault
-    ensures { result ≡ fault.Words (mistake.Missing what) }
-{
-    WordsFault::Words(Mistake::Missing(what))
 }
 
 /// The job of `solve`. There is none with both `--verdict` and `--least`, nor

@@ -4,7 +4,8 @@
 ghost use Rattle.std.specs.Prelude.{◌≡◌, [], IfOk, IfErr, map, string_bytes};
 ghost use Rattle.clap.specs.Words.{fault_of, subcommand_of, subcommand_rows_of};
 ghost use Rattle.std.specs.List.{list_any};
-ghost use Rattle.wf_args.specs.Asked.{Answers, IsRefusal, is_negative, job_asked};
+ghost use Rattle.wf_words.specs.Asked.{Answers, IsRefusal, is_negative};
+ghost use Rattle.wf_args.specs.Asked.{job_asked};
 ghost use Rattle.wf_args.specs.CommandLine.{command_line};
 ghost use Rattle.wf_args.specs.Job.{CanBeDone};
 
@@ -12,20 +13,15 @@ mod command;
 mod forms;
 mod jobs;
 mod limits;
-mod mistake;
 mod presets;
-mod version;
 
 use crate::command::whole_command;
 use crate::jobs::job_in;
 use clap::ArgMatches;
-use clap::error::ErrorKind;
-pub use mistake::{Mistake, Piece};
-use std::alloc::{AllocError, Global};
-use std::io;
-pub use version::{LOGIC, VERSION};
+use std::alloc::Global;
 use wf_lines::Form;
 use wf_preset::Preset;
+use wf_words::WordsFault;
 
 /// A command, with its options.
 #[derive(Debug, Drop)]
@@ -160,47 +156,6 @@ pub enum Job {
     Preset(Preset),
 }
 
-/// Why words are no job.
-#[derive(Drop)]
-pub enum WordsFault {
-    /// The words are not those of the command line, or they ask for help or for the version.
-    Clap {
-        /// A text to be printed.
-        error: clap::Error,
-        /// Whether one of the words is a negative number, which no option takes.
-        negative: bool,
-    },
-    /// The words are read but ask for what this program refuses, or one of them is no text.
-    Words(Mistake),
-    /// Memory ran out.
-    OutOfMemory,
-}
-
-impl From<AllocError> for WordsFault {
-    ghost use Rattle.std.specs.Prelude.{◌≡◌};
-    ghost use Rattle.wf_args.specs.declared.WordsFault.TheVariants.{OutOfMemory};
-
-    ghost from_gives = { λ _ e. e ≡ OutOfMemory };
-
-    fn from(_refused: AllocError) -> WordsFault {
-        WordsFault::OutOfMemory
-    }
-}
-
-impl From<io::Error> for WordsFault {
-    ghost use Rattle.std.specs.IoError.{error_kind};
-    ghost use Rattle.wf_args.specs.Arguments.{IsFaultOf};
-
-    ghost from_gives = { λ x e. IsFaultOf (error_kind x) e };
-
-    fn from(error: io::Error) -> WordsFault {
-        match error.kind() {
-            io::ErrorKind::OutOfMemory => WordsFault::OutOfMemory,
-            _ => WordsFault::Words(Mistake::NotText),
-        }
-    }
-}
-
 /// What the words ask for. The first is the program's own name.
 ///
 /// A fault of `clap` carries the text to be printed; out of memory is never handed out as one.
@@ -214,23 +169,6 @@ pub fn read_words(alloc: Global, words: &[String]) -> Result<Job, WordsFault>
     }
 }
 
-/// Whether one of the words is a negative number.
-fn has_negative(words: &[String]) -> bool
-    ensures { result ≡ list_any (λ word. is_negative (string_bytes word)) words.now }
-{
-    words.iter().any(|word| is_negative(word))
-}
-
-/// Whether the word is a minus, and then a digit.
-fn is_negative(word: &str) -> bool
-    ensures { result ≡ is_negative word.now }
-{
-    match word.as_bytes() {
-        [sign, digit, ..] => *sign == b'-' && b'0' <= *digit && *digit <= b'9',
-        _ => false,
-    }
-}
-
 /// What `clap` makes of the words.
 fn parse<'a>(alloc: Global, words: &'a [String]) -> Result<ArgMatches<'a>, WordsFault>
     ensures ok { IfOk result (λ m. (fault_of command_line (map string_bytes words.entry.now) ≡ [])
@@ -239,15 +177,5 @@ fn parse<'a>(alloc: Global, words: &'a [String]) -> Result<ArgMatches<'a>, Words
         (fault_of command_line (map string_bytes words.entry.now))
         (list_any is_negative (map string_bytes words.entry.now))) }
 {
-    let command = whole_command(alloc)?;
-    match command.try_get_matches_from(words) {
-        Ok(found) => Ok(found),
-        Err(error) => match error.kind() {
-            ErrorKind::OutOfMemory => Err(WordsFault::OutOfMemory),
-            _ => Err(WordsFault::Clap {
-                error,
-                negative: has_negative(words),
-            }),
-        },
-    }
+    wf_words::parse(whole_command(alloc)?, words)
 }

@@ -3,8 +3,8 @@
 ghost use Rattle.std.specs.Prelude.{◌≡◌};
 ghost use Rattle.wf_args.specs.Presets.{agreement_asked, inputs_asked, preset_asked, renaming_asked};
 
-use crate::mistake::{Mistake, Piece};
 use wf_preset::{Inputs, Preset};
+use wf_words::{Mistake, Piece};
 
 /// The options of `preset`, as they were given.
 #[derive(Clone, Copy)]

@@ -1,2 +1,1 @@
-pub mod JobKinds
 pub mod EveryRun

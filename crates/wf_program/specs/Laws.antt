@@ -1,15 +1,19 @@
 -- What holds after every run of the program.
-use Rattle.std.specs.Prelude.{◌≡◌, ◌+◌, ◌*◌, ◌≤◌, ◌==◌, ◌⊎◌, ℕ, Option, Some, None, Result, Ok, if◌then◌else◌}
+use Rattle.std.specs.Prelude.{◌≡◌, ◌+◌, ◌≤◌, ◌⊎◌, ℕ, Option, Result, Ok}
 use Rattle.wf_model.specs.Limits.{most_bytes}
 use Rattle.wf_io.specs.Seen.{Reading, Writing}
 use Rattle.wf_verify_engine.specs.Proofs.{most_proof_bytes}
 use Rattle.wf_branches.specs.Joining.{most_parts_bytes}
+use Rattle.wf_words.specs.Asked.{GivenWords, IsAsked}
+use Rattle.wf_words.specs.declared.fault.WordsFault.{WordsFault}
+use Rattle.wf_args.specs.Asked.{job_asked}
 use Rattle.wf_args.specs.declared.Job.{Job}
 use Rattle.wf_args.specs.declared.Job.TheVariants.{Verify, VerifyBranch, Decisions, Join, Model, Proof, Trim, Explain, Lift}
-use Rattle.wf_args.specs.declared.WordsFault.{WordsFault}
+use Rattle.wf_files.specs.Files.{Filing, Opens}
+use Rattle.wf_files.specs.Laws.{IsFiled}
+use Rattle.wf_service.specs.Laws.{calls_by_status}
 use Rattle.wf_program.specs.declared.done.Note.{Note}
-use Rattle.wf_program.specs.Files.{Filing, Opens}
-use Rattle.wf_program.specs.Program.{GivenWords, IsAsked, Serves, TellsNote}
+use Rattle.wf_program.specs.Program.{Serves, TellsNote}
 
 -- how many files a job opens
 abbrev pub file_count : Result Job WordsFault → ℕ
@@ -30,34 +34,13 @@ most_read (Ok (Proof task rounds branch hints)) = most_proof_bytes
 most_read (Ok (Join task rounds)) = most_parts_bytes
 most_read asked = most_bytes
 
--- how many calls failed, by the status
-abbrev pub failed_calls : ℕ → ℕ
-failed_calls status = if status == 4 then 1 else 0
-
--- how many reads of the file that is kept failed, and how many bytes it gave
-abbrev pub kept_failures : Option Reading → ℕ
-kept_failures (Some file) = file.failures
-kept_failures None = 0
-
-abbrev pub kept_taken : Option Reading → ℕ
-kept_taken (Some file) = file.taken
-kept_taken None = 0
-
--- So many files were asked for as the job names, and of what was opened and kept then at most one
--- byte more than a text may have was taken. So many calls failed: a file that can't be opened, or
--- reads of the one that is kept.
-pub record IsFiled {F : Type 0} (asked : Result Job WordsFault) (folder folder' : Filing F) (failed : ℕ) : Type 0 where
-  pub opens : folder'.asked ≡ folder.asked + file_count asked
-  pub taken : file_count asked * kept_taken folder'.kept ≤ most_bytes + 1
-  pub failures : folder'.failures + file_count asked * kept_failures folder'.kept ≡ folder.failures + failed
-
 -- The status is at most 4, and 4 exactly where one call of the source, the sink, the folder or the
 -- file that it opened failed. At most one byte more is taken than the text may have that the job
 -- reads. At 0 and 1 nothing is told but a note, and nothing is written at 2 and 3.
 pub record IsServed {F : Type 0} (asked : Result Job WordsFault) (folder folder' : Filing F) (source source' : Reading) (sink sink' errors errors' : Writing) (status : ℕ) : Type 0 where
   pub most : status ≤ 4
-  pub files : (failed : ℕ) × IsFiled asked folder folder' failed
-      × (source'.failures + sink'.failures + failed ≡ (source.failures + sink.failures) + failed_calls status)
+  pub files : (failed : ℕ) × IsFiled (file_count asked) folder folder' failed
+      × (source'.failures + sink'.failures + failed ≡ (source.failures + sink.failures) + calls_by_status status)
   pub taken : source'.taken ≤ source.taken + (most_read asked + 1)
   pub quiet : status ≤ 1 → (note : Option Note) × TellsNote errors errors' note
   pub unwritten : (status ≡ 2) ⊎ (status ≡ 3) → sink' ≡ sink
@@ -67,4 +50,4 @@ abbrev pub ServingIsCounted : {F : Type 0} → Opens → Filing F → Type 0
 ServingIsCounted {F = F} opens folder =
     (words : GivenWords) (folder' : Filing F) (source source' : Reading) (sink sink' errors errors' : Writing) (status : ℕ)
     → Serves opens words folder folder' source source' sink sink' errors errors' status
-    → (asked : Result Job WordsFault) × IsAsked words asked × IsServed asked folder folder' source source' sink sink' errors errors' status
+    → (asked : Result Job WordsFault) × IsAsked job_asked words asked × IsServed asked folder folder' source source' sink sink' errors errors' status

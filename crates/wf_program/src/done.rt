@@ -2,15 +2,14 @@
 
 ghost use Rattle.std.specs.Prelude.{◌≡◌, Some};
 ghost use Rattle.wf_program.specs.AccountText.{account_line};
-ghost use Rattle.wf_program.specs.Program.{note_line, outcome_status, searched, solved, sought, verified, written};
+ghost use Rattle.wf_program.specs.Program.{note_line, outcome_status, searched, shown, solved, sought, written};
 
-use crate::refusal::Refusal;
 use std::fmt;
 use wf_core::Account;
 use wf_engine::Outcome;
-use wf_obstruction_engine::{Finding, Tried};
+use wf_obstruction_engine::{Finding, GaveUp, Tried};
 use wf_run::RunFault;
-use wf_verify_engine::Verified;
+use wf_service::Refusal;
 
 /// What was done: its exit status, and what is to be told on the error stream.
 #[derive(Clone, Copy, Debug)]
@@ -26,6 +25,8 @@ pub(crate) enum Note {
     Account(Account),
     /// There is no obstruction modulo these numbers.
     NoObstruction(Tried),
+    /// 60: the search for an obstruction gave up.
+    GaveUp(GaveUp),
 }
 
 impl fmt::Display for Note {
@@ -35,6 +36,7 @@ impl fmt::Display for Note {
         match *self {
             Note::Account(account) => write!(f, "{}", AccountLine(account)),
             Note::NoObstruction(tried) => writeln!(f, "{tried}"),
+            Note::GaveUp(gave_up) => writeln!(f, "wfcheck: {gave_up}"),
         }
     }
 }
@@ -57,19 +59,6 @@ impl fmt::Display for AccountLine {
             f,
             "account branches {branches} searched {searched} cut {cut}"
         )
-    }
-}
-
-/// What is answered after a check.
-pub(crate) fn after_verifying(found: Result<Verified, RunFault>) -> Result<Done, Refusal>
-    ensures { result ≡ verified found }
-{
-    match found {
-        Ok(_) => Ok(Done {
-            status: 0,
-            note: None,
-        }),
-        Err(fault) => Err(Refusal::Run(fault)),
     }
 }
 
@@ -122,6 +111,19 @@ pub(crate) fn after_writing(found: Result<(), RunFault>) -> Result<Done, Refusal
     }
 }
 
+/// What is answered after a text that the words ask for was shown, or the words were refused.
+pub(crate) fn after_showing(found: Result<(), Refusal>) -> Result<Done, Refusal>
+    ensures { result ≡ shown found }
+{
+    match found {
+        Ok(()) => Ok(Done {
+            status: 0,
+            note: None,
+        }),
+        Err(refusal) => Err(refusal),
+    }
+}
+
 /// What is answered after a search for an obstruction.
 pub(crate) fn after_seeking(found: Result<Finding, RunFault>) -> Result<Done, Refusal>
     ensures { result ≡ sought found }
@@ -135,7 +137,10 @@ pub(crate) fn after_seeking(found: Result<Finding, RunFault>) -> Result<Done, Re
             status: 1,
             note: Some(Note::NoObstruction(tried)),
         }),
-        Ok(Finding::GaveUp(gave_up)) => Err(Refusal::GaveUp(gave_up)),
+        Ok(Finding::GaveUp(gave_up)) => Ok(Done {
+            status: 2,
+            note: Some(Note::GaveUp(gave_up)),
+        }),
         Err(fault) => Err(Refusal::Run(fault)),
     }
 }

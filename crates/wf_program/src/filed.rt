@@ -1,22 +1,22 @@
 //! What is done with the task in a file and with what the source gives about it.
 
 ghost use Rattle.std.specs.Prelude.{◌≡◌, option_map};
-ghost use Rattle.wf_run.specs.Sources.{CanReadBoth};
+ghost use Rattle.std.specs.Thread.{IsSync};
 ghost use Rattle.wf_io.specs.Ends.{CanCount};
-ghost use Rattle.wf_program.specs.Files.{CanAsk};
-ghost use Rattle.wf_program.specs.Program.{DoesWithFile, WithFile, filed_of};
+ghost use Rattle.wf_files.specs.Files.{CanAsk};
+ghost use Rattle.wf_program.specs.Program.{DoesFile, DoesWithFile, filed_of};
 
-use crate::done::{Done, after_verifying, after_writing};
-use crate::files::{Files, Opener};
-use crate::refusal::Refusal;
+use crate::done::{Done, after_writing};
 use std::alloc::Global;
 use std::io::{Read, Write};
 use std::thread::Threads;
 use wf_args::Job;
 use wf_branches::{run_hinted_proof_branch, run_join, run_proof_branch, run_verify_branch};
+use wf_files::{Files, Opener, TaskRun, run_with_file, without_answer};
 use wf_io::{Sink, Source};
 use wf_report_engine::{run_explain, run_lift, run_trim};
 use wf_run::RunFault;
+use wf_service::Refusal;
 use wf_verify_engine::{
     run_decisions, run_hinted_proof, run_model, run_proof, run_verify_certificate,
 };
@@ -76,13 +76,20 @@ impl FileJob {
         };
         Some((filed, task.as_str()))
     }
+}
 
-    /// Does it with the task in the file under a path, whose source is kept. A file that can't be
-    /// opened is a failed read.
-    pub(crate) fn with_file<T: Threads + Sync, F: Files, R: Read, W: Write>(
-        self,
-        rt: &T,
-        alloc: Global,
+/// A job with the task in a file, and what it is done with.
+#[derive(Clone, Copy)]
+pub(crate) struct FileRun<'a, T> {
+    pub(crate) rt: &'a T,
+    pub(crate) alloc: Global,
+    pub(crate) job: FileJob,
+}
+
+impl<'a, T: Threads + Sync> FileRun<'a, T> {
+    /// Does it with the task in the file under a path.
+    pub(crate) fn with_file<F: Files, R: Read, W: Write>(
+        &self,
         folder: &mut Opener<F>,
         path: &str,
         source: &mut Source<R>,
@@ -90,60 +97,48 @@ impl FileJob {
     ) -> Result<Done, Refusal>
         requires files { CanAsk folder.old }
         requires ends { CanCount source.old sink.old }
-        ensures { WithFile (F.opens folder.old.files path.now) (DoesWithFile self) folder.old
-            folder.new
+        ensures { DoesFile (F.opens folder.old.files path.now) self.now.job folder.old folder.new
             source.old source.new sink.old sink.new result }
     {
-        match folder.open(path) {
-            Some(mut file) => {
-                let done = self.with_task(rt, alloc, &mut file, source, sink);
-                folder.keep(file);
-                done
-            }
-            None => Err(Refusal::Run(RunFault::Read)),
-        }
+        after_writing(run_with_file(self, folder, path, source, sink))
     }
+}
 
-    /// Does it with the task that a source gives.
-    fn with_task<T: Threads + Sync, F: Read, R: Read, W: Write>(
-        self,
-        rt: &T,
-        alloc: Global,
+impl<'a, T: Threads + Sync> TaskRun for FileRun<'a, T> {
+    ghost does = { λ run. DoesWithFile run.job };
+
+    ghost is_ready = { λ _. IsSync T.row };
+
+    fn with_task<F: Read, R: Read, W: Write>(
+        &self,
         task: &mut Source<F>,
         source: &mut Source<R>,
         sink: &mut Sink<W>,
-    ) -> Result<Done, Refusal>
-        requires { CanReadBoth task.old source.old sink.old }
-        ensures { DoesWithFile self task.old task.new source.old source.new sink.old sink.new
-            result }
-    {
-        match self {
-            FileJob::Verify(rounds) => {
-                after_verifying(run_verify_certificate(rt, alloc, task, source, sink, rounds))
-            }
+    ) -> Result<(), RunFault> {
+        let FileRun { rt, alloc, job } = *self;
+        match job {
+            FileJob::Verify(rounds) => without_answer(run_verify_certificate(
+                rt, alloc, task, source, sink, rounds,
+            )),
             FileJob::VerifyBranch { rounds, branch } => {
-                after_writing(run_verify_branch(rt, alloc, task, source, sink, rounds, branch))
+                run_verify_branch(rt, alloc, task, source, sink, rounds, branch)
             }
-            FileJob::Join(rounds) => after_writing(run_join(rt, alloc, task, source, sink, rounds)),
-            FileJob::Model(rounds) => {
-                after_writing(run_model(rt, alloc, task, source, sink, rounds))
-            }
-            FileJob::Proof(rounds, None, false) => {
-                after_writing(run_proof(alloc, task, source, sink, rounds))
-            }
+            FileJob::Join(rounds) => run_join(rt, alloc, task, source, sink, rounds),
+            FileJob::Model(rounds) => run_model(rt, alloc, task, source, sink, rounds),
+            FileJob::Proof(rounds, None, false) => run_proof(alloc, task, source, sink, rounds),
             FileJob::Proof(rounds, None, true) => {
-                after_writing(run_hinted_proof(alloc, task, source, sink, rounds))
+                run_hinted_proof(alloc, task, source, sink, rounds)
             }
             FileJob::Proof(rounds, Some(branch), false) => {
-                after_writing(run_proof_branch(alloc, task, source, sink, rounds, branch))
+                run_proof_branch(alloc, task, source, sink, rounds, branch)
             }
             FileJob::Proof(rounds, Some(branch), true) => {
-                after_writing(run_hinted_proof_branch(alloc, task, source, sink, rounds, branch))
+                run_hinted_proof_branch(alloc, task, source, sink, rounds, branch)
             }
-            FileJob::Decisions => after_writing(run_decisions(rt, alloc, task, source, sink)),
-            FileJob::Trim => after_writing(run_trim(rt, alloc, task, source, sink)),
-            FileJob::Explain => after_writing(run_explain(rt, alloc, task, source, sink)),
-            FileJob::Lift(rounds) => after_writing(run_lift(rt, alloc, task, source, sink, rounds)),
+            FileJob::Decisions => run_decisions(rt, alloc, task, source, sink),
+            FileJob::Trim => run_trim(rt, alloc, task, source, sink),
+            FileJob::Explain => run_explain(rt, alloc, task, source, sink),
+            FileJob::Lift(rounds) => run_lift(rt, alloc, task, source, sink, rounds),
         }
     }
 }

@@ -12,15 +12,11 @@
 mod done;
 mod executions;
 mod filed;
-mod files;
 mod laws;
 mod lone;
 mod program;
-mod refusal;
-mod version;
+mod texts;
 
 pub use executions::run_executions;
-pub use files::{Files, Opener};
 pub use laws::serving_is_counted;
 pub use program::run_program;
-pub use refusal::Refusal;

@@ -1,26 +1,27 @@
 //! What a job does without a file.
 
-ghost use Rattle.std.specs.Prelude.{◌≡◌, ◌<◌, ◌≤◌, IfSome};
+ghost use Rattle.std.specs.Prelude.{◌≡◌, ◌<◌, ◌≤◌, IfSome, option_map};
 ghost use Rattle.wf_model.specs.Limits.{most_workers};
 ghost use Rattle.wf_args.specs.Job.{CanBeDone};
 ghost use Rattle.wf_io.specs.Ends.{CanCount};
 ghost use Rattle.wf_obstruction_engine.specs.Finding.{FindsObstruction};
-ghost use Rattle.wf_program.specs.Program.{CanBeDoneAlone, DecidesTask, DoesAlone, ListsQuestion, lone_of};
+ghost use Rattle.wf_program.specs.Program.{CanBeDoneAlone, DecidesTask, DoesAlone, lone_of};
+ghost use Rattle.wf_program.specs.declared.lone.LoneJob.TheVariants as lone;
 
 use crate::done::{Done, after_searching, after_seeking, after_solving, after_writing};
-use crate::executions::run_executions;
-use crate::refusal::Refusal;
+use crate::texts::TextJob;
 use std::alloc::Global;
 use std::io::{Read, Write};
 use std::thread::Threads;
 use wf_args::Job;
-use wf_branches::{BranchSearch, run_branches, run_cnf_branch, run_solve_branch};
+use wf_branches::{BranchSearch, run_solve_branch};
 use wf_engine::{Form, Search, WantedReport, run_counted_search, run_search};
 use wf_finder::{Listener, Silent};
 use wf_io::{Sink, Source};
 use wf_obstruction_engine::{Finding, run_obstruction};
 use wf_pool::Gate;
-use wf_run::{Preset, RunFault, run_cnf, run_points, run_preset, run_views};
+use wf_run::RunFault;
+use wf_service::Refusal;
 
 /// What a job does without a file.
 #[derive(Clone, Copy)]
@@ -38,23 +39,13 @@ pub(crate) enum LoneJob {
         branch: u32,
         progress: bool,
     },
-    /// List the points after so many rounds.
-    Views(u32),
-    /// Tell the points after so many rounds in words.
-    Points(u32),
-    /// List the branches of the question for so many rounds.
-    Branches(u32),
-    /// Write the question for so many rounds as a formula, or that of one branch.
-    Cnf(u32, Option<u32>),
-    /// List the executions of so many rounds in words.
-    Executions(u32),
     /// Look for an obstruction, for this modulus if one is asked for.
     Obstruction {
         modulus: Option<u32>,
         progress: bool,
     },
-    /// Write the task of a name.
-    Preset(Preset),
+    /// Write a text.
+    Text(TextJob),
 }
 
 impl LoneJob {
@@ -86,17 +77,11 @@ impl LoneJob {
                 branch: *branch,
                 progress: *progress,
             }),
-            Job::Views { rounds } => Some(LoneJob::Views(*rounds)),
-            Job::Points { rounds } => Some(LoneJob::Points(*rounds)),
-            Job::Branches { rounds } => Some(LoneJob::Branches(*rounds)),
-            Job::Cnf { rounds, branch } => Some(LoneJob::Cnf(*rounds, *branch)),
-            Job::Executions { rounds } => Some(LoneJob::Executions(*rounds)),
             Job::Obstruction { modulus, progress } => Some(LoneJob::Obstruction {
                 modulus: *modulus,
                 progress: *progress,
             }),
-            Job::Preset(preset) => Some(LoneJob::Preset(*preset)),
-            _ => None,
+            _ => text_alone(TextJob::of(job)),
         }
     }
 
@@ -133,28 +118,25 @@ impl LoneJob {
                 branch,
                 progress,
             } => {
-                let gate = told_if(progress, gate);
-                let search = BranchSearch {
-                    wanted,
-                    branch,
-                    gate,
-                };
+                let search = in_branch(wanted, branch, told_if(progress, gate));
                 after_searching(run_solve_branch(alloc, source, sink, &search))
             }
             LoneJob::Obstruction { modulus, progress } => {
                 after_seeking(seek(alloc, source, sink, modulus, told_if(progress, gate)))
             }
-            LoneJob::Views(rounds) => after_writing(run_views(alloc, source, sink, rounds)),
-            LoneJob::Points(rounds) => after_writing(run_points(alloc, source, sink, rounds)),
-            LoneJob::Branches(rounds) => after_writing(run_branches(alloc, source, sink, rounds)),
-            LoneJob::Cnf(rounds, branch) => {
-                after_writing(write_question(alloc, source, sink, rounds, branch))
-            }
-            LoneJob::Executions(rounds) => {
-                after_writing(run_executions(alloc, source, sink, rounds))
-            }
-            LoneJob::Preset(preset) => after_writing(run_preset(alloc, sink, preset)),
+            LoneJob::Text(what) => after_writing(what.write(alloc, source, sink)),
         }
+    }
+}
+
+/// A text that a job writes, as what the job does.
+fn text_alone(text: Option<TextJob>) -> Option<LoneJob>
+    ensures is { result ≡ option_map lone.Text text }
+    ensures limits { IfSome result CanBeDoneAlone }
+{
+    match text {
+        Some(text) => Some(LoneJob::Text(text)),
+        None => None,
     }
 }
 
@@ -164,6 +146,18 @@ fn wanted(rounds: u32, form: Form) -> WantedReport
     ensures form { result.form ≡ form }
 {
     WantedReport { rounds, form }
+}
+
+/// The search of one branch for the report that is wanted, with the gate that is told of it.
+fn in_branch<G>(wanted: WantedReport, branch: u32, gate: Option<&G>) -> BranchSearch<'_, G>
+    ensures wanted { result.wanted ≡ wanted }
+    ensures branch { result.branch ≡ branch }
+{
+    BranchSearch {
+        wanted,
+        branch,
+        gate,
+    }
 }
 
 /// The gate, if progress is asked for.
@@ -207,22 +201,5 @@ fn seek<L: Listener, R: Read, W: Write>(
     match listener {
         Some(listener) => run_obstruction(alloc, source, sink, modulus, listener),
         None => run_obstruction(alloc, source, sink, modulus, &Silent),
-    }
-}
-
-/// Writes the question of the source's task, or that of one of its branches.
-fn write_question<R: Read, W: Write>(
-    alloc: Global,
-    source: &mut Source<R>,
-    sink: &mut Sink<W>,
-    rounds: u32,
-    branch: Option<u32>,
-) -> Result<(), RunFault>
-    requires { CanCount source.old sink.old }
-    ensures { ListsQuestion branch rounds source.old source.new sink.old sink.new result }
-{
-    match branch {
-        Some(branch) => run_cnf_branch(alloc, source, sink, rounds, branch),
-        None => run_cnf(alloc, source, sink, rounds),
     }
 }

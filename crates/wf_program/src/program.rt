@@ -2,27 +2,32 @@
 
 ghost use Rattle.std.specs.Prelude.{IfOk};
 ghost use Rattle.wf_io.specs.Ends.{CanCount, CanWrite};
-ghost use Rattle.wf_io.specs.Texts.{Tells};
+ghost use Rattle.wf_words.specs.Asked.{IsAsked};
+ghost use Rattle.wf_args.specs.Asked.{job_asked};
 ghost use Rattle.wf_args.specs.Job.{CanBeDone};
-ghost use Rattle.wf_program.specs.Files.{CanAsk};
-ghost use Rattle.wf_program.specs.Program.{CanServe, Declines, Does, Ends, IsAsked, Serves, Shows};
+ghost use Rattle.wf_files.specs.Files.{CanAsk};
+ghost use Rattle.wf_program.specs.Program.{CanServe, DeclinesWords, Does, Ends, Serves};
 
-use crate::done::{Done, after_writing};
-use crate::filed::FileJob;
-use crate::files::{Files, Opener};
+use crate::done::{Done, after_showing};
+use crate::filed::{FileJob, FileRun};
 use crate::lone::LoneJob;
-use crate::refusal::Refusal;
-use crate::version::VersionLine;
-use clap::error::ErrorKind;
 use std::alloc::Global;
-use std::fmt::Display;
 use std::io::{Read, Write};
 use std::thread::Threads;
-use wf_args::{Job, WordsFault, read_words};
+use wf_args::{Job, read_words};
+use wf_files::{Files, Opener};
 use wf_finder::Listener;
 use wf_io::{Sink, Source};
 use wf_pool::Gate;
-use wf_run::{RunFault, hand_out};
+use wf_service::{Program, Refusal, decline, refuse, tell};
+use wf_words::WordsFault;
+
+/// What this program is called, and what it says beside words that it does not take.
+const WFCHECK: Program = Program {
+    name: "wfcheck",
+    unknown_word: "\n  note: a task or a report is read from standard input, as in `wfcheck solve --rounds 1 --workers 1 < FILE`\n",
+    negative_number: "\n  note: numbers are not negative: rounds are 0 to 8, and workers 1 to 64\n",
+};
 
 /// Runs what the words ask for, the first of which is the program's own name, and answers the exit
 /// status. Where the words could not be had, that is the refusal.
@@ -52,14 +57,14 @@ pub fn run_program<T: Threads + Sync, F: Files, G: Gate + Listener, R: Read, W: 
 {
     let done = match job_of(alloc, words) {
         Ok(job) => do_job(rt, alloc, folder, gate, source, sink, &job),
-        Err(fault) => decline(alloc, sink, fault),
+        Err(fault) => decline_words(alloc, sink, fault),
     };
     end(alloc, errors, done)
 }
 
 /// What the words ask for, if they could be had.
 fn job_of(alloc: Global, words: Result<Vec<String>, WordsFault>) -> Result<Job, WordsFault>
-    ensures asked { IsAsked words result }
+    ensures asked { IsAsked job_asked words result }
     ensures limits { IfOk result CanBeDone }
 {
     read_words(alloc, &words?)
@@ -82,7 +87,12 @@ fn do_job<T: Threads + Sync, F: Files, G: Gate + Listener, R: Read, W: Write>(
         sink.old sink.new result }
 {
     if let Some((filed, path)) = FileJob::of(job) {
-        return filed.with_file(rt, alloc, folder, path, source, sink);
+        let run = FileRun {
+            rt,
+            alloc,
+            job: filed,
+        };
+        return run.with_file(folder, path, source, sink);
     }
     match LoneJob::of(job) {
         Some(lone) => lone.run(rt, alloc, gate, source, sink),
@@ -91,31 +101,15 @@ fn do_job<T: Threads + Sync, F: Files, G: Gate + Listener, R: Read, W: Write>(
 }
 
 /// There is no job in the words: a help or the version goes to the sink, and the rest is refused.
-fn decline<W: Write>(alloc: Global, sink: &mut Sink<W>, fault: WordsFault) -> Result<Done, Refusal>
+fn decline_words<W: Write>(
+    alloc: Global,
+    sink: &mut Sink<W>,
+    fault: WordsFault,
+) -> Result<Done, Refusal>
     requires { CanWrite sink.old }
-    ensures { Declines fault sink.old sink.new result }
+    ensures { DeclinesWords fault sink.old sink.new result }
 {
-    match fault {
-        WordsFault::Clap { error, negative } => match error.kind() {
-            ErrorKind::DisplayHelp => show(alloc, sink, &error),
-            ErrorKind::DisplayVersion => show(alloc, sink, &VersionLine),
-            _ => Err(Refusal::Clap { error, negative }),
-        },
-        WordsFault::Words(mistake) => Err(Refusal::Words(mistake)),
-        WordsFault::OutOfMemory => Err(Refusal::Run(RunFault::OutOfMemory)),
-    }
-}
-
-/// Writes a text that the words ask for.
-fn show<W: Write, T: Display>(alloc: Global, sink: &mut Sink<W>, text: &T) -> Result<Done, Refusal>
-    requires { CanWrite sink.old }
-    ensures { Shows (T.output text.now) sink.old sink.new result }
-{
-    let answer = match format!(in alloc; "{text}") {
-        Ok(text) => Ok(((), text.into_bytes())),
-        Err(_) => Err(RunFault::OutOfMemory),
-    };
-    after_writing(hand_out(sink, answer))
+    after_showing(decline(alloc, sink, fault, WFCHECK))
 }
 
 /// The exit status. A note is told, or a refusal. Nothing more can be done if that fails too.
@@ -130,22 +124,6 @@ fn end<E: Write>(alloc: Global, errors: &mut Sink<E>, done: Result<Done, Refusal
             }
             done.status
         }
-        Err(refusal) => {
-            let status = refusal.status();
-            tell(alloc, errors, refusal);
-            status
-        }
-    }
-}
-
-/// Writes a text to the error stream, by one call of its writer where there
-/// is memory to make the text first.
-fn tell<E: Write, D: Display + Drop>(alloc: Global, errors: &mut Sink<E>, text: D)
-    requires { CanWrite errors.old }
-    ensures { Tells errors.old errors.new (D.output text) }
-{
-    match format!(in alloc; "{text}") {
-        Ok(whole) => errors.put(whole),
-        Err(_) => errors.put(text),
+        Err(refusal) => refuse(alloc, errors, refusal),
     }
 }

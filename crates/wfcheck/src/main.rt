@@ -4,29 +4,16 @@
 //! standard error, and a gate that tells how many branches are settled.
 #![tactic(auto)]
 
-use std::alloc::Global;
-use std::env::Env;
+use std::io;
 use std::process::ExitCode;
 use std::sync::atomic::AtomicU64;
 use std::sync::atomic::Ordering::SeqCst;
-use std::{env, fs, io, rt};
-use wf_args::WordsFault;
+use wf_files::{Disk, Opener, hold_closed_streams};
 use wf_finder::Listener;
 use wf_io::{Sink, Source};
 use wf_pool::{Gate, Moment};
-use wf_program::{Files, Opener, run_program};
-
-/// The files of the disk.
-#[derive(Drop)]
-struct Disk<'a, R: rt::Files>(&'a R);
-
-impl<R: rt::Files> Files for Disk<'_, R> {
-    type File = R::File;
-
-    fn open(&self, path: &str) -> io::Result<R::File> {
-        fs::open(self.0, path)
-    }
-}
+use wf_program::run_program;
+use wf_words::arguments;
 
 /// So many turns in which no branch was settled are worth a line, and then twice as many each time.
 const MANY_TURNS: u64 = 65_536;
@@ -92,20 +79,6 @@ impl<R: Eprint + Sync> Listener for ProgressLines<'_, R> {
     fn equations(&self, modulus: u32, count: u64) {
         let _told = eprintln!(self.rt; "modulo {modulus}: {count} equations taken in");
     }
-}
-
-/// The words of the command line, the program's name first.
-fn arguments(rt: &(impl Env + Alloc<A = Global>)) -> Result<Vec<String>, WordsFault> {
-    let words = env::args(rt)?;
-    Ok(words.collect(rt.alloc())?)
-}
-
-/// Takes the descriptors of those standard streams that are closed, until
-/// what it gives is dropped: a file that is opened gets the lowest free one,
-/// so a task's file would else be read as the standard input. A directory can
-/// be neither read nor written, so a closed stream stays one that fails.
-fn hold_closed_streams<R: rt::Files>(rt: &R) -> [io::Result<R::File>; 3] {
-    [fs::open(rt, "/"), fs::open(rt, "/"), fs::open(rt, "/")]
 }
 
 fn main(rt: HostRuntime) -> ExitCode {

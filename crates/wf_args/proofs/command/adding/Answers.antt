@@ -3,8 +3,8 @@ use Rattle.std.specs.Prelude.{IfOk}
 use Rattle.std.specs.Result.{result_from_control_flow}
 use Rattle.std.proofs.lemmas.Result.{IfOk-weaker}
 use Rattle.clap.specs.Simple.{app_of}
-use Rattle.wf_args.specs.Building.{IsLeaf}
-use Rattle.wf_args.proofs.OptionsAndCommands.{with_leaf}
+use Rattle.wf_words.specs.Building.{IsLeaf}
+use Rattle.wf_args.proofs.AddedCommands.{with_leaf}
 use Rattle.wf_args.proofs.command.adding.Goals as goal
 
 pub returns : goal.returns

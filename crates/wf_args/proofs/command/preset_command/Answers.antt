@@ -1,8 +1,8 @@
 use Rattle.std.proofs.Common.{ap, codes, [], ◌∙◌}
 use Rattle.clap.specs.Simple.{app_of_fields}
-use Rattle.wf_args.specs.Building.{IsLeaf}
+use Rattle.wf_words.specs.Building.{IsLeaf}
 use Rattle.wf_args.specs.CommandLine.{subcommand}
-use Rattle.wf_args.proofs.OptionsAndCommands.{taken}
+use Rattle.wf_words.proofs.AddedOptions.{taken}
 use Rattle.wf_args.proofs.command.preset_command.Goals as goal
 
 pub returns : goal.returns

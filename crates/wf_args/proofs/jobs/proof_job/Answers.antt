@@ -1,8 +1,10 @@
 use Rattle.std.proofs.Common.{codes, sym, subst}
 use Rattle.clap.specs.Words.{found_of, rows_of}
 use Rattle.wf_args.specs.declared.Job.TheVariants as job
-use Rattle.wf_args.specs.Asked.{IsJob, branch_of, has_flag, proof_asked}
-use Rattle.wf_args.proofs.ParsedWords.{on_file_for}
+use Rattle.wf_words.specs.Asked.{IsJob}
+use Rattle.wf_words.specs.Given.{has_flag}
+use Rattle.wf_args.specs.Asked.{branch_of, proof_asked}
+use Rattle.wf_words.proofs.ParsedWords.{on_file_for}
 use Rattle.wf_args.proofs.jobs.proof_job.Goals as goal
 
 pub returns-in_ok-from_str-in-Some-Some-clause-asked : goal.returns-in_ok-from_str-in-Some-Some-clause-asked

@@ -1,0 +1,2 @@
+pub mod CountedChecks
+pub mod TrueChecks

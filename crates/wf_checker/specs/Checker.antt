@@ -1,0 +1,57 @@
+-- What a run of the checker reads, writes, tells and answers.
+use Rattle.std.specs.Prelude.{◌≡◌, ℕ, Result, Ok, Err, codes, string_bytes}
+use Rattle.wf_io.specs.Seen.{Reading, Writing}
+use Rattle.wf_io.specs.Ends.{CanCount, CanWrite}
+use Rattle.wf_verify_engine.specs.Certificates.{VerifiesCertificate}
+use Rattle.wf_verify_engine.specs.Proofs.{Refutes}
+use Rattle.wf_verify_engine.specs.Hints.{RefutesByHints}
+use Rattle.wf_run.specs.declared.fault.RunFault.{RunFault}
+use Rattle.wf_words.specs.Asked.{GivenWords, IsAsked}
+use Rattle.wf_words.specs.declared.fault.WordsFault.{WordsFault}
+use Rattle.wf_files.specs.Files.{CanAsk, Filing, Opening, Opens}
+use Rattle.wf_files.specs.FileRuns.{Did, DoesBoth, WithFile}
+use Rattle.wf_service.specs.Refusals.{Refuses, as_refusal}
+use Rattle.wf_service.specs.Showing.{DeclinesAs}
+use Rattle.wf_service.specs.declared.refusal.Refusal.{Refusal}
+use Rattle.wf_checker_args.specs.Asked.{job_asked}
+use Rattle.wf_checker_args.specs.declared.job.Check.{Check}
+use Rattle.wf_checker_args.specs.declared.job.Check.TheVariants.{Certificate, Proof, HintedProof}
+use Rattle.wf_checker_args.specs.declared.job.CheckJob.{CheckJob}
+
+-- a certificate about a task was checked
+abbrev pub Checks : Check → DoesBoth (Unit {0})
+Checks (Certificate rounds) task task' source source' sink sink' result = Did (VerifiesCertificate rounds) task task' source source' sink sink' result
+Checks (Proof rounds) task task' source source' sink sink' result = Refutes rounds task task' source source' sink sink' result
+Checks (HintedProof rounds) task task' source source' sink sink' result = RefutesByHints rounds task task' source source' sink sink' result
+
+-- a certificate about the task in a file was checked, and a run that is refused is a refusal
+abbrev pub ChecksFile : {F : Type 0} → (Opening → Type 0) → Check → Filing F → Filing F → Reading → Reading → Writing → Writing → Result (Unit {0}) Refusal → Type 0
+ChecksFile comes check folder folder' source source' sink sink' done =
+    (result : Result (Unit {0}) RunFault) × WithFile comes (Checks check) folder folder' source source' sink sink' result × (done ≡ as_refusal result)
+
+-- the certificate was checked about the task in the file, which is among those that may be opened
+-- under its path
+abbrev pub DoesJob : {F : Type 0} → Opens → CheckJob → Filing F → Filing F → Reading → Reading → Writing → Writing → Result (Unit {0}) Refusal → Type 0
+DoesJob opens job folder folder' source source' sink sink' done =
+    ChecksFile (opens (string_bytes job.task)) job.check folder folder' source source' sink sink' done
+
+-- what is asked for was done; or there is no job, and nothing was read, and no file was asked for
+abbrev pub DoesCheck : {F : Type 0} → Opens → Result CheckJob WordsFault → Filing F → Filing F → Reading → Reading → Writing → Writing → Result (Unit {0}) Refusal → Type 0
+DoesCheck opens (Ok job) folder folder' source source' sink sink' done = DoesJob opens job folder folder' source source' sink sink' done
+DoesCheck opens (Err e) folder folder' source source' sink sink' done =
+    (folder' ≡ folder) × (source' ≡ source) × DeclinesAs (codes "wfverify") e sink sink' done
+
+-- the exit status; a refusal is told, and nothing else
+abbrev pub EndsCheck : Writing → Writing → Result (Unit {0}) Refusal → ℕ → Type 0
+EndsCheck errors errors' (Ok done) status = (status ≡ 0) × (errors' ≡ errors)
+EndsCheck errors errors' (Err e) status = Refuses errors errors' e status
+
+-- the words were judged, what they ask for was done, and a refusal was told
+abbrev pub ServesCheck : {F : Type 0} → Opens → GivenWords → Filing F → Filing F → Reading → Reading → Writing → Writing → Writing → Writing → ℕ → Type 0
+ServesCheck opens words folder folder' source source' sink sink' errors errors' status =
+    (asked : Result CheckJob WordsFault) × (done : Result (Unit {0}) Refusal) × IsAsked job_asked words asked
+    × DoesCheck opens asked folder folder' source source' sink sink' done × EndsCheck errors errors' done status
+
+-- the folder and all three ends can count what a run asks of them
+abbrev pub CanCheck : {F : Type 0} → Filing F → Reading → Writing → Writing → Type 0
+CanCheck folder source sink errors = CanAsk folder × CanCount source sink × CanWrite errors

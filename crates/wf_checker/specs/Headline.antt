@@ -1,0 +1,60 @@
+-- What status 0 of the checker means: in the field's words alone.
+use Rattle.std.specs.Prelude.{◌≡◌, ◌⊎◌, ℕ, List, [], Option, Some, Result, Ok, Err}
+use Rattle.wf_model.specs.Task.{Task}
+use Rattle.wf_model.specs.DecisionMap.{HasNoDecisionMap}
+use Rattle.wf_model.specs.Report.{Body, none}
+use Rattle.wf_io.specs.Seen.{Reading, Writing}
+use Rattle.wf_io.specs.Texts.{Wrote}
+use Rattle.wf_run.specs.Given.{GaveTask}
+use Rattle.wf_verify_engine.specs.Headline.{AreAsked, GaveTruth}
+use Rattle.wf_verify_engine.specs.Verify.{accepted_text}
+use Rattle.wf_verify_engine.specs.Certificates.{never_text}
+use Rattle.wf_words.specs.Asked.{GivenWords, IsAsked}
+use Rattle.wf_words.specs.declared.fault.WordsFault.{WordsFault}
+use Rattle.wf_files.specs.Files.{Filing, Opens, after_asking, unread}
+use Rattle.wf_checker_args.specs.Asked.{job_asked}
+use Rattle.wf_checker.specs.Checker.{ServesCheck}
+use Rattle.wf_checker_args.specs.declared.job.Check.{Check}
+use Rattle.wf_checker_args.specs.declared.job.Check.TheVariants.{Certificate, Proof, HintedProof}
+use Rattle.wf_checker_args.specs.declared.job.CheckJob.{CheckJob}
+
+-- The sources gave a task and the text of a true report about it, which is about the rounds that
+-- were asked for, and the sink took the line that says what is accepted.
+abbrev pub IsTrueReport : Option ℕ → Reading → Reading → Reading → Reading → Writing → Writing → Type 0
+IsTrueReport rounds task task' source source' sink sink' =
+    (t : Task) × (r : ℕ) × (body : Body) × GaveTruth task task' source source' t r body × AreAsked rounds r
+    × Wrote sink sink' (accepted_text rounds body)
+
+-- the source of the task gave one that has no decision map after any number of rounds, and the sink
+-- took the line that says so
+abbrev pub IsTrueObstruction : Option ℕ → Reading → Reading → Writing → Writing → Type 0
+IsTrueObstruction rounds task task' sink sink' =
+    (t : Task) × GaveTask task task' t × ((r : ℕ) → HasNoDecisionMap t r) × Wrote sink sink' (never_text rounds)
+
+-- the source of the task gave one that has no decision map after so many rounds, and the sink took
+-- the line that says so
+abbrev pub IsTrueProof : ℕ → Reading → Reading → Writing → Writing → Type 0
+IsTrueProof rounds task task' sink sink' =
+    (t : Task) × GaveTask task task' t × HasNoDecisionMap t rounds × Wrote sink sink' (accepted_text (Some rounds) (none []))
+
+-- what is true if a check accepts
+abbrev pub IsTrue : Check → Reading → Reading → Reading → Reading → Writing → Writing → Type 0
+IsTrue (Certificate rounds) task task' source source' sink sink' =
+    IsTrueReport rounds task task' source source' sink sink' ⊎ IsTrueObstruction rounds task task' sink sink'
+IsTrue (Proof rounds) task task' source source' sink sink' = IsTrueProof rounds task task' sink sink'
+IsTrue (HintedProof rounds) task task' source source' sink sink' = IsTrueProof rounds task task' sink sink'
+
+-- One file was opened, and what is true of its task is what the check says that the words ask for.
+-- If the words make no job, they asked for a help or the version.
+abbrev pub IsTrueOf : {F : Type 0} → Result CheckJob WordsFault → Filing F → Filing F → Reading → Reading → Writing → Writing → Type 0
+IsTrueOf (Ok job) folder folder' source source' sink sink' =
+    (left : Option (List ℕ)) × (file' : Reading) × (folder' ≡ after_asking folder 0 (Some file'))
+    × IsTrue job.check (unread left) file' source source' sink sink'
+IsTrueOf (Err e) folder folder' source source' sink sink' = (folder' ≡ folder) × (source' ≡ source)
+
+-- `folder` is the folder before the run
+abbrev pub ChecksAreTrue : {F : Type 0} → Opens → Filing F → Type 0
+ChecksAreTrue {F = F} opens folder =
+    (words : GivenWords) (folder' : Filing F) (source source' : Reading) (sink sink' errors errors' : Writing)
+    → ServesCheck opens words folder folder' source source' sink sink' errors errors' 0
+    → (asked : Result CheckJob WordsFault) × IsAsked job_asked words asked × IsTrueOf asked folder folder' source source' sink sink'

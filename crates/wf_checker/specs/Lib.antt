@@ -1,0 +1,3 @@
+pub mod Checker
+pub mod Laws
+pub mod Headline

@@ -1,0 +1,14 @@
+//! The checker as a program of its own, over any reader and any two writers.
+//!
+//! [`run_checker`] checks what standard input gives about the task in a file: a report, an
+//! obstruction, a clausal proof, or one with hints. Its relation is in `specs/Checker.antt`, and
+//! what status 0 means in `specs/Headline.antt`. It calls the engines of `wf_verify_engine`, and
+//! stands on nothing of the search, nor of the finder.
+#![tactic(auto)]
+
+mod check;
+mod checker;
+mod laws;
+
+pub use checker::run_checker;
+pub use laws::{checking_is_counted, checks_are_true};

@@ -1,0 +1,42 @@
+-- Which words of a command line ask for which check.
+use Rattle.std.specs.Prelude.{ℕ, Bool, true, false, List, Option, Some, None, Result, Ok, Err, codes}
+use Rattle.std.specs.List.{list_any}
+use Rattle.clap.specs.Words.{Row, Text, fault_of, matches_of}
+use Rattle.wf_words.specs.Asked.{Asked, is_negative, judged, needed, no_job, this_job_on}
+use Rattle.wf_words.specs.Given.{has_flag, rounds_of, task_of}
+use Rattle.wf_words.specs.declared.mistake.Piece.{Piece}
+use Rattle.wf_words.specs.declared.mistake.Piece.TheVariants as piece
+use Rattle.wf_words.specs.declared.mistake.Mistake.{Mistake}
+use Rattle.wf_words.specs.declared.mistake.Mistake.TheVariants as mistake
+use Rattle.wf_checker_args.specs.CommandLine.{command_line}
+use Rattle.wf_checker_args.specs.declared.job.Check.{Check}
+use Rattle.wf_checker_args.specs.declared.job.Check.TheVariants.{Certificate, Proof, HintedProof}
+use Rattle.wf_checker_args.specs.declared.job.CheckJob.{CheckJob}
+
+-- a clausal proof of one kind, for the rounds that it needs
+abbrev pub proof_for : Piece → (ℕ → Check) → Option ℕ → Result Check Mistake
+proof_for flag check (Some rounds) = Ok (check rounds)
+proof_for flag check None = Err (mistake.Needs flag piece.Rounds)
+
+-- what is checked, by `--proof` and `--lrat`, of which one at most may be given
+abbrev pub check_for : Bool → Bool → Option ℕ → Result Check Mistake
+check_for false false rounds = Ok (Certificate rounds)
+check_for true false rounds = proof_for piece.Proof Proof rounds
+check_for false true rounds = proof_for piece.Lrat HintedProof rounds
+check_for true true rounds = Err (mistake.Beside piece.Proof piece.Lrat)
+
+abbrev pub check_in : List Row → Result Check Mistake
+check_in rows = check_for (has_flag (codes "proof") rows) (has_flag (codes "lrat") rows) (rounds_of rows)
+
+-- this check of the task in a file, or the mistake by which there is none
+abbrev pub check_on : Text → Result Check Mistake → Asked CheckJob
+check_on path (Ok check) = this_job_on path (λ task. record { task = task; check = check })
+check_on path (Err s) = no_job s
+
+-- what the options ask for
+abbrev pub check_asked : List Row → Asked CheckJob
+check_asked rows = needed piece.Task (task_of rows) (λ path. check_on path (check_in rows))
+
+-- what the words ask for, of which the first is the program's own name
+abbrev pub job_asked : List Text → Asked CheckJob
+job_asked words = judged (fault_of command_line words) (list_any is_negative words) (check_asked (matches_of command_line words))

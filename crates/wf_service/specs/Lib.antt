@@ -1,0 +1,4 @@
+pub mod VersionText
+pub mod Refusals
+pub mod Showing
+pub mod Laws

@@ -1,0 +1,41 @@
+-- Why a program refuses: its exit status, and what it tells.
+use Rattle.std.specs.Prelude.{◌≡◌, ℕ, List, [], ◌∷◌, ◌++◌, Option, Some, None, Result, Ok, Err, codes}
+use Rattle.wf_io.specs.Seen.{Writing}
+use Rattle.wf_io.specs.Texts.{Tells}
+use Rattle.wf_run.specs.declared.fault.RunFault.{RunFault}
+use Rattle.wf_run.specs.declared.fault.RunFault.TheVariants as run
+use Rattle.wf_run.specs.Faults.{fault_text}
+use Rattle.wf_words.specs.Mistakes.{mistake_line}
+use Rattle.wf_service.specs.declared.refusal.Refusal.{Refusal}
+use Rattle.wf_service.specs.declared.refusal.Refusal.TheVariants.{Run, Words, Clap}
+
+-- the exit status of a refused run
+abbrev pub fault_status : RunFault → ℕ
+fault_status run.OutOfMemory = 3
+fault_status run.Read = 4
+fault_status run.Write = 4
+fault_status e = 2
+
+abbrev pub refusal_status : Refusal → ℕ
+refusal_status (Run e) = fault_status e
+refusal_status (Words mistake) = 2
+refusal_status (Clap e negative program) = 2
+
+-- the line that tells a refusal's number and name, with what it carries
+abbrev pub refusal_line : List ℕ → List ℕ
+refusal_line name = codes "wfcheck: " ++ (name ++ 10 ∷ [])
+
+-- what is told of a refusal, where it is known
+abbrev pub refusal_text : Refusal → Option (List ℕ)
+refusal_text (Run e) = Some (refusal_line (fault_text e))
+refusal_text (Words mistake) = Some (refusal_line (codes "32 Words") ++ mistake_line mistake)
+refusal_text (Clap e negative program) = None
+
+-- a refusal is told, and this is its exit status
+abbrev pub Refuses : Writing → Writing → Refusal → ℕ → Type 0
+Refuses errors errors' e status = (status ≡ refusal_status e) × Tells errors errors' (refusal_text e)
+
+-- a run that is refused is a refusal
+abbrev pub as_refusal : {X : Type 0} → Result X RunFault → Result X Refusal
+as_refusal (Ok x) = Ok x
+as_refusal (Err e) = Err (Run e)

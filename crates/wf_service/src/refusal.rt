@@ -1,0 +1,109 @@
+//! Why a program refuses.
+
+ghost use Rattle.std.specs.Prelude.{◌≡◌};
+ghost use Rattle.wf_service.specs.Refusals.{as_refusal, fault_status, refusal_status, refusal_text};
+
+use clap::error::ErrorKind;
+use std::fmt;
+use wf_run::RunFault;
+use wf_words::Mistake;
+
+/// What a program is called, and what it says beside words that it does not take.
+#[derive(Clone, Copy, Debug)]
+pub struct Program {
+    /// Its name.
+    pub name: &'static str,
+    /// What is said beside a word that no command takes: most likely it is a file's name.
+    pub unknown_word: &'static str,
+    /// What is said if a word is a minus and digits, which is no number of an option.
+    pub negative_number: &'static str,
+}
+
+/// Why a program refuses. Its text ends in a line feed.
+#[derive(Drop)]
+pub enum Refusal {
+    /// A run is refused.
+    Run(RunFault),
+    /// 32: the words are read but ask for what the program refuses, or one of them is no text.
+    Words(Mistake),
+    /// The words are not those of the command line.
+    Clap {
+        /// What is told of them.
+        error: clap::Error,
+        /// Whether one of them is a negative number.
+        negative: bool,
+        /// The program whose command line it is.
+        program: Program,
+    },
+}
+
+impl fmt::Display for Refusal {
+    ghost output = { refusal_text };
+
+    fn fmt<W: fmt::Write>(&self, f: &mut fmt::Formatter<W>) -> fmt::Result {
+        match self {
+            Refusal::Run(fault) => writeln!(f, "wfcheck: {fault}"),
+            Refusal::Words(mistake) => writeln!(f, "wfcheck: 32 Words\nerror: {mistake}"),
+            Refusal::Clap {
+                error,
+                negative,
+                program,
+            } => {
+                write!(f, "{error}")?;
+                match (error.kind(), *negative) {
+                    (ErrorKind::UnknownArgument, true) => f.write_str(program.negative_number),
+                    (ErrorKind::UnknownArgument, false) => f.write_str(program.unknown_word),
+                    _ => Ok(()),
+                }
+            }
+        }
+    }
+}
+
+impl Refusal {
+    /// The exit status.
+    pub fn status(&self) -> u8
+        ensures { result ≡ refusal_status self.now }
+    {
+        match self {
+            Refusal::Run(fault) => status_of(fault),
+            Refusal::Words(_) | Refusal::Clap { .. } => 2,
+        }
+    }
+}
+
+/// What a run answers, with its fault as a refusal.
+pub fn as_refusal(found: Result<(), RunFault>) -> Result<(), Refusal>
+    ensures { result ≡ as_refusal found }
+{
+    match found {
+        Ok(()) => Ok(()),
+        Err(fault) => Err(Refusal::Run(fault)),
+    }
+}
+
+/// The exit status of a refused run.
+fn status_of(fault: &RunFault) -> u8
+    ensures { result ≡ fault_status fault.now }
+{
+    match fault {
+        RunFault::TooLong
+        | RunFault::Task(_)
+        | RunFault::Build(_)
+        | RunFault::Cert(_)
+        | RunFault::Model(_)
+        | RunFault::Proof(_)
+        | RunFault::Hints(_)
+        | RunFault::Obstruction(_)
+        | RunFault::OtherRounds
+        | RunFault::NoMap
+        | RunFault::NoBranch { .. }
+        | RunFault::OtherPart
+        | RunFault::NotInBranch
+        | RunFault::NoPart { .. }
+        | RunFault::InPart { .. }
+        | RunFault::TooManyParts { .. } => 2,
+        RunFault::OutOfMemory => 3,
+        RunFault::Read | RunFault::Write => 4,
+    }
+}

@@ -1,0 +1,3 @@
+pub mod AddedOptions
+pub mod ParsedWords
+pub mod MatchGetters
