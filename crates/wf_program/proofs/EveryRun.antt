@@ -83,6 +83,11 @@ quiet : (sink sink' : Writing) (d : Done) → d.status ≤ 1 → IsAnswered sink
 unfolding IsAnswered
 quiet sink sink' d most = (omega arith, λ two. absurd (omega (arith, most, two)))
 
+-- what is answered at status 2, where nothing was written
+unwritten_at_2 : (sink sink' : Writing) (d : Done) → d.status ≡ 2 → sink' ≡ sink → IsAnswered sink sink' d
+unfolding IsAnswered
+unwritten_at_2 sink sink' d two same = (omega (arith, two), λ is. same)
+
 module _ {F : Type 0} (folder folder' : Filing F) (same : folder' ≡ folder) (source source' : Reading) (sink sink' : Writing) where
   Alone : Result Done Refusal → Type 0
   Alone done = IsDone 0 most_bytes folder folder' source source' sink sink' done
@@ -116,10 +121,9 @@ module _ {F : Type 0} (folder folder' : Filing F) (same : folder' ≡ folder) (s
   after_searching (Err e) h = refused e h
 
   after_seeking : (result : Result Finding RunFault) → IsSeekingCounted source source' sink sink' result → Alone (sought result)
-  unfolding IsAnswered
   after_seeking (Ok finding.Found) h = accepted finding.Found _ (quiet sink sink' _ (omega arith)) h.counted
   after_seeking (Ok (finding.NotFound tried)) h = accepted (finding.NotFound tried) _ (quiet sink sink' _ (omega arith)) h.counted
-  after_seeking (Ok (finding.GaveUp at)) h = accepted (finding.GaveUp at) _ (omega arith, λ two. h.untouched at refl) h.counted
+  after_seeking (Ok (finding.GaveUp at)) h = accepted (finding.GaveUp at) _ (unwritten_at_2 sink sink' _ refl (h.untouched at refl)) h.counted
   after_seeking (Err e) h = refused e h.counted
 
   after_writing : (result : Result (Unit {0}) RunFault) → IsCounted source source' sink sink' result → Alone (written result)
