@@ -12,9 +12,9 @@ enum Act {
     Delete(&'static [i8]),
     /// A clause that is added and deleted 5000 times.
     ComesAndGoes(&'static [i8]),
-    /// A lemma that follows.
+    /// A lemma that follows, or is a resolution asymmetric tautology.
     Takes(&'static [i8]),
-    /// A lemma that does not.
+    /// A lemma that is neither.
     Refuses(&'static [i8]),
     IsRefuted(bool),
 }
@@ -22,19 +22,33 @@ enum Act {
 use Act::{Add, ComesAndGoes, Delete, IsRefuted, Refuses, Takes};
 
 /// What is done with checkers on six variables, one act after another.
-static HISTORIES: [(&str, &[Act]); 10] = [
+static HISTORIES: [(&str, &[Act]); 11] = [
     (
         "a lemma that follows is kept",
         &[
             Add(&[1, 2]),
             Add(&[1, -2]),
-            Refuses(&[2]),
+            Refuses(&[-1]),
             Takes(&[1]),
             IsRefuted(false),
             Add(&[-1, 3]),
             Takes(&[3]),
             Add(&[-3, -1]),
             IsRefuted(true),
+        ],
+    ),
+    (
+        "a definition of a new variable is taken, and deleted",
+        &[
+            Add(&[1, 2]),
+            Add(&[-1, 3]),
+            Takes(&[4, -1, -2]),
+            Takes(&[-4, 1]),
+            Takes(&[-4, 2]),
+            Refuses(&[4]),
+            Delete(&[1, -4]),
+            Delete(&[2, -4]),
+            Takes(&[4]),
         ],
     ),
     (
@@ -47,11 +61,11 @@ static HISTORIES: [(&str, &[Act]); 10] = [
             Add(&[9]),
             Add(&[-9, 12, 1]),
             Add(&[-12, 1]),
-            Refuses(&[12]),
-            Refuses(&[10, -12]),
+            Refuses(&[-9, 12]),
+            Refuses(&[-1, 10]),
             Takes(&[9, 20]),
             Takes(&[1]),
-            Refuses(&[12]),
+            Refuses(&[-1, 12]),
             IsRefuted(false),
         ],
     ),
@@ -61,11 +75,11 @@ static HISTORIES: [(&str, &[Act]); 10] = [
             Add(&[1, 2]),
             Add(&[-1, 3]),
             Add(&[-2, 3]),
-            Refuses(&[1]),
+            Refuses(&[-1]),
             Refuses(&[-3]),
             Refuses(&[]),
             Takes(&[3]),
-            Refuses(&[2]),
+            Refuses(&[-3, 2]),
         ],
     ),
     (
@@ -74,6 +88,7 @@ static HISTORIES: [(&str, &[Act]); 10] = [
             Add(&[1, 2, 3]),
             Add(&[3, 2, 1]),
             Add(&[4, 5, 6]),
+            Add(&[-1, 5]),
             Takes(&[1, 2, 3, 4]),
             Delete(&[4, 3, 2, 1]),
             Delete(&[2, 3]),
@@ -90,6 +105,7 @@ static HISTORIES: [(&str, &[Act]); 10] = [
         &[
             Add(&[1, 2, 3]),
             Add(&[1, 2, -3]),
+            Add(&[-4, 3]),
             Takes(&[1, 2]),
             Delete(&[1, 2, 3]),
             Takes(&[4, 2, 1]),
@@ -100,7 +116,7 @@ static HISTORIES: [(&str, &[Act]); 10] = [
     ),
     (
         "a deleted clause of one literal still holds",
-        &[Add(&[1]), Delete(&[1]), Takes(&[1]), Refuses(&[2])],
+        &[Add(&[1]), Delete(&[1]), Takes(&[1]), Refuses(&[-1, 2])],
     ),
     (
         "two clauses of one literal each refute",
@@ -130,8 +146,8 @@ static HISTORIES: [(&str, &[Act]); 10] = [
             Add(&[1, 2]),
             Add(&[1, -2]),
             ComesAndGoes(&[4, 5, 6]),
-            Refuses(&[3]),
-            Refuses(&[4, 5]),
+            Refuses(&[-1, 3]),
+            Refuses(&[-1, 4, 5]),
             Takes(&[1]),
             IsRefuted(false),
         ],
